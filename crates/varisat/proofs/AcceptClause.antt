@@ -35,7 +35,7 @@ use Rattle.varisat_proof.specs.Proving.{IsCheckedIf}
 use Rattle.varisat_tracer.specs.Carried.{told_as}
 use Rattle.varisat_tracer.specs.Tracing.{global_literal}
 use Rattle.varisat.specs.OpenProofs.{OpenProof}
-use Rattle.varisat.specs.Journals.{retold, TellsMore}
+use Rattle.varisat.specs.Journals.{retold, TellsStaying}
 use Rattle.varisat.specs.Summaries.{Summary, spaces, spaces_of, StandsFor}
 use Rattle.varisat.specs.Accepting.{HasSolver, AreJoined}
 use Rattle.varisat.proofs.SpacesMoves.{give, take_solver, count, solver_literal, accept}
@@ -285,7 +285,7 @@ pub record Steps (g : Summary) (d : Clause) (joined : Tables) (new : View) (part
 
 -- the identities of the clause are counted before it is loaded
 pub clause-accepted : (g : Summary) (n : State) (d : Clause) (joined : Tables) (new : View) (parts : AssumptionParts) (after : SatState) (checker : Option CheckerState) (t : Steps g d joined new parts after) → IsCheckedIf g.checker (told_as (global_literal g.tables) (Accepts (map (carry (chain (at joined.users.forward) (at joined.solvers.forward))) d) ∷ written t.lines)) checker → SpacesFit (spaces g) (count (join_counted n.counted (map variable_of (map (through_names n.naming) d))) n) →
-    (x : Verdict) × (told : List Entry) × VerdictAfter n.clauses (map (through_names n.naming) d) n.verdict x × TellsMore 0 (n.told ++ Accepts (map (through_names n.naming) d) ∷ []) told × (n.ever_hidden ≡ false → told ≡ n.told ++ told_as (global_literal g.tables) (Accepts (map (carry (chain (at joined.users.forward) (at joined.solvers.forward))) d) ∷ written t.lines)) × SpacesFit (spaces_of joined checker new parts after) (retold told (append_clause (map (through_names n.naming) d) x n))
+    (x : Verdict) × (told : List Entry) × VerdictAfter n.clauses (map (through_names n.naming) d) n.verdict x × TellsStaying 0 (n.told ++ Accepts (map (through_names n.naming) d) ∷ []) told × (n.ever_hidden ≡ false → told ≡ n.told ++ told_as (global_literal g.tables) (Accepts (map (carry (chain (at joined.users.forward) (at joined.solvers.forward))) d) ∷ written t.lines)) × SpacesFit (spaces_of joined checker new parts after) (retold told (append_clause (map (through_names n.naming) d) x n))
 clause-accepted g n d joined new parts after checker t checks (w1, k1) =
     let c = map (through_names n.naming) d in
     let p1 = spaces g in

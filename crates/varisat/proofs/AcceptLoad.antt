@@ -5,7 +5,7 @@ use Rattle.varisat_theory.specs.Literals.{Literal, Clause, variable_of, opposite
 use Rattle.varisat_theory.specs.Derivations.{Line, SpeakOf}
 use Rattle.varisat_theory.specs.Renaming.{rename_line}
 use Rattle.varisat_theory.specs.Journals.{Entry, Accepts, Assumes, GoesOn, written}
-use Rattle.varisat.specs.Journals.{retold, TellsMore}
+use Rattle.varisat.specs.Journals.{retold, TellsStaying}
 use Rattle.varisat_theory.specs.Searches.{Search, Covers, CoversBy, IsLiteralOf, IsCoveredBySearch, Tautology, KnownTrue, FixedTrue, Kept}
 use Rattle.varisat_theory.specs.Outcomes.{Outcome, Loads, IsLiteralOfEither}
 use Rattle.varisat_theory.specs.Outcomes as outcome
@@ -24,7 +24,7 @@ use Rattle.varisat.specs.States.{State, Verdict, Unknown, Unsat, IsRight}
 use Rattle.varisat.specs.Names.{through_names}
 use Rattle.varisat.specs.Calls.{ContradictsUnit, VerdictAfter, Refuted, Reopened}
 use Rattle.varisat.specs.Carried.{carry, is_forced}
-use Rattle.varisat.specs.Spaces.{Spaces, Carrying, IsWide, IsApart, IsolationCase, NotIsolated, Apart, Forced, IsolationFits, Translation, translation, CheckerFits, SharesHeld, IsCounted, IsTold, SearchHolds, CoreFits, without_core, VerdictFits, Links}
+use Rattle.varisat.specs.Spaces.{Spaces, Carrying, IsWide, IsApart, IsolationCase, NotIsolated, Apart, Forced, IsolationFits, Translation, translation, CheckerFits, SharesHeld, IsCounted, IsGone, IsTold, SearchHolds, CoreFits, without_core, VerdictFits, Links}
 use Rattle.varisat.proofs.SpacesMoves.{AreTaken, solver_literal, IsTouched, IsMarkedFor, accept, AreLong, AreInUse}
 use Rattle.varisat_names.proofs.Maps.{chain-some, chain-through}
 use Rattle.varisat.proofs.SearchLinks.{relinked-marks}
@@ -227,7 +227,7 @@ module _ (w : Carrying) (p : Spaces) (s : State) (d : Clause) (k : Links w p s) 
             (∈-or_not i (map variable_of (map (through_names s.naming) d)))
         go (Forced b e) = Forced b e
 
-    stands : (told : List Entry) → IsTold told (s.clauses ++ c ∷ []) s.counted s.ever_hidden → (t : Search) (v : Outcome) (m : ℕ → Bool) (checker : Option CheckerState) (x : Verdict) → (without_core v ≢ outcome.Unsat → CheckerFits w.global told checker) → SearchHolds (s.clauses ++ c ∷ []) (with_told told r) t (without_core v) → VerdictFits w.identity m v x → CoreFits s.naming.names p.core x → IsRight (s.clauses ++ c ∷ []) s.assumptions s.counted x → Links w (record p { kept = after; search = t; outcome = v; model = m; checker = checker }) (retold told (accept c x s))
+    stands : (told : List Entry) → IsTold told (s.clauses ++ c ∷ []) s.counted s.ever_hidden (IsGone w s) → (t : Search) (v : Outcome) (m : ℕ → Bool) (checker : Option CheckerState) (x : Verdict) → (without_core v ≢ outcome.Unsat → CheckerFits w.global told checker) → SearchHolds (s.clauses ++ c ∷ []) (with_told told r) t (without_core v) → VerdictFits w.identity m v x → CoreFits s.naming.names p.core x → IsRight (s.clauses ++ c ∷ []) s.assumptions s.counted x → Links w (record p { kept = after; search = t; outcome = v; model = m; checker = checker }) (retold told (accept c x s))
     unfolding r c
     stands told is-told t v m checker x checks holds fits core right =
         relinked-marks w p (record p { kept = after; search = t; outcome = v; model = m; checker = checker }) s (retold told (accept c x s)) k
@@ -283,7 +283,7 @@ module _ (w : Carrying) (p : Spaces) (s : State) (d : Clause) (k : Links w p s) 
         (k.checked (λ q. let z : outcome.Unknown ≡ outcome.Unsat = sym (ap without_core o) ∙ q in cc)))
 
     pub loaded : (t : Search) (v : Outcome) (m : ℕ → Bool) (checker : Option CheckerState) (lines : List Line) → IsCheckedIf p.checker (told_as (global.carry p.global_from_solver) (Accepts (map (solver_literal p) d) ∷ written lines)) checker → p.outcome ≡ outcome.Unknown → AreLong p.search → AreLong t → AreInUse p t → Loads p.search t (map (solver_literal p) d) v lines →
-        (x : Verdict) × (told : List Entry) × VerdictAfter s.clauses (map (through_names s.naming) d) Unknown x × TellsMore 0 (s.told ++ Accepts (map (through_names s.naming) d) ∷ []) told × (s.ever_hidden ≡ false → told ≡ s.told ++ told_as (global.carry p.global_from_solver) (Accepts (map (solver_literal p) d) ∷ written lines)) × Links w (record p { kept = after; search = t; outcome = v; model = m; checker = checker }) (retold told (accept (map (through_names s.naming) d) x s))
+        (x : Verdict) × (told : List Entry) × VerdictAfter s.clauses (map (through_names s.naming) d) Unknown x × TellsStaying 0 (s.told ++ Accepts (map (through_names s.naming) d) ∷ []) told × (s.ever_hidden ≡ false → told ≡ s.told ++ told_as (global.carry p.global_from_solver) (Accepts (map (solver_literal p) d) ∷ written lines)) × Links w (record p { kept = after; search = t; outcome = v; model = m; checker = checker }) (retold told (accept (map (through_names s.naming) d) x s))
     unfolding c e r
     loaded t v m checker lines checks o long-before long in-use loads =
         let h = subst (SearchHolds s.clauses (translation w p s.told) p.search) (ap without_core o) k.holds in
@@ -291,7 +291,7 @@ module _ (w : Carrying) (p : Spaces) (s : State) (d : Clause) (k : Links w p s) 
         let told = (s.told ++ Accepts (map (through_names s.naming) d) ∷ []) ++ ls in
         let after' = translation w p told in
         let more = holds-more h t v lines loads long in-use in
-        let tells' : TellsMore 0 (s.told ++ Accepts (map (through_names s.naming) d) ∷ []) told = record { entries = ls; joined = refl; goes = goes-more h t v lines loads long in-use } in
+        let tells' : TellsStaying 0 (s.told ++ Accepts (map (through_names s.naming) d) ∷ []) told = (record { entries = ls; joined = refl; goes = goes-more h t v lines loads long in-use }, written_stays (map (rename_line (carry (translation w p s.told).identity)) lines)) in
         let plainly = plain-told lines in
         let to = (translation w p s.told).identity in
         let spoken = spoken-renamed (IsLiteralOfEither p.search (map (solver_literal p) d)) (IsCounted s.counted) (carry to) lines (λ l. elim [ inl a ↦ let (i, b) = h.within l a in counted-literal w p s k l i b | inr a ↦ let (i, b) = of-clause l a in counted-literal w p s k l i b ]) loads.speaks in

@@ -6,29 +6,29 @@ use Rattle.varisat_search.specs.declared.error.StepError.TheVariants as step
 use Rattle.varisat_names.specs.Settings.{Settings}
 use Rattle.varisat.specs.States.{State, Ledger, IsWellFormed, FlagsFit, Unknown}
 use Rattle.varisat.specs.Refusals.{step_refusal}
-use Rattle.varisat.specs.Calls.{IsLike, IsValid, Invalidates, MayConstrain, IsExtensible, AddsClause, CountsCall, Searches, with_steps}
+use Rattle.varisat.specs.Calls.{IsLikeButLeft, IsLike, IsValid, Invalidates, MayConstrain, IsExtensible, AddsClause, CountsCall, Searches, with_steps}
 use Rattle.varisat_theory.specs.Journals.{Entry}
-use Rattle.varisat.specs.Journals.{retold, TellsMore}
+use Rattle.varisat.specs.Journals.{retold, TellsMore, TellsStaying}
 use Rattle.varisat.specs.OpenProofs.{OpenProof, IsOpen, GoesOnWriting, ProofFits}
 use Rattle.varisat.proofs.OpenProofs.{goes-on-none, open-before}
-use Rattle.varisat.proofs.ToldEntries.{tells-nothing}
+use Rattle.varisat.proofs.ToldEntries.{stays-nothing}
 use Rattle.varisat.specs.Spaces.{SpacesFit}
 use Rattle.varisat.specs.Summaries.{Summary, spaces, StandsFor}
 
 pub like-refl : (s : State) → IsLike s s
-like-refl s = record { naming = refl; ever_hidden = refl; clauses = refl; assumptions = refl; counted = refl; verdict = refl; ledger = refl; told = tells-nothing s.told; proof = goes-on-none s.proof }
+like-refl s = record { naming = refl; ever_hidden = refl; clauses = refl; assumptions = refl; counted = refl; verdict = refl; ledger = refl; told = (stays-nothing s.told).0; stays = λ _. (stays-nothing s.told).1; proof = goes-on-none s.proof }
 
 -- the same, but that an open proof has further bytes
 pub like-grown : (s : State) (proof : Option OpenProof) → GoesOnWriting s.proof proof → IsLike s (record s { proof = proof })
-like-grown s proof g = record { naming = refl; ever_hidden = refl; clauses = refl; assumptions = refl; counted = refl; verdict = refl; ledger = refl; told = tells-nothing s.told; proof = g }
+like-grown s proof g = record { naming = refl; ever_hidden = refl; clauses = refl; assumptions = refl; counted = refl; verdict = refl; ledger = refl; told = (stays-nothing s.told).0; stays = λ _. (stays-nothing s.told).1; proof = g }
 
 -- and that more was told
-pub like-told : (s : State) (told : List Entry) (proof : Option OpenProof) → TellsMore 0 s.told told → GoesOnWriting s.proof proof → IsLike s (record s { told = told; proof = proof })
-like-told s told proof m g = record { naming = refl; ever_hidden = refl; clauses = refl; assumptions = refl; counted = refl; verdict = refl; ledger = refl; told = m; proof = g }
+pub like-told : (s : State) (told : List Entry) (proof : Option OpenProof) → TellsStaying 0 s.told told → GoesOnWriting s.proof proof → IsLike s (record s { told = told; proof = proof })
+like-told s told proof (m, n) g = record { naming = refl; ever_hidden = refl; clauses = refl; assumptions = refl; counted = refl; verdict = refl; ledger = refl; told = m; stays = λ _. n; proof = g }
 
--- the same, but that more was told
-pub like-retold : (s : State) (told : List Entry) → TellsMore 0 s.told told → IsLike s (retold told s)
-like-retold s told m = record { naming = refl; ever_hidden = refl; clauses = refl; assumptions = refl; counted = refl; verdict = refl; ledger = refl; told = m; proof = goes-on-none s.proof }
+-- the same, but that more was told, maybe that variables left
+pub like-retold : (s : State) (told : List Entry) → TellsMore 0 s.told told → IsLikeButLeft true s (retold told s)
+like-retold s told m = record { naming = refl; ever_hidden = refl; clauses = refl; assumptions = refl; counted = refl; verdict = refl; ledger = refl; told = m; stays = λ e. absurd (let z : true ≡ false = e in cc); proof = goes-on-none s.proof }
 
 -- a ledger by what it tells
 abbrev pub ledger_of : Bool → Bool → ℕ → ℕ → Settings → Ledger

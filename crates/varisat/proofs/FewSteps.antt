@@ -45,9 +45,9 @@ record KeepsFew {X : Type 0} (by : CallRules X) : Type 1 where
   anew : (s : X) → HasFewSteps by (by.adding.count_anew s)
   broken : (s t : X) → by.adding.invalidates s t → HasFewSteps by t
   adds : (s t : X) (c : Clause) (r : Result (Unit {0}) SolverError) → by.adding.adds s c r t → HasFewSteps by s → HasFewSteps by t
-  named : (f : Naming) (s t : X) → by.named.like (by.named.with_naming f s) t → HasFewSteps by t
-  moded : (f g : Naming) (s t : X) → by.named.like (by.named.with_naming f (by.named.with_naming g s)) t → HasFewSteps by t
-  hidden : (f : Naming) (s t : X) → by.named.like (by.named.once_hidden (by.named.with_naming f s)) t → HasFewSteps by t
+  named : (f : Naming) (s t : X) → by.named.like false (by.named.with_naming f s) t → HasFewSteps by t
+  moded : (f g : Naming) (s t : X) → by.named.like false (by.named.with_naming f (by.named.with_naming g s)) t → HasFewSteps by t
+  hidden : (f : Naming) (s t : X) → by.named.like true (by.named.once_hidden (by.named.with_naming f s)) t → HasFewSteps by t
   lost : (s t : X) → by.named.invalidates s t → HasFewSteps by t
   makes_var : (s t : X) (r : Result ℕ SolverError) → by.makes_var s r t → HasFewSteps by s → HasFewSteps by t
   assumes : (s t : X) (list : List Literal) (r : Result (Unit {0}) SolverError) → by.assumes s list r t → HasFewSteps by s → HasFewSteps by t
@@ -95,13 +95,13 @@ module _ {X : Type 0} (by : CallRules X) (keeps : KeepsFew by) where
   add-text s t old new r (Read v g a) h = add-given s t old new g r a h
   add-text s t old new r (Unread e (v, k) n) h = same s t k h
 
-  change-var : (change : X → X) (u : ℕ) (s t : X) (r : Result (Unit {0}) SolverError) → (by.named.like (change (usage.name_var by.named u s)) t → HasFewSteps by t) → usage.ChangesVar by.named change s u r t → HasFewSteps by s → HasFewSteps by t
-  change-var change u s t (Ok x) f (v, small, free, e) h = f e
-  change-var change u s t (Err Invalid) f a h = same s t a.1 h
-  change-var change u s t (Err VariableLimit) f a h = same s t a.2 h
-  change-var change u s t (Err (AssumedVar x)) f a h = same s t a.4 h
-  change-var change u s t (Err OutOfMemory) f a h = keeps.lost s t a.2
-  change-var change u s t (Err e) f a h = absurd a
+  change-var : (may_leave : Bool) (change : X → X) (u : ℕ) (s t : X) (r : Result (Unit {0}) SolverError) → (by.named.like may_leave (change (usage.name_var by.named u s)) t → HasFewSteps by t) → usage.ChangesVar by.named may_leave change s u r t → HasFewSteps by s → HasFewSteps by t
+  change-var may_leave change u s t (Ok x) f (v, small, free, e) h = f e
+  change-var may_leave change u s t (Err Invalid) f a h = same s t a.1 h
+  change-var may_leave change u s t (Err VariableLimit) f a h = same s t a.2 h
+  change-var may_leave change u s t (Err (AssumedVar x)) f a h = same s t a.4 h
+  change-var may_leave change u s t (Err OutOfMemory) f a h = keeps.lost s t a.2
+  change-var may_leave change u s t (Err e) f a h = absurd a
 
   observe : (s t : X) (r : Result (List ℕ) SolverError) → usage.Observes by.named s r t → HasFewSteps by s → HasFewSteps by t
   observe s t (Ok us) (v, (m, shown, e)) h = keeps.named m s t e
@@ -120,9 +120,9 @@ module _ {X : Type 0} (by : CallRules X) (keeps : KeepsFew by) where
   call-keeps seen taken (call.AddFormula f) (answer.AddFormula r) s t m h = add-list s t f.clauses r m h
   call-keeps seen taken (call.AddDimacsCnf source) (answer.AddDimacsCnf r back) s t m h = add-text s t (seen source) (seen back) r m h
   call-keeps seen taken call.NewVar (answer.NewVar r) s t m h = keeps.makes_var s t r m h
-  call-keeps seen taken (call.SampleVar u) (answer.SampleVar r) s t m h = change-var (usage.with_mode by.named u Sample) u s t r (keeps.moded _ _ s t) m.0 h
-  call-keeps seen taken (call.WitnessVar u) (answer.WitnessVar r) s t m h = change-var (usage.with_mode by.named u Witness) u s t r (keeps.moded _ _ s t) m.0 h
-  call-keeps seen taken (call.HideVar u) (answer.HideVar r) s t m h = change-var (usage.hide_name by.named u) u s t r (keeps.hidden _ (usage.name_var by.named u s) t) m h
+  call-keeps seen taken (call.SampleVar u) (answer.SampleVar r) s t m h = change-var false (usage.with_mode by.named u Sample) u s t r (keeps.moded _ _ s t) m.0 h
+  call-keeps seen taken (call.WitnessVar u) (answer.WitnessVar r) s t m h = change-var false (usage.with_mode by.named u Witness) u s t r (keeps.moded _ _ s t) m.0 h
+  call-keeps seen taken (call.HideVar u) (answer.HideVar r) s t m h = change-var true (usage.hide_name by.named u) u s t r (keeps.hidden _ (usage.name_var by.named u s) t) m h
   call-keeps seen taken call.ObserveInternalVars (answer.ObserveInternalVars r) s t m h = observe s t (told_vars r) m h
   call-keeps seen taken (call.Assume list) (answer.Assume r) s t m h = keeps.assumes s t list.items r m h
   call-keeps seen taken call.Solve (answer.Solve r) s t m h = keeps.solves s t r m h

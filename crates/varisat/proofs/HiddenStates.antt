@@ -134,6 +134,6 @@ module _ (w : Carrying) (p : Spaces) (s : State) (u x : ℕ) (k : Links w p s) (
     few = k.few;
     shown = λ e. absurd cc;
     plain = λ e. absurd cc;
-    told = record { accepted = k.told.accepted; spoken = k.told.spoken; stays = λ e. absurd cc };
+    told = record { accepted = k.told.accepted; spoken = k.told.spoken; left = k.told.left; stays = λ e. absurd cc };
     checked = k.checked;
   }

@@ -1,8 +1,9 @@
 -- A name gets a variable.
-use Rattle.std.proofs.Common.{◌≡◌, ℕ, ◌+◌, ◌<◌, ◌≤◌, max, true, false, Option, Some, None, List, ⊎_elim, sym, ap, ◌∙◌, subst, refl, arith}
+use Rattle.std.proofs.Common.{◌≡◌, ◌↔◌, ℕ, ◌+◌, ◌<◌, ◌≤◌, max, true, false, Option, Some, None, List, ⊎_elim, sym, ap, ◌∙◌, subst, refl, arith}
 use Rattle.std.proofs.lemmas.Bool.{cases_lt}
 use Rattle.varisat_theory.specs.Membership.{◌∈◌}
 use Rattle.varisat_theory.specs.Literals.{Literal, Clause, Assignment, variable_of}
+use Rattle.varisat_theory.specs.Journals.{Leaves}
 use Rattle.varisat_theory.proofs.Members.{equal_or_not}
 use Rattle.varisat_names.specs.Maps.{updated, onward, chain}
 use Rattle.varisat_names.specs.VarData.{fresh}
@@ -203,6 +204,18 @@ module _ (w : Carrying) (p : Spaces) (s : State) (u x : ℕ) (k : Links w p s) (
   unfolding id'
   identity-same v = chain-same p.global_from_solver id' w.identity v (λ y h. let r = k.solvers.live v y h in stays y r.0 r.1 ∙ sym r.1)
 
+  -- no identity is gone that was not before
+  new-gone : (i : ℕ) → (Leaves i ∈ s.told) ↔ ((i < s.naming.made + 1) × (updated w.global s.naming.made (Some x) i ≡ None))
+  new-gone i = (
+    λ h.
+        let (b, e) = (k.told.left i).0 h in
+        let apart : i ≡ s.naming.made → ⊥ = (λ q. omega (arith, b, q)) in
+        (omega (arith, b), updated-other w.global s.naming.made (Some x) i apart ∙ e),
+    λ (h, e).
+        let apart : i ≡ s.naming.made → ⊥ = (λ q. let z : Some x ≡ None = sym (updated-at w.global s.naming.made (Some x)) ∙ ap (updated w.global s.naming.made (Some x)) (sym q) ∙ e in cc) in
+        (k.told.left i).1 (omega (arith, h, apart), sym (updated-other w.global s.naming.made (Some x) i apart) ∙ e),
+  )
+
   pub given : SpacesFit (give u x p) (with_naming (bring u s.naming) s)
   unfolding id' kept'
   given = (
@@ -237,7 +250,7 @@ module _ (w : Carrying) (p : Spaces) (s : State) (u x : ℕ) (k : Links w p s) (
       few = k.few;
       shown = λ e y. updated-all (λ y o. o ≡ None → (kept' y).deleted ≡ true) p.user_from_global x (Some u) (λ q. absurd cc) y (λ n h. ap (λ d. d.deleted) (updated-other p.kept x fresh y n) ∙ k.shown e y h);
       plain = λ e. new-plain (k.plain e);
-      told = k.told;
+      told = record { accepted = k.told.accepted; spoken = k.told.spoken; left = new-gone; stays = k.told.stays };
       checked = λ n. checker-alike w.global (updated w.global s.naming.made (Some x)) s.told p.checker
           (λ held led c l h i. let (y, e) = all-live w p s k n held led c l h i in sym (updated-other w.global s.naming.made (Some x) (variable_of l) (λ q. let z : None ≡ Some y = sym unused ∙ ap w.global (sym q) ∙ e in cc)))
           (k.checked n);

@@ -23,7 +23,7 @@ use Rattle.varisat.specs.Additions.{Gave, AllAdded, OneRefused, RefusedAtOnce, N
 use Rattle.varisat.specs.Calls as state
 use Rattle.varisat_theory.specs.Journals.{Entry}
 use Rattle.varisat.specs.Journals.{retold}
-use Rattle.varisat.specs.Calls.{IsPastLimit, MayConstrain, IsCrowded, IsLike, with_naming, start, with_steps, answer_of, reopened_verdict, assumed_verdict, VerdictAfter}
+use Rattle.varisat.specs.Calls.{IsPastLimit, MayConstrain, IsCrowded, IsLikeButLeft, IsLike, with_naming, start, with_steps, answer_of, reopened_verdict, assumed_verdict, VerdictAfter}
 use Rattle.varisat.specs.Budgets.{CountsSteps, TellsSince}
 use Rattle.varisat.specs.Updates as updates
 use Rattle.varisat.specs.Pasts as past
@@ -301,7 +301,7 @@ add-text p s t old new r g (Unread e (v, k) n) = (p, Unread e (sym g.valid ∙ v
 -- 5. A new variable.
 
 -- The state has the names m now, and the past may have other flags. All else that is known stays.
-knows-like : (p : Past) (s t : State) (m : Naming) (b x d : Bool) (l : Ledger) (told : List Entry) (n i : ℕ) (c : Settings) → IsLike (record s { naming = m; ever_hidden = b; ledger = l; told = told }) t → IsCapped m → b ≡ x → Knows p s → Knows (record p { started = d; naming = m; ever_hidden = x; steps = n; since = i; settings = c }) t
+knows-like : {may_leave : Bool} (p : Past) (s t : State) (m : Naming) (b x d : Bool) (l : Ledger) (told : List Entry) (n i : ℕ) (c : Settings) → IsLikeButLeft may_leave (record s { naming = m; ever_hidden = b; ledger = l; told = told }) t → IsCapped m → b ≡ x → Knows p s → Knows (record p { started = d; naming = m; ever_hidden = x; steps = n; since = i; settings = c }) t
 knows-like p s t m b x d l told n i c e h f k = record {
   naming = e.naming;
   hidden = e.ever_hidden ∙ f;
@@ -338,7 +338,7 @@ make-var p s t (Err e) g a = absurd a
 -- 6. Modes of variables, and hidden ones.
 
 -- the state and the past have other names
-renamed : (p : Past) (s t : State) (m : Naming) (b x : Bool) → IsLike (record s { naming = m; ever_hidden = b; ledger = record s.ledger { since = 0 } }) t → IsCapped m → b ≡ x → Agrees p s → p.valid ≡ true → Agrees (record p { naming = m; ever_hidden = x; since = 0 }) t
+renamed : {may_leave : Bool} (p : Past) (s t : State) (m : Naming) (b x : Bool) → IsLikeButLeft may_leave (record s { naming = m; ever_hidden = b; ledger = record s.ledger { since = 0 } }) t → IsCapped m → b ≡ x → Agrees p s → p.valid ≡ true → Agrees (record p { naming = m; ever_hidden = x; since = 0 }) t
 renamed p s t m b x e c f g v = record {
   valid = ap (λ x. x.valid) e.ledger ∙ g.valid;
   started = ap (λ x. x.started) e.ledger ∙ g.started;
@@ -356,10 +356,10 @@ assumed-state : (p : Past) (s : State) (u : ℕ) → Knows p s → usage.IsAssum
 assumed-state p s u k (l, h, e) = (l, subst (λ A. l ∈ A) (sym k.assumed) h, subst (λ (m : Naming). m.names u ≡ Some (variable_of l)) (sym k.naming) e)
 
 -- A name is named and then names change by f.
-changes-var : (f : Naming → Naming) (b : Bool → Bool) → ((m : Naming) → IsCapped m → IsCapped (f m)) → (p : Past) (s t : State) (u : ℕ) (r : Result (Unit {0}) SolverError) → Agrees p s →
-    usage.ChangesVar variables.named (λ x. record x { naming = f x.naming; ever_hidden = b x.ever_hidden; ledger = record x.ledger { since = 0 } }) s u r t →
-    Leads (usage.ChangesVar past.named (λ x. record x { naming = f x.naming; ever_hidden = b x.ever_hidden; since = 0 }) p u r) t
-changes-var f b keeps p s t u (Ok x) g (v, small, free, e) =
+changes-var : (may_leave : Bool) (f : Naming → Naming) (b : Bool → Bool) → ((m : Naming) → IsCapped m → IsCapped (f m)) → (p : Past) (s t : State) (u : ℕ) (r : Result (Unit {0}) SolverError) → Agrees p s →
+    usage.ChangesVar variables.named may_leave (λ x. record x { naming = f x.naming; ever_hidden = b x.ever_hidden; ledger = record x.ledger { since = 0 } }) s u r t →
+    Leads (usage.ChangesVar past.named may_leave (λ x. record x { naming = f x.naming; ever_hidden = b x.ever_hidden; since = 0 }) p u r) t
+changes-var may_leave f b keeps p s t u (Ok x) g (v, small, free, e) =
     let w = sym g.valid ∙ v in
     let k = g.knows w in
     let m = f (name_one u s.naming) in (
@@ -367,29 +367,29 @@ changes-var f b keeps p s t u (Ok x) g (v, small, free, e) =
       (w, small, (λ h. free (assumed-state p s u k h)), ap (λ (n : Naming). record p { naming = f (name_one u n); ever_hidden = b p.ever_hidden; since = 0 }) k.naming),
       renamed p s t m (b s.ever_hidden) (b p.ever_hidden) e (keeps (name_one u s.naming) (capped-one u s.naming k.capped)) (ap b k.hidden) g w,
     )
-changes-var f b keeps p s t u (Err Invalid) g a = (p, (sym g.valid ∙ a.0, refl), stays p s t a.1 g)
-changes-var f b keeps p s t u (Err VariableLimit) g (v, full, same) =
+changes-var may_leave f b keeps p s t u (Err Invalid) g a = (p, (sym g.valid ∙ a.0, refl), stays p s t a.1 g)
+changes-var may_leave f b keeps p s t u (Err VariableLimit) g (v, full, same) =
     let k = knows-of p s g v in
     (p, (sym g.valid ∙ v, subst (λ (m : Naming). (variable_limit ≤ u) ⊎ IsCrowded (name_one u m)) k.naming full, refl), stays p s t same g)
-changes-var f b keeps p s t u (Err (AssumedVar x)) g (v, small, own, h, same) =
+changes-var may_leave f b keeps p s t u (Err (AssumedVar x)) g (v, small, own, h, same) =
     let k = knows-of p s g v in
     (p, (sym g.valid ∙ v, small, own, assumed-past p s u k h, refl), stays p s t same g)
-changes-var f b keeps p s t u (Err OutOfMemory) g (small, free, broken) =
+changes-var may_leave f b keeps p s t u (Err OutOfMemory) g (small, free, broken) =
     let k = knows-of p s g broken.valid in
     let (q, c, h) = breaks p s t g broken in
     (q, (small, (λ z. free (assumed-state p s u k z)), c), h)
-changes-var f b keeps p s t u (Err e) g a = absurd a
+changes-var may_leave f b keeps p s t u (Err e) g a = absurd a
 
 pub set-usage : (mode : Mode) (p : Past) (s t : State) (u : ℕ) (r : Result (Unit {0}) SolverError) → Agrees p s → usage.SetsMode variables.named mode s u r t → Leads (usage.SetsMode past.named mode p u r) t
 set-usage mode p s t u r g (a, fresh) =
-    let (q, c, h) = changes-var (set_mode u mode) (λ b. b) (λ m f. f) p s t u r g a in
+    let (q, c, h) = changes-var false (set_mode u mode) (λ b. b) (λ m f. f) p s t u r g a in
     (q, (c, (λ e. ap (λ (n : Naming). n.names u) (sym (known e).naming) ∙ fresh e)), h)
   where
     known : r ≡ Err OutOfMemory → Knows p s
-    known e = knows-of p s g (subst (λ x. usage.ChangesVar variables.named (usage.with_mode variables.named u mode) s u x t) e a).2.valid
+    known e = knows-of p s g (subst (λ x. usage.ChangesVar variables.named false (usage.with_mode variables.named u mode) s u x t) e a).2.valid
 
 pub hide : (p : Past) (s t : State) (u : ℕ) (r : Result (Unit {0}) SolverError) → Agrees p s → usage.Hides variables.named s u r t → Leads (usage.Hides past.named p u r) t
-hide p s t u r g a = changes-var (free_name u) (λ b. true) (capped-freed u) p s t u r g a
+hide p s t u r g a = changes-var true (free_name u) (λ b. true) (capped-freed u) p s t u r g a
 
 pub observe : (p : Past) (s t : State) (r : Result (List ℕ) SolverError) → Agrees p s → usage.Observes variables.named s r t → Leads (usage.Observes past.named p r) t
 observe p s t (Ok us) g (v, (m, shown, e)) =
@@ -521,7 +521,7 @@ told-on p s t n i c e k =
     (knows-like p s t s.naming s.ever_hidden p.ever_hidden p.started t.ledger t.told n i c e k.capped k.hidden k)
 
 like-told : (s t : State) (n : ℕ) → IsLike (retold t.told (with_steps n s)) t → IsLike (record s { ledger = t.ledger; told = t.told }) t
-like-told s t n e = record { naming = e.naming; ever_hidden = e.ever_hidden; clauses = e.clauses; assumptions = e.assumptions; counted = e.counted; verdict = e.verdict; ledger = refl; told = e.told; proof = e.proof }
+like-told s t n e = record { naming = e.naming; ever_hidden = e.ever_hidden; clauses = e.clauses; assumptions = e.assumptions; counted = e.counted; verdict = e.verdict; ledger = refl; told = e.told; stays = e.stays; proof = e.proof }
 
 -- some assignment satisfies the clauses and the assumptions where true is returned
 some-with : (p : Past) (s t : State) → Knows p s → state.TellsVerdict s true t → IsSatisfiableWith p.clauses p.assumptions

@@ -1,5 +1,5 @@
 -- A global variable without a name may be used again.
-use Rattle.std.proofs.Common.{◌≡◌, ◌≢◌, ◌↔◌, ℕ, ◌<◌, true, false, Option, Some, None, List, [], ◌∷◌, ◌++◌, sym, ap, ◌∙◌, subst, refl}
+use Rattle.std.proofs.Common.{◌≡◌, ◌≢◌, ◌↔◌, ℕ, ◌<◌, true, false, Option, Some, None, List, [], ◌∷◌, ◌++◌, ◌⊎◌, inl, inr, ⊎_elim, sym, ap, ◌∙◌, subst, refl}
 use Rattle.varisat_theory.specs.Membership.{◌∈◌}
 use Rattle.varisat_theory.specs.Literals.{Literal, Clause, variable_of}
 use Rattle.varisat_proof.specs.Calls.{CheckerState}
@@ -7,6 +7,7 @@ use Rattle.varisat_proof.specs.Proving.{IsCheckedIf}
 use Rattle.varisat.specs.Carried.{carry}
 use Rattle.varisat.proofs.Carried.{carry-at}
 use Rattle.varisat.proofs.CheckedHeld.{all-live, checker-without}
+use Rattle.varisat_theory.proofs.Members.{equal_or_not}
 use Rattle.varisat_names.specs.Maps.{updated, chain}
 use Rattle.varisat_names.specs.VarData.{dead}
 use Rattle.varisat_names.specs.declared.variables.data.VarData.{VarData}
@@ -115,6 +116,16 @@ module _ (w : Carrying) (p : Spaces) (s : State) (x i : ℕ) (k : Links w p s) (
         λ q. let a : Some y ≡ Some x = sym e ∙ ap w.global q ∙ k.identities.one_to_one.there x i at in there ∙ (let z : y ≡ x = cc in z),
       )
 
+  -- just its identity is gone too
+  gone-too : (j : ℕ) → ((j < s.naming.made) × (updated w.global i None j ≡ None)) ↔ (((j < s.naming.made) × (w.global j ≡ None)) ⊎ (j ≡ i))
+  gone-too j = (
+    λ (h, e). ⊎_elim (λ q. inr q) (λ n. inl (h, sym (updated-other w.global i None j n) ∙ e)) (equal_or_not j i),
+    λ g. ⊎_elim
+        (λ (h, e). (h, updated-all (λ j o. w.global j ≡ None → o ≡ None) w.global i None (λ _. refl) j (λ n q. q) e))
+        (λ q. (subst (λ j. j < s.naming.made) (sym q) (k.identities.below x i at), ap (updated w.global i None) q ∙ updated-at w.global i None))
+        g,
+  )
+
   -- It is gone from each state, under no verdict that lets nothing more be told.
   pub recycled : without_core p.outcome ≢ outcome.Unsat → (checker : Option CheckerState) → IsCheckedIf p.checker (Leaves x ∷ []) checker → SpacesFit (record (recycle x p) { checker = checker }) (retold (s.told ++ Leaves i ∷ []) s)
   unfolding id' kept'
@@ -147,6 +158,6 @@ module _ (w : Carrying) (p : Spaces) (s : State) (x i : ℕ) (k : Links w p s) (
           shown = λ e y. updated-all (λ y d. p.user_from_global y ≡ None → d.deleted ≡ true) p.kept x dead (λ _. refl) y (λ n h. k.shown e y h);
           plain = λ e. absurd (was-hidden e);
           checked = λ n. checker-without w.global (updated w.global i None) s.told i x p.checker checker (same-left n) (λ j o. sym (updated-other w.global i None j o)) gone (k.checked n);
-          told = told-left s.told s.clauses s.counted s.ever_hidden i was-hidden k.told;
+          told = told-left s.told s.clauses s.counted s.ever_hidden i was-hidden gone-too k.told;
         },
       )

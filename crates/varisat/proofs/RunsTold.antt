@@ -122,13 +122,13 @@ make-var s t (Err Invalid) a w = tells-same s t a.1 w
 make-var s t (Err VariableLimit) a w = tells-same s t a.2 w
 make-var s t (Err e) a w = absurd a
 
-changes-var : (f : Naming → Naming) (b : Bool → Bool) (s t : State) (u : ℕ) (r : Result (Unit {0}) SolverError) → usage.ChangesVar variables.named (λ x. record x { naming = f x.naming; ever_hidden = b x.ever_hidden; ledger = record x.ledger { since = 0 } }) s u r t → state.IsValid t → TellsOn s t
-changes-var f b s t u (Ok x) (v, small, free, e) w = tells-plainly s t v (ap (λ (x : Ledger). x.steps) e.ledger) e.told
-changes-var f b s t u (Err Invalid) a w = tells-same s t a.1 w
-changes-var f b s t u (Err VariableLimit) a w = tells-same s t a.2 w
-changes-var f b s t u (Err (AssumedVar x)) a w = tells-same s t a.4 w
-changes-var f b s t u (Err OutOfMemory) a w = absurd (no-way s t a.2 w)
-changes-var f b s t u (Err e) a w = absurd a
+changes-var : (may_leave : Bool) (f : Naming → Naming) (b : Bool → Bool) (s t : State) (u : ℕ) (r : Result (Unit {0}) SolverError) → usage.ChangesVar variables.named may_leave (λ x. record x { naming = f x.naming; ever_hidden = b x.ever_hidden; ledger = record x.ledger { since = 0 } }) s u r t → state.IsValid t → TellsOn s t
+changes-var may_leave f b s t u (Ok x) (v, small, free, e) w = tells-plainly s t v (ap (λ (x : Ledger). x.steps) e.ledger) e.told
+changes-var may_leave f b s t u (Err Invalid) a w = tells-same s t a.1 w
+changes-var may_leave f b s t u (Err VariableLimit) a w = tells-same s t a.2 w
+changes-var may_leave f b s t u (Err (AssumedVar x)) a w = tells-same s t a.4 w
+changes-var may_leave f b s t u (Err OutOfMemory) a w = absurd (no-way s t a.2 w)
+changes-var may_leave f b s t u (Err e) a w = absurd a
 
 observe : (s t : State) (r : Result (List ℕ) SolverError) → usage.Observes variables.named s r t → state.IsValid t → TellsOn s t
 observe s t (Ok us) (v, (m, shown, e)) w = tells-plainly s t v (ap (λ (x : Ledger). x.steps) e.ledger) e.told
@@ -203,9 +203,9 @@ call-tells seen taken (call.AddClause d) (answer.AddClause r) s t m w = add-clau
 call-tells seen taken (call.AddFormula f) (answer.AddFormula r) s t m w = add-formula s t f.clauses r m w
 call-tells seen taken (call.AddDimacsCnf source) (answer.AddDimacsCnf r back) s t m w = add-text s t (seen source) (seen back) r m w
 call-tells seen taken call.NewVar (answer.NewVar r) s t m w = make-var s t r m w
-call-tells seen taken (call.SampleVar u) (answer.SampleVar r) s t m w = changes-var (set_mode u Sample) (λ b. b) s t u r m.0 w
-call-tells seen taken (call.WitnessVar u) (answer.WitnessVar r) s t m w = changes-var (set_mode u Witness) (λ b. b) s t u r m.0 w
-call-tells seen taken (call.HideVar u) (answer.HideVar r) s t m w = changes-var (free_name u) (λ b. true) s t u r m w
+call-tells seen taken (call.SampleVar u) (answer.SampleVar r) s t m w = changes-var false (set_mode u Sample) (λ b. b) s t u r m.0 w
+call-tells seen taken (call.WitnessVar u) (answer.WitnessVar r) s t m w = changes-var false (set_mode u Witness) (λ b. b) s t u r m.0 w
+call-tells seen taken (call.HideVar u) (answer.HideVar r) s t m w = changes-var true (free_name u) (λ b. true) s t u r m w
 call-tells seen taken call.ObserveInternalVars (answer.ObserveInternalVars r) s t m w = observe s t (told_vars r) m w
 call-tells seen taken (call.Assume list) (answer.Assume r) s t m w = assume-list s t list.items r m w
 call-tells seen taken call.Solve (answer.Solve r) s t m w = solve s t r m w

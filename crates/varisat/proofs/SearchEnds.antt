@@ -28,6 +28,7 @@ like-searched s t k = record {
   verdict = k.verdict;
   ledger = k.ledger;
   told = k.told;
+  stays = k.stays;
   proof = goes-on-searched s.proof t.proof k.proof;
 }
 

@@ -29,8 +29,8 @@ use Rattle.varisat.specs.States.{State, Verdict, Unknown, Sat, Unsat, UnsatUnder
 use Rattle.varisat.specs.Names.{identity_of}
 use Rattle.varisat.specs.Calls.{with_verdict}
 use Rattle.varisat.specs.Carried.{carry, is_forced, value_or}
-use Rattle.varisat.specs.Spaces.{Spaces, Carrying, Translation, translation, CheckerFits, IsCounted, IsTold, SearchHolds, AssumptionsFit, MarksFit, WorkingFits, CoreFits, without_core, VerdictFits, Links, SpacesFit}
-use Rattle.varisat.specs.Journals.{retold, TellsMore}
+use Rattle.varisat.specs.Spaces.{Spaces, Carrying, Translation, translation, CheckerFits, IsCounted, IsTold, SearchHolds, AssumptionsFit, MarksFit, WorkingFits, CoreFits, without_core, VerdictFits, Links, SpacesFit, IsGone, SharesHeld, HeldFits}
+use Rattle.varisat.specs.Journals.{retold, TellsMore, ToldConflict}
 use Rattle.varisat.proofs.SpacesMoves.{AreLong, AreInUse}
 use Rattle.varisat.proofs.CheckedHeld.{checker-on, told-carried, global-carried}
 use Rattle.varisat_proof.specs.Calls.{CheckerState}
@@ -61,7 +61,7 @@ known-unknown : (v : Outcome) → v ≡ outcome.Unknown → without_core v ≢ o
 known-unknown v e q = let z : outcome.Unknown ≡ outcome.Unsat = sym (ap without_core e) ∙ q in cc
 
 -- another verdict of the state, which is right
-decided : (w : Carrying) (p : Spaces) (s : State) (told : List Entry) → IsTold told s.clauses s.counted s.ever_hidden → (t : Search) (v : Outcome) (m : ℕ → Bool) (ws core : List Literal) (checker : Option CheckerState) (x : Verdict) → Links w p s → (without_core v ≢ outcome.Unsat → CheckerFits w.global told checker) → SearchHolds s.clauses (translation w p told) t (without_core v) → WorkingFits s.clauses (translation w p s.told).identity s.assumptions ws → VerdictFits w.identity m v x → CoreFits s.naming.names core x → IsRight s.clauses s.assumptions s.counted x → Links w (decide t v m ws core checker p) (retold told (with_verdict x s))
+decided : (w : Carrying) (p : Spaces) (s : State) (told : List Entry) → IsTold told s.clauses s.counted s.ever_hidden (IsGone w s) → (t : Search) (v : Outcome) (m : ℕ → Bool) (ws core : List Literal) (checker : Option CheckerState) (x : Verdict) → Links w p s → (without_core v ≢ outcome.Unsat → CheckerFits w.global told checker) → SearchHolds s.clauses (translation w p told) t (without_core v) → WorkingFits s.clauses (translation w p s.told).identity s.assumptions ws → VerdictFits w.identity m v x → CoreFits s.naming.names core x → IsRight s.clauses s.assumptions s.counted x → Links w (decide t v m ws core checker p) (retold told (with_verdict x s))
 decided w p s told is-told t v m ws core checker x k checks holds working fits names right =
     relinked w p (decide t v m ws core checker p) s (retold told (with_verdict x s)) k (record { solvers = k.solvers; holds = holds; assumptions = k.assumptions; working = working; verdict = fits; core = names; right = right; few = k.few; told = is-told; checked = checks })
 
@@ -155,7 +155,7 @@ module _ (w : Carrying) (p : Spaces) (s : State) (k : Links w p s) (unknown : p.
       let (last, a, same) = adding_same n (q.forgotten ++ rename f before.held) q.held (told_lines r lines) (q.forgotten ++ rename f after) (same_clauses-back q.held (q.forgotten ++ rename f before.held) q.same) adding in
       goes_adding n s.told (told_lines r lines) q.held last q.led a
 
-  pub steps-are-told : IsTold (told-with w p s lines) s.clauses s.counted s.ever_hidden
+  pub steps-are-told : IsTold (told-with w p s lines) s.clauses s.counted s.ever_hidden (IsGone w s)
   steps-are-told =
       let to = (translation w p s.told).identity in
       told-written s.told s.clauses s.counted s.ever_hidden (map (rename_line (carry to)) lines)

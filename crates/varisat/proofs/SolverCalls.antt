@@ -53,7 +53,7 @@ use Rattle.varisat.proofs.ReachedHeld.{told_lines}
 use Rattle.varisat.proofs.PlainTold.{plain-literals, plain-lines, proof-told}
 use Rattle.varisat.specs.Journals.{retold, TellsMore, ToldConflict}
 use Rattle.varisat.proofs.OpenProofs.{goes-on-none}
-use Rattle.varisat.proofs.ToldEntries.{tells-nothing}
+use Rattle.varisat.proofs.ToldEntries.{tells-nothing, stays-nothing}
 use Rattle.varisat.specs.Spaces.{Spaces, Carrying, Translation, HeldFits, translation, without_core, CoreFits, VerdictFits, Links, SpacesFit, list_globals}
 use Rattle.varisat.specs.Summaries.{Summary, IsKept, StandsFor, spaces, spaces_of, list_tables}
 use Rattle.varisat.proofs.SpacesAgree.{map-map}
@@ -112,7 +112,7 @@ first-spaces s e n =
         few = omega (arith, n);
         shown = λ o x h. refl;
         plain = λ o. record { all = λ i h. absurd (omega (arith, h)); only = λ x i e. absurd (let z : None ≡ Some i = e in cc) };
-        told = record { accepted = refl; spoken = tt; stays = λ e. tt };
+        told = record { accepted = refl; spoken = tt; left = λ i. (λ h. absurd h, λ (h, e). absurd (omega (arith, h))); stays = λ e. tt };
         checked = λ n held led. tt;
       },
     )
@@ -432,7 +432,7 @@ known-told g s b st v e =
       steps = λ u. absurd (let z : None ≡ Some b = ap answer_of (sym u) ∙ a in cc);
       answer = a;
       right = (st.fits v).1.right;
-      rest = record { naming = refl; ever_hidden = refl; clauses = refl; assumptions = refl; counted = refl; verdict = refl; ledger = ledger-is s.ledger s.ledger.valid s.ledger.started s.ledger.steps (s.ledger.since + (s.ledger.steps - s.ledger.steps)) s.ledger.settings refl refl refl (none-more s.ledger.since s.ledger.steps) refl; told = tells-nothing s.told; proof = goes-on-none s.proof };
+      rest = record { naming = refl; ever_hidden = refl; clauses = refl; assumptions = refl; counted = refl; verdict = refl; ledger = ledger-is s.ledger s.ledger.valid s.ledger.started s.ledger.steps (s.ledger.since + (s.ledger.steps - s.ledger.steps)) s.ledger.settings refl refl refl (none-more s.ledger.since s.ledger.steps) refl; told = (stays-nothing s.told).0; stays = λ _. (stays-nothing s.told).1; proof = goes-on-none s.proof };
       told = let z : 0 ≡ s.ledger.steps - s.ledger.steps = omega arith in subst (λ n. TellsMore n s.told s.told) z (tells-nothing s.told);
       refuted = told-refuted g s st v;
     }

@@ -47,7 +47,7 @@ use Rattle.varisat.proofs.PlainTables.{assumed-named}
 use Rattle.varisat.proofs.PlainTold.{proof-quiet, proof-through}
 use Rattle.varisat.proofs.SearchVerdicts.{kept-on}
 use Rattle.varisat.proofs.SolverCalls.{comes-made, answers-fit, unsat-told}
-use Rattle.varisat.proofs.ToldEntries.{tells-nothing}
+use Rattle.varisat.proofs.ToldEntries.{tells-nothing, stays-nothing}
 use Rattle.varisat.proofs.VariablesInUse.{same-in-use}
 use Rattle.varisat.proofs.VerdictAnswers.{right-false}
 
@@ -256,7 +256,7 @@ module _ {A : Type 0} {k : ℕ} {s : State} {p q : ProofParts} (m : Tables) (y :
     valid = valid;
     unknown = was;
     steps = counts;
-    rest = record { naming = refl; ever_hidden = refl; clauses = refl; assumptions = refl; counted = refl; verdict = unknown ∙ sym was; ledger = refl; told = tells-nothing c.told; proof = grows };
+    rest = record { naming = refl; ever_hidden = refl; clauses = refl; assumptions = refl; counted = refl; verdict = unknown ∙ sym was; ledger = refl; told = (stays-nothing c.told).0; stays = λ _. (stays-nothing c.told).1; proof = grows };
     told = record { entries = c.more.entries; joined = c.more.joined; goes = subst (λ j. GoesOn j s.told c.more.entries) made c.more.goes };
     adds = subst (λ j. GoesOnAdding j s.told c.more.entries) made (c.adds unknown);
     still = λ e. absurd (moved e);
@@ -271,7 +271,7 @@ interrupted-still s valid was counts =
       valid = valid;
       unknown = was;
       steps = counts;
-      rest = record { naming = refl; ever_hidden = refl; clauses = refl; assumptions = refl; counted = refl; verdict = refl; ledger = ledger-is s.ledger s.ledger.valid s.ledger.started s.ledger.steps (s.ledger.since + (s.ledger.steps - s.ledger.steps)) s.ledger.settings refl refl refl (none-more s.ledger.since s.ledger.steps) refl; told = nothing; proof = goes-on-none s.proof };
+      rest = record { naming = refl; ever_hidden = refl; clauses = refl; assumptions = refl; counted = refl; verdict = refl; ledger = ledger-is s.ledger s.ledger.valid s.ledger.started s.ledger.steps (s.ledger.since + (s.ledger.steps - s.ledger.steps)) s.ledger.settings refl refl refl (none-more s.ledger.since s.ledger.steps) refl; told = (stays-nothing s.told).0; stays = λ _. (stays-nothing s.told).1; proof = goes-on-none s.proof };
       told = record { entries = nothing.entries; joined = nothing.joined; goes = subst (λ j. GoesOn j s.told nothing.entries) none nothing.goes };
       adds = subst (λ j. GoesOnAdding j s.told nothing.entries) none (goes_adding_none 0 s.told nothing.entries nothing.goes);
       still = λ e. refl;

@@ -1,5 +1,5 @@
 -- What the calls that set modes, hide and show variables do to the states that the solver stands for.
-use Rattle.std.proofs.Common.{◌≡◌, ◌≢◌, ℕ, true, Result, Err, Some, None, List, [], ◌∷◌, inl, inr, ⊎_elim, length, sym, ap, ◌∙◌, subst, refl}
+use Rattle.std.proofs.Common.{◌≡◌, ◌≢◌, ℕ, Bool, true, false, Result, Err, Some, None, List, [], ◌∷◌, inl, inr, ⊎_elim, length, sym, ap, ◌∙◌, subst, refl}
 use Rattle.std.specs.Option.{is_some}
 use Rattle.varisat_theory.specs.Literals.{variable_of, literal_of}
 use Rattle.varisat_search.proofs.StepOutcome.{variable-literal}
@@ -60,17 +60,17 @@ crowded-one w g s u k c =
     subst (λ v. IsCrowded (name_one v s.naming)) e (crowded-state w g s k (literal_of u true ∷ []) (subst (λ v. IsCrowded (name_one v (naming_of g.tables))) (sym e) c))
 
 -- a change that is refused changes nothing
-pub change-refused : (change : State → State) {g : Summary} {s : State} (u : ℕ) (e : SolverError) → Begins g s → ChecksChange g.tables u (Err e) → ChangesVar named change s u (Err e) s
-change-refused change {g} {s} u VariableLimit b c = let (w, k) = b.fits in (b.valid, ⊎_elim inl (λ m. inr (crowded-one w g s u k m)) c, refl)
-change-refused change {g} {s} u (AssumedVar x) b (h, q, m) = let (w, k) = b.fits in (b.valid, h, q, assumed-state w g s u k m, refl)
-change-refused change {g} {s} u e b c = absurd c
+pub change-refused : (may_leave : Bool) (change : State → State) {g : Summary} {s : State} (u : ℕ) (e : SolverError) → Begins g s → ChecksChange g.tables u (Err e) → ChangesVar named may_leave change s u (Err e) s
+change-refused may_leave change {g} {s} u VariableLimit b c = let (w, k) = b.fits in (b.valid, ⊎_elim inl (λ m. inr (crowded-one w g s u k m)) c, refl)
+change-refused may_leave change {g} {s} u (AssumedVar x) b (h, q, m) = let (w, k) = b.fits in (b.valid, h, q, assumed-state w g s u k m, refl)
+change-refused may_leave change {g} {s} u e b c = absurd c
 
 -- memory is not what it is refused for
 no-memory : (t : Tables) (u : ℕ) (r : Result (Unit {0}) SolverError) → ChecksChange t u r → r ≡ Err OutOfMemory → ⊥
 no-memory t u r c q = subst (ChecksChange t u) q c
 
 pub mode-refused : (n : Mode) {g : Summary} {s : State} (u : ℕ) (e : SolverError) → Begins g s → ChecksChange g.tables u (Err e) → SetsMode named n s u (Err e) s
-mode-refused n {g} {s} u e b c = (change-refused (with_mode u n) u e b c, λ q. absurd (no-memory g.tables u (Err e) c q))
+mode-refused n {g} {s} u e b c = (change-refused false (with_mode u n) u e b c, λ q. absurd (no-memory g.tables u (Err e) c q))
 
 -- 2. What is changed.
 

@@ -9,7 +9,7 @@ use Rattle.varisat_tracer.specs.Tracing.{TracerState}
 use Rattle.varisat.specs.States.{State, Verdict}
 use Rattle.varisat.specs.Names.{name_all, through_names}
 use Rattle.varisat.specs.Calls.{with_naming, VerdictAfter, append_clause, with_assumptions}
-use Rattle.varisat.specs.Journals.{retold, TellsMore, TellsProof}
+use Rattle.varisat.specs.Journals.{retold, TellsStaying, TellsProof}
 use Rattle.varisat.specs.Spaces.{SpacesFit}
 use Rattle.varisat.specs.Summaries.{spaces_with}
 
@@ -22,7 +22,7 @@ abbrev pub StandsOnceAccepted : {A : Type 0} → Clause → TracerState → Cont
 StandsOnceAccepted d p x q y =
     (s : State) → SpacesFit (spaces_with p.tables p.proof.checker x) s →
     (v : Verdict) × (told : List Entry) × VerdictAfter s.clauses (identity_literals s d) s.verdict v
-    × TellsMore 0 (s.told ++ Accepts (identity_literals s d) ∷ []) told × TellsProof s.ever_hidden s.told told p.proof q.proof
+    × TellsStaying 0 (s.told ++ Accepts (identity_literals s d) ∷ []) told × TellsProof s.ever_hidden s.told told p.proof q.proof
     × SpacesFit (spaces_with q.tables q.proof.checker y) (retold told (append_clause (identity_literals s d) v (with_naming (name_all d s.naming) s)))
 
 -- The list is assumed in place of the one before, and the journal goes on with it. A checker inside goes on as it is.

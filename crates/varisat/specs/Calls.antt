@@ -37,8 +37,8 @@ abbrev pub IsValid : State → Type 0
 IsValid s = is_valid s ≡ true
 
 -- What a user can know in t is what it is in s, but for what a call tells beside, entries that add no clause that counts, and for
--- further bytes of an open proof.
-pub record IsLike (s t : State) : Type 0 where
+-- further bytes of an open proof. Variables left only where they may.
+pub record IsLikeButLeft (may_leave : Bool) (s t : State) : Type 0 where
   pub naming : t.naming ≡ s.naming
   pub ever_hidden : t.ever_hidden ≡ s.ever_hidden
   pub clauses : t.clauses ≡ s.clauses
@@ -47,7 +47,12 @@ pub record IsLike (s t : State) : Type 0 where
   pub verdict : t.verdict ≡ s.verdict
   pub ledger : t.ledger ≡ s.ledger
   pub told : TellsMore 0 s.told t.told
+  pub stays : may_leave ≡ false → entry.NoneLeaves told.entries
   pub proof : GoesOnWriting s.proof t.proof
+
+-- so it is, and none left
+abbrev pub IsLike : State → State → Type 0
+IsLike s t = IsLikeButLeft false s t
 
 -- An error from which there is no way back: from then on the state is invalid. Nothing else is told of it but that it is
 -- well-formed, and what the ledger tells.

@@ -19,6 +19,10 @@ pub record TellsMore (n : ℕ) (before after : List Entry) : Type 0 where
   pub joined : after ≡ before ++ entries
   pub goes : GoesOn n before entries
 
+-- so it is, and no variable leaves
+abbrev pub TellsStaying : ℕ → List Entry → List Entry → Type 0
+TellsStaying n before after = (m : TellsMore n before after) × NoneLeaves m.entries
+
 -- An open proof, and a checker, were told entries over global variables. As long as nothing was ever hidden these are the further entries themselves.
 pub record TellsProof (hidden : Bool) (before after : List Entry) (old new : ProofParts) : Type 0 where
   pub given : List Entry

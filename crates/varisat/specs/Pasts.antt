@@ -148,7 +148,7 @@ named = record {
   assumptions = λ p. p.assumptions;
   with_naming = λ m p. record p { naming = m; since = 0 };
   once_hidden = λ p. record p { ever_hidden = true };
-  like = λ p q. q ≡ p;
+  like = λ _ p q. q ≡ p;
   invalidates = Invalidates;
 }
 

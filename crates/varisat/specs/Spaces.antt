@@ -2,13 +2,13 @@
 --
 -- A name of the user leads to a global variable, which lasts as long as its identity may be spoken of, and a global variable to a
 -- solver variable while the search speaks of it. Identities are never used again, global and solver variables are.
-use Rattle.std.specs.Prelude.{◌≡◌, ◌≢◌, ℕ, zero, suc, ◌<◌, ◌≤◌, ◌⊎◌, Bool, true, false, Option, Some, None, List, [], ◌++◌, length, map}
+use Rattle.std.specs.Prelude.{◌≡◌, ◌≢◌, ℕ, zero, suc, ◌<◌, ◌≤◌, ◌⊎◌, Bool, true, false, Option, Some, None, List, [], ◌++◌, length, map, ◌↔◌}
 use Rattle.varisat_theory.specs.Membership.{◌∈◌, ◌⊆◌}
 use Rattle.varisat_theory.specs.Literals.{Literal, Clause, Assignment, variable_of, literal_of, IsUnit, SatisfiesAll, MakesTrue}
 use Rattle.varisat_theory.specs.Renaming.{rename}
 use Rattle.varisat_theory.specs.Held.{SameClauses}
 use Rattle.varisat_theory.specs.Derivations.{SpeakOf}
-use Rattle.varisat_theory.specs.Journals.{Entry, Leads, accepted_of, lines_of, NoneLeaves}
+use Rattle.varisat_theory.specs.Journals.{Entry, Leaves, Leads, accepted_of, lines_of, NoneLeaves}
 use Rattle.varisat_theory.specs.Searches.{Search, IsTautology, CoversBy, IsLiteralOf}
 use Rattle.varisat_theory.specs.Outcomes.{Outcome, Holds}
 use Rattle.varisat_theory.specs.Outcomes as outcome
@@ -208,11 +208,16 @@ translation w p told = record { identity = chain p.global_from_solver w.identity
 abbrev pub IsCounted : List ℕ → Literal → Type 0
 IsCounted counted l = variable_of l ∈ counted
 
--- The accepted clauses are those that were told, in order; lines are over counted identities; and no variable left as long as
--- nothing was hidden.
-pub record IsTold (told : List Entry) (clauses : List Clause) (counted : List ℕ) (ever_hidden : Bool) : Type 0 where
+-- the identity was made, and no global variable stands for it any more
+abbrev pub IsGone : Carrying → State → ℕ → Type 0
+IsGone w s i = (i < s.naming.made) × (w.global i ≡ None)
+
+-- The accepted clauses are those that were told, in order; lines are over counted identities; just those identities were told to
+-- have left that are gone; and none left as long as nothing was hidden.
+pub record IsTold (told : List Entry) (clauses : List Clause) (counted : List ℕ) (ever_hidden : Bool) (gone : ℕ → Type 0) : Type 0 where
   pub accepted : accepted_of told ≡ clauses
   pub spoken : SpeakOf (IsCounted counted) (lines_of told)
+  pub left : (i : ℕ) → (Leaves i ∈ told) ↔ gone i
   pub stays : ever_hidden ≡ false → NoneLeaves told
 
 -- Each identity that was made is that of the global variable of its number, as long as none leaves.
@@ -249,7 +254,7 @@ pub record Links (w : Carrying) (p : Spaces) (s : State) : Type 0 where
   pub shown : s.ever_hidden ≡ false → (x : ℕ) → p.user_from_global x ≡ None → (p.kept x).deleted ≡ true
   -- and stands for the identity of its number
   pub plain : s.ever_hidden ≡ false → IsPlain w.identity s.naming.made
-  pub told : IsTold s.told s.clauses s.counted s.ever_hidden
+  pub told : IsTold s.told s.clauses s.counted s.ever_hidden (IsGone w s)
   -- under Unsat the checker is told nothing more, and nothing is said of it
   pub checked : without_core p.outcome ≢ outcome.Unsat → CheckerFits w.global s.told p.checker
 

@@ -23,7 +23,7 @@ pub record AreAllShown (us : List ℕ) (P : List Clause) (old new : Naming) : Ty
   pub rest : (i : ℕ) → i < new.made → IsUnnamed new i → LetStayHidden P i
 
 -- What has names, and clauses and assumptions over identities: whether it is valid, the same with other names, the same once a
--- name was hidden, what is like it for a user, and what is left of it once memory ran out.
+-- name was hidden, what is like it for a user, where variables may have left or not, and what is left of it once memory ran out.
 pub record Named (X : Type 0) : Type 1 where
   pub valid : X → Bool
   pub naming : X → Naming
@@ -31,7 +31,7 @@ pub record Named (X : Type 0) : Type 1 where
   pub assumptions : X → List Literal
   pub with_naming : Naming → X → X
   pub once_hidden : X → X
-  pub like : X → X → Type 0
+  pub like : Bool → X → X → Type 0
   pub invalidates : X → X → Type 0
 
 module _ {X : Type 0} (by : Named X) where
@@ -43,14 +43,14 @@ module _ {X : Type 0} (by : Named X) where
   abbrev pub name_var : ℕ → X → X
   name_var u s = by.with_naming (name_one u (by.naming s)) s
 
-  -- A name is named, and then its variable is changed, unless it is assumed.
-  abbrev pub ChangesVar : (X → X) → X → ℕ → Result (Unit {0}) SolverError → X → Type 0
-  ChangesVar change s u (Ok _) t = (by.valid s ≡ true) × (u < variable_limit) × (IsAssumed s u → ⊥) × by.like (change (name_var u s)) t
-  ChangesVar change s u (Err Invalid) t = (by.valid s ≡ false) × (t ≡ s)
-  ChangesVar change s u (Err VariableLimit) t = (by.valid s ≡ true) × ((variable_limit ≤ u) ⊎ IsCrowded (name_one u (by.naming s))) × (t ≡ s)
-  ChangesVar change s u (Err (AssumedVar v)) t = (by.valid s ≡ true) × (u < variable_limit) × (v ≡ u) × IsAssumed s u × (t ≡ s)
-  ChangesVar change s u (Err OutOfMemory) t = (u < variable_limit) × (IsAssumed s u → ⊥) × by.invalidates s t
-  ChangesVar change s u (Err _) t = ⊥
+  -- A name is named, and then its variable is changed, unless it is assumed, and may leave.
+  abbrev pub ChangesVar : Bool → (X → X) → X → ℕ → Result (Unit {0}) SolverError → X → Type 0
+  ChangesVar may_leave change s u (Ok _) t = (by.valid s ≡ true) × (u < variable_limit) × (IsAssumed s u → ⊥) × by.like may_leave (change (name_var u s)) t
+  ChangesVar may_leave change s u (Err Invalid) t = (by.valid s ≡ false) × (t ≡ s)
+  ChangesVar may_leave change s u (Err VariableLimit) t = (by.valid s ≡ true) × ((variable_limit ≤ u) ⊎ IsCrowded (name_one u (by.naming s))) × (t ≡ s)
+  ChangesVar may_leave change s u (Err (AssumedVar v)) t = (by.valid s ≡ true) × (u < variable_limit) × (v ≡ u) × IsAssumed s u × (t ≡ s)
+  ChangesVar may_leave change s u (Err OutOfMemory) t = (u < variable_limit) × (IsAssumed s u → ⊥) × by.invalidates s t
+  ChangesVar may_leave change s u (Err _) t = ⊥
 
   -- the variable of the name, which is in use, has the mode
   abbrev pub with_mode : ℕ → Mode → X → X
@@ -58,19 +58,19 @@ module _ {X : Type 0} (by : Named X) where
 
   -- The calls `sample_var` and `witness_var`. On a name in use they need no memory.
   abbrev pub SetsMode : Mode → X → ℕ → Result (Unit {0}) SolverError → X → Type 0
-  SetsMode mode s u r t = ChangesVar (with_mode u mode) s u r t × (r ≡ Err OutOfMemory → (by.naming s).names u ≡ None)
+  SetsMode mode s u r t = ChangesVar false (with_mode u mode) s u r t × (r ≡ Err OutOfMemory → (by.naming s).names u ≡ None)
 
   -- the name is free, and its variable is hidden
   abbrev pub hide_name : ℕ → X → X
   hide_name u s = by.once_hidden (by.with_naming (free_name u (by.naming s)) s)
 
-  -- The call `hide_var`.
+  -- The call `hide_var`, as which the variable may leave for good.
   abbrev pub Hides : X → ℕ → Result (Unit {0}) SolverError → X → Type 0
-  Hides s u r t = ChangesVar (hide_name u) s u r t
+  Hides s u r t = ChangesVar true (hide_name u) s u r t
 
   -- The call `observe_internal_vars`. Names of hidden variables are always found below the limit, as there are no more variables.
   abbrev pub Observes : X → Result (List ℕ) SolverError → X → Type 0
-  Observes s (Ok us) t = (by.valid s ≡ true) × ((m : Naming) × AreAllShown us (by.clauses s) (by.naming s) m × by.like (by.with_naming m s) t)
+  Observes s (Ok us) t = (by.valid s ≡ true) × ((m : Naming) × AreAllShown us (by.clauses s) (by.naming s) m × by.like false (by.with_naming m s) t)
   Observes s (Err Invalid) t = (by.valid s ≡ false) × (t ≡ s)
   Observes s (Err OutOfMemory) t = by.invalidates s t
   Observes s (Err _) t = ⊥

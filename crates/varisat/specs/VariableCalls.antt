@@ -2,7 +2,7 @@
 use Rattle.std.specs.Prelude.{ℕ, true, List, Result}
 use Rattle.varisat.specs.States.{State}
 use Rattle.varisat.specs.Names.{Mode, Sample, Witness}
-use Rattle.varisat.specs.Calls.{is_valid, IsLike, Invalidates, with_naming, count_anew}
+use Rattle.varisat.specs.Calls.{is_valid, IsLikeButLeft, Invalidates, with_naming, count_anew}
 use Rattle.varisat.specs.Usage as usage
 use Rattle.varisat.specs.declared.solver.SolverError.{SolverError}
 
@@ -15,7 +15,7 @@ named = record {
   assumptions = λ s. s.assumptions;
   with_naming = λ m s. count_anew (with_naming m s);
   once_hidden = λ s. record s { ever_hidden = true };
-  like = IsLike;
+  like = IsLikeButLeft;
   invalidates = Invalidates;
 }
 

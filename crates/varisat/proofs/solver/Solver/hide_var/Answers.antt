@@ -30,7 +30,7 @@ pub returns-in_err-check_change : goal.returns-in_err-check_change
 returns-in_err-check_change g c s st =
     let k = begins (rw (← c.self.view_is) at st) (ap not c.if-self.false) in
     let refused = told-error c.from_residual.result c.in_err-check_change.field-0.0 c.from_residual.ensures in
-    (s, subst (λ r. HidesVar s c.args.var r s) (sym refused) (change-refused (hide_name c.args.var) c.args.var c.in_err-check_change.field-0.0 k c.in_err-check_change.ensures), st)
+    (s, subst (λ r. HidesVar s c.args.var r s) (sym refused) (change-refused true (hide_name c.args.var) c.args.var c.in_err-check_change.field-0.0 k c.in_err-check_change.ensures), st)
 
 pub returns-in-Ok : goal.returns-in-Ok
 returns-in-Ok g c s st =

@@ -10,7 +10,7 @@ use Rattle.varisat.specs.States.{State, Ledger}
 use Rattle.varisat_tracer.specs.Tracing.{TracerState, parts_of}
 use Rattle.varisat.specs.OpenProofs.{OpenProof, ProofFits, GoesOnWriting}
 use Rattle.varisat.proofs.OpenProofs.{proof-goes-on, open-there}
-use Rattle.varisat.specs.Searches.{ComesTo, ComesOn, FindsVerdict}
+use Rattle.varisat.specs.Searches.{answer_at, ComesTo, ComesOn, FindsVerdict}
 use Rattle.varisat_names.specs.Variables.{Tables}
 use Rattle.varisat_proof.specs.Calls.{CheckerState}
 use Rattle.varisat_proof.specs.Proving.{ProofParts}
@@ -146,6 +146,9 @@ pub invariant_of-self-in-Ok-None : goal.invariant_of-self-in-Ok-None
 invariant_of-self-in-Ok-None g c _ =
     let f = c.in-Ok-None.ensures.found in
     record { stands = on f.stands (begins c.self.inside.tracer.variables c.self.inside.tracer.proof.checker c.self.inside.started c.self.inside.ctx c.in-Unknown.is (c.self.invariant c.if-self.false).stands); kept = f.kept; tells = f.tells; counts = c.in-Ok-None.ensures.since c.self.inside.changed_at (c.self.invariant c.if-self.false).counts }
+
+pub returns-in-Sat-clause-call : goal.returns-in-Sat-clause-call
+returns-in-Sat-clause-call g c s st = let q = rw (← c.self.view_is) at st in (s, known-told _ s true q (ap not c.if-self.false) (ap answer_at c.in-Sat.is), st)
 
 pub returns-in-Sat-clause-satisfiable : goal.returns-in-Sat-clause-satisfiable
 returns-in-Sat-clause-satisfiable g c e s st = let q = rw (← c.self.view_is) at st in sat-right _ s q (ap not c.if-self.false) c.in-Sat.is

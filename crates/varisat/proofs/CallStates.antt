@@ -5,6 +5,7 @@ use Rattle.varisat_search.specs.declared.error.StepError.{StepError}
 use Rattle.varisat_search.specs.declared.error.StepError.TheVariants as step
 use Rattle.varisat_names.specs.Settings.{Settings}
 use Rattle.varisat.specs.States.{State, Ledger, IsWellFormed, FlagsFit, Unknown}
+use Rattle.varisat_search.specs.StepErrors.{step_faults}
 use Rattle.varisat.specs.Refusals.{step_refusal}
 use Rattle.varisat.specs.Calls.{IsLikeButLeft, IsLike, IsValid, Invalidates, MayConstrain, IsExtensible, AddsClause, CountsCall, Searches, with_steps}
 use Rattle.varisat_theory.specs.Journals.{Entry}
@@ -110,15 +111,13 @@ pub broken-invalid : (s : State) → s.ledger.valid ≡ true → IsWellFormed s 
 broken-invalid s v w = record { valid = v; ledger = refl; well_formed = told-well s (broken s) w }
 
 -- a clause could not be kept
-pub adds-broken : (e : StepError) (b : Bool) (s t : State) (d : Clause) → (b ≡ true → IsOpen s.proof) → IsExtensible s → MayConstrain s.naming d → Invalidates s t → AddsClause s d (Err (step_refusal b e)) t
-adds-broken step.Full b s t d o n l i = (n, l, i)
-adds-broken step.Memory b s t d o n l i = (n, l, i)
-adds-broken (step.Target cause) true s t d o n l i = (o refl, n, l, i)
-adds-broken (step.Target cause) false s t d o n l i = (n, l, i)
+pub adds-broken : (e : StepError) (s t : State) (d : Clause) → (step_faults e ≡ 1 → IsOpen s.proof) → IsExtensible s → MayConstrain s.naming d → Invalidates s t → AddsClause s d (Err (step_refusal e)) t
+adds-broken step.Full s t d o n l i = (n, l, i)
+adds-broken step.Memory s t d o n l i = (n, l, i)
+adds-broken (step.Target cause) s t d o n l i = (o refl, n, l, i)
 
 -- so it is where a step came to no end
-pub searches-broken : (e : StepError) (b : Bool) (s t : State) → (b ≡ true → IsOpen s.proof) → s.verdict ≡ Unknown → CountsCall s (Err (step_refusal b e)) t → Invalidates (with_steps t.ledger.steps s) t → Searches s (Err (step_refusal b e)) t
-searches-broken step.Full b s t o u c i = (u, c, i)
-searches-broken step.Memory b s t o u c i = (u, c, i)
-searches-broken (step.Target cause) true s t o u c i = (o refl, u, c, i)
-searches-broken (step.Target cause) false s t o u c i = (u, c, i)
+pub searches-broken : (e : StepError) (s t : State) → (step_faults e ≡ 1 → IsOpen s.proof) → s.verdict ≡ Unknown → CountsCall s (Err (step_refusal e)) t → Invalidates (with_steps t.ledger.steps s) t → Searches s (Err (step_refusal e)) t
+searches-broken step.Full s t o u c i = (u, c, i)
+searches-broken step.Memory s t o u c i = (u, c, i)
+searches-broken (step.Target cause) s t o u c i = (o refl, u, c, i)

@@ -27,26 +27,21 @@ pub none-made : {A : Type 0} (x : Context A) (max_steps : ℕ) → IsPlan x.sche
 none-made x max_steps i = record { plan = i; since = λ c k. k; budget = omega arith }
 
 -- a search that can't keep a clause isn't interrupted
-no-interrupt : (e : StepError) (b : Bool) (r : Result Bool SolverError) → r ≡ Err (step_refusal b e) → r ≡ Err Interrupted → ⊥
-no-interrupt step.Full b r p f = let z = sym p ∙ f in cc
-no-interrupt step.Memory b r p f = let z = sym p ∙ f in cc
-no-interrupt (step.Target cause) true r p f = let z = sym p ∙ f in cc
-no-interrupt (step.Target cause) false r p f = let z = sym p ∙ f in cc
+no-interrupt : (e : StepError) (r : Result Bool SolverError) → r ≡ Err (step_refusal e) → r ≡ Err Interrupted → ⊥
+no-interrupt step.Full r p f = let z = sym p ∙ f in cc
+no-interrupt step.Memory r p f = let z = sym p ∙ f in cc
+no-interrupt (step.Target cause) r p f = let z = sym p ∙ f in cc
 
 -- how steps are counted where one came to no end
-refused-counts : (n max_steps since before after made : ℕ) (b : Bool) (e : StepError) → after ≡ before + made → made ≤ max_steps → since + made < 2 ^ (2 * n + 3) → CountsSteps n max_steps since before after (Err (step_refusal b e))
-refused-counts n max_steps since before after made b e count budget bounded = record {
+refused-counts : (n max_steps since before after made : ℕ) (e : StepError) → after ≡ before + made → made ≤ max_steps → since + made < 2 ^ (2 * n + 3) → CountsSteps n max_steps since before after (Err (step_refusal e))
+refused-counts n max_steps since before after made e count budget bounded = record {
   made = made;
   count = count;
   budget = budget;
   bounded = bounded;
   found = λ a f. absurd cc;
-  spent = λ f. absurd (no-interrupt e b (Err (step_refusal b e)) refl f);
+  spent = λ f. absurd (no-interrupt e (Err (step_refusal e)) refl f);
 }
-
--- whether a proof is open is nothing to the count
-pub refused-as : (n max_steps since before after : ℕ) (a b : Bool) (e : StepError) → CountsSteps n max_steps since before after (Err (step_refusal a e)) → CountsSteps n max_steps since before after (Err (step_refusal b e))
-refused-as n max_steps since before after a b e k = refused-counts n max_steps since before after k.made b e k.count k.budget k.bounded
 
 -- What is known as the search came from the first context to the second.
 pub record Searching {A : Type 0} (x y : Context A) (max_steps : ℕ) : Type 0 where
@@ -107,10 +102,10 @@ module _ {A : Type 0} {x y : Context A} {max_steps : ℕ} (d : Searching x y max
     }
 
     -- a clause could not be kept in the step behind them
-    pub counts-refused : (error : StepError) (steps : ℕ) → steps ≡ y.schedule.steps → (n : ℕ) → length x.assignment.current ≤ n → CountsSteps n max_steps (x.schedule.steps - changed_at) x.schedule.steps steps (Err (step_refusal true error))
-    counts-refused error steps e n h = refused-counts n max_steps (x.schedule.steps - changed_at) x.schedule.steps steps (steps_since x.schedule y.schedule) true error (e ∙ so-far) d.made.budget (let b = few-both n h in omega (arith, b))
+    pub counts-refused : (error : StepError) (steps : ℕ) → steps ≡ y.schedule.steps → (n : ℕ) → length x.assignment.current ≤ n → CountsSteps n max_steps (x.schedule.steps - changed_at) x.schedule.steps steps (Err (step_refusal error))
+    counts-refused error steps e n h = refused-counts n max_steps (x.schedule.steps - changed_at) x.schedule.steps steps (steps_since x.schedule y.schedule) error (e ∙ so-far) d.made.budget (let b = few-both n h in omega (arith, b))
 
-pub told-refused : (r : Result (Option Bool) StepError) → IsErr r → (e : StepError) × (told_verdict r ≡ Err (step_refusal true e))
+pub told-refused : (r : Result (Option Bool) StepError) → IsErr r → (e : StepError) × (told_verdict r ≡ Err (step_refusal e))
 told-refused (Ok x) h = absurd (let z : false ≡ true = h in cc)
 told-refused (Err e) h = (e, refl)
 

@@ -48,9 +48,11 @@ pub mod SearchLinks
 pub mod ResurrectedVariables
 pub mod ReturnedVariables
 pub mod Runs
+pub mod Targets
 pub mod SearchEnds
 pub mod SearchHeld
 pub mod SearchVerdicts
+pub mod LeavesInTime
 pub mod SearchViews
 pub mod SettingsCalls
 pub mod ShownStates

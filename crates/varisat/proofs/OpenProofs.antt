@@ -1,5 +1,5 @@
 -- An open proof as entries are told.
-use Rattle.std.proofs.Common.{◌≡◌, ℕ, Bool, true, false, Option, Some, None, List, [], ◌∷◌, ◌++◌, Ok, Err, refl, sym, ap, ◌∙◌, subst, append_assoc}
+use Rattle.std.proofs.Common.{◌≡◌, ℕ, Bool, true, false, Option, Some, None, List, [], ◌∷◌, ◌++◌, Ok, Err, refl, sym, ap, ◌∙◌, subst, arith, append_assoc}
 use Rattle.std.specs.Prelude.{flat_map, is_some}
 use Rattle.std.proofs.lemmas.List.{append-nil, map-append}
 use Rattle.varisat_theory.specs.Literals.{Literal}
@@ -15,6 +15,8 @@ use Rattle.varisat_proof.specs.Written.{line_written}
 use Rattle.varisat_proof.specs.Telling.{lines_told}
 use Rattle.varisat_proof.specs.Proving.{OpenState, ProofParts, told, is_searched, marked_searched}
 use Rattle.varisat_proof.specs.Proving as proving
+use Rattle.varisat_tracer.specs.Tracing.{BreaksProof}
+use Rattle.varisat_tracer.proofs.Telling.{unopened-unbroken}
 use Rattle.varisat.specs.OpenProofs.{OpenProof, opened_state, IsOpen, IsDrat, IsWrittenIf, ProofFits, GoesOnWriting, IsSearched, searched_under, first_proof, taken_of}
 use Rattle.varisat.specs.Journals.{TellsProof}
 
@@ -100,6 +102,11 @@ hidden-fits o hidden before after proof f = record { same = f.same; written = on
 pub open-there : (o : Option OpenState) (hidden : Bool) (told : List Entry) (proof : Option OpenProof) (b : Bool) → ProofFits o hidden told proof → b ≡ is_some o → b ≡ true → IsOpen proof
 open-there o hidden told None b f e t = let z : true ≡ false = sym t ∙ e ∙ ap (λ (x : Option OpenState). is_some x) f.same in absurd cc
 open-there o hidden told (Some p) b f e t = (p, refl)
+
+-- so it is where a target failed
+pub broken-open : (p q : ProofParts) (hidden : Bool) (told : List Entry) (proof : Option OpenProof) → ProofFits p.opened hidden told proof → BreaksProof p 1 q → IsOpen proof
+broken-open p q hidden told None f b = absurd (let z = unopened-unbroken p q 1 f.same b in omega (arith, z))
+broken-open p q hidden told (Some o) f b = (o, refl)
 
 -- 4. How a proof opens and closes.
 

@@ -11,6 +11,7 @@ use Rattle.varisat.specs.declared.solver.SolverError.{SolverError}
 use Rattle.varisat.specs.declared.solver.SolverError.TheVariants.{Interrupted, ProofIoError, OutOfMemory, Invalid, ClauseStoreFull}
 use Rattle.varisat.proofs.AcceptClause.{proof-free}
 use Rattle.varisat.proofs.CallStates.{stands-valid, flags-alike, told-well, broken}
+use Rattle.varisat.proofs.Targets.{flushed-open}
 use Rattle.varisat.proofs.OpenProofs.{goes-on-searched, open-before, open-there, open-marked, open-fitted, searched-fits, fitted-before}
 
 -- 1. States.
@@ -150,7 +151,7 @@ pub solve-fails : (g h : Summary) (s t : State) (r : Result Bool SolverError) (e
     g.ledger.valid ≡ true → EndsSearch g (Err e) h → (u : State) × Solves s (Err e) u × StandsFor h u
 solve-fails g h s t r (ProofIoError cause) k st v (o, e) = (
   broken t,
-  ends-badly s t r cause k (stands-valid g t st v) (open-there g.opened t.ever_hidden t.told t.proof true (st.proof v) (sym o) refl) (st.fits v).1.well_formed,
+  ends-badly s t r cause k (stands-valid g t st v) (open-there g.opened t.ever_hidden t.told t.proof true (st.proof v) (sym (flushed-open g.opened h.opened cause o)) refl) (st.fits v).1.well_formed,
   stands-broken g h t e st,
 )
 solve-fails g h s t r e k st v f = absurd f

@@ -18,6 +18,7 @@ use Rattle.varisat_search.specs.Contexts.{view, IsReady}
 use Rattle.varisat_search.specs.Decisions.{SameDecidable}
 use Rattle.varisat_search.specs.Progress.{outcome_at, RaisesRank, MakesStep}
 use Rattle.varisat_search.specs.Seen.{search_of, outcome_of}
+use Rattle.varisat_search.specs.SettledUnits.{FixesByLearning}
 use Rattle.varisat_search.proofs.ReadyAfter.{ready-with}
 use Rattle.varisat.specs.Carried.{carry}
 use Rattle.varisat.specs.Searches.{MakesNamedStep}
@@ -36,7 +37,7 @@ ready-named c core r =
 pub ready-counted : {A : Type 0} (c : Context A) (plan : Plan) → IsReady c → IsReady (record c { schedule = plan })
 ready-counted c plan r = ready-with c (record c { schedule = plan }) r refl refl refl r.propagated r.decidable r.assumed r.assumable
 
-module _ {A : Type 0} (p q : TracerState) (x y : Context A) {are : List Line → Type 0} (m : MakesStep (λ lines. are lines × TakesStep TakesGlobally p lines (outcome_at y) q) x y) where
+module _ {A : Type 0} (p q : TracerState) (x y : Context A) {are : List Line → Type 0} (m : MakesStep (λ lines. are lines × TakesStep TakesGlobally p lines (outcome_at y) q) x y) (fixes : FixesByLearning x y) where
   -- where no core was found the step says it all
   pub named-plainly : (y.solver_state.sat_state ≡ verdict.UnsatUnderAssumptions → ⊥) → MakesNamedStep p q x y
   named-plainly plain =
@@ -47,6 +48,7 @@ module _ {A : Type 0} (p q : TracerState) (x y : Context A) {are : List Line →
         decidable = m.decidable;
         state = m.state;
         rises = m.rises;
+        fixes = fixes;
         tables = takes.tables;
         parts = y.assumptions;
         steps = (lines, steps, takes);
@@ -65,6 +67,7 @@ module _ {A : Type 0} (p q : TracerState) (x y : Context A) {are : List Line →
         decidable = subst (λ (c : Context A). SameDecidable (view x) x.vsids (view c) c.vsids) (sym same) m.decidable;
         state = ap (λ (c : Context A). c.solver_state) same ∙ m.state ∙ ap (λ (v : SatState). record x.solver_state { sat_state = v }) (sym (ap (λ (c : Context A). c.solver_state.sat_state) same));
         rises = λ u. subst (λ (c : Context A). RaisesRank x c) (sym same) (m.rises (sym (ap (λ (c : Context A). c.solver_state.sat_state) same) ∙ u));
+        fixes = subst (λ (c : Context A). FixesByLearning x c) (sym same) (record { keeps = fixes.keeps; refutes = fixes.refutes });
         tables = takes.tables;
         parts = y.assumptions;
         steps = subst (λ (c : Context A). (ls : List Line) × Steps (search_of (view x)) (search_of (view c)) (outcome_of (view c) y.assumptions.failed_core c.solver_state.sat_state) ls × TakesStep TakesGlobally p ls (outcome_of (view c) y.assumptions.failed_core c.solver_state.sat_state) q) (sym same) (lines, steps, takes);
@@ -81,6 +84,7 @@ named-counted p q x y plan f = record {
   decidable = f.decidable;
   state = f.state;
   rises = f.rises;
+  fixes = record { keeps = f.fixes.keeps; refutes = f.fixes.refutes };
   tables = f.tables;
   parts = f.parts;
   steps = f.steps;

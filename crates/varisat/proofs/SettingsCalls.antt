@@ -24,7 +24,7 @@ use Rattle.varisat.proofs.VariablesInUse.{same-in-use}
 
 -- what a solver with the parts holds
 abbrev pub summary_of : {A : Type 0} → TracerState → Bool → ℕ → Context A → Summary
-summary_of parts started changed_at x = record { tables = parts.tables; opened = parts.proof.opened; checker = parts.proof.checker; search = view x; assumed = x.assumptions; sat_state = x.solver_state.sat_state; ledger = ledger_of (not x.solver_state.state_is_invalid) started x.schedule.steps (x.schedule.steps - changed_at) x.solver_config }
+summary_of parts started changed_at x = record { tables = parts.tables; opened = parts.proof.opened; checker = parts.proof.checker; search = view x; assumed = x.assumptions; sat_state = x.solver_state.sat_state; words = length x.clause_alloc.words; ledger = ledger_of (not x.solver_state.state_is_invalid) started x.schedule.steps (x.schedule.steps - changed_at) x.solver_config }
 
 pub stands-updated : {A : Type 0} (parts : TracerState) (started : Bool) (changed_at anew : ℕ) (x y : Context A) (u : SolverConfigUpdate) (b : ActivityScale) (a : Activities) (s : State) → y ≡ record x { clause_activity = b; solver_config = updated_settings x.solver_config u; vsids = a } → anew ≡ y.schedule.steps → StandsFor (summary_of parts started changed_at x) s → StandsFor (summary_of parts started anew y) (with_update u s)
 stands-updated {A = A} parts started changed_at anew x y u b a s e n st =

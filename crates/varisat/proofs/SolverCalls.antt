@@ -224,7 +224,7 @@ plain-core w p s k shown lines found told e =
 
 -- what the search is as steps begin
 abbrev searching : TracerState → View → AssumptionParts → State → Summary
-searching p search assumed s = record { tables = p.tables; opened = None; checker = p.proof.checker; search = search; assumed = assumed; sat_state = verdict.Unknown; ledger = s.ledger }
+searching p search assumed s = record { tables = p.tables; opened = None; checker = p.proof.checker; search = search; assumed = assumed; sat_state = verdict.Unknown; words = 0; ledger = s.ledger }
 
 -- what the checker took
 checked-lines : (p q : TracerState) (es : List Entry) → IsCheckedIf p.proof.checker (told_as (global_literal p.tables) (es ++ [])) q.proof.checker → IsCheckedIf p.proof.checker (told_as (global_literal p.tables) es) q.proof.checker

@@ -137,7 +137,7 @@ module _ {A : Type 0} (x : ℕ) (old new : Searched A) (v : ℕ) (none : old.con
 -- the solver stands for the state in which the identity is counted
 module _ {A : Type 0} (checker : Option CheckerState) (l : Literal) (x : ℕ) (old new : Searched A) (v : ℕ) (n : State) (none : old.context.solver_state.sat_state ≢ verdict.Sat) (leads : at old.tables.users.forward (variable_of l) ≡ Some x) (live : (kept_at old.tables.kept x).deleted ≡ false) (before : length old.context.assignment.current ≡ length old.tables.solvers.backward) (after : HasVariables new) where
   abbrev summary : Searched A → Summary
-  summary y = record { tables = y.tables; opened = None; checker = checker; search = view y.context; assumed = y.context.assumptions; sat_state = old.context.solver_state.sat_state; ledger = n.ledger }
+  summary y = record { tables = y.tables; opened = None; checker = checker; search = view y.context; assumed = y.context.assumptions; sat_state = old.context.solver_state.sat_state; words = 0; ledger = n.ledger }
 
   abbrev counting : State
   counting = count (join_counted n.counted (map variable_of (map (through_names n.naming) (l ∷ [])))) n
@@ -189,7 +189,7 @@ module _ {A : Type 0} (l : Literal) (old new : Searched A) (v : ℕ) (none : old
   pub turn-spaces : (checker : Option CheckerState) (s : State) → length old.context.assignment.current ≡ length old.tables.solvers.backward → SpacesFit (spaces_at checker old old.context.solver_state.sat_state) s → SpacesFit (spaces_at checker new new.context.solver_state.sat_state) (with_names (l ∷ []) s)
   turn-spaces checker s before f =
       let n = with_naming (name_one (variable_of l) s.naming) s in
-      let first : Summary = record { tables = old.tables; opened = None; checker = checker; search = view old.context; assumed = old.context.assumptions; sat_state = old.context.solver_state.sat_state; ledger = s.ledger } in
+      let first : Summary = record { tables = old.tables; opened = None; checker = checker; search = view old.context; assumed = old.context.assumptions; sat_state = old.context.solver_state.sat_state; words = 0; ledger = s.ledger } in
       let named = named-one first s h.mid (variable_of l) f h.named in
       let same = ap (λ (b : BiMap). length b.backward) (one-keeps (variable_of l) old.tables h.mid h.named).solvers in
       subst (λ y. SpacesFit (spaces_at checker new y) (with_names (l ∷ []) s)) (sym (ap (λ (x : SolverState). x.sat_state) turn-verdict.state))

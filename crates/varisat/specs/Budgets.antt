@@ -9,7 +9,7 @@ use Rattle.varisat.specs.Refusals.{step_refusal}
 abbrev pub told_verdict : Result (Option Bool) StepError → Result Bool SolverError
 told_verdict (Ok (Some b)) = Ok b
 told_verdict (Ok None) = Err Interrupted
-told_verdict (Err e) = Err (step_refusal true e)
+told_verdict (Err e) = Err (step_refusal e)
 
 -- How the call counts its steps that begins with the verdict Unknown, where n variables are counted and it may make `max_steps`
 -- of them. Since the last change `since` were made before it.

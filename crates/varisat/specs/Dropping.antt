@@ -6,9 +6,12 @@ use Rattle.std.specs.List.{filter}
 use Rattle.varisat_theory.specs.Membership.{◌∈◌, IsDistinct}
 use Rattle.varisat_theory.specs.Literals.{Literal, variable_of}
 use Rattle.varisat_literals.specs.Numbers.{polarity_of}
+use Rattle.varisat_prop.specs.declared.prop.graph.Conflict.{Conflict}
+use Rattle.varisat_prop.specs.Changes.{IsConflicting}
 use Rattle.varisat_prop.specs.Leaving.{leaves}
 use Rattle.varisat_prop.specs.View.{View, kept}
 use Rattle.varisat_search.specs.Forgotten.{IsMentioned}
+use Rattle.varisat_search.specs.SettledUnits.{IsUnsettled, fixed_literals}
 use Rattle.varisat_names.specs.VarMap.{at}
 use Rattle.varisat_names.specs.VarData.{kept_at}
 use Rattle.varisat_names.specs.Variables.{Tables, IsChangedTo, IsDropped}
@@ -36,6 +39,18 @@ unassumed_among t ls = filter (λ l. leads_to_unassumed t (at t.solvers.backward
 -- each literal is of a variable that is assumed, if of any
 abbrev pub AreOverAssumed : Tables → List Literal → Type 0
 AreOverAssumed t ls = (l : Literal) → l ∈ ls → leads_to_unassumed t (at t.solvers.backward (variable_of l)) ≡ false
+
+-- None is to leave: each literal of level 0 is of a variable that is assumed.
+abbrev pub NoneIsToLeave : Tables → View → Type 0
+NoneIsToLeave t s = AreOverAssumed t (fixed_literals s)
+
+-- None is to leave, unless at level 0 literals are still to be propagated, with which the next step lets variables leave.
+abbrev pub LeavesInTime : Tables → View → Type 0
+LeavesInTime t s = NoneIsToLeave t s ⊎ IsUnsettled s
+
+-- As a step has begun: none is to leave, and at level 0 all is propagated, or a clause is false there.
+abbrev pub HasLetLeave : Tables → View → Type 0
+HasLetLeave t s = (NoneIsToLeave t s × (IsUnsettled s → ⊥)) ⊎ ((s.decisions ≡ []) × ((conflict : Conflict) × IsConflicting s conflict))
 
 -- For each of so many variables it says whether a literal is over it.
 pub record FlagsVariables (size : ℕ) (ls : List Literal) (flags : List Bool) : Type 0 where

@@ -5,6 +5,7 @@ pub mod ProofCalls
 pub mod States
 pub mod Models
 pub mod Refusals
+pub mod Targets
 pub mod Budgets
 pub mod SinceChange
 pub mod Updates

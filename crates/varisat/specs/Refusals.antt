@@ -1,5 +1,5 @@
 -- The numbers under which the refusals are told, and the refusals of a step.
-use Rattle.std.specs.Prelude.{ℕ, Bool, true, false}
+use Rattle.std.specs.Prelude.{ℕ}
 use Rattle.varisat_search.specs.declared.error.StepError.{StepError}
 use Rattle.varisat_search.specs.declared.error.StepError.TheVariants as step
 use Rattle.varisat.specs.declared.solver.SolverError.{SolverError}
@@ -21,9 +21,13 @@ refusal_number ProofTooLate = 11
 refusal_number (ConfigOutOfRange field) = 12
 refusal_number (Dimacs cause) = 13
 
--- How it is told why a step came to no end: the target of a proof fails only where one is open.
-abbrev pub step_refusal : Bool → StepError → SolverError
-step_refusal b step.Full = ClauseStoreFull
-step_refusal b step.Memory = OutOfMemory
-step_refusal true (step.Target cause) = ProofIoError cause
-step_refusal false (step.Target cause) = OutOfMemory
+-- how it is told why a step came to no end
+abbrev pub step_refusal : StepError → SolverError
+step_refusal step.Full = ClauseStoreFull
+step_refusal step.Memory = OutOfMemory
+step_refusal (step.Target cause) = ProofIoError cause
+
+-- how many faults of a proof's target the refusal tells
+abbrev pub told_faults : SolverError → ℕ
+told_faults (ProofIoError cause) = 1
+told_faults _ = 0

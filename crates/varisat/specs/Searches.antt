@@ -21,10 +21,11 @@ use Rattle.varisat_search.specs.Decisions.{SameDecidable}
 use Rattle.varisat_search.specs.DueReductions.{BeginsStep}
 use Rattle.varisat_search.specs.Progress.{RaisesRank}
 use Rattle.varisat_search.specs.Seen.{search_of, outcome_of}
+use Rattle.varisat_search.specs.SettledUnits.{FixesByLearning}
 use Rattle.varisat.specs.Calls.{with_verdict}
 use Rattle.varisat.specs.Carried.{carry}
-use Rattle.varisat.specs.Dropping.{LeavesNeeded}
-use Rattle.varisat.specs.Journals.{retold, TellsMore, TellsProof}
+use Rattle.varisat.specs.Dropping.{LeavesNeeded, LeavesInTime, HasLetLeave}
+use Rattle.varisat.specs.Journals.{retold, TellsMore, TellsProof, ToldConflict}
 use Rattle.varisat.specs.SinceChange.{GoesOnSince, BeginsWithin}
 use Rattle.varisat.specs.Spaces.{Spaces, SpacesFit}
 use Rattle.varisat.specs.States.{State, Verdict, Unknown, UnsatUnderAssumptions}
@@ -72,6 +73,7 @@ pub record BeginsSolverStep {A : Type 0} (p q : TracerState) (x y : Context A) :
   pub state : y.solver_state ≡ x.solver_state
   pub count : length y.assignment.current ≡ length x.assignment.current
   pub left : LeavesIfNews q x y
+  pub leaves : LeavesInTime p.tables (view x) → HasLetLeave q.tables (view y)
   pub stands : ComesOn 0 (undecided_spaces p.tables p.proof.checker x) (undecided_spaces q.tables q.proof.checker y) p.proof q.proof
 
 -- A step leads from one context to the other, which has a verdict or none, as a tracer that was p takes its lines and the core;
@@ -82,6 +84,7 @@ pub record MakesNamedStep {A : Type 0} (p q : TracerState) (x y : Context A) : T
   pub decidable : SameDecidable (view x) x.vsids (view y) y.vsids
   pub state : y.solver_state ≡ record x.solver_state { sat_state = y.solver_state.sat_state }
   pub rises : y.solver_state.sat_state ≡ verdict.Unknown → RaisesRank x y
+  pub fixes : FixesByLearning x y
   -- names and variables stay
   pub tables : q.tables ≡ p.tables
   -- the assumptions that are left, and the core over solver variables
@@ -107,6 +110,7 @@ pub record MakesSolverStep {A : Type 0} (p q : TracerState) (x y : Context A) : 
   pub since : y.solver_state.sat_state ≡ verdict.Unknown → GoesOnSince x y
   pub state : y.solver_state ≡ record x.solver_state { sat_state = y.solver_state.sat_state }
   pub count : length y.assignment.current ≡ length x.assignment.current
+  pub leaves : LeavesInTime p.tables (view x) → y.solver_state.sat_state ≢ verdict.Unsat → LeavesInTime q.tables (view y)
   pub stands : ComesOn 1 (undecided_spaces p.tables p.proof.checker x) (spaces_with q.tables q.proof.checker y) p.proof q.proof
 
 -- Steps were made, from one context to the other, until there was a verdict or they were spent. Where none was made nothing changed.
@@ -115,5 +119,8 @@ pub record FindsVerdict {A : Type 0} (p q : TracerState) (x y : Context A) (foun
   pub tells : CanTell q.proof
   pub state : y.solver_state ≡ record x.solver_state { sat_state = y.solver_state.sat_state }
   pub answer : found ≡ answer_at y.solver_state.sat_state
+  pub told : TellsSome p.proof q.proof
+  -- where no variable was to leave but with literals that are still to be propagated, so it is, unless under Unsat
+  pub leaves : LeavesInTime p.tables (view x) → y.solver_state.sat_state ≢ verdict.Unsat → LeavesInTime q.tables (view y)
   pub stands : ComesOn (steps_since x.schedule y.schedule) (undecided_spaces p.tables p.proof.checker x) (spaces_with q.tables q.proof.checker y) p.proof q.proof
   pub still : y.schedule.steps ≡ x.schedule.steps → (y ≡ x) × (q ≡ p)

@@ -1,5 +1,5 @@
 -- What a solver holds, and which states it stands for.
-use Rattle.std.specs.Prelude.{◌≡◌, ℕ, zero, suc, Bool, true, false, Option, Some, None, List, [], length, slice_index_or, IsSome, is_some, Result, Ok, Err}
+use Rattle.std.specs.Prelude.{◌≡◌, ◌≤◌, ◌+◌, ◌^◌, ℕ, zero, suc, Bool, true, false, Option, Some, None, List, [], length, slice_index_or, IsSome, Result, Ok, Err}
 use Rattle.varisat_theory.specs.Membership.{◌∈◌}
 use Rattle.varisat_theory.specs.Literals.{Literal, variable_of}
 use Rattle.varisat_prop.specs.Parts.{is_true_value}
@@ -14,8 +14,9 @@ use Rattle.varisat_search.specs.Seen.{search_of, outcome_of}
 use Rattle.varisat_names.specs.VarMap.{at}
 use Rattle.varisat_names.specs.VarData.{kept_at}
 use Rattle.varisat_names.specs.Variables.{Tables}
+use Rattle.std.specs.declared.io.Error.{Error}
 use Rattle.varisat_proof.specs.Calls.{CheckerState}
-use Rattle.varisat_proof.specs.Proving.{OpenState, ProofParts, marked_searched}
+use Rattle.varisat_proof.specs.Proving.{OpenState, ProofParts, marked_searched, Flushes}
 use Rattle.varisat.specs.OpenProofs.{ProofFits}
 use Rattle.varisat_tracer.specs.Tracing.{CanTell}
 use Rattle.varisat.specs.States.{State, Ledger, FlagsFit}
@@ -28,7 +29,8 @@ use Rattle.varisat.specs.declared.solver.SolverError.{SolverError}
 use Rattle.varisat.specs.declared.solver.SolverError.TheVariants.{ProofIoError}
 
 -- The maps between names, global variables and solver variables with what is kept of the global variables; the proof that is
--- open and the checker that runs inside; the search with its assumptions and its verdict; what is told of an invalid solver too.
+-- open and the checker that runs inside; the search with its assumptions and its verdict, and how many words its store of clauses
+-- has; what is told of an invalid solver too.
 pub record Summary : Type 0 where
   pub tables : Tables
   pub opened : Option OpenState
@@ -36,7 +38,12 @@ pub record Summary : Type 0 where
   pub search : View
   pub assumed : AssumptionParts
   pub sat_state : SatState
+  pub words : ℕ
   pub ledger : Ledger
+
+-- A clause of all variables of the search, with the three words before its literals, would bring the store to 2^32 words or more.
+abbrev pub HasNoRoom : Summary → Type 0
+HasNoRoom g = 2 ^ 32 ≤ g.words + 3 + length g.search.values
 
 -- The model is read from the search.
 abbrev pub spaces_of : Tables → Option CheckerState → View → AssumptionParts → SatState → Spaces
@@ -114,5 +121,6 @@ pub record StandsFor (g : Summary) (s : State) : Type 0 where
 -- A search ends in a valid solver: an open proof is one under which `solve` was called. Where it can't be flushed the solver is invalid.
 abbrev pub EndsSearch : Summary → Result (Unit {0}) SolverError → Summary → Type 0
 EndsSearch g (Ok _) h = h ≡ record g { opened = marked_searched g.opened }
-EndsSearch g (Err (ProofIoError cause)) h = (is_some g.opened ≡ true) × (h ≡ record g { opened = h.opened; ledger = record g.ledger { valid = false } })
+EndsSearch g (Err (ProofIoError cause)) h =
+    Flushes {E = Error} (marked_searched g.opened) (Err cause) h.opened × (h ≡ record g { opened = h.opened; ledger = record g.ledger { valid = false } })
 EndsSearch g (Err _) h = ⊥

@@ -12,6 +12,7 @@ ghost use Rattle.varisat_tracer.specs.Tracing.{parts_of, TakesGlobally, BreaksPr
 ghost use Rattle.varisat_search.specs.StepErrors.{step_faults, HasNoRoom};
 ghost use Rattle.varisat.specs.Spaces.{FitSome};
 ghost use Rattle.varisat.specs.Summaries.{spaces_with, IsKept};
+ghost use Rattle.varisat.specs.Searches.{TellsSome};
 ghost use Rattle.varisat.specs.Accepting.{CanBeNamed, HasNames, AreJoined, AreMarked};
 
 use std::alloc::{AllocError, Allocator};
@@ -96,6 +97,7 @@ pub fn accept_clause<W: ProofTarget, A: Allocator + Copy>(
     ensures state { OnOk result (ctx.new.solver_state ≡
         record ctx.old.solver_state { sat_state = ctx.new.solver_state.sat_state; formula_is_empty = false }) }
     ensures schedule { KeepsSchedule ctx.old ctx.new }
+    ensures told { OnOk result (TellsSome tracer.old.proof tracer.new.proof) }
     ensures accepted { OnOk result (StandsOnceAccepted clause.now (parts_of tracer.old) ctx.old (parts_of tracer.new) ctx.new) }
     // What the target of an open proof has after an error.
     ensures broken { IfErr result (λ error. BreaksProof tracer.old.proof (step_faults error) tracer.new.proof) }

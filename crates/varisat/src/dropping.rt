@@ -17,7 +17,7 @@ ghost use Rattle.varisat_tracer.specs.Tracing.{parts_of, BreaksProof, CanTell};
 ghost use Rattle.varisat_search.specs.StepErrors.{step_faults};
 ghost use Rattle.varisat.specs.Spaces.{FitSome};
 ghost use Rattle.varisat.specs.Summaries.{undecided_spaces, IsKept};
-ghost use Rattle.varisat.specs.Dropping.{leads_to_unassumed, unassumed_among, AreOverAssumed, FlagsVariables, LosesSolverVar, AreDroppedAlone, leads_to_hidden, ListsUnneeded, AreReleased, LeavesNeeded, LeavesTables, LetsLeave};
+ghost use Rattle.varisat.specs.Dropping.{leads_to_unassumed, unassumed_among, AreOverAssumed, LeavesInTime, HasLetLeave, FlagsVariables, LosesSolverVar, AreDroppedAlone, leads_to_hidden, ListsUnneeded, AreReleased, LeavesNeeded, LeavesTables, LetsLeave};
 
 use std::alloc::{AllocError, Allocator};
 use varisat_formula::io::ProofTarget;
@@ -218,6 +218,7 @@ fn drop_unneeded<W: ProofTarget, A: Allocator + Copy>(
     ensures leave { OnOk result (LetsLeave (parts_of tracer.old) ctx.old (parts_of tracer.new) ctx.new) }
     ensures schedule { KeepsSchedule ctx.old ctx.new }
     ensures state { ctx.new.solver_state ≡ ctx.old.solver_state }
+    ensures settled { OnOk result (IsSettledDown (view ctx.new)) }
     ensures left { OnOk result (LeavesNeeded tracer.new.variables (view ctx.new)) }
     ensures opened { tracer.new.proof.opened ≡ tracer.old.proof.opened }
 {
@@ -256,6 +257,8 @@ pub fn drop_fixed<W: ProofTarget, A: Allocator + Copy>(
     ensures count { OnOk result (length ctx.new.assignment.current ≡ length ctx.old.assignment.current) }
     ensures left { OnOk result (ctx.old.trail.decisions ≡ [] → ctx.old.trail.queue_head ≢ length ctx.old.trail.literals →
         ((conflict : Conflict) × IsConflicting (view ctx.new) conflict) ⊎ LeavesNeeded tracer.new.variables (view ctx.new)) }
+    // Where none was to leave but with such news, none is now, unless a clause is false.
+    ensures leaves { OnOk result (LeavesInTime tracer.old.variables (view ctx.old) → HasLetLeave tracer.new.variables (view ctx.new)) }
     ensures stands { OnOk result (ComesOn 0 (undecided_spaces tracer.old.variables tracer.old.proof.checker ctx.old)
         (undecided_spaces tracer.new.variables tracer.new.proof.checker ctx.new) tracer.old.proof tracer.new.proof) }
     // What the target of an open proof has after an error, which is never that the store is full.

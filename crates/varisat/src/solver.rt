@@ -1,7 +1,6 @@
 //! The solver, and the calls that a user makes.
 ghost use Rattle.std.specs.Prelude.{◌≡◌, length, IfOk};
 ghost use Rattle.varisat.specs.Accepting.{AreBounded};
-ghost use Rattle.varisat.specs.Refusals.{step_refusal};
 ghost use Rattle.varisat.specs.Summaries.{list_tables};
 
 use crate::accept::{accept_clause, assume_list};
@@ -63,20 +62,17 @@ pub enum SolverError {
     Dimacs { cause: DimacsError },
 }
 
-/// The refusal for the error of a step. Where no proof is open no target can have failed, and out of memory is
-/// returned.
-fn refused(error: StepError, is_open: bool) -> SolverError
-    ensures { result ≡ step_refusal is_open error }
-{
-    match error {
-        StepError::Full => SolverError::ClauseStoreFull,
-        StepError::Memory => SolverError::OutOfMemory,
-        StepError::Target(cause) => {
-            if is_open {
-                SolverError::ProofIoError { cause }
-            } else {
-                SolverError::OutOfMemory
-            }
+impl From<StepError> for SolverError {
+    ghost use Rattle.std.specs.Prelude.{◌≡◌};
+    ghost use Rattle.varisat.specs.Refusals.{step_refusal};
+
+    ghost from_gives = { λ error result. result ≡ step_refusal error };
+
+    fn from(error: StepError) -> SolverError {
+        match error {
+            StepError::Full => SolverError::ClauseStoreFull,
+            StepError::Memory => SolverError::OutOfMemory,
+            StepError::Target(cause) => SolverError::ProofIoError { cause },
         }
     }
 }
@@ -167,7 +163,7 @@ pub struct Solver<W: ProofTarget, A: Allocator + Copy> {
 }
 
 impl<W: ProofTarget, A: Allocator + Copy> Model for Solver<W, A> {
-    ghost use Rattle.std.specs.Prelude.{◌≡◌, ◌-◌, not, false};
+    ghost use Rattle.std.specs.Prelude.{◌≡◌, ◌-◌, not, false, length};
     ghost use Rattle.varisat_search.specs.Contexts as contexts;
     ghost use Rattle.varisat.specs.Summaries.{Summary, IsKeptSince};
 
@@ -180,6 +176,7 @@ impl<W: ProofTarget, A: Allocator + Copy> Model for Solver<W, A> {
       search = contexts.view c.ctx;
       assumed = c.ctx.assumptions;
       sat_state = c.ctx.solver_state.sat_state;
+      words = length c.ctx.clause_alloc.words;
       ledger = record {
         valid = not c.ctx.solver_state.state_is_invalid;
         started = c.started;
@@ -193,7 +190,7 @@ impl<W: ProofTarget, A: Allocator + Copy> Model for Solver<W, A> {
 }
 
 impl<W: ProofTarget, A: Allocator + Copy> Solver<W, A> {
-    ghost use Rattle.std.specs.Prelude.{◌≡◌, ◌-◌, ◌<◌, ◌^◌, Ok, Err, Some, None, true, false, List, ℕ};
+    ghost use Rattle.std.specs.Prelude.{◌≡◌, ◌≢◌, ◌-◌, ◌<◌, ◌^◌, Ok, Err, Some, None, true, false, List, ℕ};
     ghost use Rattle.std.specs.Prelude.{map};
     ghost use Rattle.varisat_theory.specs.Literals.{IsSatisfiableWith, IsFailedCore};
     ghost use Rattle.varisat_formula.specs.Rest.{Progress, IsEnding};
@@ -202,8 +199,12 @@ impl<W: ProofTarget, A: Allocator + Copy> Solver<W, A> {
     ghost use Rattle.varisat.specs.Names.{through_names};
     ghost use Rattle.varisat.specs.Calls.{IsValid, count_anew, AddsClause, AddsAll, AddsFormula, AddsDimacs, AddsReading, TellsFault, MakesVar, Assumes, Searches, Solves, TellsModel, TellsCore, Configures, TellsSteps, TellsSince, TellsValid, answer_of};
     ghost use Rattle.varisat.specs.Told.{told_list, lent_list};
-    ghost use Rattle.varisat.specs.Summaries.{StandsFor, EndsSearch};
+    ghost use Rattle.varisat.specs.Summaries.{StandsFor, EndsSearch, HasNoRoom};
+    ghost use Rattle.varisat.specs.Targets.{WritesOn, WritesAll};
+    ghost use Rattle.varisat_proof.specs.Proving.{marked_searched};
     ghost use Rattle.varisat.specs.Journals.{IsJournal};
+    ghost use Rattle.varisat.specs.Refusals.{told_faults};
+    ghost use Rattle.varisat.specs.Dropping.{LeavesInTime};
     ghost use Rattle.varisat.specs.OpenProofs.{IsDrat};
     ghost use Rattle.varisat_proof.specs.Proving.{IsClosed};
     ghost use Rattle.varisat.specs.ProofCalls.{OpensProof, ClosesProof};
@@ -257,7 +258,8 @@ impl<W: ProofTarget, A: Allocator + Copy> Solver<W, A> {
 
     /// Counts steps anew from here on.
     fn begin_count(&mut self)
-        ensures { (s : State) → StandsFor self.old s → StandsFor self.new (count_anew s) }
+        ensures rest { self.new ≡ record self.old { ledger = self.new.ledger } }
+        ensures call { (s : State) → StandsFor self.old s → StandsFor self.new (count_anew s) }
     {
         self.changed_at = self.ctx.schedule.steps();
     }
@@ -295,7 +297,9 @@ impl<W: ProofTarget, A: Allocator + Copy> Solver<W, A> {
     /// variables; and where a name is a witness: then nothing changes. Where memory runs out, the clause store is full
     /// or the target of an open proof fails, the solver is invalid.
     pub fn add_clause(&mut self, clause: &[Lit]) -> Result<(), SolverError>
-        ensures { (s : State) → StandsFor self.old s → (t : State) × AddsClause s clause.now result t × StandsFor self.new t }
+        ensures target { WritesOn self.old.opened result self.new.opened }
+        ensures full { result ≡ Err SolverError.ClauseStoreFull → HasNoRoom self.new }
+        ensures call { (s : State) → StandsFor self.old s → (t : State) × AddsClause s clause.now result t × StandsFor self.new t }
     {
         if self.ctx.solver_state.state_is_invalid {
             return Err(SolverError::Invalid);
@@ -308,7 +312,6 @@ impl<W: ProofTarget, A: Allocator + Copy> Solver<W, A> {
             return Err(SolverError::ClauseAfterSolve);
         }
         check_names(&self.tracer.variables, clause)?;
-        let is_open = self.tracer.proof.is_open();
         match accept_clause(&mut self.tracer, &mut self.ctx, &mut self.literals, clause) {
             Ok(()) => {
                 self.started = true;
@@ -317,7 +320,7 @@ impl<W: ProofTarget, A: Allocator + Copy> Solver<W, A> {
             }
             Err(error) => {
                 self.ctx.solver_state.state_is_invalid = true;
-                Err(refused(error, is_open))
+                Err(SolverError::from(error))
             }
         }
     }
@@ -328,7 +331,9 @@ impl<W: ProofTarget, A: Allocator + Copy> Solver<W, A> {
         &mut self,
         formula: &CnfFormula<B>,
     ) -> Result<(), SolverError>
-        ensures { (s : State) → StandsFor self.old s → (t : State) × AddsAll s formula.now.clauses result t × StandsFor self.new t }
+        ensures target { WritesOn self.old.opened result self.new.opened }
+        ensures full { result ≡ Err SolverError.ClauseStoreFull → HasNoRoom self.new }
+        ensures call { (s : State) → StandsFor self.old s → (t : State) × AddsAll s formula.now.clauses result t × StandsFor self.new t }
     {
         for clause in formula.iter() {
             self.add_clause(clause)?;
@@ -342,7 +347,9 @@ impl<W: ProofTarget, A: Allocator + Copy> Solver<W, A> {
         &mut self,
         formula: &CnfFormula<B>,
     ) -> Result<(), SolverError>
-        ensures { (s : State) → StandsFor self.old s → (t : State) × AddsFormula s formula.now.clauses result t × StandsFor self.new t }
+        ensures target { WritesOn self.old.opened result self.new.opened }
+        ensures full { result ≡ Err SolverError.ClauseStoreFull → HasNoRoom self.new }
+        ensures call { (s : State) → StandsFor self.old s → (t : State) × AddsFormula s formula.now.clauses result t × StandsFor self.new t }
     {
         if self.ctx.solver_state.state_is_invalid {
             return Err(SolverError::Invalid);
@@ -354,7 +361,10 @@ impl<W: ProofTarget, A: Allocator + Copy> Solver<W, A> {
 
     /// The refusal for a fault of a text. Where memory ran out in the reader the solver is invalid then.
     fn refuse_text(&mut self, fault: DimacsError) -> SolverError
-        ensures { (s : State) → StandsFor self.old s → IsValid s → (t : State) × TellsFault (Some fault) s (Err result) t × StandsFor self.new t }
+        ensures same { self.new.opened ≡ self.old.opened }
+        ensures faults { told_faults result ≡ 0 }
+        ensures full { result ≢ SolverError.ClauseStoreFull }
+        ensures call { (s : State) → StandsFor self.old s → IsValid s → (t : State) × TellsFault (Some fault) s (Err result) t × StandsFor self.new t }
     {
         if let DimacsErrorKind::OutOfMemory = fault.kind {
             self.ctx.solver_state.state_is_invalid = true;
@@ -365,7 +375,9 @@ impl<W: ProofTarget, A: Allocator + Copy> Solver<W, A> {
 
     /// Ends the text, accepts the clauses that it leaves, and returns its fault, if there is one.
     fn end_text(&mut self, parser: &mut DimacsParser<A>) -> Result<(), SolverError>
-        ensures { (s : State) → StandsFor self.old s → IsValid s → (p : Progress) × IsEnding parser.old p × (t : State)
+        ensures target { WritesOn self.old.opened result self.new.opened }
+        ensures full { result ≡ Err SolverError.ClauseStoreFull → HasNoRoom self.new }
+        ensures call { (s : State) → StandsFor self.old s → IsValid s → (p : Progress) × IsEnding parser.old p × (t : State)
             × AddsReading s p.reading result t × StandsFor self.new t }
     {
         let end = parser.finish();
@@ -384,7 +396,10 @@ impl<W: ProofTarget, A: Allocator + Copy> Solver<W, A> {
     /// of memory in the reader is returned as in any call.
     pub fn add_dimacs_cnf<S: ByteSource>(&mut self, source: &mut S) -> Result<(), SolverError>
         requires { (S.stand source.old).faults < 2 ^ 64 - 1 }
-        ensures { (s : State) → StandsFor self.old s → (t : State) × AddsDimacs s (S.stand source.old) result (S.stand source.new) t × StandsFor self.new t }
+        ensures target { WritesOn self.old.opened result self.new.opened }
+        ensures full { result ≡ Err SolverError.ClauseStoreFull → HasNoRoom self.new }
+        ensures call { (s : State) → StandsFor self.old s → (t : State) × AddsDimacs s (S.stand source.old) result (S.stand source.new) t
+            × StandsFor self.new t }
     {
         if self.ctx.solver_state.state_is_invalid {
             return Err(SolverError::Invalid);
@@ -522,6 +537,12 @@ impl<W: ProofTarget, A: Allocator + Copy> Solver<W, A> {
             × IsCompletable s.naming s.clauses s.assumptions s.counted m }
         ensures core { result ≡ Ok false → (s : State) → StandsFor self.new s → (core : List ℕ) × (core_of s.verdict ≡ Some core)
             × IsFailedCore s.clauses s.assumptions core }
+        // The target is as after the steps, but that a search is noted to have run under the proof.
+        ensures target { WritesOn (marked_searched self.old.opened) result (marked_searched self.new.opened) }
+        ensures full { result ≡ Err SolverError.ClauseStoreFull → HasNoRoom self.new }
+        // Variables leave in time: those whose values are fixed, unless they are assumed.
+        ensures leaves { LeavesInTime self.old.tables self.old.search → self.new.ledger.valid ≡ true → self.new.sat_state ≢ SatState.Unsat →
+            LeavesInTime self.new.tables self.new.search }
     {
         let found = self.seek();
         if self.ctx.solver_state.state_is_invalid {
@@ -556,6 +577,12 @@ impl<W: ProofTarget, A: Allocator + Copy> Solver<W, A> {
             × IsCompletable s.naming s.clauses s.assumptions s.counted m }
         ensures core { result ≡ Ok false → (s : State) → StandsFor self.new s → (core : List ℕ) × (core_of s.verdict ≡ Some core)
             × IsFailedCore s.clauses s.assumptions core }
+        ensures target { WritesOn self.old.opened result self.new.opened }
+        // In a valid solver it has all lines.
+        ensures whole { self.new.ledger.valid ≡ true → WritesAll self.old.opened self.new.opened }
+        ensures full { result ≡ Err SolverError.ClauseStoreFull → HasNoRoom self.new }
+        ensures leaves { LeavesInTime self.old.tables self.old.search → self.new.ledger.valid ≡ true → self.new.sat_state ≢ SatState.Unsat →
+            LeavesInTime self.new.tables self.new.search }
     {
         if self.ctx.solver_state.state_is_invalid {
             return Err(SolverError::Invalid);
@@ -564,7 +591,6 @@ impl<W: ProofTarget, A: Allocator + Copy> Solver<W, A> {
             SatState::Sat => Ok(true),
             SatState::Unsat | SatState::UnsatUnderAssumptions => Ok(false),
             SatState::Unknown => {
-                let is_open = self.tracer.proof.is_open();
                 let max_steps = self.ctx.solver_config.max_steps();
                 match find_verdict(
                     &mut self.tracer,
@@ -576,7 +602,7 @@ impl<W: ProofTarget, A: Allocator + Copy> Solver<W, A> {
                     Ok(None) => Err(SolverError::Interrupted),
                     Err(error) => {
                         self.ctx.solver_state.state_is_invalid = true;
-                        Err(refused(error, is_open))
+                        Err(SolverError::from(error))
                     }
                 }
             }

@@ -47,6 +47,8 @@ use Rattle.varisat_theory.specs.Outcomes.{Unknown, Unsat, Steps}
 use Rattle.varisat_theory.proofs.StepEnds.{contradiction_is_found}
 use Rattle.varisat_search.specs.Progress.{IsStepFurther}
 use Rattle.varisat_search.specs.Seen.{search_of, outcome_of}
+use Rattle.varisat_search.specs.SettledUnits.{KeepsFixed}
+use Rattle.varisat_search.proofs.FixedLiterals.{fixed-learned}
 use Rattle.varisat_search.proofs.ViewSearch.{view_reads}
 use Rattle.varisat_search.proofs.AddedClause.{last-one}
 use Rattle.varisat_search.proofs.DecidableVariables.{can-decide, same-read, same-trans, at-valued, enqueued-same}
@@ -71,7 +73,7 @@ module _ (s t : View) (i : Conflict) (level : ℕ) (l : Literal) (others : Claus
   asserting : IsAsserting s i (l ∷ others) level
   asserting = d.above deep
 
-  below : level < length s.decisions
+  pub below : level < length s.decisions
   below = (second-level s asserting.others level (length s.decisions) asserting.second asserting.lower deep).0
 
   first-is : l ≡ asserting.first
@@ -497,6 +499,15 @@ module _ {A : Type 0} {x0 x1 x2 x3 : Context A} {i : Conflict} {level : ℕ} {l 
     -- the activities after the bumps, but for what became available
     pub learning-activities : (a : Activities) → x2.vsids ≡ record a { available = x2.vsids.available } → z.vsids ≡ record a { available = z.vsids.available }
     learning-activities a f = subst (λ (y : Activities). y ≡ record a { available = y.available }) (sym vsids-is) f
+
+    -- the literals of level 0 stay, or the first literal is one
+    pub learning-fixed : (0 < length (view x0).decisions) × KeepsFixed (view x0) (view z)
+    learning-fixed =
+        let lower = below (view x0) (view x2) i level l others b.begun.ready.well b.begun.ready.settled learned-is (cut-is b) in (
+          is-above (view x0) i level l others learned-is,
+          fixed-learned (view x0) (view x2) (view z) level l b.begun.ready.well lower (cut-is b lower)
+              (ap (λ (x : View). x.trail) last-view) (ap (λ (x : View). x.decisions) last-view) (ap (λ (x : View). x.queue_head) last-view),
+        )
 
     last-count : length (view z).values ≡ length (view x2).values
     last-count = ap (λ (x : View). length x.values) last-view ∙ length-set (view x2).values (variable_of l) (Some (polarity_of l))

@@ -29,7 +29,7 @@ settled-grows s t w g e q j h =
     ap (λ x. take (get_or x j 0) t.trail) e ∙ ap (λ x. take (decision_at s j) x) g.trail_more.1 ∙ take-append-le (decision_at s j) s.trail g.trail_more.0 le in
     subst (λ x. IsComplete (kept t) x) (sym same) (complete-reordered s t (take (decision_at s j) s.trail) g.clauses g.binary (q j h'))
 
-take-whole : (xs ys : List ℕ) → take (length xs) (xs ++ ys) ≡ xs
+pub take-whole : (xs ys : List ℕ) → take (length xs) (xs ++ ys) ≡ xs
 take-whole [] [] = refl
 take-whole [] (y ∷ ys) = refl
 take-whole (x ∷ xs) ys = ap (λ z. x ∷ z) (take-whole xs ys)

@@ -17,6 +17,7 @@ pub mod StepLines
 pub mod StepOutcome
 pub mod StepRanks
 pub mod StepWithoutLines
+pub mod FixedLiterals
 pub mod ViewSearch
 pub mod DecidableVariables
 pub mod BacktrackActivities

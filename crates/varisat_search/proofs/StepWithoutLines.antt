@@ -36,7 +36,7 @@ no_unit l (a ∷ []) n q u = omega (arith, n)
 no_unit l (a ∷ b ∷ d) n q u = q.0 (inl (u.1 a (inl refl) ∙ sym (u.1 b (inr (inl refl)))))
 
 -- a reason is a clause or none
-clause_or_none : (r : Reason) → (is_clause r ≡ true) ⊎ (r ≡ reason.Unit)
+pub clause_or_none : (r : Reason) → (is_clause r ≡ true) ⊎ (r ≡ reason.Unit)
 clause_or_none reason.Unit = inr refl
 clause_or_none (reason.Binary ms) = inl refl
 clause_or_none (reason.Long p) = inl refl

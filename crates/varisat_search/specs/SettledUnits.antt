@@ -1,5 +1,5 @@
 -- What comes of a search that settles its units of level 0 before a step.
-use Rattle.std.specs.Prelude.{◌≡◌, ℕ, ◌<◌, ◌++◌, Bool, None, Result, MatchResult, List, [], length, slice_index_or}
+use Rattle.std.specs.Prelude.{◌≡◌, ◌≢◌, ◌⊎◌, ℕ, ◌<◌, ◌++◌, Bool, None, Result, MatchResult, List, [], ◌∷◌, length, take, slice_index_or}
 use Rattle.varisat_theory.specs.Membership.{◌∈◌}
 use Rattle.varisat_theory.specs.Literals.{Literal, Clause, variable_of}
 use Rattle.varisat_theory.specs.Propagation.{IsComplete}
@@ -12,6 +12,7 @@ use Rattle.varisat_prop.specs.View.{View, kept, node_at, kinds}
 use Rattle.varisat_prop.specs.Changes.{IsConflicting}
 use Rattle.varisat_prop.specs.Looks.{Propagates}
 use Rattle.varisat_search.specs.declared.context.Context.{Context}
+use Rattle.varisat_search.specs.declared.state.SatState.TheVariants as verdict
 use Rattle.varisat_search.specs.Contexts.{view, IsReady}
 use Rattle.varisat_search.specs.Decisions.{SameDecidable}
 use Rattle.varisat_search.specs.Progress.{StepsTo}
@@ -23,6 +24,29 @@ use Rattle.varisat_search.specs.Steps.{ExtendsTrail}
 -- at level 0 literals are still to be propagated
 abbrev pub IsUnsettled : View → Type 0
 IsUnsettled s = (s.decisions ≡ []) × (s.queue_head < length s.trail)
+
+-- the literals that stand before the first of the decisions
+abbrev pub before_decisions : List ℕ → List Literal → List Literal
+before_decisions [] ls = ls
+before_decisions (p ∷ ps) ls = take p ls
+
+-- the literals of level 0, which are true for good
+abbrev pub fixed_literals : View → List Literal
+fixed_literals s = before_decisions s.decisions s.trail
+
+-- The literals of level 0 stay, and all of them are propagated.
+abbrev pub FixesNone : View → View → Type 0
+FixesNone s t = (fixed_literals t ≡ fixed_literals s) × (IsUnsettled t → ⊥)
+
+-- They stay, or at level 0 some are still to be propagated.
+abbrev pub KeepsFixed : View → View → Type 0
+KeepsFixed s t = (fixed_literals t ≡ fixed_literals s) ⊎ IsUnsettled t
+
+-- What a step makes of the literals of level 0. Where all of them are propagated as it begins they stay, or it ends at level 0
+-- with one that is still to be propagated. Where a clause is false at level 0 it comes to Unsat.
+pub record FixesByLearning {A : Type 0} (x y : Context A) : Type 0 where
+  pub keeps : (IsUnsettled (view x) → ⊥) → y.solver_state.sat_state ≢ verdict.Unsat → KeepsFixed (view x) (view y)
+  pub refutes : x.trail.decisions ≡ [] → (conflict : Conflict) → IsConflicting (view x) conflict → y.solver_state.sat_state ≡ verdict.Unsat
 
 -- Propagation came to its end or to a false clause, and each unit was proved, by one line for each that a clause implied.
 -- Then, unless a clause is false, the clauses were simplified: one that goes is deleted, and one that becomes shorter is

@@ -1,5 +1,5 @@
 //! One step of the search: propagate and decide to a conflict or a model, and learn.
-ghost use Rattle.std.specs.Prelude.{◌≡◌, ℕ, ◌+◌, ◌^◌, ◌<◌, ◌≤◌, false, length, [], ◌∷◌, List, Ok, OnOk, IfOk, IfErr, MatchBool, MatchOption, MatchResult};
+ghost use Rattle.std.specs.Prelude.{◌≡◌, ◌≢◌, ℕ, ◌+◌, ◌^◌, ◌<◌, ◌≤◌, false, length, [], ◌∷◌, List, Ok, OnOk, IfOk, IfErr, MatchBool, MatchOption, MatchResult};
 ghost use Rattle.varisat_theory.specs.Membership.{◌∈◌};
 ghost use Rattle.varisat_theory.specs.Literals.{Literal, opposite};
 ghost use Rattle.varisat_theory.specs.Propagation.{IsComplete};
@@ -22,7 +22,7 @@ ghost use Rattle.varisat_analysis.specs.Bumps.{BumpsInvolved};
 ghost use Rattle.varisat_analysis.specs.Assessments.{glue_of, assessed, BumpsClauses};
 ghost use Rattle.varisat_search.specs.AssumptionParts.{TakesOutImplied, EndsAssumed, HasFailed};
 ghost use Rattle.varisat_search.specs.Conflicts.{Stops, Keeping, IsKeptAsReason, IsStoredAsReason, IsWatchedAsReason};
-ghost use Rattle.varisat_search.specs.SettledUnits.{IsUnsettled, SettlesUnits, GoesOnByLines, IsSettledDown, SettlesFirst};
+ghost use Rattle.varisat_search.specs.SettledUnits.{IsUnsettled, FixesNone, KeepsFixed, FixesByLearning, SettlesUnits, GoesOnByLines, IsSettledDown, SettlesFirst};
 ghost use Rattle.varisat_search.specs.StepErrors.{HasNoRoom, step_faults};
 ghost use Rattle.varisat_search.specs.Progress.{outcome_at, IsStepFurther, MakesStep};
 ghost use Rattle.varisat_search.specs.FoundCores.{HasCoreIfFailed};
@@ -64,6 +64,7 @@ fn decide<A: Allocator + Copy>(
     requires propagated { ctx.old.trail.queue_head ≡ length ctx.old.trail.literals }
     ensures ready { OnOk result (IsReady ctx.new) }
     ensures grows { OnOk result (GrowsTrail (view ctx.old) (view ctx.new)) }
+    ensures fixed { OnOk result (FixesNone (view ctx.old) (view ctx.new)) }
     ensures taken { OnOk result (TakesOutImplied (view ctx.old) ctx.old.assumptions ctx.new.assumptions) }
     ensures decided { IfOk result (λ decided. MatchResult decided
         (λ made. MatchBool made (length ctx.old.trail.literals < length ctx.new.trail.literals)
@@ -92,6 +93,7 @@ fn find_conflict<A: Allocator + Copy>(
     requires { IsReady ctx.old }
     ensures ready { OnOk result (IsReady ctx.new) }
     ensures grows { OnOk result (GrowsTrail (view ctx.old) (view ctx.new)) }
+    ensures fixed { OnOk result ((IsUnsettled (view ctx.old) → ⊥) → FixesNone (view ctx.old) (view ctx.new)) }
     ensures taken { OnOk result (TakesOutImplied (view ctx.old) ctx.old.assumptions ctx.new.assumptions) }
     ensures found { IfOk result (λ found. MatchResult found
         (λ _. IsComplete (kept (view ctx.new)) ctx.new.trail.literals × EndsAssumed (view ctx.new) ctx.new.assumptions)
@@ -234,6 +236,8 @@ fn learn<A: Allocator + Copy, P: ProofTracer>(
         (assessed (glue_of ctx.old.impl_graph.nodes.items ctx.new.analyze_conflict.clause)) ctx.new.analyze_conflict.clause r)) }
     ensures involved { OnOk result (AreInvolved (view ctx.old) conflict ctx.new.analyze_conflict.involved) }
     ensures last { OnOk result (SavesSome (view ctx.old) ctx.old.assignment.last ctx.new.assignment.last) }
+    ensures fixed { OnOk result (ctx.new.solver_state.sat_state ≢ SatState.Unsat →
+        (0 < length ctx.old.trail.decisions) × KeepsFixed (view ctx.old) (view ctx.new)) }
     ensures schedule { KeepsSchedule ctx.old ctx.new }
     // The store is full only where it has no room for a clause of all variables.
     ensures full { IfErr result (λ error. error ≡ StepError.Full → HasNoRoom ctx.new) }
@@ -277,6 +281,9 @@ pub fn settle<A: Allocator + Copy, P: ProofTracer>(
         ctx.old ctx.new) }
     ensures settled { IfOk result (λ end. MatchResult end (λ _. IsSettledDown (view ctx.new)) (λ _. Unit {0})) }
     ensures conflict { IfOk result (λ end. MatchResult end (λ _. Unit {0}) (λ conflict. IsConflicting (view ctx.new) conflict)) }
+    // A clause that is false before is found.
+    ensures finds { IfOk result (λ end. (c : Conflict) → IsConflicting (view ctx.old) c → end ≢ Ok tt) }
+    ensures at_zero { OnOk result (ctx.new.trail.decisions ≡ []) }
     ensures kept { ctx.new ≡ record ctx.old {
       assignment = ctx.new.assignment;
       binary_clauses = ctx.new.binary_clauses;
@@ -316,6 +323,8 @@ fn settle_units<A: Allocator + Copy, P: ProofTracer>(
         (λ lines. (IsUnsettled (view ctx.old) → SettlesUnits lines (view ctx.old) (view ctx.new) end) × TakesLines P.takes proof.old lines proof.new)
         ctx.old ctx.new) }
     ensures stays { IfOk result (λ end. (IsUnsettled (view ctx.old) → ⊥) → (ctx.new ≡ ctx.old) × (end ≡ Ok tt)) }
+    ensures finds { IfOk result (λ end. ctx.old.trail.decisions ≡ [] → (c : Conflict) → IsConflicting (view ctx.old) c → end ≢ Ok tt) }
+    ensures at_zero { IfOk result (λ end. end ≢ Ok tt → ctx.new.trail.decisions ≡ []) }
     ensures conflict { IfOk result (λ end. MatchResult end (λ _. Unit {0}) (λ conflict. IsConflicting (view ctx.new) conflict)) }
     ensures kept { ctx.new ≡ record ctx.old {
       assignment = ctx.new.assignment;
@@ -359,6 +368,8 @@ fn find_and_learn<A: Allocator + Copy, P: ProofTracer>(
     requires holds { HoldsFor (P.holds proof.old) (search_of (view ctx.old)) }
     ensures made { OnOk result (MakesStep (λ lines. TakesStep P.takes proof.old lines (outcome_at ctx.new) proof.new) ctx.old ctx.new) }
     ensures core { OnOk result (HasCoreIfFailed ctx.new) }
+    ensures fixed { OnOk result ((IsUnsettled (view ctx.old) → ⊥) → ctx.new.solver_state.sat_state ≢ SatState.Unsat →
+        KeepsFixed (view ctx.old) (view ctx.new)) }
     ensures schedule { KeepsSchedule ctx.old ctx.new }
     ensures full { IfErr result (λ error. error ≡ StepError.Full → HasNoRoom ctx.new) }
     ensures broken { IfErr result (λ error. BreaksOff P.breaks_off proof.old (step_faults error) proof.new) }
@@ -390,6 +401,7 @@ pub fn conflict_step<A: Allocator + Copy, P: ProofTracer>(
         (λ lines. SettlesFirst lines ctx.old ctx.new × TakesStep P.takes proof.old lines (outcome_at ctx.new) proof.new)
         ctx.old ctx.new) }
     ensures core { OnOk result (HasCoreIfFailed ctx.new) }
+    ensures fixes { OnOk result (FixesByLearning ctx.old ctx.new) }
     ensures schedule { KeepsSchedule ctx.old ctx.new }
     // The store is full only where it has no room for a clause of all variables.
     ensures full { IfErr result (λ error. error ≡ StepError.Full → HasNoRoom ctx.new) }

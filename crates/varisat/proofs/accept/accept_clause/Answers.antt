@@ -39,6 +39,7 @@ use Rattle.varisat.proofs.SolversInTurn.{with_names, HaveSolvers, have-solvers-t
 use Rattle.varisat.proofs.TableMarks.{marks-bounded, joined-same, assumed-joined}
 use Rattle.varisat.proofs.CheckedHeld.{relied-open}
 use Rattle.varisat.proofs.AcceptClause.{clause-accepted}
+use Rattle.varisat.proofs.SolverSteps.{some-through}
 use Rattle.varisat.proofs.VariablesInUse.{same-in-use, tables-in-use}
 use Rattle.varisat_search.proofs.SolverVariables.{in-use-all}
 use Rattle.varisat.proofs.accept.accept_clause.Given.{Over}
@@ -88,7 +89,7 @@ all-named-in : (g : Over) (c : In_ok-solver_from_user_lits g) (s : State) → Sp
 all-named-in g c s f =
     let old = c.args.ctx.now in
     let checker = c.args.tracer.now.proof.checker in
-    let first : Summary = record { tables = c.args.tracer.now.variables; opened = None; checker = checker; search = view old; assumed = old.assumptions; sat_state = old.solver_state.sat_state; ledger = s.ledger } in
+    let first : Summary = record { tables = c.args.tracer.now.variables; opened = None; checker = checker; search = view old; assumed = old.assumptions; sat_state = old.solver_state.sat_state; words = 0; ledger = s.ledger } in
     let begins = subst (λ y. SpacesFit (spaces_of c.args.tracer.now.variables checker (view old) old.assumptions y) (with_verdict (reopened_verdict s.verdict) s)) (sym (ap (λ (x : SolverState). x.sat_state) c.reopen.ensures)) (reopened-spaces first s f) in
     (have g c).stands checker (with_verdict (reopened_verdict s.verdict) s) begins
 
@@ -150,6 +151,12 @@ returns-clause-tells g c =
     let here = goal.at.returns-clause-tells g c in
     tells-on (parts_of c.tell_clause.new.tracer) (parts_of c.load_clause.new.proof) _ ((c.in_ok-load_clause.ensures {u = tt}).lines (opened g here.In_ok-solver_from_user_lits)).written (can-tell g here.In_ok-tell_clause)
 
+pub returns-clause-told : goal.returns-clause-told
+returns-clause-told g c =
+    let here = goal.at.returns-clause-told g c in
+    some-through c.args.tracer.now.proof c.tell_clause.new.tracer.proof c.load_clause.new.proof.proof (_, (c.in_ok-tell_clause.ensures {u = tt}).told.told)
+    (_, ((c.in_ok-load_clause.ensures {u = tt}).lines (opened g here.In_ok-solver_from_user_lits)).written.told)
+
 pub returns-clause-accepted : goal.returns-clause-accepted
 returns-clause-accepted g c s f =
     let here = (goal.at.returns-clause-accepted g c).In_ok-solver_from_user_lits in
@@ -171,7 +178,7 @@ returns-clause-accepted g c s f =
     let after = parts_of c.load_clause.new.proof in
     let taken = takes-more before (parts_of c.tell_clause.new.tracer) after (Accepts c.as_slice-lits.result.now ∷ []) (written lines) (c.in_ok-tell_clause.ensures {u = tt}).told (r.lines (opened g here)).written in
     let n2 = with_verdict (reopened_verdict s.verdict) n in
-    let (x, told, v, more, plain, k) = clause-accepted (record { tables = m; opened = None; checker = c.args.tracer.now.proof.checker; search = view mid; assumed = mid.assumptions; sat_state = mid.solver_state.sat_state; ledger = s.ledger }) n2 list joined (view new) new.assumptions new.solver_state.sat_state after.proof.checker
+    let (x, told, v, more, plain, k) = clause-accepted (record { tables = m; opened = None; checker = c.args.tracer.now.proof.checker; search = view mid; assumed = mid.assumptions; sat_state = mid.solver_state.sat_state; words = 0; ledger = s.ledger }) n2 list joined (view new) new.assumptions new.solver_state.sat_state after.proof.checker
     (record {
       not_unsat = opened g here;
       all = over-leads to list c.solver_from_user_lits.new.solver_lits.items over;

@@ -109,13 +109,13 @@ returns-clause-assumed g c s checker f =
     let m = c.solver_from_user_lits.new.variables in
     let list = c.args.list.now in
     let to = chain (at m.users.forward) (at m.solvers.forward) in
-    let first : Summary = record { tables = c.args.variables.now; opened = None; checker = checker; search = view old; assumed = old.assumptions; sat_state = old.solver_state.sat_state; ledger = s.ledger } in
+    let first : Summary = record { tables = c.args.variables.now; opened = None; checker = checker; search = view old; assumed = old.assumptions; sat_state = old.solver_state.sat_state; words = 0; ledger = s.ledger } in
     let (w, k) = f in
     let begins = subst (λ y. SpacesFit (spaces_of c.args.variables.now checker (view old) old.assumptions y) (with_verdict (assumed_verdict s.verdict) s)) (sym (ap (λ (x : SolverState). x.sat_state) c.assume.ensures)) (w, forgets w first s old.solver_state.sat_state s.verdict k) in
     let n = with_naming (name_all list s.naming) s in
     let n2 = with_verdict (assumed_verdict s.verdict) n in
     subst (λ v. SpacesFit (spaces_of c.mark_assumed-2.new.variables checker (view new) new.assumptions new.solver_state.sat_state) (with_verdict v (retold (s.told ++ Assumes (map (through_names n.naming) list) ∷ []) (with_assumptions (map (through_names n.naming) list) n)))) (assumed-again s.verdict)
-    (list-assumed (record { tables = m; opened = None; checker = checker; search = view mid; assumed = mid.assumptions; sat_state = mid.solver_state.sat_state; ledger = s.ledger }) n2 list c.mark_assumed.new.variables c.mark_assumed-2.new.variables (view new) new.assumptions new.solver_state.sat_state
+    (list-assumed (record { tables = m; opened = None; checker = checker; search = view mid; assumed = mid.assumptions; sat_state = mid.solver_state.sat_state; words = 0; ledger = s.ledger }) n2 list c.mark_assumed.new.variables c.mark_assumed-2.new.variables (view new) new.assumptions new.solver_state.sat_state
     (record {
       all = over-leads to list c.solver_from_user_lits.new.solver_lits.items over;
       are_cleared = subst (λ ls. AreMarked ls false m c.mark_assumed.new.variables) c.user_assumptions.ensures c.mark_assumed.ensures;

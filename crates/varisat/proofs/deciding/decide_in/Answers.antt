@@ -14,7 +14,7 @@ returns-in_err-add_dimacs_cnf-clause-fails g c =
     let taken = g.W.ProofTarget.taken in
     let s = prepared taken c.args.options.format c.args.options.max_steps c.args.target.now in
     let x = subst (λ o. StandsFor c.prepare.new.solver (prepared taken c.args.options.format c.args.options.max_steps o)) c.take.ensures.value c.prepare.ensures in
-    let (t, a, y) = c.in_err-add_dimacs_cnf.ensures {u = tt} s x in
+    let (t, a, y) = (c.in_err-add_dimacs_cnf.ensures {u = tt}).call s x in
     passed-on c.from_residual.result c.in_err-add_dimacs_cnf.field-0.0 (λ e. Fails taken s _ _ e) c.from_residual.ensures (AsRead t a)
 
 pub returns-in_err-report-clause-fails : goal.returns-in_err-report-clause-fails
@@ -22,7 +22,7 @@ returns-in_err-report-clause-fails g c =
     let taken = g.W.ProofTarget.taken in
     let s = prepared taken c.args.options.format c.args.options.max_steps c.args.target.now in
     let x = subst (λ o. StandsFor c.prepare.new.solver (prepared taken c.args.options.format c.args.options.max_steps o)) c.take.ensures.value c.prepare.ensures in
-    let (t, a, y) = c.in_ok-add_dimacs_cnf.ensures {u = tt} s x in
+    let (t, a, y) = (c.in_ok-add_dimacs_cnf.ensures {u = tt}).call s x in
     let (u, f, z) = c.in_err-report.ensures {u = tt} t y in
     passed-on c.from_residual-in_err-report.result c.in_err-report.field-0.0 (λ e. Fails taken s _ _ e) c.from_residual-in_err-report.ensures (fails-reported g.row.A.Denot taken s _ _ t u c.in_err-report.field-0.0 a f)
 
@@ -31,7 +31,7 @@ returns-in_err-back-clause-fails g c =
     let taken = g.W.ProofTarget.taken in
     let s = prepared taken c.args.options.format c.args.options.max_steps c.args.target.now in
     let x = subst (λ o. StandsFor c.prepare.new.solver (prepared taken c.args.options.format c.args.options.max_steps o)) c.take.ensures.value c.prepare.ensures in
-    let (t, a, y) = c.in_ok-add_dimacs_cnf.ensures {u = tt} s x in
+    let (t, a, y) = (c.in_ok-add_dimacs_cnf.ensures {u = tt}).call s x in
     let (u, f, z) = c.in_ok-report.ensures {u = tt} t y in
     let (back, v, d) = c.in_err-back.ensures.fails u z in
     passed-on c.from_residual-in_err-back.result c.in_err-back.field-0.0 (λ e. Fails taken s _ _ e) c.from_residual-in_err-back.ensures (AsClosed t u v (concluded c.in_ok-report.report) back a f d)
@@ -42,7 +42,7 @@ returns-clause-decided g c =
     let format = c.args.options.format in
     let limit = c.args.options.max_steps in
     let x = subst (λ o. StandsFor c.prepare.new.solver (prepared taken format limit o)) c.take.ensures.value c.prepare.ensures in
-    let (t, a, y) = c.in_ok-add_dimacs_cnf.ensures {u = tt} (prepared taken format limit c.args.target.now) x in
+    let (t, a, y) = (c.in_ok-add_dimacs_cnf.ensures {u = tt}).call (prepared taken format limit c.args.target.now) x in
     let (u, f, z) = c.in_ok-report.ensures {u = tt} t y in
     let report = concluded c.in_ok-report.report in
     let valid = finds-valid t u report f in

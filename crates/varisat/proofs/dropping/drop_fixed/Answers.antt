@@ -3,7 +3,12 @@ use Rattle.varisat_search.proofs.StepErrors.{trace-faults, trace-unfilled}
 use Rattle.varisat_search.specs.StepErrors.{step_faults}
 use Rattle.varisat_trace.proofs.Broken.{passed-on}
 use Rattle.varisat_trace.specs.Traces.{faults_of}
-use Rattle.std.proofs.Common.{◌≡◌, ◌≢◌, Option, ap, ◌∙◌, sym, subst, refl}
+use Rattle.std.proofs.Common.{◌≡◌, ◌≢◌, Option, inl, inr, ⊎_elim, length, ap, ◌∙◌, sym, subst, refl, arith}
+use Rattle.varisat_prop.specs.Changes.{IsConflicting}
+use Rattle.varisat_search.specs.SettledUnits.{IsUnsettled}
+use Rattle.varisat_search.proofs.FixedLiterals.{fixed-undecided}
+use Rattle.varisat.specs.Dropping.{AreOverAssumed}
+use Rattle.varisat.proofs.LeavesInTime.{failed-there}
 use Rattle.varisat_names.specs.Variables.{Tables}
 use Rattle.varisat_tracer.specs.Tracing.{parts_of, BreaksProof}
 use Rattle.varisat_proof.specs.Proving.{OpenState, ProofParts}
@@ -19,6 +24,7 @@ use Rattle.varisat.proofs.CheckedHeld.{relied}
 use Rattle.varisat.proofs.SinceSteps.{come-settled}
 use Rattle.varisat.proofs.SolverSteps.{some-through, comes-nowhere, comes-through, leaving-comes, unknown-undecided, part-comes, some-none}
 use Rattle.varisat.proofs.dropping.drop_fixed.Goals as goal
+use Rattle.varisat.proofs.dropping.drop_fixed.Goals.{then-current_level-gt0-via-then-current_level-gt0, then-current_level-gt0-via-else-current_level-gt0+then-fully_propagated}
 
 pub settle-requires-clause-holds : goal.settle-requires-clause-holds
 settle-requires-clause-holds g c = relied c.args.tracer.now.variables c.args.tracer.now.proof (view c.args.ctx.now) c.args.ctx.now.assumptions c.requires.tells c.requires.stands
@@ -62,6 +68,30 @@ returns-clause-kept g c = (c.in_ok-drop_unneeded.ensures {u = tt}).leave.kept
 pub returns-clause-count : goal.returns-clause-count
 returns-clause-count g c =
     (c.in_ok-drop_unneeded.ensures {u = tt}).leave.count ∙ (c.in_ok-drop_listed.ensures {u = tt}).leave.count ∙ (c.in-Ok.ensures {u = tt}).goes_on.extends.count
+
+pub returns-then-current_level-gt0-clause-leaves : goal.returns-then-current_level-gt0-clause-leaves
+returns-then-current_level-gt0-clause-leaves g c h =
+    let calm : IsUnsettled (view c.args.ctx.now) → ⊥ = λ u.
+    elim c.then-current_level-gt0.branch [
+      | then-current_level-gt0-via-then-current_level-gt0 w ↦ (let n = ap length u.0 in omega (arith, n, c.current_level.ensures, w.if-current_level-gt0.true))
+      | then-current_level-gt0-via-else-current_level-gt0+then-fully_propagated w ↦ (let n = w.fully_propagated.ensures.0 w.if-fully_propagated.true in omega (arith, n, u.1))
+    ] in
+    ⊎_elim (λ n. inl (n, calm)) (λ u. absurd (calm u)) h
+
+pub returns-then-is_err-clause-leaves : goal.returns-then-is_err-clause-leaves
+returns-then-is_err-clause-leaves g c h =
+    let e = c.in-Ok.ensures {u = tt} in
+    inr (e.at_zero, failed-there c.in-Ok.settled (λ _. Unit {0}) (IsConflicting (view c.settle.new.ctx)) (sym c.is_err.ensures.value ∙ c.if-is_err.true) e.conflict)
+
+pub returns-clause-leaves : goal.returns-clause-leaves
+returns-clause-leaves g c h =
+    let z = c.drop_unneeded.new.ctx in
+    let e = c.in_ok-drop_unneeded.ensures {u = tt} in
+    let d = e.settled in
+    inl (
+      subst (AreOverAssumed c.drop_unneeded.new.tracer.variables) (sym (fixed-undecided (view z) d.undecided)) e.left.assumed,
+      λ u. let head = d.propagated in let low = u.1 in omega (arith, head, low),
+    )
 
 pub returns-then-current_level-gt0-clause-told : goal.returns-then-current_level-gt0-clause-told
 returns-then-current_level-gt0-clause-told g c = some-none c.args.tracer.now.proof

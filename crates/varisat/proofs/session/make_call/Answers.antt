@@ -4,17 +4,17 @@ use Rattle.varisat.proofs.session.make_call.Goals as goal
 
 pub returns-in-AddClause : goal.returns-in-AddClause
 returns-in-AddClause g c s st =
-    let (t, a, w) = c.add_clause.ensures s st in
+    let (t, a, w) = c.add_clause.ensures.call s st in
     rw c.in-AddClause.is (t, subst (λ (d : List ℕ). AddsClause s d c.add_clause.result t) c.deref.ensures.value a, w)
 
 pub returns-in-AddFormula : goal.returns-in-AddFormula
-returns-in-AddFormula g c s st = rw c.in-AddFormula.is (c.add_formula.ensures s st)
+returns-in-AddFormula g c s st = rw c.in-AddFormula.is (c.add_formula.ensures.call s st)
 
 pub add_dimacs_cnf-added-requires : goal.add_dimacs_cnf-added-requires
 add_dimacs_cnf-added-requires g c = rw c.in-AddDimacsCnf.is at c.requires
 
 pub returns-in-AddDimacsCnf : goal.returns-in-AddDimacsCnf
-returns-in-AddDimacsCnf g c s st = rw c.in-AddDimacsCnf.is (c.add_dimacs_cnf-added.ensures s st)
+returns-in-AddDimacsCnf g c s st = rw c.in-AddDimacsCnf.is (c.add_dimacs_cnf-added.ensures.call s st)
 
 pub returns-in-NewVar : goal.returns-in-NewVar
 returns-in-NewVar g c s st = rw c.in-NewVar.is (c.new_var.ensures s st)

@@ -11,6 +11,7 @@ use Rattle.varisat_trace.proofs.Broken.{passed-on}
 use Rattle.varisat_tracer.specs.Tracing.{parts_of, TakesGlobally, BreaksProof}
 use Rattle.varisat_tracer.proofs.Telling.{breaks-proof, proof-breaks-on}
 use Rattle.varisat.specs.Summaries.{undecided_spaces, IsKept}
+use Rattle.varisat.proofs.LeavesInTime.{leaves-begun}
 use Rattle.varisat.proofs.CheckedHeld.{relied, some-on}
 use Rattle.varisat.proofs.SinceSteps.{come-begun}
 use Rattle.varisat.proofs.SolverSteps.{comes-through, unknown-undecided, some-through, begins-any, begin-count, begin-kept, begin-told, begin-tables, begin-tells, begin-comes}
@@ -66,6 +67,7 @@ returns-clause-begins g c =
       state = c.drop_fixed.ensures.state ∙ ap (λ (c : Context g.row.A.Denot). c.solver_state) c.begin_step.ensures.kept;
       count = e.count ∙ count;
       left = record { reduced = y; begins = begins-any x y b; left = e.left };
+      leaves = λ h. e.leaves (leaves-begun p.variables q.variables x y c.requires.kept.ready b (begin-tables (parts_of p) (parts_of q) x y b) h);
       stands = comes-through 0 0 0 p.proof q.proof r.proof (undecided_spaces p.variables p.proof.checker x) (undecided_spaces q.variables q.proof.checker y) (undecided_spaces r.variables r.proof.checker z) refl (unknown-undecided q.variables q.proof.checker y)
           (begin-comes (parts_of p) (parts_of q) x y c.requires.kept b) e.stands;
     }

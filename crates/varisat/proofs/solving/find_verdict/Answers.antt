@@ -54,6 +54,8 @@ found g c answer e = record {
   tells = (made g c).tells;
   state = same-state g c;
   answer = e;
+  told = some-through c.args.tracer.now.proof c.steps.tracer.proof c.make_step.new.tracer.proof c.steps.invariant.told (made g c).told;
+  leaves = λ h n. (made g c).leaves (c.steps.invariant.leaves h) n;
   stands = stepped g c;
   still = λ s. absurd (stepping-moved (stepping g c) s);
 }
@@ -79,6 +81,7 @@ steps-init g c =
       state = refl;
       config = refl;
       made = none-made x c.args.max_steps c.steps-first.ensures.plan;
+      leaves = λ h. h;
       stands = λ s fit. comes-nowhere (steps_since x.schedule x.schedule) s p.proof (undecided_spaces p.variables p.proof.checker x) (omega arith) fit;
       still = λ e. (refl, refl);
     }
@@ -111,6 +114,7 @@ steps-preserved g c =
       state = same-state g h ∙ ap (λ v. record c.args.ctx.now.solver_state { sat_state = v }) (c.in-Unknown.is ∙ sym c.requires.unknown);
       config = c.make_step.ensures.config ∙ i.config;
       made = stepping-goes-on d (m.since c.in-Unknown.is);
+      leaves = λ h. m.leaves (i.leaves h) (λ e. let z : verdict.Unknown ≡ verdict.Unsat = sym c.in-Unknown.is ∙ e in cc);
       stands = comes-undecided _ (undecided_spaces p.variables p.proof.checker c.args.ctx.now) r.variables z p.proof r.proof c.in-Unknown.is (stepped g h);
       still = λ e. absurd (stepping-moved d e);
     }
@@ -124,6 +128,8 @@ returns-then-steps-first-clause-found g c =
       tells = i.tells;
       state = ap (λ (s : SolverState). record s { sat_state = c.steps.ctx.solver_state.sat_state }) i.state;
       answer = sym (ap answer_at unknown);
+      told = i.told;
+      leaves = λ h n. i.leaves h;
       stands = comes-decided _ (undecided_spaces c.args.tracer.now.variables c.args.tracer.now.proof.checker c.args.ctx.now) c.steps.tracer.variables c.steps.ctx c.args.tracer.now.proof c.steps.tracer.proof unknown i.stands;
       still = i.still;
     }

@@ -9,6 +9,7 @@ use Rattle.varisat_tracer.specs.Tracing.{parts_of, BreaksProof}
 use Rattle.varisat_tracer.proofs.Telling.{proof-breaks-on, tells-on}
 use Rattle.varisat.specs.Searches.{BeginsSolverStep, MakesNamedStep}
 use Rattle.varisat.specs.Summaries.{undecided_spaces, spaces_with}
+use Rattle.varisat.proofs.LeavesInTime.{leaves-stepped}
 use Rattle.varisat.proofs.CheckedHeld.{some-on}
 use Rattle.varisat.proofs.SearchVerdicts.{ready-counted, named-counted, kept-named, kept-counted}
 use Rattle.varisat.proofs.SinceSteps.{come-ended, steps-begun, step-ended}
@@ -65,6 +66,7 @@ returns-clause-made g c =
           same.solver_config m.count m.decidable (b.within i k);
       state = m.state ∙ ap (λ (s : SolverState). record s { sat_state = z.solver_state.sat_state }) b.state;
       count = m.count ∙ b.count;
+      leaves = λ h n. leaves-stepped q.variables r.variables y z m.tables m.fixes (b.leaves h) n;
       stands = comes-through 0 1 1 p.proof q.proof r.proof (undecided_spaces p.variables p.proof.checker x) (undecided_spaces q.variables q.proof.checker y) (spaces_with r.variables r.proof.checker (record z { schedule = plan })) refl (unknown-undecided q.variables q.proof.checker y)
           b.stands (named-comes (parts_of q) (parts_of r) y z b.kept m);
     }

@@ -27,12 +27,12 @@ name_core-requires g c l h =
 
 pub returns-clause-made : goal.returns-clause-made
 returns-clause-made g c =
-    named-also (parts_of c.args.tracer.now) (parts_of c.conflict_step.new.proof) c.args.ctx.now c.conflict_step.new.ctx (c.in_ok-conflict_step.ensures {u = tt}).made c.name_core.new.ctx c.name_core.ensures.kept
+    named-also (parts_of c.args.tracer.now) (parts_of c.conflict_step.new.proof) c.args.ctx.now c.conflict_step.new.ctx (c.in_ok-conflict_step.ensures {u = tt}).made (c.in_ok-conflict_step.ensures {u = tt}).fixes c.name_core.new.ctx c.name_core.ensures.kept
     (c.in_ok-name_core.ensures {u = tt}).named
 
 pub returns-in_default-clause-made : goal.returns-in_default-clause-made
 returns-in_default-clause-made g c =
-    named-plainly (parts_of c.args.tracer.now) (parts_of c.conflict_step.new.proof) c.args.ctx.now c.conflict_step.new.ctx (c.in_ok-conflict_step.ensures {u = tt}).made c.in_default.not-UnsatUnderAssumptions
+    named-plainly (parts_of c.args.tracer.now) (parts_of c.conflict_step.new.proof) c.args.ctx.now c.conflict_step.new.ctx (c.in_ok-conflict_step.ensures {u = tt}).made (c.in_ok-conflict_step.ensures {u = tt}).fixes c.in_default.not-UnsatUnderAssumptions
 
 pub returns-in_err-conflict_step-clause-broken : goal.returns-in_err-conflict_step-clause-broken
 returns-in_err-conflict_step-clause-broken g c =

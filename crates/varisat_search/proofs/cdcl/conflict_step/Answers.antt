@@ -1,10 +1,12 @@
 use Rattle.varisat_trace.proofs.Broken.{breaks-on}
 use Rattle.varisat_search.proofs.StepErrors.{trace-broken, step-passed}
-use Rattle.std.proofs.Common.{refl}
+use Rattle.std.proofs.Common.{◌≡◌, ◌∙◌, Ok, Err, ⊎_elim, length, refl, sym, ap, subst, arith}
 use Rattle.varisat_theory.specs.Outcomes.{Steps}
 use Rattle.varisat_search.specs.declared.context.Context.{Context}
 use Rattle.varisat_search.specs.Progress.{outcome_at, MakesStep}
-use Rattle.varisat_search.specs.SettledUnits.{IsUnsettled, SettlesUnits, SettlesFirst}
+use Rattle.varisat_prop.specs.declared.prop.graph.Conflict.{Conflict}
+use Rattle.varisat_search.specs.declared.state.SatState.TheVariants as verdict
+use Rattle.varisat_search.specs.SettledUnits.{IsUnsettled, KeepsFixed, SettlesUnits, SettlesFirst}
 use Rattle.varisat_search.specs.Contexts.{view}
 use Rattle.varisat_search.specs.Seen.{search_of}
 use Rattle.varisat_search.proofs.MadeSteps.{made-are, made-with, no-core-entry, learned-no-core, made-settled, made-at-once}
@@ -66,6 +68,35 @@ returns-in_ok-find_and_learn-in-Ok-clause-core g c = c.in_ok-find_and_learn-in-O
 
 pub returns-in_ok-learn-in-Err-clause-core : goal.returns-in_ok-learn-in-Err-clause-core
 returns-in_ok-learn-in-Err-clause-core g c u = absurd (learned-no-core c.learn.new.ctx.solver_state.sat_state c.in_ok-learn-in-Err.ensures.further.known u)
+
+pub returns-in_ok-find_and_learn-in-Ok-clause-fixes : goal.returns-in_ok-find_and_learn-in-Ok-clause-fixes
+returns-in_ok-find_and_learn-in-Ok-clause-fixes g c =
+    let z = c.find_and_learn.new.ctx in
+    let s = c.in_ok-settle_units.ensures in
+    record {
+      keeps = λ calm n.
+          let (same, e) = s.stays calm in
+          subst (λ (y : Context g.row.A.Denot). KeepsFixed (view y) (view z)) same
+          (c.in_ok-find_and_learn-in-Ok.ensures.fixed (subst (λ (y : Context g.row.A.Denot). IsUnsettled (view y) → ⊥) (sym same) calm) n);
+      refutes = λ none f k. absurd (s.finds none f k c.in-Ok.is);
+    }
+
+pub returns-in_ok-learn-in-Err-clause-fixes : goal.returns-in_ok-learn-in-Err-clause-fixes
+returns-in_ok-learn-in-Err-clause-fixes g c =
+    let s = c.in_ok-settle_units.ensures in
+    let e = c.in_ok-learn-in-Err.ensures in
+    let other : c.in_ok-settle_units.field-0 ≡ Ok tt → ⊥ = λ o. (let z : Err c.in-Err.conflict ≡ Ok tt = sym c.in-Err.is ∙ o in cc) in
+    record {
+      keeps = λ calm n. absurd (other (s.stays calm).1);
+      refutes = λ none f k.
+          ⊎_elim
+          (λ u.
+          let (deep, keeps) = e.fixed (λ v. let z : verdict.Unknown ≡ verdict.Unsat = sym u ∙ v in absurd cc) in
+          let n = ap length (s.at_zero other) in
+          absurd (omega (arith, deep, n)))
+          (λ v. v)
+          e.further.known;
+    }
 
 pub returns-in_err-settle_units-clause-broken : goal.returns-in_err-settle_units-clause-broken
 returns-in_err-settle_units-clause-broken g c =

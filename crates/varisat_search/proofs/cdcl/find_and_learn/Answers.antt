@@ -1,6 +1,6 @@
 use Rattle.varisat_trace.proofs.Broken.{breaks-not}
 use Rattle.varisat_search.proofs.StepErrors.{memory-broken, trace-broken, step-passed}
-use Rattle.std.proofs.Common.{MatchResult, List, sym, subst}
+use Rattle.std.proofs.Common.{◌∙◌, MatchResult, List, inl, inr, ⊎_elim, sym, subst}
 use Rattle.varisat_theory.specs.Literals.{Clause}
 use Rattle.varisat_theory.specs.Propagation.{IsComplete, Conflicts}
 use Rattle.varisat_prop.specs.View.{kept}
@@ -62,6 +62,16 @@ returns-in_ok-trace_core-in-Err-Assumption-clause-core g c u =
 
 pub returns-in_ok-learn-in-Err-Conflict-clause-core : goal.returns-in_ok-learn-in-Err-Conflict-clause-core
 returns-in_ok-learn-in-Err-Conflict-clause-core g c u = absurd (learned-no-core c.learn.new.ctx.solver_state.sat_state c.in_ok-learn-in-Err-Conflict.ensures.further.known u)
+
+pub returns-in-Ok-clause-fixed : goal.returns-in-Ok-clause-fixed
+returns-in-Ok-clause-fixed g c calm n = inl (c.in_ok-find_conflict.ensures.fixed calm).0
+
+pub returns-in_ok-trace_core-in-Err-Assumption-clause-fixed : goal.returns-in_ok-trace_core-in-Err-Assumption-clause-fixed
+returns-in_ok-trace_core-in-Err-Assumption-clause-fixed g c calm n = inl (c.in_ok-find_conflict.ensures.fixed calm).0
+
+pub returns-in_ok-learn-in-Err-Conflict-clause-fixed : goal.returns-in_ok-learn-in-Err-Conflict-clause-fixed
+returns-in_ok-learn-in-Err-Conflict-clause-fixed g c calm n =
+    ⊎_elim (λ e. inl (e ∙ (c.in_ok-find_conflict.ensures.fixed calm).0)) inr (c.in_ok-learn-in-Err-Conflict.ensures.fixed n).1
 
 -- what the tracer may hold fits the search after propagation and decisions
 holds : (g : Over) (c : In_ok-find_conflict g) → HoldsFor (g.P.ProofTracer.holds c.args.proof.now) (search_of (view c.find_conflict.new.ctx))

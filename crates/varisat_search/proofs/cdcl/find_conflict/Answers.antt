@@ -8,6 +8,8 @@ use Rattle.varisat_search.specs.Contexts.{view, IsReady}
 use Rattle.varisat_search.specs.Decisions.{SameDecidable}
 use Rattle.varisat_search.proofs.AssumedTruths.{takes-refl, takes-trans}
 use Rattle.varisat_search.proofs.DecidableVariables.{same-refl, same-trans, propagated-same}
+use Rattle.varisat_search.specs.SettledUnits.{IsUnsettled, FixesNone}
+use Rattle.varisat_search.proofs.FixedLiterals.{fixed-propagated, fixes-through}
 use Rattle.varisat_search.proofs.PropagatedContext.{propagated-ready}
 use Rattle.varisat_search.proofs.StepOutcome.{Finding, finding-begins, finding-propagated, not-err}
 use Rattle.varisat_search.proofs.cdcl.find_conflict.Given.{Over}
@@ -24,6 +26,13 @@ propagated g c =
 
 grown : (g : Over) (c : In_ok-propagated g) → GrowsTrail (view c.args.ctx.now) (view (mid g c))
 grown g c = grows-trans (view c.args.ctx.now) (view c.levels.ctx) (view (mid g c)) c.levels.invariant.grows (propagated g c).grows
+
+-- and makes nothing true at level 0 where all of it was propagated
+fixed : (g : Over) (c : In_ok-propagated g) → (IsUnsettled (view c.args.ctx.now) → ⊥) → FixesNone (view c.args.ctx.now) (view (mid g c))
+fixed g c calm =
+    let (same, quiet) = c.levels.invariant.fixed calm in
+    fixes-through (view c.args.ctx.now) (view c.levels.ctx) (view (mid g c)) (same, quiet)
+    (fixed-propagated c.levels.ctx (view (mid g c)) c.levels.invariant.ready c.in_ok-propagated.ensures.propagates quiet)
 
 -- propagation keeps the same variables decidable
 still : (g : Over) (c : In_ok-propagated g) → SameDecidable (view c.levels.ctx) c.levels.ctx.vsids (view (mid g c)) c.levels.ctx.vsids
@@ -42,6 +51,9 @@ returns-in-Err-clause-ready g c = ready g (goal.at.returns-in-Err-clause-ready g
 pub returns-in-Err-clause-grows : goal.returns-in-Err-clause-grows
 returns-in-Err-clause-grows g c = grown g (goal.at.returns-in-Err-clause-grows g c).In_ok-propagated
 
+pub returns-in-Err-clause-fixed : goal.returns-in-Err-clause-fixed
+returns-in-Err-clause-fixed g c = fixed g (goal.at.returns-in-Err-clause-fixed g c).In_ok-propagated
+
 pub returns-in-Err-clause-decidable : goal.returns-in-Err-clause-decidable
 returns-in-Err-clause-decidable g c = same g (goal.at.returns-in-Err-clause-decidable g c).In_ok-propagated
 
@@ -55,12 +67,17 @@ pub decide-requires-clause-propagated : goal.decide-requires-clause-propagated
 decide-requires-clause-propagated g c = (not-err c.in_ok-propagated.propagated _ _ c.in_default.not-Err c.in_ok-propagated.ensures.ends).1.1
 
 pub levels-init : goal.levels-init
-levels-init g c = record { ready = c.requires; grows = grows-refl (view c.args.ctx.now); taken = takes-refl (view c.args.ctx.now) c.args.ctx.now.assumptions; state = refl; last = refl; units = refl; schedule = record { schedule = refl; solver_config = refl }; same = same-refl (view c.args.ctx.now) c.args.ctx.now.vsids; activities = refl }
+levels-init g c = record { ready = c.requires; grows = grows-refl (view c.args.ctx.now); fixed = λ calm. (refl, calm); taken = takes-refl (view c.args.ctx.now) c.args.ctx.now.assumptions; state = refl; last = refl; units = refl; schedule = record { schedule = refl; solver_config = refl }; same = same-refl (view c.args.ctx.now) c.args.ctx.now.vsids; activities = refl }
 
 pub returns-in-Ok-false-clause-grows : goal.returns-in-Ok-false-clause-grows
 returns-in-Ok-false-clause-grows g c =
     let here = (goal.at.returns-in-Ok-false-clause-grows g c).In_ok-propagated in
     grows-trans (view c.args.ctx.now) (view (mid g here)) (view c.decide.new.ctx) (grown g here) c.in_ok-decide.ensures.grows
+
+pub returns-in-Ok-false-clause-fixed : goal.returns-in-Ok-false-clause-fixed
+returns-in-Ok-false-clause-fixed g c calm =
+    let here = (goal.at.returns-in-Ok-false-clause-fixed g c).In_ok-propagated in
+    fixes-through (view c.args.ctx.now) (view (mid g here)) (view c.decide.new.ctx) (fixed g here calm) c.in_ok-decide.ensures.fixed
 
 pub returns-in-Ok-false-clause-taken : goal.returns-in-Ok-false-clause-taken
 returns-in-Ok-false-clause-taken g c =
@@ -76,6 +93,11 @@ pub returns-in-Err-2-clause-grows : goal.returns-in-Err-2-clause-grows
 returns-in-Err-2-clause-grows g c =
     let here = (goal.at.returns-in-Err-2-clause-grows g c).In_ok-propagated in
     grows-trans (view c.args.ctx.now) (view (mid g here)) (view c.decide.new.ctx) (grown g here) c.in_ok-decide.ensures.grows
+
+pub returns-in-Err-2-clause-fixed : goal.returns-in-Err-2-clause-fixed
+returns-in-Err-2-clause-fixed g c calm =
+    let here = (goal.at.returns-in-Err-2-clause-fixed g c).In_ok-propagated in
+    fixes-through (view c.args.ctx.now) (view (mid g here)) (view c.decide.new.ctx) (fixed g here calm) c.in_ok-decide.ensures.fixed
 
 pub returns-in-Err-2-clause-taken : goal.returns-in-Err-2-clause-taken
 returns-in-Err-2-clause-taken g c =
@@ -109,6 +131,7 @@ levels-preserved g c =
     record {
       ready = e.ready;
       grows = grows-trans (view x) (view (mid g here)) (view z) (grown g here) e.grows;
+      fixed = λ calm. fixes-through (view x) (view (mid g here)) (view z) (fixed g here calm) e.fixed;
       taken = takes-trans (view x) (view (mid g here)) x.assumptions c.levels.ctx.assumptions z.assumptions (grown g here) i.taken e.taken;
       state = e.state ∙ i.state;
       last = e.last ∙ c.in_ok-propagated.ensures.last ∙ i.last;

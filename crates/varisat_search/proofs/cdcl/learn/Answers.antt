@@ -18,7 +18,7 @@ use Rattle.varisat_analysis.specs.Assessments.{glue_of, assessed}
 use Rattle.varisat_search.specs.Conflicts.{IsStoredAsReason}
 use Rattle.varisat_vsids.specs.Activities.{Activities}
 use Rattle.varisat_analysis.proofs.BumpedClauses.{tier-redundant}
-use Rattle.varisat_search.proofs.LearnContext.{analysis-ready, involved-named, bumps-learned, cut-activities, Analyzed, analyzed-bumped, analyzed-well, analyzed-tracks, analyzed-clear, learned-assigned, analyzed-named, analyzed-assigned, with_store, analyzed-noted, noted-further, noted-saves, noted-bumps, analyzed-flags, Backtracked, learned-length, saves-some, learned-listed, learned-paired, learned-tracks, Learning, learning-free, learning-node, learning-further, learning-activities, refuted-undecided, refuted-further}
+use Rattle.varisat_search.proofs.LearnContext.{analysis-ready, involved-named, bumps-learned, cut-activities, Analyzed, analyzed-bumped, analyzed-well, analyzed-tracks, analyzed-clear, learned-assigned, analyzed-named, analyzed-assigned, with_store, analyzed-noted, noted-further, noted-saves, noted-bumps, analyzed-flags, Backtracked, learned-length, saves-some, learned-listed, learned-paired, learned-tracks, Learning, learning-free, learning-node, learning-further, learning-activities, learning-fixed, refuted-undecided, refuted-further}
 use Rattle.varisat_search.proofs.cdcl.learn.Given.{Over}
 use Rattle.varisat_search.proofs.cdcl.learn.Goals.{After-backtrack, In_ok-reason, In_ok-enqueue_assignment}
 use Rattle.varisat_search.proofs.cdcl.learn.Goals as goal
@@ -194,6 +194,15 @@ returns-clause-involved g c =
     let analysis : (x : Context g.row.A.Denot) → Analysis = λ x. x.analyze_conflict in
     subst (λ (a : Analysis). AreInvolved (view c.args.ctx.now) c.args.conflict a.involved)
     (sym (ap analysis c.keep_learned.ensures.kept ∙ analysis-stays g (goal.at.returns-clause-involved g c).After-backtrack)) c.in_ok-level.ensures.involved
+
+pub returns-clause-fixed : goal.returns-clause-fixed
+returns-clause-fixed g c n =
+    let here = goal.at.returns-clause-fixed g c in
+    learning-fixed (learning g here.In_ok-reason (undone g here.After-backtrack)) (last g here.In_ok-enqueue_assignment) refl
+    (c.in_ok-enqueue_assignment.ensures.view c.keep_learned.new.ctx.clause_alloc c.keep_learned.new.ctx.binary_clauses)
+
+pub returns-in_default-clause-fixed : goal.returns-in_default-clause-fixed
+returns-in_default-clause-fixed g c n = absurd (n refl)
 
 pub returns-clause-last : goal.returns-clause-last
 returns-clause-last g c =

@@ -16,6 +16,7 @@ use Rattle.varisat_search.specs.Simplifications.{pair_lines, clause_lines}
 use Rattle.varisat_trace.specs.Traces.{TakesLines, HoldsFor}
 use Rattle.varisat_trace.proofs.Traced.{lines-more, holds_on, holds_still}
 use Rattle.varisat_search.proofs.StepWithoutLines.{grows_prove}
+use Rattle.varisat_search.proofs.FixedLiterals.{none-was-conflicting}
 use Rattle.varisat_search.proofs.PropagatedContext.{propagated-ready}
 use Rattle.varisat_search.proofs.ProvedUnits.{units-all}
 use Rattle.varisat_search.proofs.SettledUnits.{ProvedAfter, goes-trans, goes-simplified, goes-to-units, settles-to-units, still-conflicting, settled-down}
@@ -105,6 +106,26 @@ returns-in-Err-clause-conflict g c =
     let t = view c.prove_units.new.ctx in
     let ends = subst (λ r. MatchResult r (λ _. IsComplete (kept (view m)) m.trail.literals × (m.trail.queue_head ≡ length m.trail.literals)) (λ f. IsConflicting (view m) f)) c.in-Err.is c.in_ok-propagated.ensures.ends in
     still-conflicting (view m) t c.in-Err.conflict (c.in_ok-prove_units.ensures.proved (none g h)) ends
+
+pub returns-in-Err-clause-finds : goal.returns-in-Err-clause-finds
+returns-in-Err-clause-finds g c f k e = absurd cc
+
+pub returns-clause-finds : goal.returns-clause-finds
+returns-clause-finds g c f k e =
+    let h = (goal.at.returns-clause-finds g c).In_ok-propagated in
+    let m = mid g h in
+    let ends = subst (λ r. MatchResult r (λ _. IsComplete (kept (view m)) m.trail.literals × (m.trail.queue_head ≡ length m.trail.literals)) (λ f. IsConflicting (view m) f)) c.in_default.is c.in_ok-propagated.ensures.ends in
+    none-was-conflicting (view c.args.ctx.now) (view m) c.requires.ready.well c.in_ok-propagated.ensures.propagates.grows ends.0 f k
+
+pub returns-in-Err-clause-at_zero : goal.returns-in-Err-clause-at_zero
+returns-in-Err-clause-at_zero g c =
+    let h = (goal.at.returns-in-Err-clause-at_zero g c).In_ok-propagated in
+    ap (λ (z : Context g.row.A.Denot). z.trail.decisions) c.prove_units.ensures.kept ∙ none g h
+
+pub returns-clause-at_zero : goal.returns-clause-at_zero
+returns-clause-at_zero g c =
+    let h = (goal.at.returns-clause-at_zero g c).In_ok-propagated in
+    ap (λ (z : Context g.row.A.Denot). z.trail.decisions) c.unit_simplify.ensures.kept ∙ ap (λ (z : Context g.row.A.Denot). z.trail.decisions) c.prove_units.ensures.kept ∙ none g h
 
 pub returns-clause-goes_on : goal.returns-clause-goes_on
 returns-clause-goes_on g c =

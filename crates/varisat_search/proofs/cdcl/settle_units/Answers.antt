@@ -1,8 +1,9 @@
 use Rattle.varisat_trace.proofs.Broken.{error-broken}
 use Rattle.std.proofs.lemmas.Grind.{common_steps}
-use Rattle.std.proofs.Common.{length, ap, arith}
+use Rattle.std.proofs.Common.{◌≡◌, length, ap, arith}
 use Rattle.varisat_search.specs.Contexts.{view}
 use Rattle.varisat_search.specs.SettledUnits.{IsUnsettled}
+use Rattle.varisat_search.proofs.FixedLiterals.{ready-complete, none-conflicting}
 use Rattle.varisat_search.proofs.SettledUnits.{goes-refl}
 use Rattle.varisat_search.proofs.cdcl.settle_units.Goals as goal
 use Rattle.varisat_search.proofs.cdcl.settle_units.Goals.{then-current_level-gt0-via-then-current_level-gt0, then-current_level-gt0-via-else-current_level-gt0+then-fully_propagated}
@@ -15,6 +16,19 @@ returns-then-current_level-gt0-clause-goes_on g c =
       | then-current_level-gt0-via-else-current_level-gt0+then-fully_propagated w ↦ (let n = w.fully_propagated.ensures.0 w.if-fully_propagated.true in omega (arith, n, u.1))
     ] in
     goes-refl c.args.ctx.now _ c.requires.ready ((λ u. absurd (settled u)), g.met.P.ProofTracer.takes_none c.args.proof.now)
+
+pub returns-then-current_level-gt0-clause-finds : goal.returns-then-current_level-gt0-clause-finds
+returns-then-current_level-gt0-clause-finds g c none f k e =
+    let x = c.args.ctx.now in
+    let head : x.trail.queue_head ≡ length x.trail.literals =
+    elim c.then-current_level-gt0.branch [
+      | then-current_level-gt0-via-then-current_level-gt0 w ↦ (let n = ap length none in absurd (omega (arith, n, c.current_level.ensures, w.if-current_level-gt0.true)))
+      | then-current_level-gt0-via-else-current_level-gt0+then-fully_propagated w ↦ (let n = w.fully_propagated.ensures.0 w.if-fully_propagated.true in let h = c.requires.ready.well.head in omega (arith, n, h))
+    ] in
+    none-conflicting (view x) c.requires.ready.well (ready-complete c.requires.ready head) f k
+
+pub returns-clause-finds : goal.returns-clause-finds
+returns-clause-finds g c none f k = c.in_ok-end.ensures.finds f k
 
 pub returns-in_err-end-clause-broken : goal.returns-in_err-end-clause-broken
 returns-in_err-end-clause-broken g c =

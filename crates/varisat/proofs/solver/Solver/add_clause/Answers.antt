@@ -9,7 +9,13 @@ use Rattle.varisat.specs.Journals.{retold}
 use Rattle.varisat.specs.Calls.{with_naming, start, append_clause, count_anew, IsExtensible, Ignored, Accepted, AddsClause}
 use Rattle.varisat.proofs.CallStates.{ledger-is, none-since, stands-valid, flags-started, like-told, broken, broken-invalid, adds-broken}
 use Rattle.varisat.proofs.AcceptClause.{ledger-free, proof-free, not-refuted}
-use Rattle.varisat.proofs.OpenProofs.{proof-goes-on, open-there, searched-there, unsearched-there}
+use Rattle.varisat_tracer.specs.Tracing.{BreaksProof}
+use Rattle.varisat.specs.Refusals.{told_faults}
+use Rattle.varisat.specs.Summaries.{Summary}
+use Rattle.varisat.specs.Targets.{WritesAll, WritesUpTo}
+use Rattle.varisat.specs.declared.solver.SolverError.TheVariants.{ClauseStoreFull, Invalid, ClauseAfterSolve}
+use Rattle.varisat.proofs.Targets.{writes-nothing, refused-unwritten, tells-writes, breaks-writes, names-unwritten, names-not-full, refused-full, same-error}
+use Rattle.varisat.proofs.OpenProofs.{proof-goes-on, broken-open, searched-there, unsearched-there}
 use Rattle.varisat.proofs.Additions.{told-error}
 use Rattle.varisat.proofs.SolverCalls.{unsat-known}
 use Rattle.varisat.proofs.SinceSteps.{since-now}
@@ -29,8 +35,8 @@ invariant_of-self g c _ =
     let (x, told, v, more, proof, now) = e.accepted s fits in
     record { stands = (_, now, λ e. absurd cc); kept = e.kept; tells = e.tells; counts = since-now c.steps-self-inside.result c.accept_clause.new.ctx c.steps-self-inside.ensures.steps e.kept.ready c.steps-self-inside.ensures.plan }
 
-pub returns-in_err-check_names : goal.returns-in_err-check_names
-returns-in_err-check_names g c s st =
+pub returns-in_err-check_names-clause-call : goal.returns-in_err-check_names-clause-call
+returns-in_err-check_names-clause-call g c s st =
     let q = rw (← c.self.view_is) at st in
     let ok = ap not c.if-self.false in
     let bad : IsExtensible s = record {
@@ -40,8 +46,8 @@ returns-in_err-check_names g c s st =
     let refused = told-error c.from_residual.result c.in_err-check_names.field-0.0 c.from_residual.ensures in
     (s, subst (λ r. AddsClause s c.args.clause.now r s) (sym refused) (clause-refused _ s q (ap not c.if-self.false) c.args.clause.now bad c.in_err-check_names.field-0.0 c.in_err-check_names.ensures), st)
 
-pub returns-in-Ok : goal.returns-in-Ok
-returns-in-Ok g c s st =
+pub returns-in-Ok-clause-call : goal.returns-in-Ok-clause-call
+returns-in-Ok-clause-call g c s st =
     let q = rw (← c.self.view_is) at st in
     let e = c.in-Ok.ensures {u = tt} in
     let (x, told, v, more, proof, (w, k)) = e.accepted s (q.fits (ap not c.if-self.false)) in
@@ -65,8 +71,8 @@ returns-in-Ok g c s st =
       },
     )
 
-pub returns-in-Err : goal.returns-in-Err
-returns-in-Err g c s st =
+pub returns-in-Err-clause-call : goal.returns-in-Err-clause-call
+returns-in-Err-clause-call g c s st =
     let q = rw (← c.self.view_is) at st in
     let ok = ap not c.if-self.false in
     let bad : IsExtensible s = record {
@@ -75,8 +81,8 @@ returns-in-Err g c s st =
     } in
     let k = c.accept_clause.ensures.schedule in (
       broken s,
-      subst (λ e. AddsClause s c.args.clause.now (Err e) (broken s)) (sym c.refused.ensures)
-          (adds-broken c.in-Err.error c.is_open-is_open.result s (broken s) c.args.clause.now (open-there _ s.ever_hidden s.told s.proof _ (q.proof (ap not c.if-self.false)) c.is_open-is_open.ensures) bad (may-constrain _ s q (ap not c.if-self.false) c.args.clause.now c.in_ok-check_names.ensures.0 c.in_ok-check_names.ensures.1) (broken-invalid s (stands-valid _ s q (ap not c.if-self.false)) (q.fits (ap not c.if-self.false)).1.well_formed)),
+      subst (λ e. AddsClause s c.args.clause.now (Err e) (broken s)) (sym c.from.ensures)
+          (adds-broken c.in-Err.error s (broken s) c.args.clause.now (λ f. broken-open c.self.inside.tracer.proof c.accept_clause.new.tracer.proof s.ever_hidden s.told s.proof (q.proof ok) (subst (λ n. BreaksProof c.self.inside.tracer.proof n c.accept_clause.new.tracer.proof) f c.in-Err.ensures.broken)) bad (may-constrain _ s q (ap not c.if-self.false) c.args.clause.now c.in_ok-check_names.ensures.0 c.in_ok-check_names.ensures.1) (broken-invalid s (stands-valid _ s q (ap not c.if-self.false)) (q.fits (ap not c.if-self.false)).1.well_formed)),
       record {
         ledger = ledger-is _ _ _ _ _ _ refl (ap (λ (x : Ledger). x.started) q.ledger) (ap (λ (x : Ledger). x.steps) q.ledger ∙ sym (ap (λ (x : Plan). x.steps) k.schedule)) (ap (λ (x : Ledger). x.since) q.ledger ∙ sym (ap (λ (x : Plan). x.steps - c.self.inside.changed_at) k.schedule)) (ap (λ (x : Ledger). x.settings) q.ledger ∙ sym k.solver_config);
         fits = λ e. absurd cc;
@@ -85,16 +91,50 @@ returns-in-Err g c s st =
       },
     )
 
-pub returns-in-Unsat : goal.returns-in-Unsat
-returns-in-Unsat g c s st =
+pub returns-in-Unsat-clause-call : goal.returns-in-Unsat-clause-call
+returns-in-Unsat-clause-call g c s st =
     let q = rw (← c.self.view_is) at st in
-    (count_anew s, (stands-valid _ s q (ap not c.if-self.false), Ignored (unsat-known _ s q (ap not c.if-self.false) c.in-Unsat.is) refl), c.begin_count.ensures s st)
+    (count_anew s, (stands-valid _ s q (ap not c.if-self.false), Ignored (unsat-known _ s q (ap not c.if-self.false) c.in-Unsat.is) refl), c.begin_count.ensures.call s st)
 
-pub returns-then-is_searched : goal.returns-then-is_searched
-returns-then-is_searched g c s st =
+pub returns-then-is_searched-clause-call : goal.returns-then-is_searched-clause-call
+returns-then-is_searched-clause-call g c s st =
     let q = rw (← c.self.view_is) at st in
     let ok = ap not c.if-self.false in (
       s,
       (stands-valid _ s q ok, not-refuted _ s q ok c.in_default.not-Unsat, searched-there _ s.ever_hidden s.told s.proof c.is_searched.result (q.proof ok) c.is_searched.ensures c.if-is_searched.true, refl),
       st,
     )
+
+pub returns-then-self-clause-target : goal.returns-then-self-clause-target
+returns-then-self-clause-target g c = refused-unwritten c.args.self.now.opened Invalid refl
+
+pub returns-in-Unsat-clause-target : goal.returns-in-Unsat-clause-target
+returns-in-Unsat-clause-target g c =
+    subst (WritesAll c.args.self.now.opened) (sym (ap (λ (x : Summary). x.opened) c.begin_count.ensures.rest)) (writes-nothing c.args.self.now.opened)
+
+pub returns-then-is_searched-clause-target : goal.returns-then-is_searched-clause-target
+returns-then-is_searched-clause-target g c = refused-unwritten c.args.self.now.opened ClauseAfterSolve refl
+
+pub returns-in_err-check_names-clause-target : goal.returns-in_err-check_names-clause-target
+returns-in_err-check_names-clause-target g c =
+    let e = c.in_err-check_names.field-0.0 in
+    let refused = told-error c.from_residual.result e c.from_residual.ensures in
+    rw refused (names-unwritten c.args.self.now.opened c.self.inside.tracer.variables c.args.clause.now e c.in_err-check_names.ensures)
+
+pub returns-in-Ok-clause-target : goal.returns-in-Ok-clause-target
+returns-in-Ok-clause-target g c = rw (← c.self.view_is) (tells-writes c.self.inside.tracer.proof c.accept_clause.new.tracer.proof (c.in-Ok.ensures {u = tt}).told)
+
+pub returns-in-Err-clause-target : goal.returns-in-Err-clause-target
+returns-in-Err-clause-target g c =
+    rw (← c.self.view_is) (subst (λ e. WritesUpTo (told_faults e) c.self.inside.tracer.proof.opened c.accept_clause.new.tracer.proof.opened) (sym c.from.ensures)
+    (breaks-writes c.self.inside.tracer.proof c.accept_clause.new.tracer.proof c.in-Err.error c.in-Err.ensures.broken))
+
+pub returns-in_err-check_names-clause-full : goal.returns-in_err-check_names-clause-full
+returns-in_err-check_names-clause-full g c f =
+    let e = c.in_err-check_names.field-0.0 in
+    absurd (names-not-full c.self.inside.tracer.variables c.args.clause.now e c.in_err-check_names.ensures
+    (same-error e ClauseStoreFull (sym (told-error c.from_residual.result e c.from_residual.ensures) ∙ f)))
+
+pub returns-in-Err-clause-full : goal.returns-in-Err-clause-full
+returns-in-Err-clause-full g c f =
+    c.in-Err.ensures.full (refused-full c.in-Err.error (sym c.from.ensures ∙ same-error _ ClauseStoreFull f))

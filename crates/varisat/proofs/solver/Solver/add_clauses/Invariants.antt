@@ -3,10 +3,12 @@ use Rattle.std.proofs.Common.{◌≡◌, ◌++◌, map, Ok}
 use Rattle.varisat.specs.States.{State}
 use Rattle.varisat.specs.Calls.{AddsAll}
 use Rattle.varisat.specs.Summaries.{StandsFor}
+use Rattle.varisat.specs.Targets.{WritesAll}
 use Rattle.varisat.proofs.solver.Solver.add_clauses.Given as goal
 
 abbrev pub invariant-loop-clause : goal.invariant-loop-clause
 invariant-loop-clause g l = record {
+  target : WritesAll l.initial.self.opened l.self.opened;
   so_far : (s : State) → StandsFor l.initial.self s → (t : State) × AddsAll s (map (λ c. c.now) l.yielded) (Ok tt) t × StandsFor l.self t;
   whole : map (λ c. c.now) l.yielded ++ l.clause-iterator ≡ l.fn.formula.clauses;
 }

@@ -1,3 +1,4 @@
+use Rattle.std.proofs.Common.{refl}
 use Rattle.varisat_tracer.specs.Tracing.{parts_of}
 use Rattle.varisat.proofs.SettingsCalls.{stands-anew}
 use Rattle.varisat.proofs.SinceSteps.{since-now}
@@ -8,5 +9,8 @@ invariant_of-self g c v =
     let k = (c.self.invariant v).kept in
     record { kept = k; tells = (c.self.invariant v).tells; stands = (c.self.invariant v).stands; counts = since-now c.steps-self-inside.result c.self.inside.ctx c.steps-self-inside.ensures.steps k.ready c.steps-self-inside.ensures.plan }
 
-pub returns : goal.returns
-returns g c s st = stands-anew (parts_of c.self.inside.tracer) c.self.inside.started c.self.inside.changed_at c.steps-self-inside.result c.self.inside.ctx s c.steps-self-inside.ensures.steps (rw (← c.self.view_is) at st)
+pub returns-clause-call : goal.returns-clause-call
+returns-clause-call g c s st = stands-anew (parts_of c.self.inside.tracer) c.self.inside.started c.self.inside.changed_at c.steps-self-inside.result c.self.inside.ctx s c.steps-self-inside.ensures.steps (rw (← c.self.view_is) at st)
+
+pub returns-clause-rest : goal.returns-clause-rest
+returns-clause-rest g c = rw (← c.self.view_is) refl

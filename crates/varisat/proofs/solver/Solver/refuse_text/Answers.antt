@@ -5,8 +5,8 @@ use Rattle.varisat.specs.Additions.{MemoryFault, Fault}
 use Rattle.varisat.proofs.CallStates.{broken, broken-invalid}
 use Rattle.varisat.proofs.solver.Solver.refuse_text.Goals as goal
 
-pub returns-in-OutOfMemory : goal.returns-in-OutOfMemory
-returns-in-OutOfMemory g c s st v =
+pub returns-in-OutOfMemory-clause-call : goal.returns-in-OutOfMemory-clause-call
+returns-in-OutOfMemory-clause-call g c s st v =
     let q = rw (← c.self.view_is) at st in
     let f = q.fits (sym (ap (λ x. x.valid) q.ledger) ∙ v) in (
       broken s,
@@ -14,5 +14,8 @@ returns-in-OutOfMemory g c s st v =
       record { ledger = ap (λ (x : Ledger). record x { valid = false }) q.ledger; fits = λ e. absurd cc; proof = λ e. absurd cc; flags = λ e. absurd cc },
     )
 
-pub returns : goal.returns
-returns g c s st v = (s, Fault c.args.fault refl c.in_default.not-OutOfMemory refl refl, st)
+pub returns-clause-call : goal.returns-clause-call
+returns-clause-call g c s st v = (s, Fault c.args.fault refl c.in_default.not-OutOfMemory refl refl, st)
+
+pub returns-in-OutOfMemory-clause-same : goal.returns-in-OutOfMemory-clause-same
+returns-in-OutOfMemory-clause-same g c = rw (← c.self.view_is) refl

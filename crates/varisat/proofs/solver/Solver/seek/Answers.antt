@@ -7,10 +7,12 @@ use Rattle.varisat_search.specs.Contexts.{view}
 use Rattle.varisat_schedule.specs.CallSteps.{steps_since}
 use Rattle.varisat.specs.Budgets.{told_verdict, CountsSteps}
 use Rattle.varisat.specs.States.{State, Ledger}
-use Rattle.varisat_tracer.specs.Tracing.{TracerState, parts_of}
+use Rattle.varisat_tracer.specs.Tracing.{TracerState, parts_of, BreaksProof}
 use Rattle.varisat.specs.OpenProofs.{OpenProof, ProofFits, GoesOnWriting}
-use Rattle.varisat.proofs.OpenProofs.{proof-goes-on, open-there}
+use Rattle.varisat.proofs.OpenProofs.{proof-goes-on, open-there, broken-open}
 use Rattle.varisat.specs.Searches.{answer_at, ComesTo, ComesOn, FindsVerdict}
+use Rattle.varisat.specs.Targets.{WritesUpTo}
+use Rattle.varisat.proofs.Targets.{writes-nothing, refused-unwritten, tells-writes, tells-refused, breaks-writes, refused-full, same-error}
 use Rattle.varisat_names.specs.Variables.{Tables}
 use Rattle.varisat_proof.specs.Calls.{CheckerState}
 use Rattle.varisat_proof.specs.Proving.{ProofParts}
@@ -18,13 +20,12 @@ use Rattle.varisat.specs.Spaces.{Spaces, SpacesFit}
 use Rattle.varisat.specs.Summaries.{StandsFor, StandsForSome, spaces_of, spaces_with, undecided_spaces}
 use Rattle.varisat.specs.Calls.{with_steps, Searches, IsInterrupted, TellsVerdict}
 use Rattle.varisat.specs.declared.solver.SolverError.{SolverError}
-use Rattle.varisat.specs.declared.solver.SolverError.TheVariants.{Interrupted}
-use Rattle.varisat.specs.Refusals.{step_refusal}
+use Rattle.varisat.specs.declared.solver.SolverError.TheVariants.{Interrupted, ClauseStoreFull, Invalid}
+use Rattle.varisat.specs.Refusals.{step_refusal, told_faults}
 use Rattle.varisat.proofs.CallStates.{ledger-is, more-since, stands-valid, told-well, broken, broken-invalid, searches-broken}
 use Rattle.varisat.proofs.SettingsCalls.{summary_of}
 use Rattle.varisat.proofs.SolverCalls.{counted-call, was-unknown, sat-model, sat-right, known-told, false-right, false-core, answered-true, answered-false, answered-none}
 use Rattle.varisat.proofs.SolverSteps.{unknown-undecided, after-solve, flags-after, comes-satisfiable, comes-unsatisfiable, comes-fits, comes-verdict, comes-interrupted, interrupted-still}
-use Rattle.varisat.proofs.FindVerdictSteps.{refused-as}
 use Rattle.varisat.proofs.solver.Solver.seek.Given.{Over}
 use Rattle.varisat.proofs.solver.Solver.seek.Goals.{In-Ok-Some, In-Ok-None}
 use Rattle.varisat.proofs.solver.Solver.seek.Goals as goal
@@ -209,14 +210,14 @@ returns-in-Err-clause-call g c s st =
     let was = was-unknown _ s q ok c.in-Unknown.is in
     let n = c.find_verdict.new.ctx.schedule.steps in
     let since = (c.self.invariant c.if-self.false).counts in
-    let counts = counted-call _ s c.max_steps-max_steps.result n (told_verdict c.find_verdict.result) (Err (step_refusal true c.in-Err.error)) q ok c.max_steps-max_steps.ensures (ap told_verdict c.in-Err.is) (λ m h. c.find_verdict.ensures.counted m c.self.inside.changed_at h since) in
+    let counts = counted-call _ s c.max_steps-max_steps.result n (told_verdict c.find_verdict.result) (Err (step_refusal c.in-Err.error)) q ok c.max_steps-max_steps.ensures (ap told_verdict c.in-Err.is) (λ m h. c.find_verdict.ensures.counted m c.self.inside.changed_at h since) in
     let low = since.low in
     let before = ap (λ (x : Ledger). x.since) q.ledger in
     let steps = ap (λ (x : Ledger). x.steps) q.ledger in
     let count = counts.count in (
       broken (with_steps n s),
-      subst (λ e. Searches s (Err e) (broken (with_steps n s))) (sym c.refused.ensures)
-          (searches-broken c.in-Err.error c.is_open-is_open.result s (broken (with_steps n s)) (open-there _ s.ever_hidden s.told s.proof _ (q.proof ok) c.is_open-is_open.ensures) was (refused-as (length s.counted) s.ledger.settings.max_steps s.ledger.since s.ledger.steps n true c.is_open-is_open.result c.in-Err.error counts) (broken-invalid (with_steps n s) (stands-valid _ s q ok) (told-well s (with_steps n s) (q.fits ok).1.well_formed))),
+      subst (λ e. Searches s (Err e) (broken (with_steps n s))) (sym c.from.ensures)
+          (searches-broken c.in-Err.error s (broken (with_steps n s)) (λ f. broken-open c.self.inside.tracer.proof c.find_verdict.new.tracer.proof s.ever_hidden s.told s.proof (q.proof ok) (subst (λ k. BreaksProof c.self.inside.tracer.proof k c.find_verdict.new.tracer.proof) f c.in-Err.ensures.broken)) was counts (broken-invalid (with_steps n s) (stands-valid _ s q ok) (told-well s (with_steps n s) (q.fits ok).1.well_formed))),
       record {
         ledger = ledger-is _ _ _ _ _ _ refl (ap (λ (x : Ledger). x.started) q.ledger) refl (more-since c.self.inside.changed_at s.ledger.steps n s.ledger.since (omega (arith, low, steps)) (omega (arith, count)) (omega (arith, before, steps))) (ap (λ (x : Ledger). x.settings) q.ledger ∙ sym c.find_verdict.ensures.config);
         fits = λ e. absurd cc;
@@ -224,3 +225,49 @@ returns-in-Err-clause-call g c s st =
         flags = λ e. absurd cc;
       },
     )
+
+-- 3. What the target took.
+pub returns-then-self-clause-target : goal.returns-then-self-clause-target
+returns-then-self-clause-target g c = refused-unwritten c.args.self.now.opened Invalid refl
+
+pub returns-then-self-clause-whole : goal.returns-then-self-clause-whole
+returns-then-self-clause-whole g c v = writes-nothing c.args.self.now.opened
+
+pub returns-in-Sat-clause-target : goal.returns-in-Sat-clause-target
+returns-in-Sat-clause-target g c = writes-nothing c.args.self.now.opened
+
+pub returns-in-Sat-clause-whole : goal.returns-in-Sat-clause-whole
+returns-in-Sat-clause-whole g c v = writes-nothing c.args.self.now.opened
+
+pub returns-in-Unsat-clause-target : goal.returns-in-Unsat-clause-target
+returns-in-Unsat-clause-target g c = writes-nothing c.args.self.now.opened
+
+pub returns-in-Unsat-clause-whole : goal.returns-in-Unsat-clause-whole
+returns-in-Unsat-clause-whole g c v = writes-nothing c.args.self.now.opened
+
+pub returns-in-Ok-Some-clause-target : goal.returns-in-Ok-Some-clause-target
+returns-in-Ok-Some-clause-target g c = rw (← c.self.view_is) (tells-writes c.self.inside.tracer.proof c.find_verdict.new.tracer.proof c.in-Ok-Some.ensures.found.told)
+
+pub returns-in-Ok-Some-clause-whole : goal.returns-in-Ok-Some-clause-whole
+returns-in-Ok-Some-clause-whole g c v = rw (← c.self.view_is) (tells-writes c.self.inside.tracer.proof c.find_verdict.new.tracer.proof c.in-Ok-Some.ensures.found.told)
+
+pub returns-in-Ok-None-clause-target : goal.returns-in-Ok-None-clause-target
+returns-in-Ok-None-clause-target g c = rw (← c.self.view_is) (tells-refused c.self.inside.tracer.proof c.find_verdict.new.tracer.proof Interrupted refl c.in-Ok-None.ensures.found.told)
+
+pub returns-in-Ok-None-clause-whole : goal.returns-in-Ok-None-clause-whole
+returns-in-Ok-None-clause-whole g c v = rw (← c.self.view_is) (tells-writes c.self.inside.tracer.proof c.find_verdict.new.tracer.proof c.in-Ok-None.ensures.found.told)
+
+pub returns-in-Err-clause-target : goal.returns-in-Err-clause-target
+returns-in-Err-clause-target g c =
+    rw (← c.self.view_is) (subst (λ e. WritesUpTo (told_faults e) c.self.inside.tracer.proof.opened c.find_verdict.new.tracer.proof.opened) (sym c.from.ensures)
+    (breaks-writes c.self.inside.tracer.proof c.find_verdict.new.tracer.proof c.in-Err.error c.in-Err.ensures.broken))
+
+pub returns-in-Err-clause-full : goal.returns-in-Err-clause-full
+returns-in-Err-clause-full g c f = c.in-Err.ensures.full (refused-full c.in-Err.error (sym c.from.ensures ∙ same-error _ ClauseStoreFull f))
+
+-- 4. Which variables left.
+pub returns-in-Ok-Some-clause-leaves : goal.returns-in-Ok-Some-clause-leaves
+returns-in-Ok-Some-clause-leaves g c h v n = c.in-Ok-Some.ensures.found.leaves (rw (← c.self.view_is) at h) n
+
+pub returns-in-Ok-None-clause-leaves : goal.returns-in-Ok-None-clause-leaves
+returns-in-Ok-None-clause-leaves g c h v n = c.in-Ok-None.ensures.found.leaves (rw (← c.self.view_is) at h) n

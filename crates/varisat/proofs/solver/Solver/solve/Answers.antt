@@ -1,5 +1,8 @@
 -- The proof is marked and flushed behind the steps, or can't be flushed.
-use Rattle.std.proofs.Common.{◌≡◌, true, not, sym, ap, subst}
+use Rattle.std.proofs.Common.{◌≡◌, ◌∙◌, true, not, sym, ap, subst}
+use Rattle.varisat.specs.Dropping.{LeavesInTime}
+use Rattle.varisat.specs.declared.solver.SolverError.TheVariants.{ClauseStoreFull}
+use Rattle.varisat.proofs.Targets.{writes-marked, ends-writing, fails-writing, ends-not-full, still-full, same-error, ends-badly-invalid}
 use Rattle.varisat.specs.Calls.{Solves}
 use Rattle.varisat.specs.ProofCalls.{with_proof}
 use Rattle.varisat.specs.Summaries.{Summary, StandsFor}
@@ -32,3 +35,36 @@ returns-clause-core g c e s st =
     let valid = subst (λ (x : Summary). x.ledger.valid ≡ true) c.self.view_is (ap not c.if-self.false) in
     let (proof, q) = stood-before c.seek-found.new.self s valid (subst (λ (x : Summary). StandsFor x s) c.in_ok-end_search.ensures st) in
     c.seek-found.ensures.core e (with_proof proof s) q
+
+pub returns-then-self-clause-target : goal.returns-then-self-clause-target
+returns-then-self-clause-target g c = writes-marked c.args.self.now.opened c.seek-found.new.self.opened c.seek-found.result c.seek-found.ensures.target
+
+pub returns-in_err-end_search-clause-target : goal.returns-in_err-end_search-clause-target
+returns-in_err-end_search-clause-target g c =
+    let e = c.in_err-end_search.field-0.0 in
+    let valid = subst (λ (x : Summary). x.ledger.valid ≡ true) c.self.view_is (ap not c.if-self.false) in
+    let refused = told-error c.from_residual.result e c.from_residual.ensures in
+    rw refused (fails-writing c.args.self.now.opened c.seek-found.new.self c.end_search.new.self e (c.seek-found.ensures.whole valid) c.in_err-end_search.ensures)
+
+pub returns-clause-target : goal.returns-clause-target
+returns-clause-target g c =
+    ends-writing c.args.self.now.opened c.seek-found.new.self c.end_search.new.self c.seek-found.result c.seek-found.ensures.target c.in_ok-end_search.ensures
+
+pub returns-in_err-end_search-clause-full : goal.returns-in_err-end_search-clause-full
+returns-in_err-end_search-clause-full g c f =
+    let e = c.in_err-end_search.field-0.0 in
+    absurd (ends-not-full c.seek-found.new.self c.end_search.new.self e c.in_err-end_search.ensures
+    (same-error e ClauseStoreFull (sym (told-error c.from_residual.result e c.from_residual.ensures) ∙ f)))
+
+pub returns-clause-full : goal.returns-clause-full
+returns-clause-full g c f = still-full c.seek-found.new.self c.end_search.new.self c.in_ok-end_search.ensures (c.seek-found.ensures.full f)
+
+pub returns-in_err-end_search-clause-leaves : goal.returns-in_err-end_search-clause-leaves
+returns-in_err-end_search-clause-leaves g c h v n =
+    absurd (ends-badly-invalid c.seek-found.new.self c.end_search.new.self c.in_err-end_search.field-0.0 c.in_err-end_search.ensures v)
+
+pub returns-clause-leaves : goal.returns-clause-leaves
+returns-clause-leaves g c h v n =
+    let valid = subst (λ (x : Summary). x.ledger.valid ≡ true) c.self.view_is (ap not c.if-self.false) in
+    let e = c.in_ok-end_search.ensures in
+    subst (λ (x : Summary). LeavesInTime x.tables x.search) (sym e) (c.seek-found.ensures.leaves h valid (λ u. n (ap (λ (x : Summary). x.sat_state) e ∙ u)))

@@ -54,6 +54,7 @@ pub mod SearchHeld
 pub mod SearchVerdicts
 pub mod LeavesInTime
 pub mod SearchViews
+pub mod SelfChecking
 pub mod SettingsCalls
 pub mod ShownStates
 pub mod ShownInTurn

@@ -23,6 +23,13 @@ OpensProof taken target format s (Err (ProofOpen, back)) t = (back ≡ target) �
 OpensProof taken target format s (Err (ProofTooLate, back)) t = (back ≡ target) × IsValid s × (s.proof ≡ None) × (s.ledger.started ≡ true) × (t ≡ s)
 OpensProof taken target format s (Err _) t = ⊥
 
+-- Self checking is switched on before anything is accepted, or was so before. A user knows no more of the solver by it.
+abbrev pub EnablesChecking : State → Result (Unit {0}) SolverError → State → Type 0
+EnablesChecking s (Ok _) t = IsValid s × (s.ledger.started ≡ false) × (t ≡ count_anew s)
+EnablesChecking s (Err Invalid) t = IsRefusedInvalid s t
+EnablesChecking s (Err ProofTooLate) t = IsValid s × (s.ledger.started ≡ true) × (t ≡ s)
+EnablesChecking s (Err _) t = ⊥
+
 -- The bytes of an open proof are those of lines. As long as nothing was ever hidden these are a derivation from the accepted
 -- clauses, and they refute them where the answer of `solve` is false.
 abbrev pub HasProof : State → Type 0

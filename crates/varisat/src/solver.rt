@@ -18,6 +18,7 @@ use varisat_literals::{Lit, Var};
 use varisat_names::config::{ConfigField, SolverConfigUpdate};
 use varisat_names::variables::LinkedVariables;
 use varisat_names::variables::data::SamplingMode;
+use varisat_proof::checker::Checker;
 pub use varisat_proof::proof::ProofFormat;
 use varisat_proof::proof::{close_proof, solve_finished, take_target};
 use varisat_search::assumptions::copied;
@@ -191,7 +192,7 @@ impl<W: ProofTarget, A: Allocator + Copy> Model for Solver<W, A> {
 
 impl<W: ProofTarget, A: Allocator + Copy> Solver<W, A> {
     ghost use Rattle.std.specs.Prelude.{◌≡◌, ◌≢◌, ◌-◌, ◌<◌, ◌^◌, Ok, Err, Some, None, true, false, List, ℕ};
-    ghost use Rattle.std.specs.Prelude.{map};
+    ghost use Rattle.std.specs.Prelude.{map, IsSome, option_copied};
     ghost use Rattle.varisat_theory.specs.Literals.{IsSatisfiableWith, IsFailedCore};
     ghost use Rattle.varisat_formula.specs.Rest.{Progress, IsEnding};
     ghost use Rattle.varisat.specs.States.{State, empty_state};
@@ -207,7 +208,7 @@ impl<W: ProofTarget, A: Allocator + Copy> Solver<W, A> {
     ghost use Rattle.varisat.specs.Dropping.{LeavesInTime};
     ghost use Rattle.varisat.specs.OpenProofs.{IsDrat};
     ghost use Rattle.varisat_proof.specs.Proving.{IsClosed};
-    ghost use Rattle.varisat.specs.ProofCalls.{OpensProof, ClosesProof};
+    ghost use Rattle.varisat.specs.ProofCalls.{OpensProof, EnablesChecking, ClosesProof};
 
     /// A solver with no clause. It takes no memory.
     pub fn new_in(alloc: A) -> Self
@@ -467,6 +468,33 @@ impl<W: ProofTarget, A: Allocator + Copy> Solver<W, A> {
         self.tracer.proof.write_proof(target, format);
         self.changed_at = self.ctx.schedule.steps();
         Ok(())
+    }
+
+    /// Has a checker run inside the solver from here on: it takes each accepted clause and each step, and checks it. That it
+    /// finds a step wrong can't happen, so there is no such error; out of memory in it makes the solver invalid. It takes
+    /// no memory itself. Refused in an invalid solver, and once a clause, a variable or a list of assumptions was
+    /// accepted: then nothing changes. Where a checker runs already, that one goes on.
+    pub fn enable_self_checking(&mut self) -> Result<(), SolverError>
+        ensures call { (s : State) → StandsFor self.old s → (t : State) × EnablesChecking s result t × StandsFor self.new t }
+        ensures runs { result ≡ Ok tt → IsSome self.new.checker }
+    {
+        if self.ctx.solver_state.state_is_invalid {
+            return Err(SolverError::Invalid);
+        }
+        let is_late = self.started;
+        if is_late {
+            return Err(SolverError::ProofTooLate);
+        }
+        self.tracer.proof.begin_checking(self.alloc);
+        self.changed_at = self.ctx.schedule.steps();
+        Ok(())
+    }
+
+    /// The checker that runs inside, to be looked at.
+    pub fn checker(&self) -> Option<&Checker<A>>
+        ensures { option_copied result ≡ self.now.checker }
+    {
+        self.tracer.proof.checker()
     }
 
     /// Closes the proof, if one is open: flushes its target and hands it back, also where that fails, which makes the

@@ -2,6 +2,7 @@
 
 mod assumptions;
 mod calls;
+mod checking;
 mod lines;
 mod memory;
 mod modes;

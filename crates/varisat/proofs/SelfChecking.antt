@@ -1,0 +1,55 @@
+-- A checker begins to run inside the solver, where nothing was accepted, or the one that runs goes on.
+use Rattle.std.proofs.Common.{◌≡◌, ℕ, Bool, true, false, Option, Some, None, [], ◌⊎◌, inl, inr, sym, ap, subst, refl}
+use Rattle.std.specs.Option.{IsSome, is_some}
+use Rattle.varisat_names.specs.Variables.{Tables}
+use Rattle.varisat_proof.specs.Calls.{CheckerState}
+use Rattle.varisat_proof.specs.Proving.{OpenState, ProofParts}
+use Rattle.varisat_tracer.specs.Tracing.{CanTell}
+use Rattle.varisat_search.specs.declared.context.Context.{Context}
+use Rattle.varisat.specs.States.{State}
+use Rattle.varisat.specs.Spaces.{Links, SpacesFit}
+use Rattle.varisat.specs.Calls.{count_anew}
+use Rattle.varisat.specs.OpenProofs.{ProofFits}
+use Rattle.varisat.specs.Summaries.{spaces_with, StandsForSome, StandsFor}
+use Rattle.varisat.proofs.SettingsCalls.{summary_of, stands-anew}
+use Rattle.varisat.proofs.ToldJournals.{checking-begins}
+
+-- the parts with a checker that has no clauses yet, or the same parts
+abbrev pub Checks : ProofParts → ProofParts → Type 0
+Checks p q = (q ≡ record p { checker = Some (record { clauses = []; spent = false }) }) ⊎ (q ≡ p)
+
+-- so it is, by whether a checker runs, and one does afterwards
+pub begun-or-on : (p q : ProofParts) → (p.checker ≡ None → q ≡ record p { checker = Some (record { clauses = []; spent = false }) }) → (is_some p.checker ≡ true → q ≡ p) → Checks p q × IsSome q.checker
+begun-or-on p q begun stays = go p.checker refl
+  where
+    go : (o : Option CheckerState) → p.checker ≡ o → Checks p q × IsSome q.checker
+    go None e = let b = begun e in (inl b, subst (λ (r : ProofParts). IsSome r.checker) (sym b) refl)
+    go (Some c) e = let b = stays (ap is_some e) in (inr b, subst (λ (r : ProofParts). IsSome r.checker) (sym b) (subst IsSome (sym e) refl))
+
+-- An open proof stays, and a checker that just began can be used.
+same-opened : (p q : ProofParts) → Checks p q → q.opened ≡ p.opened
+same-opened p q (inl e) = ap (λ (r : ProofParts). r.opened) e
+same-opened p q (inr e) = ap (λ (r : ProofParts). r.opened) e
+
+pub tells-checking : (p q : ProofParts) → Checks p q → CanTell p → CanTell q
+tells-checking p q (inl e) t = subst CanTell (sym e) (record { room = t.room; usable = refl })
+tells-checking p q (inr e) t = subst CanTell (sym e) t
+
+-- What the solver holds stands for the same states.
+pub spaces-checking : {A : Type 0} (tables : Tables) (p q : ProofParts) (x : Context A) (s : State) → Checks p q → s.clauses ≡ [] → s.counted ≡ [] → SpacesFit (spaces_with tables p.checker x) s → SpacesFit (spaces_with tables q.checker x) s
+spaces-checking tables p q x s (inl e) none few (w, k) =
+    (w, subst (λ (r : ProofParts). Links w (spaces_with tables r.checker x) s) (sym e) (checking-begins w (spaces_with tables p.checker x) s k none few))
+spaces-checking tables p q x s (inr e) none few fit = subst (λ (r : ProofParts). SpacesFit (spaces_with tables r.checker x) s) (sym e) fit
+
+pub some-checking : {A : Type 0} (tables : Tables) (p q : ProofParts) (x : Context A) (started : Bool) → Checks p q → started ≡ false → StandsForSome (spaces_with tables p.checker x) started → StandsForSome (spaces_with tables q.checker x) started
+some-checking tables p q x started e fresh (s, fit, f) = let (none, few) = f fresh in (s, spaces-checking tables p q x s e none few fit, f)
+
+pub stands-checking : {A : Type 0} (tables : Tables) (p q : ProofParts) (started : Bool) (changed_at anew : ℕ) (x : Context A) (s : State) → anew ≡ x.schedule.steps → Checks p q → s.ledger.started ≡ false → StandsFor (summary_of (record { tables = tables; proof = p }) started changed_at x) s → StandsFor (summary_of (record { tables = tables; proof = q }) started anew x) (count_anew s)
+stands-checking tables p q started changed_at anew x s n e fresh st =
+    let t = stands-anew (record { tables = tables; proof = p }) started changed_at anew x s n st in
+    record {
+      ledger = t.ledger;
+      fits = λ v. let f = t.flags v in spaces-checking tables p q x (count_anew s) e (f.clauses fresh) (f.counted fresh) (t.fits v);
+      proof = λ v. subst (λ (o : Option OpenState). ProofFits o s.ever_hidden s.told s.proof) (sym (same-opened p q e)) (t.proof v);
+      flags = t.flags;
+    }

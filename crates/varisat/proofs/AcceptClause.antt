@@ -55,12 +55,15 @@ with_tables t g = record g { tables = t }
 
 -- 1. Names.
 
-pub given-spaces : (g : Summary) (s : State) (new : Tables) (u x : ℕ) → SpacesFit (spaces g) s → at g.tables.users.forward u ≡ None → IsGiven g.tables new u x → SpacesFit (spaces (with_tables new g)) (with_naming (bring u s.naming) s)
+pub given-spaces : (g : Summary) (s : State) (new : Tables) (u x : ℕ) → SpacesFit (spaces g) s → at g.tables.users.forward u ≡ None →
+    IsGiven g.tables new u x → SpacesFit (spaces (with_tables new g)) (with_naming (bring u s.naming) s)
 given-spaces g s new u x (w, k) free n =
     let p = spaces g in
     let q = spaces (with_tables new g) in
     let f = assignment_of g.search in
-    let unsolved : at g.tables.solvers.forward x ≡ None = ⊎_elim (λ e. e) (λ (v, e). let (i, r, m) = k.solvers.live v x (k.solvers.one_to_one.there x v e) in let z : true ≡ false = sym n.unused.0 ∙ k.identities.live x i r in absurd cc) (is-some (at g.tables.solvers.forward x)) in
+    let unsolved : at g.tables.solvers.forward x ≡ None = ⊎_elim (λ e. e)
+    (λ (v, e). let (i, r, m) = k.solvers.live v x (k.solvers.one_to_one.there x v e) in let z : true ≡ false = sym n.unused.0
+    ∙ k.identities.live x i r in absurd cc) (is-some (at g.tables.solvers.forward x)) in
     let solver = λ (y : ℕ). ap (λ m. at m.forward y) n.solvers in
     maps-same (give u x p) q (with_naming (bring u s.naming) s) (record {
       global_from_user = n.users.forward.at_each;
@@ -71,17 +74,21 @@ given-spaces g s new u x (w, k) free n =
       global_from_solver = λ v. ap (λ m. at m.backward v) n.solvers;
       kept = n.kept.at_each;
       model = λ a e y. updated-all (λ y b. value_or (kept_at new.kept y).unit f (at new.solvers.forward y) ≡ b) p.model x false
-          (ap (λ d. value_or d.unit f (at new.solvers.forward x)) (n.kept.at_each x ∙ updated-at (kept_at g.tables.kept) x fresh) ∙ ap (value_or None f) (solver x ∙ unsolved))
+          (ap (λ d. value_or d.unit f (at new.solvers.forward x)) (n.kept.at_each x ∙ updated-at (kept_at g.tables.kept) x fresh)
+          ∙ ap (value_or None f) (solver x ∙ unsolved))
           y
-          (λ m. ap (λ d. value_or d.unit f (at new.solvers.forward y)) (n.kept.at_each y ∙ updated-other (kept_at g.tables.kept) x fresh y m) ∙ ap (value_or (kept_at g.tables.kept y).unit f) (solver y));
+          (λ m. ap (λ d. value_or d.unit f (at new.solvers.forward y)) (n.kept.at_each y ∙ updated-other (kept_at g.tables.kept) x fresh y m)
+          ∙ ap (value_or (kept_at g.tables.kept y).unit f) (solver y));
     }) refl (given w p s u x k free n.unused.0 n.unused.1)
 
-pub next-spaces : (k : ℕ) (g : Summary) (s : State) (new : Tables) → SpacesFit (spaces g) s → AreNextGiven k g.tables new → SpacesFit (spaces (with_tables new g)) (with_naming (bring_next k s.naming) s)
+pub next-spaces : (k : ℕ) (g : Summary) (s : State) (new : Tables) → SpacesFit (spaces g) s → AreNextGiven k g.tables new →
+    SpacesFit (spaces (with_tables new g)) (with_naming (bring_next k s.naming) s)
 next-spaces zero g s new f e = subst (λ t. SpacesFit (spaces (with_tables t g)) s) (sym e) f
 next-spaces (suc k) g s new f (mid, x, n, rest) =
     let u = f.1.watermark in
     next-spaces k (with_tables mid g) (with_naming (bring s.naming.watermark s.naming) s) new
-    (subst (λ v. SpacesFit (spaces (with_tables mid g)) (with_naming (bring v s.naming) s)) (sym u) (given-spaces g s mid (length g.tables.users.forward) x f (f.1.names.free (length g.tables.users.forward) (omega (arith, u))) n))
+    (subst (λ v. SpacesFit (spaces (with_tables mid g)) (with_naming (bring v s.naming) s)) (sym u)
+    (given-spaces g s mid (length g.tables.users.forward) x f (f.1.names.free (length g.tables.users.forward) (omega (arith, u))) n))
     rest
 
 not-below : (a b : ℕ) → b ≤ a → nat_lt a b ≡ false
@@ -96,7 +103,8 @@ pub name-above : (u : ℕ) (m : Naming) → m.watermark ≤ u → name_one u m �
 name-above u m h = ap (λ c. if c then bring_if_free u (m.names u) m else bring_next (suc u - m.watermark) m) (not-below u m.watermark h)
 
 -- a name is named: it was in use, or comes into use alone, or with those from the watermark up to it
-pub named-one : (g : Summary) (s : State) (new : Tables) (u : ℕ) → SpacesFit (spaces g) s → IsNamed u g.tables new → SpacesFit (spaces (with_tables new g)) (with_naming (name_one u s.naming) s)
+pub named-one : (g : Summary) (s : State) (new : Tables) (u : ℕ) → SpacesFit (spaces g) s → IsNamed u g.tables new →
+    SpacesFit (spaces (with_tables new g)) (with_naming (name_one u s.naming) s)
 named-one g s new u f (InUse x e same) =
     let (w, k) = f in
     let m = k.watermark in
@@ -122,7 +130,9 @@ named-one g s new u f (Above b e) =
 abbrev pub HasNoModel : Summary → Type 0
 HasNoModel g = (a : Assignment) → (spaces g).outcome ≡ outcome.Sat a → ⊥
 
-pub taken-one : (g : Summary) (s : State) (new : Tables) (x v i : ℕ) → (w : Carrying) → Links w (spaces g) s → HasNoModel g → (kept_at g.tables.kept x).unit ≡ None → w.identity x ≡ Some i → i ∈ s.counted → at g.tables.solvers.forward x ≡ None → IsTaken g.tables new x v → SpacesFit (spaces (with_tables new g)) s
+pub taken-one : (g : Summary) (s : State) (new : Tables) (x v i : ℕ) → (w : Carrying) → Links w (spaces g) s → HasNoModel g →
+    (kept_at g.tables.kept x).unit ≡ None → w.identity x ≡ Some i → i ∈ s.counted → at g.tables.solvers.forward x ≡ None →
+    IsTaken g.tables new x v → SpacesFit (spaces (with_tables new g)) s
 taken-one g s new x v i w k none n is spoken free t =
     maps-same (take_solver x v (spaces g)) (spaces (with_tables new g)) s (record {
       global_from_user = λ u. ap (λ m. at m.forward u) t.users;
@@ -137,13 +147,15 @@ taken-one g s new x v i w k none n is spoken free t =
 
 -- 3. Another view of the same search.
 
-pub outcome-alike : (s t : View) (core : List Literal) (sat : SatState) → ((a : Assignment) → outcome_of s core sat ≡ outcome.Sat a → ⊥) → outcome_of t core sat ≡ outcome_of s core sat
+pub outcome-alike : (s t : View) (core : List Literal) (sat : SatState) → ((a : Assignment) → outcome_of s core sat ≡ outcome.Sat a → ⊥) →
+    outcome_of t core sat ≡ outcome_of s core sat
 outcome-alike s t core verdict.Unknown n = refl
 outcome-alike s t core verdict.Sat n = absurd (n (assignment_of s) refl)
 outcome-alike s t core verdict.Unsat n = refl
 outcome-alike s t core verdict.UnsatUnderAssumptions n = refl
 
-pub raised : (g : Summary) (s : State) (t : View) → SpacesFit (spaces g) s → HasNoModel g → search_of t ≡ search_of g.search → length t.values ≤ length s.counted → SpacesFit (spaces (record g { search = t })) s
+pub raised : (g : Summary) (s : State) (t : View) → SpacesFit (spaces g) s → HasNoModel g → search_of t ≡ search_of g.search →
+    length t.values ≤ length s.counted → SpacesFit (spaces (record g { search = t })) s
 raised g s t (w, k) none seen few =
     let p = spaces g in
     let q = spaces (record g { search = t }) in
@@ -151,10 +163,12 @@ raised g s t (w, k) none seen few =
       w,
       relinked w p q s s k (record {
         solvers = k.solvers;
-        holds = subst (λ y. SearchHolds s.clauses (translation w p s.told) (search_of t) (without_core y)) (sym o) (subst (λ y. SearchHolds s.clauses (translation w p s.told) y (without_core p.outcome)) (sym seen) k.holds);
+        holds = subst (λ y. SearchHolds s.clauses (translation w p s.told) (search_of t) (without_core y)) (sym o)
+            (subst (λ y. SearchHolds s.clauses (translation w p s.told) y (without_core p.outcome)) (sym seen) k.holds);
         assumptions = k.assumptions;
         working = k.working;
-        verdict = subst (λ y. VerdictFits w.identity q.model y s.verdict) (sym o) (model-same w.identity p.model q.model p.outcome s.verdict (λ a e. absurd (none a e)) k.verdict);
+        verdict = subst (λ y. VerdictFits w.identity q.model y s.verdict) (sym o)
+            (model-same w.identity p.model q.model p.outcome s.verdict (λ a e. absurd (none a e)) k.verdict);
         core = k.core;
         right = k.right;
         few = few;
@@ -168,15 +182,43 @@ raised g s t (w, k) none seen few =
 -- the flags do not matter
 pub ledger-free : (w : Carrying) (p : Spaces) (s : State) (l : Ledger) → Links w p s → Links w p (record s { ledger = l })
 ledger-free w p s l k =
-    relinked w p p s (record s { ledger = l }) k (record { solvers = k.solvers; holds = k.holds; assumptions = k.assumptions; working = k.working; verdict = k.verdict; core = k.core; right = k.right; few = k.few; told = k.told; checked = k.checked })
+    relinked w p p s (record s { ledger = l }) k
+    (record {
+      solvers = k.solvers;
+      holds = k.holds;
+      assumptions = k.assumptions;
+      working = k.working;
+      verdict = k.verdict;
+      core =
+          k.core;
+      right = k.right;
+      few = k.few;
+      told = k.told;
+      checked = k.checked;
+    })
 
 -- nor does the open proof
 pub proof-free : (w : Carrying) (p : Spaces) (s : State) (proof : Option OpenProof) → Links w p s → Links w p (record s { proof = proof })
 proof-free w p s proof k =
-    relinked w p p s (record s { proof = proof }) k (record { solvers = k.solvers; holds = k.holds; assumptions = k.assumptions; working = k.working; verdict = k.verdict; core = k.core; right = k.right; few = k.few; told = k.told; checked = k.checked })
+    relinked w p p s (record s { proof = proof }) k
+    (record {
+      solvers = k.solvers;
+      holds = k.holds;
+      assumptions = k.assumptions;
+      working = k.working;
+      verdict = k.verdict;
+      core =
+          k.core;
+      right = k.right;
+      few = k.few;
+      told = k.told;
+      checked = k.checked;
+    })
 
 -- the names of a clause that are in use are counted with it
-pub counted-spaces : (g : Summary) (s : State) (d : Clause) → SpacesFit (spaces g) s → ((l : Literal) → l ∈ d → (x : ℕ) × (at g.tables.users.forward (variable_of l) ≡ Some x)) → SpacesFit (spaces g) (count (join_counted s.counted (map variable_of (map (through_names s.naming) d))) s)
+pub counted-spaces : (g : Summary) (s : State) (d : Clause) → SpacesFit (spaces g) s →
+    ((l : Literal) → l ∈ d → (x : ℕ) × (at g.tables.users.forward (variable_of l) ≡ Some x)) →
+    SpacesFit (spaces g) (count (join_counted s.counted (map variable_of (map (through_names s.naming) d))) s)
 counted-spaces g s d (w, k) named =
     let is = map variable_of (map (through_names s.naming) d) in (
       w,
@@ -195,16 +237,19 @@ counted-spaces g s d (w, k) named =
 -- 5. The clause.
 
 -- under Unsat alone the state's verdict is Unsat
-fits-unsat : (search : View) (core : List Literal) (sat : SatState) (id : ℕ → Option ℕ) (m : ℕ → Bool) → VerdictFits id m (outcome_of search core sat) Unsat → sat ≡ verdict.Unsat
+fits-unsat : (search : View) (core : List Literal) (sat : SatState) (id : ℕ → Option ℕ) (m : ℕ → Bool) →
+    VerdictFits id m (outcome_of search core sat) Unsat → sat ≡ verdict.Unsat
 fits-unsat search core verdict.Unknown id m f = absurd f
 fits-unsat search core verdict.Sat id m f = absurd f
 fits-unsat search core verdict.Unsat id m f = refl
 fits-unsat search core verdict.UnsatUnderAssumptions id m f = absurd f
 
-not-unsat : (search : View) (core : List Literal) (sat : SatState) (id : ℕ → Option ℕ) (m : ℕ → Bool) (v : Verdict) → sat ≢ verdict.Unsat → VerdictFits id m (outcome_of search core sat) v → v ≢ Unsat
+not-unsat : (search : View) (core : List Literal) (sat : SatState) (id : ℕ → Option ℕ) (m : ℕ → Bool) (v : Verdict) → sat ≢ verdict.Unsat →
+    VerdictFits id m (outcome_of search core sat) v → v ≢ Unsat
 not-unsat search core sat id m v o f e = o (fits-unsat search core sat id m (subst (VerdictFits id m (outcome_of search core sat)) e f))
 
-reopens : (search : View) (core : List Literal) (sat : SatState) (id : ℕ → Option ℕ) (m : ℕ → Bool) (v : Verdict) → verdict.Unknown ≡ reopened_state sat → VerdictFits id m (outcome_of search core sat) v → reopened_verdict v ≡ Unknown
+reopens : (search : View) (core : List Literal) (sat : SatState) (id : ℕ → Option ℕ) (m : ℕ → Bool) (v : Verdict) →
+    verdict.Unknown ≡ reopened_state sat → VerdictFits id m (outcome_of search core sat) v → reopened_verdict v ≡ Unknown
 reopens search core verdict.Unknown id m Unknown e f = refl
 reopens search core verdict.Unknown id m (Sat a) e f = absurd f
 reopens search core verdict.Unknown id m Unsat e f = absurd f
@@ -231,7 +276,9 @@ no-sat verdict.UnsatUnderAssumptions (inl e) = cc
 
 -- What loading a clause makes of a verdict v, where x was found with the verdict forgotten: a core stays one.
 module _ (w : Carrying) (p : Spaces) (s : State) (c : Clause) (new old : View) (found core : List Literal) (id : ℕ → Option ℕ) (m : ℕ → Bool) where
-  pub settled : (sat after : SatState) (v x : Verdict) → Links w (record p { outcome = loaded_outcome after }) (accept c x s) → VerdictAfter s.clauses c Unknown x → VerdictFits id m (outcome_of old core sat) v → (after ≡ reopened_state sat) ⊎ (after ≡ verdict.Unsat) → CoreFits s.naming.names p.core v → IsRight s.clauses s.assumptions s.counted v →
+  pub settled : (sat after : SatState) (v x : Verdict) → Links w (record p { outcome = loaded_outcome after }) (accept c x s) →
+      VerdictAfter s.clauses c Unknown x → VerdictFits id m (outcome_of old core sat) v → (after ≡ reopened_state sat) ⊎ (after ≡ verdict.Unsat) →
+      CoreFits s.naming.names p.core v → IsRight s.clauses s.assumptions s.counted v →
       (y : Verdict) × VerdictAfter s.clauses c v y × Links w (record p { outcome = outcome_of new found after }) (accept c y s)
   settled sat verdict.Unknown v Unknown k (Refuted q b) f e t r = absurd cc
   settled sat verdict.Unknown v Unknown k (Reopened q b) f (inl e) t r = (Unknown, Reopened (sym (reopens old core sat id m v e f)) b, k)
@@ -252,7 +299,8 @@ module _ (w : Carrying) (p : Spaces) (s : State) (c : Clause) (new old : View) (
         Reopened (sym (ap reopened_verdict z)) b,
         core-known w (record p { outcome = outcome.Unknown }) (accept c Unknown s) found d k refl (subst (CoreFits s.naming.names p.core) z t)
             (subst (VerdictFits id m (outcome.UnsatUnder core)) z (subst (λ y. VerdictFits id m (outcome_of old core y) v) (keeps-core sat e) f))
-            (core_stays s.clauses (s.clauses ++ c ∷ []) s.assumptions d (λ x h. ∈-append_left x s.clauses (c ∷ []) h) (subst (IsRight s.clauses s.assumptions s.counted) z r)),
+            (core_stays s.clauses (s.clauses ++ c ∷ []) s.assumptions d (λ x h. ∈-append_left x s.clauses (c ∷ []) h)
+            (subst (IsRight s.clauses s.assumptions s.counted) z r)),
       )
   settled sat verdict.UnsatUnderAssumptions v Unknown k (Reopened q b) f (inr e) t r = absurd cc
   settled sat verdict.UnsatUnderAssumptions v (Sat a) k q f e t r = absurd k.verdict
@@ -279,13 +327,22 @@ pub record Steps (g : Summary) (d : Clause) (joined : Tables) (new : View) (part
   pub well_new : WellFormed new
   pub in_use : (l : Literal) → IsLiteralOf (search_of new) l → (x : ℕ) × (at g.tables.solvers.backward (variable_of l) ≡ Some x)
   pub lines : List Line
-  pub loads : Loads (search_of g.search) (search_of new) (map (carry (chain (at joined.users.forward) (at joined.solvers.forward))) d) (loaded_outcome after) lines
+  pub loads : Loads (search_of g.search) (search_of new) (map (carry (chain (at joined.users.forward) (at joined.solvers.forward))) d)
+      (loaded_outcome after) lines
   pub verdict : (after ≡ reopened_state g.sat_state) ⊎ (after ≡ verdict.Unsat)
   pub parts_stay : parts ≡ record g.assumed { levels = 0 }
 
 -- the identities of the clause are counted before it is loaded
-pub clause-accepted : (g : Summary) (n : State) (d : Clause) (joined : Tables) (new : View) (parts : AssumptionParts) (after : SatState) (checker : Option CheckerState) (t : Steps g d joined new parts after) → IsCheckedIf g.checker (told_as (global_literal g.tables) (Accepts (map (carry (chain (at joined.users.forward) (at joined.solvers.forward))) d) ∷ written t.lines)) checker → SpacesFit (spaces g) (count (join_counted n.counted (map variable_of (map (through_names n.naming) d))) n) →
-    (x : Verdict) × (told : List Entry) × VerdictAfter n.clauses (map (through_names n.naming) d) n.verdict x × TellsStaying 0 (n.told ++ Accepts (map (through_names n.naming) d) ∷ []) told × (n.ever_hidden ≡ false → told ≡ n.told ++ told_as (global_literal g.tables) (Accepts (map (carry (chain (at joined.users.forward) (at joined.solvers.forward))) d) ∷ written t.lines)) × SpacesFit (spaces_of joined checker new parts after) (retold told (append_clause (map (through_names n.naming) d) x n))
+pub clause-accepted : (g : Summary) (n : State) (d : Clause) (joined : Tables) (new : View) (parts : AssumptionParts) (after : SatState)
+    (checker : Option CheckerState) (t : Steps g d joined new parts after) →
+    IsCheckedIf g.checker (told_as (global_literal g.tables)
+    (Accepts (map (carry (chain (at joined.users.forward) (at joined.solvers.forward))) d) ∷ written t.lines)) checker →
+    SpacesFit (spaces g) (count (join_counted n.counted (map variable_of (map (through_names n.naming) d))) n) →
+    (x : Verdict) × (told : List Entry) × VerdictAfter n.clauses (map (through_names n.naming) d) n.verdict x
+    × TellsStaying 0 (n.told ++ Accepts (map (through_names n.naming) d) ∷ []) told
+    × (n.ever_hidden ≡ false → told ≡ n.told ++ told_as (global_literal g.tables)
+    (Accepts (map (carry (chain (at joined.users.forward) (at joined.solvers.forward))) d) ∷ written t.lines))
+    × SpacesFit (spaces_of joined checker new parts after) (retold told (append_clause (map (through_names n.naming) d) x n))
 clause-accepted g n d joined new parts after checker t checks (w1, k1) =
     let c = map (through_names n.naming) d in
     let p1 = spaces g in
@@ -296,14 +353,18 @@ clause-accepted g n d joined new parts after checker t checks (w1, k1) =
     let k5 : Links w1 (spaces g2) s3 = forgotten w1 p1 n1 k1 bad in
     let p = spaces g2 in
     let j = t.are_joined in
-    let same-literals : map (carry (chain (at joined.users.forward) (at joined.solvers.forward))) d ≡ map (solver_literal p) d = ap₂ (λ (a b : BiMap). map (carry (chain (at a.forward) (at b.forward))) d) j.users j.solvers in
+    let same-literals : map (carry (chain (at joined.users.forward) (at joined.solvers.forward))) d ≡ map (solver_literal p) d =
+    ap₂ (λ (a b : BiMap). map (carry (chain (at a.forward) (at b.forward))) d) j.users j.solvers in
     let q = spaces_of joined checker new parts after in
     let (x, told, v, more, plain, k6) = loaded w1 p s3 d k5 t.all (kept_at joined.kept)
     (record { rest = j.rest; fallen = j.fallen; wide = λ wide l x h e. j.joined (several d wide) l x h e })
-    (search_of new) (loaded_outcome after) q.model checker t.lines (subst (λ e. IsCheckedIf g.checker (told_as (global_literal g.tables) (Accepts e ∷ written t.lines)) checker) same-literals checks) refl (view-long g.search t.well_before) (view-long new t.well_new) t.in_use
+    (search_of new) (loaded_outcome after) q.model checker t.lines
+    (subst (λ e. IsCheckedIf g.checker (told_as (global_literal g.tables) (Accepts e ∷ written t.lines)) checker) same-literals checks) refl
+    (view-long g.search t.well_before) (view-long new t.well_new) t.in_use
     (subst (λ e. Loads (search_of g.search) (search_of new) e (loaded_outcome after) t.lines) same-literals t.loads) in
     let p6 = record p { kept = kept_at joined.kept; search = search_of new; model = q.model; checker = checker } in
-    let (y, u, k7) = settled w1 p6 (retold told s3) c new g.search parts.failed_core g.assumed.failed_core w1.identity p1.model g.sat_state after n.verdict x k6 v k1.verdict t.verdict k1.core k1.right in (
+    let (y, u, k7) = settled w1 p6 (retold told s3) c new g.search parts.failed_core g.assumed.failed_core w1.identity p1.model g.sat_state after
+    n.verdict x k6 v k1.verdict t.verdict k1.core k1.right in (
       y,
       told,
       u,

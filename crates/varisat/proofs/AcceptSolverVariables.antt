@@ -27,7 +27,8 @@ use Rattle.varisat.proofs.NewNames.{linked}
 use Rattle.varisat.proofs.SearchLinks.{relinked}
 
 -- no two solver variables stand for one identity
-pub one-solver : (w : Carrying) (p : Spaces) (s : State) (k : Links w p s) (v v' i : ℕ) → (translation w p s.told).identity v ≡ Some i → (translation w p s.told).identity v' ≡ Some i → v' ≡ v
+pub one-solver : (w : Carrying) (p : Spaces) (s : State) (k : Links w p s) (v v' i : ℕ) → (translation w p s.told).identity v ≡ Some i →
+    (translation w p s.told).identity v' ≡ Some i → v' ≡ v
 one-solver w p s k v v' i a b =
     let (x, e, f) = chain-through p.global_from_solver w.identity v i a in
     let (y, g, h) = chain-through p.global_from_solver w.identity v' i b in
@@ -36,14 +37,16 @@ one-solver w p s k v v' i a b =
     cc
 
 -- and no two of their literals for one literal
-pub one-literal : (w : Carrying) (p : Spaces) (s : State) (k : Links w p s) (l m : Literal) → IsInUse (translation w p s.told) l → IsInUse (translation w p s.told) m → carry (translation w p s.told).identity l ≡ carry (translation w p s.told).identity m → l ≡ m
+pub one-literal : (w : Carrying) (p : Spaces) (s : State) (k : Links w p s) (l m : Literal) → IsInUse (translation w p s.told) l →
+    IsInUse (translation w p s.told) m → carry (translation w p s.told).identity l ≡ carry (translation w p s.told).identity m → l ≡ m
 one-literal w p s k l m (i, a) (j, b) q =
     let to = (translation w p s.told).identity in
     let z : j ≡ i = sym (carry-at to m j b) ∙ ap variable_of (sym q) ∙ carry-at to l i a in
     same-literal l m (sym (one-solver w p s k (variable_of l) (variable_of m) i a (b ∙ ap Some z))) (sym (carry-sign to l) ∙ ap polarity_of q ∙ carry-sign to m)
 
 -- 1. A solver variable is taken.
-module _ (w : Carrying) (p : Spaces) (s : State) (x i v : ℕ) (k : Links w p s) (is : w.identity x ≡ Some i) (spoken : i ∈ s.counted) (unsolved : p.solver_from_global x ≡ None) (free : p.global_from_solver v ≡ None) where
+module _ (w : Carrying) (p : Spaces) (s : State) (x i v : ℕ) (k : Links w p s) (is : w.identity x ≡ Some i) (spoken : i ∈ s.counted)
+    (unsolved : p.solver_from_global x ≡ None) (free : p.global_from_solver v ≡ None) where
   to : ℕ → Option ℕ
   to = chain p.global_from_solver w.identity
 
@@ -63,7 +66,8 @@ module _ (w : Carrying) (p : Spaces) (s : State) (x i v : ℕ) (k : Links w p s)
   to-other u n = ap (λ o. onward o w.identity) (updated-other p.global_from_solver v (Some x) u n)
 
   not-new : (u j : ℕ) → chain p.global_from_solver w.identity u ≡ Some j → u ≡ v → ⊥
-  not-new u j e q = let z : None ≡ Some j = sym (chain-none p.global_from_solver w.identity v free) ∙ ap (chain p.global_from_solver w.identity) (sym q) ∙ e in cc
+  not-new u j e q = let z : None ≡ Some j = sym (chain-none p.global_from_solver w.identity v free)
+      ∙ ap (chain p.global_from_solver w.identity) (sym q) ∙ e in cc
 
   pub stays : (u j : ℕ) → chain p.global_from_solver w.identity u ≡ Some j → chain (updated p.global_from_solver v (Some x)) w.identity u ≡ Some j
   stays u j e = to-other u (not-new u j e) ∙ e
@@ -79,18 +83,25 @@ module _ (w : Carrying) (p : Spaces) (s : State) (x i v : ℕ) (k : Links w p s)
 
   same : (l : Literal) → IsLiteralOf p.search l → carry to l ≡ carry to' l
   unfolding to to'
-  same l a = carry-same (chain p.global_from_solver w.identity) (chain (updated p.global_from_solver v (Some x)) w.identity) l (sym (to-other (variable_of l) (other l a)))
+  same l a = carry-same (chain p.global_from_solver w.identity) (chain (updated p.global_from_solver v (Some x)) w.identity) l
+      (sym (to-other (variable_of l) (other l a)))
 
   -- what says nothing more says nothing more after that, and so does what is held and mentions v
-  pub settled-on : (held : List Clause) → Fits held p.search → (F : List Clause) → ((c : Clause) → c ∈ F → IsSettledBy (translation w p s.told) p.search.fixed c) → (c : Clause) → c ∈ (F ++ rename (carry (chain p.global_from_solver w.identity)) (only v held)) → IsSettledBy (translation w (take_solver x v p) s.told) p.search.fixed c
+  pub settled-on : (held : List Clause) → Fits held p.search → (F : List Clause) →
+      ((c : Clause) → c ∈ F → IsSettledBy (translation w p s.told) p.search.fixed c) → (c : Clause) →
+      c ∈ (F ++ rename (carry (chain p.global_from_solver w.identity)) (only v held)) →
+      IsSettledBy (translation w (take_solver x v p) s.told) p.search.fixed c
   unfolding to to'
   settled-on held f F settled c h =
       settled-through (translation w p s.told) (translation w (take_solver x v p) s.told) p.search.fixed p.search.fixed
       (λ l k. ⊎_elim (λ e. inl e) (λ (m, a, e). inr (m, a, sym (same m (inl a)) ∙ e)) k)
       c
-      (⊎_elim (settled c) (settled-with (translation w p s.told) v held p.search f (λ d a. unmentioned v d.clause (λ l b. other l (inr (d, a, b)))) c) (∈-append_cases c F (rename (carry (chain p.global_from_solver w.identity)) (only v held)) h))
+      (⊎_elim (settled c) (settled-with (translation w p s.told) v held p.search f
+      (λ d a. unmentioned v d.clause (λ l b. other l (inr (d, a, b)))) c)
+      (∈-append_cases c F (rename (carry (chain p.global_from_solver w.identity)) (only v held)) h))
 
-  pub in-both : (c : Clause) → IsCoveredBySearch (carry (chain p.global_from_solver w.identity)) (is_forced w.forced) p.search c → IsCoveredBySearch (carry (chain (updated p.global_from_solver v (Some x)) w.identity)) (is_forced w.forced) p.search c
+  pub in-both : (c : Clause) → IsCoveredBySearch (carry (chain p.global_from_solver w.identity)) (is_forced w.forced) p.search c →
+      IsCoveredBySearch (carry (chain (updated p.global_from_solver v (Some x)) w.identity)) (is_forced w.forced) p.search c
   unfolding to to'
   in-both c (Tautology t) = Tautology t
   in-both c (KnownTrue l a e) = KnownTrue l a e
@@ -102,12 +113,16 @@ module _ (w : Carrying) (p : Spaces) (s : State) (x i v : ℕ) (k : Links w p s)
     agree = k.assumptions.agree;
     taken = λ l h.
         let (q, c) = k.assumptions.taken l h in
-        let (y, f, g) = chain-through p.global_from_user p.solver_from_global (variable_of l) q c in
-        (q, chain-some p.global_from_user (updated p.solver_from_global x (Some v)) (variable_of l) y f ∙ updated-other p.solver_from_global x (Some v) y (λ e. let z : None ≡ Some q = sym unsolved ∙ ap p.solver_from_global (sym e) ∙ g in cc) ∙ g);
+        let (y, f, g) = chain-through p.global_from_user p.solver_from_global (variable_of l) q c in (
+          q,
+          chain-some p.global_from_user (updated p.solver_from_global x (Some v)) (variable_of l) y f
+              ∙ updated-other p.solver_from_global x (Some v) y (λ e. let z : None ≡ Some q = sym unsolved ∙ ap p.solver_from_global (sym e) ∙ g in cc) ∙ g,
+        );
   }
 
   -- the links, once the search of the variables after is known
-  pub taken-with : (t : Search) → SearchHolds s.clauses (translation w (take_solver x v p) s.told) t (without_core p.outcome) → Links w (record (take_solver x v p) { search = t }) s
+  pub taken-with : (t : Search) → SearchHolds s.clauses (translation w (take_solver x v p) s.told) t (without_core p.outcome) →
+      Links w (record (take_solver x v p) { search = t }) s
   taken-with t holds =
       relinked w p (record (take_solver x v p) { search = t }) s s k (record {
         solvers = record {
@@ -119,7 +134,9 @@ module _ (w : Carrying) (p : Spaces) (s : State) (x i v : ℕ) (k : Links w p s)
         };
         holds = holds;
         assumptions = assumptions-on;
-        working = working-same s.clauses (chain p.global_from_solver w.identity) (chain (updated p.global_from_solver v (Some x)) w.identity) s.assumptions p.working (λ l h. let (j, e) = k.working.used l h in to-other (variable_of l) (not-new (variable_of l) j e)) k.working;
+        working = working-same s.clauses (chain p.global_from_solver w.identity)
+            (chain (updated p.global_from_solver v (Some x)) w.identity) s.assumptions p.working
+            (λ l h. let (j, e) = k.working.used l h in to-other (variable_of l) (not-new (variable_of l) j e)) k.working;
         verdict = k.verdict;
         core = k.core;
         right = k.right;
@@ -179,7 +196,8 @@ module _ (w : Carrying) (p : Spaces) (s : State) (x i v : ℕ) (k : Links w p s)
 
     taken-holds : (o : Outcome) → p.outcome ≡ o → SearchHolds s.clauses r p.search (without_core o) → SearchHolds s.clauses r' p.search (without_core o)
     taken-holds outcome.Unknown e h = taken-open h (unforced (λ q. let z : outcome.Unknown ≡ outcome.Unsat = sym e ∙ q in cc))
-    taken-holds (outcome.Sat found) e h = with-model s.clauses r' p.search found (taken-open (without-model s.clauses r p.search found h) (unforced (λ q. let z : outcome.Sat found ≡ outcome.Unsat = sym e ∙ q in cc)))
+    taken-holds (outcome.Sat found) e h = with-model s.clauses r' p.search found
+        (taken-open (without-model s.clauses r p.search found h) (unforced (λ q. let z : outcome.Sat found ≡ outcome.Unsat = sym e ∙ q in cc)))
     taken-holds outcome.Unsat e h = taken-refuted h
     taken-holds (outcome.UnsatUnder core) e h = taken-open h (unforced (λ q. let z : outcome.UnsatUnder core ≡ outcome.Unsat = sym e ∙ q in cc))
 
@@ -201,6 +219,8 @@ solvers-few w p s m k used =
 -- where all global variables below n are live, n identities were made at least
 pub globals-few : (w : Carrying) (p : Spaces) (s : State) (n : ℕ) → Links w p s → ((x : ℕ) → x < n → (p.kept x).deleted ≡ false) → n ≤ s.naming.made
 globals-few w p s n k live =
-    let d = few w.identity (below s.naming.made) (λ x y i a b. let q : Some y ≡ Some x = sym (k.identities.one_to_one.there y i b) ∙ k.identities.one_to_one.there x i a in cc) n (λ x b. let (i, e) = linked w p s x k (live x b) in (i, e, ∈-below s.naming.made i (k.identities.below x i e))) in
+    let d = few w.identity (below s.naming.made)
+    (λ x y i a b. let q : Some y ≡ Some x = sym (k.identities.one_to_one.there y i b) ∙ k.identities.one_to_one.there x i a in cc) n
+    (λ x b. let (i, e) = linked w p s x k (live x b) in (i, e, ∈-below s.naming.made i (k.identities.below x i e))) in
     let e = below-count s.naming.made in
     omega (arith, d, e)

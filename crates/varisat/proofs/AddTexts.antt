@@ -45,7 +45,8 @@ pub record Took (p : Progress) (clauses : List Clause) (q : Progress) : Type 0 w
   pub same_over : q.over ≡ p.over
   pub same_fault : q.reading.fault ≡ p.reading.fault
 
-piece-same : (a b : Stand) (q p : Progress) (front : List Clause) (piece : List ℕ) (w : ReadSo a b q front) → AdvancesBy q piece p → (ending : Ending) (rest : List ℕ) →
+piece-same : (a b : Stand) (q p : Progress) (front : List Clause) (piece : List ℕ) (w : ReadSo a b q front) → AdvancesBy q piece p →
+    (ending : Ending) (rest : List ℕ) →
     gives ending ((w.read.text ++ piece) ++ rest) ≡ with_front front (gives_from ending p rest)
 piece-same a b q p front piece w f ending rest =
     ap (λ x. gives ending x) (append_assoc w.read.text piece rest) ∙ w.same ending (piece ++ rest) ∙ ap (λ x. with_front front x) (sym (f.same ending rest))
@@ -57,41 +58,51 @@ fronts-join xs ys r = ap (λ cs. record r { clauses = cs }) (sym (append_assoc x
 abbrev pub gave-more : (a b d : Stand) → Gave a b → (piece : List ℕ) → Reads b piece d → Gave a d
 gave-more a b d w piece k = record { text = w.text ++ piece; reads = reads_more a b d w.text piece w.reads k }
 
-pub read-more : (a b d : Stand) (q p o : Progress) (front clauses : List Clause) (more : Bool) (r : Result Bool DimacsError) → ReadSo a b q front → TakesPiece b q r d p → r ≡ Ok more → p.over ≡ q.over → Took p clauses o → ReadSo a d o (front ++ clauses)
+pub read-more : (a b d : Stand) (q p o : Progress) (front clauses : List Clause) (more : Bool) (r : Result Bool DimacsError) → ReadSo a b q front →
+    TakesPiece b q r d p → r ≡ Ok more → p.over ≡ q.over → Took p clauses o → ReadSo a d o (front ++ clauses)
 read-more a b d q p o front clauses more r w k e v t =
     let g = k.good more e in
     record {
       read = gave-more a b d w.read k.piece k.reads;
-      same = λ ending rest. piece-same a b q p front k.piece w g.0 ending rest ∙ ap (λ x. with_front front x) (t.later ending rest) ∙ fronts-join front clauses (gives_from ending o rest);
+      same = λ ending rest. piece-same a b q p front k.piece w g.0 ending rest ∙ ap (λ x. with_front front x) (t.later ending rest)
+          ∙ fronts-join front clauses (gives_from ending o rest);
       open_still = t.same_over ∙ v ∙ w.open_still;
       fine = t.same_fault ∙ g.1;
       quiet = g.2 ∙ w.quiet;
     }
 
 -- what a reading adds behind the clauses that were accepted before
-joined : (s mid t : State) (front : List Clause) (R X : Reading) (r : Result (Unit {0}) SolverError) → AddsAll s front (Ok tt) mid → AddsReading mid X r t → R ≡ with_front front X → AddsReading s R r t
-joined s mid t front R X r a (ClauseRefused e k b) g = subst (λ R. AddsReading s R r t) (sym g) (ClauseRefused e k (adds-more s mid t front X.clauses (Err e) a b))
-joined s mid t front R X r a (ClausesAdded u b w) g = subst (λ R. AddsReading s R r t) (sym g) (ClausesAdded u (adds-more s mid u front X.clauses (Ok tt) a b) w)
+joined : (s mid t : State) (front : List Clause) (R X : Reading) (r : Result (Unit {0}) SolverError) → AddsAll s front (Ok tt) mid →
+    AddsReading mid X r t → R ≡ with_front front X → AddsReading s R r t
+joined s mid t front R X r a (ClauseRefused e k b) g = subst (λ R. AddsReading s R r t) (sym g)
+    (ClauseRefused e k (adds-more s mid t front X.clauses (Err e) a b))
+joined s mid t front R X r a (ClausesAdded u b w) g = subst (λ R. AddsReading s R r t) (sym g)
+    (ClausesAdded u (adds-more s mid u front X.clauses (Ok tt) a b) w)
 
 -- what was read with one more piece
-abbrev pub with-piece : (a b d : Stand) (q p : Progress) (front : List Clause) (out : Result Bool DimacsError) → ReadSo a b q front → TakesPiece b q out d p → Gave a d
+abbrev pub with-piece : (a b d : Stand) (q p : Progress) (front : List Clause) (out : Result Bool DimacsError) → ReadSo a b q front →
+    TakesPiece b q out d p → Gave a d
 with-piece a b d q p front out w k = gave-more a b d w.read k.piece k.reads
 
 -- one of the clauses of a piece was refused
 text-refused : (s mid t : State) (a b d : Stand) (q p o : Progress) (front clauses : List Clause) (more : Bool) (e : SolverError) →
-    (w : ReadSo a b q front) → (k : TakesPiece b q (Ok more) d p) → Took p clauses o → AddsAll s front (Ok tt) mid → AddsAll mid clauses (Err e) t → AddsGiven (with-piece a b d q p front (Ok more) w k) s (Err e) t
+    (w : ReadSo a b q front) → (k : TakesPiece b q (Ok more) d p) → Took p clauses o → AddsAll s front (Ok tt) mid → AddsAll mid clauses (Err e) t →
+    AddsGiven (with-piece a b d q p front (Ok more) w k) s (Err e) t
 text-refused s mid t a b d q p o front clauses more e w k h x y =
     let g = k.good more refl in
     RefusedEarly (front ++ clauses)
     (λ rest. (
       (gives_from Ends o rest).clauses,
-      ap (λ z. z.clauses) (piece-same a b q p front k.piece w g.0 Ends rest) ∙ ap (λ z. front ++ z.clauses) (h.later Ends rest) ∙ sym (append_assoc front clauses (gives_from Ends o rest).clauses),
+      ap (λ z. z.clauses) (piece-same a b q p front k.piece w g.0 Ends rest) ∙ ap (λ z. front ++ z.clauses) (h.later Ends rest)
+          ∙ sym (append_assoc front clauses (gives_from Ends o rest).clauses),
     ))
     e refl (adds-more s mid t front clauses (Err e) x y) (g.2 ∙ w.quiet)
 
 -- the text or the source has a fault
-pub text-broken : (s mid t : State) (a b d : Stand) (q p : Progress) (front : List Clause) (x : DimacsError) (out : Result Bool DimacsError) (r : Result (Unit {0}) SolverError) →
-    (w : ReadSo a b q front) → (k : TakesPiece b q out d p) → out ≡ Err x → AddsAll s front (Ok tt) mid → AddsReading mid p.reading r t → AddsGiven (with-piece a b d q p front out w k) s r t
+pub text-broken : (s mid t : State) (a b d : Stand) (q p : Progress) (front : List Clause) (x : DimacsError) (out : Result Bool DimacsError)
+    (r : Result (Unit {0}) SolverError) →
+    (w : ReadSo a b q front) → (k : TakesPiece b q out d p) → out ≡ Err x → AddsAll s front (Ok tt) mid → AddsReading mid p.reading r t →
+    AddsGiven (with-piece a b d q p front out w k) s r t
 text-broken s mid t a b d q p front x out r w k is y z = why (k.bad x is).0 (k.bad x is).1 (k.bad x is).2
   where
     why : (rise : ℕ) → EndsInFault q k.piece p x rise → d.faults ≡ b.faults + rise → AddsGiven (with-piece a b d q p front out w k) s r t
@@ -103,7 +114,8 @@ text-broken s mid t a b d q p front x out r w k is y z = why (k.bad x is).0 (k.b
     why rise (fault.PieceWantsRoom o h m) n =
         MemoryRanOut (w.read.text ++ take o.at k.piece) (drop o.at k.piece)
         (append_assoc w.read.text (take o.at k.piece) (drop o.at k.piece) ∙ ap (λ v. w.read.text ++ v) (take-append-drop o.at k.piece))
-        (joined s mid t front (broken kind.OutOfMemory (w.read.text ++ take o.at k.piece)) p.reading r y z (w.same (BreaksOff kind.OutOfMemory) (take o.at k.piece) ∙ ap (λ v. with_front front v) (sym o.out.reading)))
+        (joined s mid t front (broken kind.OutOfMemory (w.read.text ++ take o.at k.piece)) p.reading r y z
+        (w.same (BreaksOff kind.OutOfMemory) (take o.at k.piece) ∙ ap (λ v. with_front front v) (sym o.out.reading)))
         (let u = w.quiet in omega (arith, n, m, u))
     why rise (fault.SourceFailed g h e m) n =
         SourceFailed
@@ -113,12 +125,14 @@ text-broken s mid t a b d q p front x out r w k is y z = why (k.bad x is).0 (k.b
 
 -- a clause was refused that ended in a piece, also where the piece has a fault behind it
 pub piece-refused : (s mid t : State) (a b d : Stand) (q p o : Progress) (front clauses : List Clause) (r : Result Bool DimacsError) (e : SolverError) →
-    (w : ReadSo a b q front) → (k : TakesPiece b q r d p) → Took p clauses o → AddsAll s front (Ok tt) mid → AddsAll mid clauses (Err e) t → AddsGiven (with-piece a b d q p front r w k) s (Err e) t
+    (w : ReadSo a b q front) → (k : TakesPiece b q r d p) → Took p clauses o → AddsAll s front (Ok tt) mid → AddsAll mid clauses (Err e) t →
+    AddsGiven (with-piece a b d q p front r w k) s (Err e) t
 piece-refused s mid t a b d q p o front clauses (Ok more) e w k h x y = text-refused s mid t a b d q p o front clauses more e w k h x y
 piece-refused s mid t a b d q p o front clauses (Err x) e w k h y z =
     text-broken s mid t a b d q p front x (Err x) (Err e) w k refl y (ClauseRefused e refl (subst (λ cs. AddsAll mid cs (Err e) t) h.ended z))
 
-pub took : (p o : Progress) (f : Formula) → f ≡ record { var_count = p.reading.highest; clauses = p.reading.clauses } → o ≡ record p { reading = record p.reading { clauses = [] } } →
+pub took : (p o : Progress) (f : Formula) → f ≡ record { var_count = p.reading.highest; clauses = p.reading.clauses } →
+    o ≡ record p { reading = record p.reading { clauses = [] } } →
     ((ending : Ending) (rest : List ℕ) → gives_from ending p rest ≡ with_front f.clauses (gives_from ending o rest)) → Took p f.clauses o
 took p o f e n l = record { ended = ap (λ x. x.clauses) e; later = l; same_over = ap (λ x. x.over) n; same_fault = ap (λ x. x.reading.fault) n }
 
@@ -128,7 +142,8 @@ pub piece-fault : (mid u t : State) (p o : Progress) (clauses : List Clause) (x 
 piece-fault mid u t p o clauses x r h f a w = ClausesAdded u (subst (λ cs. AddsAll mid cs (Ok tt) u) h.ended a) (subst (λ z. TellsFault z u r t) (sym f) w)
 
 -- a clause was refused that ended in what was read
-pub ending-refused : (mid t : State) (p o : Progress) (clauses : List Clause) (e : SolverError) → Took p clauses o → AddsAll mid clauses (Err e) t → AddsReading mid p.reading (Err e) t
+pub ending-refused : (mid t : State) (p o : Progress) (clauses : List Clause) (e : SolverError) → Took p clauses o → AddsAll mid clauses (Err e) t →
+    AddsReading mid p.reading (Err e) t
 ending-refused mid t p o clauses e h a = ClauseRefused e refl (subst (λ cs. AddsAll mid cs (Err e) t) h.ended a)
 
 -- the source is at its end, and the text was ended
@@ -141,4 +156,6 @@ text-ended s mid t a b q p front r w l k y z = why k
 
     why : IsEnding q p → AddsGiven w.read s r t
     why (inl g) = Whole l (joined s mid t front (dimacs w.read.text) p.reading r y z (whole Ends ∙ ap (λ v. with_front front v) (sym g))) w.quiet
-    why (inr o) = MemoryRanOut w.read.text [] (append-nil w.read.text) (joined s mid t front (broken kind.OutOfMemory w.read.text) p.reading r y z (whole (BreaksOff kind.OutOfMemory) ∙ ap (λ v. with_front front v) (sym o.reading))) w.quiet
+    why (inr o) = MemoryRanOut w.read.text [] (append-nil w.read.text)
+        (joined s mid t front (broken kind.OutOfMemory w.read.text) p.reading r y z
+        (whole (BreaksOff kind.OutOfMemory) ∙ ap (λ v. with_front front v) (sym o.reading))) w.quiet

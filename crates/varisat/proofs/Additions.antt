@@ -17,7 +17,8 @@ pub adds-last : (s mid t : State) (P : List Clause) (c : Clause) → AddsAll s P
 adds-last s mid t P c a b = adds-more s mid t P (c ∷ []) (Ok tt) a (inl (t, b, (refl, refl)))
 
 -- the clauses behind a refused one don't count
-pub adds-refused : (s mid t : State) (P Q : List Clause) (c : Clause) (e : SolverError) → AddsAll s P (Ok tt) mid → AddsClause mid c (Err e) t → AddsAll s (P ++ c ∷ Q) (Err e) t
+pub adds-refused : (s mid t : State) (P Q : List Clause) (c : Clause) (e : SolverError) → AddsAll s P (Ok tt) mid → AddsClause mid c (Err e) t →
+    AddsAll s (P ++ c ∷ Q) (Err e) t
 adds-refused s mid t P Q c e a b = adds-more s mid t P (c ∷ Q) (Err e) a (inr (e, refl, b))
 
 -- an error that is handed on as it is

@@ -30,7 +30,8 @@ use Rattle.varisat.proofs.SolveVerdict.{forgotten, spaces-same}
 -- 1. Marks.
 
 -- the marks of the list before are gone, and those of the new one are there
-marks-fit : (old mid new : Tables) (before list : List Literal) → MarksFit (at old.users.forward) (kept_at old.kept) before → AreMarked before false old mid → AreMarked list true mid new → MarksFit (at old.users.forward) (kept_at new.kept) list
+marks-fit : (old mid new : Tables) (before list : List Literal) → MarksFit (at old.users.forward) (kept_at old.kept) before →
+    AreMarked before false old mid → AreMarked list true mid new → MarksFit (at old.users.forward) (kept_at new.kept) list
 marks-fit old mid new before list f a b = record {
   marked = λ l x h e. b.marked l x h (ap (λ m. at m.forward (variable_of l)) a.users ∙ e);
   only = λ x h. ⊎_elim
@@ -51,11 +52,16 @@ marks-fit old mid new before list f a b = record {
 -- 2. The verdict.
 
 -- what was found is forgotten, unless it was that the clauses are unsatisfiable
-pub forgets : (w : Carrying) (g : Summary) (n : State) (sat : SatState) (v : Verdict) → Links w (spaces (record g { sat_state = sat })) (with_verdict v n) → Links w (spaces (record g { sat_state = assumed_state sat })) (with_verdict (assumed_verdict v) n)
+pub forgets : (w : Carrying) (g : Summary) (n : State) (sat : SatState) (v : Verdict) →
+    Links w (spaces (record g { sat_state = sat })) (with_verdict v n) →
+    Links w (spaces (record g { sat_state = assumed_state sat })) (with_verdict (assumed_verdict v) n)
 forgets w g n verdict.Unknown Unknown k = k
-forgets w g n verdict.Sat (Sat a) k = forgotten w (spaces (record g { sat_state = verdict.Sat })) (with_verdict (Sat a) n) k (λ e. let z : Sat a ≡ Unsat = e in cc)
+forgets w g n verdict.Sat (Sat a) k = forgotten w (spaces (record g { sat_state = verdict.Sat })) (with_verdict (Sat a) n) k
+    (λ e. let z : Sat a ≡ Unsat = e in cc)
 forgets w g n verdict.Unsat Unsat k = k
-forgets w g n verdict.UnsatUnderAssumptions (UnsatUnderAssumptions core) k = forgotten w (spaces (record g { sat_state = verdict.UnsatUnderAssumptions })) (with_verdict (UnsatUnderAssumptions core) n) k (λ e. let z : UnsatUnderAssumptions core ≡ Unsat = e in cc)
+forgets w g n verdict.UnsatUnderAssumptions (UnsatUnderAssumptions core) k =
+    forgotten w (spaces (record g { sat_state = verdict.UnsatUnderAssumptions })) (with_verdict (UnsatUnderAssumptions core) n) k
+    (λ e. let z : UnsatUnderAssumptions core ≡ Unsat = e in cc)
 forgets w g n sat v k = absurd k.verdict
 
 no-model-left : (s : View) (core : List Literal) (sat : SatState) (a : Assignment) → outcome_of s core (assumed_state sat) ≡ outcome.Sat a → ⊥
@@ -90,8 +96,11 @@ pub record Assuming (g : Summary) (list : List Literal) (cleared marked : Tables
   pub verdict : after ≡ assumed_state g.sat_state
 
 -- the identities of the list are counted before it is assumed
-pub list-assumed : (g : Summary) (n : State) (list : List Literal) (cleared marked : Tables) (new : View) (parts : AssumptionParts) (after : SatState) → Assuming g list cleared marked new parts after → SpacesFit (spaces g) (count (join_counted n.counted (map variable_of (map (through_names n.naming) list))) n) →
-    SpacesFit (spaces_of marked g.checker new parts after) (retold (n.told ++ Assumes (map (through_names n.naming) list) ∷ []) (with_assumptions (map (through_names n.naming) list) n))
+pub list-assumed : (g : Summary) (n : State) (list : List Literal) (cleared marked : Tables) (new : View) (parts : AssumptionParts)
+    (after : SatState) → Assuming g list cleared marked new parts after →
+    SpacesFit (spaces g) (count (join_counted n.counted (map variable_of (map (through_names n.naming) list))) n) →
+    SpacesFit (spaces_of marked g.checker new parts after)
+    (retold (n.told ++ Assumes (map (through_names n.naming) list) ∷ []) (with_assumptions (map (through_names n.naming) list) n))
 list-assumed g n list cleared marked new parts after t (w1, k1) =
     let n1 = count (join_counted n.counted (map variable_of (map (through_names n.naming) list))) n in
     let g2 : Summary = record g { sat_state = assumed_state g.sat_state } in

@@ -17,34 +17,87 @@ use Rattle.varisat.specs.Spaces.{SpacesFit}
 use Rattle.varisat.specs.Summaries.{Summary, spaces, StandsFor}
 
 pub like-refl : (s : State) → IsLike s s
-like-refl s = record { naming = refl; ever_hidden = refl; clauses = refl; assumptions = refl; counted = refl; verdict = refl; ledger = refl; told = (stays-nothing s.told).0; stays = λ _. (stays-nothing s.told).1; proof = goes-on-none s.proof }
+like-refl s = record {
+  naming = refl;
+  ever_hidden = refl;
+  clauses = refl;
+  assumptions = refl;
+  counted = refl;
+  verdict = refl;
+  ledger = refl;
+  told =
+      (stays-nothing s.told).0;
+  stays = λ _. (stays-nothing s.told).1;
+  proof = goes-on-none s.proof;
+}
 
 -- the same, but that an open proof has further bytes
 pub like-grown : (s : State) (proof : Option OpenProof) → GoesOnWriting s.proof proof → IsLike s (record s { proof = proof })
-like-grown s proof g = record { naming = refl; ever_hidden = refl; clauses = refl; assumptions = refl; counted = refl; verdict = refl; ledger = refl; told = (stays-nothing s.told).0; stays = λ _. (stays-nothing s.told).1; proof = g }
+like-grown s proof g = record {
+  naming = refl;
+  ever_hidden = refl;
+  clauses = refl;
+  assumptions = refl;
+  counted = refl;
+  verdict = refl;
+  ledger =
+      refl;
+  told = (stays-nothing s.told).0;
+  stays = λ _. (stays-nothing s.told).1;
+  proof = g;
+}
 
 -- and that more was told
-pub like-told : (s : State) (told : List Entry) (proof : Option OpenProof) → TellsStaying 0 s.told told → GoesOnWriting s.proof proof → IsLike s (record s { told = told; proof = proof })
-like-told s told proof (m, n) g = record { naming = refl; ever_hidden = refl; clauses = refl; assumptions = refl; counted = refl; verdict = refl; ledger = refl; told = m; stays = λ _. n; proof = g }
+pub like-told : (s : State) (told : List Entry) (proof : Option OpenProof) → TellsStaying 0 s.told told → GoesOnWriting s.proof proof →
+    IsLike s (record s { told = told; proof = proof })
+like-told s told proof (m, n) g =
+    record {
+      naming = refl;
+      ever_hidden = refl;
+      clauses = refl;
+      assumptions = refl;
+      counted = refl;
+      verdict = refl;
+      ledger = refl;
+      told = m;
+      stays =
+          λ _. n;
+      proof = g;
+    }
 
 -- the same, but that more was told, maybe that variables left
 pub like-retold : (s : State) (told : List Entry) → TellsMore 0 s.told told → IsLikeButLeft true s (retold told s)
-like-retold s told m = record { naming = refl; ever_hidden = refl; clauses = refl; assumptions = refl; counted = refl; verdict = refl; ledger = refl; told = m; stays = λ e. absurd (let z : true ≡ false = e in cc); proof = goes-on-none s.proof }
+like-retold s told m = record {
+  naming = refl;
+  ever_hidden = refl;
+  clauses = refl;
+  assumptions = refl;
+  counted = refl;
+  verdict = refl;
+  ledger =
+      refl;
+  told = m;
+  stays = λ e. absurd (let z : true ≡ false = e in cc);
+  proof = goes-on-none s.proof;
+}
 
 -- a ledger by what it tells
 abbrev pub ledger_of : Bool → Bool → ℕ → ℕ → Settings → Ledger
 ledger_of v b n k c = record { valid = v; started = b; steps = n; since = k; settings = c }
 
-pub ledger-is : (l : Ledger) (v b : Bool) (n k : ℕ) (c : Settings) → l.valid ≡ v → l.started ≡ b → l.steps ≡ n → l.since ≡ k → l.settings ≡ c → l ≡ ledger_of v b n k c
+pub ledger-is : (l : Ledger) (v b : Bool) (n k : ℕ) (c : Settings) → l.valid ≡ v → l.started ≡ b → l.steps ≡ n → l.since ≡ k → l.settings ≡ c →
+    l ≡ ledger_of v b n k c
 ledger-is l v b n k c d e f h g =
-    ap (λ x. ledger_of x l.started l.steps l.since l.settings) d ∙ ap (λ x. ledger_of v x l.steps l.since l.settings) e ∙ ap (λ x. ledger_of v b x l.since l.settings) f ∙ ap (λ x. ledger_of v b n x l.settings) h ∙ ap (λ x. ledger_of v b n k x) g
+    ap (λ x. ledger_of x l.started l.steps l.since l.settings) d ∙ ap (λ x. ledger_of v x l.steps l.since l.settings) e
+    ∙ ap (λ x. ledger_of v b x l.since l.settings) f ∙ ap (λ x. ledger_of v b n x l.settings) h ∙ ap (λ x. ledger_of v b n k x) g
 
 -- where steps are counted anew, none was made since
 pub none-since : (changed_at steps : ℕ) → changed_at ≡ steps → 0 ≡ steps - changed_at
 none-since changed_at steps e = omega (arith, e)
 
 -- the steps since a change that came before them
-pub more-since : (changed_at before after since : ℕ) → changed_at ≤ before → before ≤ after → since ≡ before - changed_at → since + (after - before) ≡ after - changed_at
+pub more-since : (changed_at before after since : ℕ) → changed_at ≤ before → before ≤ after → since ≡ before - changed_at →
+    since + (after - before) ≡ after - changed_at
 more-since changed_at before after since l h e = omega (arith, l, h, e)
 
 pub none-more : (since steps : ℕ) → since ≡ since + (steps - steps)
@@ -70,7 +123,8 @@ pub begins : {g : Summary} {s : State} → StandsFor g s → g.ledger.valid ≡ 
 begins {g} {s} st v = record { valid = stands-valid g s st v; ledger = st.ledger; fits = st.fits v; proof = st.proof v; flags = st.flags v }
 
 -- What two flags say of a state, they say of one with the same clauses and assumptions, in which no other proof is open.
-pub flags-alike : (s t : State) → FlagsFit s → t.ledger.started ≡ s.ledger.started → t.clauses ≡ s.clauses → t.assumptions ≡ s.assumptions → t.counted ≡ s.counted → (IsOpen t.proof → IsOpen s.proof) → FlagsFit t
+pub flags-alike : (s t : State) → FlagsFit s → t.ledger.started ≡ s.ledger.started → t.clauses ≡ s.clauses → t.assumptions ≡ s.assumptions →
+    t.counted ≡ s.counted → (IsOpen t.proof → IsOpen s.proof) → FlagsFit t
 flags-alike s t f b p a c o = record {
   clauses = λ e. p ∙ f.clauses (sym b ∙ e);
   assumptions = λ e. a ∙ f.assumptions (sym b ∙ e);
@@ -101,7 +155,16 @@ abbrev pub told_as : State → State → State
 told_as t s = record s { verdict = t.verdict; ledger = t.ledger; told = t.told; proof = t.proof }
 
 pub told-well : (s t : State) → IsWellFormed s → IsWellFormed (told_as t s)
-told-well s t w = record { one_to_one = w.one_to_one; free = w.free; named = w.named; accepted = w.accepted; assumed = w.assumed; counted = w.counted; once = w.once }
+told-well s t w = record {
+  one_to_one = w.one_to_one;
+  free = w.free;
+  named = w.named;
+  accepted = w.accepted;
+  assumed = w.assumed;
+  counted =
+      w.counted;
+  once = w.once;
+}
 
 -- the state, made invalid
 abbrev pub broken : State → State
@@ -111,13 +174,15 @@ pub broken-invalid : (s : State) → s.ledger.valid ≡ true → IsWellFormed s 
 broken-invalid s v w = record { valid = v; ledger = refl; well_formed = told-well s (broken s) w }
 
 -- a clause could not be kept
-pub adds-broken : (e : StepError) (s t : State) (d : Clause) → (step_faults e ≡ 1 → IsOpen s.proof) → IsExtensible s → MayConstrain s.naming d → Invalidates s t → AddsClause s d (Err (step_refusal e)) t
+pub adds-broken : (e : StepError) (s t : State) (d : Clause) → (step_faults e ≡ 1 → IsOpen s.proof) → IsExtensible s → MayConstrain s.naming d →
+    Invalidates s t → AddsClause s d (Err (step_refusal e)) t
 adds-broken step.Full s t d o n l i = (n, l, i)
 adds-broken step.Memory s t d o n l i = (n, l, i)
 adds-broken (step.Target cause) s t d o n l i = (o refl, n, l, i)
 
 -- so it is where a step came to no end
-pub searches-broken : (e : StepError) (s t : State) → (step_faults e ≡ 1 → IsOpen s.proof) → s.verdict ≡ Unknown → CountsCall s (Err (step_refusal e)) t → Invalidates (with_steps t.ledger.steps s) t → Searches s (Err (step_refusal e)) t
+pub searches-broken : (e : StepError) (s t : State) → (step_faults e ≡ 1 → IsOpen s.proof) → s.verdict ≡ Unknown →
+    CountsCall s (Err (step_refusal e)) t → Invalidates (with_steps t.ledger.steps s) t → Searches s (Err (step_refusal e)) t
 searches-broken step.Full s t o u c i = (u, c, i)
 searches-broken step.Memory s t o u c i = (u, c, i)
 searches-broken (step.Target cause) s t o u c i = (o refl, u, c, i)

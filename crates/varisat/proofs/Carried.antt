@@ -66,7 +66,8 @@ unfolding value
 value-carry f a l = rw (carry-rest f l, carry-variable f l) refl
 
 pub literal-parts : (l : Literal) → literal_of (variable_of l) (polarity_of l) ≡ l
-literal-parts l = same-literal (literal_of (variable_of l) (polarity_of l)) l (variable-literal (variable_of l) (polarity_of l)) (polarity-literal (variable_of l) (polarity_of l))
+literal-parts l = same-literal (literal_of (variable_of l) (polarity_of l)) l (variable-literal (variable_of l) (polarity_of l))
+    (polarity-literal (variable_of l) (polarity_of l))
 
 pub satisfies-both : (a : Assignment) (P Q : List Clause) → SatisfiesAll a P → SatisfiesAll a Q → SatisfiesAll a (P ++ Q)
 satisfies-both a P Q m n c h = ⊎_elim (m c) (n c) (∈-append_cases c P Q h)
@@ -81,11 +82,16 @@ wide-back f c ((l, m, i, j, n), t) =
     )
 
 -- a clause is satisfied where its literals, carried along, are
-pub satisfied-carried : (f : ℕ → Option ℕ) (a b : Assignment) (c : Clause) → ((l : Literal) → l ∈ c → (i : ℕ) × (f (variable_of l) ≡ Some i)) → AgreesAlong f a b → Satisfies a (map (carry f) c) → Satisfies b c
+pub satisfied-carried : (f : ℕ → Option ℕ) (a b : Assignment) (c : Clause) → ((l : Literal) → l ∈ c → (i : ℕ) × (f (variable_of l) ≡ Some i)) →
+    AgreesAlong f a b → Satisfies a (map (carry f) c) → Satisfies b c
 satisfied-carried f a b c used r (m, h, e) =
     let (l, i, q) = map-∈ (carry f) m c h in
-    let (j, z) = used l i in
-    (l, i, value-true b l (r (variable_of l) j z ∙ ap a (sym (carry-at f l j z)) ∙ ap (λ x. a (variable_of x)) (sym q) ∙ true-value a m e ∙ ap polarity_of q ∙ carry-sign f l))
+    let (j, z) = used l i in (
+      l,
+      i,
+      value-true b l (r (variable_of l) j z ∙ ap a (sym (carry-at f l j z)) ∙ ap (λ x. a (variable_of x)) (sym q) ∙ true-value a m e
+          ∙ ap polarity_of q ∙ carry-sign f l),
+    )
 
 -- whether a literal is forced
 

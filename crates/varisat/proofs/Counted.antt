@@ -24,7 +24,11 @@ is-member i (x ∷ xs) (inr h) = ap (λ b. nat_eq i x || b) (is-member i xs h) �
 
 pub distinct-push : (xs : List ℕ) (i : ℕ) → IsDistinct xs → (i ∈ xs → ⊥) → IsDistinct (xs ++ i ∷ [])
 distinct-push [] i d n = (λ h. h, tt)
-distinct-push (x ∷ xs) i d n = (λ h. ⊎_elim d.0 (λ k. ⊎_elim (λ e. n (inl (sym e))) (λ z. z) k) (∈-append_cases x xs (i ∷ []) h), distinct-push xs i d.1 (λ h. n (inr h)))
+distinct-push (x ∷ xs) i d n = (
+  λ h. ⊎_elim d.0 (λ k. ⊎_elim (λ e. n (inl (sym e))) (λ z. z) k)
+      (∈-append_cases x xs (i ∷ []) h),
+  distinct-push xs i d.1 (λ h. n (inr h)),
+)
 
 -- what one more identity does to the list
 record Joins (old new : List ℕ) (i : ℕ) : Type 0 where
@@ -69,7 +73,8 @@ right-more P A C D Unsat m r = r
 right-more P A C D (UnsatUnderAssumptions core) m r = r
 
 -- more identities may be counted, each once
-pub counted : (w : Carrying) (p : Spaces) (s : State) (is : List ℕ) → Links w p s → s.counted ⊆ is → ((i : ℕ) → i ∈ is → i < s.naming.made) → IsDistinct is → Links w p (count is s)
+pub counted : (w : Carrying) (p : Spaces) (s : State) (is : List ℕ) → Links w p s → s.counted ⊆ is → ((i : ℕ) → i ∈ is → i < s.naming.made) →
+    IsDistinct is → Links w p (count is s)
 counted w p s is k m b d = record {
   identities = k.identities;
   names = k.names;
@@ -86,7 +91,16 @@ counted w p s is k m b d = record {
   verdict = k.verdict;
   core = k.core;
   right = right-more s.clauses s.assumptions s.counted is s.verdict m k.right;
-  well_formed = record { one_to_one = k.well_formed.one_to_one; free = k.well_formed.free; named = k.well_formed.named; accepted = k.well_formed.accepted; assumed = k.well_formed.assumed; counted = b; once = d };
+  well_formed = record {
+    one_to_one = k.well_formed.one_to_one;
+    free = k.well_formed.free;
+    named = k.well_formed.named;
+    accepted =
+        k.well_formed.accepted;
+    assumed = k.well_formed.assumed;
+    counted = b;
+    once = d;
+  };
   few = let n = length-distinct s.counted is k.well_formed.once m in let f = k.few in omega (arith, n, f);
   shown = k.shown;
   plain = k.plain;

@@ -28,7 +28,8 @@ leaves-none old = record { users = refl; solvers = refl; count = refl; gone = λ
 
 -- what is kept of a variable is changed twice
 pub changed-twice : (old mid new : Tables) (x : ℕ) (d e : VarData) → IsChangedTo old mid x d → IsChangedTo mid new x e → IsChangedTo old new x e
-changed-twice old mid new x d e a b = record { kept = kept-twice old.kept mid.kept new.kept x d e a.kept b.kept; rest = b.rest ∙ ap (λ (t : Tables). record t { kept = new.kept }) a.rest }
+changed-twice old mid new x d e a b =
+    record { kept = kept-twice old.kept mid.kept new.kept x d e a.kept b.kept; rest = b.rest ∙ ap (λ (t : Tables). record t { kept = new.kept }) a.rest }
 
 -- one solver variable was dropped
 pub leaves-dropped : (l : Literal) (old new : Tables) (x : ℕ) → x < length old.kept → IsDropped old new x (variable_of l) → LeavesTables (l ∷ []) old new
@@ -41,10 +42,13 @@ leaves-dropped l old new x live n =
       users = n.users;
       solvers = omega (arith, w, inside);
       count = omega (arith, count, live);
-      gone = λ u m h q. ⊎_elim (λ e. n.solvers.backward.at_each u ∙ ap (updated (at old.solvers.backward) v None) (sym q ∙ ap variable_of e) ∙ updated-at (at old.solvers.backward) v None) (λ z. absurd z) h;
+      gone = λ u m h q. ⊎_elim (λ e. n.solvers.backward.at_each u ∙ ap (updated (at old.solvers.backward) v None) (sym q ∙ ap variable_of e)
+          ∙ updated-at (at old.solvers.backward) v None) (λ z. absurd z) h;
       stays = λ u o. n.solvers.backward.at_each u ∙ updated-other (at old.solvers.backward) v None u (λ q. o l (inl refl) (sym q));
-      fewer = λ u y e. updated-all (λ u o. o ≡ Some y → at old.solvers.backward u ≡ Some y) (at old.solvers.backward) v None (λ q. absurd cc) u (λ _ q. q) (sym (n.solvers.backward.at_each u) ∙ e);
-      others = λ y o. n.kept.at_each y ∙ updated-other (kept_at old.kept) x (unless_unused (at old.users.backward x) (kept_at old.kept x)) y (λ q. o l (inl refl) (n.taken ∙ ap Some (sym q)));
+      fewer = λ u y e. updated-all (λ u o. o ≡ Some y → at old.solvers.backward u ≡ Some y) (at old.solvers.backward) v None (λ q. absurd cc) u
+          (λ _ q. q) (sym (n.solvers.backward.at_each u) ∙ e);
+      others = λ y o. n.kept.at_each y ∙ updated-other (kept_at old.kept) x (unless_unused (at old.users.backward x) (kept_at old.kept x)) y
+          (λ q. o l (inl refl) (n.taken ∙ ap Some (sym q)));
     }
 
 -- the global variable of a solver variable is one of those that are kept
@@ -72,11 +76,13 @@ leaves-one l p q k (x, mid, c, loses) =
       fewer = λ u y e. ap (λ (m : BiMap). at m.backward u) (sym same) ∙ a.fewer u y e;
       others = λ y o.
           a.others y (λ m h e. o m h (ap (λ (b : BiMap). at b.backward (variable_of m)) (sym same) ∙ e))
-          ∙ c.kept.at_each y ∙ updated-other (kept_at old.kept) x (fixed_to (polarity_of l) (kept_at old.kept x)) y (λ q. o l (inl refl) (pair ∙ ap Some (sym q)));
+          ∙ c.kept.at_each y ∙ updated-other (kept_at old.kept) x (fixed_to (polarity_of l) (kept_at old.kept x)) y
+          (λ q. o l (inl refl) (pair ∙ ap Some (sym q)));
     }
 
 -- one more was dropped
-pub leaves-then : (ls : List Literal) (l : Literal) (old mid new : Tables) → LeavesTables ls old mid → LeavesTables (l ∷ []) mid new → LeavesTables (ls ++ l ∷ []) old new
+pub leaves-then : (ls : List Literal) (l : Literal) (old mid new : Tables) → LeavesTables ls old mid → LeavesTables (l ∷ []) mid new →
+    LeavesTables (ls ++ l ∷ []) old new
 leaves-then ls l old mid new a b = record {
   users = b.users ∙ a.users;
   solvers = b.solvers ∙ a.solvers;
@@ -87,7 +93,8 @@ leaves-then ls l old mid new a b = record {
       (∈-append_cases m ls (l ∷ []) h);
   stays = λ v n. b.stays v (λ m h. n m (∈-append_right m ls (l ∷ []) h)) ∙ a.stays v (λ m h. n m (∈-append_left m ls (l ∷ []) h));
   fewer = λ v x e. a.fewer v x (b.fewer v x e);
-  others = λ x n. b.others x (λ m h e. n m (∈-append_right m ls (l ∷ []) h) (a.fewer (variable_of m) x e)) ∙ a.others x (λ m h. n m (∈-append_left m ls (l ∷ []) h));
+  others = λ x n. b.others x (λ m h e. n m (∈-append_right m ls (l ∷ []) h) (a.fewer (variable_of m) x e))
+      ∙ a.others x (λ m h. n m (∈-append_left m ls (l ∷ []) h));
 }
   where
     none : (v : ℕ) → ((x : ℕ) → at new.solvers.backward v ≡ Some x → ⊥) → at new.solvers.backward v ≡ None
@@ -97,14 +104,17 @@ leaves-then ls l old mid new a b = record {
         go None e = refl
         go (Some x) e = absurd (n x e)
 
-pub dropped-push : (ls : List Literal) (l : Literal) (p mid q : TracerState) → AreDroppedAlone ls p mid → IsDroppedAlone l mid q → AreDroppedAlone (ls ++ l ∷ []) p q
+pub dropped-push : (ls : List Literal) (l : Literal) (p mid q : TracerState) → AreDroppedAlone ls p mid → IsDroppedAlone l mid q →
+    AreDroppedAlone (ls ++ l ∷ []) p q
 dropped-push [] l p mid q e d = (q, subst (λ t. IsDroppedAlone l t q) e d, refl)
 dropped-push (m ∷ ls) l p mid q (t, a, rest) d = (t, a, dropped-push ls l t mid q rest d)
 
 -- as the laws of dropping say it, where the values are fixed
-pub left-alone : (known : ℕ → Option Bool) (ls : List Literal) (p q : TracerState) → ((l : Literal) → l ∈ ls → known (variable_of l) ≡ Some (polarity_of l)) → AreDroppedAlone ls p q → AreLeft known (map variable_of ls) p q
+pub left-alone : (known : ℕ → Option Bool) (ls : List Literal) (p q : TracerState) →
+    ((l : Literal) → l ∈ ls → known (variable_of l) ≡ Some (polarity_of l)) → AreDroppedAlone ls p q → AreLeft known (map variable_of ls) p q
 left-alone known [] p q k e = e
-left-alone known (l ∷ ls) p q k (mid, a, rest) = (mid, subst (λ o. IsLeft o p mid (variable_of l)) (sym (k l (inl refl))) a, left-alone known ls mid q (λ m h. k m (inr h)) rest)
+left-alone known (l ∷ ls) p q k (mid, a, rest) =
+    (mid, subst (λ o. IsLeft o p mid (variable_of l)) (sym (k l (inl refl))) a, left-alone known ls mid q (λ m h. k m (inr h)) rest)
 
 -- what the proof was told meanwhile
 pub dropped-told : (ls : List Literal) (p q : TracerState) → AreDroppedAlone ls p q → (given : List Entry) × IsTold p.proof given q.proof
@@ -115,9 +125,12 @@ dropped-told (l ∷ ls) p q (mid, (x, t, c, loses), rest) =
     (first ++ given, told-more p.proof mid.proof q.proof first given loses.told told)
 
 -- none of the first ones is over the variable of a later one
-pub distinct-after : (front : List Literal) (l : Literal) (rest : List Literal) → IsDistinct (map variable_of (front ++ (l ∷ rest))) → (m : Literal) → m ∈ front → variable_of m ≢ variable_of l
+pub distinct-after : (front : List Literal) (l : Literal) (rest : List Literal) → IsDistinct (map variable_of (front ++ (l ∷ rest))) →
+    (m : Literal) → m ∈ front → variable_of m ≢ variable_of l
 distinct-after [] l rest d m h q = absurd h
-distinct-after (k ∷ front) l rest d m (inl e) q = d.0 (subst (λ v. v ∈ map variable_of (front ++ (l ∷ rest))) (sym q ∙ ap variable_of e) (∈-map variable_of l (front ++ (l ∷ rest)) (∈-append_right l front (l ∷ rest) (inl refl))))
+distinct-after (k ∷ front) l rest d m (inl e) q =
+    d.0 (subst (λ v. v ∈ map variable_of (front ++ (l ∷ rest))) (sym q ∙ ap variable_of e)
+    (∈-map variable_of l (front ++ (l ∷ rest)) (∈-append_right l front (l ∷ rest) (inl refl))))
 distinct-after (k ∷ front) l rest d m (inr h) q = distinct-after front l rest d.1 m h q
 
 -- the sign of a literal
@@ -126,7 +139,8 @@ sign-same l true p = sym (eq-eqb (l % 2) 0 (p.0 refl))
 sign-same l false p = sym (ne_eqb (l % 2) 0 (λ e. let z : false ≡ true = p.1 e in cc))
 
 -- one more variable is flagged
-pub flags-push : (size : ℕ) (ls : List Literal) (l : Literal) (flags : List Bool) (i : ℕ) → i ≡ variable_of l → i < length flags → FlagsVariables size ls flags → FlagsVariables size (ls ++ l ∷ []) (set flags i true)
+pub flags-push : (size : ℕ) (ls : List Literal) (l : Literal) (flags : List Bool) (i : ℕ) → i ≡ variable_of l → i < length flags →
+    FlagsVariables size ls flags → FlagsVariables size (ls ++ l ∷ []) (set flags i true)
 flags-push size ls l flags i e h f = record {
   count = length-set flags i true ∙ f.count;
   flagged = λ v. (

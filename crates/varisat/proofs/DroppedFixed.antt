@@ -28,7 +28,9 @@ use Rattle.varisat.proofs.RecycledGlobals.{was-hidden, recycled}
 use Rattle.varisat.proofs.DroppedSolvers.{IsWithout, left}
 
 -- A literal that is held as a unit clause is true under each assignment that satisfies the accepted clauses.
-proved-value : (w : Carrying) (p : Spaces) (s : State) (v x i : ℕ) (l : Literal) → Links w p s → p.outcome ≡ outcome.Unknown → p.global_from_solver v ≡ Some x → w.identity x ≡ Some i → variable_of l ≡ v → l ∈ p.search.proved → (a : Assignment) → SatisfiesAll a s.clauses → a i ≡ polarity_of l
+proved-value : (w : Carrying) (p : Spaces) (s : State) (v x i : ℕ) (l : Literal) → Links w p s → p.outcome ≡ outcome.Unknown →
+    p.global_from_solver v ≡ Some x → w.identity x ≡ Some i → variable_of l ≡ v → l ∈ p.search.proved → (a : Assignment) →
+    SatisfiesAll a s.clauses → a i ≡ polarity_of l
 proved-value w p s v x i l k unknown pair at over proved a m =
     let to = chain p.global_from_solver w.identity in
     let read : Assignment = λ u. a (identity_of (to u)) in
@@ -37,7 +39,8 @@ proved-value w p s v x i l k unknown pair at over proved a m =
     let all = same_satisfied read h.held _ h.holds.same (h.implied a read m (agrees-through to a)) in
     let (n, y, z) = all d (∈-append_right d (clauses_of p.search.kept) h.holds.others e) in
     let same = unit.1 n y in
-    sym (ap (λ o. a (identity_of o)) (ap to over ∙ chain-some p.global_from_solver w.identity v x pair ∙ at)) ∙ ap (λ m. read (variable_of m)) (sym same) ∙ true-value read n z ∙ ap polarity_of same
+    sym (ap (λ o. a (identity_of o)) (ap to over ∙ chain-some p.global_from_solver w.identity v x pair ∙ at))
+    ∙ ap (λ m. read (variable_of m)) (sym same) ∙ true-value read n z ∙ ap polarity_of same
 
 -- An identity is gone from the state, in which something was hidden before, and the spaces stand for what is left.
 pub record IsGone (p : Spaces) (s : State) : Type 0 where
@@ -46,7 +49,9 @@ pub record IsGone (p : Spaces) (s : State) : Type 0 where
   pub fits : SpacesFit p (retold (s.told ++ Leaves identity ∷ []) s)
 
 -- whatever is kept in between of the isolated global variable
-pub left-recycled : (w : Carrying) (p : Spaces) (s : State) (v x i : ℕ) (t : Search) (d : VarData) → Links w (leave_search v x t d p) s → p.outcome ≡ outcome.Unknown → w.identity x ≡ Some i → p.user_from_global x ≡ None → d.isolated ≡ true → (checker : Option CheckerState) → IsCheckedIf p.checker (Leaves x ∷ []) checker → IsGone (record (leave_all v x t p) { checker = checker }) s
+pub left-recycled : (w : Carrying) (p : Spaces) (s : State) (v x i : ℕ) (t : Search) (d : VarData) → Links w (leave_search v x t d p) s →
+    p.outcome ≡ outcome.Unknown → w.identity x ≡ Some i → p.user_from_global x ≡ None → d.isolated ≡ true → (checker : Option CheckerState) →
+    IsCheckedIf p.checker (Leaves x ∷ []) checker → IsGone (record (leave_all v x t p) { checker = checker }) s
 left-recycled w p s v x i t d k unknown at unnamed alone checker told =
     let mid = leave_search v x t d p in
     let unsolved = updated-at p.solver_from_global x None in
@@ -55,18 +60,25 @@ left-recycled w p s v x i t d k unknown at unnamed alone checker told =
       identity = i;
       was_hidden = was-hidden w mid s x i k at unnamed unsolved isolated;
       fits =
-          maps-same (record (recycle x mid) { checker = checker }) (record (leave_all v x t p) { checker = checker }) (retold (s.told ++ Leaves i ∷ []) s) (maps-alike (record (recycle x mid) { checker = checker }) (record (leave_all v x t p) { checker = checker }) refl
-          (λ y. updated-all (λ y a. a ≡ updated (updated p.kept x d) x dead y) p.kept x dead (sym (updated-at (updated p.kept x d) x dead)) y (λ n. sym (updated-other (updated p.kept x d) x dead y n ∙ updated-other p.kept x d y n)))
+          maps-same (record (recycle x mid) { checker = checker }) (record (leave_all v x t p) { checker = checker })
+          (retold (s.told ++ Leaves i ∷ []) s)
+          (maps-alike (record (recycle x mid) { checker = checker }) (record (leave_all v x t p) { checker = checker }) refl
+          (λ y. updated-all (λ y a. a ≡ updated (updated p.kept x d) x dead y) p.kept x dead (sym (updated-at (updated p.kept x d) x dead)) y
+          (λ n. sym (updated-other (updated p.kept x d) x dead y n ∙ updated-other p.kept x d y n)))
           (λ a e y. refl)) refl
-          (recycled w mid s x i k at unnamed unsolved isolated (λ e. let z : outcome.Unknown ≡ outcome.Unsat = sym (ap without_core unknown) ∙ e in cc) checker told);
+          (recycled w mid s x i k at unnamed unsolved isolated
+          (λ e. let z : outcome.Unknown ≡ outcome.Unsat = sym (ap without_core unknown) ∙ e in cc) checker told);
     }
 
 -- The variable is not assumed, and its value is fixed at level 0.
-module _ (w : Carrying) (p : Spaces) (s : State) (v x : ℕ) (b : Bool) (t : Search) (k : Links w p s) (unknown : p.outcome ≡ outcome.Unknown) (pair : p.global_from_solver v ≡ Some x) (unassumed : (p.kept x).assumed ≡ false) (f : IsWithout v (Some b) p.search t) where
-  links-left : (i : ℕ) → w.identity x ≡ Some i → i ∈ s.counted → Links (record w { forced = updated w.forced i (Some b) }) (leave_search v x t (fixed_to b (p.kept x)) p) s
+module _ (w : Carrying) (p : Spaces) (s : State) (v x : ℕ) (b : Bool) (t : Search) (k : Links w p s) (unknown : p.outcome ≡ outcome.Unknown)
+    (pair : p.global_from_solver v ≡ Some x) (unassumed : (p.kept x).assumed ≡ false) (f : IsWithout v (Some b) p.search t) where
+  links-left : (i : ℕ) → w.identity x ≡ Some i → i ∈ s.counted →
+      Links (record w { forced = updated w.forced i (Some b) }) (leave_search v x t (fixed_to b (p.kept x)) p) s
   links-left i at c =
       let l = literal_of v b in
-      let sure = (λ (a : Assignment) (m : SatisfiesAll a s.clauses) (y : Bool) (e : Some b ≡ Some y). let q : b ≡ y = cc in proved-value w p s v x i l k unknown pair at (variable-literal v b) (f.units b refl) a m ∙ polarity-literal v b ∙ q) in
+      let sure = (λ (a : Assignment) (m : SatisfiesAll a s.clauses) (y : Bool) (e : Some b ≡ Some y). let q : b ≡ y = cc in
+      proved-value w p s v x i l k unknown pair at (variable-literal v b) (f.units b refl) a m ∙ polarity-literal v b ∙ q) in
       left w p s v x i (Some b) t k unknown pair at c unassumed f (fixed_to b (p.kept x)) sure refl (inr (b, refl))
 
   -- the global variable stays, with the value
@@ -74,7 +86,9 @@ module _ (w : Carrying) (p : Spaces) (s : State) (v x : ℕ) (b : Bool) (t : Sea
   fixed-stays = let (i, at, c) = k.solvers.live v x pair in (record w { forced = updated w.forced i (Some b) }, links-left i at c)
 
   -- a hidden one may be used again
-  pub fixed-left : p.user_from_global x ≡ None → (checker : Option CheckerState) → IsCheckedIf p.checker (Leaves x ∷ []) checker → IsGone (record (leave_all v x t p) { checker = checker }) s
+  pub fixed-left : p.user_from_global x ≡ None → (checker : Option CheckerState) → IsCheckedIf p.checker (Leaves x ∷ []) checker →
+      IsGone (record (leave_all v x t p) { checker = checker }) s
   fixed-left unnamed checker told =
       let (i, at, c) = k.solvers.live v x pair in
-      left-recycled (record w { forced = updated w.forced i (Some b) }) p s v x i t (fixed_to b (p.kept x)) (links-left i at c) unknown at unnamed refl checker told
+      left-recycled (record w { forced = updated w.forced i (Some b) }) p s v x i t (fixed_to b (p.kept x))
+      (links-left i at c) unknown at unnamed refl checker told

@@ -37,7 +37,9 @@ pub record HaveLeft {A : Type 0} (m n : Tables) (x y : Context A) (gone : List B
   pub decidable : (v : ℕ) → IsDecidable (view y) y.vsids v ↔ (IsDecidable (view x) x.vsids v × (leaves gone v ≡ false))
 
 -- where the search dropped those that a copy of the flags has
-pub have-left : {A : Type 0} (m n : Tables) (x y : Context A) (copy gone : List Bool) (ls : List Literal) (size : ℕ) → copy ≡ gone → AreLinked m → IsKept m x → FlagsVariables size ls gone → LeavesTables ls m n → IsWithout copy (view x) (view y) → y.assumptions ≡ x.assumptions → IsReady y → ((v : ℕ) → IsDecidable (view y) y.vsids v ↔ (IsDecidable (view x) x.vsids v × (leaves copy v ≡ false))) → HaveLeft m n x y gone ls size
+pub have-left : {A : Type 0} (m n : Tables) (x y : Context A) (copy gone : List Bool) (ls : List Literal) (size : ℕ) → copy ≡ gone → AreLinked m →
+    IsKept m x → FlagsVariables size ls gone → LeavesTables ls m n → IsWithout copy (view x) (view y) → y.assumptions ≡ x.assumptions → IsReady y →
+    ((v : ℕ) → IsDecidable (view y) y.vsids v ↔ (IsDecidable (view x) x.vsids v × (leaves copy v ≡ false))) → HaveLeft m n x y gone ls size
 have-left m n x y copy gone ls size e linked kept flags tables without assumptions ready decidable = record {
   linked = linked;
   kept = kept;
@@ -74,11 +76,13 @@ module _ {A : Type 0} {m n : Tables} {x y : Context A} {gone : List Bool} {ls : 
   )
 
   -- where none of them is of a global variable that has a name and is assumed, the solver is kept
-  module _ (apart : (l : Literal) (z u : ℕ) → l ∈ ls → at m.solvers.backward (variable_of l) ≡ Some z → at m.users.backward z ≡ Some u → (kept_at m.kept z).assumed ≡ true → ⊥) where
+  module _ (apart : (l : Literal) (z u : ℕ) → l ∈ ls → at m.solvers.backward (variable_of l) ≡ Some z → at m.users.backward z ≡ Some u →
+      (kept_at m.kept z).assumed ≡ true → ⊥) where
     assumed-kept : (z u : ℕ) → at m.users.backward z ≡ Some u → (kept_at m.kept z).assumed ≡ true → kept_at n.kept z ≡ kept_at m.kept z
     assumed-kept z u g a = h.tables.others z (λ l i e. apart l z u i e g a)
 
-    assumed-there : (v z u : ℕ) → at m.solvers.backward v ≡ Some z → at m.users.backward z ≡ Some u → (kept_at m.kept z).assumed ≡ true → at n.solvers.backward v ≡ Some z
+    assumed-there : (v z u : ℕ) → at m.solvers.backward v ≡ Some z → at m.users.backward z ≡ Some u → (kept_at m.kept z).assumed ≡ true →
+        at n.solvers.backward v ≡ Some z
     assumed-there v z u e g a = h.tables.stays v (λ l i o. apart l z u i (ap (at m.solvers.backward) o ∙ e) g a) ∙ e
 
     pub kept-left : IsKept n y
@@ -92,18 +96,26 @@ module _ {A : Type 0} {m n : Tables} {x y : Context A} {gone : List Bool} {ls : 
       ready = h.ready;
       count = values-left ∙ h.kept.count ∙ sym h.tables.solvers;
       decidable = in-use;
-      assumed = λ l i. subst (λ (b : BiMap). IsSome (at b.forward (variable_of l))) (sym h.tables.users) (h.kept.assumed l (subst (λ (as' : AssumptionParts). l ∈ as'.user) h.assumptions i));
+      assumed = λ l i. subst (λ (b : BiMap). IsSome (at b.forward (variable_of l))) (sym h.tables.users)
+          (h.kept.assumed l (subst (λ (as' : AssumptionParts). l ∈ as'.user) h.assumptions i));
       marked = λ l z i e.
           let named = ap (λ (b : BiMap). at b.forward (variable_of l)) (sym h.tables.users) ∙ e in
           let was = h.kept.marked l z (subst (λ (as' : AssumptionParts). l ∈ as'.user) h.assumptions i) named in
           ap (λ (d : VarData). d.assumed) (assumed-kept z (variable_of l) (h.linked.users.there (variable_of l) z named) was) ∙ was;
       working = λ l i.
-          let (z, u, e, g, a) = h.kept.working l (subst (λ (as' : AssumptionParts). l ∈ as'.working) h.assumptions i) in
-          (z, u, assumed-there (variable_of l) z u e g a, ap (λ (b : BiMap). at b.backward z) h.tables.users ∙ g, ap (λ (d : VarData). d.assumed) (assumed-kept z u g a) ∙ a);
+          let (z, u, e, g, a) = h.kept.working l (subst (λ (as' : AssumptionParts). l ∈ as'.working) h.assumptions i) in (
+            z,
+            u,
+            assumed-there (variable_of l) z u e g a,
+            ap (λ (b : BiMap). at b.backward z) h.tables.users
+                ∙ g,
+            ap (λ (d : VarData). d.assumed) (assumed-kept z u g a) ∙ a,
+          );
     }
 
   -- What is left on the trail is over assumed variables, where what was there and is not flagged was.
-  pub over-left : ((l : Literal) → l ∈ x.trail.literals → leaves gone (variable_of l) ≡ false → leads_to_unassumed m (at m.solvers.backward (variable_of l)) ≡ false) → AreOverAssumed n y.trail.literals
+  pub over-left : ((l : Literal) → l ∈ x.trail.literals → leaves gone (variable_of l) ≡ false →
+      leads_to_unassumed m (at m.solvers.backward (variable_of l)) ≡ false) → AreOverAssumed n y.trail.literals
   over-left over l i = go (at m.solvers.backward (variable_of l)) refl
     where
       before : (l ∈ x.trail.literals) × (leaves gone (variable_of l) ≡ false)
@@ -112,5 +124,8 @@ module _ {A : Type 0} {m n : Tables} {x y : Context A} {gone : List Bool} {ls : 
       go : (o : Option ℕ) → at m.solvers.backward (variable_of l) ≡ o → leads_to_unassumed n (at n.solvers.backward (variable_of l)) ≡ false
       go None e = ap (leads_to_unassumed n) (h.tables.stays (variable_of l) (other-than (variable_of l) before.1) ∙ e)
       go (Some z) e =
-          let same = h.tables.others z (λ j a q. other-than (variable_of l) before.1 j a (let r : Some (variable_of j) ≡ Some (variable_of l) = sym (h.linked.solvers.back z (variable_of j) q) ∙ h.linked.solvers.back z (variable_of l) e in cc)) in
-          ap (leads_to_unassumed n) (h.tables.stays (variable_of l) (other-than (variable_of l) before.1) ∙ e) ∙ ap (λ (d : VarData). not d.assumed) same ∙ sym (ap (leads_to_unassumed m) e) ∙ over l before.0 before.1
+          let same = h.tables.others z (λ j a q. other-than (variable_of l) before.1 j a
+          (let r : Some (variable_of j) ≡ Some (variable_of l) = sym (h.linked.solvers.back z (variable_of j) q)
+          ∙ h.linked.solvers.back z (variable_of l) e in cc)) in
+          ap (leads_to_unassumed n) (h.tables.stays (variable_of l) (other-than (variable_of l) before.1) ∙ e)
+          ∙ ap (λ (d : VarData). not d.assumed) same ∙ sym (ap (leads_to_unassumed m) e) ∙ over l before.0 before.1

@@ -85,7 +85,8 @@ module _ (s : View) (w : WellFormed s) (d : IsSettledDown s) where
 
   module _ (m : Tables) (gone : List Bool) (f : FlagsVariables (length s.values) (unassumed_among m s.trail) gone) where
     -- a variable that leaves has a literal on the trail, and is not assumed
-    pub leaving-literal : (v : ℕ) → leaves gone v ≡ true → (l : Literal) × (l ∈ s.trail) × (variable_of l ≡ v) × (leads_to_unassumed m (at m.solvers.backward v) ≡ true)
+    pub leaving-literal : (v : ℕ) → leaves gone v ≡ true → (l : Literal) × (l ∈ s.trail) × (variable_of l ≡ v)
+        × (leads_to_unassumed m (at m.solvers.backward v) ≡ true)
     leaving-literal v e =
         let (l, h, q) = (f.flagged v).0 e in
         let (on, u) = ∈-filter (λ l. leads_to_unassumed m (at m.solvers.backward (variable_of l))) s.trail l h in
@@ -97,7 +98,8 @@ module _ (s : View) (w : WellFormed s) (d : IsSettledDown s) where
         let z : Some (polarity_of k) ≡ None = sym (on-value k on) ∙ ap (λ v. slice_index_or s.values v None) q ∙ d.unassigned c h l i in
         cc)
 
-    pub assumed-stay : (ls : List Literal) → ((l : Literal) → l ∈ ls → (x : ℕ) × (at m.solvers.backward (variable_of l) ≡ Some x) × ((kept_at m.kept x).assumed ≡ true)) → AreStaying gone ls
+    pub assumed-stay : (ls : List Literal) →
+        ((l : Literal) → l ∈ ls → (x : ℕ) × (at m.solvers.backward (variable_of l) ≡ Some x) × ((kept_at m.kept x).assumed ≡ true)) → AreStaying gone ls
     assumed-stay ls n l i = true-or-not (leaves gone (variable_of l)) (λ e.
         let (k, on, q, u) = leaving-literal (variable_of l) e in
         let (x, a, b) = n l i in
@@ -106,7 +108,8 @@ module _ (s : View) (w : WellFormed s) (d : IsSettledDown s) where
 
     -- it is one of those that are dropped
     pub is-dropped : (v : ℕ) → leaves gone v ≡ true → v ∈ map variable_of (unassumed_among m s.trail)
-    is-dropped v e = let (l, h, q) = (f.flagged v).0 e in subst (λ z. z ∈ map variable_of (unassumed_among m s.trail)) q (∈-map variable_of l (unassumed_among m s.trail) h)
+    is-dropped v e = let (l, h, q) = (f.flagged v).0 e in subst (λ z. z ∈ map variable_of (unassumed_among m s.trail)) q
+        (∈-map variable_of l (unassumed_among m s.trail) h)
 
     pub dropped-is : (v : ℕ) → v ∈ map variable_of (unassumed_among m s.trail) → leaves gone v ≡ true
     dropped-is v h = let (l, i, e) = map-∈ variable_of v (unassumed_among m s.trail) h in (f.flagged v).1 (l, i, sym e)
@@ -114,21 +117,25 @@ module _ (s : View) (w : WellFormed s) (d : IsSettledDown s) where
     stays-of : (l : Literal) → leaves gone (variable_of l) ≡ false → variable_of l ∈ map variable_of (unassumed_among m s.trail) → ⊥
     stays-of l e h = let z : true ≡ false = sym (dropped-is (variable_of l) h) ∙ e in cc
 
-    pub without-these : (t : View) → search_of t ≡ search_without gone (search_of s) → AreWithout (λ v. slice_index_or s.values v None) (map variable_of (unassumed_among m s.trail)) (search_of s) (search_of t)
-    without-these t e = subst (λ (y : Search). AreWithout (λ v. slice_index_or s.values v None) (map variable_of (unassumed_among m s.trail)) (search_of s) y) (sym e) (record {
-      kept = refl;
-      unmentioned = λ v i k h. unmentioned-by v k.clause (λ l j q. let z : true ≡ false = sym (dropped-is v i) ∙ ap (leaves gone) (sym q) ∙ unmentioned k.clause (of-kept s k h) l j in cc);
-      stays = λ l i. go l i (leaves gone (variable_of l)) refl;
-      fixed = λ l i. let (y, z) = staying-was gone (search_of s).fixed l i in (y, stays-of l z);
-      proved = λ l i. let (y, z) = staying-was gone (search_of s).proved l i in (y, stays-of l z);
-      units = λ v b i q.
-          let (l, on, r, u) = leaving-literal v (dropped-is v i) in
-          let same : Some (polarity_of l) ≡ Some b = sym (on-value l on) ∙ ap (λ x. slice_index_or s.values x None) r ∙ q in
-          let sign : polarity_of l ≡ b = cc in
-          subst (λ k. k ∈ (search_of s).proved) (literal-is l v b r sign) (on-proved l on);
-    })
+    pub without-these : (t : View) → search_of t ≡ search_without gone (search_of s) →
+        AreWithout (λ v. slice_index_or s.values v None) (map variable_of (unassumed_among m s.trail)) (search_of s) (search_of t)
+    without-these t e = subst (λ (y : Search). AreWithout (λ v. slice_index_or s.values v None) (map variable_of (unassumed_among m s.trail))
+        (search_of s) y) (sym e) (record {
+          kept = refl;
+          unmentioned = λ v i k h. unmentioned-by v k.clause
+              (λ l j q. let z : true ≡ false = sym (dropped-is v i) ∙ ap (leaves gone) (sym q) ∙ unmentioned k.clause (of-kept s k h) l j in cc);
+          stays = λ l i. go l i (leaves gone (variable_of l)) refl;
+          fixed = λ l i. let (y, z) = staying-was gone (search_of s).fixed l i in (y, stays-of l z);
+          proved = λ l i. let (y, z) = staying-was gone (search_of s).proved l i in (y, stays-of l z);
+          units = λ v b i q.
+              let (l, on, r, u) = leaving-literal v (dropped-is v i) in
+              let same : Some (polarity_of l) ≡ Some b = sym (on-value l on) ∙ ap (λ x. slice_index_or s.values x None) r ∙ q in
+              let sign : polarity_of l ≡ b = cc in
+              subst (λ k. k ∈ (search_of s).proved) (literal-is l v b r sign) (on-proved l on);
+        })
       where
-        go : (l : Literal) → l ∈ (search_of s).fixed → (b : Bool) → leaves gone (variable_of l) ≡ b → (l ∈ staying gone (search_of s).fixed) ⊎ ((variable_of l ∈ map variable_of (unassumed_among m s.trail)) × (slice_index_or s.values (variable_of l) None ≡ Some (polarity_of l)))
+        go : (l : Literal) → l ∈ (search_of s).fixed → (b : Bool) → leaves gone (variable_of l) ≡ b → (l ∈ staying gone (search_of s).fixed)
+            ⊎ ((variable_of l ∈ map variable_of (unassumed_among m s.trail)) × (slice_index_or s.values (variable_of l) None ≡ Some (polarity_of l)))
         go l i true e = inr (is-dropped (variable_of l) e, on-value l (∈-filter (is_fixed s) s.trail l i).0)
         go l i false e = inl (was-staying gone (search_of s).fixed l i e)
 
@@ -146,8 +153,10 @@ unassumed-taken m ls l h =
     subst IsSome (sym e) refl
 
 -- What a solver keeps, and stands for, once the variables on the trail that are not assumed left.
-module _ {A : Type 0} {m n : Tables} {x y : Context A} {gone : List Bool} (h : HaveLeft m n x y gone (unassumed_among m x.trail.literals) (length x.assignment.current)) where
-  listed-free : (l : Literal) → l ∈ unassumed_among m x.trail.literals → (z : ℕ) → at m.solvers.backward (variable_of l) ≡ Some z → (kept_at m.kept z).assumed ≡ false
+module _ {A : Type 0} {m n : Tables} {x y : Context A} {gone : List Bool}
+    (h : HaveLeft m n x y gone (unassumed_among m x.trail.literals) (length x.assignment.current)) where
+  listed-free : (l : Literal) → l ∈ unassumed_among m x.trail.literals → (z : ℕ) → at m.solvers.backward (variable_of l) ≡ Some z →
+      (kept_at m.kept z).assumed ≡ false
   listed-free l i z e =
       let (on, u) = ∈-filter (λ l. leads_to_unassumed m (at m.solvers.backward (variable_of l))) x.trail.literals l i in
       let (w, q, free) = unassumed-global m (at m.solvers.backward (variable_of l)) u in
@@ -159,18 +168,26 @@ module _ {A : Type 0} {m n : Tables} {x y : Context A} {gone : List Bool} (h : H
 
   -- no variable that is not assumed has a literal on the trail any more
   pub none-left : AreOverAssumed n y.trail.literals
-  none-left = over-left h (λ l on e. true-or-not (leads_to_unassumed m (at m.solvers.backward (variable_of l))) (λ u. other-than h (variable_of l) e l (filter-∈ (λ l. leads_to_unassumed m (at m.solvers.backward (variable_of l))) x.trail.literals l on u) refl))
+  none-left = over-left h (λ l on e. true-or-not (leads_to_unassumed m (at m.solvers.backward (variable_of l)))
+      (λ u. other-than h (variable_of l) e l (filter-∈ (λ l. leads_to_unassumed m (at m.solvers.backward (variable_of l))) x.trail.literals l on u) refl))
 
 -- What it stands for, which is told to the proof too.
-module _ {A : Type 0} {p q : TracerState} {x y : Context A} {gone : List Bool} (h : HaveLeft p.tables q.tables x y gone (unassumed_among p.tables x.trail.literals) (length x.assignment.current)) where
-  pub stands-dropped : IsSettledDown (view x) → AreDroppedAlone (unassumed_among p.tables x.trail.literals) p q → search_of (view y) ≡ search_without gone (search_of (view x)) → (s : State) → SpacesFit (spaces_of p.tables p.proof.checker (view x) x.assumptions verdict.Unknown) s →
-      (told : List Entry) × TellsLeaving s.ever_hidden s.told told p.proof q.proof × SpacesFit (spaces_of q.tables q.proof.checker (view y) y.assumptions verdict.Unknown) (retold told s)
+module _ {A : Type 0} {p q : TracerState} {x y : Context A} {gone : List Bool}
+    (h : HaveLeft p.tables q.tables x y gone (unassumed_among p.tables x.trail.literals) (length x.assignment.current)) where
+  pub stands-dropped : IsSettledDown (view x) → AreDroppedAlone (unassumed_among p.tables x.trail.literals) p q →
+      search_of (view y) ≡ search_without gone (search_of (view x)) → (s : State) →
+      SpacesFit (spaces_of p.tables p.proof.checker (view x) x.assumptions verdict.Unknown) s →
+      (told : List Entry) × TellsLeaving s.ever_hidden s.told told p.proof q.proof
+      × SpacesFit (spaces_of q.tables q.proof.checker (view y) y.assumptions verdict.Unknown) (retold told s)
   stands-dropped d a seen s fit =
       let m = p.tables in
       let known : ℕ → Option Bool = (λ v. slice_index_or x.assignment.current v None) in
-      subst (λ (as' : AssumptionParts). (told : List Entry) × TellsLeaving s.ever_hidden s.told told p.proof q.proof × SpacesFit (spaces_of q.tables q.proof.checker (view y) as' verdict.Unknown) (retold told s)) (sym h.assumptions)
+      subst (λ (as' : AssumptionParts). (told : List Entry) × TellsLeaving s.ever_hidden s.told told p.proof q.proof
+      × SpacesFit (spaces_of q.tables q.proof.checker (view y) as' verdict.Unknown) (retold told s)) (sym h.assumptions)
       (variables-left known (map variable_of (unassumed_among m x.trail.literals)) p q (view x) (view y) x.assumptions s
-      (left-alone known (unassumed_among m x.trail.literals) p q (λ l i. on-value (view x) h.kept.ready.well d l (∈-filter (λ l. leads_to_unassumed m (at m.solvers.backward (variable_of l))) x.trail.literals l i).0) a)
+      (left-alone known (unassumed_among m x.trail.literals) p q
+      (λ l i. on-value (view x) h.kept.ready.well d l
+      (∈-filter (λ l. leads_to_unassumed m (at m.solvers.backward (variable_of l))) x.trail.literals l i).0) a)
       (without-these (view x) h.kept.ready.well d m gone h.flags (view y) seen)
       (values-left h)
       (λ v z i e. let (l, j, r) = map-∈ variable_of v (unassumed_among m x.trail.literals) i in listed-free h l j z (ap (at m.solvers.backward) (sym r) ∙ e))

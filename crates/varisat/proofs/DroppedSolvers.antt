@@ -47,7 +47,9 @@ forced-true forced l e = ap (λ o. is_value o (polarity_of l)) e ∙ own (polari
 -- 2. The links.
 
 -- The variable is not assumed. Its value at level 0, if it has one, is forced from then on, and then the global variable may be isolated.
-module _ (w : Carrying) (p : Spaces) (s : State) (v x i : ℕ) (known : Option Bool) (t : Search) (k : Links w p s) (unknown : p.outcome ≡ outcome.Unknown) (pair : p.global_from_solver v ≡ Some x) (at : w.identity x ≡ Some i) (is-counted : i ∈ s.counted) (unassumed : (p.kept x).assumed ≡ false) (f : IsWithout v known p.search t) where
+module _ (w : Carrying) (p : Spaces) (s : State) (v x i : ℕ) (known : Option Bool) (t : Search) (k : Links w p s)
+    (unknown : p.outcome ≡ outcome.Unknown) (pair : p.global_from_solver v ≡ Some x) (at : w.identity x ≡ Some i) (is-counted : i ∈ s.counted)
+    (unassumed : (p.kept x).assumed ≡ false) (f : IsWithout v known p.search t) where
   to : ℕ → Option ℕ
   to = chain p.global_from_solver w.identity
 
@@ -74,7 +76,8 @@ module _ (w : Carrying) (p : Spaces) (s : State) (v x i : ℕ) (known : Option B
 
   in-use : (u j : ℕ) → to' u ≡ Some j → u ≡ v → ⊥
   unfolding to'
-  in-use u j e q = let z : None ≡ Some j = sym (chain-none (updated p.global_from_solver v None) w.identity v (updated-at p.global_from_solver v None)) ∙ ap to' (sym q) ∙ e in cc
+  in-use u j e q = let z : None ≡ Some j =
+      sym (chain-none (updated p.global_from_solver v None) w.identity v (updated-at p.global_from_solver v None)) ∙ ap to' (sym q) ∙ e in cc
 
   to-before : (u j : ℕ) → to' u ≡ Some j → to u ≡ Some j
   to-before u j e = sym (to-other u (in-use u j e)) ∙ e
@@ -86,7 +89,8 @@ module _ (w : Carrying) (p : Spaces) (s : State) (v x i : ℕ) (known : Option B
   unfolding to
   other-identity u j e n q =
       let (y, a, b) = chain-through p.global_from_solver w.identity u j e in
-      let z : Some u ≡ Some v = sym (k.solvers.one_to_one.back y u a) ∙ ap p.solver_from_global (same-variable y (b ∙ ap Some q)) ∙ k.solvers.one_to_one.back x v pair in
+      let z : Some u ≡ Some v = sym (k.solvers.one_to_one.back y u a) ∙ ap p.solver_from_global (same-variable y (b ∙ ap Some q))
+      ∙ k.solvers.one_to_one.back x v pair in
       n cc
 
   -- a marked variable is another one, so no assumption is over the variable
@@ -96,7 +100,8 @@ module _ (w : Carrying) (p : Spaces) (s : State) (v x i : ℕ) (known : Option B
   not-working : (l : Literal) → l ∈ p.working → variable_of l ≡ v → ⊥
   unfolding to
   not-working l m e =
-      let (g, b, c) = map-∈ (carry s.naming.names) (carry to l) p.assumptions (subst (λ ls. carry to l ∈ ls) k.assumptions.agree (k.working.part (carry to l) (∈-map (carry to) l p.working m))) in
+      let (g, b, c) = map-∈ (carry s.naming.names) (carry to l) p.assumptions
+      (subst (λ ls. carry to l ∈ ls) k.assumptions.agree (k.working.part (carry to l) (∈-map (carry to) l p.working m))) in
       let (q, a) = k.assumptions.taken g b in
       let (y, y-is, z) = chain-through p.global_from_user p.solver_from_global (variable_of g) q a in
       let (j, j-is, named) = identity-named w p s (variable_of g) y k y-is in
@@ -139,10 +144,12 @@ module _ (w : Carrying) (p : Spaces) (s : State) (v x i : ℕ) (known : Option B
   -- the literal of the variable that was fixed is forced
   fixed-forced : (l : Literal) → variable_of l ≡ v → known ≡ Some (polarity_of l) → is_forced forced' (carry to l) ≡ true
   unfolding forced'
-  fixed-forced l q z = forced-true forced' (carry to l) (ap forced' (carry-at to l i (ap to q ∙ to-at)) ∙ updated-at w.forced i known ∙ z ∙ ap Some (sym (carry-sign to l)))
+  fixed-forced l q z = forced-true forced' (carry to l)
+      (ap forced' (carry-at to l i (ap to q ∙ to-at)) ∙ updated-at w.forced i known ∙ z ∙ ap Some (sym (carry-sign to l)))
 
   agrees-with : (a b : Assignment) → AgreesAlong to' a b → AgreesAlong to a (updated b v (a i))
-  agrees-with a b g u j = updated-all (λ u y. to u ≡ Some j → y ≡ a j) b v (a i) (λ e. let z : Some i ≡ Some j = sym to-at ∙ e in let q : i ≡ j = cc in ap a q) u (λ n e. g u j (to-other u n ∙ e))
+  agrees-with a b g u j = updated-all (λ u y. to u ≡ Some j → y ≡ a j) b v (a i)
+      (λ e. let z : Some i ≡ Some j = sym to-at ∙ e in let q : i ≡ j = cc in ap a q) u (λ n e. g u j (to-other u n ∙ e))
 
   -- An identity that has no solver variable now had none before, unless it is that of the variable.
   none-before : (j : ℕ) → (j ≡ i → ⊥) → ((u : ℕ) → to' u ≢ Some j) → (u : ℕ) → to u ≢ Some j
@@ -162,7 +169,8 @@ module _ (w : Carrying) (p : Spaces) (s : State) (v x i : ℕ) (known : Option B
   unit-of b e =
       let l = literal_of v b in
       let (d, a, u) = h.holds.units l (f.units b e) in
-      let (c, y, z) = unit-forgotten (carry to) l h.held (clauses_of p.search.kept ++ h.holds.others) d h.holds.same (∈-append_right d (clauses_of p.search.kept) h.holds.others a) u in
+      let (c, y, z) = unit-forgotten (carry to) l h.held (clauses_of p.search.kept ++ h.holds.others) d h.holds.same
+      (∈-append_right d (clauses_of p.search.kept) h.holds.others a) u in
       (c, subst (λ n. c ∈ rename (carry to) (only n h.held)) (variable-literal v b) y, subst (λ m. IsUnit m c) (unit-literal b) z)
 
   -- what was true for good stays so
@@ -191,16 +199,20 @@ module _ (w : Carrying) (p : Spaces) (s : State) (v x i : ℕ) (known : Option B
             ⊎_elim
             (λ q. let (c, a, u) = unit-of b (sym (updated-at w.forced i known) ∙ ap forced' (sym q) ∙ e) in
             (c, ∈-append_right c before.forgotten gone a, subst (λ n. IsUnit (literal_of n b) c) (sym q) u))
-            (λ n. let (c, a, u) = before.units j b y (sym (updated-other w.forced i known j n) ∙ e) g (none-before j n none) in (c, ∈-append_left c before.forgotten gone a, u))
+            (λ n. let (c, a, u) = before.units j b y (sym (updated-other w.forced i known j n) ∙ e) g (none-before j n none) in
+            (c, ∈-append_left c before.forgotten gone a, u))
             (equal_or_not j i);
         live = live-apart (translation w p s.told) v h.held (in-use-lives w p s k) before;
         settled = λ c e.
             settled-through (translation w p s.told) r' p.search.fixed t.fixed known-on c
-            (⊎_elim (before.settled c) (settled-with (translation w p s.told) v h.held p.search h.holds f.unmentioned c) (∈-append_cases c before.forgotten gone e));
+            (⊎_elim (before.settled c) (settled-with (translation w p s.told) v h.held p.search h.holds f.unmentioned c)
+            (∈-append_cases c before.forgotten gone e));
       }
 
   -- All assignments agree on the value, and what is kept of the global variable tells it.
-  module _ (d : VarData) (sure : (a : Assignment) → SatisfiesAll a s.clauses → (b : Bool) → known ≡ Some b → a i ≡ b) (told : d ≡ record (p.kept x) { unit = known; isolated = d.isolated }) (alone : (d.isolated ≡ (p.kept x).isolated) ⊎ ((b : Bool) × (known ≡ Some b))) where
+  module _ (d : VarData) (sure : (a : Assignment) → SatisfiesAll a s.clauses → (b : Bool) → known ≡ Some b → a i ≡ b)
+      (told : d ≡ record (p.kept x) { unit = known; isolated = d.isolated })
+      (alone : (d.isolated ≡ (p.kept x).isolated) ⊎ ((b : Bool) × (known ≡ Some b))) where
     kept' : ℕ → VarData
     kept' = updated p.kept x d
 
@@ -225,7 +237,8 @@ module _ (w : Carrying) (p : Spaces) (s : State) (v x i : ℕ) (known : Option B
       fixed = λ n l j e z.
           let before = to-before (variable_of l) j e in
           let other = in-use (variable_of l) j e in
-          ⊎_elim (λ y. y) (λ (q, y). absurd (other q)) (f.stays l (h.fixed n l j before (sym (updated-other w.forced i known j (other-identity (variable_of l) j before other)) ∙ z)));
+          ⊎_elim (λ y. y) (λ (q, y). absurd (other q))
+          (f.stays l (h.fixed n l j before (sym (updated-other w.forced i known j (other-identity (variable_of l) j before other)) ∙ z)));
       covered = λ n c e. carried-on c (dropped_are_covered p.search t (carry to) (is_forced w.forced) (is_forced forced') s.clauses f.kept
           (λ l a. ⊎_elim inl (λ (q, z). inr (fixed-forced l q z)) (f.stays l a))
           (λ l e. forced-true forced' l (forced-on (variable_of l) (polarity_of l) (forced-value w.forced l e)))
@@ -245,7 +258,8 @@ module _ (w : Carrying) (p : Spaces) (s : State) (v x i : ℕ) (known : Option B
 
     forced-here : (y j : ℕ) (b : Bool) → w.identity y ≡ Some j → y ≡ x → known ≡ Some b → forced' j ≡ Some b
     unfolding forced'
-    forced-here y j b e q z = let n : Some i ≡ Some j = sym at ∙ ap w.identity (sym q) ∙ e in let m : j ≡ i = cc in ap (updated w.forced i known) m ∙ updated-at w.forced i known ∙ z
+    forced-here y j b e q z = let n : Some i ≡ Some j = sym at ∙ ap w.identity (sym q) ∙ e in let m : j ≡ i = cc in ap (updated w.forced i known) m
+        ∙ updated-at w.forced i known ∙ z
 
     isolation-on : IsolationFits w.identity forced' kept' s.clauses s.naming.made
     isolation-on j b = go (k.isolation j b)
@@ -267,27 +281,34 @@ module _ (w : Carrying) (p : Spaces) (s : State) (v x i : ℕ) (known : Option B
       agree = k.assumptions.agree;
       taken = λ l m.
           let (q, a) = k.assumptions.taken l m in
-          let (y, e, z) = chain-through p.global_from_user p.solver_from_global (variable_of l) q a in
-          (q, chain-some p.global_from_user (updated p.solver_from_global x None) (variable_of l) y e ∙ updated-other p.solver_from_global x None y (assumed-other l y m e) ∙ z);
+          let (y, e, z) = chain-through p.global_from_user p.solver_from_global (variable_of l) q a in (
+            q,
+            chain-some p.global_from_user (updated p.solver_from_global x None) (variable_of l) y e
+                ∙ updated-other p.solver_from_global x None y (assumed-other l y m e) ∙ z,
+          );
     }
 
     pub left : Links (record w { forced = updated w.forced i known }) (leave_search v x t d p) s
     unfolding to to' forced' kept' r'
     left = record {
-      identities = identities-same w.identity w.global p.kept kept' s.naming.made (field-same (λ a. a.deleted) p.kept x d (ap (λ a. a.deleted) told)) k.identities;
+      identities = identities-same w.identity w.global p.kept kept' s.naming.made
+          (field-same (λ a. a.deleted) p.kept x d (ap (λ a. a.deleted) told)) k.identities;
       names = k.names;
-      modes = modes-same w.identity p.global_from_user p.user_from_global p.global_from_user p.user_from_global p.kept kept' s.naming.modes (λ u. refl) (λ y. refl) (field-same (λ a. a.sampling_mode) p.kept x d (ap (λ a. a.sampling_mode) told)) k.modes;
+      modes = modes-same w.identity p.global_from_user p.user_from_global p.global_from_user p.user_from_global p.kept kept' s.naming.modes
+          (λ u. refl) (λ y. refl) (field-same (λ a. a.sampling_mode) p.kept x d (ap (λ a. a.sampling_mode) told)) k.modes;
       watermark = k.watermark;
       globals = k.globals;
       units = units-on;
       isolation = isolation-on;
       solvers = record {
         one_to_one = parted p.solver_from_global p.global_from_solver x v k.solvers.one_to_one (k.solvers.one_to_one.back x v pair);
-        live = λ u y. updated-all (λ u o. o ≡ Some y → (j : ℕ) × (w.identity y ≡ Some j) × (j ∈ s.counted)) p.global_from_solver v None (λ e. absurd cc) u (λ n e. k.solvers.live u y e);
+        live = λ u y. updated-all (λ u o. o ≡ Some y → (j : ℕ) × (w.identity y ≡ Some j) × (j ∈ s.counted)) p.global_from_solver v None
+            (λ e. absurd cc) u (λ n e. k.solvers.live u y e);
       };
       holds = subst (SearchHolds s.clauses r' t) (sym (ap without_core unknown)) holds-on;
       assumptions = assumptions-on;
-      marks = marks-same p.global_from_user p.global_from_user p.kept kept' p.assumptions (λ u. refl) (field-same (λ a. a.assumed) p.kept x d (ap (λ a. a.assumed) told)) k.marks;
+      marks = marks-same p.global_from_user p.global_from_user p.kept kept' p.assumptions (λ u. refl)
+          (field-same (λ a. a.assumed) p.kept x d (ap (λ a. a.assumed) told)) k.marks;
       working = working-same s.clauses to to' s.assumptions p.working (λ l m. to-other (variable_of l) (not-working l m)) k.working;
       verdict = k.verdict;
       core = k.core;

@@ -46,7 +46,8 @@ use Rattle.varisat.proofs.DroppedApart.{apart-left, apart-recycled}
 
 -- The solver variable was dropped. Before that its global variable was kept with its value and as isolated, where the value is fixed.
 abbrev pub IsLeft : Option Bool → TracerState → TracerState → ℕ → Type 0
-IsLeft (Some b) p q v = (x : ℕ) × (mid : Tables) × IsChangedTo p.tables mid x (fixed_to b (kept_at p.tables.kept x)) × LosesSolverVar x v (record p { tables = mid }) q
+IsLeft (Some b) p q v = (x : ℕ) × (mid : Tables) × IsChangedTo p.tables mid x (fixed_to b (kept_at p.tables.kept x))
+    × LosesSolverVar x v (record p { tables = mid }) q
 IsLeft None p q v = (x : ℕ) × LosesSolverVar x v p q
 
 -- The solver variables were dropped in turn. `known` tells which values are fixed.
@@ -88,11 +89,13 @@ kept-twice old mid new x d e a b =
     let second = b.count in
     record {
       count = omega (arith, first, second);
-      at_each = λ y. b.at_each y ∙ updated-all (λ y o. o ≡ updated (kept_at old) x e y) (kept_at mid) x e (sym (updated-at (kept_at old) x e)) y (λ n. a.at_each y ∙ updated-other (kept_at old) x d y n ∙ sym (updated-other (kept_at old) x e y n));
+      at_each = λ y. b.at_each y ∙ updated-all (λ y o. o ≡ updated (kept_at old) x e y) (kept_at mid) x e (sym (updated-at (kept_at old) x e)) y
+          (λ n. a.at_each y ∙ updated-other (kept_at old) x d y n ∙ sym (updated-other (kept_at old) x e y n));
     }
 
 -- what dropping a solver variable does to the tables, whether its value is fixed or not
-loses : (known : Option Bool) (p q : TracerState) (v : ℕ) → IsLeft known p q v → (x : ℕ) × LosesSolver p.tables q.tables x v (unless_unused (at p.tables.users.backward x) (with_known known (kept_at p.tables.kept x)))
+loses : (known : Option Bool) (p q : TracerState) (v : ℕ) → IsLeft known p q v → (x : ℕ)
+    × LosesSolver p.tables q.tables x v (unless_unused (at p.tables.users.backward x) (with_known known (kept_at p.tables.kept x)))
     × IsTold p.proof (leaves_if_deleted q.tables x) q.proof
 loses None p q v (x, l) = let n = l.dropped in (x, record { taken = n.taken; users = n.users; solvers = n.solvers; kept = n.kept }, l.told)
 loses (Some b) p q v (x, mid, c, l) =
@@ -108,17 +111,22 @@ loses (Some b) p q v (x, mid, c, l) =
         taken = ap (λ (m : BiMap). at m.backward v) (sym solvers) ∙ n.taken;
         users = n.users ∙ users;
         solvers = subst (λ m. IsParted m new.solvers x v) solvers n.solvers;
-        kept = kept-twice old.kept mid.kept new.kept x d (unless_unused (at old.users.backward x) d) c.kept (subst (λ d. IsKeptAs mid.kept x d new.kept) after n.kept);
+        kept = kept-twice old.kept mid.kept new.kept x d (unless_unused (at old.users.backward x) d) c.kept
+            (subst (λ d. IsKeptAs mid.kept x d new.kept) after n.kept);
       },
       l.told,
     )
 
-module _ (old new : Tables) (p q : ProofParts) (search : View) (assumed : AssumptionParts) (s : State) (u t : Search) (x v : ℕ) (d : VarData) (w : Carrying) (k : Links w (between old p.checker search assumed u) s) where
+module _ (old new : Tables) (p q : ProofParts) (search : View) (assumed : AssumptionParts) (s : State) (u t : Search) (x v : ℕ) (d : VarData)
+    (w : Carrying) (k : Links w (between old p.checker search assumed u) s) where
   -- whatever is kept of the variable
-  moved : (told : List Entry) (e : VarData) (m : ℕ → Bool) (checker : Option CheckerState) → LosesSolver old new x v e → SpacesFit (record (leave_search v x t e (between old p.checker search assumed u)) { model = m; checker = checker }) (retold told s) → SpacesFit (between new checker search assumed t) (retold told s)
+  moved : (told : List Entry) (e : VarData) (m : ℕ → Bool) (checker : Option CheckerState) → LosesSolver old new x v e →
+      SpacesFit (record (leave_search v x t e (between old p.checker search assumed u)) { model = m; checker = checker }) (retold told s) →
+      SpacesFit (between new checker search assumed t) (retold told s)
   moved told e m checker n f =
       let live : (kept_at old.kept x).deleted ≡ false = (let (i, is, c) = k.solvers.live v x n.taken in k.identities.live x i is) in
-      maps-same (record (leave_search v x t e (between old p.checker search assumed u)) { model = m; checker = checker }) (between new checker search assumed t) (retold told s) (record {
+      maps-same (record (leave_search v x t e (between old p.checker search assumed u)) { model = m; checker = checker })
+      (between new checker search assumed t) (retold told s) (record {
         global_from_user = λ y. ap (λ (b : BiMap). at b.forward y) n.users;
         user_from_global = λ y. ap (λ (b : BiMap). at b.backward y) n.users;
         watermark = ap (λ (b : BiMap). length b.forward) n.users;
@@ -131,24 +139,38 @@ module _ (old new : Tables) (p q : ProofParts) (search : View) (assumed : Assump
 
   -- where it is live still, the proof is told nothing
   none-told : LosesSolver old new x v d → d.deleted ≡ false → leaves_if_deleted new x ≡ []
-  none-told n live = ap (λ (b : Bool). if b then Leaves x ∷ [] else []) (ap (λ (e : VarData). e.deleted) (n.kept.at_each x ∙ updated-at (kept_at old.kept) x d) ∙ live)
+  none-told n live = ap (λ (b : Bool). if b then Leaves x ∷ [] else [])
+      (ap (λ (e : VarData). e.deleted) (n.kept.at_each x ∙ updated-at (kept_at old.kept) x d) ∙ live)
 
   -- where it is not, the proof is told so
   one-told : LosesSolver old new x v dead → leaves_if_deleted new x ≡ Leaves x ∷ []
   one-told n = ap (λ (b : Bool). if b then Leaves x ∷ [] else []) (ap (λ (e : VarData). e.deleted) (n.kept.at_each x ∙ updated-at (kept_at old.kept) x dead))
 
   -- Where it has no name and is isolated it is gone, and else it stays.
-  gone : LosesSolver old new x v (unless_unused (at old.users.backward x) d) → IsTold p (leaves_if_deleted new x) q → d.deleted ≡ false → SpacesFit (leave_search v x t d (between old p.checker search assumed u)) s → (at old.users.backward x ≡ None → d.isolated ≡ true → (checker : Option CheckerState) → IsCheckedIf p.checker (Leaves x ∷ []) checker → IsGone (record (leave_all v x t (between old p.checker search assumed u)) { checker = checker }) s) →
+  gone : LosesSolver old new x v (unless_unused (at old.users.backward x) d) → IsTold p (leaves_if_deleted new x) q → d.deleted ≡ false →
+      SpacesFit (leave_search v x t d (between old p.checker search assumed u)) s →
+      (at old.users.backward x ≡ None → d.isolated ≡ true → (checker : Option CheckerState) → IsCheckedIf p.checker (Leaves x ∷ []) checker →
+      IsGone (record (leave_all v x t (between old p.checker search assumed u)) { checker = checker }) s) →
       (told : List Entry) × TellsLeaving s.ever_hidden s.told told p q × SpacesFit (between new q.checker search assumed t) (retold told s)
   gone n h live stays recycled = go (at old.users.backward x) d.isolated refl refl
     where
-      stay : LosesSolver old new x v d → (told : List Entry) × TellsLeaving s.ever_hidden s.told told p q × SpacesFit (between new q.checker search assumed t) (retold told s)
-      stay l = (s.told, leaving-none s.ever_hidden s.told p q (leaves_if_deleted new x) (none-told l live) h, moved s.told d (between old p.checker search assumed u).model q.checker l (subst (λ o. SpacesFit (record (leave_search v x t d (between old p.checker search assumed u)) { checker = o }) s) (sym (checked-nothing p.checker q.checker (subst (λ es. IsCheckedIf p.checker es q.checker) (none-told l live) h.checked))) stays))
+      stay : LosesSolver old new x v d → (told : List Entry) × TellsLeaving s.ever_hidden s.told told p q
+          × SpacesFit (between new q.checker search assumed t) (retold told s)
+      stay l = (
+        s.told,
+        leaving-none s.ever_hidden s.told p q (leaves_if_deleted new x) (none-told l live) h,
+        moved s.told d
+            (between old p.checker search assumed u).model q.checker l
+            (subst (λ o. SpacesFit (record (leave_search v x t d (between old p.checker search assumed u)) { checker = o }) s)
+            (sym (checked-nothing p.checker q.checker (subst (λ es. IsCheckedIf p.checker es q.checker) (none-told l live) h.checked))) stays),
+      )
 
-      go : (o : Option ℕ) (b : Bool) → at old.users.backward x ≡ o → d.isolated ≡ b → (told : List Entry) × TellsLeaving s.ever_hidden s.told told p q × SpacesFit (between new q.checker search assumed t) (retold told s)
+      go : (o : Option ℕ) (b : Bool) → at old.users.backward x ≡ o → d.isolated ≡ b → (told : List Entry)
+          × TellsLeaving s.ever_hidden s.told told p q × SpacesFit (between new q.checker search assumed t) (retold told s)
       go (Some y) b e i = stay (subst (λ o. LosesSolver old new x v (unless_unused o d)) e n)
       go None true e i =
-          let lost : LosesSolver old new x v dead = subst (λ c. LosesSolver old new x v (if c then dead else d)) i (subst (λ o. LosesSolver old new x v (unless_unused o d)) e n) in
+          let lost : LosesSolver old new x v dead = subst (λ c. LosesSolver old new x v (if c then dead else d)) i
+          (subst (λ o. LosesSolver old new x v (unless_unused o d)) e n) in
           let r = recycled e i q.checker (subst (λ es. IsCheckedIf p.checker es q.checker) (one-told lost) h.checked) in (
             s.told ++ Leaves r.identity ∷ [],
             leaving-one s.ever_hidden s.told r.identity p q (leaves_if_deleted new x) r.was_hidden h,
@@ -156,18 +178,22 @@ module _ (old new : Tables) (p q : ProofParts) (search : View) (assumed : Assump
           )
       go None false e i = stay (subst (λ c. LosesSolver old new x v (if c then dead else d)) i (subst (λ o. LosesSolver old new x v (unless_unused o d)) e n))
 
-one-left : (known : Option Bool) (v : ℕ) (a b : TracerState) (search : View) (assumed : AssumptionParts) (s : State) (u t : Search) → IsLeft known a b v → IsWithout v known u t → ((x : ℕ) → at a.tables.solvers.backward v ≡ Some x → (kept_at a.tables.kept x).assumed ≡ false) → SpacesFit (between a.tables a.proof.checker search assumed u) s →
+one-left : (known : Option Bool) (v : ℕ) (a b : TracerState) (search : View) (assumed : AssumptionParts) (s : State) (u t : Search) →
+    IsLeft known a b v → IsWithout v known u t → ((x : ℕ) → at a.tables.solvers.backward v ≡ Some x → (kept_at a.tables.kept x).assumed ≡ false) →
+    SpacesFit (between a.tables a.proof.checker search assumed u) s →
     (told : List Entry) × TellsLeaving s.ever_hidden s.told told a.proof b.proof × SpacesFit (between b.tables b.proof.checker search assumed t) (retold told s)
 one-left (Some b) v p q search assumed s u t a f free (w, k) =
     let (x, n, h) = loses (Some b) p q v a in
     let old = between p.tables p.proof.checker search assumed u in
     let (i, is, c) = k.solvers.live v x n.taken in
-    gone p.tables q.tables p.proof q.proof search assumed s u t x v (fixed_to b (kept_at p.tables.kept x)) w k n h (k.identities.live x i is) (fixed-stays w old s v x b t k refl n.taken (free x n.taken) f) (λ e i. fixed-left w old s v x b t k refl n.taken (free x n.taken) f e)
+    gone p.tables q.tables p.proof q.proof search assumed s u t x v (fixed_to b (kept_at p.tables.kept x)) w k n h (k.identities.live x i is)
+    (fixed-stays w old s v x b t k refl n.taken (free x n.taken) f) (λ e i. fixed-left w old s v x b t k refl n.taken (free x n.taken) f e)
 one-left None v p q search assumed s u t a f free (w, k) =
     let (x, n, h) = loses None p q v a in
     let old = between p.tables p.proof.checker search assumed u in
     let (i, is, c) = k.solvers.live v x n.taken in
-    gone p.tables q.tables p.proof q.proof search assumed s u t x v (kept_at p.tables.kept x) w k n h (k.identities.live x i is) (apart-left w old s v x t k refl n.taken (free x n.taken) f) (λ e i. apart-recycled w old s v x t k refl n.taken (free x n.taken) e i f)
+    gone p.tables q.tables p.proof q.proof search assumed s u t x v (kept_at p.tables.kept x) w k n h (k.identities.live x i is)
+    (apart-left w old s v x t k refl n.taken (free x n.taken) f) (λ e i. apart-recycled w old s v x t k refl n.taken (free x n.taken) e i f)
 
 -- 2. Several in turn.
 
@@ -201,7 +227,8 @@ without-first known v vs s t f = record {
   units = λ b e. f.units v b (inl refl) e;
 }
 
-without-others : (known : ℕ → Option Bool) (v : ℕ) (vs : List ℕ) (s t : Search) → (v ∈ vs → ⊥) → AreWithout known (v ∷ vs) s t → AreWithout known vs (forget_variable v s) t
+without-others : (known : ℕ → Option Bool) (v : ℕ) (vs : List ℕ) (s t : Search) → (v ∈ vs → ⊥) → AreWithout known (v ∷ vs) s t →
+    AreWithout known vs (forget_variable v s) t
 without-others known v vs s t once f = record {
   kept = f.kept;
   unmentioned = λ u i. f.unmentioned u (inr i);
@@ -214,11 +241,14 @@ without-others known v vs s t once f = record {
 }
 
 -- a pair that is left was there before, and is of another variable
-pair-before : (old new : Tables) (v u x y : ℕ) (d : VarData) → LosesSolver old new y v d → at new.solvers.backward u ≡ Some x → (at old.solvers.backward u ≡ Some x) × (u ≡ v → ⊥)
+pair-before : (old new : Tables) (v u x y : ℕ) (d : VarData) → LosesSolver old new y v d → at new.solvers.backward u ≡ Some x →
+    (at old.solvers.backward u ≡ Some x) × (u ≡ v → ⊥)
 pair-before old new v u x y d p e =
-    updated-all (λ u o. o ≡ Some x → (at old.solvers.backward u ≡ Some x) × (u ≡ v → ⊥)) (at old.solvers.backward) v None (λ q. absurd cc) u (λ n q. (q, n)) (sym (p.solvers.backward.at_each u) ∙ e)
+    updated-all (λ u o. o ≡ Some x → (at old.solvers.backward u ≡ Some x) × (u ≡ v → ⊥)) (at old.solvers.backward) v None (λ q. absurd cc) u
+    (λ n q. (q, n)) (sym (p.solvers.backward.at_each u) ∙ e)
 
-taken-before : (known : ℕ → Option Bool) (vs : List ℕ) (p q : TracerState) → AreLeft known vs p q → (v : ℕ) → v ∈ vs → (x : ℕ) × (at p.tables.solvers.backward v ≡ Some x)
+taken-before : (known : ℕ → Option Bool) (vs : List ℕ) (p q : TracerState) → AreLeft known vs p q → (v : ℕ) → v ∈ vs → (x : ℕ)
+    × (at p.tables.solvers.backward v ≡ Some x)
 taken-before known [] p q e v h = absurd h
 taken-before known (u ∷ vs) p q (mid, a, rest) v (inl e) = let (x, n, told) = loses (known u) p mid u a in (x, ap (at p.tables.solvers.backward) e ∙ n.taken)
 taken-before known (u ∷ vs) p q (mid, a, rest) v (inr h) =
@@ -227,10 +257,13 @@ taken-before known (u ∷ vs) p q (mid, a, rest) v (inr h) =
     (x, (pair-before p.tables mid.tables u v x y (unless_unused (at p.tables.users.backward y) (with_known (known u) (kept_at p.tables.kept y))) n e).0)
 
 -- a variable that is not assumed stays so
-still-free : (known : Option Bool) (old new : Tables) (v x : ℕ) → LosesSolver old new x v (unless_unused (at old.users.backward x) (with_known known (kept_at old.kept x))) → (y : ℕ) → (kept_at old.kept y).assumed ≡ false → (kept_at new.kept y).assumed ≡ false
+still-free : (known : Option Bool) (old new : Tables) (v x : ℕ) →
+    LosesSolver old new x v (unless_unused (at old.users.backward x) (with_known known (kept_at old.kept x))) → (y : ℕ) →
+    (kept_at old.kept y).assumed ≡ false → (kept_at new.kept y).assumed ≡ false
 still-free known old new v x n y e =
     let d = with_known known (kept_at old.kept x) in
-    ap (λ (a : VarData). a.assumed) (n.kept.at_each y) ∙ updated-all (λ y (a : VarData). (kept_at old.kept y).assumed ≡ false → a.assumed ≡ false) (kept_at old.kept) x (unless_unused (at old.users.backward x) d) (λ q. by-name (unused (at old.users.backward x) d) (by-value known q)) y (λ _ q. q) e
+    ap (λ (a : VarData). a.assumed) (n.kept.at_each y) ∙ updated-all (λ y (a : VarData). (kept_at old.kept y).assumed ≡ false → a.assumed ≡ false)
+    (kept_at old.kept) x (unless_unused (at old.users.backward x) d) (λ q. by-name (unused (at old.users.backward x) d) (by-value known q)) y (λ _ q. q) e
   where
     by-value : (o : Option Bool) → (kept_at old.kept x).assumed ≡ false → (with_known o (kept_at old.kept x)).assumed ≡ false
     by-value None q = q
@@ -241,7 +274,8 @@ still-free known old new v x n y e =
     by-name false q = q
 
 -- the same clauses and the same literals, in whatever order
-same-holds : (P : List Clause) (r : Translation) (s t : Search) → AreWithout (λ v. None) [] s t → SearchHolds P r s outcome.Unknown → SearchHolds P r t outcome.Unknown
+same-holds : (P : List Clause) (r : Translation) (s t : Search) → AreWithout (λ v. None) [] s t → SearchHolds P r s outcome.Unknown →
+    SearchHolds P r t outcome.Unknown
 same-holds P r s t f h = record {
   held = h.held;
   holds = record {
@@ -265,11 +299,23 @@ same-holds P r s t f h = record {
     before l (inl a) = inl (f.fixed l a).0
     before l (inr (k, a, b)) = inr (k, subst (λ ks. k ∈ ks) f.kept a, b)
 
-all-left : (known : ℕ → Option Bool) (vs : List ℕ) (p q : TracerState) (search : View) (assumed : AssumptionParts) (s : State) (u t : Search) → AreLeft known vs p q → AreWithout known vs u t → ((v x : ℕ) → v ∈ vs → at p.tables.solvers.backward v ≡ Some x → (kept_at p.tables.kept x).assumed ≡ false) → SpacesFit (between p.tables p.proof.checker search assumed u) s →
+all-left : (known : ℕ → Option Bool) (vs : List ℕ) (p q : TracerState) (search : View) (assumed : AssumptionParts) (s : State) (u t : Search) →
+    AreLeft known vs p q → AreWithout known vs u t →
+    ((v x : ℕ) → v ∈ vs → at p.tables.solvers.backward v ≡ Some x → (kept_at p.tables.kept x).assumed ≡ false) →
+    SpacesFit (between p.tables p.proof.checker search assumed u) s →
     (told : List Entry) × TellsLeaving s.ever_hidden s.told told p.proof q.proof × SpacesFit (between q.tables q.proof.checker search assumed t) (retold told s)
 all-left known [] p q search assumed s u t e f free (w, k) =
     let old = between p.tables p.proof.checker search assumed u in
-    let same : AreWithout (λ v. None) [] u t = record { kept = f.kept; unmentioned = f.unmentioned; stays = λ l a. ⊎_elim inl (λ (i, q). absurd i) (f.stays l a); fixed = f.fixed; proved = f.proved; units = λ v b i. absurd i } in (
+    let same : AreWithout (λ v. None) [] u t =
+    record {
+      kept = f.kept;
+      unmentioned = f.unmentioned;
+      stays = λ l a. ⊎_elim inl (λ (i, q). absurd i) (f.stays l a);
+      fixed = f.fixed;
+      proved =
+          f.proved;
+      units = λ v b i. absurd i;
+    } in (
       s.told,
       subst (λ (a : TracerState). TellsLeaving s.ever_hidden s.told s.told p.proof a.proof) (sym e) (leaving-nothing s.ever_hidden s.told p.proof),
       subst (λ (a : TracerState). SpacesFit (between a.tables a.proof.checker search assumed t) s) (sym e) (
@@ -293,15 +339,20 @@ all-left known (v ∷ vs) p q search assumed s u t (mid, a, rest) f free fit =
     let (g, n, h) = loses (known v) p mid v a in
     let d = unless_unused (at old.users.backward g) (with_known (known v) (kept_at old.kept g)) in
     let once = λ (i : v ∈ vs). let (x, e) = taken-before known vs mid q rest v i in (pair-before old mid.tables v v x g d n e).1 refl in
-    let (first, more, mid-fits) = one-left (known v) v p mid search assumed s u (forget_variable v u) a (without-first known v vs u t f) (λ x e. free v x (inl refl) e) fit in
+    let (first, more, mid-fits) = one-left (known v) v p mid search assumed s u (forget_variable v u) a (without-first known v vs u t f)
+    (λ x e. free v x (inl refl) e) fit in
     let (last, further, fits) = all-left known vs mid q search assumed (retold first s) (forget_variable v u) t rest (without-others known v vs u t once f)
     (λ y x i e. still-free (known v) old mid.tables v g n x (free y x (inr i) (pair-before old mid.tables v y x g d n e).0))
     mid-fits in
     (last, leaving-through s.ever_hidden s.told first last p.proof mid.proof q.proof more further, fits)
 
 -- Variables that are not assumed left the search, and their solver variables the tables: what is held stands for the same state as before.
-pub variables-left : (known : ℕ → Option Bool) (vs : List ℕ) (p q : TracerState) (search after : View) (assumed : AssumptionParts) (s : State) → AreLeft known vs p q → AreWithout known vs (search_of search) (search_of after) → length after.values ≡ length search.values → ((v x : ℕ) → v ∈ vs → at p.tables.solvers.backward v ≡ Some x → (kept_at p.tables.kept x).assumed ≡ false) → SpacesFit (spaces_of p.tables p.proof.checker search assumed verdict.Unknown) s →
-    (told : List Entry) × TellsLeaving s.ever_hidden s.told told p.proof q.proof × SpacesFit (spaces_of q.tables q.proof.checker after assumed verdict.Unknown) (retold told s)
+pub variables-left : (known : ℕ → Option Bool) (vs : List ℕ) (p q : TracerState) (search after : View) (assumed : AssumptionParts) (s : State) →
+    AreLeft known vs p q → AreWithout known vs (search_of search) (search_of after) → length after.values ≡ length search.values →
+    ((v x : ℕ) → v ∈ vs → at p.tables.solvers.backward v ≡ Some x → (kept_at p.tables.kept x).assumed ≡ false) →
+    SpacesFit (spaces_of p.tables p.proof.checker search assumed verdict.Unknown) s →
+    (told : List Entry) × TellsLeaving s.ever_hidden s.told told p.proof q.proof
+    × SpacesFit (spaces_of q.tables q.proof.checker after assumed verdict.Unknown) (retold told s)
 variables-left known vs p q search after assumed s a f count free fit =
     let new = q.tables in
     let last = between new q.proof.checker search assumed (search_of after) in
@@ -310,6 +361,7 @@ variables-left known vs p q search after assumed s a f count free fit =
       told,
       more,
       maps-same (record last { var_count = length after.values }) (spaces_of new q.proof.checker after assumed verdict.Unknown) (retold told s)
-          (maps-alike (record last { var_count = length after.values }) (spaces_of new q.proof.checker after assumed verdict.Unknown) refl (λ x. refl) (λ b e y. absurd (let z : outcome.Unknown ≡ outcome.Sat b = e in cc)))
+          (maps-alike (record last { var_count = length after.values }) (spaces_of new q.proof.checker after assumed verdict.Unknown) refl
+          (λ x. refl) (λ b e y. absurd (let z : outcome.Unknown ≡ outcome.Sat b = e in cc)))
           refl (w, recount w last (length search.values) (length after.values) (retold told s) count k),
     )

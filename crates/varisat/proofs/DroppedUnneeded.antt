@@ -68,10 +68,18 @@ needed-shown m s over shown = record {
 
 -- and none does.
 pub none-leaves : {A : Type 0} (p : TracerState) (x : Context A) → IsKept p.tables x → LetsLeave p x p x
-none-leaves p x k = record { kept = k; within = λ c q b. b; count = refl; given = ([], told-none p.proof); stands = λ s fit. (s.told, leaving-nothing s.ever_hidden s.told p.proof, fit) }
+none-leaves p x k = record {
+  kept = k;
+  within = λ c q b. b;
+  count = refl;
+  given = ([], told-none p.proof);
+  stands =
+      λ s fit. (s.told, leaving-nothing s.ever_hidden s.told p.proof, fit);
+}
 
 -- several were dropped in turn, and then one more
-pub released-push : (ls : List Literal) (l : Literal) (p mid q : TracerState) → AreReleased ls p mid → (x : ℕ) × LosesSolverVar x (variable_of l) mid q → AreReleased (ls ++ l ∷ []) p q
+pub released-push : (ls : List Literal) (l : Literal) (p mid q : TracerState) → AreReleased ls p mid → (x : ℕ)
+    × LosesSolverVar x (variable_of l) mid q → AreReleased (ls ++ l ∷ []) p q
 released-push [] l p mid q e d = (q, subst (λ t. (x : ℕ) × LosesSolverVar x (variable_of l) t q) e d, refl)
 released-push (m ∷ ls) l p mid q (t, a, rest) d = (t, a, released-push ls l t mid q rest d)
 
@@ -89,7 +97,8 @@ released-left [] p q e = e
 released-left (l ∷ ls) p q (mid, a, rest) = (mid, a, released-left ls mid q rest)
 
 module _ (m : Tables) (mentioned : List Bool) (ls : List Literal) (u : ListsUnneeded m mentioned ls) where
-  listed-is : (l : Literal) → l ∈ ls → (variable_of l < length mentioned) × (slice_index_or mentioned (variable_of l) false ≡ false) × (leads_to_hidden m (at m.solvers.backward (variable_of l)) ≡ true)
+  listed-is : (l : Literal) → l ∈ ls → (variable_of l < length mentioned) × (slice_index_or mentioned (variable_of l) false ≡ false)
+      × (leads_to_hidden m (at m.solvers.backward (variable_of l)) ≡ true)
   listed-is l h = (u.listed (variable_of l)).0 (∈-map variable_of l ls h)
 
   pub unneeded-inside : (l : Literal) → l ∈ ls → variable_of l < length mentioned
@@ -132,10 +141,13 @@ module _ (m : Tables) (mentioned : List Bool) (ls : List Literal) (u : ListsUnne
         not-named j z v h (ap (at m.solvers.backward) q ∙ a) b)
 
     -- where those that leave are not assumed, none of them is true at level 0
-    without-unneeded : (t : View) → AreOverAssumed m s.trail → ((v z : ℕ) → v ∈ map variable_of ls → at m.solvers.backward v ≡ Some z → (kept_at m.kept z).assumed ≡ false) → search_of t ≡ search_without gone (search_of s) → AreWithout (λ v. None) (map variable_of ls) (search_of s) (search_of t)
+    without-unneeded : (t : View) → AreOverAssumed m s.trail →
+        ((v z : ℕ) → v ∈ map variable_of ls → at m.solvers.backward v ≡ Some z → (kept_at m.kept z).assumed ≡ false) →
+        search_of t ≡ search_without gone (search_of s) → AreWithout (λ v. None) (map variable_of ls) (search_of s) (search_of t)
     without-unneeded t over free e = subst (λ (y : Search). AreWithout (λ v. None) (map variable_of ls) (search_of s) y) (sym e) (record {
       kept = refl;
-      unmentioned = λ v i k h. unmentioned-by v k.clause (λ l j q. let z : true ≡ false = sym (leaves-listed v i) ∙ ap (leaves gone) (sym q) ∙ unneeded-unmentioned k.clause (of-kept s k h) l j in cc);
+      unmentioned = λ v i k h. unmentioned-by v k.clause
+          (λ l j q. let z : true ≡ false = sym (leaves-listed v i) ∙ ap (leaves gone) (sym q) ∙ unneeded-unmentioned k.clause (of-kept s k h) l j in cc);
       stays = λ l i. inl (was-staying gone (search_of s).fixed l i (not-leaving l (∈-filter (is_fixed s) s.trail l i).0));
       fixed = λ l i. let (y, z) = staying-was gone (search_of s).fixed l i in (y, stays-of l z);
       proved = λ l i. let (y, z) = staying-was gone (search_of s).proved l i in (y, stays-of l z);
@@ -151,7 +163,8 @@ module _ (m : Tables) (mentioned : List Bool) (ls : List Literal) (u : ListsUnne
             cc)
 
 -- What a solver keeps, and stands for, once they left.
-module _ {A : Type 0} {m n : Tables} {x y : Context A} {mentioned gone : List Bool} {ls : List Literal} (over : AreOverAssumed m x.trail.literals) (p : FlagsMentioned (view x) mentioned) (u : ListsUnneeded m mentioned ls) (h : HaveLeft m n x y gone ls (length mentioned)) where
+module _ {A : Type 0} {m n : Tables} {x y : Context A} {mentioned gone : List Bool} {ls : List Literal} (over : AreOverAssumed m x.trail.literals)
+    (p : FlagsMentioned (view x) mentioned) (u : ListsUnneeded m mentioned ls) (h : HaveLeft m n x y gone ls (length mentioned)) where
   pub kept-released : IsKept n y
   kept-released = kept-left h (λ l z v i e g a. not-named m mentioned ls u l z v i e g)
 
@@ -163,7 +176,8 @@ module _ {A : Type 0} {m n : Tables} {x y : Context A} {mentioned gone : List Bo
       let inside : v < length mentioned = (let a = at-inside m.solvers.backward v z was in let b = h.kept.count in let c = p.count in omega (arith, a, b, c)) in
       go z e was inside (slice_index_or mentioned v false) refl (leads_to_hidden m (at m.solvers.backward v)) refl
     where
-      go : (z : ℕ) → at n.solvers.backward v ≡ Some z → at m.solvers.backward v ≡ Some z → v < length mentioned → (a : Bool) → slice_index_or mentioned v false ≡ a → (b : Bool) → leads_to_hidden m (at m.solvers.backward v) ≡ b → HasUser n v ⊎ IsMentioned (kept (view y)) v
+      go : (z : ℕ) → at n.solvers.backward v ≡ Some z → at m.solvers.backward v ≡ Some z → v < length mentioned → (a : Bool) →
+          slice_index_or mentioned v false ≡ a → (b : Bool) → leads_to_hidden m (at m.solvers.backward v) ≡ b → HasUser n v ⊎ IsMentioned (kept (view y)) v
       go z e was inside true a b q = inr (subst (λ cs. IsMentioned cs v) (sym (ap kept h.without.rest)) ((p.flagged v).0 a))
       go z e was inside false a true q =
           let (l, i, o) = map-∈ variable_of v ls ((u.listed v).1 (inside, a, q)) in
@@ -177,17 +191,24 @@ module _ {A : Type 0} {m n : Tables} {x y : Context A} {mentioned gone : List Bo
   needed-left = record { assumed = over-left h (λ l on e. over l on); needed = needed }
 
 -- What it stands for, which is told to the proof too.
-module _ {A : Type 0} {p q : TracerState} {x y : Context A} {mentioned gone : List Bool} {ls : List Literal} (over : AreOverAssumed p.tables x.trail.literals) (f : FlagsMentioned (view x) mentioned) (u : ListsUnneeded p.tables mentioned ls) (h : HaveLeft p.tables q.tables x y gone ls (length mentioned)) where
-  pub stands-released : AreReleased ls p q → search_of (view y) ≡ search_without gone (search_of (view x)) → (s : State) → SpacesFit (spaces_of p.tables p.proof.checker (view x) x.assumptions verdict.Unknown) s →
-      (told : List Entry) × TellsLeaving s.ever_hidden s.told told p.proof q.proof × SpacesFit (spaces_of q.tables q.proof.checker (view y) y.assumptions verdict.Unknown) (retold told s)
+module _ {A : Type 0} {p q : TracerState} {x y : Context A} {mentioned gone : List Bool} {ls : List Literal}
+    (over : AreOverAssumed p.tables x.trail.literals) (f : FlagsMentioned (view x) mentioned) (u : ListsUnneeded p.tables mentioned ls)
+    (h : HaveLeft p.tables q.tables x y gone ls (length mentioned)) where
+  pub stands-released : AreReleased ls p q → search_of (view y) ≡ search_without gone (search_of (view x)) → (s : State) →
+      SpacesFit (spaces_of p.tables p.proof.checker (view x) x.assumptions verdict.Unknown) s →
+      (told : List Entry) × TellsLeaving s.ever_hidden s.told told p.proof q.proof
+      × SpacesFit (spaces_of q.tables q.proof.checker (view y) y.assumptions verdict.Unknown) (retold told s)
   stands-released a seen s (c, links) =
       let m = p.tables in
-      let free : (v z : ℕ) → v ∈ map variable_of ls → at m.solvers.backward v ≡ Some z → (kept_at m.kept z).assumed ≡ false = (λ v z i e. true-or-not (kept_at m.kept z).assumed (λ t.
+      let free : (v z : ℕ) → v ∈ map variable_of ls → at m.solvers.backward v ≡ Some z →
+      (kept_at m.kept z).assumed ≡ false = (λ v z i e. true-or-not (kept_at m.kept z).assumed (λ t.
       let (l, g, r) = links.marks.only z t in
       let (j, k, o) = map-∈ variable_of v ls i in
       not-named m mentioned ls u j z (variable_of l) k (ap (at m.solvers.backward) (sym o) ∙ e) (h.linked.users.there (variable_of l) z r))) in
-      subst (λ (as' : AssumptionParts). (told : List Entry) × TellsLeaving s.ever_hidden s.told told p.proof q.proof × SpacesFit (spaces_of q.tables q.proof.checker (view y) as' verdict.Unknown) (retold told s)) (sym h.assumptions)
-      (variables-left (λ v. None) (map variable_of ls) p q (view x) (view y) x.assumptions s (released-left ls p q a) (without-unneeded m mentioned ls u (view x) gone f h.flags (view y) over free seen) (values-left h) free (c, links))
+      subst (λ (as' : AssumptionParts). (told : List Entry) × TellsLeaving s.ever_hidden s.told told p.proof q.proof
+      × SpacesFit (spaces_of q.tables q.proof.checker (view y) as' verdict.Unknown) (retold told s)) (sym h.assumptions)
+      (variables-left (λ v. None) (map variable_of ls) p q (view x) (view y) x.assumptions s (released-left ls p q a)
+      (without-unneeded m mentioned ls u (view x) gone f h.flags (view y) over free seen) (values-left h) free (c, links))
 
 -- Of each hidden variable below n whose flag is not set there is one literal.
 pub record ListsBelow (n : ℕ) (t : Tables) (flags : List Bool) (ls : List Literal) : Type 0 where
@@ -197,14 +218,17 @@ pub record ListsBelow (n : ℕ) (t : Tables) (flags : List Bool) (ls : List Lite
 pub lists-none : (t : Tables) (flags : List Bool) → ListsBelow 0 t flags []
 lists-none t flags = record { distinct = tt; listed = λ v. (λ h. absurd h, λ (a, b, c). absurd (omega (arith, a))) }
 
-pub lists-one : (n : ℕ) (t : Tables) (flags : List Bool) (ls : List Literal) (l : Literal) → ListsBelow n t flags ls → variable_of l ≡ n → slice_index_or flags n false ≡ false → leads_to_hidden t (at t.solvers.backward n) ≡ true → ListsBelow (n + 1) t flags (ls ++ l ∷ [])
+pub lists-one : (n : ℕ) (t : Tables) (flags : List Bool) (ls : List Literal) (l : Literal) → ListsBelow n t flags ls → variable_of l ≡ n →
+    slice_index_or flags n false ≡ false → leads_to_hidden t (at t.solvers.backward n) ≡ true → ListsBelow (n + 1) t flags (ls ++ l ∷ [])
 lists-one n t flags ls l a e p q = record {
-  distinct = subst IsDistinct (sym (map-append variable_of ls (l ∷ []))) (distinct-push (map variable_of ls) (variable_of l) a.distinct (λ h. let (b, c, d) = (a.listed (variable_of l)).0 h in absurd (omega (arith, b, e))));
+  distinct = subst IsDistinct (sym (map-append variable_of ls (l ∷ [])))
+      (distinct-push (map variable_of ls) (variable_of l) a.distinct (λ h. let (b, c, d) = (a.listed (variable_of l)).0 h in absurd (omega (arith, b, e))));
   listed = λ v. (
     λ h. ⊎_elim
         (λ i. let (b, c, d) = (a.listed v).0 i in (omega (arith, b), c, d))
         (λ i. ⊎_elim
-        (λ o. let r : n ≡ v = sym e ∙ sym o in (omega (arith, r), subst (λ w. slice_index_or flags w false ≡ false) r p, subst (λ w. leads_to_hidden t (at t.solvers.backward w) ≡ true) r q))
+        (λ o. let r : n ≡ v = sym e ∙ sym o in
+        (omega (arith, r), subst (λ w. slice_index_or flags w false ≡ false) r p, subst (λ w. leads_to_hidden t (at t.solvers.backward w) ≡ true) r q))
         (λ z. absurd z) i)
         (∈-append_cases v (map variable_of ls) (variable_of l ∷ []) (subst (λ vs. v ∈ vs) (map-append variable_of ls (l ∷ [])) h)),
     λ (b, c, d). subst (λ vs. v ∈ vs) (sym (map-append variable_of ls (l ∷ []))) (⊎_elim
@@ -214,7 +238,8 @@ lists-one n t flags ls l a e p q = record {
   );
 }
 
-pub lists-pass : (n : ℕ) (t : Tables) (flags : List Bool) (ls : List Literal) → ListsBelow n t flags ls → (slice_index_or flags n false ≡ false → leads_to_hidden t (at t.solvers.backward n) ≡ true → ⊥) → ListsBelow (n + 1) t flags ls
+pub lists-pass : (n : ℕ) (t : Tables) (flags : List Bool) (ls : List Literal) → ListsBelow n t flags ls →
+    (slice_index_or flags n false ≡ false → leads_to_hidden t (at t.solvers.backward n) ≡ true → ⊥) → ListsBelow (n + 1) t flags ls
 lists-pass n t flags ls a k = record {
   distinct = a.distinct;
   listed = λ v. (
@@ -227,4 +252,5 @@ lists-pass n t flags ls a k = record {
 }
 
 pub lists-all : (t : Tables) (flags : List Bool) (ls : List Literal) (n : ℕ) → n ≡ length flags → ListsBelow n t flags ls → ListsUnneeded t flags ls
-lists-all t flags ls n e a = subst (λ k. ListsBelow k t flags ls → ListsUnneeded t flags ls) (sym e) (λ b. record { distinct = b.distinct; listed = b.listed }) a
+lists-all t flags ls n e a = subst (λ k. ListsBelow k t flags ls → ListsUnneeded t flags ls) (sym e)
+    (λ b. record { distinct = b.distinct; listed = b.listed }) a

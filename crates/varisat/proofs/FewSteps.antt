@@ -37,8 +37,10 @@ none-is-few : (since n : ℕ) → since ≡ 0 → since < 2 ^ (2 * n + 3)
 none-is-few since n e = subst (λ k. k < 2 ^ (2 * n + 3)) (sym e) (pow_pos (2 * n + 3))
 
 -- the steps of a call join those before it
-joined-are-few : (n max_steps before now start end : ℕ) (r : Result Bool SolverError) → now ≡ before + (end - start) → CountsSteps n max_steps before start end r → now < 2 ^ (2 * n + 3)
-joined-are-few n max_steps before now start end r e c = let k = c.count in let b = c.bounded in subst (λ x. x < 2 ^ (2 * n + 3)) (sym (e ∙ (let z : before + (end - start) ≡ before + c.made = omega (arith, k) in z))) b
+joined-are-few : (n max_steps before now start end : ℕ) (r : Result Bool SolverError) → now ≡ before + (end - start) →
+    CountsSteps n max_steps before start end r → now < 2 ^ (2 * n + 3)
+joined-are-few n max_steps before now start end r e c = let k = c.count in let b = c.bounded in
+    subst (λ x. x < 2 ^ (2 * n + 3)) (sym (e ∙ (let z : before + (end - start) ≡ before + c.made = omega (arith, k) in z))) b
 
 -- 1. What each call keeps, whatever has the steps.
 record KeepsFew {X : Type 0} (by : CallRules X) : Type 1 where
@@ -55,7 +57,8 @@ record KeepsFew {X : Type 0} (by : CallRules X) : Type 1 where
   tells_model : (s t : X) (r : Result (Option (List Literal)) AllocError) → by.tells_model s r t → t ≡ s
   tells_core : (s t : X) (r : Result (Option (List Literal)) AllocError) → by.tells_core s r t → t ≡ s
   updated : (s : X) (u : SolverConfigUpdate) → HasFewSteps by (by.updated u s)
-  opens : {W : Type 0} (taken : W → Taken) (target : W) (f : ProofFormat) (s t : X) (r : Result (Unit {0}) (SolverError × W)) → by.opens taken target f s r t → HasFewSteps by s → HasFewSteps by t
+  opens : {W : Type 0} (taken : W → Taken) (target : W) (f : ProofFormat) (s t : X) (r : Result (Unit {0}) (SolverError × W)) →
+      by.opens taken target f s r t → HasFewSteps by s → HasFewSteps by t
   closes : {W : Type 0} (taken : W → Taken) (s t : X) (r : Result (Option W) (SolverError × W)) → by.closes taken s r t → HasFewSteps by t
 
 module _ {X : Type 0} (by : CallRules X) (keeps : KeepsFew by) where
@@ -75,7 +78,8 @@ module _ {X : Type 0} (by : CallRules X) (keeps : KeepsFew by) where
   add-list s t P r (OneRefused v x e a) h = add-all s t P (Err x) a h
   add-list s t P r (RefusedAtOnce e (v, k)) h = same s t k h
 
-  tell-fault : (s t : X) (x : Option DimacsError) (r : Result (Unit {0}) SolverError) → additions.TellsFault by.adding x s r t → HasFewSteps by s → HasFewSteps by t
+  tell-fault : (s t : X) (x : Option DimacsError) (r : Result (Unit {0}) SolverError) → additions.TellsFault by.adding x s r t → HasFewSteps by s →
+      HasFewSteps by t
   tell-fault s t x r (NoFault n e k) h = anew-is s t k
   tell-fault s t x r (MemoryFault y n m e b) h = keeps.broken s t b
   tell-fault s t x r (Fault y n m e k) h = same s t k h
@@ -84,7 +88,8 @@ module _ {X : Type 0} (by : CallRules X) (keeps : KeepsFew by) where
   add-reading s t R r (ClauseRefused e k a) h = add-all s t R.clauses (Err e) a h
   add-reading s t R r (ClausesAdded mid a f) h = tell-fault mid t R.fault r f (add-all s mid R.clauses (Ok tt) a h)
 
-  add-given : (s t : X) (old new : Stand) (g : Gave old new) (r : Result (Unit {0}) SolverError) → additions.AddsGiven by.adding g s r t → HasFewSteps by s → HasFewSteps by t
+  add-given : (s t : X) (old new : Stand) (g : Gave old new) (r : Result (Unit {0}) SolverError) → additions.AddsGiven by.adding g s r t →
+      HasFewSteps by s → HasFewSteps by t
   add-given s t old new g r (RefusedEarly ended from e k a n) h = add-all s t ended (Err e) a h
   add-given s t old new g r (FaultInText R from x a n) h = add-reading s t R r a h
   add-given s t old new g r (Whole end a n) h = add-reading s t _ r a h
@@ -95,7 +100,9 @@ module _ {X : Type 0} (by : CallRules X) (keeps : KeepsFew by) where
   add-text s t old new r (Read v g a) h = add-given s t old new g r a h
   add-text s t old new r (Unread e (v, k) n) h = same s t k h
 
-  change-var : (may_leave : Bool) (change : X → X) (u : ℕ) (s t : X) (r : Result (Unit {0}) SolverError) → (by.named.like may_leave (change (usage.name_var by.named u s)) t → HasFewSteps by t) → usage.ChangesVar by.named may_leave change s u r t → HasFewSteps by s → HasFewSteps by t
+  change-var : (may_leave : Bool) (change : X → X) (u : ℕ) (s t : X) (r : Result (Unit {0}) SolverError) →
+      (by.named.like may_leave (change (usage.name_var by.named u s)) t → HasFewSteps by t) → usage.ChangesVar by.named may_leave change s u r t →
+      HasFewSteps by s → HasFewSteps by t
   change-var may_leave change u s t (Ok x) f (v, small, free, e) h = f e
   change-var may_leave change u s t (Err Invalid) f a h = same s t a.1 h
   change-var may_leave change u s t (Err VariableLimit) f a h = same s t a.2 h
@@ -109,20 +116,25 @@ module _ {X : Type 0} (by : CallRules X) (keeps : KeepsFew by) where
   observe s t (Err OutOfMemory) a h = keeps.lost s t a
   observe s t (Err e) a h = absurd a
 
-  config : (s t : X) (u : SolverConfigUpdate) (r : Result (Unit {0}) SolverError) → updates.Configures by.adding.valid by.updated s u r t → HasFewSteps by s → HasFewSteps by t
+  config : (s t : X) (u : SolverConfigUpdate) (r : Result (Unit {0}) SolverError) → updates.Configures by.adding.valid by.updated s u r t →
+      HasFewSteps by s → HasFewSteps by t
   config s t u (Ok x) (v, n, e) h = subst (HasFewSteps by) (sym e) (keeps.updated s u)
   config s t u (Err Invalid) a h = same s t a.1 h
   config s t u (Err (ConfigOutOfRange field)) a h = same s t a.2 h
   config s t u (Err e) a h = absurd a
 
-  call-keeps : {W S A : Type 0} (seen : S → Stand) (taken : W → Taken) (c : Call W S A) (a : Answer W S A) (s t : X) → Makes by seen taken s c a t → HasFewSteps by s → HasFewSteps by t
+  call-keeps : {W S A : Type 0} (seen : S → Stand) (taken : W → Taken) (c : Call W S A) (a : Answer W S A) (s t : X) → Makes by seen taken s c a t →
+      HasFewSteps by s → HasFewSteps by t
   call-keeps seen taken (call.AddClause d) (answer.AddClause r) s t m h = keeps.adds s t d.items r m h
   call-keeps seen taken (call.AddFormula f) (answer.AddFormula r) s t m h = add-list s t f.clauses r m h
   call-keeps seen taken (call.AddDimacsCnf source) (answer.AddDimacsCnf r back) s t m h = add-text s t (seen source) (seen back) r m h
   call-keeps seen taken call.NewVar (answer.NewVar r) s t m h = keeps.makes_var s t r m h
-  call-keeps seen taken (call.SampleVar u) (answer.SampleVar r) s t m h = change-var false (usage.with_mode by.named u Sample) u s t r (keeps.moded _ _ s t) m.0 h
-  call-keeps seen taken (call.WitnessVar u) (answer.WitnessVar r) s t m h = change-var false (usage.with_mode by.named u Witness) u s t r (keeps.moded _ _ s t) m.0 h
-  call-keeps seen taken (call.HideVar u) (answer.HideVar r) s t m h = change-var true (usage.hide_name by.named u) u s t r (keeps.hidden _ (usage.name_var by.named u s) t) m h
+  call-keeps seen taken (call.SampleVar u) (answer.SampleVar r) s t m h =
+      change-var false (usage.with_mode by.named u Sample) u s t r (keeps.moded _ _ s t) m.0 h
+  call-keeps seen taken (call.WitnessVar u) (answer.WitnessVar r) s t m h =
+      change-var false (usage.with_mode by.named u Witness) u s t r (keeps.moded _ _ s t) m.0 h
+  call-keeps seen taken (call.HideVar u) (answer.HideVar r) s t m h =
+      change-var true (usage.hide_name by.named u) u s t r (keeps.hidden _ (usage.name_var by.named u s) t) m h
   call-keeps seen taken call.ObserveInternalVars (answer.ObserveInternalVars r) s t m h = observe s t (told_vars r) m h
   call-keeps seen taken (call.Assume list) (answer.Assume r) s t m h = keeps.assumes s t list.items r m h
   call-keeps seen taken call.Solve (answer.Solve r) s t m h = keeps.solves s t r m h
@@ -136,7 +148,8 @@ module _ {X : Type 0} (by : CallRules X) (keeps : KeepsFew by) where
   call-keeps seen taken call.CloseProof (answer.CloseProof r) s t m h = keeps.closes taken s t r m
   call-keeps seen taken _ _ s t m h = absurd m
 
-  along : {W S A : Type 0} (seen : S → Stand) (taken : W → Taken) (calls : List (Call W S A)) (answers : List (Answer W S A)) (s : X) → HasFewSteps by s → HasFewStepsAlong by seen taken s calls answers
+  along : {W S A : Type 0} (seen : S → Stand) (taken : W → Taken) (calls : List (Call W S A)) (answers : List (Answer W S A)) (s : X) →
+      HasFewSteps by s → HasFewStepsAlong by seen taken s calls answers
   along seen taken calls answers s h zero t r = same s t r h
   along seen taken [] [] s h (suc k) t r = same s t r h
   along seen taken [] (a ∷ answers) s h (suc k) t r = absurd r
@@ -173,7 +186,8 @@ state-var s t (Err Invalid) a h = state-same s t a.1 h
 state-var s t (Err VariableLimit) a h = state-same s t a.2 h
 state-var s t (Err e) a h = absurd a
 
-state-assumes : (s t : State) (list : List Literal) (r : Result (Unit {0}) SolverError) → state.Assumes s list r t → HasFewSteps calling s → HasFewSteps calling t
+state-assumes : (s t : State) (list : List Literal) (r : Result (Unit {0}) SolverError) → state.Assumes s list r t → HasFewSteps calling s →
+    HasFewSteps calling t
 state-assumes s t list (Ok u) (v, closed, lim, e) h = begun-few s t _ e.ledger refl
 state-assumes s t list (Err OutOfMemory) a h = no-way s t a.2
 state-assumes s t list (Err Invalid) a h = state-same s t a.1 h
@@ -183,11 +197,14 @@ state-assumes s t list (Err (WitnessVar u)) a h = state-same s t a.4 h
 state-assumes s t list (Err e) a h = absurd a
 
 -- the steps of a call are counted, by which variables are counted before and after it
-state-joined : (s t : State) (r : Result Bool SolverError) → t.counted ≡ s.counted → t.ledger.since ≡ s.ledger.since + (t.ledger.steps - s.ledger.steps) → state.CountsCall s r t → HasFewSteps calling t
-state-joined s t r e k c v = subst (λ (xs : List ℕ). t.ledger.since < 2 ^ (2 * length xs + 3)) (sym e) (joined-are-few (length s.counted) s.ledger.settings.max_steps s.ledger.since t.ledger.since s.ledger.steps t.ledger.steps r k c)
+state-joined : (s t : State) (r : Result Bool SolverError) → t.counted ≡ s.counted →
+    t.ledger.since ≡ s.ledger.since + (t.ledger.steps - s.ledger.steps) → state.CountsCall s r t → HasFewSteps calling t
+state-joined s t r e k c v = subst (λ (xs : List ℕ). t.ledger.since < 2 ^ (2 * length xs + 3)) (sym e)
+    (joined-are-few (length s.counted) s.ledger.settings.max_steps s.ledger.since t.ledger.since s.ledger.steps t.ledger.steps r k c)
 
 -- no step is made
-state-stays : (s t : State) → t.counted ≡ s.counted → t.ledger.valid ≡ s.ledger.valid → t.ledger.since ≡ s.ledger.since + (t.ledger.steps - s.ledger.steps) → t.ledger.steps ≡ s.ledger.steps → HasFewSteps calling s → HasFewSteps calling t
+state-stays : (s t : State) → t.counted ≡ s.counted → t.ledger.valid ≡ s.ledger.valid →
+    t.ledger.since ≡ s.ledger.since + (t.ledger.steps - s.ledger.steps) → t.ledger.steps ≡ s.ledger.steps → HasFewSteps calling s → HasFewSteps calling t
 state-stays s t e w k n h v =
     let z : t.ledger.since ≡ s.ledger.since = omega (arith, k, n) in
     subst (λ (xs : List ℕ). t.ledger.since < 2 ^ (2 * length xs + 3)) (sym e) (subst (λ x. x < 2 ^ (2 * length s.counted + 3)) (sym z) (h (sym w ∙ v)))
@@ -214,7 +231,8 @@ state-core : (s t : State) (r : Result (Option (List Literal)) AllocError) → s
 state-core s t (Ok m) a = a.1
 state-core s t (Err e) a = a.2
 
-state-opens : {W : Type 0} (taken : W → Taken) (target : W) (f : ProofFormat) (s t : State) (r : Result (Unit {0}) (SolverError × W)) → OpensProof taken target f s r t → HasFewSteps calling s → HasFewSteps calling t
+state-opens : {W : Type 0} (taken : W → Taken) (target : W) (f : ProofFormat) (s t : State) (r : Result (Unit {0}) (SolverError × W)) →
+    OpensProof taken target f s r t → HasFewSteps calling s → HasFewSteps calling t
 state-opens taken target f s t (Ok u) (v, closed, fresh, e) h = begun-few s t _ (ap (λ (x : State). x.ledger) e) refl
 state-opens taken target f s t (Err (Invalid, back)) a h = state-same s t a.1.1 h
 state-opens taken target f s t (Err (ProofOpen, back)) a h = state-same s t a.3 h
@@ -246,7 +264,8 @@ state-keeps = record {
 }
 
 -- from a state with few steps on they stay few
-pub run-stays-few : {W S A : Type 0} (seen : S → Stand) (taken : W → Taken) (calls : List (Call W S A)) (answers : List (Answer W S A)) (s : State) → HasFewSteps calling s → HasFewStepsAlong calling seen taken s calls answers
+pub run-stays-few : {W S A : Type 0} (seen : S → Stand) (taken : W → Taken) (calls : List (Call W S A)) (answers : List (Answer W S A))
+    (s : State) → HasFewSteps calling s → HasFewStepsAlong calling seen taken s calls answers
 run-stays-few seen taken calls answers s h = along calling state-keeps seen taken calls answers s h
 
 -- 3. Pasts.
@@ -288,19 +307,22 @@ past-assumes p q list (Err VariableLimit) a h = past-same p q a.3 h
 past-assumes p q list (Err (WitnessVar u)) a h = past-same p q a.4 h
 past-assumes p q list (Err e) a h = absurd a
 
-past-joined : (p q : Past) (r : Result Bool SolverError) (m c : Bool) → q ≡ record (past.with_steps q.steps (past.once_searched p)) { has_model = m; has_core = c } → past.CountsCall p r q → HasFewSteps telling q
+past-joined : (p q : Past) (r : Result Bool SolverError) (m c : Bool) →
+    q ≡ record (past.with_steps q.steps (past.once_searched p)) { has_model = m; has_core = c } → past.CountsCall p r q → HasFewSteps telling q
 past-joined p q r m c e k v =
     subst (λ (xs : List ℕ). q.since < 2 ^ (2 * length xs + 3)) (sym (ap (λ (x : Past). x.counted) e))
     (joined-are-few (length p.counted) p.settings.max_steps p.since q.since p.steps q.steps r (ap (λ (x : Past). x.since) e) k)
 
-past-stays : (p q : Past) (m c : Bool) → q ≡ record (past.with_steps q.steps (past.once_searched p)) { has_model = m; has_core = c } → q.steps ≡ p.steps → HasFewSteps telling p → HasFewSteps telling q
+past-stays : (p q : Past) (m c : Bool) → q ≡ record (past.with_steps q.steps (past.once_searched p)) { has_model = m; has_core = c } →
+    q.steps ≡ p.steps → HasFewSteps telling p → HasFewSteps telling q
 past-stays p q m c e n h v =
     let k : q.since ≡ p.since + (q.steps - p.steps) = ap (λ (x : Past). x.since) e in
     let z : q.since ≡ p.since = omega (arith, k, n) in
     subst (λ (xs : List ℕ). q.since < 2 ^ (2 * length xs + 3)) (sym (ap (λ (x : Past). x.counted) e))
     (subst (λ x. x < 2 ^ (2 * length p.counted + 3)) (sym z) (h (sym (ap (λ (x : Past). x.valid) e) ∙ v)))
 
-past-told : (p q : Past) (b m c : Bool) → q ≡ record (past.with_steps q.steps (past.once_searched p)) { has_model = m; has_core = c } → past.CountsIfUnknown p (Ok b) q → HasFewSteps telling p → HasFewSteps telling q
+past-told : (p q : Past) (b m c : Bool) → q ≡ record (past.with_steps q.steps (past.once_searched p)) { has_model = m; has_core = c } →
+    past.CountsIfUnknown p (Ok b) q → HasFewSteps telling p → HasFewSteps telling q
 past-told p q b m c e (past.Known w n) h = past-stays p q m c e n h
 past-told p q b m c e (past.Searched w k) h = past-joined p q (Ok b) m c e k
 
@@ -324,7 +346,8 @@ past-core p q (Ok (Some core)) a = a.4
 past-core p q (Ok None) a = a.1
 past-core p q (Err e) a = a.2
 
-past-opens : {W : Type 0} (taken : W → Taken) (target : W) (f : ProofFormat) (p q : Past) (r : Result (Unit {0}) (SolverError × W)) → past.ProofOpens taken target f p r q → HasFewSteps telling p → HasFewSteps telling q
+past-opens : {W : Type 0} (taken : W → Taken) (target : W) (f : ProofFormat) (p q : Past) (r : Result (Unit {0}) (SolverError × W)) →
+    past.ProofOpens taken target f p r q → HasFewSteps telling p → HasFewSteps telling q
 past-opens taken target f p q (Ok u) (v, closed, fresh, e) h = past-few q (past.opened f (taken target).bytes p) e refl
 past-opens taken target f p q (Err (Invalid, back)) a h = past-same p q a.2 h
 past-opens taken target f p q (Err (ProofOpen, back)) a h = past-same p q a.3 h
@@ -356,5 +379,6 @@ past-keeps = record {
 }
 
 -- from the first call on they are few
-pub answers-stay-few : {W S A : Type 0} (seen : S → Stand) (taken : W → Taken) (calls : List (Call W S A)) (answers : List (Answer W S A)) → HasFewStepsAlong telling seen taken empty_past calls answers
+pub answers-stay-few : {W S A : Type 0} (seen : S → Stand) (taken : W → Taken) (calls : List (Call W S A)) (answers : List (Answer W S A)) →
+    HasFewStepsAlong telling seen taken empty_past calls answers
 answers-stay-few seen taken calls answers = along telling past-keeps seen taken calls answers empty_past (λ v. none-is-few 0 0 refl)

@@ -33,7 +33,8 @@ no-interrupt step.Memory r p f = let z = sym p ∙ f in cc
 no-interrupt (step.Target cause) r p f = let z = sym p ∙ f in cc
 
 -- how steps are counted where one came to no end
-refused-counts : (n max_steps since before after made : ℕ) (e : StepError) → after ≡ before + made → made ≤ max_steps → since + made < 2 ^ (2 * n + 3) → CountsSteps n max_steps since before after (Err (step_refusal e))
+refused-counts : (n max_steps since before after made : ℕ) (e : StepError) → after ≡ before + made → made ≤ max_steps →
+    since + made < 2 ^ (2 * n + 3) → CountsSteps n max_steps since before after (Err (step_refusal e))
 refused-counts n max_steps since before after made e count budget bounded = record {
   made = made;
   count = count;
@@ -52,7 +53,9 @@ pub record Searching {A : Type 0} (x y : Context A) (max_steps : ℕ) : Type 0 w
   pub config : y.solver_config ≡ x.solver_config
   pub made : HasMade x y max_steps
 
-pub searching-at : {A : Type 0} (x y : Context A) (max_steps : ℕ) → 0 < x.solver_config.luby_restart_interval_scale → IsReady x → x.solver_state.sat_state ≡ verdict.Unknown → length y.assignment.current ≡ length x.assignment.current → y.solver_config ≡ x.solver_config → HasMade x y max_steps → Searching x y max_steps
+pub searching-at : {A : Type 0} (x y : Context A) (max_steps : ℕ) → 0 < x.solver_config.luby_restart_interval_scale → IsReady x →
+    x.solver_state.sat_state ≡ verdict.Unknown → length y.assignment.current ≡ length x.assignment.current → y.solver_config ≡ x.solver_config →
+    HasMade x y max_steps → Searching x y max_steps
 searching-at x y max_steps h r u n f m = record { scaled = h; begins = r; unknown = u; count = n; config = f; made = m }
 
 module _ {A : Type 0} {x y : Context A} {max_steps : ℕ} (d : Searching x y max_steps) where
@@ -91,7 +94,8 @@ module _ {A : Type 0} {x y : Context A} {max_steps : ℕ} (d : Searching x y max
     }
 
     -- the steps are spent
-    pub counts-spent : (steps_since x.schedule y.schedule ≡ max_steps) ⊎ (y.schedule.steps ≡ 2 ^ 64 - 1) → (n : ℕ) → length x.assignment.current ≤ n → CountsSteps n max_steps (x.schedule.steps - changed_at) x.schedule.steps y.schedule.steps (Err Interrupted)
+    pub counts-spent : (steps_since x.schedule y.schedule ≡ max_steps) ⊎ (y.schedule.steps ≡ 2 ^ 64 - 1) → (n : ℕ) →
+        length x.assignment.current ≤ n → CountsSteps n max_steps (x.schedule.steps - changed_at) x.schedule.steps y.schedule.steps (Err Interrupted)
     counts-spent s n h = record {
       made = steps_since x.schedule y.schedule;
       count = so-far;
@@ -102,8 +106,10 @@ module _ {A : Type 0} {x y : Context A} {max_steps : ℕ} (d : Searching x y max
     }
 
     -- a clause could not be kept in the step behind them
-    pub counts-refused : (error : StepError) (steps : ℕ) → steps ≡ y.schedule.steps → (n : ℕ) → length x.assignment.current ≤ n → CountsSteps n max_steps (x.schedule.steps - changed_at) x.schedule.steps steps (Err (step_refusal error))
-    counts-refused error steps e n h = refused-counts n max_steps (x.schedule.steps - changed_at) x.schedule.steps steps (steps_since x.schedule y.schedule) error (e ∙ so-far) d.made.budget (let b = few-both n h in omega (arith, b))
+    pub counts-refused : (error : StepError) (steps : ℕ) → steps ≡ y.schedule.steps → (n : ℕ) → length x.assignment.current ≤ n →
+        CountsSteps n max_steps (x.schedule.steps - changed_at) x.schedule.steps steps (Err (step_refusal error))
+    counts-refused error steps e n h = refused-counts n max_steps (x.schedule.steps - changed_at) x.schedule.steps steps
+        (steps_since x.schedule y.schedule) error (e ∙ so-far) d.made.budget (let b = few-both n h in omega (arith, b))
 
 pub told-refused : (r : Result (Option Bool) StepError) → IsErr r → (e : StepError) × (told_verdict r ≡ Err (step_refusal e))
 told-refused (Ok x) h = absurd (let z : false ≡ true = h in cc)
@@ -138,7 +144,9 @@ module _ {A : Type 0} {x y z : Context A} {max_steps : ℕ} (d : Stepping x y z 
   within : suc (steps_since x.schedule y.schedule) ≤ max_steps
   within =
       let k = d.searching.made.budget in
-      ⊎_elim (λ (a : steps_since x.schedule y.schedule < max_steps). omega (arith, a)) (λ (a : max_steps ≤ steps_since x.schedule y.schedule). absurd (d.left (omega (arith, k, a)))) (cases_lt (steps_since x.schedule y.schedule) max_steps)
+      ⊎_elim (λ (a : steps_since x.schedule y.schedule < max_steps). omega (arith, a))
+      (λ (a : max_steps ≤ steps_since x.schedule y.schedule). absurd (d.left (omega (arith, k, a))))
+      (cases_lt (steps_since x.schedule y.schedule) max_steps)
 
   pub stepping-goes-on : GoesOnSince y z → HasMade x z max_steps
   stepping-goes-on s = record {
@@ -148,7 +156,8 @@ module _ {A : Type 0} {x y z : Context A} {max_steps : ℕ} (d : Stepping x y z 
   }
 
   -- it finds a verdict
-  pub stepping-counts : (b : Bool) (n changed_at : ℕ) → length x.assignment.current ≤ n → CountsSince changed_at x → CountsSteps n max_steps (x.schedule.steps - changed_at) x.schedule.steps z.schedule.steps (Ok b)
+  pub stepping-counts : (b : Bool) (n changed_at : ℕ) → length x.assignment.current ≤ n → CountsSince changed_at x →
+      CountsSteps n max_steps (x.schedule.steps - changed_at) x.schedule.steps z.schedule.steps (Ok b)
   stepping-counts b n changed_at h r = record {
     made = suc (steps_since x.schedule y.schedule);
     count = let k = so-far d.searching in let e = counted in omega (arith, k, e);
@@ -170,7 +179,8 @@ module _ {A : Type 0} {x y z : Context A} {max_steps : ℕ} (d : Stepping x y z 
     come = λ u. absurd (known u);
   }
 
-  pub stepping-shortens : 2 ^ (2 * length x.assignment.current + 3) - steps_since x.schedule z.schedule < 2 ^ (2 * length x.assignment.current + 3) - steps_since x.schedule y.schedule
+  pub stepping-shortens : 2 ^ (2 * length x.assignment.current + 3) - steps_since x.schedule z.schedule < 2
+      ^ (2 * length x.assignment.current + 3) - steps_since x.schedule y.schedule
   stepping-shortens =
       let b = few-made d.searching in
       let k = one-more in

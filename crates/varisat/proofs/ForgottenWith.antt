@@ -32,21 +32,27 @@ unit-renamed : (f : Literal → Literal) (l : Literal) (c : Clause) → IsUnit l
 unit-renamed f l c u = (∈-map f l c u.0, λ m h. let (k, i, e) = map-∈ f m c h in e ∙ ap f (u.1 k i))
 
 -- a unit clause of the variable is among those that are forgotten
-pub unit-forgotten : (f : Literal → Literal) (l : Literal) (held all : List Clause) (d : Clause) → SameClauses held all → d ∈ all → IsUnit l d → (c : Clause) × (c ∈ rename f (only (variable_of l) held)) × IsUnit (f l) c
+pub unit-forgotten : (f : Literal → Literal) (l : Literal) (held all : List Clause) (d : Clause) → SameClauses held all → d ∈ all → IsUnit l d →
+    (c : Clause) × (c ∈ rename f (only (variable_of l) held)) × IsUnit (f l) c
 unit-forgotten f l held all d s h u =
     let (c, i, t) = same_clauses_find all held (same_clauses-back held all s) d h in
-    let unit : IsUnit l c = (t.1 l u.0, λ m j. u.1 m (t.0 m j)) in
-    (map f c, ∈-map (map f) c (only (variable_of l) held) (only-with (variable_of l) held c i (mentioned (variable_of l) c l unit.0 refl)), unit-renamed f l c unit)
+    let unit : IsUnit l c = (t.1 l u.0, λ m j. u.1 m (t.0 m j)) in (
+      map f c,
+      ∈-map (map f) c (only (variable_of l) held) (only-with (variable_of l) held c i (mentioned (variable_of l) c l unit.0 refl)),
+      unit-renamed f l c unit,
+    )
 
 -- What is held of a variable that no kept clause mentions says nothing more.
-pub settled-with : (r : Translation) (v : ℕ) (share : List Clause) (s : Search) → Fits share s → ((k : KeptClause) → k ∈ s.kept → mentions v k.clause ≡ false) → (c : Clause) → c ∈ rename (carry r.identity) (only v share) → IsSettledBy r s.fixed c
+pub settled-with : (r : Translation) (v : ℕ) (share : List Clause) (s : Search) → Fits share s →
+    ((k : KeptClause) → k ∈ s.kept → mentions v k.clause ≡ false) → (c : Clause) → c ∈ rename (carry r.identity) (only v share) → IsSettledBy r s.fixed c
 settled-with r v share s f other c h =
     let to = carry r.identity in
     let (d, i, e) = map-∈ (map to) c (only v share) h in
     let (x, j, t) = same_clauses_find share (clauses_of s.kept ++ f.others) f.same d (only-is v share d i).0 in
     subst (IsSettledBy r s.fixed) (sym e)
     (⊎_elim
-    (λ a. let (k, b, q) = clause_from s.kept x a in let (m, y, o) = mentioned_literal v d (only-is v share d i).1 in let z : true ≡ false = sym (literal_mentioned v x m (t.1 m y) o) ∙ ap (mentions v) (sym q) ∙ other k b in absurd cc)
+    (λ a. let (k, b, q) = clause_from s.kept x a in let (m, y, o) = mentioned_literal v d (only-is v share d i).1 in
+    let z : true ≡ false = sym (literal_mentioned v x m (t.1 m y) o) ∙ ap (mentions v) (sym q) ∙ other k b in absurd cc)
     (λ a. ⊎_elim
     (λ (l, b, o). inl (to l, ∈-map to l d (t.0 l b), subst (λ m. m ∈ map to d) (carry-opposite r.identity l) (∈-map to (opposite l) d (t.0 (opposite l) o))))
     (λ (l, b, o). inr (to l, ∈-map to l d (t.0 l b), inr (l, o, refl)))

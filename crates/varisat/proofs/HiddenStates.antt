@@ -24,7 +24,8 @@ pub one-name : (f g : ℕ → Option ℕ) (u v x : ℕ) → IsInverse f g → f 
 one-name f g u v x h a b = let q : Some v ≡ Some u = sym (h.there v x b) ∙ h.there u x a in cc
 
 -- the identity of a name in use
-pub identity-named : (w : Carrying) (p : Spaces) (s : State) (u x : ℕ) → Links w p s → p.global_from_user u ≡ Some x → (i : ℕ) × (w.identity x ≡ Some i) × (s.naming.names u ≡ Some i)
+pub identity-named : (w : Carrying) (p : Spaces) (s : State) (u x : ℕ) → Links w p s → p.global_from_user u ≡ Some x → (i : ℕ)
+    × (w.identity x ≡ Some i) × (s.naming.names u ≡ Some i)
 identity-named w p s u x k e = let (i, r) = k.names.live u x e in (i, r, k.names.agree u ∙ chain-some p.global_from_user w.identity u x e ∙ r)
 
 free-well : (u : ℕ) (s : State) → IsWellFormed s → IsWellFormed (hide_name u s)
@@ -42,7 +43,9 @@ free-well u s f = record {
 }
 
 -- the literals of a core that is told have other names
-core-left : (names after : ℕ → Option ℕ) (P : List Clause) (assumptions : List Literal) (C : List ℕ) (told : List Literal) (v : Verdict) → ((l : Literal) (i : ℕ) → carry names l ∈ assumptions → names (variable_of l) ≡ Some i → after (variable_of l) ≡ Some i) → IsRight P assumptions C v → CoreFits names told v → CoreFits after told v
+core-left : (names after : ℕ → Option ℕ) (P : List Clause) (assumptions : List Literal) (C : List ℕ) (told : List Literal) (v : Verdict) →
+    ((l : Literal) (i : ℕ) → carry names l ∈ assumptions → names (variable_of l) ≡ Some i → after (variable_of l) ≡ Some i) →
+    IsRight P assumptions C v → CoreFits names told v → CoreFits after told v
 core-left names after P assumptions C told Unknown n r f = tt
 core-left names after P assumptions C told (Sat a) n r f = tt
 core-left names after P assumptions C told Unsat n r f = tt
@@ -92,7 +95,9 @@ module _ (w : Carrying) (p : Spaces) (s : State) (u x : ℕ) (k : Links w p s) (
     mode = λ v y i. updated-all (λ v o. o ≡ Some y → w.identity y ≡ Some i → ModeFits (kept' y).sampling_mode (s.naming.modes i)) p.global_from_user u None
         (λ e. absurd cc)
         v
-        (λ n h j. subst (λ a. ModeFits a.sampling_mode (s.naming.modes i)) (sym (updated-other p.kept x d y (λ e. n (one-name p.global_from_user p.user_from_global u v x k.names.one_to_one at (h ∙ ap Some e))))) (k.modes.mode v y i h j));
+        (λ n h j. subst (λ a. ModeFits a.sampling_mode (s.naming.modes i))
+        (sym (updated-other p.kept x d y (λ e. n (one-name p.global_from_user p.user_from_global u v x k.names.one_to_one at (h ∙ ap Some e)))))
+        (k.modes.mode v y i h j));
     unnamed = λ y. updated-all (λ y o. o ≡ None → (kept' y).sampling_mode ≡ sampling.Hide) p.user_from_global x None
         (λ e. ap (λ a. a.sampling_mode) (updated-at p.kept x d))
         y
@@ -101,15 +106,19 @@ module _ (w : Carrying) (p : Spaces) (s : State) (u x : ℕ) (k : Links w p s) (
 
   hidden-assumptions : AssumptionsFit (updated p.global_from_user u None) p.solver_from_global (updated s.naming.names u None) p.assumptions s.assumptions
   hidden-assumptions = record {
-    agree = k.assumptions.agree ∙ map-same (carry s.naming.names) (carry (updated s.naming.names u None)) p.assumptions (λ l h. carry-same s.naming.names (updated s.naming.names u None) l (sym (updated-other s.naming.names u None (variable_of l) (other-name l h))));
-    taken = λ l h. let (v, c) = k.assumptions.taken l h in (v, ap (λ o. onward o p.solver_from_global) (updated-other p.global_from_user u None (variable_of l) (other-name l h)) ∙ c);
+    agree = k.assumptions.agree ∙ map-same (carry s.naming.names) (carry (updated s.naming.names u None)) p.assumptions
+        (λ l h. carry-same s.naming.names (updated s.naming.names u None) l (sym (updated-other s.naming.names u None (variable_of l) (other-name l h))));
+    taken = λ l h. let (v, c) = k.assumptions.taken l h in
+        (v, ap (λ o. onward o p.solver_from_global) (updated-other p.global_from_user u None (variable_of l) (other-name l h)) ∙ c);
   }
 
   hidden-marks : MarksFit (updated p.global_from_user u None) kept' p.assumptions
   unfolding kept' d
   hidden-marks = record {
-    marked = λ l y h e. field-same (λ a. a.assumed) p.kept x d refl y ∙ k.marks.marked l y h (sym (updated-other p.global_from_user u None (variable_of l) (other-name l h)) ∙ e);
-    only = λ y h. let (l, a, b) = k.marks.only y (sym (field-same (λ a. a.assumed) p.kept x d refl y) ∙ h) in (l, a, updated-other p.global_from_user u None (variable_of l) (other-name l a) ∙ b);
+    marked = λ l y h e. field-same (λ a. a.assumed) p.kept x d refl y
+        ∙ k.marks.marked l y h (sym (updated-other p.global_from_user u None (variable_of l) (other-name l h)) ∙ e);
+    only = λ y h. let (l, a, b) = k.marks.only y (sym (field-same (λ a. a.assumed) p.kept x d refl y) ∙ h) in
+        (l, a, updated-other p.global_from_user u None (variable_of l) (other-name l a) ∙ b);
   }
 
   pub hidden : Links w (hide u x p) (hide_name u s)
@@ -128,7 +137,8 @@ module _ (w : Carrying) (p : Spaces) (s : State) (u x : ℕ) (k : Links w p s) (
     marks = hidden-marks;
     working = k.working;
     verdict = k.verdict;
-    core = core-left s.naming.names (updated s.naming.names u None) s.clauses s.assumptions s.counted p.core s.verdict (λ l i h e. updated-other s.naming.names u None (variable_of l) (other-identity l i h e) ∙ e) k.right k.core;
+    core = core-left s.naming.names (updated s.naming.names u None) s.clauses s.assumptions s.counted p.core s.verdict
+        (λ l i h e. updated-other s.naming.names u None (variable_of l) (other-identity l i h e) ∙ e) k.right k.core;
     right = k.right;
     well_formed = free-well u s k.well_formed;
     few = k.few;

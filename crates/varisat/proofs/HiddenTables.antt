@@ -66,10 +66,12 @@ assumed-marked w p s u x k at (l, h, e) =
     k.marks.marked g x b (ap p.global_from_user same ∙ at)
 
 -- the least name that leads nowhere is the least free one
-pub least-free : (w : Carrying) (p : Spaces) (s : State) (u : ℕ) → Links w p s → p.global_from_user u ≡ None → ((v : ℕ) → v < u → p.global_from_user v ≢ None) → IsLeastFree s.naming u
+pub least-free : (w : Carrying) (p : Spaces) (s : State) (u : ℕ) → Links w p s → p.global_from_user u ≡ None →
+    ((v : ℕ) → v < u → p.global_from_user v ≢ None) → IsLeastFree s.naming u
 least-free w p s u k none below = (
   k.names.agree u ∙ chain-none p.global_from_user w.identity u none,
-  λ v h e. ⊎_elim (below v h) (λ (x, f). let (i, is, named) = identity-named w p s v x k f in let z : None ≡ Some i = sym e ∙ named in cc) (is-some (p.global_from_user v)),
+  λ v h e. ⊎_elim (below v h) (λ (x, f). let (i, is, named) = identity-named w p s v x k f in let z : None ≡ Some i = sym e ∙ named in cc)
+      (is-some (p.global_from_user v)),
 )
 
 -- the variable of a name is live
@@ -79,12 +81,17 @@ named-live w p s u x k at = let (i, is) = k.names.live u x at in k.identities.li
 -- 2. The tables.
 
 -- the value of a variable in the model, where what is kept of one changes and its unit stays
-model-kept : (g : Summary) (new : Tables) (x : ℕ) (d : VarData) → IsKeptAs g.tables.kept x d new.kept → d.unit ≡ (kept_at g.tables.kept x).unit → new.solvers ≡ g.tables.solvers → (y : ℕ) → (spaces (with_tables new g)).model y ≡ (spaces g).model y
+model-kept : (g : Summary) (new : Tables) (x : ℕ) (d : VarData) → IsKeptAs g.tables.kept x d new.kept → d.unit ≡ (kept_at g.tables.kept x).unit →
+    new.solvers ≡ g.tables.solvers → (y : ℕ) → (spaces (with_tables new g)).model y ≡ (spaces g).model y
 model-kept g new x d n e q y =
     let f = assignment_of g.search in
-    ap (λ (o : Option Bool). value_or o f (at new.solvers.forward y)) (ap (λ (a : VarData). a.unit) (n.at_each y) ∙ field-same (λ a. a.unit) (kept_at g.tables.kept) x d e y) ∙ ap (λ (m : BiMap). value_or (kept_at g.tables.kept y).unit f (at m.forward y)) q
+    ap (λ (o : Option Bool). value_or o f (at new.solvers.forward y))
+    (ap (λ (a : VarData). a.unit) (n.at_each y) ∙ field-same (λ a. a.unit) (kept_at g.tables.kept) x d e y)
+    ∙ ap (λ (m : BiMap). value_or (kept_at g.tables.kept y).unit f (at m.forward y)) q
 
-pub mode-spaces : (g : Summary) (s : State) (new : Tables) (u x : ℕ) (m : SamplingMode) (n : Mode) → SpacesFit (spaces g) s → at g.tables.users.forward u ≡ Some x → ModeFits m n → IsChangedTo g.tables new x (in_mode m (kept_at g.tables.kept x)) → SpacesFit (spaces (with_tables new g)) (with_mode u n s)
+pub mode-spaces : (g : Summary) (s : State) (new : Tables) (u x : ℕ) (m : SamplingMode) (n : Mode) → SpacesFit (spaces g) s →
+    at g.tables.users.forward u ≡ Some x → ModeFits m n → IsChangedTo g.tables new x (in_mode m (kept_at g.tables.kept x)) →
+    SpacesFit (spaces (with_tables new g)) (with_mode u n s)
 mode-spaces g s new u x m n (w, k) at-name fit c =
     let users = ap (λ (t : Tables). t.users) c.rest in
     let solvers = ap (λ (t : Tables). t.solvers) c.rest in
@@ -99,8 +106,10 @@ mode-spaces g s new u x m n (w, k) at-name fit c =
       model = λ a e y. model-kept g new x (in_mode m (kept_at g.tables.kept x)) c.kept refl solvers y;
     }) refl (w, mode-set w (spaces g) s u x k at-name m n fit)
 
-pub shown-spaces : (g : Summary) (s : State) (new : Tables) (x u : ℕ) → SpacesFit (spaces g) s → (kept_at g.tables.kept x).deleted ≡ false → at g.tables.users.backward x ≡ None → IsShown g.tables new x sampling.Witness u →
-    IsLeastFree s.naming u × ((i : ℕ) × (i < s.naming.made) × IsUnnamed s.naming i × SpacesFit (spaces (with_tables new g)) (with_naming (give_name u i s.naming) s))
+pub shown-spaces : (g : Summary) (s : State) (new : Tables) (x u : ℕ) → SpacesFit (spaces g) s → (kept_at g.tables.kept x).deleted ≡ false →
+    at g.tables.users.backward x ≡ None → IsShown g.tables new x sampling.Witness u →
+    IsLeastFree s.naming u × ((i : ℕ) × (i < s.naming.made) × IsUnnamed s.naming i
+    × SpacesFit (spaces (with_tables new g)) (with_naming (give_name u i s.naming) s))
 shown-spaces g s new x u (w, k) live unnamed n =
     let p = spaces g in
     let (i, is) = linked w p s x k live in (
@@ -123,7 +132,8 @@ shown-spaces g s new x u (w, k) live unnamed n =
     )
 
 -- 3. A name is freed.
-pub hidden-spaces : (g : Summary) (s : State) (new : Tables) (u x : ℕ) → SpacesFit (spaces g) s → at g.tables.users.forward u ≡ Some x → (kept_at g.tables.kept x).assumed ≡ false → IsHidden g.tables new u x → SpacesFit (spaces (with_tables new g)) (hide_name u s)
+pub hidden-spaces : (g : Summary) (s : State) (new : Tables) (u x : ℕ) → SpacesFit (spaces g) s → at g.tables.users.forward u ≡ Some x →
+    (kept_at g.tables.kept x).assumed ≡ false → IsHidden g.tables new u x → SpacesFit (spaces (with_tables new g)) (hide_name u s)
 hidden-spaces g s new u x (w, k) named unassumed n =
     let d = in_mode sampling.Hide (kept_at g.tables.kept x) in
     maps-same (hide u x (spaces g)) (spaces (with_tables new g)) (hide_name u s) (record {
@@ -165,7 +175,9 @@ undecided search core verdict.Sat n e = let z : outcome.Sat (assignment_of searc
 undecided search core verdict.Unsat n e = n refl
 undecided search core verdict.UnsatUnderAssumptions n e = let z : outcome.Unknown ≡ outcome.Unsat = e in cc
 
-module _ (g : Summary) (s : State) (new : Tables) (x : ℕ) (w : Carrying) (k : Links w (spaces g) s) (live : (kept_at g.tables.kept x).deleted ≡ false) (unnamed : at g.tables.users.backward x ≡ None) (unsettled : g.sat_state ≢ verdict.Unsat) (n : IsDeletedIfUnused g.tables new x) (p q : ProofParts) (same : p.checker ≡ g.checker) (told : IsTold p (leaves_if_deleted new x) q) where
+module _ (g : Summary) (s : State) (new : Tables) (x : ℕ) (w : Carrying) (k : Links w (spaces g) s)
+    (live : (kept_at g.tables.kept x).deleted ≡ false) (unnamed : at g.tables.users.backward x ≡ None) (unsettled : g.sat_state ≢ verdict.Unsat)
+    (n : IsDeletedIfUnused g.tables new x) (p q : ProofParts) (same : p.checker ≡ g.checker) (told : IsTold p (leaves_if_deleted new x) q) where
   same-users : new.users ≡ g.tables.users
   same-users = ap (λ (t : Tables). t.users) n.rest
 
@@ -173,10 +185,12 @@ module _ (g : Summary) (s : State) (new : Tables) (x : ℕ) (w : Carrying) (k : 
   same-solvers = ap (λ (t : Tables). t.solvers) n.rest
 
   -- what is kept, by whether the variable is unused
-  kept-as : (b : Bool) → unused (at g.tables.solvers.forward x) (kept_at g.tables.kept x) ≡ b → IsKeptAs g.tables.kept x (if b then dead else kept_at g.tables.kept x) new.kept
+  kept-as : (b : Bool) → unused (at g.tables.solvers.forward x) (kept_at g.tables.kept x) ≡ b →
+      IsKeptAs g.tables.kept x (if b then dead else kept_at g.tables.kept x) new.kept
   kept-as b e = subst (λ c. IsKeptAs g.tables.kept x (if c then dead else kept_at g.tables.kept x) new.kept) e n.kept
 
-  stays-live : IsKeptAs g.tables.kept x (kept_at g.tables.kept x) new.kept → leaves_if_deleted new x ≡ [] → SpacesFit (spaces (with_checker q.checker (with_tables new g))) s
+  stays-live : IsKeptAs g.tables.kept x (kept_at g.tables.kept x) new.kept → leaves_if_deleted new x ≡ [] →
+      SpacesFit (spaces (with_checker q.checker (with_tables new g))) s
   stays-live l none = maps-same (record (spaces g) { checker = q.checker }) (spaces (with_checker q.checker (with_tables new g))) s (record {
     global_from_user = λ v. ap (λ (b : BiMap). at b.forward v) same-users;
     user_from_global = λ y. ap (λ (b : BiMap). at b.backward y) same-users;
@@ -186,12 +200,16 @@ module _ (g : Summary) (s : State) (new : Tables) (x : ℕ) (w : Carrying) (k : 
     global_from_solver = λ v. ap (λ (b : BiMap). at b.backward v) same-solvers;
     kept = λ y. l.at_each y ∙ updated-all (λ y a. a ≡ kept_at g.tables.kept y) (kept_at g.tables.kept) x (kept_at g.tables.kept x) refl y (λ m. refl);
     model = λ a e y. model-kept g new x (kept_at g.tables.kept x) l refl same-solvers y;
-  }) refl (subst (λ o. SpacesFit (record (spaces g) { checker = o }) s) (sym (checked-nothing p.checker q.checker (subst (λ es. IsCheckedIf p.checker es q.checker) none told.checked) ∙ same)) (w, k))
+  }) refl (subst (λ o. SpacesFit (record (spaces g) { checker = o }) s)
+      (sym (checked-nothing p.checker q.checker (subst (λ es. IsCheckedIf p.checker es q.checker) none told.checked) ∙ same)) (w, k))
 
-  goes : IsKeptAs g.tables.kept x dead new.kept → leaves_if_deleted new x ≡ Leaves x ∷ [] → at g.tables.solvers.forward x ≡ None → (kept_at g.tables.kept x).isolated ≡ true → (i : ℕ) → w.identity x ≡ Some i → SpacesFit (spaces (with_checker q.checker (with_tables new g))) (retold (s.told ++ Leaves i ∷ []) s)
+  goes : IsKeptAs g.tables.kept x dead new.kept → leaves_if_deleted new x ≡ Leaves x ∷ [] → at g.tables.solvers.forward x ≡ None →
+      (kept_at g.tables.kept x).isolated ≡ true → (i : ℕ) → w.identity x ≡ Some i →
+      SpacesFit (spaces (with_checker q.checker (with_tables new g))) (retold (s.told ++ Leaves i ∷ []) s)
   goes l one unsolved alone i is =
       let f = assignment_of g.search in
-      maps-same (record (recycle x (spaces g)) { checker = q.checker }) (spaces (with_checker q.checker (with_tables new g))) (retold (s.told ++ Leaves i ∷ []) s) (record {
+      maps-same (record (recycle x (spaces g)) { checker = q.checker }) (spaces (with_checker q.checker (with_tables new g)))
+      (retold (s.told ++ Leaves i ∷ []) s) (record {
         global_from_user = λ v. ap (λ (b : BiMap). at b.forward v) same-users;
         user_from_global = λ y. ap (λ (b : BiMap). at b.backward y) same-users;
         watermark = ap (λ (b : BiMap). length b.forward) same-users;
@@ -200,27 +218,37 @@ module _ (g : Summary) (s : State) (new : Tables) (x : ℕ) (w : Carrying) (k : 
         global_from_solver = λ v. ap (λ (b : BiMap). at b.backward v) same-solvers;
         kept = l.at_each;
         model = λ a e y. updated-all (λ y b. value_or (kept_at new.kept y).unit f (at new.solvers.forward y) ≡ b) (spaces g).model x false
-            (ap (λ (d : VarData). value_or d.unit f (at new.solvers.forward x)) (l.at_each x ∙ updated-at (kept_at g.tables.kept) x dead) ∙ ap (value_or None f) (ap (λ (b : BiMap). at b.forward x) same-solvers ∙ unsolved))
+            (ap (λ (d : VarData). value_or d.unit f (at new.solvers.forward x)) (l.at_each x ∙ updated-at (kept_at g.tables.kept) x dead)
+            ∙ ap (value_or None f) (ap (λ (b : BiMap). at b.forward x) same-solvers ∙ unsolved))
             y
-            (λ m. ap (λ (d : VarData). value_or d.unit f (at new.solvers.forward y)) (l.at_each y ∙ updated-other (kept_at g.tables.kept) x dead y m) ∙ ap (λ (b : BiMap). value_or (kept_at g.tables.kept y).unit f (at b.forward y)) same-solvers);
-      }) refl (recycled w (spaces g) s x i k is unnamed unsolved alone (undecided g.search g.assumed.failed_core g.sat_state unsettled) q.checker (subst (λ o. IsCheckedIf o (Leaves x ∷ []) q.checker) same (subst (λ es. IsCheckedIf p.checker es q.checker) one told.checked)))
+            (λ m. ap (λ (d : VarData). value_or d.unit f (at new.solvers.forward y))
+            (l.at_each y ∙ updated-other (kept_at g.tables.kept) x dead y m)
+            ∙ ap (λ (b : BiMap). value_or (kept_at g.tables.kept y).unit f (at b.forward y)) same-solvers);
+      }) refl (recycled w (spaces g) s x i k is unnamed unsolved alone (undecided g.search g.assumed.failed_core g.sat_state unsettled) q.checker
+      (subst (λ o. IsCheckedIf o (Leaves x ∷ []) q.checker) same (subst (λ es. IsCheckedIf p.checker es q.checker) one told.checked)))
 
-  by-use : (b : Bool) → unused (at g.tables.solvers.forward x) (kept_at g.tables.kept x) ≡ b → (after : List Entry) × TellsLeaving s.ever_hidden s.told after p q × SpacesFit (spaces (with_checker q.checker (with_tables new g))) (retold after s)
+  by-use : (b : Bool) → unused (at g.tables.solvers.forward x) (kept_at g.tables.kept x) ≡ b → (after : List Entry)
+      × TellsLeaving s.ever_hidden s.told after p q × SpacesFit (spaces (with_checker q.checker (with_tables new g))) (retold after s)
   by-use true e =
       let (unsolved, alone) = is-unused (at g.tables.solvers.forward x) (kept_at g.tables.kept x) e in
       let (i, is) = linked w (spaces g) s x k live in (
         s.told ++ Leaves i ∷ [],
         leaving-one s.ever_hidden s.told i p q (leaves_if_deleted new x) (was-hidden w (spaces g) s x i k is unnamed unsolved alone) told,
-        goes (kept-as true e) (ap (λ (b : Bool). if b then Leaves x ∷ [] else []) (ap (λ (d : VarData). d.deleted) ((kept-as true e).at_each x ∙ updated-at (kept_at g.tables.kept) x dead))) unsolved alone i is,
+        goes (kept-as true e) (ap (λ (b : Bool). if b then Leaves x ∷ [] else [])
+            (ap (λ (d : VarData). d.deleted) ((kept-as true e).at_each x ∙ updated-at (kept_at g.tables.kept) x dead))) unsolved alone i is,
       )
   by-use false e =
       let kept = kept-as false e in
-      let none = ap (λ (b : Bool). if b then Leaves x ∷ [] else []) (ap (λ (d : VarData). d.deleted) (kept.at_each x ∙ updated-at (kept_at g.tables.kept) x (kept_at g.tables.kept x)) ∙ live) in
+      let none = ap (λ (b : Bool). if b then Leaves x ∷ [] else [])
+      (ap (λ (d : VarData). d.deleted) (kept.at_each x ∙ updated-at (kept_at g.tables.kept) x (kept_at g.tables.kept x)) ∙ live) in
       (s.told, leaving-none s.ever_hidden s.told p q (leaves_if_deleted new x) none told, stays-live kept none)
 
-  links-left : (after : List Entry) × TellsLeaving s.ever_hidden s.told after p q × SpacesFit (spaces (with_checker q.checker (with_tables new g))) (retold after s)
+  links-left : (after : List Entry) × TellsLeaving s.ever_hidden s.told after p q
+      × SpacesFit (spaces (with_checker q.checker (with_tables new g))) (retold after s)
   links-left = by-use (unused (at g.tables.solvers.forward x) (kept_at g.tables.kept x)) refl
 
-pub left-spaces : (g : Summary) (s : State) (new : Tables) (x : ℕ) (p q : ProofParts) → SpacesFit (spaces g) s → (kept_at g.tables.kept x).deleted ≡ false → at g.tables.users.backward x ≡ None → g.sat_state ≢ verdict.Unsat → IsDeletedIfUnused g.tables new x → p.checker ≡ g.checker → IsTold p (leaves_if_deleted new x) q →
+pub left-spaces : (g : Summary) (s : State) (new : Tables) (x : ℕ) (p q : ProofParts) → SpacesFit (spaces g) s →
+    (kept_at g.tables.kept x).deleted ≡ false → at g.tables.users.backward x ≡ None → g.sat_state ≢ verdict.Unsat →
+    IsDeletedIfUnused g.tables new x → p.checker ≡ g.checker → IsTold p (leaves_if_deleted new x) q →
     (after : List Entry) × TellsLeaving s.ever_hidden s.told after p q × SpacesFit (spaces (with_checker q.checker (with_tables new g))) (retold after s)
 left-spaces g s new x p q (w, k) live unnamed unsettled n same told = links-left g s new x w k live unnamed unsettled n p q same told

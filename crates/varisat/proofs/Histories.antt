@@ -20,7 +20,8 @@ of-ok (Ok x) P Q f h = f x h
 of-ok (Err e) P Q f h = tt
 
 -- a call moves the past and the state alike
-is-true : {W S A : Type 0} (seen : S → Stand) (taken : W → Taken) (c : Call W S A) (a : Answer W S A) (p : Past) (s t : State) → Agrees p s → MakesCall seen taken s c a t → Leads (IsTrue seen taken p c a) t
+is-true : {W S A : Type 0} (seen : S → Stand) (taken : W → Taken) (c : Call W S A) (a : Answer W S A) (p : Past) (s t : State) → Agrees p s →
+    MakesCall seen taken s c a t → Leads (IsTrue seen taken p c a) t
 is-true seen taken (call.AddClause d) (answer.AddClause r) p s t g m = add-clause p s t d.items r g m
 is-true seen taken (call.AddFormula f) (answer.AddFormula r) p s t g m = add-formula p s t f.clauses r g m
 is-true seen taken (call.AddDimacsCnf source) (answer.AddDimacsCnf r back) p s t g m = add-text p s t (seen source) (seen back) r g m
@@ -41,7 +42,8 @@ is-true seen taken (call.WriteProof target format) (answer.WriteProof r) p s t g
 is-true seen taken call.CloseProof (answer.CloseProof r) p s t g m = close taken p s t r g m
 is-true seen taken _ _ p s t g m = absurd m
 
-are-true : {W S A : Type 0} (seen : S → Stand) (taken : W → Taken) (calls : List (Call W S A)) (answers : List (Answer W S A)) (p : Past) (s t : State) → Agrees p s → Run seen taken s calls answers t → AreTrue seen taken p calls answers
+are-true : {W S A : Type 0} (seen : S → Stand) (taken : W → Taken) (calls : List (Call W S A)) (answers : List (Answer W S A)) (p : Past)
+    (s t : State) → Agrees p s → Run seen taken s calls answers t → AreTrue seen taken p calls answers
 are-true seen taken [] [] p s t g r = (p, refl)
 are-true seen taken [] (a ∷ answers) p s t g r = absurd r
 are-true seen taken (c ∷ calls) [] p s t g r = absurd r
@@ -51,5 +53,6 @@ are-true seen taken (c ∷ calls) (a ∷ answers) p s t g (mid, m, r) =
     (last, (q, x, rest))
 
 -- each run of a new solver gives answers that are true
-pub run-is-true : {W S A : Type 0} (seen : S → Stand) (taken : W → Taken) (calls : List (Call W S A)) (answers : List (Answer W S A)) (t : State) → Run seen taken empty_state calls answers t → AreTrue seen taken empty_past calls answers
+pub run-is-true : {W S A : Type 0} (seen : S → Stand) (taken : W → Taken) (calls : List (Call W S A)) (answers : List (Answer W S A)) (t : State) →
+    Run seen taken empty_state calls answers t → AreTrue seen taken empty_past calls answers
 run-is-true seen taken calls answers t r = are-true seen taken calls answers empty_past empty_state t empty-agrees r

@@ -13,13 +13,15 @@ use Rattle.varisat_search.proofs.FixedLiterals.{begun-fixed}
 use Rattle.varisat.specs.Dropping.{AreOverAssumed, LeavesInTime, HasLetLeave}
 
 -- a step begins
-pub leaves-begun : {A : Type 0} {are : List Line → Type 0} (t u : Tables) (x z : Context A) → IsReady x → BeginsStep are x z → u ≡ t → LeavesInTime t (view x) → LeavesInTime u (view z)
+pub leaves-begun : {A : Type 0} {are : List Line → Type 0} (t u : Tables) (x z : Context A) → IsReady x → BeginsStep are x z → u ≡ t →
+    LeavesInTime t (view x) → LeavesInTime u (view z)
 leaves-begun t u x z r b e h =
     let (same, news) = begun-fixed x z r b in
     subst (λ (m : Tables). LeavesInTime m (view z)) (sym e) (⊎_elim (λ n. inl (subst (AreOverAssumed t) (sym same) n)) (λ k. inr (news k)) h)
 
 -- and makes its conflict step
-pub leaves-stepped : {A : Type 0} (t u : Tables) (x y : Context A) → u ≡ t → FixesByLearning x y → HasLetLeave t (view x) → y.solver_state.sat_state ≢ verdict.Unsat → LeavesInTime u (view y)
+pub leaves-stepped : {A : Type 0} (t u : Tables) (x y : Context A) → u ≡ t → FixesByLearning x y → HasLetLeave t (view x) →
+    y.solver_state.sat_state ≢ verdict.Unsat → LeavesInTime u (view y)
 leaves-stepped t u x y e f (inl (none, calm)) n =
     subst (λ (m : Tables). LeavesInTime m (view y)) (sym e) (⊎_elim (λ same. inl (subst (AreOverAssumed t) (sym same) none)) inr (f.keeps calm n))
 leaves-stepped t u x y e f (inr (undecided, (conflict, is_false))) n = absurd (n (f.refutes undecided conflict is_false))

@@ -57,7 +57,8 @@ has_number l = number_case l (nat_eq (l % 2) 0) refl
 pub numbers_apart : (l m : ℕ) → literal_number l ≡ literal_number m → l ≡ m
 numbers_apart l m e = apart l m (literal_number l) (literal_number m) e (has_number l) (has_number m)
   where
-    cases : (l m : ℕ) (y z : ℤ) (v w : ℕ) → y ≡ z → ((l ≡ 2 * v) × (y ≡ pos (v + 1))) ⊎ ((l ≡ 2 * v + 1) × (y ≡ negsuc v)) → ((m ≡ 2 * w) × (z ≡ pos (w + 1))) ⊎ ((m ≡ 2 * w + 1) × (z ≡ negsuc w)) → l ≡ m
+    cases : (l m : ℕ) (y z : ℤ) (v w : ℕ) → y ≡ z → ((l ≡ 2 * v) × (y ≡ pos (v + 1))) ⊎ ((l ≡ 2 * v + 1) × (y ≡ negsuc v)) →
+        ((m ≡ 2 * w) × (z ≡ pos (w + 1))) ⊎ ((m ≡ 2 * w + 1) × (z ≡ negsuc w)) → l ≡ m
     cases l m y z v w e (inl (a, b)) (inl (c, d)) = let k : v + 1 ≡ w + 1 = cc in omega arith
     cases l m y z v w e (inl (a, b)) (inr (c, d)) = absurd cc
     cases l m y z v w e (inr (a, b)) (inl (c, d)) = absurd cc
@@ -76,7 +77,8 @@ number_is_small l h = let n = has_number l in small_case l n.v (literal_number l
 pub texts_apart : (l m : ℕ) → l < 2 ^ 32 → m < 2 ^ 32 → literal_text l ≡ literal_text m → l ≡ m
 texts_apart l m h k e = numbers_apart l m (signed_decimal_injective (literal_number l) (literal_number m) (number_is_small l h) (number_is_small m k) e)
 
-no_space_case : (l v : ℕ) (z : ℤ) → l < 2 ^ 32 → ((l ≡ 2 * v) × (z ≡ pos (v + 1))) ⊎ ((l ≡ 2 * v + 1) × (z ≡ negsuc v)) → AllByRecursion (λ b. (b == 32) ≡ false) (signed_decimal z)
+no_space_case : (l v : ℕ) (z : ℤ) → l < 2 ^ 32 → ((l ≡ 2 * v) × (z ≡ pos (v + 1))) ⊎ ((l ≡ 2 * v + 1) × (z ≡ negsuc v)) →
+    AllByRecursion (λ b. (b == 32) ≡ false) (signed_decimal z)
 no_space_case l v z h (inl (a, b)) = rw b (decimal_has_no_space (v + 1) (omega arith))
 no_space_case l v z h (inr (a, b)) = rw b (refl, decimal_has_no_space (suc v) (omega arith))
 
@@ -95,7 +97,8 @@ from_spaceless : (bs : List ℕ) → spaceless bs ≡ true → AllByRecursion (�
 from_spaceless [] e = tt
 from_spaceless (b ∷ bs) e = go (b == 32) refl e (from_spaceless bs)
   where
-    go : (t : Bool) → (b == 32) ≡ t → (if t then false else spaceless bs) ≡ true → (spaceless bs ≡ true → AllByRecursion (λ b. (b == 32) ≡ false) bs) → AllByRecursion (λ b. (b == 32) ≡ false) (b ∷ bs)
+    go : (t : Bool) → (b == 32) ≡ t → (if t then false else spaceless bs) ≡ true →
+        (spaceless bs ≡ true → AllByRecursion (λ b. (b == 32) ≡ false) bs) → AllByRecursion (λ b. (b == 32) ≡ false) (b ∷ bs)
     go true h k f = absurd (let z : false ≡ true = k in cc)
     go false h k f = (h, f k)
 
@@ -125,7 +128,8 @@ names_apart f g e = absurd (omega (arith, e))
 
 pub words_have_no_space : (command : Command) → HasNumbersInRange command → AllByRecursion NoSpace (words command)
 words_have_no_space (Add ls) h = (no_space (codes "add") (refl, (refl, (refl, tt))), texts_have_no_space ls (recursion_from_All (λ l. l < 2 ^ 32) ls h))
-words_have_no_space (Assume ls) h = (no_space (codes "assume") (from_spaceless (codes "assume") refl), texts_have_no_space ls (recursion_from_All (λ l. l < 2 ^ 32) ls h))
+words_have_no_space (Assume ls) h =
+    (no_space (codes "assume") (from_spaceless (codes "assume") refl), texts_have_no_space ls (recursion_from_All (λ l. l < 2 ^ 32) ls h))
 words_have_no_space New h = (no_space (codes "new") (refl, (refl, (refl, tt))), tt)
 words_have_no_space (Sample v) h = (no_space (codes "sample") (from_spaceless (codes "sample") refl), (variable_has_no_space v h, tt))
 words_have_no_space (Witness v) h = (no_space (codes "witness") (from_spaceless (codes "witness") refl), (variable_has_no_space v h, tt))
@@ -134,11 +138,14 @@ words_have_no_space Observe h = (no_space (codes "observe") (from_spaceless (cod
 words_have_no_space Solve h = (no_space (codes "solve") (refl, (refl, (refl, (refl, (refl, tt))))), tt)
 words_have_no_space Model h = (no_space (codes "model") (refl, (refl, (refl, (refl, (refl, tt))))), tt)
 words_have_no_space Core h = (no_space (codes "core") (from_spaceless (codes "core") refl), tt)
-words_have_no_space (Config field value) h = (no_space (codes "config") (from_spaceless (codes "config") refl), (name_has_no_space field, (number_has_no_space value h, tt)))
+words_have_no_space (Config field value) h =
+    (no_space (codes "config") (from_spaceless (codes "config") refl), (name_has_no_space field, (number_has_no_space value h, tt)))
 words_have_no_space Steps h = (no_space (codes "steps") (from_spaceless (codes "steps") refl), tt)
 words_have_no_space Since h = (no_space (codes "since") (from_spaceless (codes "since") refl), tt)
-words_have_no_space ProofText h = (no_space (codes "proof") (from_spaceless (codes "proof") refl), (no_space (codes "text") (from_spaceless (codes "text") refl), tt))
-words_have_no_space ProofBinary h = (no_space (codes "proof") (from_spaceless (codes "proof") refl), (no_space (codes "binary") (from_spaceless (codes "binary") refl), tt))
+words_have_no_space ProofText h =
+    (no_space (codes "proof") (from_spaceless (codes "proof") refl), (no_space (codes "text") (from_spaceless (codes "text") refl), tt))
+words_have_no_space ProofBinary h =
+    (no_space (codes "proof") (from_spaceless (codes "proof") refl), (no_space (codes "binary") (from_spaceless (codes "binary") refl), tt))
 words_have_no_space Close h = (no_space (codes "close") (refl, (refl, (refl, (refl, (refl, tt))))), tt)
 
 -- words that are joined are parted again
@@ -252,7 +259,8 @@ is_utf8 n ds h e = subst IsUtf8 e (IsUtf8-from_ascii (decimal n) (IsAscii-decima
 own : IsNumeralModel (AllDigits 10) (digits_value 10)
 own = numerals_by_value (AllDigits 10) tells_digits
 
-parsed : (ds : List ℕ) (n : ℕ) → get_or ds 0 0 ≢ 43 → (get_or ds 0 0 ≡ 48 → length ds ≤ 1) → ParsesUnsigned {E = ℕ} 64 10 ds (Ok n) → (decimal n ≡ ds) × (n < 2 ^ 64)
+parsed : (ds : List ℕ) (n : ℕ) → get_or ds 0 0 ≢ 43 → (get_or ds 0 0 ≡ 48 → length ds ≤ 1) → ParsesUnsigned {E = ℕ} 64 10 ds (Ok n) →
+    (decimal n ≡ ds) × (n < 2 ^ 64)
 parsed ds n plus nought p =
     let r = parse_plain own {E = ℕ} 64 ds (Ok n) p plus in
     let some = r.0.1 in (
@@ -260,9 +268,12 @@ parsed ds n plus nought p =
       omega (arith, r.0.2, r.1),
     )
 
-pub reads : (ds text : List ℕ) (first n : ℕ) → ds ≡ text → first ≡ get_or text 0 0 → first ≢ 43 → (first ≡ 48 → length text ≤ 1) → ParsesUnsigned {E = ℕ} 64 10 ds (Ok n) → (decimal n ≡ text) × (n < 2 ^ 64)
+pub reads : (ds text : List ℕ) (first n : ℕ) → ds ≡ text → first ≡ get_or text 0 0 → first ≢ 43 → (first ≡ 48 → length text ≤ 1) →
+    ParsesUnsigned {E = ℕ} 64 10 ds (Ok n) → (decimal n ≡ text) × (n < 2 ^ 64)
 reads ds text first n e f plus nought p =
-    subst (λ xs. (decimal n ≡ xs) × (n < 2 ^ 64)) e (parsed ds n (λ k. plus (f ∙ ap (λ xs. get_or xs 0 0) (sym e) ∙ k)) (λ k. let a = nought (f ∙ ap (λ xs. get_or xs 0 0) (sym e) ∙ k) in let b = ap (λ (xs : List ℕ). length xs) e in omega (arith, a, b)) p)
+    subst (λ xs. (decimal n ≡ xs) × (n < 2 ^ 64)) e
+    (parsed ds n (λ k. plus (f ∙ ap (λ xs. get_or xs 0 0) (sym e) ∙ k))
+    (λ k. let a = nought (f ∙ ap (λ xs. get_or xs 0 0) (sym e) ∙ k) in let b = ap (λ (xs : List ℕ). length xs) e in omega (arith, a, b)) p)
 
 -- behind a `-` stands the number of a variable
 behind_case : (l v : ℕ) (z : ℤ) (text digits : List ℕ) → l < 2 ^ 32 → ((l ≡ 2 * v) × (z ≡ pos (v + 1))) ⊎ ((l ≡ 2 * v + 1) × (z ≡ negsuc v)) →
@@ -278,7 +289,8 @@ behind_case l v z text digits h (inl (a, b)) t d e =
 behind_case l v z text digits h (inr (a, b)) t d e =
     (omega arith, ap decimal (omega arith) ∙ ap (drop 1) (ap signed_decimal (sym b) ∙ e) ∙ sym d)
 
-pub no_literal : (text digits : List ℕ) → true ≡ pointwise nat_eq (take 1 text) (45 ∷ []) → digits ≡ drop 1 text → ((v : ℕ) → v < 2 ^ 31 → decimal (v + 1) ≢ digits) → (l : ℕ) → l < 2 ^ 32 → literal_text l ≢ text
+pub no_literal : (text digits : List ℕ) → true ≡ pointwise nat_eq (take 1 text) (45 ∷ []) → digits ≡ drop 1 text →
+    ((v : ℕ) → v < 2 ^ 31 → decimal (v + 1) ≢ digits) → (l : ℕ) → l < 2 ^ 32 → literal_text l ≢ text
 no_literal text digits t d none l h e =
     let n = has_number l in
     let r = behind_case l n.v (literal_number l) text digits h n.is (same_text (take 1 text) (45 ∷ []) t) d e in none n.v r.0 r.1
@@ -288,9 +300,11 @@ pub word_cut : (text : List ℕ) (i : ℕ) → i < length text → HoldsAt (λ b
     words_of text ≡ take i text ∷ words_of (drop (i + 1) text)
 word_cut text i h at before =
     let front : NoSpace (take i text) = λ k d l. let k_below : k < i = omega (arith, length-take i text) in rw get_or-take (before k d (omega arith) k_below) in
-    let parts : take i text ++ get_or text i 0 ∷ drop (suc i) text ≡ text = ap (λ xs. take i text ++ xs) (sym (drop-cons text i 0 h)) ∙ take-append-drop i text in
+    let parts : take i text ++ get_or text i 0 ∷ drop (suc i) text ≡ text = ap (λ xs. take i text ++ xs) (sym (drop-cons text i 0 h))
+    ∙ take-append-drop i text in
     let up : suc i ≡ i + 1 = omega arith in
-    ap words_of (sym parts) ∙ slice_split_at (λ b. b == 32) (take i text) (get_or text i 0) (drop (suc i) text) front (at 0) ∙ ap (λ n. take i text ∷ words_of (drop n text)) up
+    ap words_of (sym parts) ∙ slice_split_at (λ b. b == 32) (take i text) (get_or text i 0) (drop (suc i) text) front (at 0)
+    ∙ ap (λ n. take i text ∷ words_of (drop n text)) up
 
 pub word_alone : (text : List ℕ) → AllWithin (λ b. (b == 32) ≡ false) text 0 (length text) → words_of text ≡ text ∷ []
 word_alone text h = slice_split_none (λ b. b == 32) text (λ k d l. h k d (omega arith) l)
@@ -304,14 +318,17 @@ abbrev pub bytes_left : Option (Bor (List ℕ)) → ℕ
 bytes_left None = 0
 bytes_left (Some text) = length text.now + 1
 
-pub first_word : (text word : List ℕ) (others : Option (Bor (List ℕ))) → IfNone others (words_of text ≡ word ∷ []) → IfSome others (λ rest. words_of text ≡ word ∷ words_of rest.now) →
+pub first_word : (text word : List ℕ) (others : Option (Bor (List ℕ))) → IfNone others (words_of text ≡ word ∷ []) →
+    IfSome others (λ rest. words_of text ≡ word ∷ words_of rest.now) →
     words_of text ≡ word ∷ words_left others
 first_word text word None e f = e
 first_word text word (Some rest) e f = f
 
 -- the words behind the literals that were read, from the next one on
-pub words_behind : (ls numbers word : List ℕ) (text : Bor (List ℕ)) (rest others : Option (Bor (List ℕ))) → map literal_text ls ++ words_left rest ≡ words_of numbers → rest ≡ Some text →
-    IfNone others (words_of text.now ≡ word ∷ []) → IfSome others (λ behind. words_of text.now ≡ word ∷ words_of behind.now) → map literal_text ls ++ word ∷ words_left others ≡ words_of numbers
+pub words_behind : (ls numbers word : List ℕ) (text : Bor (List ℕ)) (rest others : Option (Bor (List ℕ))) →
+    map literal_text ls ++ words_left rest ≡ words_of numbers → rest ≡ Some text →
+    IfNone others (words_of text.now ≡ word ∷ []) → IfSome others (λ behind. words_of text.now ≡ word ∷ words_of behind.now) →
+    map literal_text ls ++ word ∷ words_left others ≡ words_of numbers
 words_behind ls numbers word text rest others left is last more =
     ap (λ ws. map literal_text ls ++ ws) (sym (first_word text.now word others last more)) ∙ ap (λ r. map literal_text ls ++ words_left r) (sym is) ∙ left
 
@@ -322,23 +339,27 @@ none_left (Some text) h = absurd (h text refl)
 pub one_more_read : (ls : List ℕ) (l : ℕ) (word : List ℕ) (others all : List (List ℕ)) → map literal_text ls ++ word ∷ others ≡ all → literal_text l ≡ word →
     map literal_text (ls ++ l ∷ []) ++ others ≡ all
 one_more_read ls l word others all e f =
-    ap (λ xs. xs ++ others) (map-append literal_text ls (l ∷ [])) ∙ append_assoc (map literal_text ls) (literal_text l ∷ []) others ∙ ap (λ w. map literal_text ls ++ w ∷ others) f ∙ e
+    ap (λ xs. xs ++ others) (map-append literal_text ls (l ∷ [])) ∙ append_assoc (map literal_text ls) (literal_text l ∷ []) others
+    ∙ ap (λ w. map literal_text ls ++ w ∷ others) f ∙ e
 
 joined_behind : (word : List ℕ) (ws : List (List ℕ)) → 0 < length ws → join_with_byte 32 (word ∷ ws) ≡ word ++ (32 ∷ join_with_byte 32 ws)
 joined_behind word [] h = absurd (omega arith)
 joined_behind word (x ∷ xs) h = refl
 
 -- a command whose literals were all read
-spelled_read : (name numbers ls : List ℕ) → map literal_text ls ++ [] ≡ words_of numbers → join_with_byte 32 (name ∷ map literal_text ls) ≡ name ++ (32 ∷ numbers)
+spelled_read : (name numbers ls : List ℕ) → map literal_text ls ++ [] ≡ words_of numbers →
+    join_with_byte 32 (name ∷ map literal_text ls) ≡ name ++ (32 ∷ numbers)
 spelled_read name numbers ls e =
     ap (λ ws. join_with_byte 32 (name ∷ ws)) (sym (append-nil (map literal_text ls)) ∙ e) ∙
     joined_behind name (words_of numbers) (omega (arith, length-slice_split (λ b. b == 32) numbers)) ∙
     ap (λ xs. name ++ (32 ∷ xs)) (join_with_byte-slice_split 32 numbers)
 
-pub clause_read : (numbers ls : List ℕ) → map literal_text ls ++ [] ≡ words_of numbers → All (λ l. l < 2 ^ 32) ls → MeansCommand (codes "add " ++ numbers) (Add ls)
+pub clause_read : (numbers ls : List ℕ) → map literal_text ls ++ [] ≡ words_of numbers → All (λ l. l < 2 ^ 32) ls →
+    MeansCommand (codes "add " ++ numbers) (Add ls)
 clause_read numbers ls e h = record { spelled = spelled_read (codes "add") numbers ls e; in_range = h }
 
-pub list_read : (numbers ls : List ℕ) → map literal_text ls ++ [] ≡ words_of numbers → All (λ l. l < 2 ^ 32) ls → MeansCommand (codes "assume " ++ numbers) (Assume ls)
+pub list_read : (numbers ls : List ℕ) → map literal_text ls ++ [] ≡ words_of numbers → All (λ l. l < 2 ^ 32) ls →
+    MeansCommand (codes "assume " ++ numbers) (Assume ls)
 list_read numbers ls e h = record { spelled = spelled_read (codes "assume") numbers ls e; in_range = h }
 
 -- a word that is no literal stands in no clause
@@ -354,16 +375,20 @@ tails_same : (a b : List ℕ) (xs ys : List (List ℕ)) → a ∷ xs ≡ b ∷ y
 tails_same a b xs ys e = cc
 
 -- so the text is no command of literals
-no_literals : (name numbers ls word : List ℕ) (others : List (List ℕ)) (command : Command) → (name ≡ codes "add") ⊎ (name ≡ codes "assume") → HasNumbersInRange command → ((m : ℕ) → m < 2 ^ 32 → literal_text m ≢ word) →
+no_literals : (name numbers ls word : List ℕ) (others : List (List ℕ)) (command : Command) → (name ≡ codes "add") ⊎ (name ≡ codes "assume") →
+    HasNumbersInRange command → ((m : ℕ) → m < 2 ^ 32 → literal_text m ≢ word) →
     map literal_text ls ++ word ∷ others ≡ words_of numbers → name ∷ words_of numbers ≡ words command → ⊥
 no_literals name numbers ls word others (Add ms) o h none e w =
     not_among ls ms word others (recursion_from_All (λ l. l < 2 ^ 32) ms h) none (e ∙ tails_same name (codes "add") (words_of numbers) (map literal_text ms) w)
 no_literals name numbers ls word others (Assume ms) o h none e w =
-    not_among ls ms word others (recursion_from_All (λ l. l < 2 ^ 32) ms h) none (e ∙ tails_same name (codes "assume") (words_of numbers) (map literal_text ms) w)
+    not_among ls ms word others (recursion_from_All (λ l. l < 2 ^ 32) ms h) none
+    (e ∙ tails_same name (codes "assume") (words_of numbers) (map literal_text ms) w)
 no_literals name numbers ls word others command (inl r) h none e w =
-    let n : first_word_number (codes "add" ∷ words_of numbers) ≡ first_word_number (words command) = ap (λ x. first_word_number (x ∷ words_of numbers)) (sym r) ∙ ap first_word_number w in absurd (omega arith)
+    let n : first_word_number (codes "add" ∷ words_of numbers) ≡ first_word_number (words command) =
+    ap (λ x. first_word_number (x ∷ words_of numbers)) (sym r) ∙ ap first_word_number w in absurd (omega arith)
 no_literals name numbers ls word others command (inr r) h none e w =
-    let n : first_word_number (codes "assume" ∷ words_of numbers) ≡ first_word_number (words command) = ap (λ x. first_word_number (x ∷ words_of numbers)) (sym r) ∙ ap first_word_number w in absurd (omega arith)
+    let n : first_word_number (codes "assume" ∷ words_of numbers) ≡ first_word_number (words command) =
+    ap (λ x. first_word_number (x ∷ words_of numbers)) (sym r) ∙ ap first_word_number w in absurd (omega arith)
 
 pub no_clause : (numbers ls word : List ℕ) (others : List (List ℕ)) → ((m : ℕ) → m < 2 ^ 32 → literal_text m ≢ word) →
     map literal_text ls ++ word ∷ others ≡ words_of numbers → (command : Command) → MeansCommand (codes "add " ++ numbers) command → ⊥
@@ -373,17 +398,20 @@ no_clause numbers ls word others none e command m =
 pub no_list : (numbers ls word : List ℕ) (others : List (List ℕ)) → ((m : ℕ) → m < 2 ^ 32 → literal_text m ≢ word) →
     map literal_text ls ++ word ∷ others ≡ words_of numbers → (command : Command) → MeansCommand (codes "assume " ++ numbers) command → ⊥
 no_list numbers ls word others none e command m =
-    no_literals (codes "assume") numbers ls word others command (inr refl) m.in_range none e (assume_first numbers ∙ words_of_meant (codes "assume " ++ numbers) command m)
+    no_literals (codes "assume") numbers ls word others command (inr refl) m.in_range none e
+    (assume_first numbers ∙ words_of_meant (codes "assume " ++ numbers) command m)
   where
     assume_first : (numbers : List ℕ) → codes "assume" ∷ words_of numbers ≡ words_of (codes "assume " ++ numbers)
-    assume_first numbers = sym (slice_split_at (λ b. b == 32) (codes "assume") 32 numbers (no_space (codes "assume") (from_spaceless (codes "assume") refl)) refl)
+    assume_first numbers = sym (slice_split_at (λ b. b == 32) (codes "assume") 32 numbers
+        (no_space (codes "assume") (from_spaceless (codes "assume") refl)) refl)
 
 -- Behind `config` stand a setting's name and a value.
 
 one_word : (text word : List ℕ) → words_of text ≡ word ∷ [] → text ≡ word
 one_word text word e = sym (join_with_byte-slice_split 32 text) ∙ ap (join_with_byte 32) e
 
-pub setting_read : (setting name number : List ℕ) (field : ConfigField) (value : ℕ) → words_of setting ≡ name ∷ words_of number → field_text field ≡ name → decimal value ≡ number → value < 2 ^ 64 → MeansCommand (codes "config " ++ setting) (Config field value)
+pub setting_read : (setting name number : List ℕ) (field : ConfigField) (value : ℕ) → words_of setting ≡ name ∷ words_of number →
+    field_text field ≡ name → decimal value ≡ number → value < 2 ^ 64 → MeansCommand (codes "config " ++ setting) (Config field value)
 setting_read setting name number field value w f d h =
     let own : words_of number ≡ decimal value ∷ [] = ap words_of (sym d) ∙ slice_split_none (λ b. b == 32) (decimal value) (number_has_no_space value h) in
     let all : words_of setting ≡ field_text field ∷ decimal value ∷ [] = w ∙ ap (λ x. x ∷ words_of number) (sym f) ∙ ap (λ ws. field_text field ∷ ws) own in
@@ -392,7 +420,10 @@ setting_read setting name number field value w f d h =
       in_range = h;
     }
 
-no_setting_case : (setting name : List ℕ) (others : List (List ℕ)) (command : Command) → HasNumbersInRange command → words_of setting ≡ name ∷ others → ((field : ConfigField) (value : ℕ) → value < 2 ^ 64 → field_text field ≡ name → decimal value ∷ [] ≡ others → ⊥) → codes "config" ∷ words_of setting ≡ words command → ⊥
+no_setting_case : (setting name : List ℕ) (others : List (List ℕ)) (command : Command) → HasNumbersInRange command →
+    words_of setting ≡ name ∷ others →
+    ((field : ConfigField) (value : ℕ) → value < 2 ^ 64 → field_text field ≡ name → decimal value ∷ [] ≡ others → ⊥) →
+    codes "config" ∷ words_of setting ≡ words command → ⊥
 no_setting_case setting name others (Config field value) h w none e =
     let tails = tails_same (codes "config") (codes "config") (words_of setting) (field_text field ∷ decimal value ∷ []) e in
     let both : name ∷ others ≡ field_text field ∷ decimal value ∷ [] = sym w ∙ tails in
@@ -401,12 +432,15 @@ no_setting_case setting name others command h w none e =
     let n : first_word_number (codes "config" ∷ words_of setting) ≡ first_word_number (words command) = ap first_word_number e in absurd (omega arith)
 
 -- no command is spelled so where its parts are none of a setting
-pub no_setting : (setting name : List ℕ) (others : List (List ℕ)) → words_of setting ≡ name ∷ others → ((field : ConfigField) (value : ℕ) → value < 2 ^ 64 → field_text field ≡ name → decimal value ∷ [] ≡ others → ⊥) → (command : Command) → MeansCommand (codes "config " ++ setting) command → ⊥
+pub no_setting : (setting name : List ℕ) (others : List (List ℕ)) → words_of setting ≡ name ∷ others →
+    ((field : ConfigField) (value : ℕ) → value < 2 ^ 64 → field_text field ≡ name → decimal value ∷ [] ≡ others → ⊥) → (command : Command) →
+    MeansCommand (codes "config " ++ setting) command → ⊥
 no_setting setting name others w none command m =
     no_setting_case setting name others command m.in_range w none (config_first setting ∙ words_of_meant (codes "config " ++ setting) command m)
   where
     config_first : (setting : List ℕ) → codes "config" ∷ words_of setting ≡ words_of (codes "config " ++ setting)
-    config_first setting = sym (slice_split_at (λ b. b == 32) (codes "config") 32 setting (no_space (codes "config") (from_spaceless (codes "config") refl)) refl)
+    config_first setting = sym (slice_split_at (λ b. b == 32) (codes "config") 32 setting
+        (no_space (codes "config") (from_spaceless (codes "config") refl)) refl)
 
 pub number_alone : (number word : List ℕ) → word ∷ [] ≡ words_of number → word ≡ number
 number_alone number word e = sym (one_word number word (sym e))
@@ -416,19 +450,24 @@ number_alone number word e = sym (one_word number word (sym e))
 behind_name : (text name number : List ℕ) (n : ℕ) → pointwise nat_eq (take n text) name ≡ true → number ≡ drop n text → name ++ number ≡ text
 behind_name text name number n t d = ap (λ x. x ++ number) (sym (same_text (take n text) name (sym t))) ∙ ap (λ x. take n text ++ x) d ∙ take-append-drop n text
 
-pub sample_read : (text number : List ℕ) (v : ℕ) → pointwise nat_eq (take 7 text) (codes "sample ") ≡ true → number ≡ drop 7 text → variable_text v ≡ number → v < 2 ^ 31 → MeansCommand text (Sample v)
+pub sample_read : (text number : List ℕ) (v : ℕ) → pointwise nat_eq (take 7 text) (codes "sample ") ≡ true → number ≡ drop 7 text →
+    variable_text v ≡ number → v < 2 ^ 31 → MeansCommand text (Sample v)
 sample_read text number v t d e h = record { spelled = ap (λ xs. codes "sample " ++ xs) e ∙ behind_name text (codes "sample ") number 7 t d; in_range = h }
 
-pub witness_read : (text number : List ℕ) (v : ℕ) → pointwise nat_eq (take 8 text) (codes "witness ") ≡ true → number ≡ drop 8 text → variable_text v ≡ number → v < 2 ^ 31 → MeansCommand text (Witness v)
+pub witness_read : (text number : List ℕ) (v : ℕ) → pointwise nat_eq (take 8 text) (codes "witness ") ≡ true → number ≡ drop 8 text →
+    variable_text v ≡ number → v < 2 ^ 31 → MeansCommand text (Witness v)
 witness_read text number v t d e h = record { spelled = ap (λ xs. codes "witness " ++ xs) e ∙ behind_name text (codes "witness ") number 8 t d; in_range = h }
 
-pub hide_read : (text number : List ℕ) (v : ℕ) → pointwise nat_eq (take 5 text) (codes "hide ") ≡ true → number ≡ drop 5 text → variable_text v ≡ number → v < 2 ^ 31 → MeansCommand text (Hide v)
+pub hide_read : (text number : List ℕ) (v : ℕ) → pointwise nat_eq (take 5 text) (codes "hide ") ≡ true → number ≡ drop 5 text →
+    variable_text v ≡ number → v < 2 ^ 31 → MeansCommand text (Hide v)
 hide_read text number v t d e h = record { spelled = ap (λ xs. codes "hide " ++ xs) e ∙ behind_name text (codes "hide ") number 5 t d; in_range = h }
 
 -- what a command asks for reads no source, and opens a proof in memory
 pub asked-ready : {S A : Type 0} (seen : S → Stand) (c : Call Taken S A) (command : Command) → AsksFor c command → IsReady seen (λ t. t) c
-asked-ready seen (call.WriteProof target format) ProofText (e, f) = (subst IsDrat (sym f) tt, subst (λ (t : Taken). t.faults < 2 ^ 64 - 1) (sym e) (omega arith))
-asked-ready seen (call.WriteProof target format) ProofBinary (e, f) = (subst IsDrat (sym f) tt, subst (λ (t : Taken). t.faults < 2 ^ 64 - 1) (sym e) (omega arith))
+asked-ready seen (call.WriteProof target format) ProofText (e, f) =
+    (subst IsDrat (sym f) tt, subst (λ (t : Taken). t.faults < 2 ^ 64 - 1) (sym e) (omega arith))
+asked-ready seen (call.WriteProof target format) ProofBinary (e, f) =
+    (subst IsDrat (sym f) tt, subst (λ (t : Taken). t.faults < 2 ^ 64 - 1) (sym e) (omega arith))
 asked-ready seen (call.WriteProof target format) command h = absurd h
 asked-ready seen (call.AddDimacsCnf source) command h = absurd h
 asked-ready seen c command h = tt

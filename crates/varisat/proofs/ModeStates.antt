@@ -13,7 +13,8 @@ use Rattle.varisat.proofs.SpacesAgree.{identities-same, units-same, isolation-sa
 use Rattle.varisat.proofs.VariableMoves.{in_mode, set_mode}
 use Rattle.varisat.proofs.HiddenStates.{field-same, identity-named}
 
-module _ (w : Carrying) (p : Spaces) (s : State) (u x : ℕ) (k : Links w p s) (at : p.global_from_user u ≡ Some x) (m : SamplingMode) (n : Mode) (fit : ModeFits m n) where
+module _ (w : Carrying) (p : Spaces) (s : State) (u x : ℕ) (k : Links w p s) (at : p.global_from_user u ≡ Some x) (m : SamplingMode) (n : Mode)
+    (fit : ModeFits m n) where
   d : VarData
   d = in_mode m (p.kept x)
 
@@ -23,10 +24,16 @@ module _ (w : Carrying) (p : Spaces) (s : State) (u x : ℕ) (k : Links w p s) (
   named-modes : (i : ℕ) → w.identity x ≡ Some i → ModesFit w.identity p.global_from_user p.user_from_global kept' (updated s.naming.modes i n)
   unfolding kept' d
   named-modes i is = record {
-    mode = λ v y j h e. updated-all (λ y a. w.identity y ≡ Some j → ((y ≡ x → ⊥) → ModeFits a.sampling_mode (s.naming.modes j)) → ModeFits a.sampling_mode (updated s.naming.modes i n j)) p.kept x d
-        (λ q _. let b : Some i ≡ Some j = sym is ∙ q in let z : i ≡ j = cc in subst (λ b. ModeFits m b) (sym (updated-at s.naming.modes i n) ∙ ap (updated s.naming.modes i n) z) fit)
+    mode = λ v y j h e. updated-all
+        (λ y a. w.identity y ≡ Some j → ((y ≡ x → ⊥) → ModeFits a.sampling_mode (s.naming.modes j)) →
+        ModeFits a.sampling_mode (updated s.naming.modes i n j)) p.kept x d
+        (λ q _. let b : Some i ≡ Some j = sym is ∙ q in let z : i ≡ j = cc in
+        subst (λ b. ModeFits m b) (sym (updated-at s.naming.modes i n) ∙ ap (updated s.naming.modes i n) z) fit)
         y
-        (λ o q f. subst (λ b. ModeFits (p.kept y).sampling_mode b) (sym (updated-other s.naming.modes i n j (λ z. let b : Some y ≡ Some x = sym (k.identities.one_to_one.there y j q) ∙ ap w.global z ∙ k.identities.one_to_one.there x i is in o cc))) (f o))
+        (λ o q f. subst (λ b. ModeFits (p.kept y).sampling_mode b)
+        (sym (updated-other s.naming.modes i n j
+        (λ z. let b : Some y ≡ Some x = sym (k.identities.one_to_one.there y j q) ∙ ap w.global z ∙ k.identities.one_to_one.there x i is in
+        o cc))) (f o))
         e
         (λ o. subst (λ a. ModeFits a.sampling_mode (s.naming.modes j)) (sym (updated-other p.kept x d y o)) (k.modes.mode v y j h e));
     unnamed = λ y h. updated-all (λ y a. p.user_from_global y ≡ None → a.sampling_mode ≡ sampling.Hide) p.kept x d
@@ -57,7 +64,16 @@ module _ (w : Carrying) (p : Spaces) (s : State) (u x : ℕ) (k : Links w p s) (
         verdict = k.verdict;
         core = k.core;
         right = k.right;
-        well_formed = record { one_to_one = k.well_formed.one_to_one; free = k.well_formed.free; named = k.well_formed.named; accepted = k.well_formed.accepted; assumed = k.well_formed.assumed; counted = k.well_formed.counted; once = k.well_formed.once };
+        well_formed = record {
+          one_to_one = k.well_formed.one_to_one;
+          free = k.well_formed.free;
+          named = k.well_formed.named;
+          accepted =
+              k.well_formed.accepted;
+          assumed = k.well_formed.assumed;
+          counted = k.well_formed.counted;
+          once = k.well_formed.once;
+        };
         few = k.few;
         shown = λ e y h. field-same (λ a. a.deleted) p.kept x d refl y ∙ k.shown e y h;
         plain = k.plain;

@@ -22,7 +22,8 @@ pub carries-one-more : (P : List Clause) (c : Clause) (Q : List Clause) → Carr
 carries-one-more P c Q = record {
   derives = λ lines d.
       let (last, e) = derivation_derives (P ++ Q) lines d in
-      let (after, f, same) = derives_same (c ∷ (P ++ Q)) (P ++ c ∷ Q) lines lines (c ∷ last) moved (same_lines-self lines) (derives_beside (c ∷ []) (P ++ Q) lines last e) in
+      let (after, f, same) = derives_same (c ∷ (P ++ Q)) (P ++ c ∷ Q) lines lines (c ∷ last) moved (same_lines-self lines)
+      (derives_beside (c ∷ []) (P ++ Q) lines last e) in
       derives_derivation (P ++ c ∷ Q) lines after f;
   refutes = λ lines r. refutes_same (c ∷ (P ++ Q)) (P ++ c ∷ Q) lines lines moved (same_lines-self lines) (refutes_beside (c ∷ []) (P ++ Q) lines r);
 }

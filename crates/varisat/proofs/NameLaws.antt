@@ -33,7 +33,8 @@ stays-in-order = (
 
 -- a name in use is one below the count
 pub in-use-below : (n : ℕ) (m : Naming) (ls : List Literal) → AreInOrder n m → AreNamesInUse m ls → (l : Literal) → l ∈ ls → variable_of l < n
-in-use-below n m ls o named l h = ⊎_elim (λ b. b) (λ b. absurd (let (i, e) = named l h in let z : Some i ≡ None = sym e ∙ o.free (variable_of l) b in cc)) (below-or (variable_of l) n)
+in-use-below n m ls o named l h =
+    ⊎_elim (λ b. b) (λ b. absurd (let (i, e) = named l h in let z : Some i ≡ None = sym e ∙ o.free (variable_of l) b in cc)) (below-or (variable_of l) n)
 
 pub names-are-identities : NamesAreIdentities
 names-are-identities n m ls o named = through-all n m ls o (in-use-below n m ls o named)

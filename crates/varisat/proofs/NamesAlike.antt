@@ -30,7 +30,8 @@ named-to u m =
     (λ (i, f). Same i h f (e ∙ ap (λ o. bring_if_free u o m) f))
     (is-some (m.names u)))
     (λ h. let n : suc u - m.watermark ≡ u + 1 - m.watermark = omega arith in
-    Onward h (ap (λ b. if b then bring_if_free u (m.names u) m else bring_next (suc u - m.watermark) m) (not-below u m.watermark h) ∙ ap (λ k. bring_next k m) n))
+    Onward h (ap (λ b. if b then bring_if_free u (m.names u) m else bring_next (suc u - m.watermark) m) (not-below u m.watermark h)
+    ∙ ap (λ k. bring_next k m) n))
     (cases_lt u m.watermark)
   where
     not-below : (a b : ℕ) → b ≤ a → nat_lt a b ≡ false
@@ -54,7 +55,8 @@ alike-on l m n a b = record {
   made = let x = a.made in let y = b.made in omega (arith, x, y);
 }
 
-updated-free : (f g : ℕ → Option ℕ) (u a b : ℕ) → ((v : ℕ) → (f v ≡ None) ↔ (g v ≡ None)) → (v : ℕ) → (updated f u (Some a) v ≡ None) ↔ (updated g u (Some b) v ≡ None)
+updated-free : (f g : ℕ → Option ℕ) (u a b : ℕ) → ((v : ℕ) → (f v ≡ None) ↔ (g v ≡ None)) → (v : ℕ) →
+    (updated f u (Some a) v ≡ None) ↔ (updated g u (Some b) v ≡ None)
 updated-free f g u a b h v =
     ⊎_elim
     (λ e. (
@@ -76,7 +78,8 @@ bring-alike u m n h = record {
 
 next-alike : (k : ℕ) (m n : Naming) → AreAlike m n → AreAlike (bring_next k m) (bring_next k n)
 next-alike zero m n h = h
-next-alike (suc k) m n h = next-alike k (bring m.watermark m) (bring n.watermark n) (subst (λ w. AreAlike (bring m.watermark m) (bring w n)) (sym h.watermark) (bring-alike m.watermark m n h))
+next-alike (suc k) m n h = next-alike k (bring m.watermark m) (bring n.watermark n)
+    (subst (λ w. AreAlike (bring m.watermark m) (bring w n)) (sym h.watermark) (bring-alike m.watermark m n h))
 
 alike-by : (m n x y : Naming) → x ≡ m → y ≡ n → AreAlike m n → AreAlike x y
 alike-by m n x y e f h = subst (λ z. AreAlike z y) (sym e) (subst (AreAlike m) (sym f) h)
@@ -91,7 +94,8 @@ named-to-alike u m n x y h (Alone b e p) (Alone c f q) = alike-by (bring u m) (b
 named-to-alike u m n x y h (Alone b e p) (Onward c q) = absurd (let w = h.watermark in omega (arith, b, c, w))
 named-to-alike u m n x y h (Onward b p) (Same j c f q) = absurd (let w = h.watermark in omega (arith, b, c, w))
 named-to-alike u m n x y h (Onward b p) (Alone c f q) = absurd (let w = h.watermark in omega (arith, b, c, w))
-named-to-alike u m n x y h (Onward b p) (Onward c q) = alike-by (bring_next (u + 1 - m.watermark) m) (bring_next (u + 1 - m.watermark) n) x y p (q ∙ ap (λ w. bring_next (u + 1 - w) n) h.watermark) (next-alike (u + 1 - m.watermark) m n h)
+named-to-alike u m n x y h (Onward b p) (Onward c q) = alike-by (bring_next (u + 1 - m.watermark) m) (bring_next (u + 1 - m.watermark) n) x y p
+    (q ∙ ap (λ w. bring_next (u + 1 - w) n) h.watermark) (next-alike (u + 1 - m.watermark) m n h)
 
 pub one-alike : (u : ℕ) (m n : Naming) → AreAlike m n → AreAlike (name_one u m) (name_one u n)
 one-alike u m n h = named-to-alike u m n (name_one u m) (name_one u n) h (named-to u m) (named-to u n)
@@ -119,10 +123,12 @@ next-given-alike : (k : ℕ) (old new : Tables) → AreNextGiven k old new → A
 next-given-alike zero old new e = subst (λ t. AreAlike (naming_of t) (naming_of old)) (sym e) (alike-self (naming_of old))
 next-given-alike (suc k) old new (mid, x, g, rest) =
     let m = bring (length old.users.forward) (naming_of old) in
-    alike-on (naming_of new) (bring_next k (naming_of mid)) (bring_next k m) (next-given-alike k mid new rest) (next-alike k (naming_of mid) m (given-alike old mid (length old.users.forward) x g))
+    alike-on (naming_of new) (bring_next k (naming_of mid)) (bring_next k m) (next-given-alike k mid new rest)
+    (next-alike k (naming_of mid) m (given-alike old mid (length old.users.forward) x g))
 
 named-alike : (u : ℕ) (old new : Tables) (y : Naming) → IsNamed u old new → IsNamedTo u (naming_of old) y → AreAlike (naming_of new) y
-named-alike u old new y (InUse x e p) (Same j c f q) = alike-by (naming_of old) (naming_of old) (naming_of new) y (ap (λ t. naming_of t) p) q (alike-self (naming_of old))
+named-alike u old new y (InUse x e p) (Same j c f q) = alike-by (naming_of old) (naming_of old) (naming_of new) y (ap (λ t. naming_of t) p) q
+    (alike-self (naming_of old))
 named-alike u old new y (InUse x e p) (Alone c f q) = absurd (let z : Some x ≡ None = sym e ∙ f in cc)
 named-alike u old new y (InUse x e p) (Onward c q) = absurd (let b = at-inside old.users.forward u x e in omega (arith, b, c))
 named-alike u old new y (Free x b e g) (Same j c f q) = absurd (let z : Some j ≡ None = sym f ∙ e in cc)
@@ -133,4 +139,5 @@ named-alike u old new y (Above b r) (Alone c f q) = absurd (omega (arith, b, c))
 named-alike u old new y (Above b r) (Onward c q) = subst (AreAlike (naming_of new)) (sym q) (next-given-alike (u + 1 - length old.users.forward) old new r)
 
 pub one-named : (u : ℕ) (old new : Tables) (m : Naming) → IsNamed u old new → AreAlike (naming_of old) m → AreAlike (naming_of new) (name_one u m)
-one-named u old new m n h = alike-on (naming_of new) (name_one u (naming_of old)) (name_one u m) (named-alike u old new (name_one u (naming_of old)) n (named-to u (naming_of old))) (one-alike u (naming_of old) m h)
+one-named u old new m n h = alike-on (naming_of new) (name_one u (naming_of old)) (name_one u m)
+    (named-alike u old new (name_one u (naming_of old)) n (named-to u (naming_of old))) (one-alike u (naming_of old) m h)

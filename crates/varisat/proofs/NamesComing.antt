@@ -35,13 +35,16 @@ next-made (suc k) m = let r = next-made k (bring m.watermark m) in omega (arith,
 -- those below it stay as they are
 pub next-below : (k : ℕ) (m : Naming) (v : ℕ) → v < m.watermark → (bring_next k m).names v ≡ m.names v
 next-below zero m v h = refl
-next-below (suc k) m v h = next-below k (bring m.watermark m) v (omega (arith, h)) ∙ updated-other m.names m.watermark (Some m.made) v (λ e. absurd (omega (arith, e, h)))
+next-below (suc k) m v h = next-below k (bring m.watermark m) v (omega (arith, h))
+    ∙ updated-other m.names m.watermark (Some m.made) v (λ e. absurd (omega (arith, e, h)))
 
 next-used : (k : ℕ) (m : Naming) (v : ℕ) → m.watermark ≤ v → v < m.watermark + k → (bring_next k m).names v ≢ None
 next-used zero m v a b = absurd (omega (arith, a, b))
 next-used (suc k) m v a b =
     ⊎_elim
-    (λ e z. let q : Some m.made ≡ None = sym (next-below k (bring m.watermark m) v (omega (arith, e)) ∙ ap (updated m.names m.watermark (Some m.made)) e ∙ updated-at m.names m.watermark (Some m.made)) ∙ z in cc)
+    (λ e z. let q : Some m.made ≡ None =
+    sym (next-below k (bring m.watermark m) v (omega (arith, e)) ∙ ap (updated m.names m.watermark (Some m.made)) e
+    ∙ updated-at m.names m.watermark (Some m.made)) ∙ z in cc)
     (λ n. next-used k (bring m.watermark m) v (omega (arith, a, n)) (omega (arith, b)))
     (equal_or_not v m.watermark)
 
@@ -63,12 +66,16 @@ pub all-in-range : (d : List Literal) (m : Naming) → (IsPastLimit d → ⊥) �
 all-in-range [] m n h = h
 all-in-range (l ∷ d) m n h =
     let a = one-watermark (variable_of l) m in
-    all-in-range d (name_one (variable_of l) m) (λ (k, i, b). n (k, inr i, b)) (⊎_elim (λ b. omega (arith, a, b, h)) (λ b. absurd (n (l, inl refl, b))) (cases_lt (variable_of l) variable_limit))
+    all-in-range d (name_one (variable_of l) m) (λ (k, i, b). n (k, inr i, b))
+    (⊎_elim (λ b. omega (arith, a, b, h)) (λ b. absurd (n (l, inl refl, b))) (cases_lt (variable_of l) variable_limit))
 
 -- those from the watermark on come, and each literal may bring one beside them
-named-made : (u : ℕ) (m new : Naming) → IsNamedTo u m new → (m.made + (new.watermark - m.watermark) ≤ new.made) × (new.made ≤ m.made + (new.watermark - m.watermark) + 1)
-named-made u m new (Same i b e q) = let c = ap (λ (n : Naming). n.made) q in let w = ap (λ (n : Naming). n.watermark) q in (omega (arith, c, w), omega (arith, c))
-named-made u m new (Alone b e q) = let c = ap (λ (n : Naming). n.made) q in let w = ap (λ (n : Naming). n.watermark) q in (omega (arith, b, c, w), omega (arith, c))
+named-made : (u : ℕ) (m new : Naming) → IsNamedTo u m new → (m.made + (new.watermark - m.watermark) ≤ new.made)
+    × (new.made ≤ m.made + (new.watermark - m.watermark) + 1)
+named-made u m new (Same i b e q) = let c = ap (λ (n : Naming). n.made) q in let w = ap (λ (n : Naming). n.watermark) q in
+    (omega (arith, c, w), omega (arith, c))
+named-made u m new (Alone b e q) = let c = ap (λ (n : Naming). n.made) q in let w = ap (λ (n : Naming). n.watermark) q in
+    (omega (arith, b, c, w), omega (arith, c))
 named-made u m new (Onward b q) =
     let c = ap (λ (n : Naming). n.made) q in
     let w = ap (λ (n : Naming). n.watermark) q in
@@ -77,7 +84,8 @@ named-made u m new (Onward b q) =
     let s = next-watermark k m in
     (omega (arith, c, r, w, s), omega (arith, c, r, w, s))
 
-pub all-made : (d : List Literal) (m : Naming) → (m.made + ((name_all d m).watermark - m.watermark) ≤ (name_all d m).made) × ((name_all d m).made ≤ m.made + ((name_all d m).watermark - m.watermark) + length d)
+pub all-made : (d : List Literal) (m : Naming) → (m.made + ((name_all d m).watermark - m.watermark) ≤ (name_all d m).made)
+    × ((name_all d m).made ≤ m.made + ((name_all d m).watermark - m.watermark) + length d)
 all-made [] m = (omega arith, omega arith)
 all-made (l ∷ d) m =
     let n = name_one (variable_of l) m in
@@ -163,7 +171,8 @@ module _ (start m : Naming) (d : List Literal) (l : Literal) (count : ℕ) (c : 
         most = let a = c.most in omega (arith, a, snoc);
         above = λ v a e z. c.above v a (omega (arith, a, b, e)) (sym (updated-other m.names u (Some m.made) v (λ y. absurd (omega (arith, y, a, b)))) ∙ z);
         free = λ v a f.
-            let n : v ≡ u → ⊥ = λ y. let z : Some m.made ≡ None = sym (updated-at m.names u (Some m.made)) ∙ ap (updated m.names u (Some m.made)) (sym y) ∙ f in cc in
+            let n : v ≡ u → ⊥ = λ y. let z : Some m.made ≡ None = sym (updated-at m.names u (Some m.made))
+            ∙ ap (updated m.names u (Some m.made)) (sym y) ∙ f in cc in
             let (g, h) = c.free v a (sym (updated-other m.names u (Some m.made) v n) ∙ f) in (g, others v (λ y. n (sym y)) h);
         still = λ v a f h. updated-other m.names u (Some m.made) v (λ y. last v h (sym y)) ∙ c.still v a f (before v h);
       })
@@ -179,11 +188,13 @@ module _ (start m : Naming) (d : List Literal) (l : Literal) (count : ℕ) (c : 
   one-more new h f (Onward b q) = absurd (let s = c.watermark in omega (arith, b, h, s))
 
   -- a name that was in use, or is not below the first watermark
-  pub counted-same : (variable_of l < start.watermark → start.names (variable_of l) ≡ None → ((k : Literal) → k ∈ d → variable_of k ≢ variable_of l) → ⊥) → AreCounted start (d ++ l ∷ []) (name_one (variable_of l) m) count
+  pub counted-same : (variable_of l < start.watermark → start.names (variable_of l) ≡ None →
+      ((k : Literal) → k ∈ d → variable_of k ≢ variable_of l) → ⊥) → AreCounted start (d ++ l ∷ []) (name_one (variable_of l) m) count
   unfolding u
   counted-same n = as-before (name_one u m) (λ h e. let (a, b) = c.free u h e in n h a b) (named-to u m)
 
   -- a free name below the first watermark, which no literal before has
-  pub counted-more : variable_of l < start.watermark → start.names (variable_of l) ≡ None → ((k : Literal) → k ∈ d → variable_of k ≢ variable_of l) → AreCounted start (d ++ l ∷ []) (name_one (variable_of l) m) (count + 1)
+  pub counted-more : variable_of l < start.watermark → start.names (variable_of l) ≡ None →
+      ((k : Literal) → k ∈ d → variable_of k ≢ variable_of l) → AreCounted start (d ++ l ∷ []) (name_one (variable_of l) m) (count + 1)
   unfolding u
   counted-more h e n = one-more (name_one u m) h (c.still u h e n) (named-to u m)

@@ -30,12 +30,14 @@ fit-bring n s f = record {
 
 fit-next : (k n : ℕ) (s : Naming) → AreInOrder n s → AreInOrder (n + k) (bring_next k s)
 fit-next zero n s f = subst (λ m. AreInOrder m s) (omega arith) f
-fit-next (suc k) n s f = subst (λ m. AreInOrder m (bring_next k (bring s.watermark s))) (omega arith) (fit-next k (suc n) (bring s.watermark s) (fit-bring n s f))
+fit-next (suc k) n s f = subst (λ m. AreInOrder m (bring_next k (bring s.watermark s))) (omega arith)
+    (fit-next k (suc n) (bring s.watermark s) (fit-bring n s f))
 
 pub fit-one : (u n : ℕ) (s : Naming) → AreInOrder n s → AreInOrder (max n (u + 1)) (name_one u s)
 fit-one u n s f =
     ⊎_elim
-    (λ h. let e = ap (λ b. if b then bring_if_free u (s.names u) s else bring_next (suc u - s.watermark) s) (lt-ltb u s.watermark h) ∙ ap (λ o. bring_if_free u o s) (f.in_use u (omega (arith, f.watermark))) in
+    (λ h. let e = ap (λ b. if b then bring_if_free u (s.names u) s else bring_next (suc u - s.watermark) s) (lt-ltb u s.watermark h)
+    ∙ ap (λ o. bring_if_free u o s) (f.in_use u (omega (arith, f.watermark))) in
     let m : n ≡ max n (u + 1) = omega (arith, f.watermark) in
     subst (AreInOrder (max n (u + 1))) (sym e) (subst (λ k. AreInOrder k s) m f))
     (λ h. let e = ap (λ b. if b then bring_if_free u (s.names u) s else bring_next (suc u - s.watermark) s) (not-below u s.watermark h) in
@@ -68,10 +70,12 @@ through-one n s l f h = let e = ap (λ o. 2 * identity_of o + l % 2) (f.in_use (
 
 pub through-all : (n : ℕ) (s : Naming) (d : List Literal) → AreInOrder n s → ((l : Literal) → l ∈ d → variable_of l < n) → map (through_names s) d ≡ d
 through-all n s [] f h = refl
-through-all n s (l ∷ d) f h = ap (λ x. x ∷ map (through_names s) d) (through-one n s l f (h l (inl refl))) ∙ ap (λ x. l ∷ x) (through-all n s d f (λ k m. h k (inr m)))
+through-all n s (l ∷ d) f h = ap (λ x. x ∷ map (through_names s) d) (through-one n s l f (h l (inl refl)))
+    ∙ ap (λ x. l ∷ x) (through-all n s d f (λ k m. h k (inr m)))
 
 -- more names stay in order, and literals over them are over identities too
-pub stay-in-order : (n : ℕ) (m : Naming) (ls : List Literal) → AreInOrder n m → AreInOrder (count_with n ls) (name_all ls m) × (map (through_names (name_all ls m)) ls ≡ ls)
+pub stay-in-order : (n : ℕ) (m : Naming) (ls : List Literal) → AreInOrder n m → AreInOrder (count_with n ls) (name_all ls m)
+    × (map (through_names (name_all ls m)) ls ≡ ls)
 stay-in-order n m ls f = let g = fit-all ls n m f in (g, through-all (count_with n ls) (name_all ls m) ls g (count-within ls n))
 
 pub count-push : (d : List Literal) (n : ℕ) (l : Literal) → count_with n (d ++ l ∷ []) ≡ max (count_with n d) (variable_of l + 1)

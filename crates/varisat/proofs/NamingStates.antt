@@ -24,10 +24,15 @@ fits-mode sampling.Hide Witness f = absurd f
 
 module _ (w : Carrying) (g : Summary) (s : State) (k : Links w (spaces g) s) where
   -- the name of a variable has its mode
-  named-mode : (u x : ℕ) → at g.tables.users.forward u ≡ Some x → (i : ℕ) × (s.naming.names u ≡ Some i) × (mode_of (kept_at g.tables.kept x).sampling_mode ≡ s.naming.modes i)
+  named-mode : (u x : ℕ) → at g.tables.users.forward u ≡ Some x → (i : ℕ) × (s.naming.names u ≡ Some i)
+      × (mode_of (kept_at g.tables.kept x).sampling_mode ≡ s.naming.modes i)
   named-mode u x e =
-      let (i, is) = k.names.live u x e in
-      (i, k.names.agree u ∙ chain-some (at g.tables.users.forward) w.identity u x e ∙ is, fits-mode (kept_at g.tables.kept x).sampling_mode (s.naming.modes i) (k.modes.mode u x i e is))
+      let (i, is) = k.names.live u x e in (
+        i,
+        k.names.agree u ∙ chain-some (at g.tables.users.forward) w.identity u x e
+            ∙ is,
+        fits-mode (kept_at g.tables.kept x).sampling_mode (s.naming.modes i) (k.modes.mode u x i e is),
+      )
 
   -- where it is free, it is free in the state
   free-there : (u : ℕ) → at g.tables.users.forward u ≡ None → s.naming.names u ≡ None
@@ -38,7 +43,8 @@ module _ (w : Carrying) (g : Summary) (s : State) (k : Links w (spaces g) s) whe
     watermark = k.watermark;
     free = λ u. (
       free-there u,
-      λ e. ⊎_elim (λ f. f) (λ (x, f). let (i, a, b) = named-mode u x f in let z : Some i ≡ None = sym a ∙ e in absurd cc) (is-some (at g.tables.users.forward u)),
+      λ e. ⊎_elim (λ f. f) (λ (x, f). let (i, a, b) = named-mode u x f in let z : Some i ≡ None = sym a ∙ e in absurd cc)
+          (is-some (at g.tables.users.forward u)),
     );
     made = k.globals;
   }

@@ -25,8 +25,10 @@ flat-append : {X Y : Type 0} (f : X → List Y) (xs ys : List X) → flat_map f 
 flat-append f [] ys = refl
 flat-append f (x ∷ xs) ys = ap (λ zs. f x ++ zs) (flat-append f xs ys) ∙ sym (append_assoc (f x) (flat_map f xs) (flat_map f ys))
 
-bytes-more : (f : ProofFormat) (first more : List Line) → lines_written (encoding_of f) (plain_lines (first ++ more)) ≡ lines_written (encoding_of f) (plain_lines first) ++ lines_written (encoding_of f) (plain_lines more)
-bytes-more f first more = ap (λ ls. flat_map (line_written (encoding_of f)) ls) (map-append plain_line first more) ∙ flat-append (line_written (encoding_of f)) (plain_lines first) (plain_lines more)
+bytes-more : (f : ProofFormat) (first more : List Line) → lines_written (encoding_of f) (plain_lines (first ++ more)) ≡ lines_written
+    (encoding_of f) (plain_lines first) ++ lines_written (encoding_of f) (plain_lines more)
+bytes-more f first more = ap (λ ls. flat_map (line_written (encoding_of f)) ls) (map-append plain_line first more)
+    ∙ flat-append (line_written (encoding_of f)) (plain_lines first) (plain_lines more)
 
 -- in DRAT entries have no other lines
 plainly-told : (f : ProofFormat) → IsDrat f → (es : List Entry) → lines_told (encoding_of f) es ≡ plain_lines (lines_of es)
@@ -55,7 +57,8 @@ goes-on-through (Some p) q r (more, e) h =
 
 -- 3. What fits.
 -- entries were told to it
-on-told : (hidden : Bool) (before after given : List Entry) (proof : Option OpenProof) (new : Option OpenState) → IsWrittenIf hidden before proof → proving.IsWrittenIf (opened_state proof) (told given) new → (hidden ≡ false → after ≡ before ++ given) →
+on-told : (hidden : Bool) (before after given : List Entry) (proof : Option OpenProof) (new : Option OpenState) → IsWrittenIf hidden before proof →
+    proving.IsWrittenIf (opened_state proof) (told given) new → (hidden ≡ false → after ≡ before ++ given) →
     (now : Option OpenProof) × GoesOnWriting proof now × ProofFits new hidden after now
 on-told hidden before after given None new w e plain = (None, refl, record { same = e; written = tt })
 on-told hidden before after given (Some p) None w e plain = absurd e
@@ -69,62 +72,83 @@ on-told hidden before after given (Some p) (Some o) w e plain =
         same =
             ap (λ (x : OpenState). Some x) e.rest
             ∙ ap (λ (x : Taken). let y : OpenState = record { format = p.format; taken = x; searched = p.searched } in Some y)
-            (ap (λ (xs : List ℕ). let t : Taken = record { bytes = xs; faults = o.taken.faults } in t) (e.bytes ∙ append_assoc p.first p.bytes more) ∙ ap (λ (n : ℕ). let t : Taken = record { bytes = p.first ++ (p.bytes ++ more); faults = n } in t) e.faults);
+            (ap (λ (xs : List ℕ). let t : Taken = record { bytes = xs; faults = o.taken.faults } in t) (e.bytes ∙ append_assoc p.first p.bytes more)
+            ∙ ap (λ (n : ℕ). let t : Taken = record { bytes = p.first ++ (p.bytes ++ more); faults = n } in t) e.faults);
         written = record {
           drat = w.drat;
           lines = w.lines ++ lines_of given;
-          bytes = ap (λ xs. xs ++ more) w.bytes ∙ ap (λ ls. lines_written (encoding_of p.format) (plain_lines w.lines) ++ lines_written (encoding_of p.format) ls) plainer ∙ sym (bytes-more p.format w.lines (lines_of given));
+          bytes = ap (λ xs. xs ++ more) w.bytes
+              ∙ ap (λ ls. lines_written (encoding_of p.format) (plain_lines w.lines) ++ lines_written (encoding_of p.format) ls) plainer
+              ∙ sym (bytes-more p.format w.lines (lines_of given));
           all = λ h. ap lines_of (plain h) ∙ lines_append before given ∙ ap (λ ls. ls ++ lines_of given) (w.all h);
         };
       },
     )
 
-pub proof-goes-on : (p q : ProofParts) (hidden : Bool) (before after : List Entry) (proof : Option OpenProof) → ProofFits p.opened hidden before proof → TellsProof hidden before after p q → (now : Option OpenProof) × GoesOnWriting proof now × ProofFits q.opened hidden after now
-proof-goes-on p q hidden before after proof f t = on-told hidden before after t.given proof q.opened f.written (subst (λ (o : Option OpenState). proving.IsWrittenIf o (told t.given) q.opened) f.same t.told.written) t.plain
+pub proof-goes-on : (p q : ProofParts) (hidden : Bool) (before after : List Entry) (proof : Option OpenProof) →
+    ProofFits p.opened hidden before proof → TellsProof hidden before after p q → (now : Option OpenProof) × GoesOnWriting proof now
+    × ProofFits q.opened hidden after now
+proof-goes-on p q hidden before after proof f t = on-told hidden before after t.given proof q.opened f.written
+    (subst (λ (o : Option OpenState). proving.IsWrittenIf o (told t.given) q.opened) f.same t.told.written) t.plain
 
 -- no line was told
-other-told : (hidden : Bool) (before after : List Entry) (proof : Option OpenProof) → (hidden ≡ false → lines_of after ≡ lines_of before) → IsWrittenIf hidden before proof → IsWrittenIf hidden after proof
+other-told : (hidden : Bool) (before after : List Entry) (proof : Option OpenProof) → (hidden ≡ false → lines_of after ≡ lines_of before) →
+    IsWrittenIf hidden before proof → IsWrittenIf hidden after proof
 other-told hidden before after None e w = tt
 other-told hidden before after (Some p) e w = record { drat = w.drat; lines = w.lines; bytes = w.bytes; all = λ h. e h ∙ w.all h }
 
-pub assumed-fits : (o : Option OpenState) (hidden : Bool) (told : List Entry) (a : List Literal) (proof : Option OpenProof) → ProofFits o hidden told proof → ProofFits o hidden (told ++ Assumes a ∷ []) proof
-assumed-fits o hidden told a proof f = record { same = f.same; written = other-told hidden told (told ++ Assumes a ∷ []) proof (λ h. lines_append told (Assumes a ∷ []) ∙ append-nil (lines_of told)) f.written }
+pub assumed-fits : (o : Option OpenState) (hidden : Bool) (told : List Entry) (a : List Literal) (proof : Option OpenProof) →
+    ProofFits o hidden told proof → ProofFits o hidden (told ++ Assumes a ∷ []) proof
+assumed-fits o hidden told a proof f =
+    record {
+      same = f.same;
+      written = other-told hidden told (told ++ Assumes a ∷ []) proof
+          (λ h. lines_append told (Assumes a ∷ []) ∙ append-nil (lines_of told)) f.written;
+    }
 
 -- something was hidden
 once-hidden : (hidden : Bool) (before after : List Entry) (proof : Option OpenProof) → IsWrittenIf hidden before proof → IsWrittenIf true after proof
 once-hidden hidden before after None w = tt
 once-hidden hidden before after (Some p) w = record { drat = w.drat; lines = w.lines; bytes = w.bytes; all = λ h. absurd cc }
 
-pub hidden-fits : (o : Option OpenState) (hidden : Bool) (before after : List Entry) (proof : Option OpenProof) → ProofFits o hidden before proof → ProofFits o true after proof
+pub hidden-fits : (o : Option OpenState) (hidden : Bool) (before after : List Entry) (proof : Option OpenProof) → ProofFits o hidden before proof →
+    ProofFits o true after proof
 hidden-fits o hidden before after proof f = record { same = f.same; written = once-hidden hidden before after proof f.written }
 
 -- where something holds a proof, one is open
-pub open-there : (o : Option OpenState) (hidden : Bool) (told : List Entry) (proof : Option OpenProof) (b : Bool) → ProofFits o hidden told proof → b ≡ is_some o → b ≡ true → IsOpen proof
+pub open-there : (o : Option OpenState) (hidden : Bool) (told : List Entry) (proof : Option OpenProof) (b : Bool) → ProofFits o hidden told proof →
+    b ≡ is_some o → b ≡ true → IsOpen proof
 open-there o hidden told None b f e t = let z : true ≡ false = sym t ∙ e ∙ ap (λ (x : Option OpenState). is_some x) f.same in absurd cc
 open-there o hidden told (Some p) b f e t = (p, refl)
 
 -- so it is where a target failed
-pub broken-open : (p q : ProofParts) (hidden : Bool) (told : List Entry) (proof : Option OpenProof) → ProofFits p.opened hidden told proof → BreaksProof p 1 q → IsOpen proof
+pub broken-open : (p q : ProofParts) (hidden : Bool) (told : List Entry) (proof : Option OpenProof) → ProofFits p.opened hidden told proof →
+    BreaksProof p 1 q → IsOpen proof
 broken-open p q hidden told None f b = absurd (let z = unopened-unbroken p q 1 f.same b in omega (arith, z))
 broken-open p q hidden told (Some o) f b = (o, refl)
 
 -- 4. How a proof opens and closes.
 
-pub first-same : (f : ProofFormat) (t : Taken) → (let o : OpenState = record { format = f; taken = t; searched = false } in Some o) ≡ opened_state (Some (first_proof f t))
-first-same f t = ap (λ (xs : List ℕ). let o : OpenState = record { format = f; taken = record { bytes = xs; faults = t.faults }; searched = false } in Some o) (sym (append-nil t.bytes))
+pub first-same : (f : ProofFormat) (t : Taken) → (let o : OpenState = record { format = f; taken = t; searched = false } in Some o) ≡ opened_state
+    (Some (first_proof f t))
+first-same f t = ap (λ (xs : List ℕ). let o : OpenState =
+    record { format = f; taken = record { bytes = xs; faults = t.faults }; searched = false } in Some o) (sym (append-nil t.bytes))
 
-pub first-written : (hidden : Bool) (f : ProofFormat) (t : Taken) (told : List Entry) → IsDrat f → lines_of told ≡ [] → IsWrittenIf hidden told (Some (first_proof f t))
+pub first-written : (hidden : Bool) (f : ProofFormat) (t : Taken) (told : List Entry) → IsDrat f → lines_of told ≡ [] →
+    IsWrittenIf hidden told (Some (first_proof f t))
 first-written hidden f t told d none = record { drat = d; lines = []; bytes = refl; all = λ h. none }
 
 -- what comes back as a proof closes, whatever errors may be
-pub closed-back : {W : Type 0} (D E : Type 0) (taken : W → Taken) (opened : Option OpenState) (back : Option W) → proving.IsClosed {E = D} taken opened (Ok back) → proving.IsClosed {E = E} taken opened (Ok back)
+pub closed-back : {W : Type 0} (D E : Type 0) (taken : W → Taken) (opened : Option OpenState) (back : Option W) →
+    proving.IsClosed {E = D} taken opened (Ok back) → proving.IsClosed {E = E} taken opened (Ok back)
 closed-back D E taken None None h = tt
 closed-back D E taken None (Some w) h = h
 closed-back D E taken (Some p) None h = h
 closed-back D E taken (Some p) (Some w) h = h
 
 -- and where it could not be flushed
-pub closed-fails : {W D E : Type 0} (taken : W → Taken) (opened : Option OpenState) (d : D) (e : E) (w : W) → proving.IsClosed taken opened (Err (d, w)) → proving.IsClosed taken opened (Err (e, w))
+pub closed-fails : {W D E : Type 0} (taken : W → Taken) (opened : Option OpenState) (d : D) (e : E) (w : W) →
+    proving.IsClosed taken opened (Err (d, w)) → proving.IsClosed taken opened (Err (e, w))
 closed-fails taken None d e w h = h
 closed-fails taken (Some p) d e w h = h
 
@@ -146,14 +170,17 @@ searched-written : (hidden : Bool) (told : List Entry) (o : Option OpenProof) �
 searched-written hidden told None w = tt
 searched-written hidden told (Some p) w = record { drat = w.drat; lines = w.lines; bytes = w.bytes; all = w.all }
 
-pub searched-fits : (o : Option OpenState) (hidden : Bool) (told : List Entry) (proof : Option OpenProof) → ProofFits o hidden told proof → ProofFits (marked_searched o) hidden told (searched_under proof)
+pub searched-fits : (o : Option OpenState) (hidden : Bool) (told : List Entry) (proof : Option OpenProof) → ProofFits o hidden told proof →
+    ProofFits (marked_searched o) hidden told (searched_under proof)
 searched-fits o hidden told proof f = record { same = ap marked_searched f.same ∙ searched-state proof; written = searched-written hidden told proof f.written }
 
 -- some proof fitted before it was marked
-pub fitted-before : (o : Option OpenState) (hidden : Bool) (told : List Entry) (proof : Option OpenProof) → ProofFits (marked_searched o) hidden told proof → (before : Option OpenProof) × ProofFits o hidden told before
+pub fitted-before : (o : Option OpenState) (hidden : Bool) (told : List Entry) (proof : Option OpenProof) →
+    ProofFits (marked_searched o) hidden told proof → (before : Option OpenProof) × ProofFits o hidden told before
 fitted-before o hidden told proof f = go o proof f.same f.written
   where
-    go : (o : Option OpenState) (proof : Option OpenProof) → marked_searched o ≡ opened_state proof → IsWrittenIf hidden told proof → (before : Option OpenProof) × ProofFits o hidden told before
+    go : (o : Option OpenState) (proof : Option OpenProof) → marked_searched o ≡ opened_state proof → IsWrittenIf hidden told proof →
+        (before : Option OpenProof) × ProofFits o hidden told before
     go None proof e w = (None, record { same = refl; written = tt })
     go (Some a) None e w = absurd cc
     go (Some a) (Some p) e w =
@@ -182,7 +209,8 @@ open-marked None (o, e) = absurd cc
 open-marked (Some p) o = (p, refl)
 
 -- an open proof that was not marked yet is one that was
-pub open-fitted : (o : Option OpenState) (hidden : Bool) (told : List Entry) (before proof : Option OpenProof) → ProofFits o hidden told before → ProofFits (marked_searched o) hidden told proof → IsOpen before → IsOpen proof
+pub open-fitted : (o : Option OpenState) (hidden : Bool) (told : List Entry) (before proof : Option OpenProof) → ProofFits o hidden told before →
+    ProofFits (marked_searched o) hidden told proof → IsOpen before → IsOpen proof
 open-fitted o hidden told before None f g (p, e) =
     let z : None ≡ marked_searched (opened_state (Some p)) = sym (g.same) ∙ ap marked_searched (f.same ∙ ap opened_state e) in absurd cc
 open-fitted o hidden told before (Some p) f g h = (p, refl)
@@ -196,8 +224,10 @@ same-searched : (o : Option OpenProof) → is_searched (opened_state o) ≡ true
 same-searched None e = absurd cc
 same-searched (Some p) e = ap Some e
 
-pub searched-there : (o : Option OpenState) (hidden : Bool) (told : List Entry) (proof : Option OpenProof) (b : Bool) → ProofFits o hidden told proof → b ≡ is_searched o → b ≡ true → IsSearched proof
+pub searched-there : (o : Option OpenState) (hidden : Bool) (told : List Entry) (proof : Option OpenProof) (b : Bool) →
+    ProofFits o hidden told proof → b ≡ is_searched o → b ≡ true → IsSearched proof
 searched-there o hidden told proof b f e t = same-searched proof (ap is_searched (sym f.same) ∙ sym e ∙ t)
 
-pub unsearched-there : (o : Option OpenState) (hidden : Bool) (told : List Entry) (proof : Option OpenProof) (b : Bool) → ProofFits o hidden told proof → b ≡ is_searched o → b ≡ false → IsSearched proof → ⊥
+pub unsearched-there : (o : Option OpenState) (hidden : Bool) (told : List Entry) (proof : Option OpenProof) (b : Bool) →
+    ProofFits o hidden told proof → b ≡ is_searched o → b ≡ false → IsSearched proof → ⊥
 unsearched-there o hidden told proof b f e n s = let z : false ≡ true = sym n ∙ e ∙ ap is_searched f.same ∙ searched-same proof s in cc

@@ -87,7 +87,8 @@ same-proof : (p q : Option OpenProof) → GoesOnWriting p q → past_proof q ≡
 same-proof None q e = ap past_proof e
 same-proof (Some p) q (more, e) = ap past_proof e
 
-searched-past : (proof : Option OpenProof) (p : Option PastProof) → past_proof proof ≡ p → IsSearched proof → (o : PastProof) × (p ≡ Some o) × (o.searched ≡ true)
+searched-past : (proof : Option OpenProof) (p : Option PastProof) → past_proof proof ≡ p → IsSearched proof → (o : PastProof) × (p ≡ Some o)
+    × (o.searched ≡ true)
 searched-past None p e h = absurd cc
 searched-past (Some q) p e h = let z : Some q.searched ≡ Some true = h in (record { format = q.format; first = q.first; searched = q.searched }, sym e, cc)
 
@@ -148,11 +149,27 @@ anew p s t e g = subst (Agrees (past.count_anew p)) (sym e) (record {
   steps = g.steps;
   since = refl;
   settings = g.settings;
-  knows = λ v. let k = g.knows v in record { naming = k.naming; hidden = k.hidden; capped = k.capped; clauses = k.clauses; assumed = k.assumed; counted = k.counted; model = k.model; found = k.found; failed = k.failed; core = k.core; proof = k.proof; right = k.right };
+  knows = λ v. let k = g.knows v in
+      record {
+        naming = k.naming;
+        hidden = k.hidden;
+        capped = k.capped;
+        clauses = k.clauses;
+        assumed = k.assumed;
+        counted = k.counted;
+        model =
+            k.model;
+        found = k.found;
+        failed = k.failed;
+        core = k.core;
+        proof = k.proof;
+        right = k.right;
+      };
 })
 
 -- the past keeps its flags, and the state too, but that something was accepted now
-agrees-still : (p q : Past) (s t : State) → Agrees p s → t.ledger ≡ (start s).ledger → (q.valid ≡ p.valid) × (q.started ≡ true) × (q.steps ≡ p.steps) × (q.since ≡ 0) × (q.settings ≡ p.settings) → Knows q t → Agrees q t
+agrees-still : (p q : Past) (s t : State) → Agrees p s → t.ledger ≡ (start s).ledger → (q.valid ≡ p.valid) × (q.started ≡ true)
+    × (q.steps ≡ p.steps) × (q.since ≡ 0) × (q.settings ≡ p.settings) → Knows q t → Agrees q t
 agrees-still p q s t g e (v, b, c, n, u) k = record {
   valid = ap (λ x. x.valid) e ∙ g.valid ∙ sym v;
   started = ap (λ x. x.started) e ∙ sym b;
@@ -167,10 +184,19 @@ breaks : (p : Past) (s t : State) → Agrees p s → state.Invalidates s t → L
 breaks p s t g b = (
   record p { valid = false },
   (sym g.valid ∙ b.valid, refl),
-  record { valid = ap (λ x. x.valid) b.ledger; started = ap (λ x. x.started) b.ledger ∙ g.started; steps = ap (λ x. x.steps) b.ledger ∙ g.steps; since = ap (λ x. x.since) b.ledger ∙ g.since; settings = ap (λ x. x.settings) b.ledger ∙ g.settings; knows = λ e. absurd cc },
+  record {
+    valid = ap (λ x. x.valid) b.ledger;
+    started = ap (λ x. x.started) b.ledger ∙ g.started;
+    steps = ap (λ x. x.steps) b.ledger
+        ∙ g.steps;
+    since = ap (λ x. x.since) b.ledger ∙ g.since;
+    settings = ap (λ x. x.settings) b.ledger ∙ g.settings;
+    knows = λ e. absurd cc;
+  },
 )
 
-right-like : (t : State) (P : List Clause) (A : List Literal) (C : List ℕ) (v : Verdict) → t.clauses ≡ P → t.assumptions ≡ A → t.counted ≡ C → t.verdict ≡ v → IsRight P A C v → HasRightVerdict t
+right-like : (t : State) (P : List Clause) (A : List Literal) (C : List ℕ) (v : Verdict) → t.clauses ≡ P → t.assumptions ≡ A → t.counted ≡ C →
+    t.verdict ≡ v → IsRight P A C v → HasRightVerdict t
 right-like t P A C v c a n w r =
     subst (λ x. IsRight t.clauses t.assumptions t.counted x) (sym w)
     (subst (λ x. IsRight t.clauses t.assumptions x v) (sym n)
@@ -179,7 +205,8 @@ right-like t P A C v c a n w r =
 
 -- 3. A clause.
 
-after-cases : (P : List Clause) (c : Clause) (v w : Verdict) → VerdictAfter P c v w → ((w ≡ Unsat) × (IsSatisfiable (P ++ c ∷ []) → ⊥)) ⊎ (w ≡ reopened_verdict v)
+after-cases : (P : List Clause) (c : Clause) (v w : Verdict) → VerdictAfter P c v w → ((w ≡ Unsat) × (IsSatisfiable (P ++ c ∷ []) → ⊥))
+    ⊎ (w ≡ reopened_verdict v)
 after-cases P c v w (state.Refuted e u) = inl (e, u)
 after-cases P c v w (state.Reopened e u) = inr e
 
@@ -195,7 +222,8 @@ accepted p s t d n (w, after, e) g v =
       capped = subst IsCapped (sym e.naming) (capped-all d s.naming k.capped);
       clauses = e.clauses ∙ ap (λ P. P ++ c ∷ []) k.clauses ∙ ap (λ (m : Naming). p.clauses ++ map (through_names (name_all d m)) d ∷ []) k.naming;
       assumed = e.assumptions ∙ k.assumed;
-      counted = e.counted ∙ ap (λ xs. join_counted xs (map variable_of c)) k.counted ∙ ap (λ (m : Naming). join_counted p.counted (map variable_of (map (through_names (name_all d m)) d))) k.naming;
+      counted = e.counted ∙ ap (λ xs. join_counted xs (map variable_of c)) k.counted
+          ∙ ap (λ (m : Naming). join_counted p.counted (map variable_of (map (through_names (name_all d m)) d))) k.naming;
       model = λ h. absurd cc;
       found = λ h. absurd (⊎_elim
           (λ r. let z : Some false ≡ Some true = ap answer_of (sym (e.verdict ∙ r.0)) ∙ h in let y : false ≡ true = cc in cc)
@@ -207,7 +235,8 @@ accepted p s t d n (w, after, e) g v =
           (λ r. k.core l (reopened-core s.verdict l (sym (e.verdict ∙ r) ∙ h))) cases;
       right = ⊎_elim
           (λ r. right-like t (s.clauses ++ c ∷ []) s.assumptions t.counted Unsat e.clauses e.assumptions refl (e.verdict ∙ r.0) r.1)
-          (λ r. right-like t (s.clauses ++ c ∷ []) s.assumptions t.counted (reopened_verdict s.verdict) e.clauses e.assumptions refl (e.verdict ∙ r) (right-reopened s.clauses c s.assumptions s.counted t.counted s.verdict n k.right))
+          (λ r. right-like t (s.clauses ++ c ∷ []) s.assumptions t.counted (reopened_verdict s.verdict) e.clauses e.assumptions refl (e.verdict ∙ r)
+          (right-reopened s.clauses c s.assumptions s.counted t.counted s.verdict n k.right))
           cases;
     })
 
@@ -222,7 +251,8 @@ may-constrain p s d k h = subst (λ (m : Naming). MayConstrain m d) k.naming h
 first-witness : (p : Past) (s : State) (d : List Literal) (u : ℕ) → Knows p s → IsFirstWitness s.naming d u → IsFirstWitness p.naming d u
 first-witness p s d u k h = subst (λ (m : Naming). IsFirstWitness m d u) k.naming h
 
-crowded : (p : Past) (s : State) (d : List Literal) → Knows p s → IsPastLimit d ⊎ IsCrowded (name_all d s.naming) → IsPastLimit d ⊎ IsCrowded (name_all d p.naming)
+crowded : (p : Past) (s : State) (d : List Literal) → Knows p s → IsPastLimit d ⊎ IsCrowded (name_all d s.naming) → IsPastLimit d
+    ⊎ IsCrowded (name_all d p.naming)
 crowded p s d k h = subst (λ (m : Naming). IsPastLimit d ⊎ IsCrowded (name_all d m)) k.naming h
 
 -- a proof that is open
@@ -237,11 +267,16 @@ unsearched p s k n (o, e, b) = n (searched-state s.proof o (k.proof ∙ e) b)
 none-open : (p : Past) (s : State) → Knows p s → s.proof ≡ None → p.proof ≡ None
 none-open p s k n = sym k.proof ∙ ap past_proof n
 
-pub add-clause : (p : Past) (s t : State) (d : Clause) (r : Result (Unit {0}) SolverError) → Agrees p s → state.AddsClause s d r t → Leads (past.AddsClause p d r) t
+pub add-clause : (p : Past) (s t : State) (d : Clause) (r : Result (Unit {0}) SolverError) → Agrees p s → state.AddsClause s d r t →
+    Leads (past.AddsClause p d r) t
 add-clause p s t d (Ok u) g (v, state.Ignored n e) =
     let w = sym g.valid ∙ v in (past.count_anew p, (w, past.Ignored (refuted p s (g.knows w) n) refl), anew p s t e g)
 add-clause p s t d (Ok u) g (v, state.Accepted n lim a) =
-    let w = sym g.valid ∙ v in (accept d p, (w, past.Accepted (unsearched p s (g.knows w) n.unsearched) (may-constrain p s d (g.knows w) lim) refl), accepted p s t d n.unrefuted a g w)
+    let w = sym g.valid ∙ v in (
+      accept d p,
+      (w, past.Accepted (unsearched p s (g.knows w) n.unsearched) (may-constrain p s d (g.knows w) lim) refl),
+      accepted p s t d n.unrefuted a g w,
+    )
 add-clause p s t d (Err OutOfMemory) g (n, lim, b) =
     let k = knows-of p s g b.valid in
     let (q, c, h) = breaks p s t g b in (q, (unsearched p s k n.unsearched, may-constrain p s d k lim, c), h)
@@ -251,7 +286,8 @@ add-clause p s t d (Err ClauseStoreFull) g (n, lim, b) =
 add-clause p s t d (Err (ProofIoError cause)) g (o, n, lim, b) =
     let k = knows-of p s g b.valid in
     let (q, c, h) = breaks p s t g b in (q, (has-open p s k o, unsearched p s k n.unsearched, may-constrain p s d k lim, c), h)
-add-clause p s t d (Err ClauseAfterSolve) g (v, n, is, e) = (p, (sym g.valid ∙ v, searched-past s.proof p.proof (knows-of p s g v).proof is, refl), stays p s t e g)
+add-clause p s t d (Err ClauseAfterSolve) g (v, n, is, e) =
+    (p, (sym g.valid ∙ v, searched-past s.proof p.proof (knows-of p s g v).proof is, refl), stays p s t e g)
 add-clause p s t d (Err Invalid) g a = (p, (sym g.valid ∙ a.0, refl), stays p s t a.1 g)
 add-clause p s t d (Err VariableLimit) g (v, n, over, e) =
     let k = knows-of p s g v in (p, (sym g.valid ∙ v, unsearched p s k n.unsearched, crowded p s d k over, refl), stays p s t e g)
@@ -261,7 +297,8 @@ add-clause p s t d (Err e) g a = absurd a
 
 -- 4. Formulas and texts.
 
-add-all : (p : Past) (s t : State) (P : List Clause) (r : Result (Unit {0}) SolverError) → Agrees p s → state.AddsAll s P r t → Leads (λ q. additions.AddsAll past.adding p P r q) t
+add-all : (p : Past) (s t : State) (P : List Clause) (r : Result (Unit {0}) SolverError) → Agrees p s → state.AddsAll s P r t →
+    Leads (λ q. additions.AddsAll past.adding p P r q) t
 add-all p s t [] r g a = (p, (a.0, refl), stays p s t a.1 g)
 add-all p s t (c ∷ P) r g (inl (mid, a, rest)) =
     let (m, b, h) = add-clause p s mid c (Ok tt) g a in
@@ -269,12 +306,15 @@ add-all p s t (c ∷ P) r g (inl (mid, a, rest)) =
 add-all p s t (c ∷ P) r g (inr (e, k, a)) =
     let (q, b, h) = add-clause p s t c (Err e) g a in (q, inr (e, k, b), h)
 
-pub add-formula : (p : Past) (s t : State) (P : List Clause) (r : Result (Unit {0}) SolverError) → Agrees p s → state.AddsFormula s P r t → Leads (past.AddsFormula p P r) t
-add-formula p s t P r g (AllAdded v mid a e k) = let (q, b, h) = add-all p s mid P (Ok tt) g a in (past.count_anew q, AllAdded (sym g.valid ∙ v) q b e refl, anew q mid t k h)
+pub add-formula : (p : Past) (s t : State) (P : List Clause) (r : Result (Unit {0}) SolverError) → Agrees p s → state.AddsFormula s P r t →
+    Leads (past.AddsFormula p P r) t
+add-formula p s t P r g (AllAdded v mid a e k) = let (q, b, h) = add-all p s mid P (Ok tt) g a in
+    (past.count_anew q, AllAdded (sym g.valid ∙ v) q b e refl, anew q mid t k h)
 add-formula p s t P r g (OneRefused v x e a) = let (q, b, h) = add-all p s t P (Err x) g a in (q, OneRefused (sym g.valid ∙ v) x e b, h)
 add-formula p s t P r g (RefusedAtOnce e (v, k)) = (p, RefusedAtOnce e (sym g.valid ∙ v, refl), stays p s t k g)
 
-tell-fault : (p : Past) (s t : State) (x : Option DimacsError) (r : Result (Unit {0}) SolverError) → Agrees p s → state.TellsFault x s r t → Leads (λ q. additions.TellsFault past.adding x p r q) t
+tell-fault : (p : Past) (s t : State) (x : Option DimacsError) (r : Result (Unit {0}) SolverError) → Agrees p s → state.TellsFault x s r t →
+    Leads (λ q. additions.TellsFault past.adding x p r q) t
 tell-fault p s t x r g (NoFault n e k) = (past.count_anew p, NoFault n e refl, anew p s t k g)
 tell-fault p s t x r g (MemoryFault y n m e b) = let (q, c, h) = breaks p s t g b in (q, MemoryFault y n m e c, h)
 tell-fault p s t x r g (Fault y n m e k) = (p, Fault y n m e refl, stays p s t k g)
@@ -286,7 +326,8 @@ add-reading p s t R r g (ClausesAdded mid a f) =
     let (m, b, h) = add-all p s mid R.clauses (Ok tt) g a in
     let (q, c, i) = tell-fault m mid t R.fault r h f in (q, ClausesAdded m b c, i)
 
-add-given : (p : Past) (s t : State) (old new : Stand) (w : Gave old new) (r : Result (Unit {0}) SolverError) → Agrees p s → additions.AddsGiven state.adding w s r t →
+add-given : (p : Past) (s t : State) (old new : Stand) (w : Gave old new) (r : Result (Unit {0}) SolverError) → Agrees p s →
+    additions.AddsGiven state.adding w s r t →
     Leads (λ q. additions.AddsGiven past.adding w p r q) t
 add-given p s t old new w r g (RefusedEarly ended from e k a n) = let (q, b, h) = add-all p s t ended (Err e) g a in (q, RefusedEarly ended from e k b n, h)
 add-given p s t old new w r g (FaultInText R from x a n) = let (q, b, h) = add-reading p s t R r g a in (q, FaultInText R from x b n, h)
@@ -294,14 +335,17 @@ add-given p s t old new w r g (Whole end a n) = let (q, b, h) = add-reading p s 
 add-given p s t old new w r g (MemoryRanOut front rest e a n) = let (q, b, h) = add-reading p s t _ r g a in (q, MemoryRanOut front rest e b n, h)
 add-given p s t old new w r g (SourceFailed a n) = let (q, b, h) = add-reading p s t _ r g a in (q, SourceFailed b n, h)
 
-pub add-text : (p : Past) (s t : State) (old new : Stand) (r : Result (Unit {0}) SolverError) → Agrees p s → state.AddsDimacs s old r new t → Leads (past.AddsDimacs p old r new) t
+pub add-text : (p : Past) (s t : State) (old new : Stand) (r : Result (Unit {0}) SolverError) → Agrees p s → state.AddsDimacs s old r new t →
+    Leads (past.AddsDimacs p old r new) t
 add-text p s t old new r g (Read v w a) = let (q, b, h) = add-given p s t old new w r g a in (q, Read (sym g.valid ∙ v) w b, h)
 add-text p s t old new r g (Unread e (v, k) n) = (p, Unread e (sym g.valid ∙ v, refl) n, stays p s t k g)
 
 -- 5. A new variable.
 
 -- The state has the names m now, and the past may have other flags. All else that is known stays.
-knows-like : {may_leave : Bool} (p : Past) (s t : State) (m : Naming) (b x d : Bool) (l : Ledger) (told : List Entry) (n i : ℕ) (c : Settings) → IsLikeButLeft may_leave (record s { naming = m; ever_hidden = b; ledger = l; told = told }) t → IsCapped m → b ≡ x → Knows p s → Knows (record p { started = d; naming = m; ever_hidden = x; steps = n; since = i; settings = c }) t
+knows-like : {may_leave : Bool} (p : Past) (s t : State) (m : Naming) (b x d : Bool) (l : Ledger) (told : List Entry) (n i : ℕ) (c : Settings) →
+    IsLikeButLeft may_leave (record s { naming = m; ever_hidden = b; ledger = l; told = told }) t → IsCapped m → b ≡ x → Knows p s →
+    Knows (record p { started = d; naming = m; ever_hidden = x; steps = n; since = i; settings = c }) t
 knows-like p s t m b x d l told n i c e h f k = record {
   naming = e.naming;
   hidden = e.ever_hidden ∙ f;
@@ -317,28 +361,43 @@ knows-like p s t m b x d l told n i c e h f k = record {
   right = right-like t s.clauses s.assumptions s.counted s.verdict e.clauses e.assumptions e.counted e.verdict k.right;
 }
 
-named : (p : Past) (s t : State) (u : ℕ) → IsLike (start (with_naming (name_one u s.naming) s)) t → Knows p s → Knows (record p { started = true; naming = name_one u p.naming; since = 0 }) t
+named : (p : Past) (s t : State) (u : ℕ) → IsLike (start (with_naming (name_one u s.naming) s)) t → Knows p s →
+    Knows (record p { started = true; naming = name_one u p.naming; since = 0 }) t
 named p s t u e k =
     subst (λ (m : Naming). Knows (record p { started = true; naming = m; since = 0 }) t) (ap (name_one u) k.naming)
-    (knows-like p s t (name_one u s.naming) s.ever_hidden p.ever_hidden true (start s).ledger s.told p.steps 0 p.settings e (capped-one u s.naming k.capped) k.hidden k)
+    (knows-like p s t (name_one u s.naming) s.ever_hidden p.ever_hidden true (start s).ledger s.told p.steps 0 p.settings e
+    (capped-one u s.naming k.capped) k.hidden k)
 
 pub make-var : (p : Past) (s t : State) (r : Result ℕ SolverError) → Agrees p s → state.MakesVar s r t → Leads (past.MakesVar p r) t
 make-var p s t (Ok u) g (v, free, small, e) =
     let w = sym g.valid ∙ v in
     let k = g.knows w in
-    let q : Past = record p { started = true; naming = name_one u p.naming; since = 0 } in
-    (q, (w, subst (λ (m : Naming). IsLeastFree m u) k.naming free, small, refl), agrees-still p q s t g e.ledger (refl, refl, refl, refl, refl) (named p s t u e k))
+    let q : Past = record p { started = true; naming = name_one u p.naming; since = 0 } in (
+      q,
+      (w, subst (λ (m : Naming). IsLeastFree m u) k.naming free, small, refl),
+      agrees-still p q s t g e.ledger (refl, refl, refl, refl, refl)
+          (named p s t u e k),
+    )
 make-var p s t (Err OutOfMemory) g a = breaks p s t g a.1
 make-var p s t (Err Invalid) g a = (p, (sym g.valid ∙ a.0, refl), stays p s t a.1 g)
 make-var p s t (Err VariableLimit) g (v, full, same) =
-    let k = knows-of p s g v in
-    (p, (sym g.valid ∙ v, subst (λ (m : Naming). (u : ℕ) × IsLeastFree m u × ((variable_limit ≤ u) ⊎ IsCrowded (name_one u m))) k.naming full, refl), stays p s t same g)
+    let k = knows-of p s g v in (
+      p,
+      (
+        sym g.valid ∙ v,
+        subst (λ (m : Naming). (u : ℕ) × IsLeastFree m u × ((variable_limit ≤ u) ⊎ IsCrowded (name_one u m))) k.naming full,
+        refl,
+      ),
+      stays p s t same g,
+    )
 make-var p s t (Err e) g a = absurd a
 
 -- 6. Modes of variables, and hidden ones.
 
 -- the state and the past have other names
-renamed : {may_leave : Bool} (p : Past) (s t : State) (m : Naming) (b x : Bool) → IsLikeButLeft may_leave (record s { naming = m; ever_hidden = b; ledger = record s.ledger { since = 0 } }) t → IsCapped m → b ≡ x → Agrees p s → p.valid ≡ true → Agrees (record p { naming = m; ever_hidden = x; since = 0 }) t
+renamed : {may_leave : Bool} (p : Past) (s t : State) (m : Naming) (b x : Bool) →
+    IsLikeButLeft may_leave (record s { naming = m; ever_hidden = b; ledger = record s.ledger { since = 0 } }) t → IsCapped m → b ≡ x → Agrees p s →
+    p.valid ≡ true → Agrees (record p { naming = m; ever_hidden = x; since = 0 }) t
 renamed p s t m b x e c f g v = record {
   valid = ap (λ x. x.valid) e.ledger ∙ g.valid;
   started = ap (λ x. x.started) e.ledger ∙ g.started;
@@ -356,15 +415,23 @@ assumed-state : (p : Past) (s : State) (u : ℕ) → Knows p s → usage.IsAssum
 assumed-state p s u k (l, h, e) = (l, subst (λ A. l ∈ A) (sym k.assumed) h, subst (λ (m : Naming). m.names u ≡ Some (variable_of l)) (sym k.naming) e)
 
 -- A name is named and then names change by f.
-changes-var : (may_leave : Bool) (f : Naming → Naming) (b : Bool → Bool) → ((m : Naming) → IsCapped m → IsCapped (f m)) → (p : Past) (s t : State) (u : ℕ) (r : Result (Unit {0}) SolverError) → Agrees p s →
-    usage.ChangesVar variables.named may_leave (λ x. record x { naming = f x.naming; ever_hidden = b x.ever_hidden; ledger = record x.ledger { since = 0 } }) s u r t →
+changes-var : (may_leave : Bool) (f : Naming → Naming) (b : Bool → Bool) → ((m : Naming) → IsCapped m → IsCapped (f m)) →
+    (p : Past) (s t : State) (u : ℕ) (r : Result (Unit {0}) SolverError) → Agrees p s →
+    usage.ChangesVar variables.named may_leave
+    (λ x. record x { naming = f x.naming; ever_hidden = b x.ever_hidden; ledger = record x.ledger { since = 0 } }) s u r t →
     Leads (usage.ChangesVar past.named may_leave (λ x. record x { naming = f x.naming; ever_hidden = b x.ever_hidden; since = 0 }) p u r) t
 changes-var may_leave f b keeps p s t u (Ok x) g (v, small, free, e) =
     let w = sym g.valid ∙ v in
     let k = g.knows w in
     let m = f (name_one u s.naming) in (
       record p { naming = m; ever_hidden = b p.ever_hidden; since = 0 },
-      (w, small, (λ h. free (assumed-state p s u k h)), ap (λ (n : Naming). record p { naming = f (name_one u n); ever_hidden = b p.ever_hidden; since = 0 }) k.naming),
+      (
+        w,
+        small,
+        (λ h. free (assumed-state p s u k h)),
+        ap
+            (λ (n : Naming). record p { naming = f (name_one u n); ever_hidden = b p.ever_hidden; since = 0 }) k.naming,
+      ),
       renamed p s t m (b s.ever_hidden) (b p.ever_hidden) e (keeps (name_one u s.naming) (capped-one u s.naming k.capped)) (ap b k.hidden) g w,
     )
 changes-var may_leave f b keeps p s t u (Err Invalid) g a = (p, (sym g.valid ∙ a.0, refl), stays p s t a.1 g)
@@ -380,7 +447,8 @@ changes-var may_leave f b keeps p s t u (Err OutOfMemory) g (small, free, broken
     (q, (small, (λ z. free (assumed-state p s u k z)), c), h)
 changes-var may_leave f b keeps p s t u (Err e) g a = absurd a
 
-pub set-usage : (mode : Mode) (p : Past) (s t : State) (u : ℕ) (r : Result (Unit {0}) SolverError) → Agrees p s → usage.SetsMode variables.named mode s u r t → Leads (usage.SetsMode past.named mode p u r) t
+pub set-usage : (mode : Mode) (p : Past) (s t : State) (u : ℕ) (r : Result (Unit {0}) SolverError) → Agrees p s →
+    usage.SetsMode variables.named mode s u r t → Leads (usage.SetsMode past.named mode p u r) t
 set-usage mode p s t u r g (a, fresh) =
     let (q, c, h) = changes-var false (set_mode u mode) (λ b. b) (λ m f. f) p s t u r g a in
     (q, (c, (λ e. ap (λ (n : Naming). n.names u) (sym (known e).naming) ∙ fresh e)), h)
@@ -388,10 +456,12 @@ set-usage mode p s t u r g (a, fresh) =
     known : r ≡ Err OutOfMemory → Knows p s
     known e = knows-of p s g (subst (λ x. usage.ChangesVar variables.named false (usage.with_mode variables.named u mode) s u x t) e a).2.valid
 
-pub hide : (p : Past) (s t : State) (u : ℕ) (r : Result (Unit {0}) SolverError) → Agrees p s → usage.Hides variables.named s u r t → Leads (usage.Hides past.named p u r) t
+pub hide : (p : Past) (s t : State) (u : ℕ) (r : Result (Unit {0}) SolverError) → Agrees p s → usage.Hides variables.named s u r t →
+    Leads (usage.Hides past.named p u r) t
 hide p s t u r g a = changes-var true (free_name u) (λ b. true) (capped-freed u) p s t u r g a
 
-pub observe : (p : Past) (s t : State) (r : Result (List ℕ) SolverError) → Agrees p s → usage.Observes variables.named s r t → Leads (usage.Observes past.named p r) t
+pub observe : (p : Past) (s t : State) (r : Result (List ℕ) SolverError) → Agrees p s → usage.Observes variables.named s r t →
+    Leads (usage.Observes past.named p r) t
 observe p s t (Ok us) g (v, (m, shown, e)) =
     let w = sym g.valid ∙ v in
     let k = g.knows w in (
@@ -416,16 +486,19 @@ assumed-list p s t list e g v =
       capped = subst IsCapped (sym e.naming) (capped-all list s.naming k.capped);
       clauses = e.clauses ∙ k.clauses;
       assumed = e.assumptions ∙ ap (λ (m : Naming). map (through_names (name_all list m)) list) k.naming;
-      counted = e.counted ∙ ap (λ xs. join_counted xs (map variable_of c)) k.counted ∙ ap (λ (m : Naming). join_counted p.counted (map variable_of (map (through_names (name_all list m)) list))) k.naming;
+      counted = e.counted ∙ ap (λ xs. join_counted xs (map variable_of c)) k.counted
+          ∙ ap (λ (m : Naming). join_counted p.counted (map variable_of (map (through_names (name_all list m)) list))) k.naming;
       model = λ x. absurd cc;
       found = λ x. absurd (assumed-not-true s.verdict (sym (ap answer_of e.verdict) ∙ x));
       failed = λ x. absurd cc;
       core = λ l h. absurd (assumed-no-core s.verdict l (sym e.verdict ∙ h));
       proof = same-proof s.proof t.proof e.proof ∙ k.proof;
-      right = right-like t s.clauses t.assumptions t.counted (assumed_verdict s.verdict) e.clauses refl refl e.verdict (right-assumed s.clauses s.assumptions t.assumptions s.counted t.counted s.verdict k.right);
+      right = right-like t s.clauses t.assumptions t.counted (assumed_verdict s.verdict) e.clauses refl refl e.verdict
+          (right-assumed s.clauses s.assumptions t.assumptions s.counted t.counted s.verdict k.right);
     })
 
-pub assume-list : (p : Past) (s t : State) (list : List Literal) (r : Result (Unit {0}) SolverError) → Agrees p s → state.Assumes s list r t → Leads (past.Assumes p list r) t
+pub assume-list : (p : Past) (s t : State) (list : List Literal) (r : Result (Unit {0}) SolverError) → Agrees p s → state.Assumes s list r t →
+    Leads (past.Assumes p list r) t
 assume-list p s t list (Ok u) g (v, n, lim, e) =
     let w = sym g.valid ∙ v in
     let k = g.knows w in (assume list p, (w, none-open p s k n, may-constrain p s list k lim, refl), assumed-list p s t list e g w)
@@ -443,11 +516,13 @@ assume-list p s t list (Err e) g a = absurd a
 -- 8. An answer of `solve`.
 
 -- the steps since the last change
-since-told : (p : Past) (s t : State) → Agrees p s → t.ledger.since ≡ s.ledger.since + (t.ledger.steps - s.ledger.steps) → t.ledger.since ≡ p.since + (t.ledger.steps - p.steps)
+since-told : (p : Past) (s t : State) → Agrees p s → t.ledger.since ≡ s.ledger.since + (t.ledger.steps - s.ledger.steps) →
+    t.ledger.since ≡ p.since + (t.ledger.steps - p.steps)
 since-told p s t g e = e ∙ ap₂ (λ x y. x + (t.ledger.steps - y)) g.since g.steps
 
 -- the past behind an answer, where the state has the verdict that was told
-solved : (p : Past) (s t : State) (b : Bool) → Agrees p s → Knows p s → state.TellsVerdict s b t → Agrees (record (past.with_steps t.ledger.steps p) { has_model = b; has_core = not b }) t
+solved : (p : Past) (s t : State) (b : Bool) → Agrees p s → Knows p s → state.TellsVerdict s b t →
+    Agrees (record (past.with_steps t.ledger.steps p) { has_model = b; has_core = not b }) t
 solved p s t b g k r =
     let e = r.rest in
     record {
@@ -479,7 +554,8 @@ solved p s t b g k r =
     told-false b e = let z : b ≡ false = cc in ap not z
 
 -- the steps of a call under the verdict Unknown
-counts : (p : Past) (s t : State) (r : Result Bool SolverError) → Agrees p s → Knows p s → state.CountsCall s r t → CountsSteps (length p.counted) p.settings.max_steps p.since p.steps t.ledger.steps r
+counts : (p : Past) (s t : State) (r : Result Bool SolverError) → Agrees p s → Knows p s → state.CountsCall s r t →
+    CountsSteps (length p.counted) p.settings.max_steps p.since p.steps t.ledger.steps r
 counts p s t r g k c =
     subst (λ (xs : List ℕ). CountsSteps (length xs) p.settings.max_steps p.since p.steps t.ledger.steps r) k.counted
     (subst (λ (x : Settings). CountsSteps (length s.counted) x.max_steps p.since p.steps t.ledger.steps r) g.settings
@@ -507,21 +583,36 @@ known-by p s k n = go s.verdict refl
     go (UnsatUnderAssumptions core) e = inr (inl (k.core core e))
 
 -- how the steps are counted of a call whether or not the verdict is known
-counted-if : (p q : Past) (s t : State) (r : Result Bool SolverError) → Agrees p s → Knows p s → q.steps ≡ t.ledger.steps → (s.verdict ≢ Unknown → t.ledger.steps ≡ s.ledger.steps) → (s.verdict ≡ Unknown → state.CountsCall s r t) → past.CountsIfUnknown p r q
+counted-if : (p q : Past) (s t : State) (r : Result Bool SolverError) → Agrees p s → Knows p s → q.steps ≡ t.ledger.steps →
+    (s.verdict ≢ Unknown → t.ledger.steps ≡ s.ledger.steps) → (s.verdict ≡ Unknown → state.CountsCall s r t) → past.CountsIfUnknown p r q
 counted-if p q s t r g k e known unknown =
     ⊎_elim
-    (λ u. past.Searched (undecided p s k u) (subst (λ n. CountsSteps (length p.counted) p.settings.max_steps p.since p.steps n r) (sym e) (counts p s t r g k (unknown u))))
+    (λ u. past.Searched (undecided p s k u)
+    (subst (λ n. CountsSteps (length p.counted) p.settings.max_steps p.since p.steps n r) (sym e) (counts p s t r g k (unknown u))))
     (λ n. past.Known (known-by p s k n) (e ∙ known n ∙ g.steps))
     (is-unknown-or-not s.verdict)
 
 -- the ledger alone changes
-told-on : (p : Past) (s t : State) (n i : ℕ) (c : Settings) → IsLike (record s { ledger = t.ledger; told = t.told }) t → Knows p s → Knows (record p { steps = n; since = i; settings = c }) t
+told-on : (p : Past) (s t : State) (n i : ℕ) (c : Settings) → IsLike (record s { ledger = t.ledger; told = t.told }) t → Knows p s →
+    Knows (record p { steps = n; since = i; settings = c }) t
 told-on p s t n i c e k =
     subst (λ (m : Naming). Knows (record p { naming = m; steps = n; since = i; settings = c }) t) k.naming
     (knows-like p s t s.naming s.ever_hidden p.ever_hidden p.started t.ledger t.told n i c e k.capped k.hidden k)
 
 like-told : (s t : State) (n : ℕ) → IsLike (retold t.told (with_steps n s)) t → IsLike (record s { ledger = t.ledger; told = t.told }) t
-like-told s t n e = record { naming = e.naming; ever_hidden = e.ever_hidden; clauses = e.clauses; assumptions = e.assumptions; counted = e.counted; verdict = e.verdict; ledger = refl; told = e.told; stays = e.stays; proof = e.proof }
+like-told s t n e = record {
+  naming = e.naming;
+  ever_hidden = e.ever_hidden;
+  clauses = e.clauses;
+  assumptions = e.assumptions;
+  counted =
+      e.counted;
+  verdict = e.verdict;
+  ledger = refl;
+  told = e.told;
+  stays = e.stays;
+  proof = e.proof;
+}
 
 -- some assignment satisfies the clauses and the assumptions where true is returned
 some-with : (p : Past) (s t : State) → Knows p s → state.TellsVerdict s true t → IsSatisfiableWith p.clauses p.assumptions
@@ -548,20 +639,49 @@ searched p s g = record {
   steps = g.steps;
   since = g.since;
   settings = g.settings;
-  knows = λ v. let k = g.knows v in record { naming = k.naming; hidden = k.hidden; capped = k.capped; clauses = k.clauses; assumed = k.assumed; counted = k.counted; model = k.model; found = k.found; failed = k.failed; core = k.core; proof = searched-same s.proof ∙ ap past.searched_under k.proof; right = k.right };
+  knows = λ v. let k = g.knows v in
+      record {
+        naming = k.naming;
+        hidden = k.hidden;
+        capped = k.capped;
+        clauses = k.clauses;
+        assumed = k.assumed;
+        counted = k.counted;
+        model =
+            k.model;
+        found = k.found;
+        failed = k.failed;
+        core = k.core;
+        proof = searched-same s.proof ∙ ap past.searched_under k.proof;
+        right = k.right;
+      };
 }
 
 -- no way leads back, and steps were counted
-breaks-after : (p : Past) (s t : State) → Agrees p s → state.Invalidates (with_steps t.ledger.steps s) t → past.Invalidates (past.with_steps t.ledger.steps p) (record (past.with_steps t.ledger.steps p) { valid = false }) × Agrees (record (past.with_steps t.ledger.steps p) { valid = false }) t
+breaks-after : (p : Past) (s t : State) → Agrees p s → state.Invalidates (with_steps t.ledger.steps s) t →
+    past.Invalidates (past.with_steps t.ledger.steps p) (record (past.with_steps t.ledger.steps p) { valid = false })
+    × Agrees (record (past.with_steps t.ledger.steps p) { valid = false }) t
 breaks-after p s t g b = (
   (sym g.valid ∙ b.valid, refl),
-  record { valid = ap (λ x. x.valid) b.ledger; started = ap (λ x. x.started) b.ledger ∙ g.started; steps = refl; since = since-told p s t g (ap (λ x. x.since) b.ledger); settings = ap (λ x. x.settings) b.ledger ∙ g.settings; knows = λ e. absurd cc },
+  record {
+    valid = ap (λ x. x.valid) b.ledger;
+    started = ap (λ x. x.started) b.ledger
+        ∙ g.started;
+    steps = refl;
+    since = since-told p s t g (ap (λ x. x.since) b.ledger);
+    settings = ap (λ x. x.settings) b.ledger
+        ∙ g.settings;
+    knows = λ e. absurd cc;
+  },
 )
 
-solved-as : (p : Past) (s t : State) (b : Bool) → Agrees p s → state.TellsVerdict (state.once_searched s) b t → (v : p.valid ≡ true) → Knows p s → past.CountsIfUnknown p (Ok b) (record (past.with_steps t.ledger.steps (past.once_searched p)) { has_model = b; has_core = not b }) × Agrees (record (past.with_steps t.ledger.steps (past.once_searched p)) { has_model = b; has_core = not b }) t
+solved-as : (p : Past) (s t : State) (b : Bool) → Agrees p s → state.TellsVerdict (state.once_searched s) b t → (v : p.valid ≡ true) → Knows p s →
+    past.CountsIfUnknown p (Ok b) (record (past.with_steps t.ledger.steps (past.once_searched p)) { has_model = b; has_core = not b })
+    × Agrees (record (past.with_steps t.ledger.steps (past.once_searched p)) { has_model = b; has_core = not b }) t
 solved-as p s t b g r v k =
     let h = searched p s g in (
-      counted-if p (record (past.with_steps t.ledger.steps (past.once_searched p)) { has_model = b; has_core = not b }) s t (Ok b) g k refl (λ n. (r.known n).1) r.steps,
+      counted-if p (record (past.with_steps t.ledger.steps (past.once_searched p)) { has_model = b; has_core = not b }) s t (Ok b) g k refl
+          (λ n. (r.known n).1) r.steps,
       solved (past.once_searched p) (state.once_searched s) t b h (h.knows v) r,
     )
 
@@ -569,13 +689,19 @@ pub solve : (p : Past) (s t : State) (r : Result Bool SolverError) → Agrees p 
 solve p s t (Ok true) g r =
     let v = sym g.valid ∙ r.valid in
     let k = g.knows v in
-    let (few, h) = solved-as p s t true g r v k in
-    (record (past.with_steps t.ledger.steps (past.once_searched p)) { has_model = true; has_core = false }, (v, some-with (past.once_searched p) (state.once_searched s) t ((searched p s g).knows v) r, few, refl), h)
+    let (few, h) = solved-as p s t true g r v k in (
+      record (past.with_steps t.ledger.steps (past.once_searched p)) { has_model = true; has_core = false },
+      (v, some-with (past.once_searched p) (state.once_searched s) t ((searched p s g).knows v) r, few, refl),
+      h,
+    )
 solve p s t (Ok false) g r =
     let v = sym g.valid ∙ r.valid in
     let k = g.knows v in
-    let (few, h) = solved-as p s t false g r v k in
-    (record (past.with_steps t.ledger.steps (past.once_searched p)) { has_model = false; has_core = true }, (v, none-with (past.once_searched p) (state.once_searched s) t ((searched p s g).knows v) r, few, refl), h)
+    let (few, h) = solved-as p s t false g r v k in (
+      record (past.with_steps t.ledger.steps (past.once_searched p)) { has_model = false; has_core = true },
+      (v, none-with (past.once_searched p) (state.once_searched s) t ((searched p s g).knows v) r, few, refl),
+      h,
+    )
 solve p s t (Err OutOfMemory) g (u, c, b) =
     let k = knows-of p s g b.valid in
     let (invalid, h) = breaks-after p s t g b in
@@ -600,7 +726,8 @@ solve p s t (Err Interrupted) g r =
         steps = refl;
         since = since-told p s t g (ap (λ x. x.since) r.rest.ledger);
         settings = ap (λ x. x.settings) r.rest.ledger ∙ g.settings;
-        knows = λ v. told-on (past.once_searched p) (state.once_searched s) t t.ledger.steps (p.since + (t.ledger.steps - p.steps)) p.settings (like-told (state.once_searched s) t t.ledger.steps r.rest) (h.knows (sym g.valid ∙ r.valid));
+        knows = λ v. told-on (past.once_searched p) (state.once_searched s) t t.ledger.steps (p.since + (t.ledger.steps - p.steps)) p.settings
+            (like-told (state.once_searched s) t t.ledger.steps r.rest) (h.knows (sym g.valid ∙ r.valid));
       },
     )
 solve p s t (Err (WitnessVar u)) g r = absurd r
@@ -615,7 +742,8 @@ solve p s t (Err (Dimacs cause)) g r = absurd r
 
 -- 9. Other settings.
 
-pub config : (p : Past) (s t : State) (u : SolverConfigUpdate) (r : Result (Unit {0}) SolverError) → Agrees p s → state.Configures s u r t → Leads (updates.Configures past.is_valid past.with_update p u r) t
+pub config : (p : Past) (s t : State) (u : SolverConfigUpdate) (r : Result (Unit {0}) SolverError) → Agrees p s → state.Configures s u r t →
+    Leads (updates.Configures past.is_valid past.with_update p u r) t
 config p s t u (Ok x) g (v, n, e) = (
   past.with_update u p,
   (sym g.valid ∙ v, n, refl),
@@ -651,21 +779,43 @@ tell-since p s t n g (e, few, same) = (
 )
 
 -- A proof opens.
-pub opens : (p : Past) (s t : State) (f : ProofFormat) (taken : Taken) → Agrees p s → t ≡ state.count_anew (with_proof (Some (first_proof f taken)) s) → Agrees (past.opened f taken.bytes p) t
+pub opens : (p : Past) (s t : State) (f : ProofFormat) (taken : Taken) → Agrees p s →
+    t ≡ state.count_anew (with_proof (Some (first_proof f taken)) s) → Agrees (past.opened f taken.bytes p) t
 opens p s t f taken g e = subst (Agrees (past.opened f taken.bytes p)) (sym e) (record {
   valid = g.valid;
   started = g.started;
   steps = g.steps;
   since = refl;
   settings = g.settings;
-  knows = λ v. let k = g.knows v in record { naming = k.naming; hidden = k.hidden; capped = k.capped; clauses = k.clauses; assumed = k.assumed; counted = k.counted; model = k.model; found = k.found; failed = k.failed; core = k.core; proof = refl; right = k.right };
+  knows = λ v. let k = g.knows v in
+      record {
+        naming = k.naming;
+        hidden = k.hidden;
+        capped = k.capped;
+        clauses = k.clauses;
+        assumed = k.assumed;
+        counted = k.counted;
+        model =
+            k.model;
+        found = k.found;
+        failed = k.failed;
+        core = k.core;
+        proof = refl;
+        right = k.right;
+      };
 })
 
-pub open-proof : {W : Type 0} (taken : W → Taken) (target : W) (format : ProofFormat) (p : Past) (s t : State) (r : Result (Unit {0}) (SolverError × W)) → Agrees p s → OpensProof taken target format s r t → Leads (past.ProofOpens taken target format p r) t
+pub open-proof : {W : Type 0} (taken : W → Taken) (target : W) (format : ProofFormat) (p : Past) (s t : State)
+    (r : Result (Unit {0}) (SolverError × W)) → Agrees p s → OpensProof taken target format s r t → Leads (past.ProofOpens taken target format p r) t
 open-proof taken target format p s t (Ok x) g (v, n, b, e) =
-    let w = sym g.valid ∙ v in (past.opened format (taken target).bytes p, (w, none-open p s (g.knows w) n, sym g.started ∙ b, refl), opens p s t format (taken target) g e)
+    let w = sym g.valid ∙ v in (
+      past.opened format (taken target).bytes p,
+      (w, none-open p s (g.knows w) n, sym g.started ∙ b, refl),
+      opens p s t format (taken target) g e,
+    )
 open-proof taken target format p s t (Err (Invalid, back)) g (h, (v, e)) = (p, (h, sym g.valid ∙ v, refl), stays p s t e g)
-open-proof taken target format p s t (Err (ProofOpen, back)) g (h, v, o, e) = (p, (h, sym g.valid ∙ v, has-open p s (knows-of p s g v) o, refl), stays p s t e g)
+open-proof taken target format p s t (Err (ProofOpen, back)) g (h, v, o, e) =
+    (p, (h, sym g.valid ∙ v, has-open p s (knows-of p s g v) o, refl), stays p s t e g)
 open-proof taken target format p s t (Err (ProofTooLate, back)) g (h, v, n, b, e) =
     (p, (h, sym g.valid ∙ v, none-open p s (knows-of p s g v) n, sym g.started ∙ b, refl), stays p s t e g)
 open-proof taken target format p s t (Err e) g a = absurd a
@@ -678,11 +828,27 @@ closes p s t g e = subst (Agrees (past.closed p)) (sym e) (record {
   steps = g.steps;
   since = refl;
   settings = g.settings;
-  knows = λ v. let k = g.knows v in record { naming = k.naming; hidden = k.hidden; capped = k.capped; clauses = k.clauses; assumed = k.assumed; counted = k.counted; model = k.model; found = k.found; failed = k.failed; core = k.core; proof = refl; right = k.right };
+  knows = λ v. let k = g.knows v in
+      record {
+        naming = k.naming;
+        hidden = k.hidden;
+        capped = k.capped;
+        clauses = k.clauses;
+        assumed = k.assumed;
+        counted = k.counted;
+        model =
+            k.model;
+        found = k.found;
+        failed = k.failed;
+        core = k.core;
+        proof = refl;
+        right = k.right;
+      };
 })
 
 -- what the target of an open proof took
-handed : (p : Past) (s : State) (o : OpenProof) (taken : List ℕ) → Knows p s → s.proof ≡ Some o → taken ≡ o.first ++ o.bytes → HasProof s → past.HandsBack p taken
+handed : (p : Past) (s : State) (o : OpenProof) (taken : List ℕ) → Knows p s → s.proof ≡ Some o → taken ≡ o.first ++ o.bytes → HasProof s →
+    past.HandsBack p taken
 handed p s o taken k e h has =
     let a = has o e in
     record {
@@ -698,17 +864,20 @@ handed p s o taken k e h has =
       };
     }
 
-hands-back : {W : Type 0} (taken : W → Taken) (p : Past) (s : State) (proof : Option OpenProof) (back : Option W) → s.proof ≡ proof → Knows p s → IsClosed {E = SolverError} taken (opened_state proof) (Ok back) → HasProof s → past.HandsBackIf taken p back
+hands-back : {W : Type 0} (taken : W → Taken) (p : Past) (s : State) (proof : Option OpenProof) (back : Option W) → s.proof ≡ proof → Knows p s →
+    IsClosed {E = SolverError} taken (opened_state proof) (Ok back) → HasProof s → past.HandsBackIf taken p back
 hands-back taken p s None None e k h has = none-open p s k e
 hands-back taken p s None (Some w) e k h has = absurd h
 hands-back taken p s (Some o) None e k h has = absurd h
 hands-back taken p s (Some o) (Some w) e k h has = handed p s o (taken w).bytes k e (ap (λ (x : Taken). x.bytes) h) has
 
-hands-back-failed : {W : Type 0} (taken : W → Taken) (p : Past) (s : State) (proof : Option OpenProof) (x : SolverError) (w : W) → s.proof ≡ proof → Knows p s → IsClosed taken (opened_state proof) (Err (x, w)) → HasProof s → past.HandsBack p (taken w).bytes
+hands-back-failed : {W : Type 0} (taken : W → Taken) (p : Past) (s : State) (proof : Option OpenProof) (x : SolverError) (w : W) → s.proof ≡ proof →
+    Knows p s → IsClosed taken (opened_state proof) (Err (x, w)) → HasProof s → past.HandsBack p (taken w).bytes
 hands-back-failed taken p s None x w e k h has = absurd h
 hands-back-failed taken p s (Some o) x w e k h has = handed p s o (taken w).bytes k e (ap (λ (y : Taken). y.bytes) h) has
 
-pub close : {W : Type 0} (taken : W → Taken) (p : Past) (s t : State) (r : Result (Option W) (SolverError × W)) → Agrees p s → ClosesProof taken s r t → Leads (past.ProofCloses taken p r) t
+pub close : {W : Type 0} (taken : W → Taken) (p : Past) (s t : State) (r : Result (Option W) (SolverError × W)) → Agrees p s →
+    ClosesProof taken s r t → Leads (past.ProofCloses taken p r) t
 close taken p s t (Ok back) g (h, e) =
     (past.closed p, ((λ w. let (closed, has) = h (g.valid ∙ w) in hands-back taken p s s.proof back refl (g.knows w) closed has), refl), closes p s t g e)
 close taken p s t (Err (ProofIoError cause, target)) g (closed, has, b) =
@@ -717,7 +886,8 @@ close taken p s t (Err e) g a = absurd a
 
 -- 10. A model.
 
-model-sat : (m : Naming) (v : Verdict) (model : List Literal) → Some model ≡ model_of m v → (a : Assignment) × (v ≡ Sat a) × (model ≡ list_names m a 0 m.watermark)
+model-sat : (m : Naming) (v : Verdict) (model : List Literal) → Some model ≡ model_of m v → (a : Assignment) × (v ≡ Sat a)
+    × (model ≡ list_names m a 0 m.watermark)
 model-sat m Unknown model e = absurd cc
 model-sat m (Sat a) model e = (a, refl, cc)
 model-sat m Unsat model e = absurd cc
@@ -729,13 +899,15 @@ no-model m (Sat a) e x = cc
 no-model m Unsat e x = let z : false ≡ true = cc in cc
 no-model m (UnsatUnderAssumptions core) e x = let z : false ≡ true = cc in cc
 
-completed : (p : Past) (s : State) (a : Assignment) → Knows p s → s.verdict ≡ Sat a → IsCompletable p.naming p.clauses p.assumptions p.counted (list_names s.naming a 0 s.naming.watermark)
+completed : (p : Past) (s : State) (a : Assignment) → Knows p s → s.verdict ≡ Sat a →
+    IsCompletable p.naming p.clauses p.assumptions p.counted (list_names s.naming a 0 s.naming.watermark)
 completed p s a k e =
     let list = list_names s.naming a 0 s.naming.watermark in
     subst (λ (m : Naming). IsCompletable m p.clauses p.assumptions p.counted list) k.naming
     (subst (λ P. IsCompletable s.naming P p.assumptions p.counted list) k.clauses
     (subst (λ A. IsCompletable s.naming s.clauses A p.counted list) k.assumed
-    (subst (λ C. IsCompletable s.naming s.clauses s.assumptions C list) k.counted (completable s a k.capped (subst (IsRight s.clauses s.assumptions s.counted) e k.right)))))
+    (subst (λ C. IsCompletable s.naming s.clauses s.assumptions C list) k.counted
+    (completable s a k.capped (subst (IsRight s.clauses s.assumptions s.counted) e k.right)))))
 
 pub tell-model : (p : Past) (s t : State) (r : Result (Option (List Literal)) AllocError) → Agrees p s → state.TellsModel s r t → Leads (past.TellsModel p r) t
 tell-model p s t (Ok (Some m)) g (inl (v, e), same) =
@@ -754,10 +926,14 @@ tell-model p s t (Err e) g (v, x, same) =
 -- 11. A core.
 
 -- what is told is carried to some of the assumptions, which fail with the clauses
-failed-core : (p : Past) (s : State) (core : List Literal) → Knows p s → IsCoreToTell s (Some core) → AreNamesInUse p.naming core × IsFailedCore p.clauses p.assumptions (map (through_names p.naming) core)
+failed-core : (p : Past) (s : State) (core : List Literal) → Knows p s → IsCoreToTell s (Some core) → AreNamesInUse p.naming core
+    × IsFailedCore p.clauses p.assumptions (map (through_names p.naming) core)
 failed-core p s core k e =
-    subst (λ (m : Naming). AreNamesInUse m core × IsFailedCore p.clauses p.assumptions (map (through_names m) core)) k.naming
-    (e.0, subst (λ P. IsFailedCore P p.assumptions (map (through_names s.naming) core)) k.clauses (subst (λ A. IsFailedCore s.clauses A (map (through_names s.naming) core)) k.assumed (told-fails s core k.right e)))
+    subst (λ (m : Naming). AreNamesInUse m core × IsFailedCore p.clauses p.assumptions (map (through_names m) core)) k.naming (
+      e.0,
+      subst (λ P. IsFailedCore P p.assumptions (map (through_names s.naming) core)) k.clauses
+          (subst (λ A. IsFailedCore s.clauses A (map (through_names s.naming) core)) k.assumed (told-fails s core k.right e)),
+    )
 
 -- where the answer is false no model was found last
 no-model-false : (p : Past) (s : State) → Knows p s → answer_of s.verdict ≡ Some false → p.has_model ≡ false

@@ -24,7 +24,8 @@ assumed-keeps old new v l k (x, u, a, b, e) =
     (x, u, ap (λ (m : BiMap). at m.backward v) k.solvers ∙ a, k.back x u b live, ap (λ d. d.assumed) (k.live x live) ∙ e)
 
 -- the variable of a name in use stays marked as assumed
-pub marked-keeps : (old new : Tables) (u x y : ℕ) → AreLinked old → KeepsNames old new → at old.users.forward u ≡ Some y → (kept_at old.kept y).assumed ≡ true → at new.users.forward u ≡ Some x → (kept_at new.kept x).assumed ≡ true
+pub marked-keeps : (old new : Tables) (u x y : ℕ) → AreLinked old → KeepsNames old new → at old.users.forward u ≡ Some y →
+    (kept_at old.kept y).assumed ≡ true → at new.users.forward u ≡ Some x → (kept_at new.kept x).assumed ≡ true
 marked-keeps old new u x y l k e m f =
     let q : Some y ≡ Some x = sym (k.named u y e) ∙ f in
     let same : y ≡ x = cc in

@@ -31,8 +31,10 @@ same-carry f l = ap (λ n. 2 * n + l % 2) (same-number (f (variable_of l)))
 
 pub lines-as : (f g : Literal → Literal) → ((l : Literal) → f l ≡ g l) → (lines : List Line) → written (map (rename_line f) lines) ≡ told_as g (written lines)
 lines-as f g e [] = refl
-lines-as f g e (Add c ∷ lines) = ap (λ d. Writes (Add d) ∷ written (map (rename_line f) lines)) (map-same f g c (λ l h. e l)) ∙ ap (λ es. Writes (Add (map g c)) ∷ es) (lines-as f g e lines)
-lines-as f g e (Delete c ∷ lines) = ap (λ d. Writes (Delete d) ∷ written (map (rename_line f) lines)) (map-same f g c (λ l h. e l)) ∙ ap (λ es. Writes (Delete (map g c)) ∷ es) (lines-as f g e lines)
+lines-as f g e (Add c ∷ lines) = ap (λ d. Writes (Add d) ∷ written (map (rename_line f) lines)) (map-same f g c (λ l h. e l))
+    ∙ ap (λ es. Writes (Add (map g c)) ∷ es) (lines-as f g e lines)
+lines-as f g e (Delete c ∷ lines) = ap (λ d. Writes (Delete d) ∷ written (map (rename_line f) lines)) (map-same f g c (λ l h. e l))
+    ∙ ap (λ es. Writes (Delete (map g c)) ∷ es) (lines-as f g e lines)
 
 module _ (w : Carrying) (p : Spaces) (s : State) (k : Links w p s) (shown : s.ever_hidden ≡ false) where
   plain-identity : (v : ℕ) → chain p.global_from_solver w.identity v ≡ p.global_from_solver v
@@ -43,7 +45,8 @@ module _ (w : Carrying) (p : Spaces) (s : State) (k : Links w p s) (shown : s.ev
       (is-some (p.global_from_solver v))
 
   pub plain-literal : (l : Literal) → carry (chain p.global_from_solver w.identity) l ≡ global.carry p.global_from_solver l
-  plain-literal l = carry-same (chain p.global_from_solver w.identity) p.global_from_solver l (plain-identity (variable_of l)) ∙ same-carry p.global_from_solver l
+  plain-literal l = carry-same (chain p.global_from_solver w.identity) p.global_from_solver l (plain-identity (variable_of l))
+      ∙ same-carry p.global_from_solver l
 
   pub plain-literals : (c : List Literal) → map (carry (chain p.global_from_solver w.identity)) c ≡ map (global.carry p.global_from_solver) c
   plain-literals c = map-same (carry (chain p.global_from_solver w.identity)) (global.carry p.global_from_solver) c (λ l h. plain-literal l)
@@ -52,13 +55,15 @@ module _ (w : Carrying) (p : Spaces) (s : State) (k : Links w p s) (shown : s.ev
   plain-lines lines = lines-as (carry (chain p.global_from_solver w.identity)) (global.carry p.global_from_solver) plain-literal lines
 
 -- 2. What a proof was told.
-pub proof-told : (x y : TracerState) (entries : List Entry) (hidden : Bool) (before after : List Entry) → TakesGlobally x entries y → (hidden ≡ false → after ≡ before ++ told_as (global_literal x.tables) entries) → TellsProof hidden before after x.proof y.proof
+pub proof-told : (x y : TracerState) (entries : List Entry) (hidden : Bool) (before after : List Entry) → TakesGlobally x entries y →
+    (hidden ≡ false → after ≡ before ++ told_as (global_literal x.tables) entries) → TellsProof hidden before after x.proof y.proof
 proof-told x y entries hidden before after h e = record { given = told_as (global_literal x.tables) entries; told = h.told; plain = e }
 
 pub proof-quiet : (hidden : Bool) (before after : List Entry) (p : ProofParts) → (hidden ≡ false → after ≡ before) → TellsProof hidden before after p p
 proof-quiet hidden before after p e = record { given = []; told = told-none p; plain = λ h. e h ∙ sym (append-nil before) }
 
-pub proof-through : (hidden : Bool) (a b c : List Entry) (p q r : ProofParts) → TellsProof hidden a b p q → TellsProof hidden b c q r → TellsProof hidden a c p r
+pub proof-through : (hidden : Bool) (a b c : List Entry) (p q r : ProofParts) → TellsProof hidden a b p q → TellsProof hidden b c q r →
+    TellsProof hidden a c p r
 proof-through hidden a b c p q r s t = record {
   given = s.given ++ t.given;
   told = told-more p q r s.given t.given s.told t.told;
@@ -68,15 +73,20 @@ proof-through hidden a b c p q r s t = record {
 -- 3. Variables leave.
 
 -- None did, and the proof was told of none.
-pub leaving-none : (hidden : Bool) (told : List Entry) (p q : ProofParts) (given : List Entry) → given ≡ [] → IsTold p given q → TellsLeaving hidden told told p q
-leaving-none hidden told p q given e h = record { more = tells-nothing told; proof = record { given = given; told = h; plain = λ _. sym (ap (λ xs. told ++ xs) e ∙ append-nil told) } }
+pub leaving-none : (hidden : Bool) (told : List Entry) (p q : ProofParts) (given : List Entry) → given ≡ [] → IsTold p given q →
+    TellsLeaving hidden told told p q
+leaving-none hidden told p q given e h =
+    record { more = tells-nothing told; proof = record { given = given; told = h; plain = λ _. sym (ap (λ xs. told ++ xs) e ∙ append-nil told) } }
 
 pub leaving-nothing : (hidden : Bool) (told : List Entry) (p : ProofParts) → TellsLeaving hidden told told p p
 leaving-nothing hidden told p = leaving-none hidden told p p [] refl (told-none p)
 
 -- one did, which a proof was told of as a global variable, and where something was hidden before
-pub leaving-one : (hidden : Bool) (told : List Entry) (i : ℕ) (p q : ProofParts) (given : List Entry) → (hidden ≡ false → ⊥) → IsTold p given q → TellsLeaving hidden told (told ++ Leaves i ∷ []) p q
-leaving-one hidden told i p q given n h = record { more = tells 0 told (Leaves i ∷ []) (leaves-goes told i); proof = record { given = given; told = h; plain = λ e. absurd (n e) } }
+pub leaving-one : (hidden : Bool) (told : List Entry) (i : ℕ) (p q : ProofParts) (given : List Entry) → (hidden ≡ false → ⊥) → IsTold p given q →
+    TellsLeaving hidden told (told ++ Leaves i ∷ []) p q
+leaving-one hidden told i p q given n h =
+    record { more = tells 0 told (Leaves i ∷ []) (leaves-goes told i); proof = record { given = given; told = h; plain = λ e. absurd (n e) } }
 
-pub leaving-through : (hidden : Bool) (a b c : List Entry) (p q r : ProofParts) → TellsLeaving hidden a b p q → TellsLeaving hidden b c q r → TellsLeaving hidden a c p r
+pub leaving-through : (hidden : Bool) (a b c : List Entry) (p q r : ProofParts) → TellsLeaving hidden a b p q → TellsLeaving hidden b c q r →
+    TellsLeaving hidden a c p r
 leaving-through hidden a b c p q r s t = record { more = tells-through 0 0 a b c s.more t.more; proof = proof-through hidden a b c p q r s.proof t.proof }

@@ -94,7 +94,8 @@ took n p q (c ∷ P) o (inl (mid, (v, past.Accepted u l e), rest)) =
       part = λ a x y. r.part a (subst (SatisfiesAll a) (sym clauses) (satisfies-one-more a p.clauses P c x y)) (λ d h. y d (inr h));
       whole = ⊎_elim inl (λ w. inr (w.0 ∙ ap (λ Q. Q ++ P) clauses ∙ append_assoc p.clauses (c ∷ []) P, w.1)) r.whole;
       carries = subst (Carries q.clauses) (ap (λ Q. Q ++ P) clauses ∙ append_assoc p.clauses (c ∷ []) P) r.carries;
-      counted = λ known h. r.counted (join_counted known (map variable_of c)) (subst (λ xs. xs ⊆ join_counted known (map variable_of c)) (sym counted) (join-part p.counted known (map variable_of c) h));
+      counted = λ known h. r.counted (join_counted known (map variable_of c))
+          (subst (λ xs. xs ⊆ join_counted known (map variable_of c)) (sym counted) (join-part p.counted known (map variable_of c) h));
       once = λ h. r.once (subst IsDistinct (sym counted) (join-once (map variable_of c) p.counted h));
       steps = r.steps;
       settings = r.settings;
@@ -116,7 +117,18 @@ took n p q (c ∷ P) o (inl (mid, (v, past.Ignored u e), rest)) =
 
 -- the same where steps are counted anew then
 took-anew : (n : ℕ) (P : List Clause) (p q : Past) → Took n P p q → Took n P p (past.count_anew q)
-took-anew n P p q r = record { more = r.more; part = r.part; whole = r.whole; carries = r.carries; counted = r.counted; once = r.once; steps = r.steps; settings = r.settings; assumptions = r.assumptions }
+took-anew n P p q r = record {
+  more = r.more;
+  part = r.part;
+  whole = r.whole;
+  carries = r.carries;
+  counted = r.counted;
+  once = r.once;
+  steps =
+      r.steps;
+  settings = r.settings;
+  assumptions = r.assumptions;
+}
 
 none-true : (a : Assignment) (A : List Literal) → A ≡ [] → MakesTrue a A
 none-true a A e l h = let z : l ∈ [] = subst (λ x. l ∈ x) e h in absurd z
@@ -154,7 +166,8 @@ named-below n (d ∷ P) c l (inl e) i =
 named-below n (d ∷ P) c l (inr h) i = named-below (count_with n d) P c l h i
 
 -- where names are in order, a model of what is over identities is one of the clauses themselves
-own-model : (P : List Clause) (m : Naming) (assumptions : List Literal) (counted : List ℕ) (model : List Literal) → AreInOrder (count-all 0 P) m → IsCompletable m P assumptions counted model → IsModel P model
+own-model : (P : List Clause) (m : Naming) (assumptions : List Literal) (counted : List ℕ) (model : List Literal) → AreInOrder (count-all 0 P) m →
+    IsCompletable m P assumptions counted model → IsModel P model
 own-model P m assumptions counted model o k = record {
   rising = k.rising;
   all_listed = λ u (c, l, h, i, b). let a = named-below 0 P c l h i in k.all_listed u u (o.in_use u (omega (arith, a, b)));
@@ -198,7 +211,8 @@ abbrev begun : Option PastProof → Option ℕ → Past
 begun proof limit = record (past.with_update (record no_update { max_steps = limit }) empty_past) { proof = proof }
 
 begun-took : (proof : Option PastProof) (limit : Option ℕ) (q : Past) (P : List Clause) → AddsWhole (begun proof limit) P q → Took 0 P (begun proof limit) q
-begun-took proof limit q P (m, a, e) = subst (Took 0 P (begun proof limit)) (sym e) (took-anew 0 P (begun proof limit) m (took 0 (begun proof limit) m P none-in-order a))
+begun-took proof limit q P (m, a, e) = subst (Took 0 P (begun proof limit)) (sym e)
+    (took-anew 0 P (begun proof limit) m (took 0 (begun proof limit) m P none-in-order a))
 
 -- How a new solver is prepared.
 
@@ -212,12 +226,14 @@ abbrev pub unsearched : {W : Type 0} → (W → Taken) → ProofFormat → Optio
 unsearched taken format None = None
 unsearched taken format (Some target) = Some (record { format = format; first = (taken target).bytes; searched = false })
 
-pub prepared-agrees : {W : Type 0} (taken : W → Taken) (format : ProofFormat) (limit : Option ℕ) (target : Option W) → Agrees (begun (unsearched taken format target) limit) (prepared taken format limit target)
+pub prepared-agrees : {W : Type 0} (taken : W → Taken) (format : ProofFormat) (limit : Option ℕ) (target : Option W) →
+    Agrees (begun (unsearched taken format target) limit) (prepared taken format limit target)
 prepared-agrees taken format limit None = limited-agrees limit
 prepared-agrees taken format limit (Some target) =
     opens (begun None limit) (limited limit) (prepared taken format limit (Some target)) format (taken target) (limited-agrees limit) refl
 
-pub limits : (limit : Option ℕ) (u : SolverConfigUpdate) (r : Result (Unit {0}) SolverError) (s : State) → u ≡ no_update → state.Configures empty_state (record u { max_steps = limit }) r s → s ≡ limited limit
+pub limits : (limit : Option ℕ) (u : SolverConfigUpdate) (r : Result (Unit {0}) SolverError) (s : State) → u ≡ no_update →
+    state.Configures empty_state (record u { max_steps = limit }) r s → s ≡ limited limit
 limits limit u r s e h = go r (subst (λ (x : SolverConfigUpdate). state.Configures empty_state (record x { max_steps = limit }) r s) e h)
   where
     go : (r : Result (Unit {0}) SolverError) → state.Configures empty_state (record no_update { max_steps = limit }) r s → s ≡ limited limit
@@ -226,7 +242,8 @@ limits limit u r s e h = go r (subst (λ (x : SolverConfigUpdate). state.Configu
     go (Err (ConfigOutOfRange field)) (v, n, k) = let z : None ≡ Some field = n in absurd cc
     go (Err e) h = absurd h
 
-pub opens-limited : {W : Type 0} (taken : W → Taken) (target : W) (format : ProofFormat) (limit : Option ℕ) (s t : State) (r : Result (Unit {0}) (SolverError × W)) → s ≡ limited limit → OpensProof taken target format s r t → t ≡ prepared taken format limit (Some target)
+pub opens-limited : {W : Type 0} (taken : W → Taken) (target : W) (format : ProofFormat) (limit : Option ℕ) (s t : State)
+    (r : Result (Unit {0}) (SolverError × W)) → s ≡ limited limit → OpensProof taken target format s r t → t ≡ prepared taken format limit (Some target)
 opens-limited {W = W} taken target format limit s t r e h = go r (subst (λ x. OpensProof taken target format x r t) e h)
   where
     go : (r : Result (Unit {0}) (SolverError × W)) → OpensProof taken target format (limited limit) r t → t ≡ prepared taken format limit (Some target)
@@ -241,7 +258,8 @@ no-target None h = refl
 no-target (Some target) h = absurd (h target refl)
 
 -- A new solver took a text in, and then is asked.
-module _ (proof : Option PastProof) (limit : Option ℕ) (old new : Stand) (s t : State) (begins : Agrees (begun proof limit) s) (adds : state.AddsDimacs s old done new t) where
+module _ (proof : Option PastProof) (limit : Option ℕ) (old new : Stand) (s t : State) (begins : Agrees (begun proof limit) s)
+    (adds : state.AddsDimacs s old done new t) where
   text-taken : (q : Past) × past.AddsDimacs (begun proof limit) old done new q × Agrees q t
   text-taken = add-text (begun proof limit) s t old new done begins adds
 
@@ -258,7 +276,13 @@ module _ (proof : Option PastProof) (limit : Option ℕ) (old new : Stand) (s t 
       let (z, (v, n, few, e), h) = solve q t u (Ok false) g f in
       let w = takes old new (begun proof limit) q x in
       let r = begun-took proof limit q (dimacs w.read.text).clauses w.all in (
-        record { read = w.read; ended = w.ended; fine = w.fine; found = λ s. n (s.0, r.part s.0 (λ d h. absurd h) s.1, none-true s.0 q.assumptions r.assumptions) },
+        record {
+          read = w.read;
+          ended = w.ended;
+          fine = w.fine;
+          found =
+              λ s. n (s.0, r.part s.0 (λ d h. absurd h) s.1, none-true s.0 q.assumptions r.assumptions);
+        },
         carried q (dimacs w.read.text).clauses g v r,
       )
 
@@ -270,13 +294,15 @@ module _ (proof : Option PastProof) (limit : Option ℕ) (old new : Stand) (s t 
       let r = begun-took proof limit q (dimacs w.read.text).clauses w.all in
       let names = named_variables [] (dimacs w.read.text).clauses in
       let fewer = length-distinct q.counted names (r.once tt) (r.counted [] (λ i h. h)) in
-      let early = spent-early (length q.counted) (allowed_steps limit) q.settings.max_steps q.since q.steps z.steps few (ap (λ (s : Settings). s.max_steps) r.settings) r.steps in
+      let early = spent-early (length q.counted) (allowed_steps limit) q.settings.max_steps q.since q.steps z.steps few
+      (ap (λ (s : Settings). s.max_steps) r.settings) r.steps in
       let power : 2 ^ (2 * length q.counted + 3) ≤ 2 ^ (2 * length names + 3) = pow_mono (omega (arith, fewer)) in (
         record { read = w.read; ended = w.ended; fine = w.fine; found = omega (arith, early, power) },
         carried q (dimacs w.read.text).clauses g v r,
       )
     where
-      spent-early : (n max_steps own since before after : ℕ) → CountsSteps n own since before after (Err Interrupted) → own ≡ max_steps → before ≡ 0 → min max_steps (2 ^ 64 - 1) < 2 ^ (2 * n + 3)
+      spent-early : (n max_steps own since before after : ℕ) → CountsSteps n own since before after (Err Interrupted) → own ≡ max_steps →
+          before ≡ 0 → min max_steps (2 ^ 64 - 1) < 2 ^ (2 * n + 3)
       spent-early n max_steps own since before after k e z =
           let b = k.bounded in
           let d = k.count in
@@ -292,7 +318,9 @@ module _ (proof : Option PastProof) (limit : Option ℕ) (old new : Stand) (s t 
         carried q (dimacs k.read.text).clauses g w r,
       )
     where
-      outcome : (q : Past) (P : List Clause) → (IsSatisfiable q.clauses → ⊥) ⊎ ((q.clauses ≡ P) × AreInOrder (count-all 0 P) q.naming) → IsSatisfiable q.clauses → (z : Past) → z ≡ record (past.with_steps z.steps (past.once_searched q)) { has_model = true; has_core = false } → Agrees z u → IsModel P model
+      outcome : (q : Past) (P : List Clause) → (IsSatisfiable q.clauses → ⊥) ⊎ ((q.clauses ≡ P) × AreInOrder (count-all 0 P) q.naming) →
+          IsSatisfiable q.clauses → (z : Past) → z ≡ record (past.with_steps z.steps (past.once_searched q))
+          { has_model = true; has_core = false } → Agrees z u → IsModel P model
       outcome q P (inl n) s z e h = absurd (n s)
       outcome q P (inr (clauses, order)) s z e h =
           let (y, (x, i, o, same_past), j) = tell-model z u v (Ok (Some model)) h d in
@@ -306,7 +334,8 @@ module _ (proof : Option PastProof) (limit : Option ℕ) (old new : Stand) (s t 
 
 -- The status.
 
-pub outcome-is-true : (max_steps : ℕ) (old new : Stand) (outcome : Conclusion) (status : ℕ) → Decides max_steps old new outcome → status ≡ conclusion_status outcome → StatusIsTrue old new status
+pub outcome-is-true : (max_steps : ℕ) (old new : Stand) (outcome : Conclusion) (status : ℕ) → Decides max_steps old new outcome →
+    status ≡ conclusion_status outcome → StatusIsTrue old new status
 outcome-is-true max_steps old new outcome status d e = record {
   ended = λ n. d.ended.told;
   fine = λ text g n. subst (λ x. (dimacs x).fault ≡ None) (same text g) d.fine;

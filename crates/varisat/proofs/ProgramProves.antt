@@ -104,7 +104,8 @@ finds-none t u (conclusion.Decided (Some model)) f e = let z : Some model ≡ No
 -- 3. The target of the proof.
 
 -- what a proof that was open from the beginning is at the end
-open-at-end : (p : OpenProof) (first middle last : Option OpenProof) → first ≡ Some p → GoesOnWriting first middle → GoesOnWriting (searched_under middle) last → (bytes : List ℕ) × (last ≡ Some (record p { bytes = p.bytes ++ bytes; searched = true }))
+open-at-end : (p : OpenProof) (first middle last : Option OpenProof) → first ≡ Some p → GoesOnWriting first middle →
+    GoesOnWriting (searched_under middle) last → (bytes : List ℕ) × (last ≡ Some (record p { bytes = p.bytes ++ bytes; searched = true }))
 open-at-end p first middle last b g h =
     let (more, e) = subst (λ (o : Option OpenProof). GoesOnWriting o middle) b g in
     let (further, f) = subst (λ (o : Option OpenProof). GoesOnWriting (searched_under o) last) e h in
@@ -120,7 +121,8 @@ closed-none taken None h = refl
 closed-none taken (Some w) h = absurd h
 
 proven-bytes : {W : Type 0} (taken : W → Taken) (format : ProofFormat) (target back : W) (u : State) (bytes : List ℕ) (P : List Clause) (c : Conclusion) →
-    u.proof ≡ Some (record (first_proof format (taken target)) { bytes = bytes; searched = true }) → u.ever_hidden ≡ false → HasProof u → Carries u.clauses P → (c ≡ conclusion.Decided None → state.answer_of u.verdict ≡ Some false) →
+    u.proof ≡ Some (record (first_proof format (taken target)) { bytes = bytes; searched = true }) → u.ever_hidden ≡ false → HasProof u →
+    Carries u.clauses P → (c ≡ conclusion.Decided None → state.answer_of u.verdict ≡ Some false) →
     taken back ≡ record { bytes = (taken target).bytes ++ bytes; faults = (taken target).faults } → IsProven format P c (taken target) (taken back)
 proven-bytes taken format target back u bytes P c e h has carries none same =
     let b = has (record (first_proof format (taken target)) { bytes = bytes; searched = true }) e in
@@ -132,33 +134,45 @@ proven-bytes taken format target back u bytes P c e h has carries none same =
       refutes = λ n. carries.refutes b.lines (b.refutes h (none n));
     }
 
-pub proven : {W : Type 0} (taken : W → Taken) (format : ProofFormat) (limit : Option ℕ) (old new : Stand) (target back : Option W) (t u : State) (c : Conclusion) (opened : Option OpenState) → state.AddsDimacs (prepared taken format limit target) old done new t → Finds t c u → HasProof u → opened ≡ opened_state u.proof → IsClosed {E = SolverError} taken opened (Ok back) →
+pub proven : {W : Type 0} (taken : W → Taken) (format : ProofFormat) (limit : Option ℕ) (old new : Stand) (target back : Option W) (t u : State)
+    (c : Conclusion) (opened : Option OpenState) → state.AddsDimacs (prepared taken format limit target) old done new t → Finds t c u → HasProof u →
+    opened ≡ opened_state u.proof → IsClosed {E = SolverError} taken opened (Ok back) →
     DecidesProven taken format (allowed_steps limit) old new target back c
 proven {W = W} taken format limit old new target back t u c opened adds finds has is closed =
     let s = prepared taken format limit target in
     let (d, carries) = found (unsearched taken format target) limit old new s t (prepared-agrees taken format limit target) adds c u finds in
-    record { decides = d; proven = go target back adds (dimacs d.read.text).clauses carries (subst (λ o. IsClosed {E = SolverError} taken o (Ok back)) is closed) }
+    record {
+      decides = d;
+      proven = go target back adds (dimacs d.read.text).clauses carries
+          (subst (λ o. IsClosed {E = SolverError} taken o (Ok back)) is closed);
+    }
   where
-    go : (target back : Option W) → state.AddsDimacs (prepared taken format limit target) old done new t → (P : List Clause) → Carries t.clauses P → IsClosed {E = SolverError} taken (opened_state u.proof) (Ok back) → IsProvenIf taken format P c target back
+    go : (target back : Option W) → state.AddsDimacs (prepared taken format limit target) old done new t → (P : List Clause) → Carries t.clauses P →
+        IsClosed {E = SolverError} taken (opened_state u.proof) (Ok back) → IsProvenIf taken format P c target back
     go None back adds P carries closed =
         let k = keeps-text (prepared taken format limit None) t old new adds in
         let a = asks t u c finds in
-        closed-none taken back (subst (λ o. IsClosed {E = SolverError} taken (opened_state o) (Ok back)) (none-at-end None t.proof u.proof refl k.proof a.proof) closed)
+        closed-none taken back (subst (λ o. IsClosed {E = SolverError} taken (opened_state o) (Ok back))
+        (none-at-end None t.proof u.proof refl k.proof a.proof) closed)
     go (Some target) back adds P carries closed =
         let k = keeps-text (prepared taken format limit (Some target)) t old new adds in
         let a = asks t u c finds in
         let (bytes, e) = open-at-end (first_proof format (taken target)) (Some (first_proof format (taken target))) t.proof u.proof refl k.proof a.proof in
         let h = a.hidden ∙ k.hidden in
-        there target back bytes P e h (subst (λ Q. Carries Q P) (sym a.clauses) carries) (subst (λ o. IsClosed {E = SolverError} taken (opened_state o) (Ok back)) e closed)
+        there target back bytes P e h (subst (λ Q. Carries Q P) (sym a.clauses) carries)
+        (subst (λ o. IsClosed {E = SolverError} taken (opened_state o) (Ok back)) e closed)
       where
-        there : (target : W) (back : Option W) (bytes : List ℕ) (P : List Clause) → u.proof ≡ Some (record (first_proof format (taken target)) { bytes = bytes; searched = true }) → u.ever_hidden ≡ false → Carries u.clauses P →
-            IsClosed {E = SolverError} taken (opened_state (Some (record (first_proof format (taken target)) { bytes = bytes; searched = true }))) (Ok back) → IsProvenIf taken format P c (Some target) back
+        there : (target : W) (back : Option W) (bytes : List ℕ) (P : List Clause) →
+            u.proof ≡ Some (record (first_proof format (taken target)) { bytes = bytes; searched = true }) → u.ever_hidden ≡ false → Carries u.clauses P →
+            IsClosed {E = SolverError} taken (opened_state (Some (record (first_proof format (taken target)) { bytes = bytes; searched = true })))
+            (Ok back) → IsProvenIf taken format P c (Some target) back
         there target None bytes P e h carries closed = absurd closed
         there target (Some back) bytes P e h carries closed = proven-bytes taken format target back u bytes P c e h has carries (finds-none t u c finds) closed
 
 -- 4. Errors.
 
-pub fails-reported : (A : Type 0) {W : Type 0} (taken : W → Taken) (s : State) (old new : Stand) (t u : State) (e : SolverError) → state.AddsDimacs s old done new t → Reports {A = A} t (Err e) u → Fails taken s old new e
+pub fails-reported : (A : Type 0) {W : Type 0} (taken : W → Taken) (s : State) (old new : Stand) (t u : State) (e : SolverError) →
+    state.AddsDimacs s old done new t → Reports {A = A} t (Err e) u → Fails taken s old new e
 fails-reported A taken s old new t u OutOfMemory a (inl f) = AsSearched t u a f (λ e. cc)
 fails-reported A taken s old new t u OutOfMemory a (inr f) = AsListed t u a f refl
 fails-reported A taken s old new t u Interrupted a f = absurd f

@@ -37,7 +37,8 @@ use Rattle.varisat.proofs.SpacesAgree.{carry-same, rename-same, settled-more, se
 pub same-more : (P Q R : List Clause) → SameClauses P Q → SameClauses (P ++ R) (Q ++ R)
 same-more P Q [] s = subst (λ x. SameClauses x (Q ++ [])) (sym (append-nil P)) (subst (SameClauses P) (sym (append-nil Q)) s)
 same-more P Q (c ∷ R) s =
-    subst (λ x. SameClauses x (Q ++ c ∷ R)) (append_assoc P (c ∷ []) R) (subst (SameClauses ((P ++ c ∷ []) ++ R)) (append_assoc Q (c ∷ []) R) (same-more (P ++ c ∷ []) (Q ++ c ∷ []) R (same_add P Q c c s (same_set-self c))))
+    subst (λ x. SameClauses x (Q ++ c ∷ R)) (append_assoc P (c ∷ []) R)
+    (subst (SameClauses ((P ++ c ∷ []) ++ R)) (append_assoc Q (c ∷ []) R) (same-more (P ++ c ∷ []) (Q ++ c ∷ []) R (same_add P Q c c s (same_set-self c))))
 
 -- and at the beginning
 pub same-after : (R P Q : List Clause) → SameClauses P Q → SameClauses (R ++ P) (R ++ Q)
@@ -83,10 +84,13 @@ divided v (c ∷ P) = go (mentions v c) (divided v P)
     go false s = (only v P ++ without v P, (only v P, c, without v P, refl, same_set-self c, refl), s)
 
 -- Where the variable gets another name, what mentions it keeps the old one among the forgotten clauses.
-pub renamed-apart : (v : ℕ) (f g : Literal → Literal) (share F : List Clause) → ((c : Clause) (l : Literal) → c ∈ without v share → l ∈ c → f l ≡ g l) → SameClauses (F ++ rename f share) ((F ++ rename f (only v share)) ++ rename g (without v share))
+pub renamed-apart : (v : ℕ) (f g : Literal → Literal) (share F : List Clause) →
+    ((c : Clause) (l : Literal) → c ∈ without v share → l ∈ c → f l ≡ g l) →
+    SameClauses (F ++ rename f share) ((F ++ rename f (only v share)) ++ rename g (without v share))
 renamed-apart v f g share F e =
     let split = same_clauses_renamed f share (only v share ++ without v share) (divided v share) in
-    let names : rename f (only v share ++ without v share) ≡ rename f (only v share) ++ rename g (without v share) = map-append (map f) (only v share) (without v share) ∙ ap (λ x. rename f (only v share) ++ x) (rename-same f g (without v share) e) in
+    let names : rename f (only v share ++ without v share) ≡ rename f (only v share) ++ rename g (without v share) =
+    map-append (map f) (only v share) (without v share) ∙ ap (λ x. rename f (only v share) ++ x) (rename-same f g (without v share) e) in
     subst (SameClauses (F ++ rename f share)) (sym (append_assoc F (rename f (only v share)) (rename g (without v share))))
     (same-after F (rename f share) (rename f (only v share) ++ rename g (without v share)) (subst (SameClauses (rename f share)) names split))
 
@@ -115,15 +119,28 @@ proved-fixed held t f l h =
     (f.settled d i)
 
 -- what fits a search that is not over the variable does so without the clauses that mention it
-pub fits-without : (v : ℕ) (share : List Clause) (s : Search) → ((l : Literal) → IsLiteralOf s l → variable_of l ≡ v → ⊥) → Fits share s → Fits (without v share) s
+pub fits-without : (v : ℕ) (share : List Clause) (s : Search) → ((l : Literal) → IsLiteralOf s l → variable_of l ≡ v → ⊥) → Fits share s →
+    Fits (without v share) s
 fits-without v share s other f =
-    variable_is_dropped s s v share refl (λ c a. unmentioned v c.clause (λ l b. other l (inr (c, a, b)))) (λ l a n. a) (λ l a. (a, other l (inl (proved-fixed share s f l a)))) f
+    variable_is_dropped s s v share refl (λ c a. unmentioned v c.clause (λ l b. other l (inr (c, a, b)))) (λ l a n. a)
+    (λ l a. (a, other l (inl (proved-fixed share s f l a)))) f
 
 -- 5. What a search shares of what is held.
 
 -- more is fixed
 pub shares-more : {r : Translation} {fixed more : List Literal} {share : List Clause} → fixed ⊆ more → SharesHeld r fixed share → SharesHeld r more share
-shares-more {r} {fixed} {more} stay q = record { held = q.held; led = q.led; forgotten = q.forgotten; same = q.same; inside = q.inside; units = q.units; live = q.live; settled = λ c h. settled-more r fixed more stay c (q.settled c h) }
+shares-more {r} {fixed} {more} stay q =
+    record {
+      held = q.held;
+      led = q.led;
+      forgotten = q.forgotten;
+      same = q.same;
+      inside = q.inside;
+      units = q.units;
+      live = q.live;
+      settled =
+          λ c h. settled-more r fixed more stay c (q.settled c h);
+    }
 
 -- the lines over identities, as entries
 abbrev pub told_lines : Translation → List Line → List Entry
@@ -136,12 +153,15 @@ pub record LinesLead (n : ℕ) (r : Translation) (F share : List Clause) (lines 
   pub same : SameClauses held (F ++ rename (carry r.identity) after)
   pub goes : GoesOn n r.told (told_lines r lines)
 
-pub lines-lead : {fixed : List Literal} (n : ℕ) (r : Translation) (share : List Clause) (lines : List Line) (after : List Clause) (q : SharesHeld r fixed share) → DerivesBy n share lines after → LinesLead n r q.forgotten share lines after
+pub lines-lead : {fixed : List Literal} (n : ℕ) (r : Translation) (share : List Clause) (lines : List Line) (after : List Clause)
+    (q : SharesHeld r fixed share) → DerivesBy n share lines after → LinesLead n r q.forgotten share lines after
 lines-lead n r share lines after q d =
     let f = carry r.identity in
     let ls = map (rename_line f) lines in
     let on = by_beside q.forgotten n (rename f share) ls (rename f after) (by_renamed f (carry-opposite r.identity) n share lines after d) in
-    let (H, by, s) = by_leads_same n (q.forgotten ++ rename f share) q.held (written ls) (q.forgotten ++ rename f after) (same_clauses-back q.held (q.forgotten ++ rename f share) q.same) (written_by n (q.forgotten ++ rename f share) ls (q.forgotten ++ rename f after) on) in
+    let (H, by, s) = by_leads_same n (q.forgotten ++ rename f share) q.held (written ls) (q.forgotten ++ rename f after)
+    (same_clauses-back q.held (q.forgotten ++ rename f share) q.same)
+    (written_by n (q.forgotten ++ rename f share) ls (q.forgotten ++ rename f after) on) in
     record {
       held = H;
       led = leads_append [] r.told q.held (written ls) H q.led (by_leads n q.held (written ls) H by);
@@ -157,44 +177,68 @@ with_told told r = record r { told = told }
 abbrev pub IsInUse : Translation → Literal → Type 0
 IsInUse r l = (i : ℕ) × (r.identity (variable_of l) ≡ Some i)
 
-module _ {fixed : List Literal} (r : Translation) (share : List Clause) (n : ℕ) (lines : List Line) (after : List Clause) (q : SharesHeld r fixed share) (d : DerivesBy n share lines after) where
+module _ {fixed : List Literal} (r : Translation) (share : List Clause) (n : ℕ) (lines : List Line) (after : List Clause)
+    (q : SharesHeld r fixed share) (d : DerivesBy n share lines after) where
   shares-fits : (more : List Literal) → fixed ⊆ more → SpeakOf (IsInUse r) lines → SharesHeld (with_told (r.told ++ told_lines r lines) r) more after
   shares-fits more stay speaks =
       let on = lines-lead n r share lines after q d in
-      shares-more stay (record { held = on.held; led = on.led; forgotten = q.forgotten; same = on.same; inside = over_after n (IsInUse r) share lines after d q.inside speaks; units = q.units; live = q.live; settled = q.settled })
+      shares-more stay (record {
+        held = on.held;
+        led = on.led;
+        forgotten = q.forgotten;
+        same = on.same;
+        inside =
+            over_after n (IsInUse r) share lines after d q.inside speaks;
+        units = q.units;
+        live = q.live;
+        settled = q.settled;
+      })
 
   told-conflict : Conflicts after [] → ToldConflict (r.told ++ told_lines r lines)
   told-conflict k =
       let on = lines-lead n r share lines after q d in
       let f = carry r.identity in
-      let all = q.forgotten ++ rename f after in
-      (on.held, on.led, conflicts_same all on.held [] (same_clauses-back on.held all on.same) (conflicts_more (rename f after) all [] [] (covered_by_more (rename f after) all (λ c h. ∈-append_right c q.forgotten (rename f after) h)) (λ l h. h) (conflicts_renamed f (carry-opposite r.identity) after [] k)))
+      let all = q.forgotten ++ rename f after in (
+        on.held,
+        on.led,
+        conflicts_same all on.held [] (same_clauses-back on.held all on.same)
+            (conflicts_more (rename f after) all [] [] (covered_by_more (rename f after) all (λ c h. ∈-append_right c q.forgotten (rename f after) h))
+            (λ l h. h) (conflicts_renamed f (carry-opposite r.identity) after [] k)),
+      )
 
   -- what a search shares after lines over variables in use
-  pub shares-after : (t : Search) (v : Outcome) → (v ≢ outcome.Unsat → fixed ⊆ t.fixed) → SpeakOf (IsInUse r) lines → ((core : List Literal) → v ≡ outcome.UnsatUnder core → ⊥) → Holds after t v → HeldFits (with_told (r.told ++ told_lines r lines) r) t.fixed after v
+  pub shares-after : (t : Search) (v : Outcome) → (v ≢ outcome.Unsat → fixed ⊆ t.fixed) → SpeakOf (IsInUse r) lines →
+      ((core : List Literal) → v ≡ outcome.UnsatUnder core → ⊥) → Holds after t v → HeldFits (with_told (r.told ++ told_lines r lines) r) t.fixed after v
   shares-after t outcome.Unknown stay speaks plain h = shares-fits t.fixed (stay (λ e. let z : outcome.Unknown ≡ outcome.Unsat = e in cc)) speaks
   shares-after t (outcome.Sat found) stay speaks plain h = shares-fits t.fixed (stay (λ e. let z : outcome.Sat found ≡ outcome.Unsat = e in cc)) speaks
   shares-after t outcome.Unsat stay speaks plain h = told-conflict h
   shares-after t (outcome.UnsatUnder core) stay speaks plain h = absurd (plain core refl)
 
 -- an accepted clause joins what is held
-pub shares-joined : {fixed : List Literal} (r : Translation) (share : List Clause) (c d : Clause) → map (carry r.identity) d ≡ c → ((l : Literal) → l ∈ d → (i : ℕ) × (r.identity (variable_of l) ≡ Some i)) → SharesHeld r fixed share → SharesHeld (with_told (r.told ++ Accepts c ∷ []) r) fixed (share ++ d ∷ [])
+pub shares-joined : {fixed : List Literal} (r : Translation) (share : List Clause) (c d : Clause) → map (carry r.identity) d ≡ c →
+    ((l : Literal) → l ∈ d → (i : ℕ) × (r.identity (variable_of l) ≡ Some i)) → SharesHeld r fixed share →
+    SharesHeld (with_told (r.told ++ Accepts c ∷ []) r) fixed (share ++ d ∷ [])
 shares-joined r share c d e in-use q =
     let f = carry r.identity in
-    let names : (q.forgotten ++ rename f share) ++ c ∷ [] ≡ q.forgotten ++ rename f (share ++ d ∷ []) = append_assoc q.forgotten (rename f share) (c ∷ []) ∙ ap (λ x. q.forgotten ++ (rename f share ++ x ∷ [])) (sym e) ∙ ap (λ x. q.forgotten ++ x) (sym (map-append (map f) share (d ∷ []))) in
+    let names : (q.forgotten ++ rename f share) ++ c ∷ [] ≡ q.forgotten ++ rename f (share ++ d ∷ []) =
+    append_assoc q.forgotten (rename f share) (c ∷ []) ∙ ap (λ x. q.forgotten ++ (rename f share ++ x ∷ [])) (sym e)
+    ∙ ap (λ x. q.forgotten ++ x) (sym (map-append (map f) share (d ∷ []))) in
     record {
       held = q.held ++ c ∷ [];
       led = leads_append [] r.told q.held (Accepts c ∷ []) (q.held ++ c ∷ []) q.led (q.held ++ c ∷ [], refl, refl);
       forgotten = q.forgotten;
       same = subst (SameClauses (q.held ++ c ∷ [])) names (same_add q.held (q.forgotten ++ rename f share) c c q.same (same_set-self c));
-      inside = λ x l h i. ⊎_elim (λ a. q.inside x l a i) (λ a. ⊎_elim (λ z. in-use l (subst (λ y. l ∈ y) z i)) (λ z. absurd z) a) (∈-append_cases x share (d ∷ []) h);
+      inside = λ x l h i. ⊎_elim (λ a. q.inside x l a i) (λ a. ⊎_elim (λ z. in-use l (subst (λ y. l ∈ y) z i)) (λ z. absurd z) a)
+          (∈-append_cases x share (d ∷ []) h);
       units = q.units;
       live = q.live;
       settled = q.settled;
     }
 
 -- A variable gets an identity, or loses it. What is held and mentions it is forgotten, over the names before.
-pub same-apart : {fixed : List Literal} (r r' : Translation) (v : ℕ) (share : List Clause) → ((u : ℕ) → (u ≡ v → ⊥) → r'.identity u ≡ r.identity u) → (q : SharesHeld r fixed share) → SameClauses q.held ((q.forgotten ++ rename (carry r.identity) (only v share)) ++ rename (carry r'.identity) (without v share))
+pub same-apart : {fixed : List Literal} (r r' : Translation) (v : ℕ) (share : List Clause) →
+    ((u : ℕ) → (u ≡ v → ⊥) → r'.identity u ≡ r.identity u) → (q : SharesHeld r fixed share) →
+    SameClauses q.held ((q.forgotten ++ rename (carry r.identity) (only v share)) ++ rename (carry r'.identity) (without v share))
 same-apart r r' v share other q =
     let f = carry r.identity in
     let g = carry r'.identity in
@@ -202,11 +246,15 @@ same-apart r r' v share other q =
     (renamed-apart v f g share q.forgotten (λ c l h i. carry-same r.identity r'.identity l (sym (other (variable_of l) (left-apart v share c l h i)))))
 
 -- what is left is over variables that are in use still
-pub inside-apart : {fixed : List Literal} (r r' : Translation) (v : ℕ) (share : List Clause) → ((u : ℕ) → (u ≡ v → ⊥) → r'.identity u ≡ r.identity u) → SharesHeld r fixed share → (c : Clause) (l : Literal) → c ∈ without v share → l ∈ c → (i : ℕ) × (r'.identity (variable_of l) ≡ Some i)
-inside-apart r r' v share other q c l h i = let (j, e) = q.inside c l (without_less v share c h) i in (j, other (variable_of l) (left-apart v share c l h i) ∙ e)
+pub inside-apart : {fixed : List Literal} (r r' : Translation) (v : ℕ) (share : List Clause) →
+    ((u : ℕ) → (u ≡ v → ⊥) → r'.identity u ≡ r.identity u) → SharesHeld r fixed share → (c : Clause) (l : Literal) → c ∈ without v share → l ∈ c →
+    (i : ℕ) × (r'.identity (variable_of l) ≡ Some i)
+inside-apart r r' v share other q c l h i = let (j, e) = q.inside c l (without_less v share c h) i in
+    (j, other (variable_of l) (left-apart v share c l h i) ∙ e)
 
 -- Each variable in use leads to a live identity. So the clauses over such variables are over live identities.
-pub carried-live : (r : Translation) (P : List Clause) → ((v i : ℕ) → r.identity v ≡ Some i → (x : ℕ) × (r.global i ≡ Some x)) → ((c : Clause) (l : Literal) → c ∈ P → l ∈ c → IsInUse r l) → AreLive r (rename (carry r.identity) P)
+pub carried-live : (r : Translation) (P : List Clause) → ((v i : ℕ) → r.identity v ≡ Some i → (x : ℕ) × (r.global i ≡ Some x)) →
+    ((c : Clause) (l : Literal) → c ∈ P → l ∈ c → IsInUse r l) → AreLive r (rename (carry r.identity) P)
 carried-live r P lives inside c l h i =
     let f = carry r.identity in
     let (d, b, o) = map-∈ (map f) c P h in
@@ -219,13 +267,16 @@ pub only-is : (v : ℕ) (P : List Clause) (c : Clause) → c ∈ only v P → (c
 only-is v [] c h = absurd h
 only-is v (d ∷ P) c h = go (mentions v d) refl h (only-is v P c)
   where
-    go : (b : Bool) → mentions v d ≡ b → c ∈ unless (not b) d (only v P) → (c ∈ only v P → (c ∈ P) × (mentions v c ≡ true)) → (c ∈ (d ∷ P)) × (mentions v c ≡ true)
+    go : (b : Bool) → mentions v d ≡ b → c ∈ unless (not b) d (only v P) → (c ∈ only v P → (c ∈ P) × (mentions v c ≡ true)) → (c ∈ (d ∷ P))
+        × (mentions v c ≡ true)
     go true q (inl e) f = (inl e, ap (mentions v) e ∙ q)
     go true q (inr i) f = let (a, b) = f i in (inr a, b)
     go false q i f = let (a, b) = f i in (inr a, b)
 
 -- what is forgotten then is over live identities
-pub live-apart : {fixed : List Literal} (r : Translation) (v : ℕ) (share : List Clause) → ((u i : ℕ) → r.identity u ≡ Some i → (x : ℕ) × (r.global i ≡ Some x)) → (q : SharesHeld r fixed share) → AreLive r (q.forgotten ++ rename (carry r.identity) (only v share))
+pub live-apart : {fixed : List Literal} (r : Translation) (v : ℕ) (share : List Clause) →
+    ((u i : ℕ) → r.identity u ≡ Some i → (x : ℕ) × (r.global i ≡ Some x)) → (q : SharesHeld r fixed share) →
+    AreLive r (q.forgotten ++ rename (carry r.identity) (only v share))
 live-apart r v share lives q c l h i =
     ⊎_elim
     (λ a. q.live c l a i)
@@ -233,7 +284,8 @@ live-apart r v share lives q c l h i =
     (∈-append_cases c q.forgotten (rename (carry r.identity) (only v share)) h)
 
 -- and so is all that is held
-pub held-live : {fixed : List Literal} (r : Translation) (share : List Clause) → ((v i : ℕ) → r.identity v ≡ Some i → (x : ℕ) × (r.global i ≡ Some x)) → (q : SharesHeld r fixed share) → AreLive r q.held
+pub held-live : {fixed : List Literal} (r : Translation) (share : List Clause) →
+    ((v i : ℕ) → r.identity v ≡ Some i → (x : ℕ) × (r.global i ≡ Some x)) → (q : SharesHeld r fixed share) → AreLive r q.held
 held-live r share lives q c l h i =
     let (d, j, t) = same_clauses_find q.held (q.forgotten ++ rename (carry r.identity) share) q.same c h in
     let m = t.1 l i in
@@ -242,11 +294,13 @@ held-live r share lives q c l h i =
     (λ a. carried-live r share lives q.inside d l a m)
     (∈-append_cases d q.forgotten (rename (carry r.identity) share) j)
 
-pub in-use-lives : (w : Carrying) (p : Spaces) (s : State) → Links w p s → (v i : ℕ) → chain p.global_from_solver w.identity v ≡ Some i → (x : ℕ) × (w.global i ≡ Some x)
+pub in-use-lives : (w : Carrying) (p : Spaces) (s : State) → Links w p s → (v i : ℕ) → chain p.global_from_solver w.identity v ≡ Some i → (x : ℕ)
+    × (w.global i ≡ Some x)
 in-use-lives w p s k v i e = let (x, f, g) = chain-through p.global_from_solver w.identity v i e in (x, k.identities.one_to_one.there x i g)
 
 -- a literal over a solver variable is of a counted identity
-pub counted-literal : (w : Carrying) (p : Spaces) (s : State) (k : Links w p s) (l : Literal) (i : ℕ) → (translation w p s.told).identity (variable_of l) ≡ Some i → IsCounted s.counted (carry (translation w p s.told).identity l)
+pub counted-literal : (w : Carrying) (p : Spaces) (s : State) (k : Links w p s) (l : Literal) (i : ℕ) →
+    (translation w p s.told).identity (variable_of l) ≡ Some i → IsCounted s.counted (carry (translation w p s.told).identity l)
 counted-literal w p s k l i e =
     let (x, f, g) = chain-through p.global_from_solver w.identity (variable_of l) i e in
     let (j, h, m) = k.solvers.live (variable_of l) x f in
@@ -255,13 +309,16 @@ counted-literal w p s k l i e =
     subst (λ v. v ∈ s.counted) (same ∙ sym (carry-at (translation w p s.told).identity l i e)) m
 
 -- What a solver's journal leads to is over live identities, unless it is known to be unsatisfiable.
-pub told-live : (w : Carrying) (p : Spaces) (s : State) → Links w p s → without_core p.outcome ≢ outcome.Unsat → (held : List Clause) × Leads [] s.told held × AreLive (translation w p s.told) held
+pub told-live : (w : Carrying) (p : Spaces) (s : State) → Links w p s → without_core p.outcome ≢ outcome.Unsat → (held : List Clause)
+    × Leads [] s.told held × AreLive (translation w p s.told) held
 told-live w p s k n = go (without_core p.outcome) n k.holds.told
   where
-    shares : SharesHeld (translation w p s.told) p.search.fixed k.holds.held → (held : List Clause) × Leads [] s.told held × AreLive (translation w p s.told) held
+    shares : SharesHeld (translation w p s.told) p.search.fixed k.holds.held → (held : List Clause) × Leads [] s.told held
+        × AreLive (translation w p s.told) held
     shares q = (q.held, q.led, held-live (translation w p s.told) k.holds.held (in-use-lives w p s k) q)
 
-    go : (v : Outcome) → v ≢ outcome.Unsat → HeldFits (translation w p s.told) p.search.fixed k.holds.held v → (held : List Clause) × Leads [] s.told held × AreLive (translation w p s.told) held
+    go : (v : Outcome) → v ≢ outcome.Unsat → HeldFits (translation w p s.told) p.search.fixed k.holds.held v → (held : List Clause)
+        × Leads [] s.told held × AreLive (translation w p s.told) held
     go outcome.Unknown n q = shares q
     go (outcome.Sat found) n q = shares q
     go outcome.Unsat n q = absurd (n refl)
@@ -270,9 +327,11 @@ told-live w p s k n = go (without_core p.outcome) n k.holds.told
 -- a clause that was forgotten comes back, behind all others
 pub taken-behind : (F A R : List Clause) (d : Clause) → TakesOut F d R → SameClauses (F ++ A) (R ++ (A ++ d ∷ []))
 taken-behind F A R d out =
-    let moved : SameClauses (d ∷ (R ++ A)) ((R ++ A) ++ d ∷ []) = (R ++ A, (R ++ A, d, [], refl, same_set-self d, sym (append-nil (R ++ A))), same_clauses-self (R ++ A)) in
+    let moved : SameClauses (d ∷ (R ++ A)) ((R ++ A) ++ d ∷ []) =
+    (R ++ A, (R ++ A, d, [], refl, same_set-self d, sym (append-nil (R ++ A))), same_clauses-self (R ++ A)) in
     subst (SameClauses (F ++ A)) (append_assoc R A (d ∷ []))
-    (same_clauses-through (F ++ A) (d ∷ (R ++ A)) ((R ++ A) ++ d ∷ []) (same-more F (d ∷ R) A (same_clauses-back (d ∷ R) F (R, out, same_clauses-self R))) moved)
+    (same_clauses-through (F ++ A) (d ∷ (R ++ A)) ((R ++ A) ++ d ∷ [])
+    (same-more F (d ∷ R) A (same_clauses-back (d ∷ R) F (R, out, same_clauses-self R))) moved)
 
 -- An entry is told that changes nothing of what is held.
 module _ (r : Translation) (e : Entry) (quiet : (held : List Clause) → Leads [] r.told held → Follow held e held) where
@@ -280,9 +339,20 @@ module _ (r : Translation) (e : Entry) (quiet : (held : List Clause) → Leads [
   led-on held d = leads_append [] r.told held (e ∷ []) held d (held, quiet held d, refl)
 
   shares-quiet : {fixed : List Literal} (share : List Clause) → SharesHeld r fixed share → SharesHeld (with_told (r.told ++ e ∷ []) r) fixed share
-  shares-quiet share q = record { held = q.held; led = led-on q.held q.led; forgotten = q.forgotten; same = q.same; inside = q.inside; units = q.units; live = q.live; settled = q.settled }
+  shares-quiet share q = record {
+    held = q.held;
+    led = led-on q.held q.led;
+    forgotten = q.forgotten;
+    same = q.same;
+    inside = q.inside;
+    units =
+        q.units;
+    live = q.live;
+    settled = q.settled;
+  }
 
-  pub told-quiet : (fixed : List Literal) (share : List Clause) (v : Outcome) → HeldFits r fixed share v → HeldFits (with_told (r.told ++ e ∷ []) r) fixed share v
+  pub told-quiet : (fixed : List Literal) (share : List Clause) (v : Outcome) → HeldFits r fixed share v →
+      HeldFits (with_told (r.told ++ e ∷ []) r) fixed share v
   told-quiet fixed share outcome.Unknown q = shares-quiet share q
   told-quiet fixed share (outcome.Sat found) q = shares-quiet share q
   told-quiet fixed share outcome.Unsat (held, d, c) = (held, led-on held d, c)
@@ -292,7 +362,8 @@ module _ (r : Translation) (e : Entry) (quiet : (held : List Clause) → Leads [
 
 not-mentioned : (v : ℕ) (P : List Clause) → ((c : Clause) (l : Literal) → c ∈ P → l ∈ c → variable_of l ≡ v → ⊥) → without v P ≡ P
 not-mentioned v [] n = refl
-not-mentioned v (c ∷ P) n = ap (λ b. unless b c (without v P)) (unmentioned v c (λ l i e. n c l (inl refl) i e)) ∙ ap (λ x. c ∷ x) (not-mentioned v P (λ d l h i e. n d l (inr h) i e))
+not-mentioned v (c ∷ P) n = ap (λ b. unless b c (without v P)) (unmentioned v c (λ l i e. n c l (inl refl) i e))
+    ∙ ap (λ x. c ∷ x) (not-mentioned v P (λ d l h i e. n d l (inr h) i e))
 
 still-there : (v : ℕ) (P : List Clause) (c : Clause) → c ∈ P → mentions v c ≡ false → c ∈ without v P
 still-there v [] c h e = absurd h
@@ -304,7 +375,9 @@ still-there v (d ∷ P) c (inr h) e = go (mentions v d) (still-there v P c h e)
     go false i = inr i
 
 -- No solver variable stands for the identity i, which is live no longer; solver variables stand for what they stood for.
-module _ (r r' : Translation) (i : ℕ) (none : (v : ℕ) → r.identity v ≡ Some i → ⊥) (same : (v : ℕ) → r'.identity v ≡ r.identity v) (forced : (j : ℕ) → r'.forced j ≡ r.forced j) (live : (j x : ℕ) → r'.global j ≡ Some x → (j ≡ i → ⊥) × (r.global j ≡ Some x)) (still : (j x : ℕ) → (j ≡ i → ⊥) → r.global j ≡ Some x → r'.global j ≡ Some x) where
+module _ (r r' : Translation) (i : ℕ) (none : (v : ℕ) → r.identity v ≡ Some i → ⊥) (same : (v : ℕ) → r'.identity v ≡ r.identity v)
+    (forced : (j : ℕ) → r'.forced j ≡ r.forced j) (live : (j x : ℕ) → r'.global j ≡ Some x → (j ≡ i → ⊥) × (r.global j ≡ Some x))
+    (still : (j x : ℕ) → (j ≡ i → ⊥) → r.global j ≡ Some x → r'.global j ≡ Some x) where
   shares-gone : {fixed : List Literal} (share : List Clause) → r'.told ≡ r.told ++ Leaves i ∷ [] → SharesHeld r fixed share → SharesHeld r' fixed share
   shares-gone share e q =
       let f = carry r.identity in
@@ -314,12 +387,16 @@ module _ (r r' : Translation) (i : ℕ) (none : (v : ℕ) → r.identity v ≡ S
       let (m, n, y) = map-∈ f l d (subst (λ x. l ∈ x) o a) in
       let (j, g) = q.inside d m b n in
       none (variable_of m) (g ∙ ap Some (sym (carry-at r.identity m j g) ∙ ap variable_of (sym y) ∙ z))) in
-      let left : SameClauses (without i q.held) (without i q.forgotten ++ R) = subst (SameClauses (without i q.held)) (without_append i q.forgotten R ∙ ap (λ x. without i q.forgotten ++ x) apart) (same_without i q.held (q.forgotten ++ R) q.same) in
+      let left : SameClauses (without i q.held) (without i q.forgotten ++ R) =
+      subst (SameClauses (without i q.held)) (without_append i q.forgotten R ∙ ap (λ x. without i q.forgotten ++ x) apart)
+      (same_without i q.held (q.forgotten ++ R) q.same) in
       record {
         held = without i q.held;
-        led = subst (λ es. Leads [] es (without i q.held)) (sym e) (leads_append [] r.told q.held (Leaves i ∷ []) (without i q.held) q.led (without i q.held, refl, refl));
+        led = subst (λ es. Leads [] es (without i q.held)) (sym e)
+            (leads_append [] r.told q.held (Leaves i ∷ []) (without i q.held) q.led (without i q.held, refl, refl));
         forgotten = without i q.forgotten;
-        same = subst (λ x. SameClauses (without i q.held) (without i q.forgotten ++ x)) (rename-same f (carry r'.identity) share (λ c l h a. sym (carry-same r'.identity r.identity l (same (variable_of l))))) left;
+        same = subst (λ x. SameClauses (without i q.held) (without i q.forgotten ++ x))
+            (rename-same f (carry r'.identity) share (λ c l h a. sym (carry-same r'.identity r.identity l (same (variable_of l))))) left;
         inside = λ c l h a. let (j, g) = q.inside c l h a in (j, same (variable_of l) ∙ g);
         units = λ j b x o l n.
             let (other, was) = live j x l in
@@ -329,7 +406,8 @@ module _ (r r' : Translation) (i : ℕ) (none : (v : ℕ) → r.identity v ≡ S
         settled = λ c h. settled-alike r r' _ same forced c (q.settled c (without_less i q.forgotten c h));
       }
 
-  pub told-gone : (fixed : List Literal) (share : List Clause) (v : Outcome) → v ≢ outcome.Unsat → r'.told ≡ r.told ++ Leaves i ∷ [] → HeldFits r fixed share v → HeldFits r' fixed share v
+  pub told-gone : (fixed : List Literal) (share : List Clause) (v : Outcome) → v ≢ outcome.Unsat → r'.told ≡ r.told ++ Leaves i ∷ [] →
+      HeldFits r fixed share v → HeldFits r' fixed share v
   told-gone fixed share outcome.Unknown n e q = shares-gone share e q
   told-gone fixed share (outcome.Sat found) n e q = shares-gone share e q
   told-gone fixed share outcome.Unsat n e q = absurd (n refl)

@@ -24,7 +24,8 @@ use Rattle.varisat.proofs.CallStates.{told-well}
 use Rattle.varisat.proofs.ReachedHeld.{told-gone}
 use Rattle.varisat.proofs.ToldEntries.{told-left}
 
-module _ (w : Carrying) (p : Spaces) (s : State) (x i : ℕ) (k : Links w p s) (at : w.identity x ≡ Some i) (unnamed : p.user_from_global x ≡ None) (unsolved : p.solver_from_global x ≡ None) (alone : (p.kept x).isolated ≡ true) where
+module _ (w : Carrying) (p : Spaces) (s : State) (x i : ℕ) (k : Links w p s) (at : w.identity x ≡ Some i) (unnamed : p.user_from_global x ≡ None)
+    (unsolved : p.solver_from_global x ≡ None) (alone : (p.kept x).isolated ≡ true) where
   id' : ℕ → Option ℕ
   id' = updated w.identity x None
 
@@ -49,8 +50,10 @@ module _ (w : Carrying) (p : Spaces) (s : State) (x i : ℕ) (k : Links w p s) (
   unfolding id' kept'
   left-identities = record {
     one_to_one = parted w.identity w.global x i k.identities.one_to_one at;
-    live = λ y j. updated-all (λ y o. o ≡ Some j → (kept' y).deleted ≡ false) w.identity x None (λ e. absurd cc) y (λ n h. ap (λ d. d.deleted) (kept-other y n) ∙ k.identities.live y j h);
-    deleted = λ y. updated-all (λ y o. o ≡ None → (kept' y).deleted ≡ true) w.identity x None (λ e. ap (λ d. d.deleted) (updated-at p.kept x dead)) y (λ n h. ap (λ d. d.deleted) (kept-other y n) ∙ k.identities.deleted y h);
+    live = λ y j. updated-all (λ y o. o ≡ Some j → (kept' y).deleted ≡ false) w.identity x None (λ e. absurd cc) y
+        (λ n h. ap (λ d. d.deleted) (kept-other y n) ∙ k.identities.live y j h);
+    deleted = λ y. updated-all (λ y o. o ≡ None → (kept' y).deleted ≡ true) w.identity x None
+        (λ e. ap (λ d. d.deleted) (updated-at p.kept x dead)) y (λ n h. ap (λ d. d.deleted) (kept-other y n) ∙ k.identities.deleted y h);
     below = λ y j. updated-all (λ y o. o ≡ Some j → j < s.naming.made) w.identity x None (λ e. absurd cc) y (λ n h. k.identities.below y j h);
   }
 
@@ -66,14 +69,16 @@ module _ (w : Carrying) (p : Spaces) (s : State) (x i : ℕ) (k : Links w p s) (
   left-modes : ModesFit id' p.global_from_user p.user_from_global kept' s.naming.modes
   unfolding id' kept'
   left-modes = record {
-    mode = λ v y j h e. let n = named-other v y h in subst (λ d. ModeFits d.sampling_mode (s.naming.modes j)) (sym (kept-other y n)) (k.modes.mode v y j h (sym (updated-other w.identity x None y n) ∙ e));
+    mode = λ v y j h e. let n = named-other v y h in subst (λ d. ModeFits d.sampling_mode (s.naming.modes j)) (sym (kept-other y n))
+        (k.modes.mode v y j h (sym (updated-other w.identity x None y n) ∙ e));
     unnamed = λ y. updated-all (λ y d. p.user_from_global y ≡ None → d.sampling_mode ≡ sampling.Hide) p.kept x dead (λ _. refl) y (λ n h. k.modes.unnamed y h);
   }
 
   left-units : UnitsFit id' w.forced kept' s.counted
   unfolding id' kept'
   left-units = record {
-    unit = λ y j. updated-all (λ y o. o ≡ Some j → w.forced j ≡ (kept' y).unit) w.identity x None (λ e. absurd cc) y (λ n h. k.units.unit y j h ∙ ap (λ d. d.unit) (sym (kept-other y n)));
+    unit = λ y j. updated-all (λ y o. o ≡ Some j → w.forced j ≡ (kept' y).unit) w.identity x None (λ e. absurd cc) y
+        (λ n h. k.units.unit y j h ∙ ap (λ d. d.unit) (sym (kept-other y n)));
     is_counted = k.units.is_counted;
   }
 
@@ -82,7 +87,8 @@ module _ (w : Carrying) (p : Spaces) (s : State) (x i : ℕ) (k : Links w p s) (
   left-isolation j h = go (k.isolation j h)
     where
       go : IsolationCase w.identity w.forced p.kept s.clauses j → IsolationCase id' w.forced kept' s.clauses j
-      go (NotIsolated y e o) = let n : y ≡ x → ⊥ = (λ q. let z : true ≡ false = sym alone ∙ ap (λ a. (p.kept a).isolated) (sym q) ∙ o in cc) in NotIsolated y (left y j e n) (ap (λ d. d.isolated) (kept-other y n) ∙ o)
+      go (NotIsolated y e o) = let n : y ≡ x → ⊥ = (λ q. let z : true ≡ false = sym alone ∙ ap (λ a. (p.kept a).isolated) (sym q) ∙ o in cc) in
+          NotIsolated y (left y j e n) (ap (λ d. d.isolated) (kept-other y n) ∙ o)
       go (Apart a) = Apart a
       go (Forced b e) = Forced b e
 
@@ -90,7 +96,8 @@ module _ (w : Carrying) (p : Spaces) (s : State) (x i : ℕ) (k : Links w p s) (
   unfolding kept'
   left-marks = record {
     marked = λ l y h e. ap (λ d. d.assumed) (kept-other y (named-other (variable_of l) y e)) ∙ k.marks.marked l y h e;
-    only = λ y. updated-all (λ y d. d.assumed ≡ true → (l : Literal) × (l ∈ p.assumptions) × (p.global_from_user (variable_of l) ≡ Some y)) p.kept x dead (λ e. absurd cc) y (λ n h. k.marks.only y h);
+    only = λ y. updated-all (λ y d. d.assumed ≡ true → (l : Literal) × (l ∈ p.assumptions) × (p.global_from_user (variable_of l) ≡ Some y)) p.kept x
+        dead (λ e. absurd cc) y (λ n h. k.marks.only y h);
   }
 
   identity-same : (v : ℕ) → chain p.global_from_solver id' v ≡ chain p.global_from_solver w.identity v
@@ -108,7 +115,8 @@ module _ (w : Carrying) (p : Spaces) (s : State) (x i : ℕ) (k : Links w p s) (
   was-hidden e = let z : true ≡ false = sym (k.shown e x unnamed) ∙ k.identities.live x i at in cc
 
   -- a literal of what is held is of the variable just where it is of the identity
-  same-left : without_core p.outcome ≢ outcome.Unsat → (held : List Clause) → Leads [] s.told held → (c : Clause) (l : Literal) → c ∈ held → l ∈ c → (variable_of (carry w.global l) ≡ x) ↔ (variable_of l ≡ i)
+  same-left : without_core p.outcome ≢ outcome.Unsat → (held : List Clause) → Leads [] s.told held → (c : Clause) (l : Literal) → c ∈ held → l ∈ c →
+      (variable_of (carry w.global l) ≡ x) ↔ (variable_of l ≡ i)
   same-left n held led c l h j =
       let (y, e) = all-live w p s k n held led c l h j in
       let there = carry-at w.global l y e in (
@@ -127,11 +135,18 @@ module _ (w : Carrying) (p : Spaces) (s : State) (x i : ℕ) (k : Links w p s) (
   )
 
   -- It is gone from each state, under no verdict that lets nothing more be told.
-  pub recycled : without_core p.outcome ≢ outcome.Unsat → (checker : Option CheckerState) → IsCheckedIf p.checker (Leaves x ∷ []) checker → SpacesFit (record (recycle x p) { checker = checker }) (retold (s.told ++ Leaves i ∷ []) s)
+  pub recycled : without_core p.outcome ≢ outcome.Unsat → (checker : Option CheckerState) → IsCheckedIf p.checker (Leaves x ∷ []) checker →
+      SpacesFit (record (recycle x p) { checker = checker }) (retold (s.told ++ Leaves i ∷ []) s)
   unfolding id' kept'
   recycled undecided checker gone =
       let before = translation w p s.told in
-      let after : Translation = record { identity = chain p.global_from_solver id'; global = updated w.global i None; forced = w.forced; told = s.told ++ Leaves i ∷ [] } in (
+      let after : Translation = record {
+        identity = chain p.global_from_solver id';
+        global = updated w.global i None;
+        forced = w.forced;
+        told =
+            s.told ++ Leaves i ∷ [];
+      } in (
         record { identity = id'; global = updated w.global i None; forced = w.forced },
         record {
           identities = left-identities;
@@ -141,15 +156,23 @@ module _ (w : Carrying) (p : Spaces) (s : State) (x i : ℕ) (k : Links w p s) (
           globals = k.globals;
           units = left-units;
           isolation = left-isolation;
-          solvers = record { one_to_one = k.solvers.one_to_one; live = λ v y h. let (j, e, c) = k.solvers.live v y h in (j, left y j e (solver-other v y h), c) };
+          solvers = record {
+            one_to_one = k.solvers.one_to_one;
+            live = λ v y h. let (j, e, c) = k.solvers.live v y h in
+                (j, left y j e (solver-other v y h), c);
+          };
           holds = holds-same s.clauses before after p.search (without_core p.outcome) identity-same (λ j. refl)
-              (λ share q. told-gone before after i none-for identity-same (λ j. refl) (λ j y. updated-all (λ j o. o ≡ Some y → (j ≡ i → ⊥) × (w.global j ≡ Some y)) w.global i None (λ e. absurd cc) j (λ n e. (n, e))) (λ j y n e. updated-other w.global i None j n ∙ e) p.search.fixed share (without_core p.outcome) undecided refl q)
+              (λ share q. told-gone before after i none-for identity-same (λ j. refl)
+              (λ j y. updated-all (λ j o. o ≡ Some y → (j ≡ i → ⊥) × (w.global j ≡ Some y)) w.global i None (λ e. absurd cc) j (λ n e. (n, e)))
+              (λ j y n e. updated-other w.global i None j n ∙ e) p.search.fixed share (without_core p.outcome) undecided refl q)
               k.holds;
           assumptions = k.assumptions;
           marks = left-marks;
-          working = working-same s.clauses (chain p.global_from_solver w.identity) (chain p.global_from_solver id') s.assumptions p.working (λ l h. identity-same (variable_of l)) k.working;
+          working = working-same s.clauses (chain p.global_from_solver w.identity) (chain p.global_from_solver id') s.assumptions p.working
+              (λ l h. identity-same (variable_of l)) k.working;
           verdict = verdict-moved w.identity id' p.model (updated p.model x false) p.outcome s.verdict
-              (λ a e f y j. updated-all (λ y o. o ≡ Some j → a j ≡ updated p.model x false y) w.identity x None (λ q. absurd cc) y (λ n h. f y j h ∙ sym (updated-other p.model x false y n)))
+              (λ a e f y j. updated-all (λ y o. o ≡ Some j → a j ≡ updated p.model x false y) w.identity x None (λ q. absurd cc) y
+              (λ n h. f y j h ∙ sym (updated-other p.model x false y n)))
               k.verdict;
           core = k.core;
           right = k.right;
@@ -157,7 +180,8 @@ module _ (w : Carrying) (p : Spaces) (s : State) (x i : ℕ) (k : Links w p s) (
           few = k.few;
           shown = λ e y. updated-all (λ y d. p.user_from_global y ≡ None → d.deleted ≡ true) p.kept x dead (λ _. refl) y (λ n h. k.shown e y h);
           plain = λ e. absurd (was-hidden e);
-          checked = λ n. checker-without w.global (updated w.global i None) s.told i x p.checker checker (same-left n) (λ j o. sym (updated-other w.global i None j o)) gone (k.checked n);
+          checked = λ n. checker-without w.global (updated w.global i None) s.told i x p.checker checker (same-left n)
+              (λ j o. sym (updated-other w.global i None j o)) gone (k.checked n);
           told = told-left s.told s.clauses s.counted s.ever_hidden i was-hidden gone-too k.told;
         },
       )

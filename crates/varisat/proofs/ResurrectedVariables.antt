@@ -34,7 +34,11 @@ unit-of : (j i : ℕ) (b : Bool) (c : Clause) (m : Literal) → IsUnit (literal_
 unit-of j i b c m u s e =
     sym (variable-literal j b) ∙ ap variable_of (⊎_elim (λ q. q) (λ z. absurd z) (s.0 (literal_of j b) u.0)) ∙ e
 
-module _ (w : Carrying) (p : Spaces) (s : State) (x i v : ℕ) (b : Bool) (t : Search) (k : Links w p s) (is : w.identity x ≡ Some i) (spoken : i ∈ s.counted) (unsolved : p.solver_from_global x ≡ None) (free : p.global_from_solver v ≡ None) (unit : (p.kept x).unit ≡ Some b) (unknown : without_core p.outcome ≡ outcome.Unknown) (long : AreLong t) (in-use : (l : Literal) → IsLiteralOf t l → (y : ℕ) × (updated p.global_from_solver v (Some x) (variable_of l) ≡ Some y)) (loads : Loads p.search t (literal_of v b ∷ []) outcome.Unknown []) where
+module _ (w : Carrying) (p : Spaces) (s : State) (x i v : ℕ) (b : Bool) (t : Search) (k : Links w p s) (is : w.identity x ≡ Some i)
+    (spoken : i ∈ s.counted) (unsolved : p.solver_from_global x ≡ None) (free : p.global_from_solver v ≡ None) (unit : (p.kept x).unit ≡ Some b)
+    (unknown : without_core p.outcome ≡ outcome.Unknown) (long : AreLong t)
+    (in-use : (l : Literal) → IsLiteralOf t l → (y : ℕ) × (updated p.global_from_solver v (Some x) (variable_of l) ≡ Some y))
+    (loads : Loads p.search t (literal_of v b ∷ []) outcome.Unknown []) where
   h : SearchHolds s.clauses (translation w p s.told) p.search outcome.Unknown
   h = subst (SearchHolds s.clauses (translation w p s.told) p.search) unknown k.holds
 
@@ -51,7 +55,8 @@ module _ (w : Carrying) (p : Spaces) (s : State) (x i v : ℕ) (b : Bool) (t : S
       (carry-sign (chain (updated p.global_from_solver v (Some x)) w.identity) (literal_of v b) ∙ polarity-literal v b ∙ sym (polarity-literal i b))
 
   covers : outcome.Unknown ≢ outcome.Unsat → (Q : List Clause) → Covers Q p.search → Covers Q t
-  covers n Q g c j = answers-covers (Q ++ (literal_of v b ∷ []) ∷ []) t outcome.Unknown n (loads.answers Q g) c (∈-append_left c Q ((literal_of v b ∷ []) ∷ []) j)
+  covers n Q g c j = answers-covers (Q ++ (literal_of v b ∷ []) ∷ []) t outcome.Unknown n (loads.answers Q g) c
+      (∈-append_left c Q ((literal_of v b ∷ []) ∷ []) j)
 
   -- the unit is fixed
   now-fixed : literal_of v b ∈ t.fixed
@@ -66,7 +71,8 @@ module _ (w : Carrying) (p : Spaces) (s : State) (x i v : ℕ) (b : Bool) (t : S
       cc
 
   -- The unit clause comes back from what was forgotten.
-  back : SharesHeld (translation w p s.told) p.search.fixed h.held → SharesHeld (translation w (take_solver x v p) s.told) t.fixed (without v h.held ++ (literal_of v b ∷ []) ∷ [])
+  back : SharesHeld (translation w p s.told) p.search.fixed h.held →
+      SharesHeld (translation w (take_solver x v p) s.told) t.fixed (without v h.held ++ (literal_of v b ∷ []) ∷ [])
   back q =
       let f = carry (chain p.global_from_solver w.identity) in
       let g = carry (chain (updated p.global_from_solver v (Some x)) w.identity) in
@@ -81,17 +87,26 @@ module _ (w : Carrying) (p : Spaces) (s : State) (x i v : ℕ) (b : Bool) (t : S
         held = q.held;
         led = q.led;
         forgotten = R;
-        same = subst (λ y. SameClauses q.held (R ++ y)) (sym (map-append (map g) (without v h.held) ((literal_of v b ∷ []) ∷ []))) (same_clauses-through q.held ((q.forgotten ++ old) ++ A) (R ++ (A ++ d ∷ [])) apart (taken-behind (q.forgotten ++ old) A R d out));
+        same = subst (λ y. SameClauses q.held (R ++ y)) (sym (map-append (map g) (without v h.held) ((literal_of v b ∷ []) ∷ [])))
+            (same_clauses-through q.held ((q.forgotten ++ old) ++ A) (R ++ (A ++ d ∷ [])) apart (taken-behind (q.forgotten ++ old) A R d out));
         inside = λ y l h' j. ⊎_elim
-            (λ a. inside-apart (translation w p s.told) (translation w (take_solver x v p) s.told) v h.held (to-other w p s x i v k is spoken unsolved free) q y l a j)
-            (λ a. ⊎_elim (λ e. ⊎_elim (λ o. (i, subst (λ z. chain (updated p.global_from_solver v (Some x)) w.identity (variable_of z) ≡ Some i) (sym o) at-v)) (λ z. absurd z) (subst (λ z. l ∈ z) e j)) (λ z. absurd z) a)
+            (λ a. inside-apart (translation w p s.told) (translation w (take_solver x v p) s.told) v h.held
+            (to-other w p s x i v k is spoken unsolved free) q y l a j)
+            (λ a. ⊎_elim (λ e. ⊎_elim (λ o.
+            (i, subst (λ z. chain (updated p.global_from_solver v (Some x)) w.identity (variable_of z) ≡ Some i) (sym o) at-v)) (λ z. absurd z)
+            (subst (λ z. l ∈ z) e j)) (λ z. absurd z) a)
             (∈-append_cases y (without v h.held) ((literal_of v b ∷ []) ∷ []) h');
         units = λ j y z e l n.
             let (c', m', u') = q.units j y z e l (λ z a. n z (stays w p s x i v k is spoken unsolved free z j a)) in
-            let stays-there = left-in (q.forgotten ++ old) d R c' out (∈-append_left c' q.forgotten old m') in
-            (c', ⊎_elim (λ a. a) (λ a. let same = unit-of j i y c' (g (literal_of v b)) u' a (ap variable_of carried ∙ variable-literal i b) in absurd (n v (to-new w p s x i v k is spoken unsolved free ∙ ap Some (sym same)))) stays-there, u');
+            let stays-there = left-in (q.forgotten ++ old) d R c' out (∈-append_left c' q.forgotten old m') in (
+              c',
+              ⊎_elim (λ a. a) (λ a. let same = unit-of j i y c' (g (literal_of v b)) u' a (ap variable_of carried ∙ variable-literal i b) in
+                  absurd (n v (to-new w p s x i v k is spoken unsolved free ∙ ap Some (sym same)))) stays-there,
+              u',
+            );
         live = λ y l a j. live-apart (translation w p s.told) v h.held (in-use-lives w p s k) q y l (taken_less (q.forgotten ++ old) d R out y a) j;
-        settled = λ y a. settled-more (translation w (take_solver x v p) s.told) p.search.fixed t.fixed (fixed-on s.clauses (translation w p s.told) p.search t outcome.Unknown h long covers (λ e. let z : outcome.Unknown ≡ outcome.Unsat = e in cc))
+        settled = λ y a. settled-more (translation w (take_solver x v p) s.told) p.search.fixed t.fixed
+            (fixed-on s.clauses (translation w p s.told) p.search t outcome.Unknown h long covers (λ e. let z : outcome.Unknown ≡ outcome.Unsat = e in cc))
             y
             (settled-on w p s x i v k is spoken unsolved free h.held h.holds q.forgotten q.settled y (taken_less (q.forgotten ++ old) d R out y a));
       }
@@ -101,7 +116,8 @@ module _ (w : Carrying) (p : Spaces) (s : State) (x i v : ℕ) (b : Bool) (t : S
   begun = without v h.held ++ (literal_of v b ∷ []) ∷ []
 
   now : (l : Literal) → IsLiteralOf t l → (j : ℕ) × (chain (updated p.global_from_solver v (Some x)) w.identity (variable_of l) ≡ Some j)
-  now l a = let (y, e) = in-use l a in let z = lives y (variable_of l) e in (z.0, chain-some (updated p.global_from_solver v (Some x)) w.identity (variable_of l) y e ∙ z.1)
+  now l a = let (y, e) = in-use l a in let z = lives y (variable_of l) e in
+      (z.0, chain-some (updated p.global_from_solver v (Some x)) w.identity (variable_of l) y e ∙ z.1)
     where
       lives : (y u : ℕ) → updated p.global_from_solver v (Some x) u ≡ Some y → (j : ℕ) × (w.identity y ≡ Some j)
       lives y u = updated-all (λ u o. o ≡ Some y → (j : ℕ) × (w.identity y ≡ Some j)) p.global_from_solver v (Some x)
@@ -117,22 +133,36 @@ module _ (w : Carrying) (p : Spaces) (s : State) (x i v : ℕ) (b : Bool) (t : S
         holds = o;
         within = now;
         implied = λ a a' m g. subst (SatisfiesAll a') d
-            (satisfies_more a' (without v h.held) (literal_of v b ∷ []) (λ c e. h.implied a a' m (λ u j y. g u j (stays w p s x i v k is spoken unsolved free u j y)) c (without_less v h.held c e))
-            (literal_of v b, inl refl, value-true a' (literal_of v b) (g (variable_of (literal_of v b)) i at-v ∙ h.known a m i b forced ∙ sym (polarity-literal v b))));
+            (satisfies_more a' (without v h.held) (literal_of v b ∷ [])
+            (λ c e. h.implied a a' m (λ u j y. g u j (stays w p s x i v k is spoken unsolved free u j y)) c (without_less v h.held c e)) (
+              literal_of v b,
+              inl refl,
+              value-true a' (literal_of v b)
+                  (g (variable_of (literal_of v b)) i at-v ∙ h.known a m i b forced ∙ sym (polarity-literal v b)),
+            ));
         known = h.known;
         fixed = λ n l j e f. ⊎_elim
             (λ q.
-            let y : Some j ≡ Some i = sym e ∙ ap (chain (updated p.global_from_solver v (Some x)) w.identity) q ∙ to-new w p s x i v k is spoken unsolved free in
+            let y : Some j ≡ Some i = sym e ∙ ap (chain (updated p.global_from_solver v (Some x)) w.identity) q
+            ∙ to-new w p s x i v k is spoken unsolved free in
             let z : Some b ≡ Some (polarity_of l) = sym forced ∙ ap w.forced (let o : i ≡ j = cc in o) ∙ f in
-            subst (λ m. m ∈ t.fixed) (same-literal (literal_of v b) l (variable-literal v b ∙ sym q) (polarity-literal v b ∙ (let o : b ≡ polarity_of l = cc in o))) now-fixed)
-            (λ q. fixed-on s.clauses (translation w p s.told) p.search t outcome.Unknown h long covers n l (h.fixed n l j (sym (to-other w p s x i v k is spoken unsolved free (variable_of l) q) ∙ e) f))
+            subst (λ m. m ∈ t.fixed) (same-literal (literal_of v b) l (variable-literal v b ∙ sym q)
+            (polarity-literal v b ∙ (let o : b ≡ polarity_of l = cc in o))) now-fixed)
+            (λ q. fixed-on s.clauses (translation w p s.told) p.search t outcome.Unknown h long covers n l
+            (h.fixed n l j (sym (to-other w p s x i v k is spoken unsolved free (variable_of l) q) ∙ e) f))
             (equal_or_not (variable_of l) v);
         covered = λ n c a.
-            still_covered t (carry (chain (updated p.global_from_solver v (Some x)) w.identity)) (is_forced w.forced) (carry-opposite (chain (updated p.global_from_solver v (Some x)) w.identity)) p.search
-            (λ d g. covers n (d ∷ []) (λ x. elim [ inl e ↦ subst (λ y. IsSettled p.search y ⊎ ((k : KeptClause) × (k ∈ p.search.kept) × (k.learned ≡ false) × (k.clause ⊆ y))) (sym e) g | inr z ↦ absurd z ]) d (inl refl))
+            still_covered t (carry (chain (updated p.global_from_solver v (Some x)) w.identity)) (is_forced w.forced)
+            (carry-opposite (chain (updated p.global_from_solver v (Some x)) w.identity)) p.search
+            (λ d g. covers n (d ∷ []) (λ x. elim [
+              | inl e ↦ subst (λ y. IsSettled p.search y ⊎ ((k : KeptClause) × (k ∈ p.search.kept) × (k.learned ≡ false) × (k.clause ⊆ y)))
+                  (sym e) g
+              | inr z ↦ absurd z
+            ]) d (inl refl))
             c (in-both w p s x i v k is spoken unsolved free c (h.covered n c a));
         told = subst (SharesHeld (translation w (take_solver x v p) s.told) t.fixed) d (back h.told);
       }
 
   pub resurrected : Links w (record (take_solver x v p) { search = t }) s
-  resurrected = taken-with w p s x i v k is spoken unsolved free t (subst (SearchHolds s.clauses (translation w (take_solver x v p) s.told) t) (sym unknown) holds-on)
+  resurrected = taken-with w p s x i v k is spoken unsolved free t
+      (subst (SearchHolds s.clauses (translation w (take_solver x v p) s.told) t) (sym unknown) holds-on)

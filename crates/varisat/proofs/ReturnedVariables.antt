@@ -52,7 +52,8 @@ no-model s core verdict.Unsat n a e = cc
 no-model s core verdict.UnsatUnderAssumptions n a e = cc
 
 -- whether the clauses are known to be unsatisfiable
-unsat-or : (s : View) (core : List Literal) (sat : SatState) → sat ≢ verdict.Sat → (sat ≡ verdict.Unsat) × (outcome_of s core sat ≡ outcome.Unsat) ⊎ ((sat ≢ verdict.Unsat) × (without_core (outcome_of s core sat) ≡ outcome.Unknown))
+unsat-or : (s : View) (core : List Literal) (sat : SatState) → sat ≢ verdict.Sat → (sat ≡ verdict.Unsat) × (outcome_of s core sat ≡ outcome.Unsat)
+    ⊎ ((sat ≢ verdict.Unsat) × (without_core (outcome_of s core sat) ≡ outcome.Unknown))
 unsat-or s core verdict.Unknown n = inr (λ e. cc, refl)
 unsat-or s core verdict.Sat n = absurd (n refl)
 unsat-or s core verdict.Unsat n = inl (refl, refl)
@@ -77,7 +78,8 @@ module _ (g : Summary) (s : State) (new : Tables) (x v : ℕ) (b : Bool) (t : Vi
         right = k.right;
         few = ⊎_elim
             (λ same. let n = k.few in omega (arith, n, r.count, r.count_before, same))
-            (λ full. let n = solvers-few w moved s (length new.solvers.backward) k (λ u h e. full u h (r.is_taken.solvers.backward.at_each u ∙ e)) in omega (arith, n, r.count))
+            (λ full. let n = solvers-few w moved s (length new.solvers.backward) k
+            (λ u h e. full u h (r.is_taken.solvers.backward.at_each u ∙ e)) in omega (arith, n, r.count))
             (taken-full g.tables new x v r.is_taken);
         told = k.told;
         checked = k.checked;
@@ -101,7 +103,8 @@ module _ (g : Summary) (s : State) (new : Tables) (x v : ℕ) (b : Bool) (t : Vi
     working = ap (λ (a : AssumptionParts). a.working) r.parts_stay;
     search = refl;
     checker = refl;
-    outcome = ap (λ (a : AssumptionParts). outcome_of t a.failed_core g.sat_state) r.parts_stay ∙ outcome-alike g.search t g.assumed.failed_core g.sat_state (no-model g.search g.assumed.failed_core g.sat_state r.no_model);
+    outcome = ap (λ (a : AssumptionParts). outcome_of t a.failed_core g.sat_state) r.parts_stay
+        ∙ outcome-alike g.search t g.assumed.failed_core g.sat_state (no-model g.search g.assumed.failed_core g.sat_state r.no_model);
     var_count = refl;
   })
 
@@ -114,7 +117,8 @@ module _ (g : Summary) (s : State) (new : Tables) (x v : ℕ) (b : Bool) (t : Vi
       told (
         w,
         counted-on w (⊎_elim
-            (λ (a, e). subst (λ y. Links w (record (take_solver x v (spaces g)) { search = y }) s) (sym (r.unsat a)) (taken w (spaces g) s x i v k is known r.was_left r.is_taken.least.0 (inr e)))
+            (λ (a, e). subst (λ y. Links w (record (take_solver x v (spaces g)) { search = y }) s) (sym (r.unsat a))
+            (taken w (spaces g) s x i v k is known r.was_left r.is_taken.least.0 (inr e)))
             (λ (a, e). resurrected w (spaces g) s x i v b (search_of t) k is known r.was_left r.is_taken.least.0 r.unit e r.long
             (λ l h. let (y, q) = r.in_use l h in (y, sym (r.is_taken.solvers.backward.at_each (variable_of l)) ∙ q))
             (r.loads a))
@@ -125,7 +129,28 @@ module _ (g : Summary) (s : State) (new : Tables) (x v : ℕ) (b : Bool) (t : Vi
 
 -- the verdict makes no difference
 pub kept-verdict : {A : Type 0} (m : Tables) (c d : Context A) → d ≡ record c { solver_state = d.solver_state } → IsKept m c → IsKept m d
-kept-verdict m c d e k = subst (IsKept m) (sym e) (record { bounded = k.bounded; ready = record { well = k.ready.well; settled = k.ready.settled; propagated = k.ready.propagated; tracks = k.ready.tracks; analysis = k.ready.analysis; flags = k.ready.flags; decidable = k.ready.decidable; assumed = k.ready.assumed; assumable = k.ready.assumable }; count = k.count; decidable = k.decidable; assumed = k.assumed; marked = k.marked; working = k.working })
+kept-verdict m c d e k = subst (IsKept m) (sym e)
+    (record {
+      bounded = k.bounded;
+      ready =
+          record {
+            well = k.ready.well;
+            settled = k.ready.settled;
+            propagated = k.ready.propagated;
+            tracks = k.ready.tracks;
+            analysis =
+                k.ready.analysis;
+            flags = k.ready.flags;
+            decidable = k.ready.decidable;
+            assumed = k.ready.assumed;
+            assumable = k.ready.assumable;
+          };
+      count = k.count;
+      decidable = k.decidable;
+      assumed = k.assumed;
+      marked = k.marked;
+      working = k.working;
+    })
 
 -- 3. A verdict that is taken back.
 
@@ -142,19 +167,23 @@ reopened-same verdict.Unsat n = refl
 reopened-same verdict.UnsatUnderAssumptions n = refl
 
 -- where there is no model the verdict stays as a clause is loaded
-pub state-back : (a b : SolverState) → a.sat_state ≢ verdict.Sat → (b ≡ a) ⊎ (b ≡ record a { sat_state = reopened_state a.sat_state; formula_is_empty = false }) → b ≡ record a { formula_is_empty = b.formula_is_empty }
+pub state-back : (a b : SolverState) → a.sat_state ≢ verdict.Sat → (b ≡ a)
+    ⊎ (b ≡ record a { sat_state = reopened_state a.sat_state; formula_is_empty = false }) → b ≡ record a { formula_is_empty = b.formula_is_empty }
 state-back a b n (inl e) = e ∙ ap (λ f. record a { formula_is_empty = f }) (sym (ap (λ (x : SolverState). x.formula_is_empty) e))
 state-back a b n (inr e) =
-    e ∙ ap (λ y. record a { sat_state = y; formula_is_empty = false }) (reopened-same a.sat_state n) ∙ ap (λ f. record a { formula_is_empty = f }) (sym (ap (λ (x : SolverState). x.formula_is_empty) e))
+    e ∙ ap (λ y. record a { sat_state = y; formula_is_empty = false }) (reopened-same a.sat_state n)
+    ∙ ap (λ f. record a { formula_is_empty = f }) (sym (ap (λ (x : SolverState). x.formula_is_empty) e))
 
 pub parts-back : (a b : AssumptionParts) → (b ≡ a) ⊎ (b ≡ record a { levels = 0 }) → b ≡ record a { levels = b.levels }
 parts-back a b (inl e) = e ∙ ap (λ n. record a { levels = n }) (sym (ap (λ (x : AssumptionParts). x.levels) e))
 parts-back a b (inr e) = e ∙ ap (λ n. record a { levels = n }) (sym (ap (λ (x : AssumptionParts). x.levels) e))
 
-pub reopened-spaces : (g : Summary) (s : State) → SpacesFit (spaces g) s → SpacesFit (spaces (record g { sat_state = reopened_state g.sat_state })) (with_verdict (reopened_verdict s.verdict) s)
+pub reopened-spaces : (g : Summary) (s : State) → SpacesFit (spaces g) s →
+    SpacesFit (spaces (record g { sat_state = reopened_state g.sat_state })) (with_verdict (reopened_verdict s.verdict) s)
 reopened-spaces g s (w, k) = (w, go g.sat_state s.verdict k)
   where
-    go : (sat : SatState) (v : Verdict) → Links w (spaces (record g { sat_state = sat })) (with_verdict v s) → Links w (spaces (record g { sat_state = reopened_state sat })) (with_verdict (reopened_verdict v) s)
+    go : (sat : SatState) (v : Verdict) → Links w (spaces (record g { sat_state = sat })) (with_verdict v s) →
+        Links w (spaces (record g { sat_state = reopened_state sat })) (with_verdict (reopened_verdict v) s)
     go verdict.Unknown Unknown k = k
     go verdict.Sat (Sat a) k = forgotten w (spaces (record g { sat_state = verdict.Sat })) (with_verdict (Sat a) s) k (λ e. let z : Sat a ≡ Unsat = e in cc)
     go verdict.Unsat Unsat k = k

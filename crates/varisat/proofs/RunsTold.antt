@@ -73,7 +73,8 @@ add-clause : (s t : State) (d : Clause) (r : Result (Unit {0}) SolverError) → 
 add-clause s t d (Ok u) (v, state.Ignored n e) w = tells-anew s t e w
 add-clause s t d (Ok u) (v, state.Accepted n lim (x, after, e)) w =
     let c = map (through_names (name_all d s.naming)) d in
-    tells-plainly s t v (ap (λ (x : Ledger). x.steps) e.ledger) (tells-through 0 0 s.told (s.told ++ Accepts c ∷ []) t.told (tells 0 s.told (Accepts c ∷ []) (accepts-goes s.told c)) e.told)
+    tells-plainly s t v (ap (λ (x : Ledger). x.steps) e.ledger)
+    (tells-through 0 0 s.told (s.told ++ Accepts c ∷ []) t.told (tells 0 s.told (Accepts c ∷ []) (accepts-goes s.told c)) e.told)
 add-clause s t d (Err OutOfMemory) a w = absurd (no-way s t a.2 w)
 add-clause s t d (Err ClauseStoreFull) a w = absurd (no-way s t a.2 w)
 add-clause s t d (Err (ProofIoError cause)) a w = absurd (no-way s t a.3 w)
@@ -100,9 +101,11 @@ tell-fault s t x r (Fault y n m e k) w = tells-same s t k w
 
 add-reading : (s t : State) (R : Reading) (r : Result (Unit {0}) SolverError) → additions.AddsReading state.adding s R r t → state.IsValid t → TellsOn s t
 add-reading s t R r (ClauseRefused e k a) w = add-all s t R.clauses (Err e) a w
-add-reading s t R r (ClausesAdded mid a f) w = let second = tell-fault mid t R.fault r f w in through s mid t (add-all s mid R.clauses (Ok tt) a second.valid) second
+add-reading s t R r (ClausesAdded mid a f) w = let second = tell-fault mid t R.fault r f w in
+    through s mid t (add-all s mid R.clauses (Ok tt) a second.valid) second
 
-add-given : (s t : State) (old new : Stand) (g : Gave old new) (r : Result (Unit {0}) SolverError) → additions.AddsGiven state.adding g s r t → state.IsValid t → TellsOn s t
+add-given : (s t : State) (old new : Stand) (g : Gave old new) (r : Result (Unit {0}) SolverError) → additions.AddsGiven state.adding g s r t →
+    state.IsValid t → TellsOn s t
 add-given s t old new g r (RefusedEarly ended from e k a n) w = add-all s t ended (Err e) a w
 add-given s t old new g r (FaultInText R from x a n) w = add-reading s t R r a w
 add-given s t old new g r (Whole end a n) w = add-reading s t _ r a w
@@ -122,7 +125,9 @@ make-var s t (Err Invalid) a w = tells-same s t a.1 w
 make-var s t (Err VariableLimit) a w = tells-same s t a.2 w
 make-var s t (Err e) a w = absurd a
 
-changes-var : (may_leave : Bool) (f : Naming → Naming) (b : Bool → Bool) (s t : State) (u : ℕ) (r : Result (Unit {0}) SolverError) → usage.ChangesVar variables.named may_leave (λ x. record x { naming = f x.naming; ever_hidden = b x.ever_hidden; ledger = record x.ledger { since = 0 } }) s u r t → state.IsValid t → TellsOn s t
+changes-var : (may_leave : Bool) (f : Naming → Naming) (b : Bool → Bool) (s t : State) (u : ℕ) (r : Result (Unit {0}) SolverError) →
+    usage.ChangesVar variables.named may_leave
+    (λ x. record x { naming = f x.naming; ever_hidden = b x.ever_hidden; ledger = record x.ledger { since = 0 } }) s u r t → state.IsValid t → TellsOn s t
 changes-var may_leave f b s t u (Ok x) (v, small, free, e) w = tells-plainly s t v (ap (λ (x : Ledger). x.steps) e.ledger) e.told
 changes-var may_leave f b s t u (Err Invalid) a w = tells-same s t a.1 w
 changes-var may_leave f b s t u (Err VariableLimit) a w = tells-same s t a.2 w
@@ -139,7 +144,8 @@ observe s t (Err e) a w = absurd a
 assume-list : (s t : State) (list : List Literal) (r : Result (Unit {0}) SolverError) → state.Assumes s list r t → state.IsValid t → TellsOn s t
 assume-list s t list (Ok u) (v, o, lim, e) w =
     let l = map (through_names (name_all list s.naming)) list in
-    tells-plainly s t v (ap (λ (x : Ledger). x.steps) e.ledger) (tells-through 0 0 s.told (s.told ++ Assumes l ∷ []) t.told (tells 0 s.told (Assumes l ∷ []) (assumes-goes s.told l)) e.told)
+    tells-plainly s t v (ap (λ (x : Ledger). x.steps) e.ledger)
+    (tells-through 0 0 s.told (s.told ++ Assumes l ∷ []) t.told (tells 0 s.told (Assumes l ∷ []) (assumes-goes s.told l)) e.told)
 assume-list s t list (Err OutOfMemory) a w = absurd (no-way s t a.2 w)
 assume-list s t list (Err Invalid) a w = tells-same s t a.1 w
 assume-list s t list (Err ProofOpen) a w = tells-same s t a.2 w
@@ -177,14 +183,17 @@ tell-core s t (Ok m) a w = tells-same s t a.1 w
 tell-core s t (Err e) a w = tells-same s t a.2 w
 
 config : (s t : State) (u : SolverConfigUpdate) (r : Result (Unit {0}) SolverError) → state.Configures s u r t → state.IsValid t → TellsOn s t
-config s t u (Ok x) (v, n, e) w = tells-plainly s t v (ap (λ (x : State). x.ledger.steps) e) (subst (λ (x : State). TellsMore 0 s.told x.told) (sym e) (tells-nothing s.told))
+config s t u (Ok x) (v, n, e) w = tells-plainly s t v (ap (λ (x : State). x.ledger.steps) e)
+    (subst (λ (x : State). TellsMore 0 s.told x.told) (sym e) (tells-nothing s.told))
 config s t u (Err Invalid) a w = tells-same s t a.1 w
 config s t u (Err (ConfigOutOfRange field)) a w = tells-same s t a.2 w
 config s t u (Err e) a w = absurd a
 
 -- a proof opens, and nothing is told
-open-proof : {W : Type 0} (taken : W → Taken) (target : W) (format : ProofFormat) (s t : State) (r : Result (Unit {0}) (SolverError × W)) → OpensProof taken target format s r t → state.IsValid t → TellsOn s t
-open-proof taken target format s t (Ok x) (v, n, b, e) w = tells-plainly s t v (ap (λ (x : State). x.ledger.steps) e) (subst (λ (x : State). TellsMore 0 s.told x.told) (sym e) (tells-nothing s.told))
+open-proof : {W : Type 0} (taken : W → Taken) (target : W) (format : ProofFormat) (s t : State) (r : Result (Unit {0}) (SolverError × W)) →
+    OpensProof taken target format s r t → state.IsValid t → TellsOn s t
+open-proof taken target format s t (Ok x) (v, n, b, e) w = tells-plainly s t v (ap (λ (x : State). x.ledger.steps) e)
+    (subst (λ (x : State). TellsMore 0 s.told x.told) (sym e) (tells-nothing s.told))
 open-proof taken target format s t (Err (Invalid, back)) (h, (v, e)) w = tells-same s t e w
 open-proof taken target format s t (Err (ProofOpen, back)) a w = tells-same s t a.3 w
 open-proof taken target format s t (Err (ProofTooLate, back)) a w = tells-same s t a.4 w
@@ -192,13 +201,15 @@ open-proof taken target format s t (Err e) a w = absurd a
 
 -- a proof closes, and nothing is told
 close : {W : Type 0} (taken : W → Taken) (s t : State) (r : Result (Option W) (SolverError × W)) → ClosesProof taken s r t → state.IsValid t → TellsOn s t
-close taken s t (Ok back) (h, e) w = tells-plainly s t (subst state.IsValid e w) (ap (λ (x : State). x.ledger.steps) e) (subst (λ (x : State). TellsMore 0 s.told x.told) (sym e) (tells-nothing s.told))
+close taken s t (Ok back) (h, e) w = tells-plainly s t (subst state.IsValid e w) (ap (λ (x : State). x.ledger.steps) e)
+    (subst (λ (x : State). TellsMore 0 s.told x.told) (sym e) (tells-nothing s.told))
 close taken s t (Err (ProofIoError cause, target)) (closed, has, b) w = absurd (no-way s t b w)
 close taken s t (Err e) a w = absurd a
 
 -- 4. Runs.
 
-call-tells : {W S A : Type 0} (seen : S → Stand) (taken : W → Taken) (c : Call W S A) (a : Answer W S A) (s t : State) → MakesCall seen taken s c a t → state.IsValid t → TellsOn s t
+call-tells : {W S A : Type 0} (seen : S → Stand) (taken : W → Taken) (c : Call W S A) (a : Answer W S A) (s t : State) →
+    MakesCall seen taken s c a t → state.IsValid t → TellsOn s t
 call-tells seen taken (call.AddClause d) (answer.AddClause r) s t m w = add-clause s t d.items r m w
 call-tells seen taken (call.AddFormula f) (answer.AddFormula r) s t m w = add-formula s t f.clauses r m w
 call-tells seen taken (call.AddDimacsCnf source) (answer.AddDimacsCnf r back) s t m w = add-text s t (seen source) (seen back) r m w
@@ -219,7 +230,8 @@ call-tells seen taken (call.WriteProof target format) (answer.WriteProof r) s t 
 call-tells seen taken call.CloseProof (answer.CloseProof r) s t m w = close taken s t r m w
 call-tells seen taken _ _ s t m w = absurd m
 
-pub run-tells : {W S A : Type 0} (seen : S → Stand) (taken : W → Taken) (calls : List (Call W S A)) (answers : List (Answer W S A)) (s t : State) → Run seen taken s calls answers t → state.IsValid t → TellsOn s t
+pub run-tells : {W S A : Type 0} (seen : S → Stand) (taken : W → Taken) (calls : List (Call W S A)) (answers : List (Answer W S A)) (s t : State) →
+    Run seen taken s calls answers t → state.IsValid t → TellsOn s t
 run-tells seen taken [] [] s t r w = tells-same s t r w
 run-tells seen taken [] (a ∷ answers) s t r w = absurd r
 run-tells seen taken (c ∷ calls) [] s t r w = absurd r
@@ -228,7 +240,8 @@ run-tells seen taken (c ∷ calls) (a ∷ answers) s t (mid, m, r) w =
     through s mid t (call-tells seen taken c a s mid m second.valid) second
 
 -- from the beginning: as many count at most as steps were made in all
-pub run-counts : {W S A : Type 0} (seen : S → Stand) (taken : W → Taken) (calls : List (Call W S A)) (answers : List (Answer W S A)) (t : State) → Run seen taken empty_state calls answers t → state.IsValid t → (held : List Clause) × LeadsBy t.ledger.steps [] t.told held
+pub run-counts : {W S A : Type 0} (seen : S → Stand) (taken : W → Taken) (calls : List (Call W S A)) (answers : List (Answer W S A)) (t : State) →
+    Run seen taken empty_state calls answers t → state.IsValid t → (held : List Clause) × LeadsBy t.ledger.steps [] t.told held
 run-counts seen taken calls answers t r w =
     let all = run-tells seen taken calls answers empty_state t r w in
     let (held, led) = all.told.goes [] refl in

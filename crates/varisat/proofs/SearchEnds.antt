@@ -125,7 +125,8 @@ stood-before g s v st =
         ledger = st.ledger;
         fits = λ v. let (w, k) = st.fits v in (w, proof-free w (spaces g) s before k);
         proof = λ _. f;
-        flags = λ v. flags-alike s (with_proof before s) (st.flags v) refl refl refl refl (λ o. open-fitted g.opened s.ever_hidden s.told before s.proof f (st.proof v) o);
+        flags = λ v. flags-alike s (with_proof before s) (st.flags v) refl refl refl refl
+            (λ o. open-fitted g.opened s.ever_hidden s.told before s.proof f (st.proof v) o);
       },
     )
 
@@ -151,7 +152,8 @@ pub solve-fails : (g h : Summary) (s t : State) (r : Result Bool SolverError) (e
     g.ledger.valid ≡ true → EndsSearch g (Err e) h → (u : State) × Solves s (Err e) u × StandsFor h u
 solve-fails g h s t r (ProofIoError cause) k st v (o, e) = (
   broken t,
-  ends-badly s t r cause k (stands-valid g t st v) (open-there g.opened t.ever_hidden t.told t.proof true (st.proof v) (sym (flushed-open g.opened h.opened cause o)) refl) (st.fits v).1.well_formed,
+  ends-badly s t r cause k (stands-valid g t st v)
+      (open-there g.opened t.ever_hidden t.told t.proof true (st.proof v) (sym (flushed-open g.opened h.opened cause o)) refl) (st.fits v).1.well_formed,
   stands-broken g h t e st,
 )
 solve-fails g h s t r e k st v f = absurd f

@@ -21,7 +21,8 @@ use Rattle.varisat.proofs.Carried.{carry-opposite}
 use Rattle.varisat.proofs.ReachedHeld.{told_lines, with_told, IsInUse, lines-lead, shares-after}
 
 -- a literal that is covered alone is fixed
-pub fixed-alone : (t : Search) (l : Literal) → AreLong t → IsSettled t (l ∷ []) ⊎ ((k : KeptClause) × (k ∈ t.kept) × (k.learned ≡ false) × (k.clause ⊆ (l ∷ []))) → l ∈ t.fixed
+pub fixed-alone : (t : Search) (l : Literal) → AreLong t → IsSettled t (l ∷ [])
+    ⊎ ((k : KeptClause) × (k ∈ t.kept) × (k.learned ≡ false) × (k.clause ⊆ (l ∷ []))) → l ∈ t.fixed
 fixed-alone t l long h =
     ⊎_elim
     (λ a. ⊎_elim
@@ -45,18 +46,26 @@ answers-covers P t (outcome.UnsatUnder core) n a = a
 pub agrees-through : (f : ℕ → Option ℕ) (a : Assignment) → AgreesAlong f a (λ v. a (identity_of (f v)))
 agrees-through f a v i e = ap (λ o. a (identity_of o)) e
 
-module _ (P : List Clause) (r : Translation) (s t : Search) (v : Outcome) (h : SearchHolds P r s outcome.Unknown) (long : AreLong t) (covers : v ≢ outcome.Unsat → (Q : List Clause) → Covers Q s → Covers Q t) where
+module _ (P : List Clause) (r : Translation) (s t : Search) (v : Outcome) (h : SearchHolds P r s outcome.Unknown) (long : AreLong t)
+    (covers : v ≢ outcome.Unsat → (Q : List Clause) → Covers Q s → Covers Q t) where
   pub fixed-on : v ≢ outcome.Unsat → (l : Literal) → l ∈ s.fixed → l ∈ t.fixed
-  fixed-on n l i = fixed-alone t l long (covers n ((l ∷ []) ∷ []) (λ c. elim [ inl e ↦ inl (inr (l, subst (λ x. l ∈ x) (sym e) (inl refl), i)) | inr z ↦ absurd z ]) (l ∷ []) (inl refl))
+  fixed-on n l i = fixed-alone t l long
+      (covers n ((l ∷ []) ∷ []) (λ c. elim [ inl e ↦ inl (inr (l, subst (λ x. l ∈ x) (sym e) (inl refl), i)) | inr z ↦ absurd z ]) (l ∷ []) (inl refl))
 
   pub covered-on : v ≢ outcome.Unsat → CoversBy (carry r.identity) (is_forced r.forced) P t
   covered-on n c i =
       still_covered t (carry r.identity) (is_forced r.forced) (carry-opposite r.identity) s
-      (λ d g. covers n (d ∷ []) (λ x. elim [ inl e ↦ subst (λ y. IsSettled s y ⊎ ((k : KeptClause) × (k ∈ s.kept) × (k.learned ≡ false) × (k.clause ⊆ y))) (sym e) g | inr z ↦ absurd z ]) d (inl refl))
+      (λ d g. covers n (d ∷ []) (λ x. elim [
+        | inl e ↦ subst (λ y. IsSettled s y ⊎ ((k : KeptClause) × (k ∈ s.kept) × (k.learned ≡ false) × (k.clause ⊆ y)))
+            (sym e) g
+        | inr z ↦ absurd z
+      ]) d (inl refl))
       c (h.covered (λ e. let q : outcome.Unknown ≡ outcome.Unsat = e in cc) c i)
 
   -- the clauses that a proof holds after some lines, which it was told
-  pub held-on : (n : ℕ) (lines : List Line) (after : List Clause) → DerivesBy n h.held lines after → Holds after t v → SpeakOf (IsLiteralOf s) lines → ((core : List Literal) → v ≡ outcome.UnsatUnder core → ⊥) → ((l : Literal) → IsLiteralOf t l → (i : ℕ) × (r.identity (variable_of l) ≡ Some i)) → SearchHolds P (with_told (r.told ++ told_lines r lines) r) t v
+  pub held-on : (n : ℕ) (lines : List Line) (after : List Clause) → DerivesBy n h.held lines after → Holds after t v →
+      SpeakOf (IsLiteralOf s) lines → ((core : List Literal) → v ≡ outcome.UnsatUnder core → ⊥) →
+      ((l : Literal) → IsLiteralOf t l → (i : ℕ) × (r.identity (variable_of l) ≡ Some i)) → SearchHolds P (with_told (r.told ++ told_lines r lines) r) t v
   held-on n lines after d holds speaks plain within =
       record {
         held = after;
@@ -73,16 +82,39 @@ module _ (P : List Clause) (r : Translation) (s t : Search) (v : Outcome) (h : S
   held-goes n lines after d = (lines-lead n r h.held lines after h.told d).goes
 
 -- A model that was found says nothing of what is held.
-pub without-model : (P : List Clause) (r : Translation) (t : Search) (found : Assignment) → SearchHolds P r t (outcome.Sat found) → SearchHolds P r t outcome.Unknown
+pub without-model : (P : List Clause) (r : Translation) (t : Search) (found : Assignment) → SearchHolds P r t (outcome.Sat found) →
+    SearchHolds P r t outcome.Unknown
 without-model P r t found h =
     let o : outcome.Sat found ≢ outcome.Unsat = (λ q. let z : outcome.Sat found ≡ outcome.Unsat = q in cc) in
-    record { held = h.held; holds = h.holds; within = h.within; implied = h.implied; known = h.known; fixed = λ _. h.fixed o; covered = λ _. h.covered o; told = h.told }
+    record {
+      held = h.held;
+      holds = h.holds;
+      within = h.within;
+      implied = h.implied;
+      known = h.known;
+      fixed = λ _. h.fixed o;
+      covered =
+          λ _. h.covered o;
+      told = h.told;
+    }
 
-pub with-model : (P : List Clause) (r : Translation) (t : Search) (found : Assignment) → SearchHolds P r t outcome.Unknown → SearchHolds P r t (outcome.Sat found)
+pub with-model : (P : List Clause) (r : Translation) (t : Search) (found : Assignment) → SearchHolds P r t outcome.Unknown →
+    SearchHolds P r t (outcome.Sat found)
 with-model P r t found h =
     let o : outcome.Unknown ≢ outcome.Unsat = (λ q. let z : outcome.Unknown ≡ outcome.Unsat = q in cc) in
-    record { held = h.held; holds = h.holds; within = h.within; implied = h.implied; known = h.known; fixed = λ _. h.fixed o; covered = λ _. h.covered o; told = h.told }
+    record {
+      held = h.held;
+      holds = h.holds;
+      within = h.within;
+      implied = h.implied;
+      known = h.known;
+      fixed = λ _. h.fixed o;
+      covered =
+          λ _. h.covered o;
+      told = h.told;
+    }
 
 -- under Unsat no assignment satisfies the accepted clauses
 pub refuted : (P : List Clause) (r : Translation) (t : Search) → SearchHolds P r t outcome.Unsat → IsSatisfiable P → ⊥
-refuted P r t h (a, m) = conflicts_sound h.held [] (λ v. a (identity_of (r.identity v))) (h.implied a (λ v. a (identity_of (r.identity v))) m (agrees-through r.identity a)) (λ l i. absurd i) h.holds
+refuted P r t h (a, m) = conflicts_sound h.held [] (λ v. a (identity_of (r.identity v)))
+    (h.implied a (λ v. a (identity_of (r.identity v))) m (agrees-through r.identity a)) (λ l i. absurd i) h.holds

@@ -34,7 +34,8 @@ pub record SearchLinks (w : Carrying) (p : Spaces) (s : State) : Type 0 where
   pub told : IsTold s.told s.clauses s.counted s.ever_hidden (IsGone w s)
   pub checked : without_core p.outcome ≢ outcome.Unsat → CheckerFits w.global s.told p.checker
 
-pub relinked : (w : Carrying) (p q : Spaces) (s t : State) → Links w p s → SearchLinks w (with_search_side q p) (told_as t s) → Links w (with_search_side q p) (told_as t s)
+pub relinked : (w : Carrying) (p q : Spaces) (s t : State) → Links w p s → SearchLinks w (with_search_side q p) (told_as t s) →
+    Links w (with_search_side q p) (told_as t s)
 relinked w p q s t k l = record {
   identities = k.identities;
   names = k.names;
@@ -74,11 +75,14 @@ abbrev pub asked_as : State → State → State
 asked_as t s = record s { clauses = t.clauses; assumptions = t.assumptions; verdict = t.verdict; told = t.told }
 
 -- Marks changed too, and what the state was asked: what was said of the names and the units stays.
-pub relinked-marks : (w : Carrying) (p q : Spaces) (s t : State) → Links w p s → AreRemarked p.kept q.kept → IsolationFits w.identity w.forced q.kept t.clauses s.naming.made → MarksFit p.global_from_user q.kept q.assumptions → IsWellFormed (asked_as t s) → SearchLinks w (with_marks q p) (asked_as t s) → Links w (with_marks q p) (asked_as t s)
+pub relinked-marks : (w : Carrying) (p q : Spaces) (s t : State) → Links w p s → AreRemarked p.kept q.kept →
+    IsolationFits w.identity w.forced q.kept t.clauses s.naming.made → MarksFit p.global_from_user q.kept q.assumptions →
+    IsWellFormed (asked_as t s) → SearchLinks w (with_marks q p) (asked_as t s) → Links w (with_marks q p) (asked_as t s)
 relinked-marks w p q s t k a isolation marks well l = record {
   identities = identities-same w.identity w.global p.kept q.kept s.naming.made a.deleted k.identities;
   names = k.names;
-  modes = modes-same w.identity p.global_from_user p.user_from_global p.global_from_user p.user_from_global p.kept q.kept s.naming.modes (λ u. refl) (λ x. refl) a.sampling_mode k.modes;
+  modes = modes-same w.identity p.global_from_user p.user_from_global p.global_from_user p.user_from_global p.kept q.kept s.naming.modes (λ u. refl)
+      (λ x. refl) a.sampling_mode k.modes;
   watermark = k.watermark;
   globals = k.globals;
   units = units-same w.identity w.forced p.kept q.kept s.counted a.unit k.units;

@@ -26,7 +26,8 @@ use Rattle.varisat.specs.Summaries.{IsKept}
 use Rattle.varisat.proofs.VariablesInUse.{same-in-use}
 
 -- a core over names makes no difference to the search
-pub ready-named : {A : Type 0} (c : Context A) (core : List Literal) → IsReady c → IsReady (record c { assumptions = record c.assumptions { user_core = core } })
+pub ready-named : {A : Type 0} (c : Context A) (core : List Literal) → IsReady c →
+    IsReady (record c { assumptions = record c.assumptions { user_core = core } })
 ready-named c core r =
     let parts : AssumptionParts = record c.assumptions { user_core = core } in
     ready-with c (record c { assumptions = parts }) r refl refl refl r.propagated r.decidable
@@ -37,7 +38,8 @@ ready-named c core r =
 pub ready-counted : {A : Type 0} (c : Context A) (plan : Plan) → IsReady c → IsReady (record c { schedule = plan })
 ready-counted c plan r = ready-with c (record c { schedule = plan }) r refl refl refl r.propagated r.decidable r.assumed r.assumable
 
-module _ {A : Type 0} (p q : TracerState) (x y : Context A) {are : List Line → Type 0} (m : MakesStep (λ lines. are lines × TakesStep TakesGlobally p lines (outcome_at y) q) x y) (fixes : FixesByLearning x y) where
+module _ {A : Type 0} (p q : TracerState) (x y : Context A) {are : List Line → Type 0}
+    (m : MakesStep (λ lines. are lines × TakesStep TakesGlobally p lines (outcome_at y) q) x y) (fixes : FixesByLearning x y) where
   -- where no core was found the step says it all
   pub named-plainly : (y.solver_state.sat_state ≡ verdict.UnsatUnderAssumptions → ⊥) → MakesNamedStep p q x y
   named-plainly plain =
@@ -58,26 +60,33 @@ module _ {A : Type 0} (p q : TracerState) (x y : Context A) {are : List Line →
       }
 
   -- a core that was found is kept over names
-  pub named-also : (z : Context A) → z ≡ record y { assumptions = record y.assumptions { user_core = z.assumptions.user_core } } → z.assumptions.user_core ≡ map (carry (chain (at q.tables.solvers.backward) (at q.tables.users.backward))) y.assumptions.failed_core → MakesNamedStep p q x z
+  pub named-also : (z : Context A) → z ≡ record y { assumptions = record y.assumptions { user_core = z.assumptions.user_core } } →
+      z.assumptions.user_core ≡ map (carry (chain (at q.tables.solvers.backward) (at q.tables.users.backward))) y.assumptions.failed_core →
+      MakesNamedStep p q x z
   named-also z same named =
       let (lines, steps, (i, takes)) = m.steps in
       record {
         ready = subst (λ (c : Context A). IsReady c) (sym same) (ready-named y z.assumptions.user_core m.ready);
         count = ap (λ (c : Context A). length c.assignment.current) same ∙ m.count;
         decidable = subst (λ (c : Context A). SameDecidable (view x) x.vsids (view c) c.vsids) (sym same) m.decidable;
-        state = ap (λ (c : Context A). c.solver_state) same ∙ m.state ∙ ap (λ (v : SatState). record x.solver_state { sat_state = v }) (sym (ap (λ (c : Context A). c.solver_state.sat_state) same));
+        state = ap (λ (c : Context A). c.solver_state) same ∙ m.state
+            ∙ ap (λ (v : SatState). record x.solver_state { sat_state = v }) (sym (ap (λ (c : Context A). c.solver_state.sat_state) same));
         rises = λ u. subst (λ (c : Context A). RaisesRank x c) (sym same) (m.rises (sym (ap (λ (c : Context A). c.solver_state.sat_state) same) ∙ u));
         fixes = subst (λ (c : Context A). FixesByLearning x c) (sym same) (record { keeps = fixes.keeps; refutes = fixes.refutes });
         tables = takes.tables;
         parts = y.assumptions;
-        steps = subst (λ (c : Context A). (ls : List Line) × Steps (search_of (view x)) (search_of (view c)) (outcome_of (view c) y.assumptions.failed_core c.solver_state.sat_state) ls × TakesStep TakesGlobally p ls (outcome_of (view c) y.assumptions.failed_core c.solver_state.sat_state) q) (sym same) (lines, steps, takes);
-        assumes = subst (λ (c : Context A). KeepsAssumptions (search_of (view x)) (outcome_of (view c) y.assumptions.failed_core c.solver_state.sat_state) x.assumptions y.assumptions) (sym same) m.assumes;
+        steps = subst (λ (c : Context A). (ls : List Line) × Steps (search_of (view x)) (search_of (view c))
+            (outcome_of (view c) y.assumptions.failed_core c.solver_state.sat_state) ls
+            × TakesStep TakesGlobally p ls (outcome_of (view c) y.assumptions.failed_core c.solver_state.sat_state) q) (sym same) (lines, steps, takes);
+        assumes = subst (λ (c : Context A). KeepsAssumptions (search_of (view x))
+            (outcome_of (view c) y.assumptions.failed_core c.solver_state.sat_state) x.assumptions y.assumptions) (sym same) m.assumes;
         rest = ap (λ (c : Context A). c.assumptions) same;
         core = λ _. named ∙ ap (λ (t : Tables). map (carry (chain (at t.solvers.backward) (at t.users.backward))) y.assumptions.failed_core) takes.tables;
       }
 
 -- and where the schedule is another
-pub named-counted : {A : Type 0} (p q : TracerState) (x y : Context A) (plan : Plan) → MakesNamedStep p q x y → MakesNamedStep p q x (record y { schedule = plan })
+pub named-counted : {A : Type 0} (p q : TracerState) (x y : Context A) (plan : Plan) → MakesNamedStep p q x y →
+    MakesNamedStep p q x (record y { schedule = plan })
 named-counted p q x y plan f = record {
   ready = ready-counted y plan f.ready;
   count = f.count;
@@ -109,7 +118,8 @@ pub kept-named : {A : Type 0} (p q : TracerState) (x y : Context A) → IsKept p
 kept-named p q x y k f = subst (λ (t : Tables). IsKept t y) (sym f.tables) (kept-still p q x y k f)
 
 -- so it does where the search went on with the same assumptions
-pub kept-on : {A : Type 0} (t : Tables) (x y : Context A) → IsKept t x → IsReady y → length y.assignment.current ≡ length x.assignment.current → SameDecidable (view x) x.vsids (view y) y.vsids → y.assumptions ≡ x.assumptions → IsKept t y
+pub kept-on : {A : Type 0} (t : Tables) (x y : Context A) → IsKept t x → IsReady y → length y.assignment.current ≡ length x.assignment.current →
+    SameDecidable (view x) x.vsids (view y) y.vsids → y.assumptions ≡ x.assumptions → IsKept t y
 kept-on t x y k ready count decidable same = record {
   bounded = k.bounded;
   ready = ready;

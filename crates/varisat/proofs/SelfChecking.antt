@@ -19,7 +19,8 @@ abbrev pub Checks : ProofParts → ProofParts → Type 0
 Checks p q = (q ≡ record p { checker = Some (record { clauses = []; spent = false }) }) ⊎ (q ≡ p)
 
 -- so it is, by whether a checker runs, and one does afterwards
-pub begun-or-on : (p q : ProofParts) → (p.checker ≡ None → q ≡ record p { checker = Some (record { clauses = []; spent = false }) }) → (is_some p.checker ≡ true → q ≡ p) → Checks p q × IsSome q.checker
+pub begun-or-on : (p q : ProofParts) → (p.checker ≡ None → q ≡ record p { checker = Some (record { clauses = []; spent = false }) }) →
+    (is_some p.checker ≡ true → q ≡ p) → Checks p q × IsSome q.checker
 begun-or-on p q begun stays = go p.checker refl
   where
     go : (o : Option CheckerState) → p.checker ≡ o → Checks p q × IsSome q.checker
@@ -36,15 +37,20 @@ tells-checking p q (inl e) t = subst CanTell (sym e) (record { room = t.room; us
 tells-checking p q (inr e) t = subst CanTell (sym e) t
 
 -- What the solver holds stands for the same states.
-pub spaces-checking : {A : Type 0} (tables : Tables) (p q : ProofParts) (x : Context A) (s : State) → Checks p q → s.clauses ≡ [] → s.counted ≡ [] → SpacesFit (spaces_with tables p.checker x) s → SpacesFit (spaces_with tables q.checker x) s
+pub spaces-checking : {A : Type 0} (tables : Tables) (p q : ProofParts) (x : Context A) (s : State) → Checks p q → s.clauses ≡ [] → s.counted ≡ [] →
+    SpacesFit (spaces_with tables p.checker x) s → SpacesFit (spaces_with tables q.checker x) s
 spaces-checking tables p q x s (inl e) none few (w, k) =
     (w, subst (λ (r : ProofParts). Links w (spaces_with tables r.checker x) s) (sym e) (checking-begins w (spaces_with tables p.checker x) s k none few))
 spaces-checking tables p q x s (inr e) none few fit = subst (λ (r : ProofParts). SpacesFit (spaces_with tables r.checker x) s) (sym e) fit
 
-pub some-checking : {A : Type 0} (tables : Tables) (p q : ProofParts) (x : Context A) (started : Bool) → Checks p q → started ≡ false → StandsForSome (spaces_with tables p.checker x) started → StandsForSome (spaces_with tables q.checker x) started
+pub some-checking : {A : Type 0} (tables : Tables) (p q : ProofParts) (x : Context A) (started : Bool) → Checks p q → started ≡ false →
+    StandsForSome (spaces_with tables p.checker x) started → StandsForSome (spaces_with tables q.checker x) started
 some-checking tables p q x started e fresh (s, fit, f) = let (none, few) = f fresh in (s, spaces-checking tables p q x s e none few fit, f)
 
-pub stands-checking : {A : Type 0} (tables : Tables) (p q : ProofParts) (started : Bool) (changed_at anew : ℕ) (x : Context A) (s : State) → anew ≡ x.schedule.steps → Checks p q → s.ledger.started ≡ false → StandsFor (summary_of (record { tables = tables; proof = p }) started changed_at x) s → StandsFor (summary_of (record { tables = tables; proof = q }) started anew x) (count_anew s)
+pub stands-checking : {A : Type 0} (tables : Tables) (p q : ProofParts) (started : Bool) (changed_at anew : ℕ) (x : Context A) (s : State) →
+    anew ≡ x.schedule.steps → Checks p q → s.ledger.started ≡ false →
+    StandsFor (summary_of (record { tables = tables; proof = p }) started changed_at x) s →
+    StandsFor (summary_of (record { tables = tables; proof = q }) started anew x) (count_anew s)
 stands-checking tables p q started changed_at anew x s n e fresh st =
     let t = stands-anew (record { tables = tables; proof = p }) started changed_at anew x s n st in
     record {

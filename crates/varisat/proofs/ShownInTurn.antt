@@ -17,7 +17,9 @@ abbrev pub HaveShown : List ℕ → Summary → State → Type 0
 HaveShown us g s = (m : Naming) × AreShown us s.naming m × SpacesFit (spaces g) (with_naming m s)
 
 -- Once each live variable has a name, all that must be shown is.
-pub all-shown : (us : List ℕ) (g : Summary) (s : State) → HaveShown us g s → ((u : ℕ) → u ∈ us → u < variable_limit) → ((x : ℕ) → at g.tables.users.backward x ≡ None → (kept_at g.tables.kept x).deleted ≡ true) → (m : Naming) × AreAllShown us s.clauses s.naming m × SpacesFit (spaces g) (with_naming m s)
+pub all-shown : (us : List ℕ) (g : Summary) (s : State) → HaveShown us g s → ((u : ℕ) → u ∈ us → u < variable_limit) →
+    ((x : ℕ) → at g.tables.users.backward x ≡ None → (kept_at g.tables.kept x).deleted ≡ true) → (m : Naming) × AreAllShown us s.clauses s.naming m
+    × SpacesFit (spaces g) (with_naming m s)
 all-shown us g s (m, turns, f) in-range named =
     let (w, k) = f in
     (m, record { in_turn = turns; in_range = in-range; rest = λ i h n. may-stay w (spaces g) (with_naming m s) k named i h n }, f)

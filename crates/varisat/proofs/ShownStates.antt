@@ -23,14 +23,16 @@ show-well u i s b o f = record {
       u'
       (λ n h. updated-all (λ v a. a ≡ Some j → u' ≡ v) s.naming.names u (Some i) (λ e. absurd (o u' (h ∙ sym e))) v (λ m g. f.one_to_one u' v j h g));
   free = λ v h. updated-other s.naming.names u (Some i) v (λ e. absurd (omega arith)) ∙ f.free v (omega arith);
-  named = λ v j. updated-all (λ v a. a ≡ Some j → j < s.naming.made) s.naming.names u (Some i) (λ e. let q : i ≡ j = cc in omega (arith, b, q)) v (λ n h. f.named v j h);
+  named = λ v j. updated-all (λ v a. a ≡ Some j → j < s.naming.made) s.naming.names u (Some i) (λ e. let q : i ≡ j = cc in omega (arith, b, q)) v
+      (λ n h. f.named v j h);
   accepted = f.accepted;
   assumed = f.assumed;
   counted = f.counted;
   once = f.once;
 }
 
-module _ (w : Carrying) (p : Spaces) (s : State) (u x i : ℕ) (k : Links w p s) (free : p.global_from_user u ≡ None) (at : w.identity x ≡ Some i) (unnamed : p.user_from_global x ≡ None) where
+module _ (w : Carrying) (p : Spaces) (s : State) (u x i : ℕ) (k : Links w p s) (free : p.global_from_user u ≡ None) (at : w.identity x ≡ Some i)
+    (unnamed : p.user_from_global x ≡ None) where
   d : VarData
   d = in_mode sampling.Witness (p.kept x)
 
@@ -52,12 +54,15 @@ module _ (w : Carrying) (p : Spaces) (s : State) (u x i : ℕ) (k : Links w p s)
   other-name v y h e = let z : None ≡ Some y = sym free ∙ ap p.global_from_user (sym e) ∙ h in cc
 
   name-stays : (v j : ℕ) → s.naming.names v ≡ Some j → updated s.naming.names u (Some i) v ≡ Some j
-  name-stays v j e = let (y, h, z) = chain-through p.global_from_user w.identity v j (sym (k.names.agree v) ∙ e) in updated-other s.naming.names u (Some i) v (other-name v y h) ∙ e
+  name-stays v j e = let (y, h, z) = chain-through p.global_from_user w.identity v j (sym (k.names.agree v) ∙ e) in
+      updated-other s.naming.names u (Some i) v (other-name v y h) ∙ e
 
   assumed-other : (l : Literal) → l ∈ p.assumptions → variable_of l ≡ u → ⊥
-  assumed-other l h = let (v, c) = k.assumptions.taken l h in let (y, f, g) = chain-through p.global_from_user p.solver_from_global (variable_of l) v c in other-name (variable_of l) y f
+  assumed-other l h = let (v, c) = k.assumptions.taken l h in let (y, f, g) =
+      chain-through p.global_from_user p.solver_from_global (variable_of l) v c in other-name (variable_of l) y f
 
-  shown-names : NamesFit w.identity (updated p.global_from_user u (Some x)) (updated p.user_from_global x (Some u)) (updated s.naming.names u (Some i)) (max s.naming.watermark (u + 1))
+  shown-names : NamesFit w.identity (updated p.global_from_user u (Some x)) (updated p.user_from_global x (Some u))
+      (updated s.naming.names u (Some i)) (max s.naming.watermark (u + 1))
   shown-names = record {
     one_to_one = joined p.global_from_user p.user_from_global u x k.names.one_to_one free unnamed;
     agree = λ v. updated-all (λ v o. o ≡ chain (updated p.global_from_user u (Some x)) w.identity v) s.naming.names u (Some i)
@@ -74,7 +79,8 @@ module _ (w : Carrying) (p : Spaces) (s : State) (u x i : ℕ) (k : Links w p s)
   shown-modes : ModesFit w.identity (updated p.global_from_user u (Some x)) (updated p.user_from_global x (Some u)) kept' (updated s.naming.modes i Witness)
   unfolding kept' d
   shown-modes = record {
-    mode = λ v y j. updated-all (λ v o. o ≡ Some y → w.identity y ≡ Some j → ModeFits (kept' y).sampling_mode (updated s.naming.modes i Witness j)) p.global_from_user u (Some x)
+    mode = λ v y j. updated-all (λ v o. o ≡ Some y → w.identity y ≡ Some j → ModeFits (kept' y).sampling_mode (updated s.naming.modes i Witness j))
+        p.global_from_user u (Some x)
         (λ e q. let z : x ≡ y = cc in
         let b : Some i ≡ Some j = sym at ∙ ap w.identity z ∙ q in
         let c : i ≡ j = cc in
@@ -83,21 +89,29 @@ module _ (w : Carrying) (p : Spaces) (s : State) (u x i : ℕ) (k : Links w p s)
         v
         (λ n h q. let o = not-shown v y h in
         subst (λ a. ModeFits a.sampling_mode (updated s.naming.modes i Witness j)) (sym (updated-other p.kept x d y o))
-        (subst (λ m. ModeFits (p.kept y).sampling_mode m) (sym (updated-other s.naming.modes i Witness j (λ z. o (same-variable y (q ∙ ap Some z))))) (k.modes.mode v y j h q)));
-    unnamed = λ y. updated-all (λ y o. o ≡ None → (kept' y).sampling_mode ≡ sampling.Hide) p.user_from_global x (Some u) (λ e. absurd cc) y (λ n h. ap (λ a. a.sampling_mode) (updated-other p.kept x d y n) ∙ k.modes.unnamed y h);
+        (subst (λ m. ModeFits (p.kept y).sampling_mode m)
+        (sym (updated-other s.naming.modes i Witness j (λ z. o (same-variable y (q ∙ ap Some z))))) (k.modes.mode v y j h q)));
+    unnamed = λ y. updated-all (λ y o. o ≡ None → (kept' y).sampling_mode ≡ sampling.Hide) p.user_from_global x (Some u) (λ e. absurd cc) y
+        (λ n h. ap (λ a. a.sampling_mode) (updated-other p.kept x d y n) ∙ k.modes.unnamed y h);
   }
 
-  shown-assumptions : AssumptionsFit (updated p.global_from_user u (Some x)) p.solver_from_global (updated s.naming.names u (Some i)) p.assumptions s.assumptions
+  shown-assumptions : AssumptionsFit (updated p.global_from_user u (Some x)) p.solver_from_global
+      (updated s.naming.names u (Some i)) p.assumptions s.assumptions
   shown-assumptions = record {
-    agree = k.assumptions.agree ∙ map-same (carry s.naming.names) (carry (updated s.naming.names u (Some i))) p.assumptions (λ l h. carry-same s.naming.names (updated s.naming.names u (Some i)) l (sym (updated-other s.naming.names u (Some i) (variable_of l) (assumed-other l h))));
-    taken = λ l h. let (v, c) = k.assumptions.taken l h in (v, ap (λ o. onward o p.solver_from_global) (updated-other p.global_from_user u (Some x) (variable_of l) (assumed-other l h)) ∙ c);
+    agree = k.assumptions.agree ∙ map-same (carry s.naming.names) (carry (updated s.naming.names u (Some i))) p.assumptions
+        (λ l h. carry-same s.naming.names (updated s.naming.names u (Some i)) l
+        (sym (updated-other s.naming.names u (Some i) (variable_of l) (assumed-other l h))));
+    taken = λ l h. let (v, c) = k.assumptions.taken l h in
+        (v, ap (λ o. onward o p.solver_from_global) (updated-other p.global_from_user u (Some x) (variable_of l) (assumed-other l h)) ∙ c);
   }
 
   shown-marks : MarksFit (updated p.global_from_user u (Some x)) kept' p.assumptions
   unfolding kept' d
   shown-marks = record {
-    marked = λ l y h e. field-same (λ a. a.assumed) p.kept x d refl y ∙ k.marks.marked l y h (sym (updated-other p.global_from_user u (Some x) (variable_of l) (assumed-other l h)) ∙ e);
-    only = λ y h. let (l, a, b) = k.marks.only y (sym (field-same (λ a. a.assumed) p.kept x d refl y) ∙ h) in (l, a, updated-other p.global_from_user u (Some x) (variable_of l) (assumed-other l a) ∙ b);
+    marked = λ l y h e. field-same (λ a. a.assumed) p.kept x d refl y
+        ∙ k.marks.marked l y h (sym (updated-other p.global_from_user u (Some x) (variable_of l) (assumed-other l h)) ∙ e);
+    only = λ y h. let (l, a, b) = k.marks.only y (sym (field-same (λ a. a.assumed) p.kept x d refl y) ∙ h) in
+        (l, a, updated-other p.global_from_user u (Some x) (variable_of l) (assumed-other l a) ∙ b);
   }
 
   pub shown : Links w (show u x p) (with_naming (give_name u i s.naming) s)
@@ -120,14 +134,16 @@ module _ (w : Carrying) (p : Spaces) (s : State) (u x i : ℕ) (k : Links w p s)
     right = k.right;
     well_formed = show-well u i s (k.identities.below x i at) no-name k.well_formed;
     few = k.few;
-    shown = λ e y. updated-all (λ y o. o ≡ None → (kept' y).deleted ≡ true) p.user_from_global x (Some u) (λ q. absurd cc) y (λ n h. ap (λ a. a.deleted) (updated-other p.kept x d y n) ∙ k.shown e y h);
+    shown = λ e y. updated-all (λ y o. o ≡ None → (kept' y).deleted ≡ true) p.user_from_global x (Some u) (λ q. absurd cc) y
+        (λ n h. ap (λ a. a.deleted) (updated-other p.kept x d y n) ∙ k.shown e y h);
     plain = k.plain;
     told = k.told;
     checked = k.checked;
   }
 
 -- Where each live variable has a name, an identity without one may stay hidden.
-pub may-stay : (w : Carrying) (p : Spaces) (s : State) → Links w p s → ((x : ℕ) → p.user_from_global x ≡ None → (p.kept x).deleted ≡ true) → (i : ℕ) → i < s.naming.made → IsUnnamed s.naming i → LetStayHidden s.clauses i
+pub may-stay : (w : Carrying) (p : Spaces) (s : State) → Links w p s → ((x : ℕ) → p.user_from_global x ≡ None → (p.kept x).deleted ≡ true) →
+    (i : ℕ) → i < s.naming.made → IsUnnamed s.naming i → LetStayHidden s.clauses i
 may-stay w p s k named i h out = go (k.isolation i h)
   where
     no-variable : (x : ℕ) → w.identity x ≡ Some i → ⊥

@@ -6,10 +6,10 @@ use Rattle.std.proofs.lemmas.List.{length-map, length-append, length-replicate, 
 use Rattle.varisat_theory.specs.Membership.{◌∈◌, IsDistinct}
 use Rattle.varisat_theory.specs.Literals.{Literal, variable_of}
 use Rattle.varisat_theory.specs.Derivations.{Line}
-use Rattle.varisat_theory.proofs.Members.{∈-append_cases}
+use Rattle.varisat_theory.proofs.Members.{∈-append_cases, distinct_append}
 use Rattle.varisat_theory.specs.Rank.{rank, with_units}
 use Rattle.varisat_theory.proofs.Places.{place_in}
-use Rattle.varisat_theory.proofs.Ranks.{rank_grows, rank_steady}
+use Rattle.varisat_theory.proofs.Ranks.{rank_grows, rank_steady, rank_behind_units}
 use Rattle.varisat_theory.proofs.Renaming.{map-∈}
 use Rattle.varisat_literals.specs.Numbers.{polarity_of}
 use Rattle.varisat_theory.specs.Luby.{luby, saturated}
@@ -63,10 +63,13 @@ kinds-length : (s : View) → length (kinds s) ≡ length s.trail
 kinds-length s = length-map s.trail (λ l. is_implied (node_of s l))
 
 -- with the units that left it
-pub trail-room : {A : Type 0} (c : PlannedCall) (units : ℕ) (x : Context A) → IsReady x → ((vs : List ℕ) → IsDistinct vs → ((v : ℕ) → v ∈ vs → IsDecidable (view x) x.vsids v) → units + length vs ≤ c.variables) → units + length (kinds (view x)) ≤ c.variables
+pub trail-room : {A : Type 0} (c : PlannedCall) (units : ℕ) (x : Context A) → IsReady x →
+    ((vs : List ℕ) → IsDistinct vs → ((v : ℕ) → v ∈ vs → IsDecidable (view x) x.vsids v) → units + length vs ≤ c.variables) →
+    units + length (kinds (view x)) ≤ c.variables
 trail-room c units x r room =
     let s = view x in
-    let b = room (map variable_of s.trail) (trail-distinct s r.well) (λ v h. let (l, i, e) = map-∈ variable_of v s.trail h in subst (IsDecidable s x.vsids) (sym e) (trail-decidable s x.vsids r.well l i)) in
+    let b = room (map variable_of s.trail) (trail-distinct s r.well)
+    (λ v h. let (l, i, e) = map-∈ variable_of v s.trail h in subst (IsDecidable s x.vsids) (sym e) (trail-decidable s x.vsids r.well l i)) in
     let n = length-map s.trail variable_of in
     let k = kinds-length s in
     omega (arith, b, n, k)
@@ -75,7 +78,10 @@ trail-room c units x r room =
 
 pub come-now : {A : Type 0} (x : Context A) → IsReady x → IsPlan x.schedule → HasComeSince (call_from x) x
 come-now x r p =
-    let room : (vs : List ℕ) → IsDistinct vs → ((v : ℕ) → v ∈ vs → IsDecidable (view x) x.vsids v) → 0 + length vs ≤ length x.assignment.current = (λ vs d h. let b = distinct-below vs (length x.assignment.current) d (λ v i. decidable-inside (view x) x.vsids v r.decidable.entries (h v i)) in omega (arith, b)) in
+    let room : (vs : List ℕ) → IsDistinct vs → ((v : ℕ) → v ∈ vs → IsDecidable (view x) x.vsids v) →
+    0 + length vs ≤ length x.assignment.current =
+    (λ vs d h. let b = distinct-below vs (length x.assignment.current) d
+    (λ v i. decidable-inside (view x) x.vsids v r.decidable.entries (h v i)) in omega (arith, b)) in
     record {
       units = 0;
       come = begins-anywhere (call_from x) (kinds (view x)) p (let b = trail-room (call_from x) 0 x r room in omega (arith, b));
@@ -87,11 +93,14 @@ come-now x r p =
 -- 4. How it goes on.
 
 -- as many may be decided where the same ones may
-room-same : {A : Type 0} (x y : Context A) (n m : ℕ) → SameDecidable (view x) x.vsids (view y) y.vsids → ((vs : List ℕ) → IsDistinct vs → ((v : ℕ) → v ∈ vs → IsDecidable (view x) x.vsids v) → n + length vs ≤ m) → (vs : List ℕ) → IsDistinct vs → ((v : ℕ) → v ∈ vs → IsDecidable (view y) y.vsids v) → n + length vs ≤ m
+room-same : {A : Type 0} (x y : Context A) (n m : ℕ) → SameDecidable (view x) x.vsids (view y) y.vsids →
+    ((vs : List ℕ) → IsDistinct vs → ((v : ℕ) → v ∈ vs → IsDecidable (view x) x.vsids v) → n + length vs ≤ m) → (vs : List ℕ) → IsDistinct vs →
+    ((v : ℕ) → v ∈ vs → IsDecidable (view y) y.vsids v) → n + length vs ≤ m
 room-same x y n m g room vs d h = room vs d (λ v i. (g v).1 (h v i))
 
 -- as a step begins
-begun-without : (c : PlannedCall) (q : Plan) (units : ℕ) (before trail : List Bool) → 0 < c.scale → q.steps < 2 ^ 64 - 1 → ((IsDue q → ⊥) → trail ≡ before) → HasComeWithout c q units before → HasBegunWithout c q units trail
+begun-without : (c : PlannedCall) (q : Plan) (units : ℕ) (before trail : List Bool) → 0 < c.scale → q.steps < 2 ^ 64 - 1 →
+    ((IsDue q → ⊥) → trail ≡ before) → HasComeWithout c q units before → HasBegunWithout c q units trail
 begun-without c q units before trail h l same r after rises short =
     let m = c.variables in
     let first = with_units units before in
@@ -107,14 +116,17 @@ begun-without c q units before trail h l same r after rises short =
       short = short;
     }
 
-pub come-begun : {A : Type 0} (are : List Line → Type 0) (x z : Context A) → IsReady x → 0 < x.solver_config.luby_restart_interval_scale → x.schedule.steps < 2 ^ 64 - 1 → BeginsStep are x z → z.solver_config ≡ x.solver_config → length z.assignment.current ≡ length x.assignment.current → BeginsWithin x z
+pub come-begun : {A : Type 0} (are : List Line → Type 0) (x z : Context A) → IsReady x → 0 < x.solver_config.luby_restart_interval_scale →
+    x.schedule.steps < 2 ^ 64 - 1 → BeginsStep are x z → z.solver_config ≡ x.solver_config →
+    length z.assignment.current ≡ length x.assignment.current → BeginsWithin x z
 come-begun are x z r h l b f n c k =
     let t = b.begun in
     let decidable = same-trans (view x) x.vsids (view t) t.vsids (view z) z.vsids b.decidable b.reduces.decidable in
     let positive : 0 < c.scale = let e = k.scale in omega (arith, h, e) in
     record {
       units = k.units;
-      begun = begun-without c x.schedule k.units (kinds (view x)) (kinds (view z)) positive l (λ d. b.reduces.assigned.kinds_stay ∙ ap kinds (b.restarts.stays d)) k.come;
+      begun = begun-without c x.schedule k.units (kinds (view x)) (kinds (view z)) positive l
+          (λ d. b.reduces.assigned.kinds_stay ∙ ap kinds (b.restarts.stays d)) k.come;
       scale = k.scale ∙ sym (ap (λ (s : Settings). s.luby_restart_interval_scale) f);
       variables = k.variables ∙ sym n;
       room = room-same x z k.units c.variables decidable k.room;
@@ -132,7 +144,8 @@ come-settled are x y g f c q k =
           (λ n v.
           let a = rises n v in
           let b = rank_grows n first more in
-          let same : rank n (with_units k.units (kinds (view y))) ≡ rank n (first ++ more) = ap (rank n) (ap (with_units k.units) e ∙ sym (append_assoc (replicate k.units true) (kinds (view x)) more)) in
+          let same : rank n (with_units k.units (kinds (view y))) ≡ rank n (first ++ more) =
+          ap (rank n) (ap (with_units k.units) e ∙ sym (append_assoc (replicate k.units true) (kinds (view x)) more)) in
           omega (arith, a, b, same))
           short;
       scale = k.scale ∙ sym (ap (λ (z : Settings). z.luby_restart_interval_scale) f);
@@ -144,7 +157,8 @@ come-settled are x y g f c q k =
 
 -- no step is counted as it begins
 pub steps-begun : (scale : ℕ) (p : Plan) → (step_begun scale p).steps ≡ p.steps
-steps-begun scale p = go (nat_eq p.steps p.next_restart) (record { steps = p.steps; next_restart = saturated (p.next_restart + saturated (scale * luby p.next_term)); next_term = suc p.next_term }) refl
+steps-begun scale p = go (nat_eq p.steps p.next_restart)
+    (record { steps = p.steps; next_restart = saturated (p.next_restart + saturated (scale * luby p.next_term)); next_term = suc p.next_term }) refl
   where
     go : (b : Bool) (q : Plan) → q.steps ≡ p.steps → (if b then q else p).steps ≡ p.steps
     go true q e = e
@@ -154,11 +168,9 @@ pub step-ended : (scale : ℕ) (p q r : Plan) → q ≡ step_begun scale p → r
 step-ended scale p q r e f =
     f ∙ ap (λ (z : Plan). record z { steps = suc z.steps }) e ∙ ap (λ n. record (step_begun scale p) { steps = suc n }) (steps-begun scale p)
 
-units-raise : (u n : ℕ) (a b : List Bool) → ((m : ℕ) → length a ≤ m → rank m a < rank m b) → u + length a ≤ n → rank n (with_units u a) < rank n (with_units u b)
-units-raise zero n a b r h = r n (omega (arith, h))
-units-raise (suc u) n a b r h = let i = units-raise u (pred n) a b r (omega (arith, h)) in omega (arith, i)
-
-pub come-ended : {A : Type 0} (c : PlannedCall) (q : Plan) (y z : Context A) → IsReady y → IsReady z → RaisesRank y z → z.schedule ≡ next_plan y.solver_config.luby_restart_interval_scale q → z.solver_config ≡ y.solver_config → length z.assignment.current ≡ length y.assignment.current → SameDecidable (view y) y.vsids (view z) z.vsids → HasBegunSince c q y → HasComeSince c z
+pub come-ended : {A : Type 0} (c : PlannedCall) (q : Plan) (y z : Context A) → IsReady y → IsReady z → RaisesRank y z →
+    z.schedule ≡ next_plan y.solver_config.luby_restart_interval_scale q → z.solver_config ≡ y.solver_config →
+    length z.assignment.current ≡ length y.assignment.current → SameDecidable (view y) y.vsids (view z) z.vsids → HasBegunSince c q y → HasComeSince c z
 come-ended c q y z ry rz up e f n g k =
     let room = room-same y z k.units c.variables g k.room in
     let here = trail-room c k.units y ry k.room in
@@ -166,7 +178,8 @@ come-ended c q y z ry rz up e f n g k =
     record {
       units = k.units;
       come = subst (λ p. HasComeWithout c p k.units (kinds (view z))) (sym (e ∙ ap (λ s. next_plan s q) (sym k.scale)))
-          (k.begun (kinds (view z)) (λ m v. units-raise k.units m (kinds (view y)) (kinds (view z)) (λ j b. up j (omega (arith, b, flags))) (omega (arith, here, v))) (trail-room c k.units z rz room));
+          (k.begun (kinds (view z)) (λ m v. rank_behind_units k.units m (kinds (view y)) (kinds (view z)) (λ j b. up j (omega (arith, b, flags)))
+          (omega (arith, here, v))) (trail-room c k.units z rz room));
       scale = k.scale ∙ sym (ap (λ (s : Settings). s.luby_restart_interval_scale) f);
       variables = k.variables ∙ sym n;
       room = room;
@@ -205,20 +218,18 @@ split-length : (gone : List Bool) (ls : List Literal) → length ls ≡ length (
 split-length gone [] = refl
 split-length gone (l ∷ ls) = go (leaves gone (variable_of l)) (split-length gone ls)
   where
-    go : (b : Bool) → length ls ≡ length (leaving gone ls) + length (staying gone ls) → suc (length ls) ≡ length (cond b (l ∷ leaving gone ls) (leaving gone ls)) + length (cond (not b) (l ∷ staying gone ls) (staying gone ls))
+    go : (b : Bool) → length ls ≡ length (leaving gone ls) + length (staying gone ls) →
+        suc (length ls) ≡ length (cond b (l ∷ leaving gone ls) (leaving gone ls)) + length (cond (not b) (l ∷ staying gone ls) (staying gone ls))
     go true e = omega (arith, e)
     go false e = omega (arith, e)
 
-distinct-append : (xs ys : List ℕ) → IsDistinct xs → IsDistinct ys → ((v : ℕ) → v ∈ xs → v ∈ ys → ⊥) → IsDistinct (xs ++ ys)
-distinct-append [] ys d e n = e
-distinct-append (x ∷ xs) ys d e n =
-    ((λ h. ⊎_elim (λ i. d.0 i) (λ i. n x (inl refl) i) (∈-append_cases x xs ys h)), distinct-append xs ys d.1 e (λ v i j. n v (inr i) j))
-
 -- units that leave stand in front of the trail
 in-front : (units left : ℕ) (trail : List Bool) → with_units units (replicate left true ++ trail) ≡ with_units (units + left) trail
-in-front units left trail = sym (append_assoc (replicate units true) (replicate left true) trail) ∙ ap (λ ks. ks ++ trail) (replicate-append-replicate units left true)
+in-front units left trail = sym (append_assoc (replicate units true) (replicate left true) trail)
+    ∙ ap (λ ks. ks ++ trail) (replicate-append-replicate units left true)
 
-units-left : (c : PlannedCall) (q : Plan) (units left : ℕ) (trail : List Bool) → HasBegunWithout c q units (replicate left true ++ trail) → HasBegunWithout c q (units + left) trail
+units-left : (c : PlannedCall) (q : Plan) (units left : ℕ) (trail : List Bool) → HasBegunWithout c q units (replicate left true ++ trail) →
+    HasBegunWithout c q (units + left) trail
 units-left c q units left trail begun after rises short =
     let front = replicate left true in
     let long = length-append front after in
@@ -232,7 +243,9 @@ units-left c q units left trail begun after rises short =
     (omega (arith, short, long, many)) in
     record { come = subst (HasComeTo c (next_plan c.scale q)) (in-front units left after) r.come; short = short }
 
-pub come-dropped : {A : Type 0} (gone : List Bool) (x y : Context A) → IsReady x → IsSettledDown (view x) → IsReady y → IsWithout gone (view x) (view y) → ((v : ℕ) → IsDecidable (view y) y.vsids v ↔ (IsDecidable (view x) x.vsids v × (leaves gone v ≡ false))) → y.solver_config ≡ x.solver_config → GoesOnWithin x y
+pub come-dropped : {A : Type 0} (gone : List Bool) (x y : Context A) → IsReady x → IsSettledDown (view x) → IsReady y →
+    IsWithout gone (view x) (view y) → ((v : ℕ) → IsDecidable (view y) y.vsids v ↔ (IsDecidable (view x) x.vsids v × (leaves gone v ≡ false))) →
+    y.solver_config ≡ x.solver_config → GoesOnWithin x y
 come-dropped gone x y r d q w dec f c p k =
     let s = view x in
     let t = view y in
@@ -245,12 +258,13 @@ come-dropped gone x y r d q w dec f c p k =
     let is : kinds t ≡ replicate stay true = all-implied t q.well decisions ∙ ap (λ (ls : List Literal). replicate (length ls) true) trail in
     record {
       units = k.units + left;
-      begun = units-left c p k.units left (kinds t) (subst (HasBegunWithout c p k.units) (was ∙ sym (replicate-append-replicate left stay true) ∙ ap (λ ks. replicate left true ++ ks) (sym is)) k.begun);
+      begun = units-left c p k.units left (kinds t)
+          (subst (HasBegunWithout c p k.units) (was ∙ sym (replicate-append-replicate left stay true) ∙ ap (λ ks. replicate left true ++ ks) (sym is)) k.begun);
       scale = k.scale ∙ sym (ap (λ (z : Settings). z.luby_restart_interval_scale) f);
       variables = k.variables ∙ sym (ap (λ (u : View). length u.values) w.rest ∙ cleared-length gone None s.values);
       room = λ vs dv h.
           let gs = map variable_of going in
-          let distinct = distinct-append vs gs dv (distinct-left (λ l. leaves gone (variable_of l)) s.trail (trail-distinct s r.well)) (λ v i j.
+          let distinct = distinct_append vs gs dv (distinct-left (λ l. leaves gone (variable_of l)) s.trail (trail-distinct s r.well)) (λ v i j.
           let (l, m, z) = map-∈ variable_of v going j in
           let (on, o) = ∈-filter (λ l. leaves gone (variable_of l)) s.trail l m in
           let b : true ≡ false = sym o ∙ ap (leaves gone) (sym z) ∙ ((dec v).0 (h v i)).1 in
@@ -269,7 +283,8 @@ come-dropped gone x y r d q w dec f c p k =
     }
 
 -- 6. So the steps are few.
-pub few-since : {A : Type 0} (c : PlannedCall) (x : Context A) (n : ℕ) → 0 < x.solver_config.luby_restart_interval_scale → length x.assignment.current ≤ n → HasComeSince c x → suc (steps_since c.begins x.schedule) < 2 ^ (2 * n + 3)
+pub few-since : {A : Type 0} (c : PlannedCall) (x : Context A) (n : ℕ) → 0 < x.solver_config.luby_restart_interval_scale →
+    length x.assignment.current ≤ n → HasComeSince c x → suc (steps_since c.begins x.schedule) < 2 ^ (2 * n + 3)
 few-since c x n h v k =
     is-short-without c x.schedule k.units (kinds (view x)) n (let z = k.scale in omega (arith, h, z)) (let z = k.variables in omega (arith, v, z)) k.come
 

@@ -61,13 +61,33 @@ known-unknown : (v : Outcome) → v ≡ outcome.Unknown → without_core v ≢ o
 known-unknown v e q = let z : outcome.Unknown ≡ outcome.Unsat = sym (ap without_core e) ∙ q in cc
 
 -- another verdict of the state, which is right
-decided : (w : Carrying) (p : Spaces) (s : State) (told : List Entry) → IsTold told s.clauses s.counted s.ever_hidden (IsGone w s) → (t : Search) (v : Outcome) (m : ℕ → Bool) (ws core : List Literal) (checker : Option CheckerState) (x : Verdict) → Links w p s → (without_core v ≢ outcome.Unsat → CheckerFits w.global told checker) → SearchHolds s.clauses (translation w p told) t (without_core v) → WorkingFits s.clauses (translation w p s.told).identity s.assumptions ws → VerdictFits w.identity m v x → CoreFits s.naming.names core x → IsRight s.clauses s.assumptions s.counted x → Links w (decide t v m ws core checker p) (retold told (with_verdict x s))
+decided : (w : Carrying) (p : Spaces) (s : State) (told : List Entry) → IsTold told s.clauses s.counted s.ever_hidden (IsGone w s) →
+    (t : Search) (v : Outcome) (m : ℕ → Bool) (ws core : List Literal) (checker : Option CheckerState) (x : Verdict) → Links w p s →
+    (without_core v ≢ outcome.Unsat → CheckerFits w.global told checker) → SearchHolds s.clauses (translation w p told) t (without_core v) →
+    WorkingFits s.clauses (translation w p s.told).identity s.assumptions ws → VerdictFits w.identity m v x →
+    CoreFits s.naming.names core x → IsRight s.clauses s.assumptions s.counted x →
+    Links w (decide t v m ws core checker p) (retold told (with_verdict x s))
 decided w p s told is-told t v m ws core checker x k checks holds working fits names right =
-    relinked w p (decide t v m ws core checker p) s (retold told (with_verdict x s)) k (record { solvers = k.solvers; holds = holds; assumptions = k.assumptions; working = working; verdict = fits; core = names; right = right; few = k.few; told = is-told; checked = checks })
+    relinked w p (decide t v m ws core checker p) s (retold told (with_verdict x s)) k
+    (record {
+      solvers = k.solvers;
+      holds = holds;
+      assumptions = k.assumptions;
+      working = working;
+      verdict = fits;
+      core = names;
+      right =
+          right;
+      few = k.few;
+      told = is-told;
+      checked = checks;
+    })
 
 -- where the verdict isn't Unsat, what was found may be forgotten
-pub forgotten : (w : Carrying) (p : Spaces) (s : State) → Links w p s → s.verdict ≢ Unsat → Links w (decide p.search outcome.Unknown p.model p.working p.core p.checker p) (with_verdict Unknown s)
-forgotten w p s k n = decided w p s s.told k.told p.search outcome.Unknown p.model p.working p.core p.checker Unknown k (λ _. k.checked (not-refuted p.outcome s.verdict k.verdict n)) (go p.outcome s.verdict k.holds k.verdict n) k.working tt tt tt
+pub forgotten : (w : Carrying) (p : Spaces) (s : State) → Links w p s → s.verdict ≢ Unsat →
+    Links w (decide p.search outcome.Unknown p.model p.working p.core p.checker p) (with_verdict Unknown s)
+forgotten w p s k n = decided w p s s.told k.told p.search outcome.Unknown p.model p.working p.core p.checker Unknown k
+    (λ _. k.checked (not-refuted p.outcome s.verdict k.verdict n)) (go p.outcome s.verdict k.holds k.verdict n) k.working tt tt tt
   where
     not-refuted : (v : Outcome) (x : Verdict) → VerdictFits w.identity p.model v x → x ≢ Unsat → without_core v ≢ outcome.Unsat
     not-refuted outcome.Unknown x f n e = let z : outcome.Unknown ≡ outcome.Unsat = e in cc
@@ -78,7 +98,8 @@ forgotten w p s k n = decided w p s s.told k.told p.search outcome.Unknown p.mod
     not-refuted outcome.Unsat (UnsatUnderAssumptions core) f n e = f
     not-refuted (outcome.UnsatUnder core) x f n e = let z : outcome.Unknown ≡ outcome.Unsat = e in cc
 
-    go : (v : Outcome) (x : Verdict) → SearchHolds s.clauses (translation w p s.told) p.search (without_core v) → VerdictFits w.identity p.model v x → x ≢ Unsat → SearchHolds s.clauses (translation w p s.told) p.search outcome.Unknown
+    go : (v : Outcome) (x : Verdict) → SearchHolds s.clauses (translation w p s.told) p.search (without_core v) →
+        VerdictFits w.identity p.model v x → x ≢ Unsat → SearchHolds s.clauses (translation w p s.told) p.search outcome.Unknown
     go outcome.Unknown x h f n = h
     go (outcome.Sat found) x h f n = without-model s.clauses (translation w p s.told) p.search found h
     go outcome.Unsat Unknown h f n = absurd f
@@ -88,9 +109,13 @@ forgotten w p s k n = decided w p s s.told k.told p.search outcome.Unknown p.mod
     go (outcome.UnsatUnder core) x h f n = h
 
 -- and where the state has a core, it may come back
-pub core-known : (w : Carrying) (p : Spaces) (s : State) (found core : List Literal) → Links w p s → p.outcome ≡ outcome.Unknown → CoreFits s.naming.names p.core (UnsatUnderAssumptions core) → core ≢ [] → IsFailedCore s.clauses s.assumptions core → Links w (record p { outcome = outcome.UnsatUnder found }) (with_verdict (UnsatUnderAssumptions core) s)
+pub core-known : (w : Carrying) (p : Spaces) (s : State) (found core : List Literal) → Links w p s → p.outcome ≡ outcome.Unknown →
+    CoreFits s.naming.names p.core (UnsatUnderAssumptions core) → core ≢ [] → IsFailedCore s.clauses s.assumptions core →
+    Links w (record p { outcome = outcome.UnsatUnder found }) (with_verdict (UnsatUnderAssumptions core) s)
 core-known w p s found core k unknown told some right =
-    decided w p s s.told k.told p.search (outcome.UnsatUnder found) p.model p.working p.core p.checker (UnsatUnderAssumptions core) k (λ _. k.checked (known-unknown p.outcome unknown)) (subst (SearchHolds s.clauses (translation w p s.told) p.search) (ap without_core unknown) k.holds) k.working some told right
+    decided w p s s.told k.told p.search (outcome.UnsatUnder found) p.model p.working p.core p.checker (UnsatUnderAssumptions core) k
+    (λ _. k.checked (known-unknown p.outcome unknown))
+    (subst (SearchHolds s.clauses (translation w p s.told) p.search) (ap without_core unknown) k.holds) k.working some told right
 
 -- without its core a verdict has none
 plain-without : (v : Outcome) (core : List Literal) → without_core v ≡ outcome.UnsatUnder core → ⊥
@@ -114,17 +139,21 @@ true-carried : (f : ℕ → Option ℕ) (a : Assignment) (ls : List Literal) →
 true-carried f a ls t l h = let (m, i, e) = map-∈ (carry f) l ls h in ap (value a) e ∙ value-carry f a m ∙ t m i
 
 -- the assumptions that are left after steps
-pub working-on : (P : List Clause) (r : Translation) (s : Search) (v : Outcome) (as' : List Literal) (x y : AssumptionParts) → SearchHolds P r s outcome.Unknown → KeepsAssumptions s v x y → WorkingFits P r.identity as' x.working → WorkingFits P r.identity as' y.working
+pub working-on : (P : List Clause) (r : Translation) (s : Search) (v : Outcome) (as' : List Literal) (x y : AssumptionParts) →
+    SearchHolds P r s outcome.Unknown → KeepsAssumptions s v x y → WorkingFits P r.identity as' x.working → WorkingFits P r.identity as' y.working
 working-on P r s v as' x y h k f = record {
   used = λ l i. f.used l (k.part l i);
-  part = λ l i. let (m, j, e) = map-∈ (carry r.identity) l y.working i in subst (λ z. z ∈ as') (sym e) (f.part (carry r.identity m) (∈-map (carry r.identity) m x.working (k.part m j)));
+  part = λ l i. let (m, j, e) = map-∈ (carry r.identity) l y.working i in
+      subst (λ z. z ∈ as') (sym e) (f.part (carry r.identity m) (∈-map (carry r.identity) m x.working (k.part m j)));
   implied = λ a m t.
       let b : Assignment = λ v. a (identity_of (r.identity v)) in
-      f.implied a m (true-carried r.identity a x.working (k.implied h.held h.holds b (h.implied a b m (agrees-through r.identity a)) (carried-true r.identity a y.working t)));
+      f.implied a m (true-carried r.identity a x.working
+      (k.implied h.held h.holds b (h.implied a b m (agrees-through r.identity a)) (carried-true r.identity a y.working t)));
 }
 
 -- Steps were made, and left some of the assumptions.
-module _ (w : Carrying) (p : Spaces) (s : State) (k : Links w p s) (unknown : p.outcome ≡ outcome.Unknown) (t : Search) (v : Outcome) (n : ℕ) (lines : List Line) (made : MakesSteps n p.search t v lines) (long : AreLong t) (in-use : AreInUse p t) where
+module _ (w : Carrying) (p : Spaces) (s : State) (k : Links w p s) (unknown : p.outcome ≡ outcome.Unknown) (t : Search) (v : Outcome) (n : ℕ)
+    (lines : List Line) (made : MakesSteps n p.search t v lines) (long : AreLong t) (in-use : AreInUse p t) where
   before : SearchHolds s.clauses (translation w p s.told) p.search outcome.Unknown
   before = subst (SearchHolds s.clauses (translation w p s.told) p.search) (ap without_core unknown) k.holds
 
@@ -135,10 +164,17 @@ module _ (w : Carrying) (p : Spaces) (s : State) (k : Links w p s) (unknown : p.
       held-on s.clauses (translation w p s.told) p.search t (without_core v) before long
       (λ e Q g. answers-covers Q t v (λ q. e (ap without_core q)) (made.answers Q g))
       n lines after d (holds-without after t v o) made.speaks (plain-without v)
-      (λ l a. let (x, b) = in-use l a in let q = k.solvers.live (variable_of l) x b in (q.0, chain-some p.global_from_solver w.identity (variable_of l) x b ∙ q.1))
+      (λ l a. let (x, b) = in-use l a in let q = k.solvers.live (variable_of l) x b in
+      (q.0, chain-some p.global_from_solver w.identity (variable_of l) x b ∙ q.1))
 
   pub steps-tell : TellsMore n s.told (told-with w p s lines)
-  steps-tell = let (after, d, o) = made.holds before.held before.holds in record { entries = told_lines (translation w p s.told) lines; joined = refl; goes = (lines-lead n (translation w p s.told) before.held lines after before.told d).goes }
+  steps-tell = let (after, d, o) = made.holds before.held before.holds in
+      record {
+        entries = told_lines (translation w p s.told) lines;
+        joined = refl;
+        goes =
+            (lines-lead n (translation w p s.told) before.held lines after before.told d).goes;
+      }
 
   -- where the search goes on, each step added a new clause: no clause that was held is a part of it, a forgotten one neither
   pub steps-add : v ≡ outcome.Unknown → GoesOnAdding n s.told steps-tell.entries
@@ -151,18 +187,22 @@ module _ (w : Carrying) (p : Spaces) (s : State) (k : Links w p s) (unknown : p.
       let c = copies w p s k before q.forgotten q.settled in
       let many = made.adds (c.list ++ before.held) (fits_more p.search before.held c.list c.settled before.holds) e in
       let speaks = spoken_wider (IsLiteralOf p.search) (IsInUse r) lines before.within made.speaks in
-      let adding = lines_add_new f (carry-opposite r.identity) (IsInUse r) (one-literal w p s k) q.forgotten c.list c.copied n n before.held lines after q.inside speaks d many in
-      let (last, a, same) = adding_same n (q.forgotten ++ rename f before.held) q.held (told_lines r lines) (q.forgotten ++ rename f after) (same_clauses-back q.held (q.forgotten ++ rename f before.held) q.same) adding in
+      let adding = lines_add_new f (carry-opposite r.identity) (IsInUse r)
+      (one-literal w p s k) q.forgotten c.list c.copied n n before.held lines after q.inside speaks d many in
+      let (last, a, same) = adding_same n (q.forgotten ++ rename f before.held) q.held (told_lines r lines) (q.forgotten ++ rename f after)
+      (same_clauses-back q.held (q.forgotten ++ rename f before.held) q.same) adding in
       goes_adding n s.told (told_lines r lines) q.held last q.led a
 
   pub steps-are-told : IsTold (told-with w p s lines) s.clauses s.counted s.ever_hidden (IsGone w s)
   steps-are-told =
       let to = (translation w p s.told).identity in
       told-written s.told s.clauses s.counted s.ever_hidden (map (rename_line (carry to)) lines)
-      (spoken-renamed (IsLiteralOf p.search) (IsCounted s.counted) (carry to) lines (λ l h. let (i, e) = k.holds.within l h in counted-literal w p s k l i e) made.speaks) k.told
+      (spoken-renamed (IsLiteralOf p.search) (IsCounted s.counted) (carry to) lines
+      (λ l h. let (i, e) = k.holds.within l h in counted-literal w p s k l i e) made.speaks) k.told
 
   -- the core that is found, over identities, conflicts with what is held
-  core-conflicts : (found : List Literal) → v ≡ outcome.UnsatUnder found → (held : List Clause) → Leads [] (told-with w p s lines) held → Conflicts held (map (carry (translation w p s.told).identity) found)
+  core-conflicts : (found : List Literal) → v ≡ outcome.UnsatUnder found → (held : List Clause) → Leads [] (told-with w p s lines) held →
+      Conflicts held (map (carry (translation w p s.told).identity) found)
   core-conflicts found e held led =
       let (after, d, o) = made.holds before.held before.holds in
       let on = lines-lead n (translation w p s.told) before.held lines after before.told d in
@@ -171,35 +211,52 @@ module _ (w : Carrying) (p : Spaces) (s : State) (k : Links w p s) (unknown : p.
       let core = map f found in
       conflicts_same on.held held core (leads_unique [] [] (s.told ++ told_lines (translation w p s.told) lines) on.held held refl on.led led)
       (conflicts_same all on.held core (same_clauses-back on.held all on.same)
-      (conflicts_more (rename f after) all core core (covered_by_more (rename f after) all (λ c h. ∈-append_right c before.told.forgotten (rename f after) h)) (λ l h. h)
+      (conflicts_more (rename f after) all core core
+      (covered_by_more (rename f after) all (λ c h. ∈-append_right c before.told.forgotten (rename f after) h)) (λ l h. h)
       (conflicts_renamed f (carry-opposite (translation w p s.told).identity) after found (subst (Holds after t) e o).1)))
 
   -- the checker that took the lines
-  pub steps-checked : (checker : Option CheckerState) → IsCheckedIf p.checker (told_as (global.carry p.global_from_solver) (written lines)) checker → CheckerFits w.global (told-with w p s lines) checker
+  pub steps-checked : (checker : Option CheckerState) → IsCheckedIf p.checker
+      (told_as (global.carry p.global_from_solver) (written lines)) checker → CheckerFits w.global (told-with w p s lines) checker
   steps-checked checker c =
       let r = translation w p s.told in
       checker-on w.global s.told (told_lines r lines) p.checker checker (written_stays (map (rename_line (carry r.identity)) lines))
-      (subst (λ es. IsCheckedIf p.checker es checker) (sym (told-carried (carry r.identity) (carry w.global) (global.carry p.global_from_solver) (IsLiteralOf p.search) lines (λ l h. global-carried w p s k l (k.holds.within l h)) made.speaks)) c)
+      (subst (λ es. IsCheckedIf p.checker es checker)
+      (sym (told-carried (carry r.identity) (carry w.global) (global.carry p.global_from_solver) (IsLiteralOf p.search) lines
+      (λ l h. global-carried w p s k l (k.holds.within l h)) made.speaks)) c)
       (k.checked (known-unknown p.outcome unknown))
 
   module _ (x y : AssumptionParts) (same : p.working ≡ x.working) (keeps : KeepsAssumptions p.search v x y) (checker : Option CheckerState) where
     pub left : WorkingFits s.clauses (translation w p s.told).identity s.assumptions y.working
-    left = working-on s.clauses (translation w p s.told) p.search v s.assumptions x y before keeps (subst (WorkingFits s.clauses (translation w p s.told).identity s.assumptions) same k.working)
+    left = working-on s.clauses (translation w p s.told) p.search v s.assumptions x y before keeps
+        (subst (WorkingFits s.clauses (translation w p s.told).identity s.assumptions) same k.working)
 
     -- without a verdict
-    pub went-on : (m : ℕ → Bool) (core : List Literal) → IsCheckedIf p.checker (told_as (global.carry p.global_from_solver) (written lines)) checker → v ≡ outcome.Unknown → Links w (decide t v m y.working core checker p) (retold (told-with w p s lines) (with_verdict Unknown s))
-    went-on m core c e = decided w p s (told-with w p s lines) steps-are-told t v m y.working core checker Unknown k (λ _. steps-checked checker c) steps-hold left (subst (λ y. VerdictFits w.identity m y Unknown) (sym e) tt) tt tt
+    pub went-on : (m : ℕ → Bool) (core : List Literal) → IsCheckedIf p.checker
+        (told_as (global.carry p.global_from_solver) (written lines)) checker → v ≡ outcome.Unknown →
+        Links w (decide t v m y.working core checker p) (retold (told-with w p s lines) (with_verdict Unknown s))
+    went-on m core c e = decided w p s (told-with w p s lines) steps-are-told t v m y.working core checker Unknown k
+        (λ _. steps-checked checker c) steps-hold left (subst (λ y. VerdictFits w.identity m y Unknown) (sym e) tt) tt tt
 
-    pub unsat-found : (m : ℕ → Bool) (core : List Literal) → v ≡ outcome.Unsat → Links w (decide t v m y.working core checker p) (retold (told-with w p s lines) (with_verdict Unsat s))
+    pub unsat-found : (m : ℕ → Bool) (core : List Literal) → v ≡ outcome.Unsat →
+        Links w (decide t v m y.working core checker p) (retold (told-with w p s lines) (with_verdict Unsat s))
     unsat-found m core e =
-        let none = refuted s.clauses (translation w p (told-with w p s lines)) t (subst (SearchHolds s.clauses (translation w p (told-with w p s lines)) t) (ap without_core e) steps-hold) in
-        decided w p s (told-with w p s lines) steps-are-told t v m y.working core checker Unsat k (λ n. absurd (n (ap without_core e))) steps-hold left (subst (λ y. VerdictFits w.identity m y Unsat) (sym e) tt) tt none
+        let none = refuted s.clauses (translation w p (told-with w p s lines)) t
+        (subst (SearchHolds s.clauses (translation w p (told-with w p s lines)) t) (ap without_core e) steps-hold) in
+        decided w p s (told-with w p s lines) steps-are-told t v m y.working core checker Unsat k
+        (λ n. absurd (n (ap without_core e))) steps-hold left (subst (λ y. VerdictFits w.identity m y Unsat) (sym e) tt) tt none
 
     -- a core was found, which is told over names in use
-    pub core-tells : (found told : List Literal) → v ≡ outcome.UnsatUnder found → map (carry s.naming.names) told ≡ map (carry (translation w p s.told).identity) found → TellsMore n s.told ((told-with w p s lines) ++ Fails (map (carry s.naming.names) told) ∷ [])
-    core-tells found told e same-core = tells-also n s.told (told-with w p s lines) (Fails (map (carry s.naming.names) told) ∷ []) steps-tell (λ held d. (held, (held, (subst (Conflicts held) (sym same-core) (core-conflicts found e held d), refl), inl (tt, refl))))
+    pub core-tells : (found told : List Literal) → v ≡ outcome.UnsatUnder found →
+        map (carry s.naming.names) told ≡ map (carry (translation w p s.told).identity) found →
+        TellsMore n s.told ((told-with w p s lines) ++ Fails (map (carry s.naming.names) told) ∷ [])
+    core-tells found told e same-core = tells-also n s.told (told-with w p s lines) (Fails (map (carry s.naming.names) told) ∷ []) steps-tell
+        (λ held d. (held, (held, (subst (Conflicts held) (sym same-core) (core-conflicts found e held d), refl), inl (tt, refl))))
 
-    core-checked : (found told : List Literal) → IsCheckedIf p.checker (told_as (global.carry p.global_from_solver) (written lines ++ Fails found ∷ [])) checker → v ≡ outcome.UnsatUnder found → map (carry s.naming.names) told ≡ map (carry (translation w p s.told).identity) found → CheckerFits w.global ((told-with w p s lines) ++ Fails (map (carry s.naming.names) told) ∷ []) checker
+    core-checked : (found told : List Literal) → IsCheckedIf p.checker
+        (told_as (global.carry p.global_from_solver) (written lines ++ Fails found ∷ [])) checker → v ≡ outcome.UnsatUnder found →
+        map (carry s.naming.names) told ≡ map (carry (translation w p s.told).identity) found →
+        CheckerFits w.global ((told-with w p s lines) ++ Fails (map (carry s.naming.names) told) ∷ []) checker
     core-checked found told c e same-core =
         let r = translation w p s.told in
         let to = carry r.identity in
@@ -207,10 +264,12 @@ module _ (w : Carrying) (p : Spaces) (s : State) (k : Links w p s) (unknown : p.
         let h = global.carry p.global_from_solver in
         let ls = told_lines r lines in
         let used = λ (l : Literal) (i : l ∈ found). k.working.used l (subst (λ ws. l ∈ ws) (sym same) ((keeps.core found e).0 l i)) in
-        let one : map g (map (carry s.naming.names) told) ≡ map h found = ap (map g) same-core ∙ map-map g to h found (λ l i. global-carried w p s k l (used l i)) in
+        let one : map g (map (carry s.naming.names) told) ≡ map h found = ap (map g) same-core
+        ∙ map-map g to h found (λ l i. global-carried w p s k l (used l i)) in
         let all : told_as g (ls ++ Fails (map (carry s.naming.names) told) ∷ []) ≡ told_as h (written lines ++ Fails found ∷ []) =
         told_as-append g ls (Fails (map (carry s.naming.names) told) ∷ [])
-        ∙ ap (λ es. es ++ Fails (map g (map (carry s.naming.names) told)) ∷ []) (told-carried to g h (IsLiteralOf p.search) lines (λ l i. global-carried w p s k l (k.holds.within l i)) made.speaks)
+        ∙ ap (λ es. es ++ Fails (map g (map (carry s.naming.names) told)) ∷ [])
+        (told-carried to g h (IsLiteralOf p.search) lines (λ l i. global-carried w p s k l (k.holds.within l i)) made.speaks)
         ∙ ap (λ (ms : List Literal). told_as h (written lines) ++ Fails ms ∷ []) one
         ∙ sym (told_as-append h (written lines) (Fails found ∷ [])) in
         subst (λ es. CheckerFits w.global es checker) (sym (append_assoc s.told ls (Fails (map (carry s.naming.names) told) ∷ [])))
@@ -219,13 +278,20 @@ module _ (w : Carrying) (p : Spaces) (s : State) (k : Links w p s) (unknown : p.
         (subst (λ es. IsCheckedIf p.checker es checker) (sym all) c)
         (k.checked (known-unknown p.outcome unknown)))
 
-    pub core-found : (m : ℕ → Bool) (found told : List Literal) → IsCheckedIf p.checker (told_as (global.carry p.global_from_solver) (written lines ++ Fails found ∷ [])) checker → v ≡ outcome.UnsatUnder found → ((l : Literal) → l ∈ told → (i : ℕ) × (s.naming.names (variable_of l) ≡ Some i)) → map (carry s.naming.names) told ≡ map (carry (translation w p s.told).identity) found → Links w (decide t v m y.working told checker p) (retold ((told-with w p s lines) ++ Fails (map (carry s.naming.names) told) ∷ []) (with_verdict (UnsatUnderAssumptions (map (carry s.naming.names) told)) s))
+    pub core-found : (m : ℕ → Bool) (found told : List Literal) →
+        IsCheckedIf p.checker (told_as (global.carry p.global_from_solver) (written lines ++ Fails found ∷ [])) checker →
+        v ≡ outcome.UnsatUnder found → ((l : Literal) → l ∈ told → (i : ℕ) × (s.naming.names (variable_of l) ≡ Some i)) →
+        map (carry s.naming.names) told ≡ map (carry (translation w p s.told).identity) found →
+        Links w (decide t v m y.working told checker p)
+        (retold ((told-with w p s lines) ++ Fails (map (carry s.naming.names) told) ∷ [])
+        (with_verdict (UnsatUnderAssumptions (map (carry s.naming.names) told)) s))
     core-found m found told c e named same-core =
         let to = (translation w p s.told).identity in
         let as' = s.assumptions in
         let part : map (carry s.naming.names) told ⊆ as' = (λ l i.
         let (z, j, q) = map-∈ (carry to) l found (subst (λ xs. l ∈ xs) same-core i) in
-        subst (λ y. y ∈ as') (sym q) (k.working.part (carry to z) (∈-map (carry to) z p.working (subst (λ xs. z ∈ xs) (sym same) ((keeps.core found e).0 z j))))) in
+        subst (λ y. y ∈ as') (sym q) (k.working.part (carry to z)
+        (∈-map (carry to) z p.working (subst (λ xs. z ∈ xs) (sym same) ((keeps.core found e).0 z j))))) in
         let none : IsSatisfiableWith s.clauses (map (carry s.naming.names) told) → ⊥ = (λ (a, sat, true-core).
         let b : Assignment = λ v. a (identity_of (to v)) in
         let (after, d, o) = made.holds before.held before.holds in
@@ -233,13 +299,18 @@ module _ (w : Carrying) (p : Spaces) (s : State) (k : Links w p s) (unknown : p.
         conflicts_sound after found b all (carried-true to a found (subst (MakesTrue a) same-core true-core)) (subst (Holds after t) e o).1) in
         let last = Fails (map (carry s.naming.names) told) in
         let some : map (carry s.naming.names) told ≢ [] = (λ q. (keeps.core found e).1 (map-empty (carry to) found (sym same-core ∙ q))) in
-        decided w p s ((told-with w p s lines) ++ last ∷ []) (told-failed (told-with w p s lines) s.clauses s.counted s.ever_hidden (map (carry s.naming.names) told) steps-are-told) t v m y.working told checker (UnsatUnderAssumptions (map (carry s.naming.names) told)) k
+        decided w p s ((told-with w p s lines) ++ last ∷ [])
+        (told-failed (told-with w p s lines) s.clauses s.counted s.ever_hidden (map (carry s.naming.names) told) steps-are-told) t v m y.working
+        told checker (UnsatUnderAssumptions (map (carry s.naming.names) told)) k
         (λ _. core-checked found told c e same-core)
-        (holds-same s.clauses (translation w p (told-with w p s lines)) (translation w p ((told-with w p s lines) ++ last ∷ [])) t (without_core v) (λ u. refl) (λ i. refl)
-        (λ share q. told-quiet (translation w p (told-with w p s lines)) last (λ held d. (subst (Conflicts held) (sym same-core) (core-conflicts found e held d), refl)) t.fixed share (without_core v) q) steps-hold)
+        (holds-same s.clauses (translation w p (told-with w p s lines)) (translation w p ((told-with w p s lines) ++ last ∷ [])) t (without_core v)
+        (λ u. refl) (λ i. refl)
+        (λ share q. told-quiet (translation w p (told-with w p s lines)) last
+        (λ held d. (subst (Conflicts held) (sym same-core) (core-conflicts found e held d), refl)) t.fixed share (without_core v) q) steps-hold)
         left (subst (λ y. VerdictFits w.identity m y (UnsatUnderAssumptions (map (carry s.naming.names) told))) (sym e) some) (named, refl) (part, none)
 
-module _ (w : Carrying) (p : Spaces) (s : State) (k : Links w p s) (unknown : p.outcome ≡ outcome.Unknown) (t : Search) (f : Assignment) (n : ℕ) (lines : List Line) (made : MakesSteps n p.search t (outcome.Sat f) lines) (long : AreLong t) (in-use : AreInUse p t) where
+module _ (w : Carrying) (p : Spaces) (s : State) (k : Links w p s) (unknown : p.outcome ≡ outcome.Unknown) (t : Search) (f : Assignment) (n : ℕ)
+    (lines : List Line) (made : MakesSteps n p.search t (outcome.Sat f) lines) (long : AreLong t) (in-use : AreInUse p t) where
   pub found : Assignment
   found i = value_or (w.forced i) f (chain w.global p.solver_from_global i)
 
@@ -250,7 +321,8 @@ module _ (w : Carrying) (p : Spaces) (s : State) (k : Links w p s) (unknown : p.
   found-literal : (l : Literal) → IsLiteralOf p.search l → value found (carry (translation w p s.told).identity l) ≡ value f l
   found-literal l a =
       let (i, e) = k.holds.within l a in
-      value-carry (translation w p s.told).identity found l ∙ value-same (λ v. found (identity_of ((translation w p s.told).identity v))) f l (ap (λ o. found (identity_of o)) e ∙ found-solved (variable_of l) i e)
+      value-carry (translation w p s.told).identity found l ∙ value-same (λ v. found (identity_of ((translation w p s.told).identity v))) f l
+      (ap (λ o. found (identity_of o)) e ∙ found-solved (variable_of l) i e)
 
   found-forced : (l : Literal) → is_forced w.forced l ≡ true → value found l ≡ true
   unfolding found
@@ -264,8 +336,10 @@ module _ (w : Carrying) (p : Spaces) (s : State) (k : Links w p s) (unknown : p.
           let q = (back-there w p s k v i o).0 in
           let h = before w p s k unknown t (outcome.Sat f) n lines made long in-use in
           let m = literal_of v b in
-          let z = h.fixed (λ q. let z : outcome.Unknown ≡ outcome.Unsat = q in cc) m i (ap (translation w p s.told).identity (variable-literal v b) ∙ q) (e ∙ ap Some (sym (polarity-literal v b))) in
-          let (l, a, y) = (made.answers ((m ∷ []) ∷ []) (λ c. elim [ inl e ↦ inl (inr (m, subst (λ x. m ∈ x) (sym e) (inl refl), z)) | inr z ↦ absurd z ])).1 (m ∷ []) (inl refl) in
+          let z = h.fixed (λ q. let z : outcome.Unknown ≡ outcome.Unsat = q in cc) m i
+          (ap (translation w p s.told).identity (variable-literal v b) ∙ q) (e ∙ ap Some (sym (polarity-literal v b))) in
+          let (l, a, y) = (made.answers ((m ∷ []) ∷ [])
+          (λ c. elim [ inl e ↦ inl (inr (m, subst (λ x. m ∈ x) (sym e) (inl refl), z)) | inr z ↦ absurd z ])).1 (m ∷ []) (inl refl) in
           let only : l ≡ m = ⊎_elim (λ e. e) (λ z. absurd z) a in
           ap (value_or (w.forced i) f) o ∙ ap f (sym (variable-literal v b)) ∙ true-value f m (subst (λ x. value f x ≡ true) only y) ∙ polarity-literal v b)
           (is-some (chain w.global p.solver_from_global i))
@@ -276,29 +350,36 @@ module _ (w : Carrying) (p : Spaces) (s : State) (k : Links w p s) (unknown : p.
       ((before w p s k unknown t (outcome.Sat f) n lines made long in-use).covered (λ q. let z : outcome.Unknown ≡ outcome.Unsat = q in cc))
       found-literal found-forced
 
-  pub sat-found : (x y : AssumptionParts) → p.working ≡ x.working → KeepsAssumptions p.search (outcome.Sat f) x y → (core : List Literal) (checker : Option CheckerState) → IsCheckedIf p.checker (told_as (global.carry p.global_from_solver) (written lines)) checker →
-      Links w (decide t (outcome.Sat f) (λ x. value_or (p.kept x).unit f (p.solver_from_global x)) y.working core checker p) (retold (told-with w p s lines) (with_verdict (Sat found) s))
+  pub sat-found : (x y : AssumptionParts) → p.working ≡ x.working → KeepsAssumptions p.search (outcome.Sat f) x y →
+      (core : List Literal) (checker : Option CheckerState) → IsCheckedIf p.checker (told_as (global.carry p.global_from_solver) (written lines)) checker →
+      Links w (decide t (outcome.Sat f) (λ x. value_or (p.kept x).unit f (p.solver_from_global x)) y.working core checker p)
+      (retold (told-with w p s lines) (with_verdict (Sat found) s))
   unfolding found
   sat-found x y same keeps core checker c =
       let fits = left w p s k unknown t (outcome.Sat f) n lines made long in-use x y same keeps checker in
-      decided w p s (told-with w p s lines) (steps-are-told w p s k unknown t (outcome.Sat f) n lines made long in-use) t (outcome.Sat f) (λ x. value_or (p.kept x).unit f (p.solver_from_global x)) y.working core checker (Sat found) k
+      decided w p s (told-with w p s lines) (steps-are-told w p s k unknown t (outcome.Sat f) n lines made long in-use) t (outcome.Sat f)
+      (λ x. value_or (p.kept x).unit f (p.solver_from_global x)) y.working core checker (Sat found) k
       (λ _. steps-checked w p s k unknown t (outcome.Sat f) n lines made long in-use checker c)
       (steps-hold w p s k unknown t (outcome.Sat f) n lines made long in-use)
       fits
-      (λ x i e. ap (λ o. value_or o f (chain w.global p.solver_from_global i)) (k.units.unit x i e) ∙ ap (value_or (p.kept x).unit f) (chain-some w.global p.solver_from_global i x (k.identities.one_to_one.there x i e)))
+      (λ x i e. ap (λ o. value_or o f (chain w.global p.solver_from_global i)) (k.units.unit x i e)
+      ∙ ap (value_or (p.kept x).unit f) (chain-some w.global p.solver_from_global i x (k.identities.one_to_one.there x i e)))
       tt (
         found-satisfies,
         fits.implied found found-satisfies (λ l h.
             let (g, b, e) = map-∈ (carry (translation w p s.told).identity) l y.working h in
             let (i, c) = fits.used g b in
-            ap (value found) e ∙ value-carry (translation w p s.told).identity found g ∙ value-same (λ v. found (identity_of ((translation w p s.told).identity v))) f g (ap (λ o. found (identity_of o)) c ∙ found-solved (variable_of g) i c) ∙ keeps.model f refl g b),
+            ap (value found) e ∙ value-carry (translation w p s.told).identity found g
+            ∙ value-same (λ v. found (identity_of ((translation w p s.told).identity v))) f g
+            (ap (λ o. found (identity_of o)) c ∙ found-solved (variable_of g) i c) ∙ keeps.model f refl g b),
         λ i h. ⊎_elim
             (λ e. ap (value_or (w.forced i) f) e ∙ ⊎_elim (λ u. ap is_true_value u) (λ (b, u). absurd (h (k.units.is_counted i b u))) (is-some (w.forced i)))
             (λ (v, e). absurd (h (back-there w p s k v i e).1))
             (is-some (chain w.global p.solver_from_global i)),
       )
 
-pub model-same : (id : ℕ → Option ℕ) (m m' : ℕ → Bool) (o : Outcome) (v : Verdict) → ((found : Assignment) → o ≡ outcome.Sat found → (x : ℕ) → m' x ≡ m x) → VerdictFits id m o v → VerdictFits id m' o v
+pub model-same : (id : ℕ → Option ℕ) (m m' : ℕ → Bool) (o : Outcome) (v : Verdict) →
+    ((found : Assignment) → o ≡ outcome.Sat found → (x : ℕ) → m' x ≡ m x) → VerdictFits id m o v → VerdictFits id m' o v
 model-same id m m' outcome.Unknown Unknown h f = tt
 model-same id m m' outcome.Unknown (Sat a) h f = f
 model-same id m m' outcome.Unknown Unsat h f = f
@@ -328,7 +409,20 @@ pub record HaveSameMaps (p q : Spaces) : Type 0 where
   pub model : (found : Assignment) → p.outcome ≡ outcome.Sat found → (x : ℕ) → q.model x ≡ p.model x
 
 -- they do where the spaces differ in the search and its parts alone, and what is kept and the model agree
-pub maps-alike : (p q : Spaces) → q ≡ record p { kept = q.kept; model = q.model; assumptions = q.assumptions; core = q.core; working = q.working; search = q.search; outcome = q.outcome; var_count = q.var_count; checker = q.checker } → ((x : ℕ) → q.kept x ≡ p.kept x) → ((found : Assignment) → p.outcome ≡ outcome.Sat found → (x : ℕ) → q.model x ≡ p.model x) → HaveSameMaps p q
+pub maps-alike : (p q : Spaces) →
+    q ≡ record p {
+      kept = q.kept;
+      model = q.model;
+      assumptions = q.assumptions;
+      core = q.core;
+      working = q.working;
+      search = q.search;
+      outcome =
+          q.outcome;
+      var_count = q.var_count;
+      checker = q.checker;
+    } → ((x : ℕ) → q.kept x ≡ p.kept x) →
+    ((found : Assignment) → p.outcome ≡ outcome.Sat found → (x : ℕ) → q.model x ≡ p.model x) → HaveSameMaps p q
 maps-alike p q e kept model = record {
   global_from_user = λ u. ap (λ (y : Spaces). y.global_from_user u) e;
   user_from_global = λ x. ap (λ (y : Spaces). y.user_from_global x) e;
@@ -356,20 +450,33 @@ spaces-same p q s e (w, k) = (
   w,
   record {
     identities = identities-same w.identity w.global p.kept q.kept s.naming.made (λ x. ap (λ y. y.deleted) (e.maps.kept x)) k.identities;
-    names = names-same w.identity p.global_from_user p.user_from_global q.global_from_user q.user_from_global s.naming.names s.naming.watermark e.maps.global_from_user e.maps.user_from_global k.names;
-    modes = modes-same w.identity p.global_from_user p.user_from_global q.global_from_user q.user_from_global p.kept q.kept s.naming.modes e.maps.global_from_user e.maps.user_from_global (λ x. ap (λ y. y.sampling_mode) (e.maps.kept x)) k.modes;
+    names = names-same w.identity p.global_from_user p.user_from_global q.global_from_user q.user_from_global s.naming.names s.naming.watermark
+        e.maps.global_from_user e.maps.user_from_global k.names;
+    modes = modes-same w.identity p.global_from_user p.user_from_global q.global_from_user q.user_from_global p.kept q.kept s.naming.modes
+        e.maps.global_from_user e.maps.user_from_global (λ x. ap (λ y. y.sampling_mode) (e.maps.kept x)) k.modes;
     watermark = k.watermark ∙ sym e.maps.watermark;
     globals = let b = e.maps.globals in let c = k.globals in omega (arith, b, c);
     units = units-same w.identity w.forced p.kept q.kept s.counted (λ x. ap (λ y. y.unit) (e.maps.kept x)) k.units;
     isolation = isolation-same w.identity w.forced p.kept q.kept s.clauses s.naming.made (λ x. ap (λ y. y.isolated) (e.maps.kept x)) k.isolation;
-    solvers = solvers-same w.identity p.solver_from_global p.global_from_solver q.solver_from_global q.global_from_solver s.counted e.maps.solver_from_global e.maps.global_from_solver k.solvers;
-    holds = subst (λ t. SearchHolds s.clauses (translation w q s.told) t (without_core q.outcome)) (sym e.search) (subst (λ o. SearchHolds s.clauses (translation w q s.told) p.search (without_core o)) (sym e.outcome)
-        (holds-same s.clauses (translation w p s.told) (translation w q s.told) p.search (without_core p.outcome) (λ v. ap (λ y. onward y w.identity) (e.maps.global_from_solver v)) (λ i. refl)
-        (λ share z. told-same (translation w p s.told) (translation w q s.told) p.search.fixed share (without_core p.outcome) (λ v. ap (λ y. onward y w.identity) (e.maps.global_from_solver v)) (λ i. refl) (λ i y b o g. (y, g)) (λ i y g. (y, g)) refl z) k.holds));
-    assumptions = subst (λ y. AssumptionsFit q.global_from_user q.solver_from_global s.naming.names y s.assumptions) (sym e.assumptions) (assumptions-same p.global_from_user p.solver_from_global q.global_from_user q.solver_from_global s.naming.names p.assumptions s.assumptions e.maps.global_from_user e.maps.solver_from_global k.assumptions);
-    marks = subst (MarksFit q.global_from_user q.kept) (sym e.assumptions) (marks-same p.global_from_user q.global_from_user p.kept q.kept p.assumptions e.maps.global_from_user (λ x. ap (λ y. y.assumed) (e.maps.kept x)) k.marks);
-    working = subst (WorkingFits s.clauses (translation w q s.told).identity s.assumptions) (sym e.working) (working-same s.clauses (translation w p s.told).identity (translation w q s.told).identity s.assumptions p.working (λ l h. ap (λ y. onward y w.identity) (e.maps.global_from_solver (variable_of l))) k.working);
-    verdict = subst (λ y. VerdictFits w.identity q.model y s.verdict) (sym e.outcome) (model-same w.identity p.model q.model p.outcome s.verdict e.maps.model k.verdict);
+    solvers = solvers-same w.identity p.solver_from_global p.global_from_solver q.solver_from_global q.global_from_solver s.counted
+        e.maps.solver_from_global e.maps.global_from_solver k.solvers;
+    holds = subst (λ t. SearchHolds s.clauses (translation w q s.told) t (without_core q.outcome)) (sym e.search)
+        (subst (λ o. SearchHolds s.clauses (translation w q s.told) p.search (without_core o)) (sym e.outcome)
+        (holds-same s.clauses (translation w p s.told) (translation w q s.told) p.search (without_core p.outcome)
+        (λ v. ap (λ y. onward y w.identity) (e.maps.global_from_solver v)) (λ i. refl)
+        (λ share z. told-same (translation w p s.told) (translation w q s.told) p.search.fixed share (without_core p.outcome)
+        (λ v. ap (λ y. onward y w.identity) (e.maps.global_from_solver v)) (λ i. refl) (λ i y b o g. (y, g)) (λ i y g. (y, g)) refl z) k.holds));
+    assumptions = subst (λ y. AssumptionsFit q.global_from_user q.solver_from_global s.naming.names y s.assumptions) (sym e.assumptions)
+        (assumptions-same p.global_from_user p.solver_from_global q.global_from_user q.solver_from_global s.naming.names p.assumptions s.assumptions
+        e.maps.global_from_user e.maps.solver_from_global k.assumptions);
+    marks = subst (MarksFit q.global_from_user q.kept) (sym e.assumptions)
+        (marks-same p.global_from_user q.global_from_user p.kept q.kept p.assumptions e.maps.global_from_user
+        (λ x. ap (λ y. y.assumed) (e.maps.kept x)) k.marks);
+    working = subst (WorkingFits s.clauses (translation w q s.told).identity s.assumptions) (sym e.working)
+        (working-same s.clauses (translation w p s.told).identity (translation w q s.told).identity s.assumptions p.working
+        (λ l h. ap (λ y. onward y w.identity) (e.maps.global_from_solver (variable_of l))) k.working);
+    verdict = subst (λ y. VerdictFits w.identity q.model y s.verdict) (sym e.outcome)
+        (model-same w.identity p.model q.model p.outcome s.verdict e.maps.model k.verdict);
     core = subst (λ c. CoreFits s.naming.names c s.verdict) (sym e.core) k.core;
     right = k.right;
     well_formed = k.well_formed;
@@ -382,7 +489,19 @@ spaces-same p q s e (w, k) = (
 )
 
 -- Only the maps may differ, and they agree.
-pub maps-same : (p q : Spaces) (s : State) → HaveSameMaps p q → q ≡ record p { global_from_user = q.global_from_user; user_from_global = q.user_from_global; watermark = q.watermark; globals = q.globals; solver_from_global = q.solver_from_global; global_from_solver = q.global_from_solver; kept = q.kept; model = q.model } → SpacesFit p s → SpacesFit q s
+pub maps-same : (p q : Spaces) (s : State) → HaveSameMaps p q →
+    q ≡ record p {
+      global_from_user = q.global_from_user;
+      user_from_global = q.user_from_global;
+      watermark = q.watermark;
+      globals =
+          q.globals;
+      solver_from_global = q.solver_from_global;
+      global_from_solver = q.global_from_solver;
+      kept = q.kept;
+      model = q.model;
+    } →
+    SpacesFit p s → SpacesFit q s
 maps-same p q s m e = spaces-same p q s (record {
   maps = m;
   assumptions = ap (λ (x : Spaces). x.assumptions) e;

@@ -68,9 +68,16 @@ use Rattle.varisat.proofs.SpacesMoves.{AreInUse}
 
 -- 1. A new solver.
 
-pub first-kept : {A : Type 0} (t : Tables) (c : Context A) → t ≡ no_variables → IsReady c → length c.assignment.current ≡ 0 → c.assumptions ≡ no_assumptions → ((v : ℕ) → IsDecidable (view c) c.vsids v → ⊥) → IsKept t c
+pub first-kept : {A : Type 0} (t : Tables) (c : Context A) → t ≡ no_variables → IsReady c → length c.assignment.current ≡ 0 →
+    c.assumptions ≡ no_assumptions → ((v : ℕ) → IsDecidable (view c) c.vsids v → ⊥) → IsKept t c
 first-kept t c e r n s d = record {
-  bounded = record { users = let z = ap (λ (x : Tables). length x.users.forward) e in omega (arith, z); globals = let z = ap (λ (x : Tables). length x.kept) e in omega (arith, z); solvers = let z = ap (λ (x : Tables). length x.solvers.backward) e in omega (arith, z) };
+  bounded = record {
+    users = let z = ap (λ (x : Tables). length x.users.forward) e in
+        omega (arith, z);
+    globals = let z = ap (λ (x : Tables). length x.kept) e in
+        omega (arith, z);
+    solvers = let z = ap (λ (x : Tables). length x.solvers.backward) e in omega (arith, z);
+  };
   ready = r;
   count = n ∙ ap (λ (x : Tables). length x.solvers.backward) (sym e);
   decidable = λ v. ((λ h. absurd (d v h)), (λ h. let z : false ≡ true = subst (λ (x : Tables). IsSome (at x.solvers.backward v)) e h in absurd cc));
@@ -79,19 +86,41 @@ first-kept t c e r n s d = record {
   working = λ l h. absurd (subst (λ (x : AssumptionParts). l ∈ x.working) s h);
 }
 
-pub first-spaces : (s : View) → search_of s ≡ first_search → length s.values ≡ 0 → SpacesFit (spaces_of no_variables None s no_assumptions verdict.Unknown) empty_state
+pub first-spaces : (s : View) → search_of s ≡ first_search → length s.values ≡ 0 →
+    SpacesFit (spaces_of no_variables None s no_assumptions verdict.Unknown) empty_state
 first-spaces s e n =
     let f = first_stands (search_of s) e in (
       record { identity = λ x. None; global = λ i. None; forced = λ i. None },
       record {
-        identities = record { one_to_one = record { there = λ x y e. absurd cc; back = λ x y e. absurd cc }; live = λ x i e. absurd cc; deleted = λ x e. refl; below = λ x i e. absurd cc };
-        names = record { one_to_one = record { there = λ x y e. absurd (let z : None ≡ Some y = e in cc); back = λ x y e. absurd (let z : None ≡ Some x = e in cc) }; agree = λ u. refl; live = λ u x e. absurd (let z : None ≡ Some x = e in cc); free = λ u h. refl };
+        identities = record {
+          one_to_one = record { there = λ x y e. absurd cc; back = λ x y e. absurd cc };
+          live = λ x i e. absurd cc;
+          deleted =
+              λ x e. refl;
+          below = λ x i e. absurd cc;
+        };
+        names = record {
+          one_to_one = record {
+            there = λ x y e. absurd (let z : None ≡ Some y = e in cc);
+            back =
+                λ x y e. absurd (let z : None ≡ Some x = e in cc);
+          };
+          agree = λ u. refl;
+          live = λ u x e. absurd (let z : None ≡ Some x = e in cc);
+          free =
+              λ u h. refl;
+        };
         modes = record { mode = λ u x i e. absurd (let z : None ≡ Some x = e in cc); unnamed = λ x e. refl };
         watermark = refl;
         globals = omega arith;
         units = record { unit = λ x i e. absurd (let z : None ≡ Some i = e in cc); is_counted = λ i b e. absurd (let z : None ≡ Some b = e in cc) };
         isolation = λ i h. absurd (omega arith);
-        solvers = record { one_to_one = record { there = λ x y e. absurd (let z : None ≡ Some y = e in cc); back = λ x y e. absurd (let z : None ≡ Some x = e in cc) }; live = λ v x e. absurd (let z : None ≡ Some x = e in cc) };
+        solvers = record {
+          one_to_one =
+              record { there = λ x y e. absurd (let z : None ≡ Some y = e in cc); back = λ x y e. absurd (let z : None ≡ Some x = e in cc) };
+          live =
+              λ v x e. absurd (let z : None ≡ Some x = e in cc);
+        };
         holds = record {
           held = [];
           holds = f.holds;
@@ -100,7 +129,17 @@ first-spaces s e n =
           known = λ a m i b e. absurd (let z : None ≡ Some b = e in cc);
           fixed = λ o l i e. absurd (let z : None ≡ Some i = e in cc);
           covered = λ o c h. absurd h;
-          told = record { held = []; led = refl; forgotten = []; same = refl; inside = λ c l h. absurd h; units = λ i b x e. absurd (let z : None ≡ Some b = e in cc); live = λ c l h. absurd h; settled = λ c h. absurd h };
+          told = record {
+            held = [];
+            led = refl;
+            forgotten = [];
+            same = refl;
+            inside = λ c l h. absurd h;
+            units =
+                λ i b x e. absurd (let z : None ≡ Some b = e in cc);
+            live = λ c l h. absurd h;
+            settled = λ c h. absurd h;
+          };
         };
         assumptions = record { agree = refl; taken = λ l h. absurd h };
         marks = record { marked = λ l x h. absurd h; only = λ x e. absurd (let z : false ≡ true = e in cc) };
@@ -108,7 +147,16 @@ first-spaces s e n =
         verdict = tt;
         core = tt;
         right = tt;
-        well_formed = record { one_to_one = λ u v i e. absurd (let z : None ≡ Some i = e in cc); free = λ u h. refl; named = λ u i e. absurd (let z : None ≡ Some i = e in cc); accepted = λ c l h. absurd h; assumed = λ l h. absurd h; counted = λ i h. absurd h; once = tt };
+        well_formed = record {
+          one_to_one = λ u v i e. absurd (let z : None ≡ Some i = e in cc);
+          free = λ u h. refl;
+          named =
+              λ u i e. absurd (let z : None ≡ Some i = e in cc);
+          accepted = λ c l h. absurd h;
+          assumed = λ l h. absurd h;
+          counted = λ i h. absurd h;
+          once = tt;
+        };
         few = omega (arith, n);
         shown = λ o x h. refl;
         plain = λ o. record { all = λ i h. absurd (omega (arith, h)); only = λ x i e. absurd (let z : None ≡ Some i = e in cc) };
@@ -128,7 +176,8 @@ least-free g s u (w, k) (free, least) = (
   k.names.agree u ∙ chain-none (at g.tables.users.forward) w.identity u free,
   λ v h e. ⊎_elim
       (least v h)
-      (λ (x, q). let r = k.names.live v x q in let z : None ≡ Some r.0 = sym e ∙ k.names.agree v ∙ chain-some (at g.tables.users.forward) w.identity v x q ∙ r.1 in cc)
+      (λ (x, q). let r = k.names.live v x q in let z : None ≡ Some r.0 = sym e ∙ k.names.agree v
+      ∙ chain-some (at g.tables.users.forward) w.identity v x q ∙ r.1 in cc)
       (is-some (at g.tables.users.forward v)),
 )
 
@@ -137,16 +186,19 @@ pub named-alone : (u : ℕ) (m : Naming) → m.names u ≡ None → u ≤ m.wate
 named-alone u m free near =
     ⊎_elim
     (λ h. name-below u m h ∙ ap (λ o. bring_if_free u o m) free)
-    (λ h. name-above u m h ∙ ap (λ n. bring_next n m) (let z : suc u - m.watermark ≡ suc zero = omega (arith, h, near) in z) ∙ ap (λ n. bring n m) (let z : m.watermark ≡ u = omega (arith, h, near) in z))
+    (λ h. name-above u m h ∙ ap (λ n. bring_next n m) (let z : suc u - m.watermark ≡ suc zero = omega (arith, h, near) in z)
+    ∙ ap (λ n. bring n m) (let z : m.watermark ≡ u = omega (arith, h, near) in z))
     (below-or u m.watermark)
   where
     below-or : (u n : ℕ) → (u < n) ⊎ (n ≤ u)
     below-or u n = grind arith
 
-pub new-named : (g : Summary) (s : State) (new : Tables) (u x : ℕ) → SpacesFit (spaces g) s → IsLeastUnmapped g.tables.users.forward u → u ≤ length g.tables.users.forward → IsGiven g.tables new u x → SpacesFit (spaces (with_tables new g)) (with_naming (name_one u s.naming) s)
+pub new-named : (g : Summary) (s : State) (new : Tables) (u x : ℕ) → SpacesFit (spaces g) s → IsLeastUnmapped g.tables.users.forward u →
+    u ≤ length g.tables.users.forward → IsGiven g.tables new u x → SpacesFit (spaces (with_tables new g)) (with_naming (name_one u s.naming) s)
 new-named g s new u x f least b t =
     let m = f.1.watermark in
-    subst (SpacesFit (spaces (with_tables new g))) (sym (ap (λ n. with_naming n s) (named-alone u s.naming (least-free g s u f least).0 (omega (arith, b, m))))) (given-spaces g s new u x f least.0 t)
+    subst (SpacesFit (spaces (with_tables new g)))
+    (sym (ap (λ n. with_naming n s) (named-alone u s.naming (least-free g s u f least).0 (omega (arith, b, m))))) (given-spaces g s new u x f least.0 t)
 
 -- 3. A verdict.
 
@@ -165,13 +217,33 @@ pub record StepsMade (g : Summary) (t : View) (y z : AssumptionParts) (after : S
   pub steps : MakesSteps k (search_of g.search) (search_of t) (outcome_of t y.failed_core after) lines
   pub assumes : KeepsAssumptions (search_of g.search) (outcome_of t y.failed_core after) g.assumed y
   pub rest : z ≡ record y { user_core = z.user_core }
-  pub named : after ≡ verdict.UnsatUnderAssumptions → z.user_core ≡ map (carry (chain (at g.tables.solvers.backward) (at g.tables.users.backward))) y.failed_core
+  pub named : after ≡ verdict.UnsatUnderAssumptions → z.user_core ≡ map
+      (carry (chain (at g.tables.solvers.backward) (at g.tables.users.backward))) y.failed_core
 
 -- the spaces that steps leave are those of the solver afterwards
-left-spaces : (g : Summary) (checker : Option CheckerState) (s : State) (t : View) (y z : AssumptionParts) (after : SatState) {n : ℕ} {lines : List Line} (v : StepsMade g t y z after n lines) → SpacesFit (record (spaces g) { search = search_of t; outcome = outcome_of t y.failed_core after; model = (spaces (after_steps g checker t z after)).model; working = y.working; core = z.user_core; checker = checker }) s → SpacesFit (spaces (after_steps g checker t z after)) s
+left-spaces : (g : Summary) (checker : Option CheckerState) (s : State) (t : View) (y z : AssumptionParts)
+    (after : SatState) {n : ℕ} {lines : List Line} (v : StepsMade g t y z after n lines) →
+    SpacesFit (record (spaces g) {
+      search = search_of t;
+      outcome = outcome_of t y.failed_core after;
+      model =
+          (spaces (after_steps g checker t z after)).model;
+      working = y.working;
+      core = z.user_core;
+      checker = checker;
+    }) s →
+    SpacesFit (spaces (after_steps g checker t z after)) s
 left-spaces g checker s t y z after v f =
     let (w, k) = f in
-    let p = record (spaces g) { search = search_of t; outcome = outcome_of t y.failed_core after; model = (spaces (after_steps g checker t z after)).model; working = y.working; core = z.user_core; checker = checker } in
+    let p = record (spaces g) {
+      search = search_of t;
+      outcome = outcome_of t y.failed_core after;
+      model =
+          (spaces (after_steps g checker t z after)).model;
+      working = y.working;
+      core = z.user_core;
+      checker = checker;
+    } in
     spaces-same (record p { var_count = length t.values }) (spaces (after_steps g checker t z after)) s (record {
       maps = maps-alike (record p { var_count = length t.values }) (spaces (after_steps g checker t z after)) refl (λ x. refl) (λ a e x. refl);
       assumptions = ap (λ (x : AssumptionParts). x.user) v.rest ∙ v.assumes.user;
@@ -184,9 +256,12 @@ left-spaces g checker s t y z after v f =
     }) (w, recount w p (length g.search.values) (length t.values) s v.same_count k)
 
 -- the names of the solver variables of a core, carried to identities, are what the core is carried to
-module _ (g : Summary) (s : State) (w : Carrying) (k : Links w (spaces g) s) (names : (l : Literal) → l ∈ g.assumed.working → HasUser g.tables (variable_of l)) where
+module _ (g : Summary) (s : State) (w : Carrying) (k : Links w (spaces g) s)
+    (names : (l : Literal) → l ∈ g.assumed.working → HasUser g.tables (variable_of l)) where
   -- where a solver variable leads
-  core-leads : (m : Literal) → m ∈ g.assumed.working → (u i : ℕ) × (chain (at g.tables.solvers.backward) (at g.tables.users.backward) (variable_of m) ≡ Some u) × ((translation w (spaces g) s.told).identity (variable_of m) ≡ Some i) × (s.naming.names u ≡ Some i)
+  core-leads : (m : Literal) → m ∈ g.assumed.working → (u i : ℕ)
+      × (chain (at g.tables.solvers.backward) (at g.tables.users.backward) (variable_of m) ≡ Some u)
+      × ((translation w (spaces g) s.told).identity (variable_of m) ≡ Some i) × (s.naming.names u ≡ Some i)
   core-leads m a =
       let (i, t) = k.working.used m a in
       let (x, b, c) = chain-through (at g.tables.solvers.backward) w.identity (variable_of m) i t in
@@ -197,25 +272,34 @@ module _ (g : Summary) (s : State) (w : Carrying) (k : Links w (spaces g) s) (na
       let used = k.names.one_to_one.back u x (ap (at g.tables.users.backward) (sym same) ∙ n) in
       (u, i, e, t, k.names.agree u ∙ chain-some (at g.tables.users.forward) w.identity u x used ∙ c)
 
-  names-carried : (core told : List Literal) → ((l : Literal) → l ∈ core → l ∈ g.assumed.working) → told ≡ map (carry (chain (at g.tables.solvers.backward) (at g.tables.users.backward))) core →
-      ((l : Literal) → l ∈ told → (i : ℕ) × (s.naming.names (variable_of l) ≡ Some i)) × (map (carry s.naming.names) told ≡ map (carry (translation w (spaces g) s.told).identity) core)
+  names-carried : (core told : List Literal) → ((l : Literal) → l ∈ core → l ∈ g.assumed.working) →
+      told ≡ map (carry (chain (at g.tables.solvers.backward) (at g.tables.users.backward))) core →
+      ((l : Literal) → l ∈ told → (i : ℕ) × (s.naming.names (variable_of l) ≡ Some i))
+      × (map (carry s.naming.names) told ≡ map (carry (translation w (spaces g) s.told).identity) core)
   names-carried core told part e = (
     λ l h.
         let (m, a, q) = map-∈ (carry (chain (at g.tables.solvers.backward) (at g.tables.users.backward))) l core (subst (λ xs. l ∈ xs) e h) in
         let (u, i, r, t, n) = core-leads m (part m a) in
         (i, ap s.naming.names (ap variable_of q ∙ carry-at (chain (at g.tables.solvers.backward) (at g.tables.users.backward)) m u r) ∙ n),
-    ap (map (carry s.naming.names)) e ∙ map-map (carry s.naming.names) (carry (chain (at g.tables.solvers.backward) (at g.tables.users.backward))) (carry (translation w (spaces g) s.told).identity) core (λ m a.
+    ap (map (carry s.naming.names)) e ∙ map-map (carry s.naming.names) (carry (chain (at g.tables.solvers.backward) (at g.tables.users.backward)))
+        (carry (translation w (spaces g) s.told).identity) core (λ m a.
         let f = chain (at g.tables.solvers.backward) (at g.tables.users.backward) in
         let to = (translation w (spaces g) s.told).identity in
         let (u, i, r, t, n) = core-leads m (part m a) in
-        same-literal (carry s.naming.names (carry f m)) (carry to m) (carry-at s.naming.names (carry f m) i (ap s.naming.names (carry-at f m u r) ∙ n) ∙ sym (carry-at to m i t)) (carry-sign s.naming.names (carry f m) ∙ carry-sign f m ∙ sym (carry-sign to m))),
+        same-literal (carry s.naming.names (carry f m)) (carry to m)
+        (carry-at s.naming.names (carry f m) i (ap s.naming.names (carry-at f m u r) ∙ n) ∙ sym (carry-at to m i t))
+        (carry-sign s.naming.names (carry f m) ∙ carry-sign f m ∙ sym (carry-sign to m))),
   )
 
 -- where nothing was ever hidden that is what the journal is told
-plain-with : (w : Carrying) (p : Spaces) (s : State) → Links w p s → s.ever_hidden ≡ false → (lines : List Line) → told-with w p s lines ≡ s.told ++ told_as (global.carry p.global_from_solver) (written lines ++ [])
-plain-with w p s k shown lines = ap (λ es. s.told ++ es) (plain-lines w p s k shown lines ∙ ap (told_as (global.carry p.global_from_solver)) (sym (append-nil (written lines))))
+plain-with : (w : Carrying) (p : Spaces) (s : State) → Links w p s → s.ever_hidden ≡ false → (lines : List Line) →
+    told-with w p s lines ≡ s.told ++ told_as (global.carry p.global_from_solver) (written lines ++ [])
+plain-with w p s k shown lines =
+    ap (λ es. s.told ++ es) (plain-lines w p s k shown lines ∙ ap (told_as (global.carry p.global_from_solver)) (sym (append-nil (written lines))))
 
-plain-core : (w : Carrying) (p : Spaces) (s : State) → Links w p s → s.ever_hidden ≡ false → (lines : List Line) (found told : List Literal) → told ≡ map (carry (translation w p s.told).identity) found → told-with w p s lines ++ Fails told ∷ [] ≡ s.told ++ told_as (global.carry p.global_from_solver) (written lines ++ Fails found ∷ [])
+plain-core : (w : Carrying) (p : Spaces) (s : State) → Links w p s → s.ever_hidden ≡ false → (lines : List Line) (found told : List Literal) →
+    told ≡ map (carry (translation w p s.told).identity) found →
+    told-with w p s lines ++ Fails told ∷ [] ≡ s.told ++ told_as (global.carry p.global_from_solver) (written lines ++ Fails found ∷ [])
 plain-core w p s k shown lines found told e =
     append_assoc s.told (told_lines (translation w p s.told) lines) (Fails told ∷ [])
     ∙ ap (λ (c : List Literal). s.told ++ (told_lines (translation w p s.told) lines ++ Fails c ∷ [])) (e ∙ plain-literals w p s k shown found)
@@ -224,19 +308,34 @@ plain-core w p s k shown lines found told e =
 
 -- what the search is as steps begin
 abbrev searching : TracerState → View → AssumptionParts → State → Summary
-searching p search assumed s = record { tables = p.tables; opened = None; checker = p.proof.checker; search = search; assumed = assumed; sat_state = verdict.Unknown; words = 0; ledger = s.ledger }
+searching p search assumed s = record {
+  tables = p.tables;
+  opened = None;
+  checker = p.proof.checker;
+  search = search;
+  assumed = assumed;
+  sat_state =
+      verdict.Unknown;
+  words = 0;
+  ledger = s.ledger;
+}
 
 -- what the checker took
-checked-lines : (p q : TracerState) (es : List Entry) → IsCheckedIf p.proof.checker (told_as (global_literal p.tables) (es ++ [])) q.proof.checker → IsCheckedIf p.proof.checker (told_as (global_literal p.tables) es) q.proof.checker
+checked-lines : (p q : TracerState) (es : List Entry) → IsCheckedIf p.proof.checker (told_as (global_literal p.tables) (es ++ [])) q.proof.checker →
+    IsCheckedIf p.proof.checker (told_as (global_literal p.tables) es) q.proof.checker
 checked-lines p q es c = subst (λ xs. IsCheckedIf p.proof.checker (told_as (global_literal p.tables) xs) q.proof.checker) (append-nil es) c
 
 -- what the state is then
-pub comes-made : (p q : TracerState) (search : View) (assumed : AssumptionParts) (s : State) (t : View) (y z : AssumptionParts) (after : SatState) (n : ℕ) (lines : List Line) → SpacesFit (spaces_of p.tables p.proof.checker search assumed verdict.Unknown) s → StepsMade (searching p search assumed s) t y z after n lines → TakesStep TakesGlobally p lines (outcome_of t y.failed_core after) q → ComesTo n s p.proof q.proof (spaces_of p.tables q.proof.checker t z after)
+pub comes-made : (p q : TracerState) (search : View) (assumed : AssumptionParts) (s : State) (t : View) (y z : AssumptionParts) (after : SatState)
+    (n : ℕ) (lines : List Line) → SpacesFit (spaces_of p.tables p.proof.checker search assumed verdict.Unknown) s →
+    StepsMade (searching p search assumed s) t y z after n lines → TakesStep TakesGlobally p lines (outcome_of t y.failed_core after) q →
+    ComesTo n s p.proof q.proof (spaces_of p.tables q.proof.checker t z after)
 comes-made p q search assumed s t y z verdict.Unknown n lines (w, k) v takes =
     let g = searching p search assumed s in
     let long = view-long t v.well in
     let told = told-with w (spaces g) s lines in
-    let links = went-on w (spaces g) s k refl (search_of t) outcome.Unknown n lines v.steps long v.in_use assumed y refl v.assumes q.proof.checker (spaces (after_steps g q.proof.checker t z verdict.Unknown)).model z.user_core (checked-lines p q (written lines) takes.told.checked) refl in
+    let links = went-on w (spaces g) s k refl (search_of t) outcome.Unknown n lines v.steps long v.in_use assumed y refl v.assumes q.proof.checker
+    (spaces (after_steps g q.proof.checker t z verdict.Unknown)).model z.user_core (checked-lines p q (written lines) takes.told.checked) refl in
     record {
       verdict = Unknown;
       told = told;
@@ -250,7 +349,8 @@ comes-made p q search assumed s t y z verdict.Sat n lines (w, k) v takes =
     let long = view-long t v.well in
     let told = told-with w (spaces g) s lines in
     let a = found w (spaces g) s k refl (search_of t) (assignment_of t) n lines v.steps long v.in_use in
-    let links = sat-found w (spaces g) s k refl (search_of t) (assignment_of t) n lines v.steps long v.in_use assumed y refl v.assumes z.user_core q.proof.checker (checked-lines p q (written lines) takes.told.checked) in
+    let links = sat-found w (spaces g) s k refl (search_of t) (assignment_of t) n lines v.steps long v.in_use assumed y refl v.assumes z.user_core
+    q.proof.checker (checked-lines p q (written lines) takes.told.checked) in
     record {
       verdict = Sat a;
       told = told;
@@ -263,7 +363,8 @@ comes-made p q search assumed s t y z verdict.Unsat n lines (w, k) v takes =
     let g = searching p search assumed s in
     let long = view-long t v.well in
     let told = told-with w (spaces g) s lines in
-    let links = unsat-found w (spaces g) s k refl (search_of t) outcome.Unsat n lines v.steps long v.in_use assumed y refl v.assumes q.proof.checker (spaces (after_steps g q.proof.checker t z verdict.Unsat)).model z.user_core refl in
+    let links = unsat-found w (spaces g) s k refl (search_of t) outcome.Unsat n lines v.steps long v.in_use assumed y refl v.assumes q.proof.checker
+    (spaces (after_steps g q.proof.checker t z verdict.Unsat)).model z.user_core refl in
     record {
       verdict = Unsat;
       told = told;
@@ -278,22 +379,31 @@ comes-made p q search assumed s t y z verdict.UnsatUnderAssumptions n lines (w, 
     let (named, same) = names-carried g s w k v.working y.failed_core z.user_core (v.assumes.core y.failed_core refl).0 (v.named refl) in
     let core = map (carry s.naming.names) z.user_core in
     let told = told-with w (spaces g) s lines ++ Fails core ∷ [] in
-    let links = core-found w (spaces g) s k refl (search_of t) (outcome.UnsatUnder y.failed_core) n lines v.steps long v.in_use assumed y refl v.assumes q.proof.checker (spaces (after_steps g q.proof.checker t z verdict.UnsatUnderAssumptions)).model y.failed_core z.user_core takes.told.checked refl named same in
+    let links = core-found w (spaces g) s k refl (search_of t) (outcome.UnsatUnder y.failed_core) n lines v.steps long v.in_use assumed y refl
+    v.assumes q.proof.checker (spaces (after_steps g q.proof.checker t z verdict.UnsatUnderAssumptions)).model y.failed_core z.user_core
+    takes.told.checked refl named same in
     record {
       verdict = UnsatUnderAssumptions core;
       told = told;
-      more = core-tells w (spaces g) s k refl (search_of t) (outcome.UnsatUnder y.failed_core) n lines v.steps long v.in_use assumed y refl v.assumes q.proof.checker y.failed_core z.user_core refl same;
+      more = core-tells w (spaces g) s k refl (search_of t) (outcome.UnsatUnder y.failed_core) n lines v.steps long v.in_use assumed y refl
+          v.assumes q.proof.checker y.failed_core z.user_core refl same;
       adds = λ e. absurd (let z : UnsatUnderAssumptions core ≡ Unknown = e in cc);
-      proof = proof-told p q (written lines ++ Fails y.failed_core ∷ []) s.ever_hidden s.told told takes (λ shown. plain-core w (spaces g) s k shown lines y.failed_core core same);
+      proof = proof-told p q (written lines ++ Fails y.failed_core ∷ []) s.ever_hidden s.told told takes
+          (λ shown. plain-core w (spaces g) s k shown lines y.failed_core core same);
       fits = left-spaces g q.proof.checker (retold told (with_verdict (UnsatUnderAssumptions core) s)) t y z verdict.UnsatUnderAssumptions v (w, links);
     }
 
 -- few steps were made since the last change
-pub counted-few : (g : Summary) (s : State) → StandsFor g s → g.ledger.valid ≡ true → ((n : ℕ) → length g.search.values ≤ n → g.ledger.since < 2 ^ (2 * n + 3)) → s.ledger.since < 2 ^ (2 * length s.counted + 3)
-counted-few g s st v few = subst (λ k. k < 2 ^ (2 * length s.counted + 3)) (sym (ap (λ (l : Ledger). l.since) st.ledger)) (few (length s.counted) (st.fits v).1.few)
+pub counted-few : (g : Summary) (s : State) → StandsFor g s → g.ledger.valid ≡ true →
+    ((n : ℕ) → length g.search.values ≤ n → g.ledger.since < 2 ^ (2 * n + 3)) → s.ledger.since < 2 ^ (2 * length s.counted + 3)
+counted-few g s st v few = subst (λ k. k < 2 ^ (2 * length s.counted + 3)) (sym (ap (λ (l : Ledger). l.since) st.ledger))
+    (few (length s.counted) (st.fits v).1.few)
 
 -- how the steps are counted, for the state
-pub counted-call : (g : Summary) (s : State) (max_steps after : ℕ) (a r : Result Bool SolverError) → StandsFor g s → g.ledger.valid ≡ true → max_steps ≡ g.ledger.settings.max_steps → a ≡ r → ((n : ℕ) → length g.search.values ≤ n → CountsSteps n max_steps g.ledger.since g.ledger.steps after a) → CountsSteps (length s.counted) s.ledger.settings.max_steps s.ledger.since s.ledger.steps after r
+pub counted-call : (g : Summary) (s : State) (max_steps after : ℕ) (a r : Result Bool SolverError) → StandsFor g s → g.ledger.valid ≡ true →
+    max_steps ≡ g.ledger.settings.max_steps → a ≡ r →
+    ((n : ℕ) → length g.search.values ≤ n → CountsSteps n max_steps g.ledger.since g.ledger.steps after a) →
+    CountsSteps (length s.counted) s.ledger.settings.max_steps s.ledger.since s.ledger.steps after r
 counted-call g s max_steps after a r st v m e c =
     let k = c (length s.counted) (st.fits v).1.few in
     let o = sym (ap (λ (l : Ledger). l.settings.max_steps) st.ledger) in
@@ -304,7 +414,8 @@ counted-call g s max_steps after a r st v m e c =
 
 -- before that the verdict was unknown
 pub was-unknown : (g : Summary) (s : State) → StandsFor g s → g.ledger.valid ≡ true → g.sat_state ≡ verdict.Unknown → s.verdict ≡ Unknown
-was-unknown g s st v e = let (w, k) = st.fits v in is-unknown w.identity (spaces g).model s.verdict (subst (λ y. VerdictFits w.identity (spaces g).model y s.verdict) (ap (outcome_of g.search g.assumed.failed_core) e) k.verdict)
+was-unknown g s st v e = let (w, k) = st.fits v in is-unknown w.identity (spaces g).model s.verdict
+    (subst (λ y. VerdictFits w.identity (spaces g).model y s.verdict) (ap (outcome_of g.search g.assumed.failed_core) e) k.verdict)
 
 -- 4. The model.
 
@@ -313,7 +424,9 @@ tables-listed g zero u = refl
 tables-listed g (suc k) u = ap (put_name u (at g.tables.users.forward u) (spaces g).model) (tables-listed g k (suc u))
 
 -- where a model was found it is told, and can be completed
-pub sat-model : (g : Summary) (s : State) → StandsFor g s → g.ledger.valid ≡ true → g.sat_state ≡ verdict.Sat → (model_of s.naming s.verdict ≡ Some (list_tables g.tables g.search.values 0 (length g.tables.users.forward))) × IsCompletable s.naming s.clauses s.assumptions s.counted (list_tables g.tables g.search.values 0 (length g.tables.users.forward))
+pub sat-model : (g : Summary) (s : State) → StandsFor g s → g.ledger.valid ≡ true → g.sat_state ≡ verdict.Sat →
+    (model_of s.naming s.verdict ≡ Some (list_tables g.tables g.search.values 0 (length g.tables.users.forward)))
+    × IsCompletable s.naming s.clauses s.assumptions s.counted (list_tables g.tables g.search.values 0 (length g.tables.users.forward))
 sat-model g s st v e =
     let (w, k) = st.fits v in
     let (a, b) = told w (spaces g) s (assignment_of g.search) k (ap (outcome_of g.search g.assumed.failed_core) e) in
@@ -325,12 +438,17 @@ put-append : (u : ℕ) (o : Option ℕ) (m : Assignment) (xs ys : List Literal) 
 put-append u None m xs ys = refl
 put-append u (Some x) m xs ys = refl
 
-pub tables-push : (t : Tables) (vs : List (Option Bool)) (m : Assignment) → m ≡ (λ x. value_or (kept_at t.kept x).unit (λ v. is_true_value (get_or vs v None)) (at t.solvers.forward x)) → (k u : ℕ) → list_tables t vs u (suc k) ≡ list_tables t vs u k ++ put_name (u + k) (at t.users.forward (u + k)) m []
-tables-push t vs m e zero u = ap (λ f. put_name u (at t.users.forward u) f []) (sym e) ∙ ap (λ n. put_name n (at t.users.forward n) m []) (let z : u ≡ u + 0 = omega arith in z)
+pub tables-push : (t : Tables) (vs : List (Option Bool)) (m : Assignment) →
+    m ≡ (λ x. value_or (kept_at t.kept x).unit (λ v. is_true_value (get_or vs v None)) (at t.solvers.forward x)) → (k u : ℕ) →
+    list_tables t vs u (suc k) ≡ list_tables t vs u k ++ put_name (u + k) (at t.users.forward (u + k)) m []
+tables-push t vs m e zero u = ap (λ f. put_name u (at t.users.forward u) f []) (sym e)
+    ∙ ap (λ n. put_name n (at t.users.forward n) m []) (let z : u ≡ u + 0 = omega arith in z)
 tables-push t vs m e (suc k) u =
     let f : Assignment = λ x. value_or (kept_at t.kept x).unit (λ v. is_true_value (get_or vs v None)) (at t.solvers.forward x) in
     let z : suc u + k ≡ u + suc k = omega arith in
-    ap (put_name u (at t.users.forward u) f) (tables-push t vs m e k (suc u)) ∙ put-append u (at t.users.forward u) f (list_tables t vs (suc u) k) (put_name (suc u + k) (at t.users.forward (suc u + k)) m []) ∙ ap (λ n. list_tables t vs u (suc k) ++ put_name n (at t.users.forward n) m []) z
+    ap (put_name u (at t.users.forward u) f) (tables-push t vs m e k (suc u))
+    ∙ put-append u (at t.users.forward u) f (list_tables t vs (suc u) k) (put_name (suc u + k) (at t.users.forward (suc u + k)) m [])
+    ∙ ap (λ n. list_tables t vs u (suc k) ++ put_name n (at t.users.forward n) m []) z
 
 -- a test that is passed just where the value is true
 true-just : (b : Bool) (o : Option Bool) → (b ≡ true) ↔ (o ≡ Some true) → b ≡ is_true_value o
@@ -339,16 +457,20 @@ true-just false None f = refl
 true-just false (Some false) f = refl
 true-just false (Some true) f = f.1 refl
 
-value-listed : (vs : List (Option Bool)) (unit : Option Bool) (o : Option ℕ) → is_true_value (value_or_unit vs unit o) ≡ value_or unit (λ v. is_true_value (get_or vs v None)) o
+value-listed : (vs : List (Option Bool)) (unit : Option Bool) (o : Option ℕ) →
+    is_true_value (value_or_unit vs unit o) ≡ value_or unit (λ v. is_true_value (get_or vs v None)) o
 value-listed vs unit None = refl
 value-listed vs unit (Some v) = refl
 
 -- whether the literal of a live variable is true in the model of the global variables
-pub literal-listed : (t : Tables) (vs model : List (Option Bool)) (x : ℕ) (l : Literal) (b : Bool) → IsGlobalModel t vs model → (kept_at t.kept x).deleted ≡ false → l ≡ literal_of x true → (b ≡ true) ↔ IsMadeTrue model l → b ≡ value_or (kept_at t.kept x).unit (λ v. is_true_value (get_or vs v None)) (at t.solvers.forward x)
+pub literal-listed : (t : Tables) (vs model : List (Option Bool)) (x : ℕ) (l : Literal) (b : Bool) → IsGlobalModel t vs model →
+    (kept_at t.kept x).deleted ≡ false → l ≡ literal_of x true → (b ≡ true) ↔ IsMadeTrue model l →
+    b ≡ value_or (kept_at t.kept x).unit (λ v. is_true_value (get_or vs v None)) (at t.solvers.forward x)
 literal-listed t vs model x l b m live e f =
     let o = at t.solvers.forward x in
     let unit = (kept_at t.kept x).unit in
-    let here : get_or model (variable_of l) None ≡ get_or model x None = ap (λ k. get_or model (variable_of k) None) e ∙ ap (λ v. get_or model v None) (variable-literal x true) in
+    let here : get_or model (variable_of l) None ≡ get_or model x None = ap (λ k. get_or model (variable_of k) None) e
+    ∙ ap (λ v. get_or model v None) (variable-literal x true) in
     let sign : polarity_of l ≡ true = ap polarity_of e ∙ polarity-literal x true in
     let just : (b ≡ true) ↔ (get_or model x None ≡ Some true) = (λ q. sym here ∙ f.0 q ∙ ap Some sign, λ q. f.1 (here ∙ q ∙ ap Some (sym sign))) in
     true-just b (get_or model x None) just ∙ ap is_true_value (m.each x ∙ ap (λ d. if d then None else value_or_unit vs unit o) live) ∙ value-listed vs unit o
@@ -358,21 +480,26 @@ literal-listed t vs model x l b m live e f =
 pub sat-right : (g : Summary) (s : State) → StandsFor g s → g.ledger.valid ≡ true → g.sat_state ≡ verdict.Sat → IsSatisfiableWith s.clauses s.assumptions
 sat-right g s st valid e =
     let (w, k) = st.fits valid in
-    let (a, v, f) = is-sat w.identity (spaces g).model (assignment_of g.search) s.verdict (subst (λ y. VerdictFits w.identity (spaces g).model y s.verdict) (ap (outcome_of g.search g.assumed.failed_core) e) k.verdict) in
+    let (a, v, f) = is-sat w.identity (spaces g).model (assignment_of g.search) s.verdict
+    (subst (λ y. VerdictFits w.identity (spaces g).model y s.verdict) (ap (outcome_of g.search g.assumed.failed_core) e) k.verdict) in
     let r = subst (IsRight s.clauses s.assumptions s.counted) v k.right in
     (a, r.0, r.1)
 
 pub sat-answer : (g : Summary) (s : State) → StandsFor g s → g.ledger.valid ≡ true → g.sat_state ≡ verdict.Sat → answer_of s.verdict ≡ Some true
-sat-answer g s st v e = let (w, k) = st.fits v in ap answer_of (is-sat w.identity (spaces g).model (assignment_of g.search) s.verdict (subst (λ y. VerdictFits w.identity (spaces g).model y s.verdict) (ap (outcome_of g.search g.assumed.failed_core) e) k.verdict)).1
+sat-answer g s st v e = let (w, k) = st.fits v in ap answer_of
+    (is-sat w.identity (spaces g).model (assignment_of g.search) s.verdict
+    (subst (λ y. VerdictFits w.identity (spaces g).model y s.verdict) (ap (outcome_of g.search g.assumed.failed_core) e) k.verdict)).1
 
-pub tells-error : {A : Type 0} (s : State) (r : Result (Option (Vec Literal A)) AllocError) → IsErr r → IsValid s → answer_of s.verdict ≡ Some true → TellsModel s (told_list r) s
+pub tells-error : {A : Type 0} (s : State) (r : Result (Option (Vec Literal A)) AllocError) → IsErr r → IsValid s →
+    answer_of s.verdict ≡ Some true → TellsModel s (told_list r) s
 tells-error s (Ok m) h v a = absurd (let z : false ≡ true = h in cc)
 tells-error s (Err e) h v a = (v, a, refl)
 
 -- 6. The core.
 
 -- what the solver's verdict answers is what the state's does
-pub answers-fit : (id : ℕ → Option ℕ) (m : ℕ → Bool) (t : View) (failed : List Literal) (sat : SatState) (v : Verdict) → VerdictFits id m (outcome_of t failed sat) v → answer_of v ≡ answer_at sat
+pub answers-fit : (id : ℕ → Option ℕ) (m : ℕ → Bool) (t : View) (failed : List Literal) (sat : SatState) (v : Verdict) →
+    VerdictFits id m (outcome_of t failed sat) v → answer_of v ≡ answer_at sat
 answers-fit id m t failed verdict.Unknown Unknown f = refl
 answers-fit id m t failed verdict.Sat (Sat a) f = refl
 answers-fit id m t failed verdict.Unsat Unsat f = refl
@@ -383,22 +510,26 @@ pub answers-alike : (g : Summary) (s : State) → StandsFor g s → g.ledger.val
 answers-alike g s st v = let (w, k) = st.fits v in answers-fit w.identity (spaces g).model g.search g.assumed.failed_core g.sat_state s.verdict k.verdict
 
 -- under assumptions that failed the core is told that is kept over names
-pub core-to-tell : (g : Summary) (s : State) → StandsFor g s → g.ledger.valid ≡ true → g.sat_state ≡ verdict.UnsatUnderAssumptions → IsCoreToTell s (Some g.assumed.user_core)
+pub core-to-tell : (g : Summary) (s : State) → StandsFor g s → g.ledger.valid ≡ true → g.sat_state ≡ verdict.UnsatUnderAssumptions →
+    IsCoreToTell s (Some g.assumed.user_core)
 core-to-tell g s st v e =
     let (w, k) = st.fits v in
-    let (core, q) = is-core w.identity (spaces g).model g.assumed.failed_core s.verdict (subst (λ y. VerdictFits w.identity (spaces g).model y s.verdict) (ap (outcome_of g.search g.assumed.failed_core) e) k.verdict) in
+    let (core, q) = is-core w.identity (spaces g).model g.assumed.failed_core s.verdict
+    (subst (λ y. VerdictFits w.identity (spaces g).model y s.verdict) (ap (outcome_of g.search g.assumed.failed_core) e) k.verdict) in
     let (named, same) = subst (CoreFits s.naming.names g.assumed.user_core) q k.core in
     (named, ap core_of q ∙ ap Some same)
 
 pub unsat-known : (g : Summary) (s : State) → StandsFor g s → g.ledger.valid ≡ true → g.sat_state ≡ verdict.Unsat → s.verdict ≡ Unsat
 unsat-known g s st v e =
     let (w, k) = st.fits v in
-    is-unsat w.identity (spaces g).model s.verdict (subst (λ y. VerdictFits w.identity (spaces g).model y s.verdict) (ap (outcome_of g.search g.assumed.failed_core) e) k.verdict)
+    is-unsat w.identity (spaces g).model s.verdict
+    (subst (λ y. VerdictFits w.identity (spaces g).model y s.verdict) (ap (outcome_of g.search g.assumed.failed_core) e) k.verdict)
 
 pub unsat-to-tell : (g : Summary) (s : State) → StandsFor g s → g.ledger.valid ≡ true → g.sat_state ≡ verdict.Unsat → IsCoreToTell s (Some [])
 unsat-to-tell g s st v e =
     let (w, k) = st.fits v in
-    let q = is-unsat w.identity (spaces g).model s.verdict (subst (λ y. VerdictFits w.identity (spaces g).model y s.verdict) (ap (outcome_of g.search g.assumed.failed_core) e) k.verdict) in
+    let q = is-unsat w.identity (spaces g).model s.verdict
+    (subst (λ y. VerdictFits w.identity (spaces g).model y s.verdict) (ap (outcome_of g.search g.assumed.failed_core) e) k.verdict) in
     ((λ l h. absurd h), ap core_of q)
 
 -- no answer false, no core
@@ -414,14 +545,16 @@ none-to-tell s n = go s.verdict n
 -- 7. What is told where the verdict is known.
 
 -- under Unsat what was told leads to a conflict
-pub unsat-told : (id : ℕ → Option ℕ) (m : ℕ → Bool) (r : Translation) (fixed : List Literal) (share : List Clause) (o : Outcome) (x : Verdict) → x ≡ Unsat → VerdictFits id m o x → HeldFits r fixed share (without_core o) → ToldConflict r.told
+pub unsat-told : (id : ℕ → Option ℕ) (m : ℕ → Bool) (r : Translation) (fixed : List Literal) (share : List Clause) (o : Outcome) (x : Verdict) →
+    x ≡ Unsat → VerdictFits id m o x → HeldFits r fixed share (without_core o) → ToldConflict r.told
 unsat-told id m r fixed share outcome.Unsat x e f h = h
 unsat-told id m r fixed share outcome.Unknown x e f h = absurd (subst (VerdictFits id m outcome.Unknown) e f)
 unsat-told id m r fixed share (outcome.Sat found) x e f h = absurd (subst (VerdictFits id m (outcome.Sat found)) e f)
 unsat-told id m r fixed share (outcome.UnsatUnder core) x e f h = absurd (subst (VerdictFits id m (outcome.UnsatUnder core)) e f)
 
 pub told-refuted : (g : Summary) (s : State) → StandsFor g s → g.ledger.valid ≡ true → s.verdict ≡ Unsat → ToldConflict s.told
-told-refuted g s st v e = let (w, k) = st.fits v in unsat-told w.identity (spaces g).model (translation w (spaces g) s.told) (spaces g).search.fixed k.holds.held (spaces g).outcome s.verdict e k.verdict k.holds.told
+told-refuted g s st v e = let (w, k) = st.fits v in unsat-told w.identity (spaces g).model (translation w (spaces g) s.told)
+    (spaces g).search.fixed k.holds.held (spaces g).outcome s.verdict e k.verdict k.holds.told
 
 pub known-told : (g : Summary) (s : State) (b : Bool) → StandsFor g s → g.ledger.valid ≡ true → answer_at g.sat_state ≡ Some b → TellsVerdict s b s
 known-told g s b st v e =
@@ -432,15 +565,32 @@ known-told g s b st v e =
       steps = λ u. absurd (let z : None ≡ Some b = ap answer_of (sym u) ∙ a in cc);
       answer = a;
       right = (st.fits v).1.right;
-      rest = record { naming = refl; ever_hidden = refl; clauses = refl; assumptions = refl; counted = refl; verdict = refl; ledger = ledger-is s.ledger s.ledger.valid s.ledger.started s.ledger.steps (s.ledger.since + (s.ledger.steps - s.ledger.steps)) s.ledger.settings refl refl refl (none-more s.ledger.since s.ledger.steps) refl; told = (stays-nothing s.told).0; stays = λ _. (stays-nothing s.told).1; proof = goes-on-none s.proof };
+      rest = record {
+        naming = refl;
+        ever_hidden = refl;
+        clauses = refl;
+        assumptions = refl;
+        counted = refl;
+        verdict = refl;
+        ledger =
+            ledger-is s.ledger s.ledger.valid s.ledger.started s.ledger.steps
+            (s.ledger.since + (s.ledger.steps - s.ledger.steps)) s.ledger.settings refl refl refl
+            (none-more s.ledger.since s.ledger.steps) refl;
+        told = (stays-nothing s.told).0;
+        stays = λ _. (stays-nothing s.told).1;
+        proof =
+            goes-on-none s.proof;
+      };
       told = let z : 0 ≡ s.ledger.steps - s.ledger.steps = omega arith in subst (λ n. TellsMore n s.told s.told) z (tells-nothing s.told);
       refuted = told-refuted g s st v;
     }
 
-pub false-right : (g : Summary) (s : State) → StandsFor g s → g.ledger.valid ≡ true → answer_at g.sat_state ≡ Some false → IsSatisfiableWith s.clauses s.assumptions → ⊥
+pub false-right : (g : Summary) (s : State) → StandsFor g s → g.ledger.valid ≡ true → answer_at g.sat_state ≡ Some false →
+    IsSatisfiableWith s.clauses s.assumptions → ⊥
 false-right g s st v e = right-false s.clauses s.assumptions s.counted s.verdict (answers-alike g s st v ∙ e) (st.fits v).1.right
 
-pub false-core : (g : Summary) (s : State) → StandsFor g s → g.ledger.valid ≡ true → answer_at g.sat_state ≡ Some false → (core : List Literal) × (core_of s.verdict ≡ Some core) × IsFailedCore s.clauses s.assumptions core
+pub false-core : (g : Summary) (s : State) → StandsFor g s → g.ledger.valid ≡ true → answer_at g.sat_state ≡ Some false → (core : List Literal)
+    × (core_of s.verdict ≡ Some core) × IsFailedCore s.clauses s.assumptions core
 false-core g s st v e = right-core s.clauses s.assumptions s.counted s.verdict (answers-alike g s st v ∙ e) (st.fits v).1.right
 
 pub answered-true : (x : SatState) → answer_at x ≡ Some true → x ≡ verdict.Sat
@@ -464,6 +614,7 @@ core-refused : (s t : State) (core : List Literal) (e : AllocError) → TellsCor
 core-refused s t core e (inl (v, x), same) = (v, core-answer s.verdict (map (through_names s.naming) core) x.1, refl)
 core-refused s t core e (inr (v, x), same) = absurd cc
 
-pub told-refused-core : {A : Type 0} (s t : State) (core : List Literal) (r : Result (Option (Vec Literal A)) AllocError) → IsErr r → TellsCore s (Ok (Some core)) t → TellsCore s (told_list r) s
+pub told-refused-core : {A : Type 0} (s t : State) (core : List Literal) (r : Result (Option (Vec Literal A)) AllocError) → IsErr r →
+    TellsCore s (Ok (Some core)) t → TellsCore s (told_list r) s
 told-refused-core s t core (Ok m) h a = absurd (let z : false ≡ true = h in cc)
 told-refused-core s t core (Err e) h a = core-refused s t core e a

@@ -54,7 +54,8 @@ use Rattle.varisat.proofs.VerdictAnswers.{right-false}
 -- 1. In turn.
 
 -- as long as no verdict is known the state has none
-pub unknown-undecided : {A : Type 0} (m : Tables) (checker : Option CheckerState) (x : Context A) (t : State) → SpacesFit (undecided_spaces m checker x) t → t.verdict ≡ Unknown
+pub unknown-undecided : {A : Type 0} (m : Tables) (checker : Option CheckerState) (x : Context A) (t : State) →
+    SpacesFit (undecided_spaces m checker x) t → t.verdict ≡ Unknown
 unknown-undecided m checker x t (w, k) = is-unknown w.identity (undecided_spaces m checker x).model t.verdict k.verdict
 
 -- nothing happened
@@ -71,7 +72,8 @@ comes-nowhere n s p after e f =
     }
 
 -- more is told, and then what comes of that
-pub comes-through : (n m k : ℕ) (p q r : ProofParts) (before mid last : Spaces) → n + m ≡ k → ((t : State) → SpacesFit mid t → t.verdict ≡ Unknown) → ComesOn n before mid p q → ComesOn m mid last q r → ComesOn k before last p r
+pub comes-through : (n m k : ℕ) (p q r : ProofParts) (before mid last : Spaces) → n + m ≡ k →
+    ((t : State) → SpacesFit mid t → t.verdict ≡ Unknown) → ComesOn n before mid p q → ComesOn m mid last q r → ComesOn k before last p r
 comes-through n m k p q r before mid last sum unknown first second s fit =
     let a = first s fit in
     let t = retold a.told (with_verdict a.verdict s) in
@@ -84,15 +86,19 @@ comes-through n m k p q r before mid last sum unknown first second s fit =
       more = record {
         entries = es ++ more;
         joined = b.more.joined ∙ ap (λ xs. xs ++ more) a.more.joined ∙ append_assoc s.told es more;
-        goes = subst (λ j. GoesOn j s.told (es ++ more)) sum (goes_on_further n m s.told es more a.more.goes (subst (λ xs. GoesOn m xs more) a.more.joined b.more.goes));
+        goes = subst (λ j. GoesOn j s.told (es ++ more)) sum
+            (goes_on_further n m s.told es more a.more.goes (subst (λ xs. GoesOn m xs more) a.more.joined b.more.goes));
       };
-      adds = λ e. subst (λ j. GoesOnAdding j s.told (es ++ more)) sum (goes_adding_further n m s.told es more (a.adds (unknown t a.fits)) (subst (λ xs. GoesOnAdding m xs more) a.more.joined (b.adds e)));
+      adds = λ e. subst (λ j. GoesOnAdding j s.told (es ++ more)) sum
+          (goes_adding_further n m s.told es more (a.adds (unknown t a.fits)) (subst (λ xs. GoesOnAdding m xs more) a.more.joined (b.adds e)));
       proof = proof-through s.ever_hidden s.told a.told b.told p q r a.proof b.proof;
       fits = b.fits;
     }
 
 -- variables leave, and what is gone is told
-pub leaving-comes : (p q : ProofParts) (before after : Spaces) → ((s : State) → SpacesFit before s → (told : List Entry) × TellsLeaving s.ever_hidden s.told told p q × SpacesFit after (retold told s)) → ComesOn 0 before after p q
+pub leaving-comes : (p q : ProofParts) (before after : Spaces) →
+    ((s : State) → SpacesFit before s → (told : List Entry) × TellsLeaving s.ever_hidden s.told told p q × SpacesFit after (retold told s)) →
+    ComesOn 0 before after p q
 leaving-comes p q before after leave s fit =
     let (told, t, f) = leave s fit in
     record { verdict = s.verdict; told = told; more = t.more; adds = λ e. goes_adding_none 0 s.told t.more.entries t.more.goes; proof = t.proof; fits = f }
@@ -107,9 +113,14 @@ some-through p q r (first, h) (second, k) = (first ++ second, told-more p q r fi
 -- 2. Parts of a step.
 
 -- a part of a step by lines
-pub part-comes : {A : Type 0} (p q : TracerState) (x y : Context A) (lines : List Line) → IsKept p.tables x → Proves 0 (search_of (view x)) (search_of (view y)) lines → TakesLines TakesGlobally p lines q → IsReady y → length y.assignment.current ≡ length x.assignment.current → SameDecidable (view x) x.vsids (view y) y.vsids → y.assumptions ≡ x.assumptions → ComesOn 0 (undecided_spaces p.tables p.proof.checker x) (undecided_spaces q.tables q.proof.checker y) p.proof q.proof
+pub part-comes : {A : Type 0} (p q : TracerState) (x y : Context A) (lines : List Line) → IsKept p.tables x →
+    Proves 0 (search_of (view x)) (search_of (view y)) lines → TakesLines TakesGlobally p lines q → IsReady y →
+    length y.assignment.current ≡ length x.assignment.current → SameDecidable (view x) x.vsids (view y) y.vsids →
+    y.assumptions ≡ x.assumptions → ComesOn 0 (undecided_spaces p.tables p.proof.checker x)
+    (undecided_spaces q.tables q.proof.checker y) p.proof q.proof
 part-comes p q x y lines kept proves takes ready count decidable same s fit =
-    let used = in-use-all p.tables (view y) y.vsids (same-in-use p.tables (view x) x.vsids (view y) y.vsids kept.decidable decidable) ready.decidable ready.well in
+    let used = in-use-all p.tables (view y) y.vsids (same-in-use p.tables (view x) x.vsids (view y) y.vsids kept.decidable decidable)
+    ready.decidable ready.well in
     subst (λ (m : Tables). ComesTo 0 s p.proof q.proof (undecided_spaces m q.proof.checker y)) (sym takes.tables)
     (subst (λ (a : AssumptionParts). ComesTo 0 s p.proof q.proof (spaces_of p.tables q.proof.checker (view y) a verdict.Unknown)) (sym same)
     (comes-made p q (view x) x.assumptions s (view y) x.assumptions x.assumptions verdict.Unknown 0 lines fit
@@ -145,7 +156,8 @@ module _ {A : Type 0} {are : List Line → Type 0} (x z : Context A) (b : Begins
     begin-kept t k = kept-on t x z k b.reduces.ready begin-count begin-decidable begin-same
 
     begin-proves : (lines : List Line) × Proves 0 (search_of (view x)) (search_of (view z)) lines × are lines
-    begin-proves = let (lines, p, (r, i)) = b.reduces.proves in (lines, parts_join 0 0 (search_of (view x)) (search_of (view b.begun)) (search_of (view z)) [] lines begin-view.proves p, i)
+    begin-proves = let (lines, p, (r, i)) = b.reduces.proves in
+        (lines, parts_join 0 0 (search_of (view x)) (search_of (view b.begun)) (search_of (view z)) [] lines begin-view.proves p, i)
 
 -- whatever its lines are
 pub begins-any : {A : Type 0} {are : List Line → Type 0} (x z : Context A) → BeginsStep are x z → BeginsStep (λ lines. Unit {0}) x z
@@ -167,16 +179,20 @@ begin-told p q x z b = let (lines, k, (r, takes)) = b.reduces.proves in (_, take
 pub begin-tables : {A : Type 0} (p q : TracerState) (x z : Context A) → BeginsStep (λ lines. TakesLines TakesGlobally p lines q) x z → q.tables ≡ p.tables
 begin-tables p q x z b = let (lines, k, (r, takes)) = b.reduces.proves in takes.tables
 
-pub begin-tells : {A : Type 0} (p q : TracerState) (x z : Context A) → BeginsStep (λ lines. TakesLines TakesGlobally p lines q) x z → CanTell p.proof → CanTell q.proof
+pub begin-tells : {A : Type 0} (p q : TracerState) (x z : Context A) → BeginsStep (λ lines. TakesLines TakesGlobally p lines q) x z →
+    CanTell p.proof → CanTell q.proof
 begin-tells p q x z b t = let (lines, k, (r, takes)) = b.reduces.proves in tells-on p q _ takes t
 
-pub begin-comes : {A : Type 0} (p q : TracerState) (x z : Context A) → IsKept p.tables x → BeginsStep (λ lines. TakesLines TakesGlobally p lines q) x z → ComesOn 0 (undecided_spaces p.tables p.proof.checker x) (undecided_spaces q.tables q.proof.checker z) p.proof q.proof
+pub begin-comes : {A : Type 0} (p q : TracerState) (x z : Context A) → IsKept p.tables x →
+    BeginsStep (λ lines. TakesLines TakesGlobally p lines q) x z →
+    ComesOn 0 (undecided_spaces p.tables p.proof.checker x) (undecided_spaces q.tables q.proof.checker z) p.proof q.proof
 begin-comes p q x z kept b =
     let (lines, proves, takes) = begin-proves x z b kept.ready in
     part-comes p q x z lines kept proves takes b.reduces.ready (begin-count x z b kept.ready) (begin-decidable x z b) (begin-same x z b)
 
 -- a conflict step, whose core is kept over names
-pub named-comes : {A : Type 0} (p q : TracerState) (x y : Context A) → IsKept p.tables x → MakesNamedStep p q x y → ComesOn 1 (undecided_spaces p.tables p.proof.checker x) (spaces_with q.tables q.proof.checker y) p.proof q.proof
+pub named-comes : {A : Type 0} (p q : TracerState) (x y : Context A) → IsKept p.tables x → MakesNamedStep p q x y →
+    ComesOn 1 (undecided_spaces p.tables p.proof.checker x) (spaces_with q.tables q.proof.checker y) p.proof q.proof
 named-comes p q x y kept f s fit =
     let (lines, steps, takes) = f.steps in
     let v = outcome_of (view y) f.parts.failed_core y.solver_state.sat_state in
@@ -187,7 +203,8 @@ named-comes p q x y kept f s fit =
       working = λ l h. assumed-named p.tables (variable_of l) (kept.working l h);
       same_count = f.count;
       well = f.ready.well;
-      in_use = in-use-all p.tables (view y) y.vsids (same-in-use p.tables (view x) x.vsids (view y) y.vsids kept.decidable f.decidable) f.ready.decidable f.ready.well;
+      in_use = in-use-all p.tables (view y) y.vsids (same-in-use p.tables (view x) x.vsids (view y) y.vsids kept.decidable f.decidable)
+          f.ready.decidable f.ready.well;
       steps = one_more_made 0 (search_of (view x)) (search_of (view x)) (search_of (view y)) v [] lines (none_made (search_of (view x))) steps;
       assumes = f.assumes;
       rest = f.rest;
@@ -196,28 +213,34 @@ named-comes p q x y kept f s fit =
     takes)
 
 -- without a verdict it goes on from there
-pub comes-undecided : {A : Type 0} (n : ℕ) (before : Spaces) (m : Tables) (y : Context A) (p q : ProofParts) → y.solver_state.sat_state ≡ verdict.Unknown → ComesOn n before (spaces_with m q.checker y) p q → ComesOn n before (undecided_spaces m q.checker y) p q
+pub comes-undecided : {A : Type 0} (n : ℕ) (before : Spaces) (m : Tables) (y : Context A) (p q : ProofParts) →
+    y.solver_state.sat_state ≡ verdict.Unknown → ComesOn n before (spaces_with m q.checker y) p q → ComesOn n before (undecided_spaces m q.checker y) p q
 comes-undecided n before m y p q e on s fit = subst (λ b. ComesTo n s p q (spaces_of m q.checker (view y) y.assumptions b)) e (on s fit)
 
-pub comes-decided : {A : Type 0} (n : ℕ) (before : Spaces) (m : Tables) (y : Context A) (p q : ProofParts) → y.solver_state.sat_state ≡ verdict.Unknown → ComesOn n before (undecided_spaces m q.checker y) p q → ComesOn n before (spaces_with m q.checker y) p q
+pub comes-decided : {A : Type 0} (n : ℕ) (before : Spaces) (m : Tables) (y : Context A) (p q : ProofParts) →
+    y.solver_state.sat_state ≡ verdict.Unknown → ComesOn n before (undecided_spaces m q.checker y) p q → ComesOn n before (spaces_with m q.checker y) p q
 comes-decided n before m y p q e on s fit = subst (λ b. ComesTo n s p q (spaces_of m q.checker (view y) y.assumptions b)) (sym e) (on s fit)
 
 -- 3. What `solve` leads to.
 
 module _ {A : Type 0} {n : ℕ} {s : State} {p q : ProofParts} (m : Tables) (y : Context A) (c : ComesTo n s p q (spaces_with m q.checker y)) where
   pub comes-answer : answer_of c.verdict ≡ answer_at y.solver_state.sat_state
-  comes-answer = let (w, k) = c.fits in answers-fit w.identity (spaces_with m q.checker y).model (view y) y.assumptions.failed_core y.solver_state.sat_state c.verdict k.verdict
+  comes-answer = let (w, k) = c.fits in answers-fit w.identity (spaces_with m q.checker y).model
+      (view y) y.assumptions.failed_core y.solver_state.sat_state c.verdict k.verdict
 
   comes-right : HasRightVerdict (with_verdict c.verdict s)
   comes-right = let (w, k) = c.fits in k.right
 
   comes-refuted : c.verdict ≡ Unsat → ToldConflict c.told
-  comes-refuted e = let (w, k) = c.fits in unsat-told w.identity (spaces_with m q.checker y).model (translation w (spaces_with m q.checker y) c.told) (spaces_with m q.checker y).search.fixed k.holds.held (spaces_with m q.checker y).outcome c.verdict e k.verdict k.holds.told
+  comes-refuted e = let (w, k) = c.fits in unsat-told w.identity (spaces_with m q.checker y).model
+      (translation w (spaces_with m q.checker y) c.told) (spaces_with m q.checker y).search.fixed k.holds.held
+      (spaces_with m q.checker y).outcome c.verdict e k.verdict k.holds.told
 
   pub comes-satisfiable : y.solver_state.sat_state ≡ verdict.Sat → IsSatisfiableWith s.clauses s.assumptions
   comes-satisfiable e =
       let (w, k) = c.fits in
-      let (a, v, f) = is-sat w.identity (spaces_with m q.checker y).model (assignment_of (view y)) c.verdict (subst (λ o. VerdictFits w.identity (spaces_with m q.checker y).model (outcome_of (view y) y.assumptions.failed_core o) c.verdict) e k.verdict) in
+      let (a, v, f) = is-sat w.identity (spaces_with m q.checker y).model (assignment_of (view y)) c.verdict
+      (subst (λ o. VerdictFits w.identity (spaces_with m q.checker y).model (outcome_of (view y) y.assumptions.failed_core o) c.verdict) e k.verdict) in
       let r = subst (IsRight s.clauses s.assumptions s.counted) v k.right in
       (a, r.0, r.1)
 
@@ -226,20 +249,30 @@ module _ {A : Type 0} {n : ℕ} {s : State} {p q : ProofParts} (m : Tables) (y :
 
 -- the state once a verdict was found or none, more was told and an open proof has more bytes
 abbrev pub after-solve : List Entry → Verdict → ℕ → Option OpenProof → State → State
-after-solve told v n proof s = record s { verdict = v; ledger = record s.ledger { steps = n; since = s.ledger.since + (n - s.ledger.steps) }; told = told; proof = proof }
+after-solve told v n proof s = record s
+    { verdict = v; ledger = record s.ledger { steps = n; since = s.ledger.since + (n - s.ledger.steps) }; told = told; proof = proof }
 
 -- what two flags say of it
-pub flags-after : (s : State) (told : List Entry) (v : Verdict) (n : ℕ) (now : Option OpenProof) → FlagsFit s → GoesOnWriting s.proof now → FlagsFit (after-solve told v n now s)
-flags-after s told v n now f g = record { clauses = f.clauses; assumptions = f.assumptions; counted = f.counted; unassumed = λ o. f.unassumed (open-before s.proof now g o) }
+pub flags-after : (s : State) (told : List Entry) (v : Verdict) (n : ℕ) (now : Option OpenProof) → FlagsFit s → GoesOnWriting s.proof now →
+    FlagsFit (after-solve told v n now s)
+flags-after s told v n now f g =
+    record { clauses = f.clauses; assumptions = f.assumptions; counted = f.counted; unassumed = λ o. f.unassumed (open-before s.proof now g o) }
 
-module _ {A : Type 0} {k : ℕ} {s : State} {p q : ProofParts} (m : Tables) (y : Context A) (c : ComesTo k s p q (spaces_with m q.checker y)) (n : ℕ) (now : Option OpenProof) where
+module _ {A : Type 0} {k : ℕ} {s : State} {p q : ProofParts} (m : Tables) (y : Context A) (c : ComesTo k s p q (spaces_with m q.checker y)) (n : ℕ)
+    (now : Option OpenProof) where
   pub comes-fits : SpacesFit (spaces_with m q.checker y) (after-solve c.told c.verdict n now s)
   comes-fits =
       let (w, l) = c.fits in
-      let u = after-solve c.told c.verdict n now s in
-      (w, ledger-free w (spaces_with m q.checker y) (record s { verdict = c.verdict; told = c.told; proof = now }) u.ledger (proof-free w (spaces_with m q.checker y) (retold c.told (with_verdict c.verdict s)) now l))
+      let u = after-solve c.told c.verdict n now s in (
+        w,
+        ledger-free w (spaces_with m q.checker y) (record s { verdict = c.verdict; told = c.told; proof = now }) u.ledger
+            (proof-free w (spaces_with m q.checker y) (retold c.told (with_verdict c.verdict s)) now l),
+      )
 
-  pub comes-verdict : (b : Bool) → IsValid s → s.verdict ≡ Unknown → CountsSteps (length s.counted) s.ledger.settings.max_steps s.ledger.since s.ledger.steps n (Ok b) → answer_at y.solver_state.sat_state ≡ Some b → k ≡ n - s.ledger.steps → GoesOnWriting s.proof now → TellsVerdict s b (after-solve c.told c.verdict n now s)
+  pub comes-verdict : (b : Bool) → IsValid s → s.verdict ≡ Unknown →
+      CountsSteps (length s.counted) s.ledger.settings.max_steps s.ledger.since s.ledger.steps n (Ok b) →
+      answer_at y.solver_state.sat_state ≡ Some b → k ≡ n - s.ledger.steps → GoesOnWriting s.proof now →
+      TellsVerdict s b (after-solve c.told c.verdict n now s)
   comes-verdict b valid was counts answer made grows = record {
     valid = valid;
     known = λ z. absurd (z was);
@@ -251,12 +284,26 @@ module _ {A : Type 0} {k : ℕ} {s : State} {p q : ProofParts} (m : Tables) (y :
     refuted = comes-refuted m y c;
   }
 
-  pub comes-interrupted : IsValid s → s.verdict ≡ Unknown → CountsSteps (length s.counted) s.ledger.settings.max_steps s.ledger.since s.ledger.steps n (Err Interrupted) → c.verdict ≡ Unknown → k ≡ n - s.ledger.steps → (n ≡ s.ledger.steps → ⊥) → GoesOnWriting s.proof now → IsInterrupted s (after-solve c.told c.verdict n now s)
+  pub comes-interrupted : IsValid s → s.verdict ≡ Unknown → CountsSteps
+      (length s.counted) s.ledger.settings.max_steps s.ledger.since s.ledger.steps n (Err Interrupted) → c.verdict ≡ Unknown →
+      k ≡ n - s.ledger.steps → (n ≡ s.ledger.steps → ⊥) → GoesOnWriting s.proof now → IsInterrupted s (after-solve c.told c.verdict n now s)
   comes-interrupted valid was counts unknown made moved grows = record {
     valid = valid;
     unknown = was;
     steps = counts;
-    rest = record { naming = refl; ever_hidden = refl; clauses = refl; assumptions = refl; counted = refl; verdict = unknown ∙ sym was; ledger = refl; told = (stays-nothing c.told).0; stays = λ _. (stays-nothing c.told).1; proof = grows };
+    rest = record {
+      naming = refl;
+      ever_hidden = refl;
+      clauses = refl;
+      assumptions = refl;
+      counted = refl;
+      verdict = unknown
+          ∙ sym was;
+      ledger = refl;
+      told = (stays-nothing c.told).0;
+      stays = λ _. (stays-nothing c.told).1;
+      proof = grows;
+    };
     told = record { entries = c.more.entries; joined = c.more.joined; goes = subst (λ j. GoesOn j s.told c.more.entries) made c.more.goes };
     adds = subst (λ j. GoesOnAdding j s.told c.more.entries) made (c.adds unknown);
     still = λ e. absurd (moved e);
@@ -271,7 +318,22 @@ interrupted-still s valid was counts =
       valid = valid;
       unknown = was;
       steps = counts;
-      rest = record { naming = refl; ever_hidden = refl; clauses = refl; assumptions = refl; counted = refl; verdict = refl; ledger = ledger-is s.ledger s.ledger.valid s.ledger.started s.ledger.steps (s.ledger.since + (s.ledger.steps - s.ledger.steps)) s.ledger.settings refl refl refl (none-more s.ledger.since s.ledger.steps) refl; told = (stays-nothing s.told).0; stays = λ _. (stays-nothing s.told).1; proof = goes-on-none s.proof };
+      rest = record {
+        naming = refl;
+        ever_hidden = refl;
+        clauses = refl;
+        assumptions = refl;
+        counted = refl;
+        verdict = refl;
+        ledger =
+            ledger-is s.ledger s.ledger.valid s.ledger.started s.ledger.steps
+            (s.ledger.since + (s.ledger.steps - s.ledger.steps)) s.ledger.settings refl refl refl
+            (none-more s.ledger.since s.ledger.steps) refl;
+        told = (stays-nothing s.told).0;
+        stays = λ _. (stays-nothing s.told).1;
+        proof =
+            goes-on-none s.proof;
+      };
       told = record { entries = nothing.entries; joined = nothing.joined; goes = subst (λ j. GoesOn j s.told nothing.entries) none nothing.goes };
       adds = subst (λ j. GoesOnAdding j s.told nothing.entries) none (goes_adding_none 0 s.told nothing.entries nothing.goes);
       still = λ e. refl;

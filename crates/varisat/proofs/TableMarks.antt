@@ -54,7 +54,9 @@ module _ (old mid new : Tables) (x : ℕ) (d : VarData) (c : IsChangedTo mid new
   rest-more P r own y = subst (P y) (sym (c.kept.at_each y)) (updated-all P (kept_at mid.kept) x d own y (λ _. r y))
 
   -- what is so of the variables of the literals
-  each-more : (ls : List Literal) (l : Literal) (P : VarData → Type 0) → ((k : Literal) (y : ℕ) → k ∈ ls → at old.users.forward (variable_of k) ≡ Some y → P (kept_at mid.kept y)) → at old.users.forward (variable_of l) ≡ Some x → P d →
+  each-more : (ls : List Literal) (l : Literal) (P : VarData → Type 0) →
+      ((k : Literal) (y : ℕ) → k ∈ ls → at old.users.forward (variable_of k) ≡ Some y → P (kept_at mid.kept y)) →
+      at old.users.forward (variable_of l) ≡ Some x → P d →
       (k : Literal) (y : ℕ) → k ∈ (ls ++ l ∷ []) → at old.users.forward (variable_of k) ≡ Some y → P (kept_at new.kept y)
   each-more ls l P r e own k y h q =
       subst P (sym (c.kept.at_each y)) (updated-all (λ y k. (y ≡ x → ⊥) ⊎ (y ≡ x) → P k) (kept_at mid.kept) x d (λ _. own) y
@@ -64,7 +66,8 @@ module _ (old mid new : Tables) (x : ℕ) (d : VarData) (c : IsChangedTo mid new
       (∈-append_cases k ls (l ∷ []) h))
       (⊎_elim (λ a. inr a) (λ a. inl a) (equal_or_not y x)))
 
-  same-more : SameButMarks old mid → (kept_at mid.kept x).deleted ≡ false → d.deleted ≡ (kept_at mid.kept x).deleted → d.unit ≡ (kept_at mid.kept x).unit → SameButMarks old new
+  same-more : SameButMarks old mid → (kept_at mid.kept x).deleted ≡ false → d.deleted ≡ (kept_at mid.kept x).deleted →
+      d.unit ≡ (kept_at mid.kept x).unit → SameButMarks old new
   same-more s live e f = record {
     users = ap (λ t. t.users) c.rest ∙ s.users;
     solvers = ap (λ t. t.solvers) c.rest ∙ s.solvers;
@@ -76,7 +79,14 @@ module _ (old mid new : Tables) (x : ℕ) (d : VarData) (c : IsChangedTo mid new
 -- 3. Isolation.
 
 pub joined-same : (d : List Literal) (old new : Tables) → AreJoined d old new → SameButMarks old new
-joined-same d old new j = record { users = j.users; solvers = j.solvers; count = j.count; deleted = λ x. ap (λ k. k.deleted) (j.rest x); units = λ x. ap (λ k. k.unit) (j.rest x) }
+joined-same d old new j = record {
+  users = j.users;
+  solvers = j.solvers;
+  count = j.count;
+  deleted = λ x. ap (λ k. k.deleted) (j.rest x);
+  units =
+      λ x. ap (λ k. k.unit) (j.rest x);
+}
 
 -- what is kept of a variable of a clause, once it is no longer isolated
 pub record AreOpened (ls : List Literal) (old new : Tables) : Type 0 where
@@ -87,29 +97,50 @@ pub record AreOpened (ls : List Literal) (old new : Tables) : Type 0 where
   pub others : (x : ℕ) → ((l : Literal) → l ∈ ls → at old.users.forward (variable_of l) ≢ Some x) → kept_at new.kept x ≡ kept_at old.kept x
 
 pub opened-none : (t : Tables) → AreOpened [] t t
-opened-none t = record { same = record { users = refl; solvers = refl; count = refl; deleted = λ x. refl; units = λ x. refl }; rest = λ x. refl; fallen = λ x e. e; opened = λ l x h. absurd h; others = λ x n. refl }
+opened-none t = record {
+  same = record { users = refl; solvers = refl; count = refl; deleted = λ x. refl; units = λ x. refl };
+  rest =
+      λ x. refl;
+  fallen = λ x e. e;
+  opened = λ l x h. absurd h;
+  others = λ x n. refl;
+}
 
-pub opened-more : (ls : List Literal) (old mid new : Tables) (l : Literal) (x : ℕ) → AreOpened ls old mid → at mid.users.forward (variable_of l) ≡ Some x → (kept_at mid.kept x).deleted ≡ false → IsChangedTo mid new x (record (kept_at mid.kept x) { isolated = false }) → AreOpened (ls ++ l ∷ []) old new
+pub opened-more : (ls : List Literal) (old mid new : Tables) (l : Literal) (x : ℕ) → AreOpened ls old mid →
+    at mid.users.forward (variable_of l) ≡ Some x → (kept_at mid.kept x).deleted ≡ false →
+    IsChangedTo mid new x (record (kept_at mid.kept x) { isolated = false }) → AreOpened (ls ++ l ∷ []) old new
 opened-more ls old mid new l x o e live c =
     let d : VarData = record (kept_at mid.kept x) { isolated = false } in
     let own = ap (λ t. at t.forward (variable_of l)) (sym o.same.users) ∙ e in
     record {
       same = same-more old mid new x d c o.same live refl refl;
-      rest = rest-more old mid new x d c (λ y k. k ≡ record (kept_at old.kept y) { isolated = k.isolated }) o.rest (ap (λ (k : VarData). record k { isolated = false }) (o.rest x));
-      fallen = rest-more old mid new x d c (λ y k. k.isolated ≡ true → (kept_at old.kept y).isolated ≡ true) o.fallen (λ z. absurd (let f : false ≡ true = z in cc));
+      rest = rest-more old mid new x d c (λ y k. k ≡ record (kept_at old.kept y) { isolated = k.isolated }) o.rest
+          (ap (λ (k : VarData). record k { isolated = false }) (o.rest x));
+      fallen = rest-more old mid new x d c (λ y k. k.isolated ≡ true → (kept_at old.kept y).isolated ≡ true) o.fallen
+          (λ z. absurd (let f : false ≡ true = z in cc));
       opened = each-more old mid new x d c ls l (λ k. k.isolated ≡ false) o.opened own refl;
-      others = λ y n. c.kept.at_each y ∙ updated-other (kept_at mid.kept) x d y (λ q. n l (∈-append_right l ls (l ∷ []) (inl refl)) (own ∙ ap Some (sym q))) ∙ o.others y (λ k h. n k (∈-append_left k ls (l ∷ []) h));
+      others = λ y n. c.kept.at_each y ∙ updated-other (kept_at mid.kept) x d y
+          (λ q. n l (∈-append_right l ls (l ∷ []) (inl refl)) (own ∙ ap Some (sym q))) ∙ o.others y (λ k h. n k (∈-append_left k ls (l ∷ []) h));
     }
 
 -- 4. Assumption.
 
 pub marked-same : (ls : List Literal) (b : Bool) (old new : Tables) → AreMarked ls b old new → SameButMarks old new
-marked-same ls b old new o = record { users = o.users; solvers = o.solvers; count = o.count; deleted = λ x. ap (λ k. k.deleted) (o.rest x); units = λ x. ap (λ k. k.unit) (o.rest x) }
+marked-same ls b old new o = record {
+  users = o.users;
+  solvers = o.solvers;
+  count = o.count;
+  deleted = λ x. ap (λ k. k.deleted) (o.rest x);
+  units =
+      λ x. ap (λ k. k.unit) (o.rest x);
+}
 
 pub marked-none : (t : Tables) (b : Bool) → AreMarked [] b t t
 marked-none t b = record { users = refl; solvers = refl; count = refl; rest = λ x. refl; marked = λ l x h. absurd h; others = λ x. inl refl }
 
-pub marked-more : (ls : List Literal) (b : Bool) (old mid new : Tables) (l : Literal) (x : ℕ) → AreMarked ls b old mid → at mid.users.forward (variable_of l) ≡ Some x → (kept_at mid.kept x).deleted ≡ false → IsChangedTo mid new x (record (kept_at mid.kept x) { assumed = b }) → AreMarked (ls ++ l ∷ []) b old new
+pub marked-more : (ls : List Literal) (b : Bool) (old mid new : Tables) (l : Literal) (x : ℕ) → AreMarked ls b old mid →
+    at mid.users.forward (variable_of l) ≡ Some x → (kept_at mid.kept x).deleted ≡ false →
+    IsChangedTo mid new x (record (kept_at mid.kept x) { assumed = b }) → AreMarked (ls ++ l ∷ []) b old new
 marked-more ls b old mid new l x o e live c =
     let d = record (kept_at mid.kept x) { assumed = b } in
     let m = same-more old mid new x d c (marked-same ls b old mid o) live refl refl in
@@ -118,9 +149,11 @@ marked-more ls b old mid new l x o e live c =
       users = m.users;
       solvers = m.solvers;
       count = m.count;
-      rest = rest-more old mid new x d c (λ y k. k ≡ record (kept_at old.kept y) { assumed = k.assumed }) o.rest (ap (λ (k : VarData). record k { assumed = b }) (o.rest x));
+      rest = rest-more old mid new x d c (λ y k. k ≡ record (kept_at old.kept y) { assumed = k.assumed }) o.rest
+          (ap (λ (k : VarData). record k { assumed = b }) (o.rest x));
       marked = each-more old mid new x d c ls l (λ k. k.assumed ≡ b) o.marked own refl;
-      others = rest-more old mid new x d c (λ y k. (k.assumed ≡ (kept_at old.kept y).assumed) ⊎ ((m : Literal) × (m ∈ (ls ++ l ∷ [])) × (at old.users.forward (variable_of m) ≡ Some y)))
+      others = rest-more old mid new x d c
+          (λ y k. (k.assumed ≡ (kept_at old.kept y).assumed) ⊎ ((m : Literal) × (m ∈ (ls ++ l ∷ [])) × (at old.users.forward (variable_of m) ≡ Some y)))
           (λ y. ⊎_elim (λ q. inl q) (λ (m, h, q). inr (m, ∈-append_left m ls (l ∷ []) h, q)) (o.others y))
           (inr (l, ∈-append_right l ls (l ∷ []) (inl refl), own));
     }
@@ -133,7 +166,9 @@ assumed-joined d old new v j (x, u, a, b, e) =
     (x, u, ap (λ (m : BiMap). at m.backward v) j.solvers ∙ a, ap (λ (m : BiMap). at m.backward x) j.users ∙ b, ap (λ k. k.assumed) (j.rest x) ∙ e)
 
 -- those of the list are once its variables are marked
-pub assumed-listed : (list : List Literal) (old mid new : Tables) (before : List Literal) → AreLinked old → ((l : Literal) → l ∈ list → HasSolver old (variable_of l)) → AreMarked before false old mid → AreMarked list true mid new → (l : Literal) → l ∈ map (carry (chain (at old.users.forward) (at old.solvers.forward))) list → IsAssumedSolver new (variable_of l)
+pub assumed-listed : (list : List Literal) (old mid new : Tables) (before : List Literal) → AreLinked old →
+    ((l : Literal) → l ∈ list → HasSolver old (variable_of l)) → AreMarked before false old mid → AreMarked list true mid new → (l : Literal) →
+    l ∈ map (carry (chain (at old.users.forward) (at old.solvers.forward))) list → IsAssumedSolver new (variable_of l)
 assumed-listed list old mid new before linked taken cleared marked l h =
     let to = chain (at old.users.forward) (at old.solvers.forward) in
     let (m, i, q) = map-∈ (carry to) l list h in

@@ -28,8 +28,10 @@ use Rattle.varisat_theory.specs.Literals.{Literal}
 abbrev alone : Option OpenState → ProofParts
 alone o = record { opened = o; checker = None }
 
-written-through : (o p q : Option OpenState) (first second : List Entry) → IsWrittenIf o (told first) p → IsWrittenIf p (told second) q → IsWrittenIf o (told (first ++ second)) q
-written-through o p q first second h k = (told-more (alone o) (alone p) (alone q) first second (record { written = h; checked = refl }) (record { written = k; checked = refl })).written
+written-through : (o p q : Option OpenState) (first second : List Entry) → IsWrittenIf o (told first) p → IsWrittenIf p (told second) q →
+    IsWrittenIf o (told (first ++ second)) q
+written-through o p q first second h k =
+    (told-more (alone o) (alone p) (alone q) first second (record { written = h; checked = refl }) (record { written = k; checked = refl })).written
 
 pub writes-nothing : (o : Option OpenState) → WritesAll o o
 writes-nothing o = ([], (told-none (alone o)).written)
@@ -81,15 +83,19 @@ pub same-error : {X E : Type 0} (d e : E) → (let r : Result X E = Err d in r) 
 same-error d e h = cc
 
 -- 4. How a search ends under a proof.
-written-marked : (o p : Option OpenState) (lines : Encoding → List ProofLine) → IsWrittenIf o lines p → IsWrittenIf (marked_searched o) lines (marked_searched p)
+written-marked : (o p : Option OpenState) (lines : Encoding → List ProofLine) → IsWrittenIf o lines p →
+    IsWrittenIf (marked_searched o) lines (marked_searched p)
 written-marked None p lines h = ap marked_searched h
 written-marked (Some a) None lines h = absurd h
-written-marked (Some a) (Some b) lines h = record { rest = ap (λ (x : OpenState). let y : OpenState = record x { searched = true } in y) h.rest; bytes = h.bytes; faults = h.faults }
+written-marked (Some a) (Some b) lines h =
+    record { rest = ap (λ (x : OpenState). let y : OpenState = record x { searched = true } in y) h.rest; bytes = h.bytes; faults = h.faults }
 
-begun-marked : (o p : Option OpenState) (lines : Encoding → List ProofLine) (more : ℕ) → IsBegunIf o lines more p → IsBegunIf (marked_searched o) lines more (marked_searched p)
+begun-marked : (o p : Option OpenState) (lines : Encoding → List ProofLine) (more : ℕ) → IsBegunIf o lines more p →
+    IsBegunIf (marked_searched o) lines more (marked_searched p)
 begun-marked None p lines more (e, h) = (ap marked_searched e, h)
 begun-marked (Some a) None lines more h = absurd h
-begun-marked (Some a) (Some b) lines more h = record { rest = ap (λ (x : OpenState). let y : OpenState = record x { searched = true } in y) h.rest; bytes = h.bytes; faults = h.faults }
+begun-marked (Some a) (Some b) lines more h =
+    record { rest = ap (λ (x : OpenState). let y : OpenState = record x { searched = true } in y) h.rest; bytes = h.bytes; faults = h.faults }
 
 pub writes-marked : {X : Type 0} (o p : Option OpenState) (r : Result X SolverError) → WritesOn o r p → WritesOn (marked_searched o) r (marked_searched p)
 writes-marked o p (Ok x) (entries, h) = (entries, written-marked o p (told entries) h)
@@ -99,13 +105,15 @@ marked-twice : (o : Option OpenState) → marked_searched (marked_searched o) �
 marked-twice None = refl
 marked-twice (Some a) = refl
 
-pub ends-writing : {X : Type 0} (o : Option OpenState) (g h : Summary) (r : Result X SolverError) → WritesOn o r g.opened → EndsSearch g (Ok tt) h → WritesOn (marked_searched o) r (marked_searched h.opened)
+pub ends-writing : {X : Type 0} (o : Option OpenState) (g h : Summary) (r : Result X SolverError) → WritesOn o r g.opened → EndsSearch g (Ok tt) h →
+    WritesOn (marked_searched o) r (marked_searched h.opened)
 ends-writing o g h r w e =
     let same : marked_searched h.opened ≡ marked_searched g.opened = ap (λ (x : Summary). marked_searched x.opened) e ∙ marked-twice g.opened in
     subst (λ q. WritesOn (marked_searched o) r q) (sym same) (writes-marked o g.opened r w)
 
 -- the flush failed
-flush-fails : (o h : Option OpenState) (cause : Error) → Flushes {E = Error} (marked_searched o) (Err cause) h → WritesUpTo 1 (marked_searched o) (marked_searched h)
+flush-fails : (o h : Option OpenState) (cause : Error) → Flushes {E = Error} (marked_searched o) (Err cause) h →
+    WritesUpTo 1 (marked_searched o) (marked_searched h)
 flush-fails None h cause f = absurd f
 flush-fails (Some a) h cause f =
     let b : OpenState = record a { searched = true } in
@@ -113,9 +121,11 @@ flush-fails (Some a) h cause f =
     subst (λ q. WritesUpTo 1 (Some b) (marked_searched q)) (sym f)
     ([], record { rest = refl; bytes = (0, sym (append-nil b.taken.bytes)); faults = refl })
 
-pub fails-writing : (o : Option OpenState) (g h : Summary) (e : SolverError) → WritesAll o g.opened → EndsSearch g (Err e) h → WritesUpTo (told_faults e) (marked_searched o) (marked_searched h.opened)
+pub fails-writing : (o : Option OpenState) (g h : Summary) (e : SolverError) → WritesAll o g.opened → EndsSearch g (Err e) h →
+    WritesUpTo (told_faults e) (marked_searched o) (marked_searched h.opened)
 fails-writing o g h (ProofIoError cause) (entries, w) (f, e) =
-    up-to-then (marked_searched o) (marked_searched g.opened) (marked_searched h.opened) 1 (entries, written-marked o g.opened (told entries) w) (flush-fails g.opened h.opened cause f)
+    up-to-then (marked_searched o) (marked_searched g.opened) (marked_searched h.opened) 1 (entries, written-marked o g.opened (told entries) w)
+    (flush-fails g.opened h.opened cause f)
 fails-writing o g h e w f = absurd f
 
 pub ends-not-full : (g h : Summary) (e : SolverError) → EndsSearch g (Err e) h → e ≡ ClauseStoreFull → ⊥

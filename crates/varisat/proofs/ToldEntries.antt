@@ -53,8 +53,10 @@ assumes-goes told a held d = (held, (held, refl, inl (tt, refl)))
 -- of the accepted clauses, of what lines are over, and of whether variables left
 
 -- no line is told
-quietly : (told : List Entry) (C : List ℕ) (e : Entry) → lines_of (e ∷ []) ≡ [] → SpeakOf (IsCounted C) (lines_of told) → SpeakOf (IsCounted C) (lines_of (told ++ e ∷ []))
-quietly told C e none spoken = subst (SpeakOf (IsCounted C)) (sym (lines_append told (e ∷ []) ∙ ap (λ ls. lines_of told ++ ls) none ∙ append-nil (lines_of told))) spoken
+quietly : (told : List Entry) (C : List ℕ) (e : Entry) → lines_of (e ∷ []) ≡ [] → SpeakOf (IsCounted C) (lines_of told) →
+    SpeakOf (IsCounted C) (lines_of (told ++ e ∷ []))
+quietly told C e none spoken = subst (SpeakOf (IsCounted C))
+    (sym (lines_append told (e ∷ []) ∙ ap (λ ls. lines_of told ++ ls) none ∙ append-nil (lines_of told))) spoken
 
 -- where no variable leaves
 none-in : (es : List Entry) (i : ℕ) → NoneLeaves es → Leaves i ∈ es → ⊥
@@ -71,15 +73,18 @@ left-on told es n k i = (
   λ g. ∈-append_left (Leaves i) told es ((k i).1 g),
 )
 
-pub told-written : {gone : ℕ → Type 0} (told : List Entry) (P : List Clause) (C : List ℕ) (hidden : Bool) (lines : List Line) → SpeakOf (IsCounted C) lines → IsTold told P C hidden gone → IsTold (told ++ written lines) P C hidden gone
+pub told-written : {gone : ℕ → Type 0} (told : List Entry) (P : List Clause) (C : List ℕ) (hidden : Bool) (lines : List Line) →
+    SpeakOf (IsCounted C) lines → IsTold told P C hidden gone → IsTold (told ++ written lines) P C hidden gone
 told-written told P C hidden lines s t = record {
   accepted = accepted_append told (written lines) ∙ ap (λ x. accepted_of told ++ x) (written_accepts lines) ∙ append-nil (accepted_of told) ∙ t.accepted;
-  spoken = subst (SpeakOf (IsCounted C)) (sym (lines_append told (written lines) ∙ ap (λ ls. lines_of told ++ ls) (written_lines lines))) (spoken_join (IsCounted C) (lines_of told) lines t.spoken s);
+  spoken = subst (SpeakOf (IsCounted C)) (sym (lines_append told (written lines) ∙ ap (λ ls. lines_of told ++ ls) (written_lines lines)))
+      (spoken_join (IsCounted C) (lines_of told) lines t.spoken s);
   left = left-on told (written lines) (written_stays lines) t.left;
   stays = λ e. stays_append told (written lines) (t.stays e) (written_stays lines);
 }
 
-pub told-accepted : {gone : ℕ → Type 0} (told : List Entry) (P : List Clause) (C : List ℕ) (hidden : Bool) (c : Clause) → IsTold told P C hidden gone → IsTold (told ++ Accepts c ∷ []) (P ++ c ∷ []) C hidden gone
+pub told-accepted : {gone : ℕ → Type 0} (told : List Entry) (P : List Clause) (C : List ℕ) (hidden : Bool) (c : Clause) →
+    IsTold told P C hidden gone → IsTold (told ++ Accepts c ∷ []) (P ++ c ∷ []) C hidden gone
 told-accepted told P C hidden c t = record {
   accepted = accepted_append told (Accepts c ∷ []) ∙ ap (λ x. x ++ c ∷ []) t.accepted;
   spoken = quietly told C (Accepts c) refl t.spoken;
@@ -87,7 +92,8 @@ told-accepted told P C hidden c t = record {
   stays = λ e. stays_append told (Accepts c ∷ []) (t.stays e) tt;
 }
 
-pub told-assumed : {gone : ℕ → Type 0} (told : List Entry) (P : List Clause) (C : List ℕ) (hidden : Bool) (a : List Literal) → IsTold told P C hidden gone → IsTold (told ++ Assumes a ∷ []) P C hidden gone
+pub told-assumed : {gone : ℕ → Type 0} (told : List Entry) (P : List Clause) (C : List ℕ) (hidden : Bool) (a : List Literal) →
+    IsTold told P C hidden gone → IsTold (told ++ Assumes a ∷ []) P C hidden gone
 told-assumed told P C hidden a t = record {
   accepted = accepted_append told (Assumes a ∷ []) ∙ append-nil (accepted_of told) ∙ t.accepted;
   spoken = quietly told C (Assumes a) refl t.spoken;
@@ -95,7 +101,8 @@ told-assumed told P C hidden a t = record {
   stays = λ e. stays_append told (Assumes a ∷ []) (t.stays e) tt;
 }
 
-pub told-failed : {gone : ℕ → Type 0} (told : List Entry) (P : List Clause) (C : List ℕ) (hidden : Bool) (core : List Literal) → IsTold told P C hidden gone → IsTold (told ++ Fails core ∷ []) P C hidden gone
+pub told-failed : {gone : ℕ → Type 0} (told : List Entry) (P : List Clause) (C : List ℕ) (hidden : Bool) (core : List Literal) →
+    IsTold told P C hidden gone → IsTold (told ++ Fails core ∷ []) P C hidden gone
 told-failed told P C hidden core t = record {
   accepted = accepted_append told (Fails core ∷ []) ∙ append-nil (accepted_of told) ∙ t.accepted;
   spoken = quietly told C (Fails core) refl t.spoken;
@@ -104,7 +111,8 @@ told-failed told P C hidden core t = record {
 }
 
 -- a variable left
-pub told-left : {before after : ℕ → Type 0} (told : List Entry) (P : List Clause) (C : List ℕ) (hidden : Bool) (v : ℕ) → (hidden ≡ false → ⊥) → ((i : ℕ) → after i ↔ (before i ⊎ (i ≡ v))) → IsTold told P C hidden before → IsTold (told ++ Leaves v ∷ []) P C hidden after
+pub told-left : {before after : ℕ → Type 0} (told : List Entry) (P : List Clause) (C : List ℕ) (hidden : Bool) (v : ℕ) → (hidden ≡ false → ⊥) →
+    ((i : ℕ) → after i ↔ (before i ⊎ (i ≡ v))) → IsTold told P C hidden before → IsTold (told ++ Leaves v ∷ []) P C hidden after
 told-left told P C hidden v n gone t = record {
   accepted = accepted_append told (Leaves v ∷ []) ∙ append-nil (accepted_of told) ∙ t.accepted;
   spoken = quietly told C (Leaves v) refl t.spoken;
@@ -122,12 +130,20 @@ told-left told P C hidden v n gone t = record {
 }
 
 -- more identities are counted
-pub told-counted : {gone : ℕ → Type 0} (told : List Entry) (P : List Clause) (C D : List ℕ) (hidden : Bool) → C ⊆ D → IsTold told P C hidden gone → IsTold told P D hidden gone
+pub told-counted : {gone : ℕ → Type 0} (told : List Entry) (P : List Clause) (C D : List ℕ) (hidden : Bool) → C ⊆ D → IsTold told P C hidden gone →
+    IsTold told P D hidden gone
 told-counted told P C D hidden m t =
-    record { accepted = t.accepted; spoken = spoken_wider (IsCounted C) (IsCounted D) (lines_of told) (λ l h. m (variable_of l) h) t.spoken; left = t.left; stays = t.stays }
+    record {
+      accepted = t.accepted;
+      spoken = spoken_wider (IsCounted C) (IsCounted D) (lines_of told) (λ l h. m (variable_of l) h) t.spoken;
+      left =
+          t.left;
+      stays = t.stays;
+    }
 
 -- Lines under other names are over the identities that these lead to.
-pub spoken-renamed : (are may : Literal → Type 0) (f : Literal → Literal) (lines : List Line) → ((l : Literal) → are l → may (f l)) → SpeakOf are lines → SpeakOf may (map (rename_line f) lines)
+pub spoken-renamed : (are may : Literal → Type 0) (f : Literal → Literal) (lines : List Line) → ((l : Literal) → are l → may (f l)) →
+    SpeakOf are lines → SpeakOf may (map (rename_line f) lines)
 spoken-renamed are may f [] w p = tt
 spoken-renamed are may f (Add c ∷ lines) w (s, p) =
     ((λ l h. let (m, i, e) = map-∈ f l c h in subst may (sym e) (w m (s m i))), spoken-renamed are may f lines w p)
@@ -136,7 +152,8 @@ spoken-renamed are may f (Delete c ∷ lines) w (s, p) =
 
 -- Where nothing was accepted no line is told that is over no variable: from nothing no contradiction follows, and none is there to be
 -- deleted.
-pub unspoken : (P : List Clause) (es : List Entry) (Q : List Clause) (a : Assignment) → SatisfiesAll a P → Leads P es Q → accepted_of es ≡ [] → SpeakOf (λ l. ⊥) (lines_of es) → lines_of es ≡ []
+pub unspoken : (P : List Clause) (es : List Entry) (Q : List Clause) (a : Assignment) → SatisfiesAll a P → Leads P es Q → accepted_of es ≡ [] →
+    SpeakOf (λ l. ⊥) (lines_of es) → lines_of es ≡ []
 unspoken P [] Q a m d e s = refl
 unspoken P (Accepts c ∷ es) Q a m d e s = absurd cc
 unspoken P (Writes (Add []) ∷ es) Q a m (R, (f, q), d) e s = absurd (conflicts_sound P [] a m (λ l h. absurd h) f)

@@ -23,7 +23,8 @@ use Rattle.varisat.proofs.SearchLinks.{relinked}
 use Rattle.varisat.proofs.ToldEntries.{unspoken}
 use Rattle.varisat.proofs.SolverCalls.{told-refuted}
 
-led-of : (r : Translation) (fixed : List Literal) (share : List Clause) (o : Outcome) → HeldFits r fixed share (without_core o) → (held : List Clause) × Leads [] r.told held
+led-of : (r : Translation) (fixed : List Literal) (share : List Clause) (o : Outcome) → HeldFits r fixed share (without_core o) →
+    (held : List Clause) × Leads [] r.told held
 led-of r fixed share outcome.Unknown q = (q.held, q.led)
 led-of r fixed share (outcome.Sat found) q = (q.held, q.led)
 led-of r fixed share outcome.Unsat (held, led, conflict) = (held, led)
@@ -51,7 +52,8 @@ journal-of g s st v =
 lines-none : (w : Carrying) (p : Spaces) (s : State) → Links w p s → s.clauses ≡ [] → s.counted ≡ [] → lines_of s.told ≡ []
 lines-none w p s k clauses counted =
     let (held, led) = led-of _ p.search.fixed k.holds.held p.outcome k.holds.told in
-    let none : SpeakOf (λ l. ⊥) (lines_of s.told) = spoken_wider (IsCounted s.counted) (λ l. ⊥) (lines_of s.told) (λ l h. subst (λ is. variable_of l ∈ is) counted h) k.told.spoken in
+    let none : SpeakOf (λ l. ⊥) (lines_of s.told) = spoken_wider (IsCounted s.counted) (λ l. ⊥) (lines_of s.told)
+    (λ l h. subst (λ is. variable_of l ∈ is) counted h) k.told.spoken in
     unspoken [] s.told held (λ i. false) (λ c h. absurd h) led (k.told.accepted ∙ clauses) none
 
 pub no-lines : (g : Summary) (s : State) → StandsFor g s → g.ledger.valid ≡ true → s.ledger.started ≡ false → lines_of s.told ≡ []
@@ -67,7 +69,8 @@ held-none (Fails core ∷ es) Q (R, (f, q), d) a e = held-none es Q (subst (λ (
 held-none (Leaves v ∷ es) Q (R, q, d) a e = held-none es Q (subst (λ (X : List Clause). Leads X es Q) q d) a e
 
 -- So a checker without clauses may begin then.
-pub checking-begins : (w : Carrying) (p : Spaces) (s : State) → Links w p s → s.clauses ≡ [] → s.counted ≡ [] → Links w (record p { checker = Some (record { clauses = []; spent = false }) }) s
+pub checking-begins : (w : Carrying) (p : Spaces) (s : State) → Links w p s → s.clauses ≡ [] → s.counted ≡ [] →
+    Links w (record p { checker = Some (record { clauses = []; spent = false }) }) s
 checking-begins w p s k clauses counted =
     let lines = lines-none w p s k clauses counted in
     relinked w p (record p { checker = Some (record { clauses = []; spent = false }) }) s s k (record {
@@ -80,20 +83,26 @@ checking-begins w p s k clauses counted =
       right = k.right;
       few = k.few;
       told = k.told;
-      checked = λ n held led. (subst (λ (X : List Clause). SameClauses (rename (carry w.global) X) []) (sym (held-none s.told held led (k.told.accepted ∙ clauses) lines)) refl, refl);
+      checked = λ n held led. (
+        subst (λ (X : List Clause). SameClauses (rename (carry w.global) X) [])
+            (sym (held-none s.told held led (k.told.accepted ∙ clauses) lines)) refl,
+        refl,
+      );
     })
 
 -- Where a proof is open no assumption is one of a core, so that the answer false comes from the clauses alone.
 pub open-refuted : (g : Summary) (s : State) → StandsFor g s → g.ledger.valid ≡ true → IsOpen s.proof → answer_of s.verdict ≡ Some false → s.verdict ≡ Unsat
 open-refuted g s st v o e =
     let (w, k) = st.fits v in
-    go (spaces g).outcome s.verdict e w.identity (spaces g).model k.verdict (subst (λ (as' : List Literal). IsRight s.clauses as' s.counted s.verdict) ((st.flags v).unassumed o) k.right)
+    go (spaces g).outcome s.verdict e w.identity (spaces g).model k.verdict
+    (subst (λ (as' : List Literal). IsRight s.clauses as' s.counted s.verdict) ((st.flags v).unassumed o) k.right)
   where
     none : (core : List Literal) → core ⊆ [] → core ≡ []
     none [] h = refl
     none (l ∷ core) h = absurd (h l (inl refl))
 
-    go : (x : Outcome) (y : Verdict) → answer_of y ≡ Some false → (id : ℕ → Option ℕ) (m : ℕ → Bool) → VerdictFits id m x y → IsRight s.clauses [] s.counted y → y ≡ Unsat
+    go : (x : Outcome) (y : Verdict) → answer_of y ≡ Some false → (id : ℕ → Option ℕ) (m : ℕ → Bool) → VerdictFits id m x y →
+        IsRight s.clauses [] s.counted y → y ≡ Unsat
     go x Unknown e id m f r = absurd cc
     go x (Sat a) e id m f r = absurd (let z : true ≡ false = cc in cc)
     go x Unsat e id m f r = refl

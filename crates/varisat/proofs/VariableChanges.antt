@@ -40,7 +40,8 @@ module _ (old new : Tables) (l : AreLinked old) (k : KeepsNames old new) where
   still-names x u e m = let live = l.named x u e in (k.back x u e live, ap (λ d. d.assumed) (k.live x live) ∙ m)
 
 -- how many names and global variables there are after k names that came into use in turn
-pub next-count : (k : ℕ) (old new : Tables) → AreNextGiven k old new → (length new.users.forward ≡ length old.users.forward + k) × (length new.kept ≤ length old.kept + k)
+pub next-count : (k : ℕ) (old new : Tables) → AreNextGiven k old new → (length new.users.forward ≡ length old.users.forward + k)
+    × (length new.kept ≤ length old.kept + k)
 next-count zero old new e = let a = ap (λ t. length t.users.forward) e in let b = ap (λ t. length t.kept) e in (omega (arith, a), omega (arith, b))
 next-count (suc k) old new (mid, x, g, rest) =
     let a = g.users.forward.watermark in
@@ -49,11 +50,16 @@ next-count (suc k) old new (mid, x, g, rest) =
     (omega (arith, a, c), omega (arith, b, d))
 
 -- the last of them leads to a new variable
-pub next-last : (k : ℕ) (old new : Tables) → AreNextGiven (suc k) old new → (x : ℕ) × (at new.users.forward (length old.users.forward + k) ≡ Some x) × (kept_at new.kept x ≡ fresh)
+pub next-last : (k : ℕ) (old new : Tables) → AreNextGiven (suc k) old new → (x : ℕ) × (at new.users.forward (length old.users.forward + k) ≡ Some x)
+    × (kept_at new.kept x ≡ fresh)
 next-last zero old new (mid, x, g, e) =
     let u = length old.users.forward in
-    subst (λ t. (x : ℕ) × (at t.users.forward (u + 0) ≡ Some x) × (kept_at t.kept x ≡ fresh)) (sym e)
-    (x, ap (at mid.users.forward) (let z : u + 0 ≡ u = omega arith in z) ∙ g.users.forward.at_each u ∙ updated-at (at old.users.forward) u (Some x), g.kept.at_each x ∙ updated-at (kept_at old.kept) x fresh)
+    subst (λ t. (x : ℕ) × (at t.users.forward (u + 0) ≡ Some x) × (kept_at t.kept x ≡ fresh)) (sym e) (
+      x,
+      ap (at mid.users.forward) (let z : u + 0 ≡ u = omega arith in z) ∙ g.users.forward.at_each u
+          ∙ updated-at (at old.users.forward) u (Some x),
+      g.kept.at_each x ∙ updated-at (kept_at old.kept) x fresh,
+    )
 next-last (suc k) old new (mid, x, g, rest) =
     let a = g.users.forward.watermark in
     let z : length mid.users.forward + k ≡ length old.users.forward + suc k = omega (arith, a) in
@@ -67,35 +73,47 @@ made-next (suc k) m = let e = made-next k (bring m.watermark m) in omega (arith,
 
 pub made-above : (u : ℕ) (m : Naming) → m.watermark ≤ u → (name_one u m).made ≡ m.made + (u + 1 - m.watermark)
 made-above u m h =
-    ap (λ b. (if b then bring_if_free u (m.names u) m else bring_next (suc u - m.watermark) m).made) (not-below u m.watermark h) ∙ made-next (suc u - m.watermark) m ∙ ap (λ k. m.made + k) (let z : suc u - m.watermark ≡ u + 1 - m.watermark = omega arith in z)
+    ap (λ b. (if b then bring_if_free u (m.names u) m else bring_next (suc u - m.watermark) m).made) (not-below u m.watermark h)
+    ∙ made-next (suc u - m.watermark) m ∙ ap (λ k. m.made + k) (let z : suc u - m.watermark ≡ u + 1 - m.watermark = omega arith in z)
   where
     not-below : (a b : ℕ) → b ≤ a → nat_lt a b ≡ false
     not-below a b h = search (rules, h)
 
 pub made-free : (u : ℕ) (m : Naming) → u < m.watermark → m.names u ≡ None → (name_one u m).made ≡ m.made + 1
-made-free u m h e = ap (λ b. (if b then bring_if_free u (m.names u) m else bring_next (suc u - m.watermark) m).made) (lt-ltb u m.watermark h) ∙ ap (λ o. (bring_if_free u o m).made) e
+made-free u m h e = ap (λ b. (if b then bring_if_free u (m.names u) m else bring_next (suc u - m.watermark) m).made) (lt-ltb u m.watermark h)
+    ∙ ap (λ o. (bring_if_free u o m).made) e
 
 -- 3. A name was named.
 
-fresh-as : (u x : ℕ) (old new : Tables) → at new.users.forward u ≡ Some x → kept_at new.kept x ≡ fresh → IsNamed u old new → StaysKept old new → IsNamedAs u old new x
+fresh-as : (u x : ℕ) (old new : Tables) → at new.users.forward u ≡ Some x → kept_at new.kept x ≡ fresh → IsNamed u old new → StaysKept old new →
+    IsNamedAs u old new x
 fresh-as u x old new e f n s = record { named = n; leads = e; live = ap (λ d. d.deleted) f; unassumed = ap (λ d. d.assumed) f; stays = s }
 
-given-as : (u x : ℕ) (old new : Tables) → AreLinked old → CanBeChanged u old → u < length old.users.forward → at old.users.forward u ≡ None → IsGiven old new u x → IsNamedAs u old new x
+given-as : (u x : ℕ) (old new : Tables) → AreLinked old → CanBeChanged u old → u < length old.users.forward → at old.users.forward u ≡ None →
+    IsGiven old new u x → IsNamedAs u old new x
 given-as u x old new l c h free g =
     let a = g.users.forward.watermark in
     let b = given-most old new u x g in
     let k = given-keeps old new u x free g in
     let m = made-free u (naming_of old) h free in
     let w = c.bounded.users in
-    let room : length old.kept + 1 ≤ variable_limit = ⊎_elim (λ q. absurd (c.room (subst (λ n. variable_limit < n) (sym m) q))) (λ q. q) (cases_lt variable_limit (length old.kept + 1)) in
-    fresh-as u x old new (g.users.forward.at_each u ∙ updated-at (at old.users.forward) u (Some x)) (g.kept.at_each x ∙ updated-at (kept_at old.kept) x fresh) (Free x h free g) (record {
-      bounded = record { users = omega (arith, a, h, w); globals = omega (arith, b, room); solvers = subst (λ m. length m.backward ≤ variable_limit) (sym g.solvers) c.bounded.solvers };
+    let room : length old.kept + 1 ≤ variable_limit = ⊎_elim (λ q. absurd (c.room (subst (λ n. variable_limit < n) (sym m) q))) (λ q. q)
+    (cases_lt variable_limit (length old.kept + 1)) in
+    fresh-as u x old new (g.users.forward.at_each u ∙ updated-at (at old.users.forward) u (Some x))
+    (g.kept.at_each x ∙ updated-at (kept_at old.kept) x fresh) (Free x h free g) (record {
+      bounded = record {
+        users = omega (arith, a, h, w);
+        globals = omega (arith, b, room);
+        solvers =
+            subst (λ m. length m.backward ≤ variable_limit) (sym g.solvers) c.bounded.solvers;
+      };
       solvers = g.solvers;
       named = still-named old new l k;
       names = still-names old new l k;
     })
 
-above-as : (u : ℕ) (old new : Tables) → AreLinked old → CanBeChanged u old → length old.users.forward ≤ u → AreNextGiven (u + 1 - length old.users.forward) old new → (x : ℕ) × IsNamedAs u old new x
+above-as : (u : ℕ) (old new : Tables) → AreLinked old → CanBeChanged u old → length old.users.forward ≤ u →
+    AreNextGiven (u + 1 - length old.users.forward) old new → (x : ℕ) × IsNamedAs u old new x
 above-as u old new l c h n =
     let w = length old.users.forward in
     let k = u - w in
@@ -106,10 +124,16 @@ above-as u old new l c h n =
     let (x, e, f) = next-last k old new (subst (λ i. AreNextGiven i old new) q n) in
     let m = made-above u (naming_of old) h in
     let b = c.in_range in
-    let room : length old.kept + (u + 1 - w) ≤ variable_limit = ⊎_elim (λ q. absurd (c.room (subst (λ n. variable_limit < n) (sym m) q))) (λ q. q) (cases_lt variable_limit (length old.kept + (u + 1 - w))) in (
+    let room : length old.kept + (u + 1 - w) ≤ variable_limit = ⊎_elim (λ q. absurd (c.room (subst (λ n. variable_limit < n) (sym m) q))) (λ q. q)
+    (cases_lt variable_limit (length old.kept + (u + 1 - w))) in (
       x,
       fresh-as u x old new (ap (at new.users.forward) (sym p) ∙ e) f (Above h n) (record {
-        bounded = record { users = omega (arith, a, b, h); globals = omega (arith, d, room); solvers = subst (λ m. length m.backward ≤ variable_limit) (sym g.solvers) c.bounded.solvers };
+        bounded = record {
+          users = omega (arith, a, b, h);
+          globals = omega (arith, d, room);
+          solvers =
+              subst (λ m. length m.backward ≤ variable_limit) (sym g.solvers) c.bounded.solvers;
+        };
         solvers = g.solvers;
         named = still-named old new l g;
         names = still-names old new l g;
@@ -157,7 +181,8 @@ named-to u x old new l c n e =
 -- 4. The variable of a name is changed.
 
 -- what is kept of a live variable has another mode
-pub mode-stays : (mid new : Tables) (x : ℕ) (mode : SamplingMode) → AreBounded mid → (kept_at mid.kept x).deleted ≡ false → IsChangedTo mid new x (record (kept_at mid.kept x) { sampling_mode = mode }) → StaysKept mid new
+pub mode-stays : (mid new : Tables) (x : ℕ) (mode : SamplingMode) → AreBounded mid → (kept_at mid.kept x).deleted ≡ false →
+    IsChangedTo mid new x (record (kept_at mid.kept x) { sampling_mode = mode }) → StaysKept mid new
 mode-stays mid new x mode b live c =
     let d : VarData = record (kept_at mid.kept x) { sampling_mode = mode } in
     let users = ap (λ t. t.users) c.rest in
@@ -167,16 +192,24 @@ mode-stays mid new x mode b live c =
     let w = ap (λ t. length t.users.forward) c.rest in
     let v = b.users in
     let g = b.globals in
-    let mark : (y : ℕ) → IsMarkedAssumed mid y → IsMarkedAssumed new y = (λ y m. ap (λ d. d.assumed) (c.kept.at_each y) ∙ updated-all (λ y e. (kept_at mid.kept y).assumed ≡ true → e.assumed ≡ true) (kept_at mid.kept) x d (λ m. m) y (λ _ m. m) m) in
+    let mark : (y : ℕ) → IsMarkedAssumed mid y → IsMarkedAssumed new y =
+    (λ y m. ap (λ d. d.assumed) (c.kept.at_each y) ∙ updated-all (λ y e. (kept_at mid.kept y).assumed ≡ true → e.assumed ≡ true)
+    (kept_at mid.kept) x d (λ m. m) y (λ _ m. m) m) in
     record {
-      bounded = record { users = omega (arith, w, v); globals = omega (arith, n, h, g); solvers = subst (λ m. length m.backward ≤ variable_limit) (sym solvers) b.solvers };
+      bounded = record {
+        users = omega (arith, w, v);
+        globals = omega (arith, n, h, g);
+        solvers =
+            subst (λ m. length m.backward ≤ variable_limit) (sym solvers) b.solvers;
+      };
       solvers = solvers;
       named = λ u y e m. (ap (λ t. at t.users.forward u) c.rest ∙ e, mark y m);
       names = λ y u e m. (ap (λ t. at t.users.backward y) c.rest ∙ e, mark y m);
     }
 
 -- the name of a variable that is not marked as assumed is free
-pub hidden-stays : (mid new : Tables) (u x : ℕ) → AreLinked mid → AreBounded mid → at mid.users.forward u ≡ Some x → (kept_at mid.kept x).assumed ≡ false → IsHidden mid new u x → StaysKept mid new
+pub hidden-stays : (mid new : Tables) (u x : ℕ) → AreLinked mid → AreBounded mid → at mid.users.forward u ≡ Some x →
+    (kept_at mid.kept x).assumed ≡ false → IsHidden mid new u x → StaysKept mid new
 hidden-stays mid new u x l b e unmarked n =
     let d : VarData = record (kept_at mid.kept x) { sampling_mode = sampling.Hide } in
     let live = l.named x u (l.users.there u x e) in
@@ -186,17 +219,29 @@ hidden-stays mid new u x l b e unmarked n =
     let w = n.users.forward.watermark in
     let v = b.users in
     let g = b.globals in
-    let other : (y : ℕ) → IsMarkedAssumed mid y → y ≡ x → ⊥ = (λ y m q. let z : true ≡ false = sym m ∙ ap (λ y. (kept_at mid.kept y).assumed) q ∙ unmarked in cc) in
-    let mark : (y : ℕ) → IsMarkedAssumed mid y → IsMarkedAssumed new y = (λ y m. ap (λ d. d.assumed) (n.kept.at_each y ∙ updated-other (kept_at mid.kept) x d y (other y m)) ∙ m) in
+    let other : (y : ℕ) → IsMarkedAssumed mid y → y ≡ x →
+    ⊥ = (λ y m q. let z : true ≡ false = sym m ∙ ap (λ y. (kept_at mid.kept y).assumed) q ∙ unmarked in cc) in
+    let mark : (y : ℕ) → IsMarkedAssumed mid y → IsMarkedAssumed new y =
+    (λ y m. ap (λ d. d.assumed) (n.kept.at_each y ∙ updated-other (kept_at mid.kept) x d y (other y m)) ∙ m) in
     record {
-      bounded = record { users = omega (arith, w, v, i); globals = omega (arith, c, h, g); solvers = subst (λ m. length m.backward ≤ variable_limit) (sym n.solvers) b.solvers };
+      bounded = record {
+        users = omega (arith, w, v, i);
+        globals = omega (arith, c, h, g);
+        solvers =
+            subst (λ m. length m.backward ≤ variable_limit) (sym n.solvers) b.solvers;
+      };
       solvers = n.solvers;
-      named = λ v y a m. (n.users.forward.at_each v ∙ updated-other (at mid.users.forward) u None v (λ q. let z : Some y ≡ Some x = sym a ∙ ap (at mid.users.forward) q ∙ e in other y m cc) ∙ a, mark y m);
+      named = λ v y a m. (
+        n.users.forward.at_each v ∙ updated-other (at mid.users.forward) u None v
+            (λ q. let z : Some y ≡ Some x = sym a ∙ ap (at mid.users.forward) q ∙ e in other y m cc) ∙ a,
+        mark y m,
+      );
       names = λ y v a m. (n.users.backward.at_each y ∙ updated-other (at mid.users.backward) x None y (other y m) ∙ a, mark y m);
     }
 
 -- The mode of the variable of a name was set.
-pub set-named : (u x : ℕ) (mode : SamplingMode) (old mid new : Tables) (returned : Option ℕ) → IsNamedAs u old mid x → AreLinked mid → SetsModeOf x mode mid new returned → SetsNamedMode u mode old x new
+pub set-named : (u x : ℕ) (mode : SamplingMode) (old mid new : Tables) (returned : Option ℕ) → IsNamedAs u old mid x → AreLinked mid →
+    SetsModeOf x mode mid new returned → SetsNamedMode u mode old x new
 set-named u x mode old mid new returned n l (LosesName v hide at-x gone told) =
     let q : Some v ≡ Some u = sym at-x ∙ l.users.there u x n.leads in
     let same : v ≡ u = cc in
@@ -225,11 +270,14 @@ set-named u x mode old mid new returned n l (OtherwiseSet stays changed told) = 
 pub hidden-unnamed : (old new : Tables) (u x : ℕ) → IsHidden old new u x → at new.users.backward x ≡ None
 hidden-unnamed old new u x n = n.users.backward.at_each x ∙ updated-at (at old.users.backward) x None
 
-pub hidden-keeps : {X : Type 0} (F : VarData → X) (old new : Tables) (u x : ℕ) → F (record (kept_at old.kept x) { sampling_mode = sampling.Hide }) ≡ F (kept_at old.kept x) → IsHidden old new u x → F (kept_at new.kept x) ≡ F (kept_at old.kept x)
+pub hidden-keeps : {X : Type 0} (F : VarData → X) (old new : Tables) (u x : ℕ) →
+    F (record (kept_at old.kept x) { sampling_mode = sampling.Hide }) ≡ F (kept_at old.kept x) → IsHidden old new u x →
+    F (kept_at new.kept x) ≡ F (kept_at old.kept x)
 hidden-keeps F old new u x e n = ap F (n.kept.at_each x ∙ updated-at (kept_at old.kept) x (record (kept_at old.kept x) { sampling_mode = sampling.Hide })) ∙ e
 
 -- where it is not assumed, those that are keep their names and marks
-deleted-stays : (old new : Tables) (x : ℕ) → AreBounded old → (kept_at old.kept x).deleted ≡ false → (kept_at old.kept x).assumed ≡ false → IsDeletedIfUnused old new x → StaysKept old new
+deleted-stays : (old new : Tables) (x : ℕ) → AreBounded old → (kept_at old.kept x).deleted ≡ false → (kept_at old.kept x).assumed ≡ false →
+    IsDeletedIfUnused old new x → StaysKept old new
 deleted-stays old new x b live unmarked n =
     let users = ap (λ t. t.users) n.rest in
     let solvers = ap (λ t. t.solvers) n.rest in
@@ -238,10 +286,18 @@ deleted-stays old new x b live unmarked n =
     let w = ap (λ t. length t.users.forward) n.rest in
     let v = b.users in
     let g = b.globals in
-    let other : (y : ℕ) → IsMarkedAssumed old y → y ≡ x → ⊥ = (λ y m q. let z : true ≡ false = sym m ∙ ap (λ y. (kept_at old.kept y).assumed) q ∙ unmarked in cc) in
-    let mark : (y : ℕ) → IsMarkedAssumed old y → IsMarkedAssumed new y = (λ y m. ap (λ d. d.assumed) (n.kept.at_each y ∙ updated-other (kept_at old.kept) x (unless_unused (at old.solvers.forward x) (kept_at old.kept x)) y (other y m)) ∙ m) in
+    let other : (y : ℕ) → IsMarkedAssumed old y → y ≡ x →
+    ⊥ = (λ y m q. let z : true ≡ false = sym m ∙ ap (λ y. (kept_at old.kept y).assumed) q ∙ unmarked in cc) in
+    let mark : (y : ℕ) → IsMarkedAssumed old y → IsMarkedAssumed new y =
+    (λ y m. ap (λ d. d.assumed) (n.kept.at_each y ∙ updated-other (kept_at old.kept) x
+    (unless_unused (at old.solvers.forward x) (kept_at old.kept x)) y (other y m)) ∙ m) in
     record {
-      bounded = record { users = omega (arith, w, v); globals = omega (arith, c, h, g); solvers = subst (λ m. length m.backward ≤ variable_limit) (sym solvers) b.solvers };
+      bounded = record {
+        users = omega (arith, w, v);
+        globals = omega (arith, c, h, g);
+        solvers =
+            subst (λ m. length m.backward ≤ variable_limit) (sym solvers) b.solvers;
+      };
       solvers = solvers;
       named = λ u y e m. (ap (λ t. at t.users.forward u) n.rest ∙ e, mark y m);
       names = λ y u e m. (ap (λ t. at t.users.backward y) n.rest ∙ e, mark y m);
@@ -273,7 +329,8 @@ module _ (u : ℕ) (v : SatState) (p q : TracerState) (h : HidesNamed u v p q) w
   -- what the proof was told
   pub hides-told : (given : List Entry) × IsTold p.proof given q.proof × (q.proof.opened ≡ p.proof.opened)
   hides-told = ⊎_elim
-      (λ e. subst (λ (t : TracerState). (given : List Entry) × IsTold p.proof given t.proof × (t.proof.opened ≡ p.proof.opened)) (sym (h.stays e)) ([], told-none p.proof, refl))
+      (λ e. subst (λ (t : TracerState). (given : List Entry) × IsTold p.proof given t.proof × (t.proof.opened ≡ p.proof.opened)) (sym (h.stays e))
+      ([], told-none p.proof, refl))
       (λ n. let l = h.left n in (leaves_if_deleted q.tables h.global, l.told, l.opened))
       (unsat-or-not v)
 
@@ -283,7 +340,8 @@ module _ (u : ℕ) (v : SatState) (p q : TracerState) (h : HidesNamed u v p q) w
 to : Tables → ℕ → ℕ → ℕ → Option ℕ
 to t u x = updated (at t.users.forward) u (Some x)
 
-to-once : (t : Tables) (u x : ℕ) → AreLinked t → at t.users.forward u ≡ None → at t.users.backward x ≡ None → (v y i : ℕ) → to t u x v ≡ Some i → to t u x y ≡ Some i → y ≡ v
+to-once : (t : Tables) (u x : ℕ) → AreLinked t → at t.users.forward u ≡ None → at t.users.backward x ≡ None → (v y i : ℕ) → to t u x v ≡ Some i →
+    to t u x y ≡ Some i → y ≡ v
 unfolding to
 to-once t u x l free unnamed v y i a b =
     let both = joined (at t.users.forward) (at t.users.backward) u x l.users free unnamed in
@@ -291,7 +349,8 @@ to-once t u x l free unnamed v y i a b =
     cc
 
 -- The least free name is below the count of global variables where a live one has no name: all lower names lead to others.
-pub shown-near : (t : Tables) (x u : ℕ) → AreLinked t → (kept_at t.kept x).deleted ≡ false → at t.users.backward x ≡ None → IsLeastUnmapped t.users.forward u → u < length t.kept
+pub shown-near : (t : Tables) (x u : ℕ) → AreLinked t → (kept_at t.kept x).deleted ≡ false → at t.users.backward x ≡ None →
+    IsLeastUnmapped t.users.forward u → u < length t.kept
 unfolding to
 shown-near t x u l live unnamed least =
     let d = few (to t u x) (below (length t.kept)) (to-once t u x l least.0 unnamed) (u + 1) found in
@@ -301,7 +360,12 @@ shown-near t x u l live unnamed least =
     found : (v : ℕ) → v < u + 1 → (i : ℕ) × (to t u x v ≡ Some i) × (i ∈ below (length t.kept))
     found v h =
         ⊎_elim
-        (λ e. (x, ap (updated (at t.users.forward) u (Some x)) e ∙ updated-at (at t.users.forward) u (Some x), ∈-below (length t.kept) x (live-inside t.kept x live)))
+        (λ e. (
+          x,
+          ap (updated (at t.users.forward) u (Some x)) e ∙ updated-at (at t.users.forward) u (Some x),
+          ∈-below (length t.kept) x
+              (live-inside t.kept x live),
+        ))
         (λ n. ⊎_elim
         (λ z. absurd (least.1 v (omega (arith, h, n)) z))
         (λ (y, q). (y, updated-other (at t.users.forward) u (Some x) v n ∙ q, ∈-below (length t.kept) y (named-inside t v y l q)))
@@ -309,13 +373,15 @@ shown-near t x u l live unnamed least =
         (equal_or_not v u)
 
 -- and the tables stay linked
-pub shown-linked : (old new : Tables) (x u : ℕ) (mode : SamplingMode) → AreLinked old → (kept_at old.kept x).deleted ≡ false → at old.users.backward x ≡ None → IsShown old new x mode u → AreLinked new
+pub shown-linked : (old new : Tables) (x u : ℕ) (mode : SamplingMode) → AreLinked old → (kept_at old.kept x).deleted ≡ false →
+    at old.users.backward x ≡ None → IsShown old new x mode u → AreLinked new
 shown-linked old new x u mode l live unnamed n =
     let given = join-users old new.users u x l live n.least.0 unnamed n.users in
     let kept = keep-live (record old { users = new.users }) new.kept x (record (kept_at old.kept x) { sampling_mode = mode }) given live n.kept in
     same-tables (record old { users = new.users; kept = new.kept }) new.users new.solvers new.kept refl n.solvers refl kept
 
-pub shown-stays : (mid new : Tables) (x u : ℕ) → AreLinked mid → AreBounded mid → (kept_at mid.kept x).deleted ≡ false → at mid.users.backward x ≡ None → IsShown mid new x sampling.Witness u → StaysKept mid new
+pub shown-stays : (mid new : Tables) (x u : ℕ) → AreLinked mid → AreBounded mid → (kept_at mid.kept x).deleted ≡ false →
+    at mid.users.backward x ≡ None → IsShown mid new x sampling.Witness u → StaysKept mid new
 shown-stays mid new x u l b live unnamed n =
     let d : VarData = record (kept_at mid.kept x) { sampling_mode = sampling.Witness } in
     let near = shown-near mid x u l live unnamed n.least in
@@ -324,16 +390,32 @@ shown-stays mid new x u l b live unnamed n =
     let w = n.users.forward.watermark in
     let v = b.users in
     let g = b.globals in
-    let mark : (y : ℕ) → IsMarkedAssumed mid y → IsMarkedAssumed new y = (λ y m. ap (λ d. d.assumed) (n.kept.at_each y) ∙ updated-all (λ y e. (kept_at mid.kept y).assumed ≡ true → e.assumed ≡ true) (kept_at mid.kept) x d (λ m. m) y (λ _ m. m) m) in
+    let mark : (y : ℕ) → IsMarkedAssumed mid y → IsMarkedAssumed new y =
+    (λ y m. ap (λ d. d.assumed) (n.kept.at_each y) ∙ updated-all (λ y e. (kept_at mid.kept y).assumed ≡ true → e.assumed ≡ true)
+    (kept_at mid.kept) x d (λ m. m) y (λ _ m. m) m) in
     record {
-      bounded = record { users = omega (arith, w, v, near, g); globals = omega (arith, c, h, g); solvers = subst (λ m. length m.backward ≤ variable_limit) (sym n.solvers) b.solvers };
+      bounded = record {
+        users = omega (arith, w, v, near, g);
+        globals = omega (arith, c, h, g);
+        solvers =
+            subst (λ m. length m.backward ≤ variable_limit) (sym n.solvers) b.solvers;
+      };
       solvers = n.solvers;
-      named = λ v y a m. (n.users.forward.at_each v ∙ updated-other (at mid.users.forward) u (Some x) v (λ q. let z : None ≡ Some y = sym n.least.0 ∙ ap (at mid.users.forward) (sym q) ∙ a in cc) ∙ a, mark y m);
-      names = λ y v a m. (n.users.backward.at_each y ∙ updated-other (at mid.users.backward) x (Some u) y (λ q. let z : None ≡ Some v = sym unnamed ∙ ap (at mid.users.backward) (sym q) ∙ a in cc) ∙ a, mark y m);
+      named = λ v y a m. (
+        n.users.forward.at_each v ∙ updated-other (at mid.users.forward) u (Some x) v
+            (λ q. let z : None ≡ Some y = sym n.least.0 ∙ ap (at mid.users.forward) (sym q) ∙ a in cc) ∙ a,
+        mark y m,
+      );
+      names = λ y v a m. (
+        n.users.backward.at_each y ∙ updated-other (at mid.users.backward) x (Some u) y
+            (λ q. let z : None ≡ Some v = sym unnamed ∙ ap (at mid.users.backward) (sym q) ∙ a in cc) ∙ a,
+        mark y m,
+      );
     }
 
 -- hidden variables come back in turn, none under a name past the limit
-pub turns-stay : (us : List ℕ) (old new : Tables) → AreLinked old → AreBounded old → AreShownInTurn us old new → StaysKept old new × ((u : ℕ) → u ∈ us → u < variable_limit)
+pub turns-stay : (us : List ℕ) (old new : Tables) → AreLinked old → AreBounded old → AreShownInTurn us old new → StaysKept old new
+    × ((u : ℕ) → u ∈ us → u < variable_limit)
 turns-stay [] old new l b e = (subst (StaysKept old) (sym e) (stays-same old b), λ u h. absurd h)
 turns-stay (u ∷ us) old new l b (mid, x, live, unnamed, n, rest) =
     let k = shown-stays old mid x u l b live unnamed n in

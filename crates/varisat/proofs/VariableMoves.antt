@@ -37,8 +37,10 @@ recycle x p = record (with_data x dead p) { model = updated p.model x false }
 
 -- the search is t, which knows nothing of the solver variable v any more, and what is kept of its global variable x is d
 abbrev pub leave_search : ℕ → ℕ → Search → VarData → Spaces → Spaces
-leave_search v x t d p = record (with_data x d p) { solver_from_global = updated p.solver_from_global x None; global_from_solver = updated p.global_from_solver v None; search = t }
+leave_search v x t d p = record (with_data x d p)
+    { solver_from_global = updated p.solver_from_global x None; global_from_solver = updated p.global_from_solver v None; search = t }
 
 -- the search is t, which knows nothing of the solver variable v any more, and its global variable x may be used again
 abbrev pub leave_all : ℕ → ℕ → Search → Spaces → Spaces
-leave_all v x t p = record (recycle x p) { solver_from_global = updated p.solver_from_global x None; global_from_solver = updated p.global_from_solver v None; search = t }
+leave_all v x t p = record (recycle x p)
+    { solver_from_global = updated p.solver_from_global x None; global_from_solver = updated p.global_from_solver v None; search = t }

@@ -54,13 +54,16 @@ unassumed-state {g} {s} u b n (l, h, e) =
 pub free-state : {g : Summary} {s : State} (u : ℕ) → Begins g s → at g.tables.users.forward u ≡ None → s.naming.names u ≡ None
 free-state {g} {s} u b f = let (w, k) = b.fits in k.names.agree u ∙ chain-none (at g.tables.users.forward) w.identity u f
 
-crowded-one : (w : Carrying) (g : Summary) (s : State) (u : ℕ) → Links w (spaces g) s → IsCrowded (name_one u (naming_of g.tables)) → IsCrowded (name_one u s.naming)
+crowded-one : (w : Carrying) (g : Summary) (s : State) (u : ℕ) → Links w (spaces g) s → IsCrowded (name_one u (naming_of g.tables)) →
+    IsCrowded (name_one u s.naming)
 crowded-one w g s u k c =
     let e = variable-literal u true in
-    subst (λ v. IsCrowded (name_one v s.naming)) e (crowded-state w g s k (literal_of u true ∷ []) (subst (λ v. IsCrowded (name_one v (naming_of g.tables))) (sym e) c))
+    subst (λ v. IsCrowded (name_one v s.naming)) e
+    (crowded-state w g s k (literal_of u true ∷ []) (subst (λ v. IsCrowded (name_one v (naming_of g.tables))) (sym e) c))
 
 -- a change that is refused changes nothing
-pub change-refused : (may_leave : Bool) (change : State → State) {g : Summary} {s : State} (u : ℕ) (e : SolverError) → Begins g s → ChecksChange g.tables u (Err e) → ChangesVar named may_leave change s u (Err e) s
+pub change-refused : (may_leave : Bool) (change : State → State) {g : Summary} {s : State} (u : ℕ) (e : SolverError) → Begins g s →
+    ChecksChange g.tables u (Err e) → ChangesVar named may_leave change s u (Err e) s
 change-refused may_leave change {g} {s} u VariableLimit b c = let (w, k) = b.fits in (b.valid, ⊎_elim inl (λ m. inr (crowded-one w g s u k m)) c, refl)
 change-refused may_leave change {g} {s} u (AssumedVar x) b (h, q, m) = let (w, k) = b.fits in (b.valid, h, q, assumed-state w g s u k m, refl)
 change-refused may_leave change {g} {s} u e b c = absurd c
@@ -69,7 +72,8 @@ change-refused may_leave change {g} {s} u e b c = absurd c
 no-memory : (t : Tables) (u : ℕ) (r : Result (Unit {0}) SolverError) → ChecksChange t u r → r ≡ Err OutOfMemory → ⊥
 no-memory t u r c q = subst (ChecksChange t u) q c
 
-pub mode-refused : (n : Mode) {g : Summary} {s : State} (u : ℕ) (e : SolverError) → Begins g s → ChecksChange g.tables u (Err e) → SetsMode named n s u (Err e) s
+pub mode-refused : (n : Mode) {g : Summary} {s : State} (u : ℕ) (e : SolverError) → Begins g s → ChecksChange g.tables u (Err e) →
+    SetsMode named n s u (Err e) s
 mode-refused n {g} {s} u e b c = (change-refused false (with_mode u n) u e b c, λ q. absurd (no-memory g.tables u (Err e) c q))
 
 -- 2. What is changed.
@@ -79,42 +83,53 @@ not-hide sampling.Sample n fit e = cc
 not-hide sampling.Witness n fit e = cc
 not-hide sampling.Hide n fit e = absurd fit
 
-pub mode-state : (g : Summary) (s : State) (new : Tables) (u x : ℕ) (m : SamplingMode) (n : Mode) → SpacesFit (spaces g) s → ModeFits m n → SetsNamedMode u m g.tables x new → SpacesFit (spaces (with_tables new g)) (with_mode u n (name_var named u s))
+pub mode-state : (g : Summary) (s : State) (new : Tables) (u x : ℕ) (m : SamplingMode) (n : Mode) → SpacesFit (spaces g) s → ModeFits m n →
+    SetsNamedMode u m g.tables x new → SpacesFit (spaces (with_tables new g)) (with_mode u n (name_var named u s))
 mode-state g s new u x m n b fit c =
-    mode-spaces (with_tables c.mid g) (with_naming (name_one u s.naming) s) new u x m n (named-one g s c.mid u b c.named.named) c.named.leads fit (c.changed (not-hide m n fit))
+    mode-spaces (with_tables c.mid g) (with_naming (name_one u s.naming) s) new u x m n (named-one g s c.mid u b c.named.named) c.named.leads fit
+    (c.changed (not-hide m n fit))
 
 -- the name is free, and its variable left or not
-module _ (g : Summary) (s : State) (u : ℕ) (p : ProofParts) (q : TracerState) (same : p.checker ≡ g.checker) (b : SpacesFit (spaces g) s) (h : HidesNamed u g.sat_state (record { tables = g.tables; proof = p }) q) where
+module _ (g : Summary) (s : State) (u : ℕ) (p : ProofParts) (q : TracerState) (same : p.checker ≡ g.checker) (b : SpacesFit (spaces g) s)
+    (h : HidesNamed u g.sat_state (record { tables = g.tables; proof = p }) q) where
   after : State
   after = hide_name u (name_var named u s)
 
   freed : SpacesFit (spaces (with_tables h.mid g)) after
   unfolding after
-  freed = let c = h.set in hidden-spaces (with_tables c.mid g) (with_naming (name_one u s.naming) s) h.mid u h.global (named-one g s c.mid u b c.named.named) c.named.leads c.named.unassumed (c.hidden refl)
+  freed = let c = h.set in hidden-spaces (with_tables c.mid g) (with_naming (name_one u s.naming) s) h.mid u h.global
+      (named-one g s c.mid u b c.named.named) c.named.leads c.named.unassumed (c.hidden refl)
 
-  gone : g.sat_state ≢ verdict.Unsat → (told : List Entry) × TellsLeaving true s.told told p q.proof × SpacesFit (spaces (with_checker q.proof.checker (with_tables q.tables g))) (retold told after)
+  gone : g.sat_state ≢ verdict.Unsat → (told : List Entry) × TellsLeaving true s.told told p q.proof
+      × SpacesFit (spaces (with_checker q.proof.checker (with_tables q.tables g))) (retold told after)
   unfolding after
   gone n =
       let l = h.left n in
       let hides = h.set.hidden refl in
-      left-spaces (with_tables h.mid g) after q.tables h.global p q.proof freed (hidden-keeps (λ (d : VarData). d.deleted) h.set.mid h.mid u h.global refl hides ∙ h.set.named.live) (hidden-unnamed h.set.mid h.mid u h.global hides) n l.deleted same l.told
+      left-spaces (with_tables h.mid g) after q.tables h.global p q.proof freed
+      (hidden-keeps (λ (d : VarData). d.deleted) h.set.mid h.mid u h.global refl hides ∙ h.set.named.live)
+      (hidden-unnamed h.set.mid h.mid u h.global hides) n l.deleted same l.told
 
-  pub hide-state : (told : List Entry) × TellsLeaving true s.told told p q.proof × SpacesFit (spaces (with_checker q.proof.checker (with_tables q.tables g))) (retold told (hide_name u (name_var named u s)))
+  pub hide-state : (told : List Entry) × TellsLeaving true s.told told p q.proof
+      × SpacesFit (spaces (with_checker q.proof.checker (with_tables q.tables g))) (retold told (hide_name u (name_var named u s)))
   unfolding after
   hide-state = ⊎_elim
-      (λ e. subst (λ (t : TracerState). (told : List Entry) × TellsLeaving true s.told told p t.proof × SpacesFit (spaces (with_checker t.proof.checker (with_tables t.tables g))) (retold told after)) (sym (h.stays e))
+      (λ e. subst (λ (t : TracerState). (told : List Entry) × TellsLeaving true s.told told p t.proof
+      × SpacesFit (spaces (with_checker t.proof.checker (with_tables t.tables g))) (retold told after)) (sym (h.stays e))
       (s.told, leaving-nothing true s.told p, subst (λ o. SpacesFit (spaces (with_checker o (with_tables h.mid g))) after) (sym same) freed))
       (λ n. gone n)
       (unsat-or-not g.sat_state)
 
-turns-state : (us : List ℕ) (g : Summary) (s : State) (new : Tables) → SpacesFit (spaces g) s → AreShownInTurn us g.tables new → HaveShown us (with_tables new g) s
+turns-state : (us : List ℕ) (g : Summary) (s : State) (new : Tables) → SpacesFit (spaces g) s → AreShownInTurn us g.tables new →
+    HaveShown us (with_tables new g) s
 turns-state [] g s new f e = (s.naming, refl, subst (λ t. SpacesFit (spaces (with_tables t g)) s) (sym e) f)
 turns-state (u ∷ us) g s new f (mid, x, live, unnamed, n, rest) =
     let (l, (i, b, o, fit)) = shown-spaces g s mid x u f live unnamed n in
     let (m, turns, k) = turns-state us (with_tables mid g) (with_naming (give_name u i s.naming) s) new fit rest in
     (m, (l, (i, b, o, turns)), k)
 
-pub show-state : (us : List ℕ) (g : Summary) (s : State) (new : Tables) → SpacesFit (spaces g) s → AreLinked g.tables → AreBounded g.tables → ShowsAllHidden us g.tables new → (m : Naming) × AreAllShown us s.clauses s.naming m × SpacesFit (spaces (with_tables new g)) (with_naming m s)
+pub show-state : (us : List ℕ) (g : Summary) (s : State) (new : Tables) → SpacesFit (spaces g) s → AreLinked g.tables → AreBounded g.tables →
+    ShowsAllHidden us g.tables new → (m : Naming) × AreAllShown us s.clauses s.naming m × SpacesFit (spaces (with_tables new g)) (with_naming m s)
 show-state us g s new b l bounded d =
     all-shown us (with_tables new g) s (turns-state us g s new b d.in_turn) (turns-stay us g.tables new l bounded d.in_turn).1 d.all
 
@@ -133,5 +148,6 @@ kept-after c old new k s = record {
       let q : Some x ≡ Some y = sym a ∙ f in
       let z : x ≡ y = cc in
       subst (IsMarkedAssumed new) z m;
-  working = λ l h. let (x, u, a, b, m) = k.working l h in let (n, i) = s.names x u b m in (x, u, ap (λ (m : BiMap). at m.backward (variable_of l)) s.solvers ∙ a, n, i);
+  working = λ l h. let (x, u, a, b, m) = k.working l h in let (n, i) = s.names x u b m in
+      (x, u, ap (λ (m : BiMap). at m.backward (variable_of l)) s.solvers ∙ a, n, i);
 }

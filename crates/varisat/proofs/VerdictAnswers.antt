@@ -35,20 +35,24 @@ right-false P A C Unsat q r = λ (a, m, n). r (a, m)
 right-false P A C (UnsatUnderAssumptions core) q r = λ w. not_both_answers P A core w r
 
 -- and has a core
-pub right-core : (P : List Clause) (A : List Literal) (C : List ℕ) (v : Verdict) → answer_of v ≡ Some false → IsRight P A C v → (core : List Literal) × (core_of v ≡ Some core) × IsFailedCore P A core
+pub right-core : (P : List Clause) (A : List Literal) (C : List ℕ) (v : Verdict) → answer_of v ≡ Some false → IsRight P A C v →
+    (core : List Literal) × (core_of v ≡ Some core) × IsFailedCore P A core
 right-core P A C Unknown q r = absurd cc
 right-core P A C (Sat a) q r = absurd (let z : true ≡ false = cc in cc)
 right-core P A C Unsat q r = ([], refl, ((λ l h. absurd h), λ (a, m, n). r (a, m)))
 right-core P A C (UnsatUnderAssumptions core) q r = (core, refl, r)
 
 -- a core that is told is a failed one
-pub told-fails : (s : State) (core : List Literal) → HasRightVerdict s → IsCoreToTell s (Some core) → IsFailedCore s.clauses s.assumptions (map (through_names s.naming) core)
+pub told-fails : (s : State) (core : List Literal) → HasRightVerdict s → IsCoreToTell s (Some core) →
+    IsFailedCore s.clauses s.assumptions (map (through_names s.naming) core)
 told-fails s core r (named, e) = go s.verdict r e
   where
-    go : (v : Verdict) → IsRight s.clauses s.assumptions s.counted v → core_of v ≡ Some (map (through_names s.naming) core) → IsFailedCore s.clauses s.assumptions (map (through_names s.naming) core)
+    go : (v : Verdict) → IsRight s.clauses s.assumptions s.counted v → core_of v ≡ Some (map (through_names s.naming) core) →
+        IsFailedCore s.clauses s.assumptions (map (through_names s.naming) core)
     go Unknown r e = absurd cc
     go (Sat a) r e = absurd cc
-    go Unsat r e = let z : [] ≡ map (through_names s.naming) core = cc in subst (IsFailedCore s.clauses s.assumptions) z ((λ l h. absurd h), λ (a, m, n). r (a, m))
+    go Unsat r e = let z : [] ≡ map (through_names s.naming) core = cc in
+        subst (IsFailedCore s.clauses s.assumptions) z ((λ l h. absurd h), λ (a, m, n). r (a, m))
     go (UnsatUnderAssumptions d) r e = let z : d ≡ map (through_names s.naming) core = cc in subst (IsFailedCore s.clauses s.assumptions) z r
 
 pub core-answer : (v : Verdict) (core : List Literal) → core_of v ≡ Some core → answer_of v ≡ Some false
@@ -89,7 +93,8 @@ reopened-core (Sat a) core e = absurd cc
 reopened-core Unsat core e = e
 reopened-core (UnsatUnderAssumptions d) core e = e
 
-pub right-reopened : (P : List Clause) (c : Clause) (A : List Literal) (C D : List ℕ) (v : Verdict) → v ≢ Unsat → IsRight P A C v → IsRight (P ++ c ∷ []) A D (reopened_verdict v)
+pub right-reopened : (P : List Clause) (c : Clause) (A : List Literal) (C D : List ℕ) (v : Verdict) → v ≢ Unsat → IsRight P A C v →
+    IsRight (P ++ c ∷ []) A D (reopened_verdict v)
 right-reopened P c A C D Unknown n r = tt
 right-reopened P c A C D (Sat a) n r = tt
 right-reopened P c A C D Unsat n r = absurd (n refl)

@@ -66,7 +66,8 @@ pub adds-none : (s : View) (m : Literal) (x : Marking) → (level_of s m ≡ 0) 
 adds-none s m x o = record {
   more = λ v k. k;
   only = λ v k. inl k;
-  all = λ l h a. ⊎_elim (λ (e : l ≡ m). ⊎_elim (λ z. let g = ap (level_of s) e in absurd (omega (arith, z, g, a))) (λ k. subst (λ y. IsFlagged x.flags (variable_of y)) (sym e) k) o) (λ z. absurd z) h;
+  all = λ l h a. ⊎_elim (λ (e : l ≡ m). ⊎_elim (λ z. let g = ap (level_of s) e in absurd (omega (arith, z, g, a)))
+      (λ k. subst (λ y. IsFlagged x.flags (variable_of y)) (sym e) k) o) (λ z. absurd z) h;
   longer = λ l h. h;
   marks = λ i h y o k. k;
   counted = λ i h l. omega arith;
@@ -101,13 +102,15 @@ module _ (s : View) (w : WellFormed s) (m : Literal) (x : Marking) (h : variable
       marked = λ y j. still (variable_of y) (k.marked y j);
       distinct = k.distinct;
       listed = k.listed;
-      known = λ v q. ⊎_elim (λ u. mark-of s i x (record x { flags = g }) v (λ y j. j) (λ j. j) (k.known v u)) (λ e. late-place i o (a m (inl refl)) v e) (marked-new x.flags (variable_of m) v q);
+      known = λ v q. ⊎_elim (λ u. mark-of s i x (record x { flags = g }) v (λ y j. j) (λ j. j) (k.known v u))
+          (λ e. late-place i o (a m (inl refl)) v e) (marked-new x.flags (variable_of m) v q);
     };
     counted = λ i a b. more-one i b (a m (inl refl));
     involved = refl;
   }
     where
-      current-at : (i : ℕ) → StandsBefore s i (opposite m) → i ≤ length s.trail → (k : ℕ) × (k < i) × (k < length s.trail) × ((node_at s k).level ≡ current_level s) × (variable_of (literal_at s k) ≡ variable_of m)
+      current-at : (i : ℕ) → StandsBefore s i (opposite m) → i ≤ length s.trail → (k : ℕ) × (k < i) × (k < length s.trail)
+          × ((node_at s k).level ≡ current_level s) × (variable_of (literal_at s k) ≡ variable_of m)
       current-at i (k, a, e) b =
           let p : (node_at s k).level ≡ level_of s (opposite m) = ap (level_of s) e in
           (k, a, omega (arith, a, b), p ∙ level-opposite s m ∙ l, ap variable_of e ∙ variable-opposite m)
@@ -121,7 +124,9 @@ module _ (s : View) (w : WellFormed s) (m : Literal) (x : Marking) (h : variable
           count-more s x.flags g i k p
           (closed-unmarked s x.flags k (ap (λ v. get_or x.flags v false) e ∙ n))
           (open-is s g k (q, r) (subst (IsFlagged g) (sym e) (get_or-set_same x.flags (variable_of m) true false h)))
-          (λ j u o. open-same s x.flags g j (sym (get_or-set_other x.flags (variable_of m) (variable_of (literal_at s j)) true false (λ z. o (same-place s w j k (omega (arith, u, b)) q (z ∙ sym e))))))
+          (λ j u o. open-same s x.flags g j
+          (sym (get_or-set_other x.flags (variable_of m) (variable_of (literal_at s j)) true false
+          (λ z. o (same-place s w j k (omega (arith, u, b)) q (z ∙ sym e))))))
 
   -- the literal joins the clause
   abbrev joined : Marking
@@ -135,10 +140,14 @@ module _ (s : View) (w : WellFormed s) (m : Literal) (x : Marking) (h : variable
     all = all-one;
     longer = λ y i. ∈-append_left y x.clause (m ∷ []) i;
     marks = λ i q y0 z0 k. record {
-      lower = λ y j. ⊎_elim (k.lower y) (λ o. ⊎_elim (λ e. subst (IsLower s) (sym e) (record { false_now = fm; above = a; below = b; of_kept = y0 m (inl refl) })) (λ z. absurd z) o) (∈-append_cases y x.clause (m ∷ []) j);
-      marked = λ y j. ⊎_elim (λ o. still (variable_of y) (k.marked y o)) (λ o. all-one y o (⊎_elim (λ e. let z = ap (level_of s) e in omega (arith, z, a)) (λ z. absurd z) o)) (∈-append_cases y x.clause (m ∷ []) j);
+      lower = λ y j. ⊎_elim (k.lower y)
+          (λ o. ⊎_elim (λ e. subst (IsLower s) (sym e) (record { false_now = fm; above = a; below = b; of_kept = y0 m (inl refl) }))
+          (λ z. absurd z) o) (∈-append_cases y x.clause (m ∷ []) j);
+      marked = λ y j. ⊎_elim (λ o. still (variable_of y) (k.marked y o))
+          (λ o. all-one y o (⊎_elim (λ e. let z = ap (level_of s) e in omega (arith, z, a)) (λ z. absurd z) o)) (∈-append_cases y x.clause (m ∷ []) j);
       distinct = distinct-push x.clause m k.distinct (λ o. not-marked (k.marked m o));
-      listed = λ v j. ⊎_elim (k.listed v) (λ o. ⊎_elim (λ e. let z = inside s w m fm in omega (arith, e, z)) (λ z. absurd z) o) (∈-append_cases v x.to_clean (variable_of m ∷ []) j);
+      listed = λ v j. ⊎_elim (k.listed v) (λ o. ⊎_elim (λ e. let z = inside s w m fm in omega (arith, e, z)) (λ z. absurd z) o)
+          (∈-append_cases v x.to_clean (variable_of m ∷ []) j);
       known = λ v r. ⊎_elim
           (λ u. mark-of s i x joined v (λ y j. ∈-append_left y x.clause (m ∷ []) j) (λ j. ∈-append_left v x.to_clean (variable_of m ∷ []) j) (k.known v u))
           (λ e. OfClause m (∈-append_right m x.clause (m ∷ []) (inl refl)) (sym e) (∈-append_right v x.to_clean (variable_of m ∷ []) (inl e)))
@@ -151,12 +160,14 @@ module _ (s : View) (w : WellFormed s) (m : Literal) (x : Marking) (h : variable
       same-count : (i : ℕ) → open_below s g i ≡ open_below s x.flags i + 0
       same-count i =
           let e = count-same s x.flags g i (λ k u. ⊎_elim
-          (λ (z : variable_of (literal_at s k) ≡ variable_of m). open-elsewhere s x.flags g k (λ y. let l = level-same s (literal_at s k) m z in absurd (omega (arith, l, y, b))))
+          (λ (z : variable_of (literal_at s k) ≡ variable_of m). open-elsewhere s x.flags g k
+          (λ y. let l = level-same s (literal_at s k) m z in absurd (omega (arith, l, y, b))))
           (λ z. open-same s x.flags g k (sym (get_or-set_other x.flags (variable_of m) (variable_of (literal_at s k)) true false z)))
           (equal_or_not (variable_of (literal_at s k)) (variable_of m))) in
           omega (arith, e)
 
-pub adds-more : (s : View) (lits : List Literal) (k : ℕ) (m : Literal) (n d : ℕ) (x y z : Marking) → k < length lits → m ≡ get_or lits k 0 → AddsMarks s (take k lits) n x y → AddsMarks s (m ∷ []) d y z → AddsMarks s (take (k + 1) lits) (n + d) x z
+pub adds-more : (s : View) (lits : List Literal) (k : ℕ) (m : Literal) (n d : ℕ) (x y z : Marking) → k < length lits → m ≡ get_or lits k 0 →
+    AddsMarks s (take k lits) n x y → AddsMarks s (m ∷ []) d y z → AddsMarks s (take (k + 1) lits) (n + d) x z
 adds-more s lits k m n d x y z l e a b = record {
   more = λ v j. b.more v (a.more v j);
   only = λ v j. ⊎_elim
@@ -190,7 +201,8 @@ pub record IsAt (s : View) (lits : List Literal) (flags : List Bool) (k m : ℕ)
   pub inside : variable_of m < length flags
 
 -- the variable of a false literal has a flag
-pub has-flag : {A : Type 0} {s : View} {parts : Parts A} {flags : List Bool} → CanMark s parts flags → (m : Literal) → opposite m ∈ s.trail → variable_of m < length flags
+pub has-flag : {A : Type 0} {s : View} {parts : Parts A} {flags : List Bool} → CanMark s parts flags → (m : Literal) → opposite m ∈ s.trail →
+    variable_of m < length flags
 has-flag {s = s} c m h =
     let i = inside s c.sees.well m h in
     let z = c.flags_are in
@@ -199,13 +211,15 @@ has-flag {s = s} c m h =
 pub can-still : {A : Type 0} {s : View} {parts : Parts A} {old flags : List Bool} → CanMark s parts old → length flags ≡ length old → CanMark s parts flags
 can-still c n = record { sees = c.sees; flags_are = n ∙ c.flags_are }
 
-pub is-at : {A : Type 0} {s : View} {parts : Parts A} {old flags : List Bool} {lits : List Literal} {k m : ℕ} → CanMark s parts old → IsFalse s.trail lits → k < length lits → m ≡ get_or lits k m → length flags ≡ length old → IsAt s lits flags k m
+pub is-at : {A : Type 0} {s : View} {parts : Parts A} {old flags : List Bool} {lits : List Literal} {k m : ℕ} → CanMark s parts old →
+    IsFalse s.trail lits → k < length lits → m ≡ get_or lits k m → length flags ≡ length old → IsAt s lits flags k m
 is-at {s = s} {lits = lits} {k = k} {m = m} c f l e n =
     let h = f m (item-∈ lits k m l e) in
     record { below = l; element_is = element lits k m l e; false_now = h; inside = has-flag (can-still c n) m h }
 
 -- the steps of the loop over the literals, as they read the flags and levels
-module _ {s : View} {n : ℕ} {x y : Marking} {lits : List Literal} {k m : ℕ} (w : WellFormed s) (p : IsAt s lits y.flags k m) (a : AddsMarks s (take k lits) n x y) where
+module _ {s : View} {n : ℕ} {x y : Marking} {lits : List Literal} {k m : ℕ} (w : WellFormed s) (p : IsAt s lits y.flags k m)
+    (a : AddsMarks s (take k lits) n x y) where
   more : (d total : ℕ) (z : Marking) → total ≡ n + d → AddsMarks s (m ∷ []) d y z → AddsMarks s (take (k + 1) lits) total x z
   more d total z q b = subst (λ t. AddsMarks s (take (k + 1) lits) t x z) (sym q) (adds-more s lits k m n d x y z p.below p.element_is a b)
 
@@ -215,9 +229,12 @@ module _ {s : View} {n : ℕ} {x y : Marking} {lits : List Literal} {k m : ℕ} 
   module _ (total v : ℕ) (o : v ≡ variable_of m) (f : get_or y.flags (variable_of m) false ≡ false) (z : Marking) where
     pub added-late : total ≡ n + 1 → level_of s m ≡ current_level s → z ≡ record y { flags = set y.flags v true } → AddsMarks s (take (k + 1) lits) total x z
     added-late q j e =
-        more 1 total z q (subst (λ t. AddsMarks s (m ∷ []) 1 y t) (sym (e ∙ ap (λ (t : ℕ). record y { flags = set y.flags t true }) o)) (adds-late s w m y p.inside f j))
+        more 1 total z q (subst (λ t. AddsMarks s (m ∷ []) 1 y t) (sym (e ∙ ap (λ (t : ℕ). record y { flags = set y.flags t true }) o))
+        (adds-late s w m y p.inside f j))
 
-    pub added-lower : total ≡ n → 0 < level_of s m → (level_of s m ≡ current_level s → ⊥) → (clause : Clause) (to_clean : List ℕ) (u : ℕ) → clause ≡ y.clause ++ m ∷ [] → to_clean ≡ y.to_clean ++ u ∷ [] → u ≡ variable_of m → z ≡ record y { clause = clause; flags = set y.flags v true; to_clean = to_clean } → AddsMarks s (take (k + 1) lits) total x z
+    pub added-lower : total ≡ n → 0 < level_of s m → (level_of s m ≡ current_level s → ⊥) → (clause : Clause) (to_clean : List ℕ) (u : ℕ) →
+        clause ≡ y.clause ++ m ∷ [] → to_clean ≡ y.to_clean ++ u ∷ [] → u ≡ variable_of m →
+        z ≡ record y { clause = clause; flags = set y.flags v true; to_clean = to_clean } → AddsMarks s (take (k + 1) lits) total x z
     added-lower q b j clause to_clean u ce te r e =
         let c = level-small s w m p.false_now in
         more 0 total z (omega (arith, q)) (subst (λ t. AddsMarks s (m ∷ []) 0 y t) (sym (e ∙ same)) (adds-lower s w m y p.inside f p.false_now b (below c j)))
@@ -225,8 +242,10 @@ module _ {s : View} {n : ℕ} {x y : Marking} {lits : List Literal} {k m : ℕ} 
         below : level_of s m ≤ current_level s → (level_of s m ≡ current_level s → ⊥) → level_of s m < current_level s
         below b j = grind arith
 
-        same : record y { clause = clause; flags = set y.flags v true; to_clean = to_clean } ≡ record y { clause = y.clause ++ m ∷ []; flags = set y.flags (variable_of m) true; to_clean = y.to_clean ++ variable_of m ∷ [] }
+        same : record y { clause = clause; flags = set y.flags v true; to_clean = to_clean } ≡ record y
+            { clause = y.clause ++ m ∷ []; flags = set y.flags (variable_of m) true; to_clean = y.to_clean ++ variable_of m ∷ [] }
         same =
             ap (λ (t : Clause). record y { clause = t; flags = set y.flags v true; to_clean = to_clean }) ce
             ∙ ap (λ (t : ℕ). record y { clause = y.clause ++ m ∷ []; flags = set y.flags t true; to_clean = to_clean }) o
-            ∙ ap (λ (t : List ℕ). record y { clause = y.clause ++ m ∷ []; flags = set y.flags (variable_of m) true; to_clean = t }) (te ∙ ap (λ (t : ℕ). y.to_clean ++ t ∷ []) r)
+            ∙ ap (λ (t : List ℕ). record y { clause = y.clause ++ m ∷ []; flags = set y.flags (variable_of m) true; to_clean = t })
+            (te ∙ ap (λ (t : ℕ). y.to_clean ++ t ∷ []) r)

@@ -32,7 +32,8 @@ pub record Minimizing (s : View) (x y : Marking) (k i : ℕ) : Type 0 where
   pub distinct : IsDistinct (take k y.clause)
   pub part : (m : Literal) → m ∈ take k y.clause → m ∈ take i x.clause
   pub fall : (m : Literal) → m ∈ x.clause → (opposite m ∈ s.trail) × IsFlagged y.flags (variable_of m)
-  pub explained : (l : Literal) → l ∈ s.trail → IsFlagged y.flags (variable_of l) → (opposite l ∈ take k y.clause) ⊎ (IsLeft x.clause i (opposite l) ⊎ IsReasoned s y.flags l)
+  pub explained : (l : Literal) → l ∈ s.trail → IsFlagged y.flags (variable_of l) → (opposite l ∈ take k y.clause)
+      ⊎ (IsLeft x.clause i (opposite l) ⊎ IsReasoned s y.flags l)
   pub cleaned : MarksAreListed y
   pub involved : y.involved ≡ x.involved
 
@@ -50,7 +51,8 @@ minimizing-start {s = s} {x = x} w n k = record {
   involved = refl;
 }
   where
-    by : (l : Literal) → l ∈ s.trail → IsMarkOf s 0 x (variable_of l) → (opposite l ∈ take 0 x.clause) ⊎ (IsLeft x.clause 0 (opposite l) ⊎ IsReasoned s x.flags l)
+    by : (l : Literal) → l ∈ s.trail → IsMarkOf s 0 x (variable_of l) → (opposite l ∈ take 0 x.clause)
+        ⊎ (IsLeft x.clause 0 (opposite l) ⊎ IsReasoned s x.flags l)
     by l i (OfClause y j e z) =
         let o : opposite y ≡ l = true-same s w (opposite y) l (k.lower y j).false_now i (variable-opposite y ∙ e) in
         let (p, a, q) = place_in y x.clause 0 j in
@@ -97,19 +99,26 @@ not-earlier : (c : Clause) (i : ℕ) → IsDistinct c → i < length c → get_o
 not-earlier c i d h k = let (j, a, b, e) = place_in_take (get_or c i 0) c i 0 k in distinct-places c 0 d j i a h e
 
 -- the literal at the place is kept
-pub minimizing-keep : {s : View} {x y z : Marking} {k i : ℕ} (m : Literal) → length z.flags ≡ length y.flags → i < length x.clause → m ≡ get_or y.clause i 0 → IsAsBefore y z → Minimizing s x y k i → Minimizing s x (record z { clause = set z.clause k m }) (k + 1) (i + 1)
+pub minimizing-keep : {s : View} {x y z : Marking} {k i : ℕ} (m : Literal) → length z.flags ≡ length y.flags → i < length x.clause →
+    m ≡ get_or y.clause i 0 → IsAsBefore y z → Minimizing s x y k i → Minimizing s x (record z { clause = set z.clause k m }) (k + 1) (i + 1)
 minimizing-keep {s = s} {x = x} {y = y} {z = z} {k = k} {i = i} m same h e n a = record {
   less = let l = a.less in omega (arith, l);
   long = length-set z.clause k m ∙ ap (λ (q : List ℕ). length q) n.clause ∙ a.long;
-  rest = λ j l. get_or-set_other z.clause k j m 0 (λ o. let b = a.less in absurd (omega (arith, o, l, b))) ∙ ap (λ q. get_or q j 0) n.clause ∙ a.rest j (omega (arith, l));
+  rest = λ j l. get_or-set_other z.clause k j m 0 (λ o. let b = a.less in absurd (omega (arith, o, l, b))) ∙ ap (λ q. get_or q j 0) n.clause
+      ∙ a.rest j (omega (arith, l));
   unlike = a.unlike;
-  distinct = subst (λ q. IsDistinct (take q (set z.clause k m))) (sym (add-one k)) (take-set-distinct z.clause k m inside (subst (λ q. IsDistinct (take k q)) (sym n.clause) a.distinct) (λ o. not-earlier x.clause i a.unlike h (subst (λ q. q ∈ take i x.clause) is (a.part m (before m o)))));
-  part = λ j o. ⊎_elim (λ q. take-grow i x.clause j (a.part j (before j q))) (λ q. subst (λ v. v ∈ take (i + 1) x.clause) (sym (q ∙ is)) (take-last i x.clause h)) (take-set-cases z.clause k m j inside (subst (λ v. j ∈ take v (set z.clause k m)) (add-one k) o));
+  distinct = subst (λ q. IsDistinct (take q (set z.clause k m))) (sym (add-one k))
+      (take-set-distinct z.clause k m inside (subst (λ q. IsDistinct (take k q)) (sym n.clause) a.distinct)
+      (λ o. not-earlier x.clause i a.unlike h (subst (λ q. q ∈ take i x.clause) is (a.part m (before m o)))));
+  part = λ j o. ⊎_elim (λ q. take-grow i x.clause j (a.part j (before j q)))
+      (λ q. subst (λ v. v ∈ take (i + 1) x.clause) (sym (q ∙ is)) (take-last i x.clause h))
+      (take-set-cases z.clause k m j inside (subst (λ v. j ∈ take v (set z.clause k m)) (add-one k) o));
   fall = λ j o. let (b, q) = a.fall j o in (b, n.flags (variable_of j) ∙ q);
   explained = λ l j o. ⊎_elim
       (λ q. inl (old (opposite l) q))
       (λ q. ⊎_elim
-      (λ v. ⊎_elim (λ b. inl (subst (λ p. p ∈ take (k + 1) (set z.clause k m)) (sym (b ∙ sym is)) new-in)) (λ b. inr (inl b)) (left-next x.clause i (opposite l) v))
+      (λ v. ⊎_elim (λ b. inl (subst (λ p. p ∈ take (k + 1) (set z.clause k m)) (sym (b ∙ sym is)) new-in)) (λ b. inr (inl b))
+      (left-next x.clause i (opposite l) v))
       (λ v. inr (inr (reasoned-more s y.flags z.flags l (λ p r. n.flags p ∙ r) v)))
       q)
       (a.explained l j (sym (n.flags (variable_of l)) ∙ o));
@@ -136,7 +145,8 @@ minimizing-keep {s = s} {x = x} {y = y} {z = z} {k = k} {i = i} m same h e n a =
     old j o = subst (λ v. j ∈ take v (set z.clause k m)) (sym (add-one k)) (take-set-old z.clause k m j inside (subst (λ q. j ∈ take k q) (sym n.clause) o))
 
 -- the literal at the place is left out
-pub minimizing-drop : {s : View} {x y z : Marking} {k i : ℕ} (m : Literal) → length z.flags ≡ length y.flags → i < length x.clause → m ≡ get_or y.clause i 0 → IsRedundant s m y z → Minimizing s x y k i → Minimizing s x z k (i + 1)
+pub minimizing-drop : {s : View} {x y z : Marking} {k i : ℕ} (m : Literal) → length z.flags ≡ length y.flags → i < length x.clause →
+    m ≡ get_or y.clause i 0 → IsRedundant s m y z → Minimizing s x y k i → Minimizing s x z k (i + 1)
 minimizing-drop {s = s} {x = x} {y = y} {z = z} {k = k} {i = i} m same h e r a = record {
   less = let b = a.less in omega (arith, b);
   long = ap (λ (q : List ℕ). length q) l.clause ∙ a.long;
@@ -148,15 +158,18 @@ minimizing-drop {s = s} {x = x} {y = y} {z = z} {k = k} {i = i} m same h e r a =
   explained = λ j o q. ⊎_elim
       (λ t. ⊎_elim (λ b. inl (subst (λ c. opposite j ∈ take k c) (sym l.clause) b))
       (λ v. ⊎_elim
-      (λ b. ⊎_elim (λ p. inr (inr (subst (IsReasoned s z.flags) (ap opposite (e ∙ a.rest i (omega arith) ∙ sym p) ∙ opposite_twice j) r.reasoned))) (λ p. inr (inl p)) (left-next x.clause i (opposite j) b))
+      (λ b. ⊎_elim (λ p. inr (inr (subst (IsReasoned s z.flags) (ap opposite (e ∙ a.rest i (omega arith) ∙ sym p) ∙ opposite_twice j) r.reasoned)))
+      (λ p. inr (inl p)) (left-next x.clause i (opposite j) b))
       (λ b. inr (inr (reasoned-more s y.flags z.flags j l.more b)))
       v)
       (a.explained j o t))
       (λ t. inr (inr t))
       (r.others j o q);
   cleaned = record {
-    marked = λ v o. subst (λ q. v ∈ q) (sym l.longer) (⊎_elim (λ t. ∈-append_left v y.to_clean l.since (a.cleaned.marked v t)) (λ t. ∈-append_right v y.to_clean l.since t) (l.listed v o));
-    listed = λ v o. ⊎_elim (λ t. let b = a.cleaned.listed v t in omega (arith, b, same)) (λ t. let b = l.inside v t in omega (arith, b, same)) (∈-append_cases v y.to_clean l.since (subst (λ q. v ∈ q) l.longer o));
+    marked = λ v o. subst (λ q. v ∈ q) (sym l.longer)
+        (⊎_elim (λ t. ∈-append_left v y.to_clean l.since (a.cleaned.marked v t)) (λ t. ∈-append_right v y.to_clean l.since t) (l.listed v o));
+    listed = λ v o. ⊎_elim (λ t. let b = a.cleaned.listed v t in omega (arith, b, same)) (λ t. let b = l.inside v t in omega (arith, b, same))
+        (∈-append_cases v y.to_clean l.since (subst (λ q. v ∈ q) l.longer o));
   };
   involved = l.involved ∙ a.involved;
 }
@@ -164,14 +177,18 @@ minimizing-drop {s = s} {x = x} {y = y} {z = z} {k = k} {i = i} m same h e r a =
     l : ListsNew y z
     l = r.list
 
-module _ (s : View) (w : WellFormed s) (held : List Clause) (fits : ViewFits held s) (kept : Clause) (f : List Bool) (given : (x : Literal) → x ∈ s.trail → IsFlagged f (variable_of x) → (opposite x ∈ kept) ⊎ IsReasoned s f x) where
+module _ (s : View) (w : WellFormed s) (held : List Clause) (fits : ViewFits held s) (kept : Clause) (f : List Bool)
+    (given : (x : Literal) → x ∈ s.trail → IsFlagged f (variable_of x) → (opposite x ∈ kept) ⊎ IsReasoned s f x) where
   -- what is marked is implied by the opposites of what is kept
-  marked-at : (n k : ℕ) → k < n → k < length s.trail → (level_of s (literal_at s k) ≡ 0) ⊎ IsFlagged f (variable_of (literal_at s k)) → Implied held (opposites kept) (literal_at s k)
+  marked-at : (n k : ℕ) → k < n → k < length s.trail → (level_of s (literal_at s k) ≡ 0) ⊎ IsFlagged f (variable_of (literal_at s k)) →
+      Implied held (opposites kept) (literal_at s k)
   marked-at zero k l h o = absurd (omega arith)
   marked-at (suc n) k l h (inl z) =
       let x = literal_at s k in
       subst (λ y. Implied held (opposites kept) y) (opposite_twice x)
-      (implied_alone held (opposites kept) (opposite (opposite x)) (fixed-implied s w held fits (opposite x) (subst (λ y. y ∈ s.trail) (sym (opposite_twice x)) (∈-get_or s.trail k 0 h)) (let g = level-opposite s x in omega (arith, g, z))))
+      (implied_alone held (opposites kept) (opposite (opposite x))
+      (fixed-implied s w held fits (opposite x) (subst (λ y. y ∈ s.trail) (sym (opposite_twice x)) (∈-get_or s.trail k 0 h))
+      (let g = level-opposite s x in omega (arith, g, z))))
   marked-at (suc n) k l h (inr m) =
       ⊎_elim
       (λ i. Known (subst (λ y. y ∈ opposites kept) (opposite_twice (literal_at s k)) (∈-opposites (opposite (literal_at s k)) kept i)))
@@ -193,9 +210,11 @@ module _ (s : View) (w : WellFormed s) (held : List Clause) (fits : ViewFits hel
   pub marked-implied : (m : Literal) → opposite m ∈ s.trail → IsFlagged f (variable_of m) → Implied held (opposites kept) (opposite m)
   marked-implied m h o =
       let (k, a, e) = place_in (opposite m) s.trail 0 h in
-      subst (λ y. Implied held (opposites kept) y) e (marked-at (suc k) k (omega arith) a (inr (subst (IsFlagged f) (sym (ap variable_of e ∙ variable-opposite m)) o)))
+      subst (λ y. Implied held (opposites kept) y) e
+      (marked-at (suc k) k (omega arith) a (inr (subst (IsFlagged f) (sym (ap variable_of e ∙ variable-opposite m)) o)))
 
-pub minimizing-end : {s : View} {x y : Marking} {k i : ℕ} (left : Clause) → WellFormed s → length x.clause ≤ i → left ≡ take k y.clause → Minimizing s x y k i → Minimizes s x (record y { clause = left })
+pub minimizing-end : {s : View} {x y : Marking} {k i : ℕ} (left : Clause) → WellFormed s → length x.clause ≤ i → left ≡ take k y.clause →
+    Minimizing s x y k i → Minimizes s x (record y { clause = left })
 minimizing-end {s = s} {x = x} {y = y} {k = k} {i = i} left w h e a = record {
   minimized = subst (IsMinimized s x.clause) (sym e) record {
     part = λ m z. let (j, p, q, o) = place_in_take m x.clause i 0 (a.part m z) in subst (λ c. c ∈ x.clause) o (∈-get_or x.clause j 0 q);
@@ -216,5 +235,6 @@ minimizing-end {s = s} {x = x} {y = y} {k = k} {i = i} left w h e a = record {
         (a.explained l z o)
 
 -- the literal at the place is false
-pub minimizing-false : {s : View} {x y : Marking} {k i : ℕ} (m : Literal) → i < length x.clause → m ≡ get_or y.clause i 0 → Minimizing s x y k i → opposite m ∈ s.trail
+pub minimizing-false : {s : View} {x y : Marking} {k i : ℕ} (m : Literal) → i < length x.clause → m ≡ get_or y.clause i 0 → Minimizing s x y k i →
+    opposite m ∈ s.trail
 minimizing-false {x = x} {i = i} m h e a = (a.fall m (subst (λ c. c ∈ x.clause) (sym (e ∙ a.rest i (omega arith))) (∈-get_or x.clause i 0 h))).0

@@ -9,10 +9,12 @@ use Rattle.varisat_analysis.specs.Learned.{current_level, IsOfCurrentLevel}
 use Rattle.varisat_analysis.specs.Marks.{one_if, is_open, open_below}
 
 pub open-is : (s : View) (f : List Bool) (k : ℕ) → IsOfCurrentLevel s k → IsFlagged f (variable_of (literal_at s k)) → is_open s f k ≡ true
-open-is s f k p m = and_from (nat_eq (node_at s k).level (current_level s)) (get_or f (variable_of (literal_at s k)) false) (eq-eqb (node_at s k).level (current_level s) p.1) m
+open-is s f k p m = and_from (nat_eq (node_at s k).level (current_level s)) (get_or f (variable_of (literal_at s k)) false)
+    (eq-eqb (node_at s k).level (current_level s) p.1) m
 
 pub open-level : (s : View) (f : List Bool) (k : ℕ) → is_open s f k ≡ true → (node_at s k).level ≡ current_level s
-open-level s f k h = eqb-true (node_at s k).level (current_level s) (and_parts (nat_eq (node_at s k).level (current_level s)) (get_or f (variable_of (literal_at s k)) false) h).0
+open-level s f k h = eqb-true (node_at s k).level (current_level s)
+    (and_parts (nat_eq (node_at s k).level (current_level s)) (get_or f (variable_of (literal_at s k)) false) h).0
 
 pub open-marked : (s : View) (f : List Bool) (k : ℕ) → is_open s f k ≡ true → IsFlagged f (variable_of (literal_at s k))
 open-marked s f k h = (and_parts (nat_eq (node_at s k).level (current_level s)) (get_or f (variable_of (literal_at s k)) false) h).1
@@ -20,13 +22,15 @@ open-marked s f k h = (and_parts (nat_eq (node_at s k).level (current_level s)) 
 pub closed-unmarked : (s : View) (f : List Bool) (k : ℕ) → get_or f (variable_of (literal_at s k)) false ≡ false → is_open s f k ≡ false
 closed-unmarked s f k h = and_right (nat_eq (node_at s k).level (current_level s)) (get_or f (variable_of (literal_at s k)) false) h
 
-pub open-same : (s : View) (f g : List Bool) (k : ℕ) → get_or f (variable_of (literal_at s k)) false ≡ get_or g (variable_of (literal_at s k)) false → is_open s f k ≡ is_open s g k
+pub open-same : (s : View) (f g : List Bool) (k : ℕ) → get_or f (variable_of (literal_at s k)) false ≡ get_or g
+    (variable_of (literal_at s k)) false → is_open s f k ≡ is_open s g k
 open-same s f g k e = ap (λ b. nat_eq (node_at s k).level (current_level s) && b) e
 
 pub open-elsewhere : (s : View) (f g : List Bool) (k : ℕ) → ((node_at s k).level ≡ current_level s → ⊥) → is_open s f k ≡ is_open s g k
 open-elsewhere s f g k n =
     let e = ne_eqb (node_at s k).level (current_level s) n in
-    and_left (nat_eq (node_at s k).level (current_level s)) (get_or f (variable_of (literal_at s k)) false) e ∙ sym (and_left (nat_eq (node_at s k).level (current_level s)) (get_or g (variable_of (literal_at s k)) false) e)
+    and_left (nat_eq (node_at s k).level (current_level s)) (get_or f (variable_of (literal_at s k)) false) e
+    ∙ sym (and_left (nat_eq (node_at s k).level (current_level s)) (get_or g (variable_of (literal_at s k)) false) e)
 
 pub count-same : (s : View) (f g : List Bool) (i : ℕ) → ((k : ℕ) → k < i → is_open s f k ≡ is_open s g k) → open_below s f i ≡ open_below s g i
 count-same s f g zero h = refl
@@ -36,7 +40,8 @@ count-same s f g (suc i) h =
     omega (arith, a, b)
 
 -- one place is marked
-pub count-more : (s : View) (f g : List Bool) (i j : ℕ) → j < i → is_open s f j ≡ false → is_open s g j ≡ true → ((k : ℕ) → k < i → k ≢ j → is_open s f k ≡ is_open s g k) → open_below s g i ≡ open_below s f i + 1
+pub count-more : (s : View) (f g : List Bool) (i j : ℕ) → j < i → is_open s f j ≡ false → is_open s g j ≡ true →
+    ((k : ℕ) → k < i → k ≢ j → is_open s f k ≡ is_open s g k) → open_below s g i ≡ open_below s f i + 1
 count-more s f g zero j l a b h = absurd (omega arith)
 count-more s f g (suc i) j l a b h =
     ⊎_elim
@@ -67,7 +72,8 @@ count-none s f zero k e l h = absurd (omega arith)
 count-none s f (suc i) k e l h =
     ⊎_elim
     (λ (m : k < i). count-none s f i k (omega (arith, e)) m h)
-    (λ (m : i ≤ k). let q : k ≡ i = omega (arith, m, l) in let x : one_if (is_open s f i) ≡ 1 = ap (λ j. one_if (is_open s f j)) (sym q) ∙ ap one_if h in absurd (omega (arith, x, e)))
+    (λ (m : i ≤ k). let q : k ≡ i = omega (arith, m, l) in let x : one_if (is_open s f i) ≡ 1 = ap (λ j. one_if (is_open s f j)) (sym q)
+    ∙ ap one_if h in absurd (omega (arith, x, e)))
     (cases_lt k i)
 
 pub count-some : (s : View) (f : List Bool) (i : ℕ) → 0 < open_below s f i → (k : ℕ) × (k < i) × (is_open s f k ≡ true)

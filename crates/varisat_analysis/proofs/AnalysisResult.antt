@@ -30,7 +30,8 @@ pub record IsFronted (c d : Clause) (p : ℕ) : Type 0 where
 pub fronted-now : (c d : Clause) (p : ℕ) → p < length c → d ≡ swap c 0 p → IsFronted c d p
 fronted-now c d p h e = record { order = swap-rearranged c d 0 p (omega (arith, h)) h e; first = (swap-at c d 0 p (omega (arith, h)) h e).0 }
 
-pub level-fronted : (s : View) (c d : Clause) (p r : ℕ) → IsFronted c d p → ((k : ℕ) → k < length c → level_of s (get_or c k 0) ≤ level_of s (get_or c p 0)) → r ≡ level_of s (get_or d 0 0) → 0 < length d → IsLevelOf s d r
+pub level-fronted : (s : View) (c d : Clause) (p r : ℕ) → IsFronted c d p →
+    ((k : ℕ) → k < length c → level_of s (get_or c k 0) ≤ level_of s (get_or c p 0)) → r ≡ level_of s (get_or d 0 0) → 0 < length d → IsLevelOf s d r
 level-fronted s c [] p r f h e n = absurd (omega (arith, n))
 level-fronted s c (m ∷ d) p r f h e n =
     let g = ap (level_of s) f.first in
@@ -42,18 +43,26 @@ pub record Highest (s : View) (c : Clause) (best place : ℕ) : Type 0 where
   pub above : (k : ℕ) → k < place → level_of s (get_or c k 0) ≤ level_of s (get_or c best 0)
 
 pub highest-start : (s : View) (c : Clause) → 0 < length c → Highest s c 0 1
-highest-start s c h = record { within = h; above = λ k l. let e : k ≡ 0 = omega (arith, l) in let g = ap (λ i. level_of s (get_or c i 0)) e in omega (arith, g) }
-
-pub highest-same : (s : View) (c : Clause) (best place : ℕ) → level_of s (get_or c place 0) ≤ level_of s (get_or c best 0) → Highest s c best place → Highest s c best (place + 1)
-highest-same s c best place l a = record {
-  within = a.within;
-  above = λ k h. ⊎_elim (λ (b : k < place). a.above k b) (λ (b : place ≤ k). let e : k ≡ place = omega (arith, b, h) in let g = ap (λ i. level_of s (get_or c i 0)) e in omega (arith, g, l)) (cases_lt k place);
+highest-start s c h = record {
+  within = h;
+  above = λ k l. let e : k ≡ 0 = omega (arith, l) in let g = ap (λ i. level_of s (get_or c i 0)) e in
+      omega (arith, g);
 }
 
-pub highest-new : (s : View) (c : Clause) (best place : ℕ) → place < length c → level_of s (get_or c best 0) < level_of s (get_or c place 0) → Highest s c best place → Highest s c place (place + 1)
+pub highest-same : (s : View) (c : Clause) (best place : ℕ) → level_of s (get_or c place 0) ≤ level_of s (get_or c best 0) →
+    Highest s c best place → Highest s c best (place + 1)
+highest-same s c best place l a = record {
+  within = a.within;
+  above = λ k h. ⊎_elim (λ (b : k < place). a.above k b)
+      (λ (b : place ≤ k). let e : k ≡ place = omega (arith, b, h) in let g = ap (λ i. level_of s (get_or c i 0)) e in omega (arith, g, l)) (cases_lt k place);
+}
+
+pub highest-new : (s : View) (c : Clause) (best place : ℕ) → place < length c → level_of s (get_or c best 0) < level_of s (get_or c place 0) →
+    Highest s c best place → Highest s c place (place + 1)
 highest-new s c best place h l a = record {
   within = h;
-  above = λ k o. ⊎_elim (λ (b : k < place). let z = a.above k b in omega (arith, z, l)) (λ (b : place ≤ k). let e : k ≡ place = omega (arith, b, o) in let g = ap (λ i. level_of s (get_or c i 0)) e in omega (arith, g)) (cases_lt k place);
+  above = λ k o. ⊎_elim (λ (b : k < place). let z = a.above k b in omega (arith, z, l))
+      (λ (b : place ≤ k). let e : k ≡ place = omega (arith, b, o) in let g = ap (λ i. level_of s (get_or c i 0)) e in omega (arith, g)) (cases_lt k place);
 }
 
 -- a clause with a literal is a reason's
@@ -63,7 +72,8 @@ has-literal l m s (reason.Binary ms) h = refl
 has-literal l m s (reason.Long p) h = refl
 
 -- the opposite of a reached literal is one of a kept clause
-reached-of-kept : (s : View) (w : WellFormed s) (cf : Conflict) (k : ℕ) (l : Literal) → NamesKeptClause s cf → Reached (named_in s.clauses cf) (reason_clause s) (StandsBehind s k) l → IsOfKept s (opposite l)
+reached-of-kept : (s : View) (w : WellFormed s) (cf : Conflict) (k : ℕ) (l : Literal) → NamesKeptClause s cf →
+    Reached (named_in s.clauses cf) (reason_clause s) (StandsBehind s k) l → IsOfKept s (opposite l)
 reached-of-kept s w cf k l n (AtStart h) = let (d, i, same) = named-kept s w cf n in (d, i, same.1 (opposite l) h)
 reached-of-kept s w cf k l n (InReason m r (j, a, c, e) h o) =
     let here : opposite l ∈ implying_clause s (literal_at s j) (node_of s (literal_at s j)).reason = subst (λ x. opposite l ∈ reason_clause s x) (sym e) h in
@@ -72,13 +82,15 @@ reached-of-kept s w cf k l n (InReason m r (j, a, c, e) h o) =
     (d, i, same.1 (opposite l) here)
 
 -- the clause is the first literal and what minimization left, in another order
-module _ {s : View} {cf : Conflict} {first : Literal} {x y : Marking} (w : WellFormed s) (a : IsResolved s cf first x) (b : Minimizes s x y) (c new : Clause) (same : SameSet c y.clause) (distinct : IsDistinct c) (e : new ≡ first ∷ c) where
+module _ {s : View} {cf : Conflict} {first : Literal} {x y : Marking} (w : WellFormed s) (a : IsResolved s cf first x) (b : Minimizes s x y)
+    (c new : Clause) (same : SameSet c y.clause) (distinct : IsDistinct c) (e : new ≡ first ∷ c) where
   lower : (m : Literal) → m ∈ c → IsLower s m
   lower m i = a.marks.lower m (b.minimized.part m (same.0 m i))
 
   learned-follows : (held : List Clause) → ViewFits held s → Follows held new
   learned-follows held k = subst (Follows held) (sym e)
-      (follows_more held held (first ∷ y.clause) (first ∷ c) (covered_by_self held) (λ l. ⊎_elim inl (λ i. inr (same.1 l i))) (b.minimized.follows first held k (a.follows held k)))
+      (follows_more held held (first ∷ y.clause) (first ∷ c) (covered_by_self held) (λ l. ⊎_elim inl (λ i. inr (same.1 l i)))
+      (b.minimized.follows first held k (a.follows held k)))
 
   learned-asserting : (level : ℕ) → IsLevelOf s c level → IsAsserting s cf new level
   learned-asserting level l = subst (λ d. IsAsserting s cf d level) (sym e) record {
@@ -118,19 +130,23 @@ module _ {s : View} {cf : Conflict} {first : Literal} {x y : Marking} (w : WellF
   }
 
 -- a conflict at level 0
-pub learned-at-zero : (s : View) (w : WellFormed s) (cf : Conflict) (c : Clause) (level : ℕ) → IsConflicting s cf → current_level s ≡ 0 → c ≡ [] → level ≡ 0 → IsLearned s cf c level
+pub learned-at-zero : (s : View) (w : WellFormed s) (cf : Conflict) (c : Clause) (level : ℕ) → IsConflicting s cf → current_level s ≡ 0 → c ≡ [] →
+    level ≡ 0 → IsLearned s cf c level
 learned-at-zero s w cf c level h z e l = subst (λ x. IsLearned s cf x level) (sym e) record {
   follows = λ held k.
       let (x, y, same) = named-kept s w cf h.0 in
       let (d, i, o) = k.stored x y in
-      implied_false held [] d i (λ m j. let g = h.1 m (same.0 m (o.0 m j)) in fixed-implied s w held k m g (let x = level-small s w m g in omega (arith, x, z)));
+      implied_false held [] d i (λ m j. let g = h.1 m (same.0 m (o.0 m j)) in
+      fixed-implied s w held k m g (let x = level-small s w m g in omega (arith, x, z)));
   of_kept = λ m i. absurd i;
   at_zero = λ _. (refl, l);
   above = λ d. absurd (omega (arith, d, z));
 }
 
 -- once the listed variables are cleared no flag is set
-pub none-left : {x : Marking} (flags : List Bool) (vars : List ℕ) → MarksAreListed x → vars ≡ x.to_clean → ((v : ℕ) → v ∈ vars → get_or flags v false ≡ false) → ((v : ℕ) → (v ∈ vars → ⊥) → get_or flags v false ≡ get_or x.flags v false) → (v : ℕ) → get_or flags v false ≡ false
+pub none-left : {x : Marking} (flags : List Bool) (vars : List ℕ) → MarksAreListed x → vars ≡ x.to_clean →
+    ((v : ℕ) → v ∈ vars → get_or flags v false ≡ false) → ((v : ℕ) → (v ∈ vars → ⊥) → get_or flags v false ≡ get_or x.flags v false) → (v : ℕ) →
+    get_or flags v false ≡ false
 none-left {x = x} flags vars h e gone rest v = ⊎_elim
     (λ i. gone v i)
     (λ n. rest v n ∙ ⊎_elim (λ m. absurd (n (subst (λ q. v ∈ q) (sym e) (h.marked v m)))) (λ m. m) (cases_Bool (get_or x.flags v false)))

@@ -32,7 +32,8 @@ Seen s f x = IsFlagged f (variable_of x) × (level_of s x ≡ current_level s)
 -- The clause with the name was resolved on the way from the trail's end down to place i.
 pub data WasResolved (s : View) (cf : Conflict) (i : ℕ) (p : Conflict) : Type 0 where
   AtConflict : p ≡ cf → WasResolved s cf i p
-  AtPlace : (j : ℕ) → i ≤ j → IsOfCurrentLevel s j → IsReachedDownTo s cf j (literal_at s j) → p ∈ names_of (literal_at s j) (node_at s j).reason → WasResolved s cf i p
+  AtPlace : (j : ℕ) → i ≤ j → IsOfCurrentLevel s j → IsReachedDownTo s cf j (literal_at s j) → p ∈ names_of (literal_at s j) (node_at s j).reason →
+      WasResolved s cf i p
 
 -- The names are those of the clauses that were resolved, each once.
 pub record ListsResolved (s : View) (cf : Conflict) (i : ℕ) (involved : List Conflict) : Type 0 where
@@ -51,7 +52,8 @@ pub record Walk (s : View) (cf : Conflict) (mark : Marking) (count i : ℕ) : Ty
   pub sound : (p k : ℕ) → p < i → k < i → IsOfCurrentLevel s k → IsFlagged mark.flags (variable_of (literal_at s k)) → IsReachedDownTo s cf p (literal_at s k)
   -- what the false clause or the reason of a reached literal behind i makes false is marked
   pub start : (k : ℕ) → k < i → IsOfCurrentLevel s k → opposite (literal_at s k) ∈ named_in s.clauses cf → IsFlagged mark.flags (variable_of (literal_at s k))
-  pub passed : (j k : ℕ) → i ≤ j → IsOfCurrentLevel s j → IsReachedDownTo s cf j (literal_at s j) → k < i → IsOfCurrentLevel s k → opposite (literal_at s k) ∈ reason_clause s (literal_at s j) → IsFlagged mark.flags (variable_of (literal_at s k))
+  pub passed : (j k : ℕ) → i ≤ j → IsOfCurrentLevel s j → IsReachedDownTo s cf j (literal_at s j) → k < i → IsOfCurrentLevel s k →
+      opposite (literal_at s k) ∈ reason_clause s (literal_at s j) → IsFlagged mark.flags (variable_of (literal_at s k))
   pub none_later : (q : ℕ) → i ≤ q → IsImplicationPoint s cf q → ⊥
   pub pending : (held : List Clause) → ViewFits held s → Pending held mark.clause s.trail (Seen s mark.flags) i
   pub involved : ListsResolved s cf i mark.involved
@@ -124,11 +126,13 @@ module _ (s : View) (w : WellFormed s) (cf : Conflict) where
       let kj : k < j = omega (arith, q, d) in
       InReason y (reached-down s cf j k y (omega (arith, kj)) (reached-sharp p j y r pr.0 e' (omega (arith, a)))) (j, kj, pr, e') o n
 
-  pub reached-marked : (mark : Marking) (count i : ℕ) → Walk s cf mark count i → (p k : ℕ) (x : Literal) → i ≤ p + 1 → IsReachedDownTo s cf p x → literal_at s k ≡ x → k < i → IsOfCurrentLevel s k → IsFlagged mark.flags (variable_of (literal_at s k))
+  pub reached-marked : (mark : Marking) (count i : ℕ) → Walk s cf mark count i → (p k : ℕ) (x : Literal) → i ≤ p + 1 → IsReachedDownTo s cf p x →
+      literal_at s k ≡ x → k < i → IsOfCurrentLevel s k → IsFlagged mark.flags (variable_of (literal_at s k))
   reached-marked mark count i u p k x l (AtStart h) e a b = u.start k a b (subst (λ z. opposite z ∈ named_in s.clauses cf) (sym e) h)
   reached-marked mark count i u p k x l (InReason y r (j, d, pr, e') o n) e a b =
       let r' : IsReachedDownTo s cf j (literal_at s j) = subst (IsReachedDownTo s cf j) (sym e') (reached-sharp p j y r pr.0 e' (omega (arith, d))) in
-      u.passed j k (omega (arith, l, d)) pr r' a b (subst (λ z. opposite (literal_at s k) ∈ reason_clause s z) (sym e') (subst (λ z. opposite z ∈ reason_clause s y) (sym e) o))
+      u.passed j k (omega (arith, l, d)) pr r' a b
+      (subst (λ z. opposite (literal_at s k) ∈ reason_clause s z) (sym e') (subst (λ z. opposite z ∈ reason_clause s y) (sym e) o))
 
   -- the places behind one of the current level are of the current level
   pub current-above : (k j : ℕ) → 0 < current_level s → IsOfCurrentLevel s k → k ≤ j → j < length s.trail → IsOfCurrentLevel s j
@@ -166,7 +170,8 @@ module _ (s : View) (w : WellFormed s) (cf : Conflict) where
       (subst (IsReason s j) r (w.reason_is j b))
 
   -- a false literal of a marked variable below the current level is in the clause
-  pub marks-kept : (mark : Marking) (i : ℕ) (m : Literal) → Marks s i mark → opposite m ∈ s.trail → level_of s m < current_level s → IsFlagged mark.flags (variable_of m) → m ∈ mark.clause
+  pub marks-kept : (mark : Marking) (i : ℕ) (m : Literal) → Marks s i mark → opposite m ∈ s.trail → level_of s m < current_level s →
+      IsFlagged mark.flags (variable_of m) → m ∈ mark.clause
   marks-kept mark i m k h l a = by (k.known (variable_of m) a)
     where
       by : IsMarkOf s i mark (variable_of m) → m ∈ mark.clause
@@ -174,7 +179,9 @@ module _ (s : View) (w : WellFormed s) (cf : Conflict) where
       by (OfCurrentLevel y j p e) = let g = level-same s (literal_at s y) m e in let o = p.1 in absurd (omega (arith, g, o, l))
 
   -- a literal that was added is in the clause, or seen, or false at level 0
-  passed-literal : (mark : Marking) (i : ℕ) (m : Literal) (held : List Clause) → i ≤ length s.trail → Marks s i mark → ViewFits held s → (0 < level_of s m → IsFlagged mark.flags (variable_of m)) → StandsBefore s i (opposite m) → (m ∈ mark.clause) ⊎ IsPassed held s.trail (Seen s mark.flags) i m
+  passed-literal : (mark : Marking) (i : ℕ) (m : Literal) (held : List Clause) → i ≤ length s.trail → Marks s i mark → ViewFits held s →
+      (0 < level_of s m → IsFlagged mark.flags (variable_of m)) → StandsBefore s i (opposite m) → (m ∈ mark.clause)
+      ⊎ IsPassed held s.trail (Seen s mark.flags) i m
   passed-literal mark i m held l k h a b =
       let ft = stands-∈ s w i (opposite m) l b in
       let g = level-opposite s m in
@@ -182,12 +189,14 @@ module _ (s : View) (w : WellFormed s) (cf : Conflict) where
       ⊎_elim
       (λ (z : 0 < level_of s m). ⊎_elim
       (λ (y : level_of s m < current_level s). inl (marks-kept mark i m k ft y (a z)))
-      (λ (y : current_level s ≤ level_of s m). let (j, p, q) = b in inr (inl (j, p, q, (subst (IsFlagged mark.flags) (sym (variable-opposite m)) (a z), omega (arith, y, o, g)))))
+      (λ (y : current_level s ≤ level_of s m). let (j, p, q) = b in inr
+      (inl (j, p, q, (subst (IsFlagged mark.flags) (sym (variable-opposite m)) (a z), omega (arith, y, o, g)))))
       (cases_lt (level_of s m) (current_level s)))
       (λ (z : level_of s m ≤ 0). inr (inr (fixed-implied s w held h m ft (omega (arith, z)))))
       (cases_lt 0 (level_of s m))
 
-  pub walk-start : (n : ℕ) (mark begun next : Marking) → IsDeepConflict s cf → IsClean mark → begun ≡ record mark { involved = cf ∷ [] } → AddsMarks s (named_in s.clauses cf) n begun next → Walk s cf next n (length s.trail)
+  pub walk-start : (n : ℕ) (mark begun next : Marking) → IsDeepConflict s cf → IsClean mark → begun ≡ record mark { involved = cf ∷ [] } →
+      AddsMarks s (named_in s.clauses cf) n begun next → Walk s cf next n (length s.trail)
   walk-start n mark begun next dc clean eb ab = record {
     within = omega arith;
     marks = marks-now;
@@ -195,13 +204,15 @@ module _ (s : View) (w : WellFormed s) (cf : Conflict) where
     some = some-now;
     conflict = h;
     sound = λ p k i j o r. AtStart (found k o r);
-    start = λ k i o r. subst (IsFlagged next.flags) (variable-opposite (literal_at s k)) (a.all (opposite (literal_at s k)) r (let g = level-opposite s (literal_at s k) in let z = o.1 in omega (arith, g, z, d)));
+    start = λ k i o r. subst (IsFlagged next.flags) (variable-opposite (literal_at s k))
+        (a.all (opposite (literal_at s k)) r (let g = level-opposite s (literal_at s k) in let z = o.1 in omega (arith, g, z, d)));
     passed = λ j k i o r. let z = o.0 in absurd (omega (arith, z, i));
     none_later = λ j i r. let z = r.current.0 in absurd (omega (arith, z, i));
     pending = λ held k.
         let (y, z, same) = named-kept s w cf h.0 in
         let (x, i, o) = k.stored y z in
-        pending_start held next.clause s.trail (Seen s next.flags) (length s.trail) x i (λ m r. let q = same.0 m (o.0 m r) in passed-literal next (length s.trail) m held (omega arith) marks-now k (a.all m q) (before m q));
+        pending_start held next.clause s.trail (Seen s next.flags) (length s.trail) x i
+        (λ m r. let q = same.0 m (o.0 m r) in passed-literal next (length s.trail) m held (omega arith) marks-now k (a.all m q) (before m q));
     involved = record {
       only = λ p i. ⊎_elim (λ e. AtConflict e) (λ z. absurd z) (subst (λ x. p ∈ x) a.involved i);
       all = λ p i. subst (λ x. p ∈ x) (sym a.involved) (inl (alone p i));
@@ -248,7 +259,8 @@ module _ (s : View) (w : WellFormed s) (cf : Conflict) where
 
       zero-open : open_below s mark.flags (length s.trail) ≡ 0
       zero-open = ⊎_elim
-          (λ (z : 0 < open_below s mark.flags (length s.trail)). let (k, i, o) = count-some s mark.flags (length s.trail) z in absurd (none (variable_of (literal_at s k)) (open-marked s mark.flags k o)))
+          (λ (z : 0 < open_below s mark.flags (length s.trail)). let (k, i, o) = count-some s mark.flags (length s.trail) z in
+          absurd (none (variable_of (literal_at s k)) (open-marked s mark.flags k o)))
           (λ (z : open_below s mark.flags (length s.trail) ≤ 0). omega (arith, z))
           (cases_lt 0 (open_below s mark.flags (length s.trail)))
 
@@ -260,7 +272,8 @@ module _ (s : View) (w : WellFormed s) (cf : Conflict) where
           let (m, i, l) = has-late s w cf dc.settled d h in
           let (k, p, o) = before m i in
           let lv : (node_at s k).level ≡ current_level s = ap (level_of s) o ∙ level-opposite s m ∙ l in
-          let mk : IsFlagged next.flags (variable_of (literal_at s k)) = subst (IsFlagged next.flags) (sym (ap variable_of o ∙ variable-opposite m)) (a.all m i (omega (arith, l, d))) in
+          let mk : IsFlagged next.flags (variable_of (literal_at s k)) =
+          subst (IsFlagged next.flags) (sym (ap variable_of o ∙ variable-opposite m)) (a.all m i (omega (arith, l, d))) in
           ⊎_elim
           (λ (z : 0 < n). z)
           (λ (z : n ≤ 0). absurd (count-none s next.flags (length s.trail) k (omega (arith, z, count-now)) p (open-is s next.flags k (p, lv) mk)))
@@ -274,7 +287,8 @@ module _ (s : View) (w : WellFormed s) (cf : Conflict) where
           subst (λ y. y ∈ named_in s.clauses cf) (sym (opposite_twice m) ∙ ap opposite x) i)
           (a.only (variable_of (literal_at s k)) r)
 
-  pub walk-skip : (mark : Marking) (count j : ℕ) → get_or mark.flags (variable_of (literal_at s j)) false ≡ false → Walk s cf mark count (suc j) → Walk s cf mark count j
+  pub walk-skip : (mark : Marking) (count j : ℕ) → get_or mark.flags (variable_of (literal_at s j)) false ≡ false → Walk s cf mark count (suc j) →
+      Walk s cf mark count j
   walk-skip mark count j n u = record {
     within = let b = u.within in omega (arith, b);
     marks = record {
@@ -284,7 +298,8 @@ module _ (s : View) (w : WellFormed s) (cf : Conflict) where
       listed = u.marks.listed;
       known = λ v i. below v i (u.marks.known v i);
     };
-    count_is = let x = ap one_if (closed-unmarked s mark.flags j n) in let y = u.count_is in let z : one_if (is_open s mark.flags j) ≡ 0 = x in omega (arith, y, z);
+    count_is = let x = ap one_if (closed-unmarked s mark.flags j n) in let y = u.count_is in let z : one_if (is_open s mark.flags j) ≡ 0 = x in
+        omega (arith, y, z);
     some = u.some;
     sound = λ p k a b. u.sound p k (omega (arith, a)) (omega (arith, b));
     start = λ k a. u.start k (omega (arith, a));
@@ -302,7 +317,8 @@ module _ (s : View) (w : WellFormed s) (cf : Conflict) where
       all = λ p i. u.involved.all p (later p i);
       distinct = u.involved.distinct;
     };
-    pending = λ held h. pending_skip held mark.clause s.trail (Seen s mark.flags) j (subst (Pending held mark.clause s.trail (Seen s mark.flags)) (sym (add-one j)) (u.pending held h)) (λ z. not-marked z.0);
+    pending = λ held h. pending_skip held mark.clause s.trail (Seen s mark.flags) j
+        (subst (Pending held mark.clause s.trail (Seen s mark.flags)) (sym (add-one j)) (u.pending held h)) (λ z. not-marked z.0);
   }
     where
       not-marked : IsFlagged mark.flags (variable_of (literal_at s j)) → ⊥
@@ -313,17 +329,23 @@ module _ (s : View) (w : WellFormed s) (cf : Conflict) where
 
       below : (v : ℕ) → IsFlagged mark.flags v → IsMarkOf s (suc j) mark v → IsMarkOf s j mark v
       below v i (OfClause m a b e) = OfClause m a b e
-      below v i (OfCurrentLevel k a b e) = OfCurrentLevel k (lower k a (λ z. not-marked (subst (λ x. IsFlagged mark.flags (variable_of (literal_at s x))) z (subst (IsFlagged mark.flags) (sym e) i)))) b e
+      below v i (OfCurrentLevel k a b e) =
+          OfCurrentLevel k (lower k a (λ z. not-marked
+          (subst (λ x. IsFlagged mark.flags (variable_of (literal_at s x))) z (subst (IsFlagged mark.flags) (sym e) i)))) b e
 
       unreached : (q : ℕ) → q ≡ j → IsOfCurrentLevel s q → IsReachedDownTo s cf q (literal_at s q) → ⊥
-      unreached q e pr r = not-marked (reached-marked mark count (suc j) u j j (literal_at s j) (omega arith) (subst (λ x. IsReachedDownTo s cf x (literal_at s x)) e r) refl (omega arith) (subst (IsOfCurrentLevel s) e pr))
+      unreached q e pr r = not-marked
+          (reached-marked mark count (suc j) u j j (literal_at s j) (omega arith) (subst (λ x. IsReachedDownTo s cf x (literal_at s x)) e r) refl
+          (omega arith) (subst (IsOfCurrentLevel s) e pr))
 
       later : (p : Conflict) → WasResolved s cf j p → WasResolved s cf (suc j) p
       later p (AtConflict e) = AtConflict e
-      later p (AtPlace k a pr r e) = ⊎_elim (λ (z : j < k). AtPlace k (omega (arith, z)) pr r e) (λ (z : k ≤ j). absurd (unreached k (omega (arith, a, z)) pr r)) (cases_lt j k)
+      later p (AtPlace k a pr r e) = ⊎_elim (λ (z : j < k). AtPlace k (omega (arith, z)) pr r e)
+          (λ (z : k ≤ j). absurd (unreached k (omega (arith, a, z)) pr r)) (cases_lt j k)
 
   -- the walk comes to a marked place
-  module _ (mark : Marking) (count j : ℕ) (d : 0 < current_level s) (h : variable_of (literal_at s j) < length mark.flags) (n : get_or mark.flags (variable_of (literal_at s j)) false ≡ true) (u : Walk s cf mark count (suc j)) where
+  module _ (mark : Marking) (count j : ℕ) (d : 0 < current_level s) (h : variable_of (literal_at s j) < length mark.flags)
+      (n : get_or mark.flags (variable_of (literal_at s j)) false ≡ true) (u : Walk s cf mark count (suc j)) where
     abbrev g : List Bool
     g = set mark.flags (variable_of (literal_at s j)) false
 
@@ -345,14 +367,18 @@ module _ (s : View) (w : WellFormed s) (cf : Conflict) where
 
     was : (v : ℕ) → IsFlagged g v → IsFlagged mark.flags v × (v ≡ variable_of (literal_at s j) → ⊥)
     was v a =
-        let o : v ≡ variable_of (literal_at s j) → ⊥ = λ e. (let x : get_or g (variable_of (literal_at s j)) false ≡ false = get_or-set_same mark.flags (variable_of (literal_at s j)) false false h in let y = subst (IsFlagged g) e a in let z = sym x ∙ y in absurd cc) in
+        let o : v ≡ variable_of (literal_at s j) →
+        ⊥ = λ e. (let x : get_or g (variable_of (literal_at s j)) false ≡ false =
+        get_or-set_same mark.flags (variable_of (literal_at s j)) false false h in let y = subst (IsFlagged g) e a in let z = sym x ∙ y in absurd cc) in
         (sym (get_or-set_other mark.flags (variable_of (literal_at s j)) v false false o) ∙ a, o)
 
     other-place : (k : ℕ) → k < j → variable_of (literal_at s k) ≡ variable_of (literal_at s j) → ⊥
     other-place k a e = let z = same-place s w k j (omega (arith, a, at)) at e in omega (arith, z, a)
 
     count-below : open_below s g j ≡ open_below s mark.flags j
-    count-below = count-same s g mark.flags j (λ k a. open-same s g mark.flags k (get_or-set_other mark.flags (variable_of (literal_at s j)) (variable_of (literal_at s k)) false false (other-place k a)))
+    count-below = count-same s g mark.flags j
+        (λ k a. open-same s g mark.flags k
+        (get_or-set_other mark.flags (variable_of (literal_at s j)) (variable_of (literal_at s k)) false false (other-place k a)))
 
     pub count-here : count ≡ open_below s mark.flags j + 1
     count-here = let x : one_if (is_open s mark.flags j) ≡ 1 = ap one_if (open-is s mark.flags j current-here n) in let y = u.count_is in omega (arith, x, y)
@@ -360,7 +386,9 @@ module _ (s : View) (w : WellFormed s) (cf : Conflict) where
     marks-here : Marks s j cleared
     marks-here = record {
       lower = u.marks.lower;
-      marked = λ m i. still (variable_of m) (λ e. let x = level-same s m (literal_at s j) e in let y = (u.marks.lower m i).below in let z = current-here.1 in omega (arith, x, y, z)) (u.marks.marked m i);
+      marked = λ m i. still (variable_of m)
+          (λ e. let x = level-same s m (literal_at s j) e in let y = (u.marks.lower m i).below in let z = current-here.1 in omega (arith, x, y, z))
+          (u.marks.marked m i);
       distinct = u.marks.distinct;
       listed = u.marks.listed;
       known = λ v i. let (x, y) = was v i in below v y (u.marks.known v x);
@@ -396,7 +424,9 @@ module _ (s : View) (w : WellFormed s) (cf : Conflict) where
         place = j;
         point = first-point;
         opposite_is = refl;
-        follows = λ held k. pending_end held mark.clause s.trail (Seen s mark.flags) j (subst (Pending held mark.clause s.trail (Seen s mark.flags)) (sym (add-one j)) (u.pending held k)) (λ i a b. none-below i a (omega (arith, a, at), b.1) b.0);
+        follows = λ held k. pending_end held mark.clause s.trail (Seen s mark.flags) j
+            (subst (Pending held mark.clause s.trail (Seen s mark.flags)) (sym (add-one j)) (u.pending held k))
+            (λ i a b. none-below i a (omega (arith, a, at), b.1) b.0);
         marks = record {
           lower = marks-here.lower;
           marked = marks-here.marked;
@@ -502,7 +532,8 @@ module _ (s : View) (w : WellFormed s) (cf : Conflict) where
               (λ z. u.sound p k (omega (arith, i)) (omega (arith, o)) b (was (variable_of (literal_at s k)) z).0)
               (λ (x, y, z).
               let (q, v) = join x y in
-              let l : opposite x ≡ literal_at s k = true-same s w (opposite x) (literal_at s k) (stands-∈ s w j (opposite x) (omega (arith, at)) v) (∈-get_or s.trail k 0 b.0) (variable-opposite x ∙ z) in
+              let l : opposite x ≡ literal_at s k = true-same s w (opposite x) (literal_at s k) (stands-∈ s w j (opposite x) (omega (arith, at)) v)
+              (∈-get_or s.trail k 0 b.0) (variable-opposite x ∙ z) in
               InReason (literal_at s j) (reached-here p (omega (arith, i))) (j, i, current-here, refl)
               (subst (λ z. opposite (literal_at s k) ∈ z) (sym clause-is) (subst (λ z. z ∈ clause) (sym (opposite_twice x) ∙ ap opposite l) q))
               (not-opposite k b))
@@ -528,15 +559,18 @@ module _ (s : View) (w : WellFormed s) (cf : Conflict) where
                 (λ z. AtPlace j (omega arith) current-here (reached-here j (omega arith)) (subst (λ x. p ∈ names_of (literal_at s j) x) (sym is) z))
                 (∈-append_cases p mark.involved names (subst (λ x. p ∈ x) listed-is i));
             all = λ p i. subst (λ x. p ∈ x) (sym listed-is) (listed-all p i);
-            distinct = subst IsDistinct (sym (listed-is ∙ ap (λ x. mark.involved ++ x) name.1)) (distinct-push mark.involved name.0 u.involved.distinct (λ i. new-reason (u.involved.only name.0 i)));
+            distinct = subst IsDistinct (sym (listed-is ∙ ap (λ x. mark.involved ++ x) name.1))
+                (distinct-push mark.involved name.0 u.involved.distinct (λ i. new-reason (u.involved.only name.0 i)));
           };
           pending = λ held k.
               let (y, z, same) = reason-kept s w j r c why in
               let (x, i, o) = k.stored y z in
-              pending_resolve held mark.clause next.clause s.trail (Seen s mark.flags) (Seen s next.flags) j x (subst (Pending held mark.clause s.trail (Seen s mark.flags)) (sym (add-one j)) (u.pending held k)) a.longer
+              pending_resolve held mark.clause next.clause s.trail (Seen s mark.flags) (Seen s next.flags) j x
+              (subst (Pending held mark.clause s.trail (Seen s mark.flags)) (sym (add-one j)) (u.pending held k)) a.longer
               (λ q b v. (kept q b v.0, v.1))
               i (o.1 (literal_at s j) (same.1 (literal_at s j) first-in))
-              (λ m q. ⊎_elim inl (λ v. inr (passed-literal next j m held (omega (arith, at)) marks-now k (a.all m v) (false-before m v))) (split m (same.0 m (o.0 m q))));
+              (λ m q. ⊎_elim inl (λ v. inr (passed-literal next j m held (omega (arith, at)) marks-now k (a.all m v) (false-before m v)))
+              (split m (same.0 m (o.0 m q))));
         }
           where
             a : AddsMarks s lits e (record cleared { involved = next.involved }) next
@@ -563,7 +597,8 @@ module _ (s : View) (w : WellFormed s) (cf : Conflict) where
                 (λ (z : j < k). ∈-append_left p mark.involved names (u.involved.all p (AtPlace k (omega (arith, z)) o y q)))
                 (λ (z : k ≤ j).
                 let same : k ≡ j = omega (arith, l, z) in
-                ∈-append_right p mark.involved names (subst (λ x. p ∈ names_of (literal_at s j) x) is (subst (λ x. p ∈ names_of (literal_at s x) (node_at s x).reason) same q)))
+                ∈-append_right p mark.involved names
+                (subst (λ x. p ∈ names_of (literal_at s j) x) is (subst (λ x. p ∈ names_of (literal_at s x) (node_at s x).reason) same q)))
                 (cases_lt j k)
 
             named : named_in s.clauses name.0 ≡ clause
@@ -571,12 +606,14 @@ module _ (s : View) (w : WellFormed s) (cf : Conflict) where
 
             -- the reason of another place, and the conflict's clause, are other clauses
             new-reason : WasResolved s cf (suc j) name.0 → ⊥
-            new-reason (AtConflict q) = no-clash s w (literal_at s j) (∈-get_or s.trail j 0 at) (u.conflict.1 (literal_at s j) (subst (λ x. literal_at s j ∈ named_in s.clauses x) q (subst (λ x. literal_at s j ∈ x) (sym named) first-in)))
+            new-reason (AtConflict q) = no-clash s w (literal_at s j) (∈-get_or s.trail j 0 at)
+                (u.conflict.1 (literal_at s j) (subst (λ x. literal_at s j ∈ named_in s.clauses x) q (subst (λ x. literal_at s j ∈ x) (sym named) first-in)))
             new-reason (AtPlace k l o y q) =
                 let f = w.reason_is k o.0 in
                 let v = first-is s k (node_at s k).reason (named-clause (literal_at s k) (node_at s k).reason name.0 q) f in
                 let other = (reason-named s w k (node_at s k).reason name.0 f q).1 in
-                let e : k ≡ j = same-place s w k j o.0 at (ap variable_of (one-same (literal_at s k) (literal_at s j) (sym v ∙ ap first_of (sym other ∙ named) ∙ first-is s j r c why))) in
+                let e : k ≡ j = same-place s w k j o.0 at
+                (ap variable_of (one-same (literal_at s k) (literal_at s j) (sym v ∙ ap first_of (sym other ∙ named) ∙ first-is s j r c why))) in
                 omega (arith, l, e)
 
             not-opposite : (k : ℕ) → IsOfCurrentLevel s k → opposite (literal_at s k) ≢ literal_at s j
@@ -588,11 +625,15 @@ module _ (s : View) (w : WellFormed s) (cf : Conflict) where
             added : (k : ℕ) → IsOfCurrentLevel s k → opposite (literal_at s k) ∈ clause → IsFlagged next.flags (variable_of (literal_at s k))
             added k o m = ⊎_elim
                 (λ z. absurd (not-opposite k o z))
-                (λ z. subst (IsFlagged next.flags) (variable-opposite (literal_at s k)) (a.all (opposite (literal_at s k)) z (let x = level-opposite s (literal_at s k) in let y = o.1 in omega (arith, x, y, d))))
+                (λ z. subst (IsFlagged next.flags) (variable-opposite (literal_at s k))
+                (a.all (opposite (literal_at s k)) z (let x = level-opposite s (literal_at s k) in let y = o.1 in omega (arith, x, y, d))))
                 (split (opposite (literal_at s k)) m)
 
 -- the walk begins once the conflict's clause is listed and its literals were added
-pub walk-begin : {s : View} {cf : Conflict} {n : ℕ} {mark next : Marking} → WellFormed s → IsDeepConflict s cf → IsClean mark → (false_ones : List Literal) (involved : List Conflict) (p : Conflict) (i : ℕ) → false_ones ≡ named_in s.clauses cf → involved ≡ mark.involved ++ p ∷ [] → p ≡ cf → i ≡ length s.trail → AddsMarks s false_ones n (record mark { involved = involved }) next → Walk s cf next n i
+pub walk-begin : {s : View} {cf : Conflict} {n : ℕ} {mark next : Marking} → WellFormed s → IsDeepConflict s cf → IsClean mark →
+    (false_ones : List Literal) (involved : List Conflict) (p : Conflict) (i : ℕ) → false_ones ≡ named_in s.clauses cf →
+    involved ≡ mark.involved ++ p ∷ [] → p ≡ cf → i ≡ length s.trail → AddsMarks s false_ones n (record mark { involved = involved }) next →
+    Walk s cf next n i
 walk-begin {s = s} {cf = cf} {n = n} {mark = mark} {next = next} w dc clean false_ones involved p i le ie pe ne a =
     subst (λ k. Walk s cf next n k) (sym ne)
     (walk-start s w cf n mark (record mark { involved = involved }) next dc clean
@@ -605,7 +646,9 @@ unit-left (reason.Binary ms) n = absurd (n refl)
 unit-left (reason.Long a) n = absurd (n refl)
 
 -- the reason is listed, and its other literals are added
-pub adds-reason : {s : View} {lits : List Literal} {count : ℕ} {begun next : Marking} (l : Literal) (x : Marking) (r : Reason) → r ≡ (node_of s l).reason → lits ≡ causes_of s.clauses r → begun ≡ record x { involved = x.involved ++ names_of l r } → AddsMarks s lits count begun next → AddsReason s l count x next
+pub adds-reason : {s : View} {lits : List Literal} {count : ℕ} {begun next : Marking} (l : Literal) (x : Marking) (r : Reason) →
+    r ≡ (node_of s l).reason → lits ≡ causes_of s.clauses r → begun ≡ record x { involved = x.involved ++ names_of l r } →
+    AddsMarks s lits count begun next → AddsReason s l count x next
 adds-reason {s = s} {lits = lits} {count = count} {begun = begun} {next = next} l x r p q e a = record {
   listed = listed-is ∙ ap (λ k. x.involved ++ names_of l k) p;
   adds = subst (λ k. AddsMarks s k count (record x { involved = next.involved }) next) (q ∙ ap (λ k. causes_of s.clauses k) p)
@@ -638,14 +681,17 @@ pub record ReadsBefore (s : View) (i x v : ℕ) : Type 0 where
   pub literal : x ≡ literal_at s (i - 1)
   pub variable : v ≡ variable_of x
 
-pub reads-before : {s : View} {cf : Conflict} {mark : Marking} {count i : ℕ} {t : List ℕ} {x v : ℕ} → Walk s cf mark count i → t ≡ s.trail → x ≡ get_or t (i - 1) x → v ≡ variable_of x → ReadsBefore s i x v
+pub reads-before : {s : View} {cf : Conflict} {mark : Marking} {count i : ℕ} {t : List ℕ} {x v : ℕ} → Walk s cf mark count i → t ≡ s.trail →
+    x ≡ get_or t (i - 1) x → v ≡ variable_of x → ReadsBefore s i x v
 reads-before {s = s} {i = i} {t = t} {x = x} u e is o = record {
-  literal = let a = u.within in let p = walk-positive u in let n = ap (λ (y : List ℕ). length y) e in element t (i - 1) x (omega (arith, a, p, n)) is ∙ ap (λ (y : List ℕ). get_or y (i - 1) 0) e;
+  literal = let a = u.within in let p = walk-positive u in let n = ap (λ (y : List ℕ). length y) e in
+      element t (i - 1) x (omega (arith, a, p, n)) is ∙ ap (λ (y : List ℕ). get_or y (i - 1) 0) e;
   variable = o;
 }
 
 -- a step of the walk, as it reads that literal's flag
-module _ {s : View} {cf : Conflict} {mark : Marking} {count i : ℕ} {x v : ℕ} (w : WellFormed s) (d : 0 < current_level s) (n : length mark.flags ≡ length s.nodes) (u : Walk s cf mark count i) (r : ReadsBefore s i x v) where
+module _ {s : View} {cf : Conflict} {mark : Marking} {count i : ℕ} {x v : ℕ} (w : WellFormed s) (d : 0 < current_level s)
+    (n : length mark.flags ≡ length s.nodes) (u : Walk s cf mark count i) (r : ReadsBefore s i x v) where
   before : Walk s cf mark count (suc (i - 1))
   before = let p = walk-positive u in let q : i ≡ suc (i - 1) = omega (arith, p) in subst (λ k. Walk s cf mark count k) q u
 
@@ -683,7 +729,8 @@ module _ {s : View} {cf : Conflict} {mark : Marking} {count i : ℕ} {x v : ℕ}
         (subst (λ k. IsResolved s cf (opposite (literal_at s (i - 1))) (record mark { flags = set mark.flags k false })) same-flag
         (walk-end s w cf mark count (i - 1) d flag-inside marked before (below ∙ z)))
 
-    pub read-resolve : (count - 1 ≡ 0 → ⊥) → (added total : ℕ) (next : Marking) → total ≡ count - 1 + added → AddsReason s x added (record mark { flags = set mark.flags v' false }) next → Walk s cf next total (i - 1)
+    pub read-resolve : (count - 1 ≡ 0 → ⊥) → (added total : ℕ) (next : Marking) → total ≡ count - 1 + added →
+        AddsReason s x added (record mark { flags = set mark.flags v' false }) next → Walk s cf next total (i - 1)
     read-resolve z added total next g h = subst (λ k. Walk s cf next k (i - 1)) (ap (λ k. k + added) below ∙ sym g) (by (node_at s (i - 1)).reason refl)
       where
         more : 0 < open_below s mark.flags (i - 1)
@@ -693,7 +740,8 @@ module _ {s : View} {cf : Conflict} {mark : Marking} {count i : ℕ} {x v : ℕ}
             positive a b h g = grind arith
 
         adds : AddsReason s (literal_at s (i - 1)) added (record mark { flags = set mark.flags (variable_of (literal_at s (i - 1))) false }) next
-        adds = subst (λ k. AddsReason s (literal_at s (i - 1)) added (record mark { flags = set mark.flags k false }) next) (sym same-flag) (subst (λ k. AddsReason s k added (record mark { flags = set mark.flags v' false }) next) r.literal h)
+        adds = subst (λ k. AddsReason s (literal_at s (i - 1)) added (record mark { flags = set mark.flags k false }) next) (sym same-flag)
+            (subst (λ k. AddsReason s k added (record mark { flags = set mark.flags v' false }) next) r.literal h)
 
         by : (q : Reason) → (node_at s (i - 1)).reason ≡ q → Walk s cf next (open_below s mark.flags (i - 1) + added) (i - 1)
         by reason.Unit e = absurd (not-decided s w cf mark count (i - 1) d flag-inside marked before more e)

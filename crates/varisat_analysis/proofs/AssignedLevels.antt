@@ -22,7 +22,8 @@ use Rattle.varisat_analysis.proofs.BumpedVariables.{false-all}
 use Rattle.varisat_analysis.proofs.WellFormedViews.{level-opposite}
 
 -- fewer literals can be counted too
-pub count-part : (nodes : List ImplNode) (lits part : List Literal) (old new : List Bool) → CanCount nodes lits old → new ≡ old → ((l : Literal) → l ∈ part → l ∈ lits) → CanCount nodes part new
+pub count-part : (nodes : List ImplNode) (lits part : List Literal) (old new : List Bool) → CanCount nodes lits old → new ≡ old →
+    ((l : Literal) → l ∈ part → l ∈ lits) → CanCount nodes part new
 count-part nodes lits part old new c e h = record {
   known = λ l i. c.known l (h l i);
   room = λ l i. let a = c.room l (h l i) in let n = ap (λ (xs : List Bool). length xs) e in omega (arith, a, n);
@@ -61,7 +62,8 @@ module _ (s : View) (w : WellFormed s) where
   assigned-level l (inl h) = level-small l h
   assigned-level l (inr h) = let a = level-small (opposite l) h in let e = level-opposite s l in omega (arith, a, e)
 
-  pub can-count : (flags : List Bool) (lits : List Literal) → flags ≡ replicate (2 * length s.values) false → ((l : Literal) → l ∈ lits → IsAssigned s l) → CanCount s.nodes lits flags
+  pub can-count : (flags : List Bool) (lits : List Literal) → flags ≡ replicate (2 * length s.values) false →
+      ((l : Literal) → l ∈ lits → IsAssigned s l) → CanCount s.nodes lits flags
   can-count flags lits e h = record {
     known = λ l i. let a = assigned-inside l (h l i) in let n = w.nodes_are in omega (arith, a, n);
     room = λ l i.
@@ -81,7 +83,8 @@ module _ (s : View) (w : WellFormed s) where
   implied-assigned k (x ∷ c) l h m (inr i) = inr (on-trail k (opposite l) h (m.1 l i))
 
   -- the literals of a reason are assigned
-  reason-assigned : (k : ℕ) (r : Reason) (g : Conflict) (l : Literal) → k < length s.trail → IsReason s k r → g ∈ names_of (literal_at s k) r → l ∈ named_in s.clauses g → IsAssigned s l
+  reason-assigned : (k : ℕ) (r : Reason) (g : Conflict) (l : Literal) → k < length s.trail → IsReason s k r → g ∈ names_of (literal_at s k) r →
+      l ∈ named_in s.clauses g → IsAssigned s l
   reason-assigned k reason.Unit g l h d i j = absurd i
   reason-assigned k (reason.Binary ms) g l h (m, e, q, o) (inl f) j =
       let here : l ∈ (literal_at s k ∷ ms) = subst (λ (x : Conflict). l ∈ named_in s.clauses x) f j in
@@ -98,7 +101,8 @@ module _ (s : View) (w : WellFormed s) where
   clause-assigned f k g l c (IsReasonOf j h o r n) i = reason-assigned j (node_at s j).reason g l o.0 (w.reason_is j o.0) n i
 
   -- the literals of the clauses that take part in a conflict are assigned
-  pub involved-assigned : (f : Conflict) (names : List Conflict) (l : Literal) → IsConflicting s f → AreInvolved s f names → l ∈ literals_among s.clauses names → IsAssigned s l
+  pub involved-assigned : (f : Conflict) (names : List Conflict) (l : Literal) → IsConflicting s f → AreInvolved s f names →
+      l ∈ literals_among s.clauses names → IsAssigned s l
   involved-assigned f names l c a i =
       ⊎_elim
       (λ o. let (g, h, j) = among-found s.clauses names l i in clause-assigned f (a.above o).place g l c ((a.above o).only g h) j)

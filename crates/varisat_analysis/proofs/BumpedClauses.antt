@@ -32,7 +32,8 @@ module _ (ks : List StoredClause) (p : ℕ) (at : IsPlace ks p) where
   header-set h = ap (λ (k : StoredClause). k.header) (stored-set h)
 
   header-twice : (h j : Header) → with_header (with_header ks p h) p j ≡ with_header ks p j
-  header-twice h j = ap (λ (k : StoredClause). with_stored (with_header ks p h) p (record k { header = j })) (stored-set h) ∙ clause-twice ks p (record (stored_at ks p) { header = h }) (record (stored_at ks p) { header = j }) (place-is ks p at)
+  header-twice h j = ap (λ (k : StoredClause). with_stored (with_header ks p h) p (record k { header = j })) (stored-set h)
+      ∙ clause-twice ks p (record (stored_at ks p) { header = h }) (record (stored_at ks p) { header = j }) (place-is ks p at)
 
   pub header-place : (h : Header) → IsPlace (with_header ks p h) p
   header-place h = clause-place ks p p (record (stored_at ks p) { header = h }) (place-is ks p at) at
@@ -45,7 +46,8 @@ module _ (s n : Store) (p : ℕ) (h : Header) (at : IsPlace (stored_clauses s) p
   pub set-header : header_at (stored_clauses n) p ≡ h
   set-header = ap (λ ks. header_at ks p) o.clauses ∙ header-set (stored_clauses s) p at h
 
-  pub set-then : (m : Store) (j : Header) → HoldsClauses m (length n.words) (with_header (stored_clauses n) p j) → HoldsClauses m (length s.words) (with_header (stored_clauses s) p j)
+  pub set-then : (m : Store) (j : Header) → HoldsClauses m (length n.words) (with_header (stored_clauses n) p j) →
+      HoldsClauses m (length s.words) (with_header (stored_clauses s) p j)
   set-then m j q = record {
     sound = q.sound;
     words = q.words ∙ o.words;
@@ -66,7 +68,8 @@ module _ (read : StoredClause → StoredClause) where
   read-found (x ∷ ks) (y ∷ js) k e (inl f) = (y, inl refl, ap read f ∙ first-same (read x) (read y) (map read ks) (map read js) e)
   read-found (x ∷ ks) (y ∷ js) k e (inr h) = let (j, i, f) = read-found ks js k (others-same (read x) (read y) (map read ks) (map read js) e) h in (j, inr i, f)
 
-  total-read : (w : StoredClause → ℕ) → ((k : StoredClause) → w k ≡ w (read k)) → (ks js : List StoredClause) → map read ks ≡ map read js → total w ks ≡ total w js
+  total-read : (w : StoredClause → ℕ) → ((k : StoredClause) → w k ≡ w (read k)) → (ks js : List StoredClause) → map read ks ≡ map read js →
+      total w ks ≡ total w js
   total-read w h [] [] e = refl
   total-read w h [] (y ∷ js) e = absurd cc
   total-read w h (x ∷ ks) [] e = absurd cc
@@ -97,21 +100,32 @@ tracks-read d s t k ok e = record {
 }
 
 -- all activities are shifted, or none is
-rescaled-same : {X : Type 0} (look : StoredClause → X) (full : Bool) (ks : List StoredClause) → ((k : StoredClause) → look (activity_shifted k) ≡ look k) → map look (clauses_rescaled full ks) ≡ map look ks
+rescaled-same : {X : Type 0} (look : StoredClause → X) (full : Bool) (ks : List StoredClause) →
+    ((k : StoredClause) → look (activity_shifted k) ≡ look k) → map look (clauses_rescaled full ks) ≡ map look ks
 rescaled-same look true ks h = map-same look activity_shifted ks h
 rescaled-same look false ks h = refl
 
 -- A bump, from what the call says of the two cases.
 module _ (n m : Store) (a : ActivityScale) (p : ℕ) where
-  pub bump-holds : (reaches_clause_limit (activity_bumped p (scored n a)) ≡ false → HoldsClauses m (length n.words) (with_activity (stored_clauses n) p (activity_bumped p (scored n a)))) → (reaches_clause_limit (activity_bumped p (scored n a)) ≡ true → HoldsClauses m (length n.words) (with_activity (clauses_shifted (stored_clauses n)) p (activity_bumped p (scored n a) / 2 ^ 16))) → HoldsClauses m (length n.words) (with_bump p (scored n a)).clauses
+  pub bump-holds : (reaches_clause_limit (activity_bumped p (scored n a)) ≡ false →
+      HoldsClauses m (length n.words) (with_activity (stored_clauses n) p (activity_bumped p (scored n a)))) →
+      (reaches_clause_limit (activity_bumped p (scored n a)) ≡ true →
+      HoldsClauses m (length n.words) (with_activity (clauses_shifted (stored_clauses n)) p (activity_bumped p (scored n a) / 2 ^ 16))) →
+      HoldsClauses m (length n.words) (with_bump p (scored n a)).clauses
   bump-holds f g =
       ⊎_elim
-      (λ e. subst (λ b. HoldsClauses m (length n.words) (with_activity (clauses_rescaled b (stored_clauses n)) p (cond b (activity_bumped p (scored n a) / 2 ^ 16) (activity_bumped p (scored n a))))) (sym e) (g e))
-      (λ e. subst (λ b. HoldsClauses m (length n.words) (with_activity (clauses_rescaled b (stored_clauses n)) p (cond b (activity_bumped p (scored n a) / 2 ^ 16) (activity_bumped p (scored n a))))) (sym e) (f e))
+      (λ e. subst (λ b. HoldsClauses m (length n.words)
+      (with_activity (clauses_rescaled b (stored_clauses n)) p
+      (cond b (activity_bumped p (scored n a) / 2 ^ 16) (activity_bumped p (scored n a))))) (sym e) (g e))
+      (λ e. subst (λ b. HoldsClauses m (length n.words)
+      (with_activity (clauses_rescaled b (stored_clauses n)) p
+      (cond b (activity_bumped p (scored n a) / 2 ^ 16) (activity_bumped p (scored n a))))) (sym e) (f e))
       (true-or-false (reaches_clause_limit (activity_bumped p (scored n a))))
 
 -- a bump changes activities alone
-pub bump-same : {X : Type 0} (look : StoredClause → X) (p : ℕ) (x : Scored) → ((k : StoredClause) (n : ℕ) → look (record k { header = record k.header { activity = n } }) ≡ look k) → map look (with_bump p x).clauses ≡ map look x.clauses
+pub bump-same : {X : Type 0} (look : StoredClause → X) (p : ℕ) (x : Scored) →
+    ((k : StoredClause) (n : ℕ) → look (record k { header = record k.header { activity = n } }) ≡ look k) →
+    map look (with_bump p x).clauses ≡ map look x.clauses
 bump-same look p x h =
     let full : Bool = reaches_clause_limit (activity_bumped p x) in
     let ks : List StoredClause = clauses_rescaled full x.clauses in
@@ -120,7 +134,8 @@ bump-same look p x h =
     ∙ rescaled-same look full x.clauses (λ k. h k (k.header.activity / 2 ^ 16))
 
 -- the database of the bumped clauses
-pub bump-tracks : (d : Database) (n m : Store) (a : ActivityScale) (p : ℕ) → Tracks d n → HoldsClauses m (length n.words) (with_bump p (scored n a)).clauses → Tracks d m
+pub bump-tracks : (d : Database) (n m : Store) (a : ActivityScale) (p : ℕ) → Tracks d n →
+    HoldsClauses m (length n.words) (with_bump p (scored n a)).clauses → Tracks d m
 bump-tracks d n m a p t o =
     tracks-read d n m t o.sound (ap (map tracked) o.clauses ∙ bump-same tracked p (scored n a) (λ k v. refl))
 
@@ -135,7 +150,8 @@ improved-higher glue h e =
     no : (n : ℕ) → n ≤ glue → nat_lt glue n ≡ false
     no n l = grind arith
 
-pub improved-lower : (glue : ℕ) (h : Header) → not (is_tier h.tier Irred) ≡ true → glue < h.glue → improved glue h ≡ record h { glue = glue; tier = tier_by_glue glue }
+pub improved-lower : (glue : ℕ) (h : Header) → not (is_tier h.tier Irred) ≡ true → glue < h.glue →
+    improved glue h ≡ record h { glue = glue; tier = tier_by_glue glue }
 improved-lower glue h r e =
     ap (λ b. cond (b && nat_lt glue h.glue) (record h { glue = glue; tier = tier_by_glue glue }) h) r
     ∙ ap (λ b. cond b (record h { glue = glue; tier = tier_by_glue glue }) h) (yes h.glue e)
@@ -144,11 +160,23 @@ improved-lower glue h r e =
     yes n l = grind arith
 
 -- nothing was written
-pub improved-stays : (s : Store) (p glue : ℕ) → IsSound s → improved glue (header_at (stored_clauses s) p) ≡ header_at (stored_clauses s) p → HoldsClauses s (length s.words) (with_header (stored_clauses s) p (improved glue (header_at (stored_clauses s) p)))
-improved-stays s p glue ok e = record { sound = ok; words = refl; clauses = sym (header-self (stored_clauses s) p (improved glue (header_at (stored_clauses s) p)) e) }
+pub improved-stays : (s : Store) (p glue : ℕ) → IsSound s → improved glue (header_at (stored_clauses s) p) ≡ header_at (stored_clauses s) p →
+    HoldsClauses s (length s.words) (with_header (stored_clauses s) p (improved glue (header_at (stored_clauses s) p)))
+improved-stays s p glue ok e = record {
+  sound = ok;
+  words = refl;
+  clauses =
+      sym (header-self (stored_clauses s) p (improved glue (header_at (stored_clauses s) p)) e);
+}
 
 -- the clause went to another tier, and then the glue was written
-pub improved-moved : (s n m : Store) (p glue : ℕ) (t : Tier) (j : Header) → IsPlace (stored_clauses s) p → not (is_tier (header_at (stored_clauses s) p).tier Irred) ≡ true → glue < (header_at (stored_clauses s) p).glue → (header_at (stored_clauses s) p).glue ≤ 63 → t ≡ tier_by_glue glue → HoldsClauses n (length s.words) (with_header (stored_clauses s) p (record (header_at (stored_clauses s) p) { tier = t })) → j ≡ record (header_at (stored_clauses n) p) { glue = min glue 63 } → HoldsClauses m (length n.words) (with_header (stored_clauses n) p j) → HoldsClauses m (length s.words) (with_header (stored_clauses s) p (improved glue (header_at (stored_clauses s) p)))
+pub improved-moved : (s n m : Store) (p glue : ℕ) (t : Tier) (j : Header) → IsPlace (stored_clauses s) p →
+    not (is_tier (header_at (stored_clauses s) p).tier Irred) ≡ true → glue < (header_at (stored_clauses s) p).glue →
+    (header_at (stored_clauses s) p).glue ≤ 63 → t ≡ tier_by_glue glue →
+    HoldsClauses n (length s.words) (with_header (stored_clauses s) p (record (header_at (stored_clauses s) p) { tier = t })) →
+    j ≡ record (header_at (stored_clauses n) p) { glue = min glue 63 } →
+    HoldsClauses m (length n.words) (with_header (stored_clauses n) p j) →
+    HoldsClauses m (length s.words) (with_header (stored_clauses s) p (improved glue (header_at (stored_clauses s) p)))
 improved-moved s n m p glue t j at r l small et o ej q =
     let h : Header = header_at (stored_clauses s) p in
     let least : min glue 63 ≡ glue = omega (arith, l, small) in
@@ -157,20 +185,30 @@ improved-moved s n m p glue t j at r l small et o ej q =
     ∙ ap (λ (x : ℕ). record h { tier = t; glue = x }) least
     ∙ ap (λ (x : Tier). record h { tier = x; glue = glue }) et
     ∙ sym (improved-lower glue h r l) in
-    set-then s n p (record h { tier = t }) at o m (improved glue h) (subst (λ (x : Header). HoldsClauses m (length n.words) (with_header (stored_clauses n) p x)) e q)
+    set-then s n p (record h { tier = t }) at o m (improved glue h)
+    (subst (λ (x : Header). HoldsClauses m (length n.words) (with_header (stored_clauses n) p x)) e q)
 
 -- The clause became active too.
-pub noted-holds : (s n m : Store) (p glue : ℕ) → IsPlace (stored_clauses s) p → HoldsClauses n (length s.words) (with_header (stored_clauses s) p (improved glue (header_at (stored_clauses s) p))) → HoldsClauses m (length n.words) (with_header (stored_clauses n) p (record (header_at (stored_clauses n) p) { active = true })) → HoldsClauses m (length s.words) (with_header (stored_clauses s) p (noted glue (header_at (stored_clauses s) p)))
+pub noted-holds : (s n m : Store) (p glue : ℕ) → IsPlace (stored_clauses s) p →
+    HoldsClauses n (length s.words) (with_header (stored_clauses s) p (improved glue (header_at (stored_clauses s) p))) →
+    HoldsClauses m (length n.words) (with_header (stored_clauses n) p (record (header_at (stored_clauses n) p) { active = true })) →
+    HoldsClauses m (length s.words) (with_header (stored_clauses s) p (noted glue (header_at (stored_clauses s) p)))
 noted-holds s n m p glue at o q =
     let h : Header = improved glue (header_at (stored_clauses s) p) in
-    set-then s n p h at o m (record h { active = true }) (subst (λ (x : Header). HoldsClauses m (length n.words) (with_header (stored_clauses n) p (record x { active = true }))) (set-header s n p h at o) q)
+    set-then s n p h at o m (record h { active = true })
+    (subst (λ (x : Header). HoldsClauses m (length n.words) (with_header (stored_clauses n) p (record x { active = true }))) (set-header s n p h at o) q)
 
 -- and then its activity was raised
-module _ (s n : Store) (p : ℕ) (nodes : List ImplNode) (glue : ℕ) (e : glue ≡ glue_of nodes (literals_at (stored_clauses s) p)) (o : HoldsClauses n (length s.words) (with_header (stored_clauses s) p (noted glue (header_at (stored_clauses s) p)))) where
-  pub bumped-clauses : stored_clauses n ≡ with_header (stored_clauses s) p (noted (glue_of nodes (literals_at (stored_clauses s) p)) (header_at (stored_clauses s) p))
+module _ (s n : Store) (p : ℕ) (nodes : List ImplNode) (glue : ℕ) (e : glue ≡ glue_of nodes (literals_at (stored_clauses s) p))
+    (o : HoldsClauses n (length s.words) (with_header (stored_clauses s) p (noted glue (header_at (stored_clauses s) p)))) where
+  pub bumped-clauses : stored_clauses n ≡ with_header (stored_clauses s) p
+      (noted (glue_of nodes (literals_at (stored_clauses s) p)) (header_at (stored_clauses s) p))
   bumped-clauses = o.clauses ∙ ap (λ (x : ℕ). with_header (stored_clauses s) p (noted x (header_at (stored_clauses s) p))) e
 
-pub bumped-holds : (s n m : Store) (a : ActivityScale) (p : ℕ) (nodes : List ImplNode) (glue : ℕ) → glue ≡ glue_of nodes (literals_at (stored_clauses s) p) → HoldsClauses n (length s.words) (with_header (stored_clauses s) p (noted glue (header_at (stored_clauses s) p))) → HoldsClauses m (length n.words) (with_bump p (scored n a)).clauses → HoldsClauses m (length s.words) (clause_bumped nodes p (scored s a)).clauses
+pub bumped-holds : (s n m : Store) (a : ActivityScale) (p : ℕ) (nodes : List ImplNode) (glue : ℕ) →
+    glue ≡ glue_of nodes (literals_at (stored_clauses s) p) → HoldsClauses n (length s.words)
+    (with_header (stored_clauses s) p (noted glue (header_at (stored_clauses s) p))) →
+    HoldsClauses m (length n.words) (with_bump p (scored n a)).clauses → HoldsClauses m (length s.words) (clause_bumped nodes p (scored s a)).clauses
 bumped-holds s n m a p nodes glue e o q = record {
   sound = q.sound;
   words = q.words ∙ o.words;
@@ -194,8 +232,12 @@ pub improved-held : (glue : ℕ) (h : Header) → (is_tier (improved glue h).tie
 improved-held glue h =
     ⊎_elim
     (λ e.
-    let is : improved glue h ≡ record h { glue = glue; tier = tier_by_glue glue } = ap (λ b. cond b (record h { glue = glue; tier = tier_by_glue glue }) h) e in
-    (ap (λ (x : Header). is_tier x.tier Irred) is ∙ tier-redundant glue ∙ sym (not-first (is_tier h.tier Irred) (nat_lt glue h.glue) e), ap (λ (x : Header). x.deleted) is))
+    let is : improved glue h ≡ record h { glue = glue; tier = tier_by_glue glue } =
+    ap (λ b. cond b (record h { glue = glue; tier = tier_by_glue glue }) h) e in (
+      ap (λ (x : Header). is_tier x.tier Irred) is ∙ tier-redundant glue
+          ∙ sym (not-first (is_tier h.tier Irred) (nat_lt glue h.glue) e),
+      ap (λ (x : Header). x.deleted) is,
+    ))
     (λ e.
     let is : improved glue h ≡ h = ap (λ b. cond b (record h { glue = glue; tier = tier_by_glue glue }) h) e in
     (ap (λ (x : Header). is_tier x.tier Irred) is, ap (λ (x : Header). x.deleted) is))
@@ -212,9 +254,11 @@ clause-held nodes p x =
     let glue : ℕ = glue_of nodes (literals_at x.clauses p) in
     let ks : List StoredClause = with_header x.clauses p (noted glue (header_at x.clauses p)) in
     bump-same held_clause p (record x { clauses = ks }) (λ k n. refl)
-    ∙ with-same-look held_clause x.clauses p (record (stored_at x.clauses p) { header = noted glue (header_at x.clauses p) }) (held-same (stored_at x.clauses p) glue)
+    ∙ with-same-look held_clause x.clauses p (record (stored_at x.clauses p) { header = noted glue (header_at x.clauses p) })
+    (held-same (stored_at x.clauses p) glue)
 
-pub bumped-snoc : (nodes : List ImplNode) (names : List Conflict) (f : Conflict) (x : Scored) → clauses_bumped nodes (names ++ f ∷ []) x ≡ clauses_bumped nodes (f ∷ []) (clauses_bumped nodes names x)
+pub bumped-snoc : (nodes : List ImplNode) (names : List Conflict) (f : Conflict) (x : Scored) →
+    clauses_bumped nodes (names ++ f ∷ []) x ≡ clauses_bumped nodes (f ∷ []) (clauses_bumped nodes names x)
 bumped-snoc nodes [] f x = refl
 bumped-snoc nodes (conflict.Binary ms ∷ names) f x = bumped-snoc nodes names f x
 bumped-snoc nodes (conflict.Long p ∷ names) f x = bumped-snoc nodes names f (clause_bumped nodes p x)
@@ -259,10 +303,14 @@ module _ {nodes : List ImplNode} {names : List Conflict} {s t : Store} {d : Data
     tracks = k.tracks;
   }
 
-  pub long-bumped : (p : ℕ) (u : Store) (e : Database) (c : ActivityScale) → HoldsClauses u (length t.words) (clause_bumped nodes p (scored t b)).clauses → c ≡ (clause_bumped nodes p (scored t b)).scale → Tracks e u → AreBumped nodes (names ++ conflict.Long p ∷ []) s u e a c
+  pub long-bumped : (p : ℕ) (u : Store) (e : Database) (c : ActivityScale) →
+      HoldsClauses u (length t.words) (clause_bumped nodes p (scored t b)).clauses → c ≡ (clause_bumped nodes p (scored t b)).scale → Tracks e u →
+      AreBumped nodes (names ++ conflict.Long p ∷ []) s u e a c
   long-bumped p u e c o q r =
-      let before : scored t b ≡ clauses_bumped nodes names (scored s a) = ap₂ (λ (ks : List StoredClause) (y : ActivityScale). record { clauses = ks; scale = y }) k.store.clauses k.scale in
-      let after : clause_bumped nodes p (scored t b) ≡ clauses_bumped nodes (names ++ conflict.Long p ∷ []) (scored s a) = ap (clause_bumped nodes p) before ∙ sym (bumped-snoc nodes names (conflict.Long p) (scored s a)) in
+      let before : scored t b ≡ clauses_bumped nodes names (scored s a) =
+      ap₂ (λ (ks : List StoredClause) (y : ActivityScale). record { clauses = ks; scale = y }) k.store.clauses k.scale in
+      let after : clause_bumped nodes p (scored t b) ≡ clauses_bumped nodes (names ++ conflict.Long p ∷ []) (scored s a) =
+      ap (clause_bumped nodes p) before ∙ sym (bumped-snoc nodes names (conflict.Long p) (scored s a)) in
       record {
         store = record { sound = o.sound; words = o.words ∙ k.store.words; clauses = o.clauses ∙ ap (λ (x : Scored). x.clauses) after };
         scale = q ∙ ap (λ (x : Scored). x.scale) after;
@@ -271,8 +319,11 @@ module _ {nodes : List ImplNode} {names : List Conflict} {s t : Store} {d : Data
       }
 
 -- The activities decay.
-pub decay-tracks : (d : Database) (s t : Store) (full : Bool) → Tracks d s → HoldsClauses t (length s.words) (clauses_rescaled full (stored_clauses s)) → Tracks d t
+pub decay-tracks : (d : Database) (s t : Store) (full : Bool) → Tracks d s →
+    HoldsClauses t (length s.words) (clauses_rescaled full (stored_clauses s)) → Tracks d t
 decay-tracks d s t full k o = tracks-read d s t k o.sound (ap (map tracked) o.clauses ∙ rescaled-same tracked full (stored_clauses s) (λ x. refl))
 
-pub decay-headers : (s t : Store) (full : Bool) → HoldsClauses t (length s.words) (clauses_rescaled full (stored_clauses s)) → SameButHeaders (live_clauses s) (live_clauses t)
-decay-headers s t full o = live-headers (stored_clauses s) (stored_clauses t) (ap (map held_clause) o.clauses ∙ rescaled-same held_clause full (stored_clauses s) (λ x. refl))
+pub decay-headers : (s t : Store) (full : Bool) → HoldsClauses t (length s.words) (clauses_rescaled full (stored_clauses s)) →
+    SameButHeaders (live_clauses s) (live_clauses t)
+decay-headers s t full o = live-headers (stored_clauses s) (stored_clauses t)
+    (ap (map held_clause) o.clauses ∙ rescaled-same held_clause full (stored_clauses s) (λ x. refl))

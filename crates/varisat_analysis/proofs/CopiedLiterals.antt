@@ -32,11 +32,13 @@ in-last (x ∷ xs) (suc i) h = subst (λ k. get_or xs i 0 ∈ take k (x ∷ xs))
     more : (i : ℕ) → suc (i + 1) ≡ suc i + 1
     more i = omega arith
 
-pub copied-more : (xs c : List ℕ) (i v : ℕ) → IsDistinct xs → SameSet xs (take i c) → i < length c → v ≡ get_or c i 0 → (v ∈ xs → ⊥) → IsDistinct (xs ++ v ∷ []) × SameSet (xs ++ v ∷ []) (take (i + 1) c)
+pub copied-more : (xs c : List ℕ) (i v : ℕ) → IsDistinct xs → SameSet xs (take i c) → i < length c → v ≡ get_or c i 0 → (v ∈ xs → ⊥) →
+    IsDistinct (xs ++ v ∷ []) × SameSet (xs ++ v ∷ []) (take (i + 1) c)
 copied-more xs c i v d s h e n = (
   distinct-push xs v d n,
   (
-    (λ m k. ⊎_elim (λ a. in-more c i m (s.0 m a)) (λ a. ⊎_elim (λ f. subst (λ x. x ∈ take (i + 1) c) (sym (f ∙ e)) (in-last c i h)) (λ z. absurd z) a) (∈-append_cases m xs (v ∷ []) k)),
+    (λ m k. ⊎_elim (λ a. in-more c i m (s.0 m a))
+        (λ a. ⊎_elim (λ f. subst (λ x. x ∈ take (i + 1) c) (sym (f ∙ e)) (in-last c i h)) (λ z. absurd z) a) (∈-append_cases m xs (v ∷ []) k)),
     (λ m k. ⊎_elim (λ a. ∈-append_left m xs (v ∷ []) (s.1 m a)) (λ f. ∈-append_right m xs (v ∷ []) (inl (f ∙ sym e))) (∈-take_more m c i 0 k)),
   ),
 )
@@ -83,9 +85,11 @@ pub record Cleared (lits : List Literal) (i : ℕ) (flags : List Bool) : Type 0 
 pub cleared-start : (lits : List Literal) (flags : List Bool) → AreFlagged flags lits → Cleared lits 0 flags
 cleared-start lits flags f = record { only = λ l. (f l).0; gone = λ l h. absurd h }
 
-pub cleared-next : (lits : List Literal) (i : ℕ) (flags : List Bool) (v : Literal) → v < length flags → v ≡ get_or lits i 0 → Cleared lits i flags → Cleared lits (i + 1) (set flags v false)
+pub cleared-next : (lits : List Literal) (i : ℕ) (flags : List Bool) (v : Literal) → v < length flags → v ≡ get_or lits i 0 → Cleared lits i flags →
+    Cleared lits (i + 1) (set flags v false)
 cleared-next lits i flags v h e c =
-    let now : (l : Literal) → l ≡ v → get_or (set flags v false) l false ≡ false = λ l q. ap (λ u. get_or (set flags v false) u false) q ∙ get_or-set_same flags v false false h in
+    let now : (l : Literal) → l ≡ v → get_or (set flags v false) l false ≡ false = λ l q. ap (λ u. get_or (set flags v false) u false) q
+    ∙ get_or-set_same flags v false false h in
     let other : (l : Literal) → (l ≡ v → ⊥) → get_or (set flags v false) l false ≡ get_or flags l false = λ l n. get_or-set_other flags v l false false n in
     record {
       only = λ l z. ⊎_elim (λ q. let y : true ≡ false = sym z ∙ now l q in absurd cc) (λ n. c.only l (sym (other l n) ∙ z)) (equal_or_not l v);

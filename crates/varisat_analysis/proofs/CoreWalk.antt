@@ -35,7 +35,8 @@ not-flagged f l n h = let e = sym n ∙ h in absurd cc
 pub flags-start : (s : View) (f : List Bool) → FlagsCauses s [] f f
 flags-start s f = record { more = λ l h. h; all = λ m h. absurd h; only = λ l h. inl h }
 
-module _ (s : View) (lits : List Literal) (k m : ℕ) (f g : List Bool) (h : k < length lits) (e : m ≡ get_or lits k m) (c : FlagsCauses s (take k lits) f g) where
+module _ (s : View) (lits : List Literal) (k m : ℕ) (f g : List Bool) (h : k < length lits) (e : m ≡ get_or lits k m)
+    (c : FlagsCauses s (take k lits) f g) where
   is-now : m ≡ get_or lits k 0
   is-now = element lits k m h e
 
@@ -79,7 +80,8 @@ true-flag s w flags l n h =
     omega (arith, a, n)
 
 -- the opposite of the false literal that was read
-pub cause-flag : (s : View) → WellFormed s → (lits : List Literal) (k m : ℕ) (flags : List Bool) → IsFalse s.trail lits → length flags ≡ 2 * length s.values → k < length lits → m ≡ get_or lits k m → opposite m < length flags
+pub cause-flag : (s : View) → WellFormed s → (lits : List Literal) (k m : ℕ) (flags : List Bool) → IsFalse s.trail lits →
+    length flags ≡ 2 * length s.values → k < length lits → m ≡ get_or lits k m → opposite m < length flags
 cause-flag s w lits k m flags f n h e = true-flag s w flags (opposite m) n (f m (item-∈ lits k m h e))
 
 -- the literal is a reached decision, and stands at place i or behind it
@@ -93,7 +95,8 @@ pub record CoreWalk (s : View) (failed : Literal) (core : List Literal) (flags :
   pub flagged : (l : Literal) → IsFlagged flags l → StandsBefore s i l × (0 < level_of s l) × IsReachedFrom s failed l
   -- the failed literal's opposite is flagged, and what made a reached literal true that was passed
   pub start : StandsBefore s i (opposite failed) → 0 < level_of s (opposite failed) → IsFlagged flags (opposite failed)
-  pub passed : (j : ℕ) (l : Literal) → i ≤ j → j < length s.trail → IsReachedFrom s failed (literal_at s j) → StandsBefore s i l → 0 < level_of s l → opposite l ∈ reason_clause s (literal_at s j) → IsFlagged flags l
+  pub passed : (j : ℕ) (l : Literal) → i ≤ j → j < length s.trail → IsReachedFrom s failed (literal_at s j) → StandsBefore s i l →
+      0 < level_of s l → opposite l ∈ reason_clause s (literal_at s j) → IsFlagged flags l
   -- the core has the failed literal and just the reached decisions that were passed
   pub failed_in : failed ∈ core
   pub known : (l : Literal) → l ∈ core → (l ≡ failed) ⊎ WasPassed s failed i l
@@ -197,7 +200,8 @@ module _ (s : View) (w : WellFormed s) (failed : Literal) (false_now : opposite 
       known = λ l h. later l (u.known l h);
       complete = λ j o h d r. ⊎_elim
           (λ (z : i < j). u.complete j (omega (arith, z)) h d r)
-          (λ (z : j ≤ i). let e : j ≡ i = omega (arith, o, z) in absurd (unreached j e (subst (λ x. 0 < (node_at s x).level) e (decided-above (literal_at s j) d)) r))
+          (λ (z : j ≤ i). let e : j ≡ i = omega (arith, o, z) in
+          absurd (unreached j e (subst (λ x. 0 < (node_at s x).level) e (decided-above (literal_at s j) d)) r))
           (cases_lt i j);
       distinct = u.distinct;
     }
@@ -210,7 +214,8 @@ module _ (s : View) (w : WellFormed s) (failed : Literal) (false_now : opposite 
 
     module _ (m : IsFlagged flags (literal_at s i)) (next : List Literal) (g : List Bool) where
       -- a flagged literal, whose flag is taken away
-      pub core-pass : next ≡ core ++ decided_by (literal_at s i) (node_at s i).reason → FlagsCauses s (causes_of s.clauses (node_at s i).reason) (set flags (literal_at s i) false) g → CoreWalk s failed next g i
+      pub core-pass : next ≡ core ++ decided_by (literal_at s i) (node_at s i).reason →
+          FlagsCauses s (causes_of s.clauses (node_at s i).reason) (set flags (literal_at s i) false) g → CoreWalk s failed next g i
       core-pass ne c = record {
         within = omega (arith, at);
         flagged = λ l h. ⊎_elim (still-flagged l) (λ (o, a). (cause-stands l o, a, cause-reached l o)) (c.only l h);
@@ -222,11 +227,21 @@ module _ (s : View) (w : WellFormed s) (failed : Literal) (false_now : opposite 
         failed_in = old-in failed u.failed_in;
         known = λ l h. ⊎_elim
             (λ k. later l (u.known l k))
-            (λ k. inr (i, omega arith, at, sym (listed-is (node_at s i).reason refl l k).0, subst (IsDecided s) (sym (listed-is (node_at s i).reason refl l k).0) (listed-is (node_at s i).reason refl l k).1, subst (IsReachedFrom s failed) (sym (listed-is (node_at s i).reason refl l k).0) reached))
+            (λ k. inr (
+              i,
+              omega arith,
+              at,
+              sym (listed-is (node_at s i).reason refl l k).0,
+              subst (IsDecided s)
+                  (sym (listed-is (node_at s i).reason refl l k).0) (listed-is (node_at s i).reason refl l k).1,
+              subst (IsReachedFrom s failed)
+                  (sym (listed-is (node_at s i).reason refl l k).0) reached,
+            ))
             (∈-append_cases l core (decided_by (literal_at s i) (node_at s i).reason) (subst (λ x. l ∈ x) ne h));
         complete = λ j o h d r. ⊎_elim
             (λ (z : i < j). old-in (literal_at s j) (u.complete j (omega (arith, z)) h d r))
-            (λ (z : j ≤ i). let e : j ≡ i = omega (arith, o, z) in subst (λ x. literal_at s x ∈ next) (sym e) (new-in (subst (λ x. IsDecided s (literal_at s x)) e d)))
+            (λ (z : j ≤ i). let e : j ≡ i = omega (arith, o, z) in subst (λ x. literal_at s x ∈ next) (sym e)
+            (new-in (subst (λ x. IsDecided s (literal_at s x)) e d)))
             (cases_lt i j);
         distinct = subst IsDistinct (sym ne) (distinct-now (node_at s i).reason);
       }
@@ -239,7 +254,9 @@ module _ (s : View) (w : WellFormed s) (failed : Literal) (false_now : opposite 
 
           still-flagged : (l : Literal) → IsFlagged (set flags (literal_at s i) false) l → StandsBefore s i l × (0 < level_of s l) × IsReachedFrom s failed l
           still-flagged l h = ⊎_elim
-              (λ e. absurd (not-flagged (set flags (literal_at s i) false) l (subst (λ x. get_or (set flags (literal_at s i) false) x false ≡ false) (sym e) (get_or-set_same flags (literal_at s i) false false (flag-inside flags (literal_at s i) m))) h))
+              (λ e. absurd (not-flagged (set flags (literal_at s i) false) l
+              (subst (λ x. get_or (set flags (literal_at s i) false) x false ≡ false) (sym e)
+              (get_or-set_same flags (literal_at s i) false false (flag-inside flags (literal_at s i) m))) h))
               (λ n. let (b, a, r) = u.flagged l (sym (get_or-set_other flags (literal_at s i) l false false n) ∙ h) in (earlier i l b n, a, r))
               (equal_or_not l (literal_at s i))
 
@@ -248,7 +265,8 @@ module _ (s : View) (w : WellFormed s) (failed : Literal) (false_now : opposite 
 
           cause-stands : (l : Literal) → opposite l ∈ causes_of s.clauses (node_at s i).reason → StandsBefore s i l
           cause-stands l o =
-              causes-before s w i l at (subst (λ x. x ∈ s.trail) (opposite_twice l) (causes-false s w (literal_at s i) at-true (opposite l) o)) (cause-in s (literal_at s i) (node_at s i).reason (opposite l) o)
+              causes-before s w i l at (subst (λ x. x ∈ s.trail) (opposite_twice l) (causes-false s w (literal_at s i) at-true (opposite l) o))
+              (cause-in s (literal_at s i) (node_at s i).reason (opposite l) o)
 
           cause-reached : (l : Literal) → opposite l ∈ causes_of s.clauses (node_at s i).reason → IsReachedFrom s failed l
           cause-reached l o =
@@ -270,7 +288,8 @@ module _ (s : View) (w : WellFormed s) (failed : Literal) (false_now : opposite 
               (∈-append_right (literal_at s i) core (decided_by (literal_at s i) (node_at s i).reason)
               (subst (λ r. literal_at s i ∈ decided_by (literal_at s i) r) (sym (decided-unit (literal_at s i) d)) (inl refl)))
 
-          listed-is : (r : Reason) → (node_at s i).reason ≡ r → (l : Literal) → l ∈ decided_by (literal_at s i) r → (l ≡ literal_at s i) × IsDecided s (literal_at s i)
+          listed-is : (r : Reason) → (node_at s i).reason ≡ r → (l : Literal) → l ∈ decided_by (literal_at s i) r → (l ≡ literal_at s i)
+              × IsDecided s (literal_at s i)
           listed-is reason.Unit e l h = (⊎_elim (λ q. q) (λ z. absurd z) h, unit-decided i at level e)
           listed-is (reason.Binary ms) e l h = absurd h
           listed-is (reason.Long p) e l h = absurd h
@@ -288,7 +307,8 @@ module _ (s : View) (w : WellFormed s) (failed : Literal) (false_now : opposite 
           distinct-now (reason.Long p) = subst IsDistinct (sym (append-nil core)) u.distinct
 
   -- The walk begins with the failed literal alone.
-  pub core-start : (cleared core lits : List Literal) (old flags : List Bool) (i : ℕ) → cleared ≡ [] → core ≡ cleared ++ failed ∷ [] → lits ≡ s.trail → i ≡ length lits → ((l : Literal) → get_or old l false ≡ false) → FlagsCauses s (failed ∷ []) old flags → CoreWalk s failed core flags i
+  pub core-start : (cleared core lits : List Literal) (old flags : List Bool) (i : ℕ) → cleared ≡ [] → core ≡ cleared ++ failed ∷ [] →
+      lits ≡ s.trail → i ≡ length lits → ((l : Literal) → get_or old l false ≡ false) → FlagsCauses s (failed ∷ []) old flags → CoreWalk s failed core flags i
   core-start cleared core lits old flags i ze ce le ie clear c = subst (CoreWalk s failed core flags) (sym (ie ∙ ap (λ (x : List ℕ). length x) le)) (record {
     within = omega arith;
     flagged = λ l h. ⊎_elim
@@ -318,30 +338,40 @@ module _ (s : View) (w : WellFormed s) (failed : Literal) (false_now : opposite 
       by true e = let (k, a, q) = (u.flagged l e).0 in absurd (omega (arith, a))
 
   -- What is reached is implied by a list with all the decisions that are reached.
-  reached-implied : (core : List Literal) → ((l : Literal) → IsDecided s l → IsReachedFrom s failed l → l ∈ core) → (held : List Clause) → ViewFits held s → (n k : ℕ) → k < n → k < length s.trail → IsReachedFrom s failed (literal_at s k) → Implied held core (literal_at s k)
+  reached-implied : (core : List Literal) → ((l : Literal) → IsDecided s l → IsReachedFrom s failed l → l ∈ core) → (held : List Clause) →
+      ViewFits held s → (n k : ℕ) → k < n → k < length s.trail → IsReachedFrom s failed (literal_at s k) → Implied held core (literal_at s k)
   reached-implied core all held f zero k l h r = absurd (omega (arith, l))
   reached-implied core all held f (suc n) k l h r = ⊎_elim
       (λ (a : 0 < (node_at s k).level). by a (node_at s k).reason refl (λ o b d y. reached-implied core all held f n o b d y))
       (λ (a : (node_at s k).level ≤ 0). implied_alone held core (literal_at s k) (fixed-at s w held f (suc k) k (omega arith) h (omega (arith, a))))
       (cases_lt 0 (node_at s k).level)
     where
-      others : (q : Reason) → (node_at s k).reason ≡ q → ((o : ℕ) → o < n → o < length s.trail → IsReachedFrom s failed (literal_at s o) → Implied held core (literal_at s o)) → (m : Literal) → m ∈ implying_clause s (literal_at s k) q → StandsBefore s k (opposite m) → Implied held core (opposite m)
+      others : (q : Reason) → (node_at s k).reason ≡ q →
+          ((o : ℕ) → o < n → o < length s.trail → IsReachedFrom s failed (literal_at s o) → Implied held core (literal_at s o)) → (m : Literal) →
+          m ∈ implying_clause s (literal_at s k) q → StandsBefore s k (opposite m) → Implied held core (opposite m)
       others q e rec m i (o, b, d) =
           let t : opposite m ∈ s.trail = subst (λ x. x ∈ s.trail) d (∈-get_or s.trail o 0 (omega (arith, b, h))) in
-          let i' : opposite (opposite m) ∈ reason_clause s (literal_at s k) = subst (λ x. x ∈ reason_clause s (literal_at s k)) (sym (opposite_twice m)) (subst (λ x. m ∈ implying_clause s (literal_at s k) x) (sym e) i) in
-          let y : IsReachedFrom s failed (opposite m) = InReason (literal_at s k) r (∈-get_or s.trail k 0 h) i' (λ z. no-clash s w (opposite m) t (subst (λ x. x ∈ s.trail) (sym z) (∈-get_or s.trail k 0 h))) in
+          let i' : opposite (opposite m) ∈ reason_clause s (literal_at s k) =
+          subst (λ x. x ∈ reason_clause s (literal_at s k)) (sym (opposite_twice m)) (subst (λ x. m ∈ implying_clause s (literal_at s k) x) (sym e) i) in
+          let y : IsReachedFrom s failed (opposite m) = InReason (literal_at s k) r (∈-get_or s.trail k 0 h) i'
+          (λ z. no-clash s w (opposite m) t (subst (λ x. x ∈ s.trail) (sym z) (∈-get_or s.trail k 0 h))) in
           subst (λ x. Implied held core x) d (rec o (omega (arith, b, l)) (omega (arith, b, h)) (subst (IsReachedFrom s failed) (sym d) y))
 
-      by : 0 < (node_at s k).level → (q : Reason) → (node_at s k).reason ≡ q → ((o : ℕ) → o < n → o < length s.trail → IsReachedFrom s failed (literal_at s o) → Implied held core (literal_at s o)) → Implied held core (literal_at s k)
+      by : 0 < (node_at s k).level → (q : Reason) → (node_at s k).reason ≡ q →
+          ((o : ℕ) → o < n → o < length s.trail → IsReachedFrom s failed (literal_at s o) → Implied held core (literal_at s o)) →
+          Implied held core (literal_at s k)
       by a reason.Unit e rec = Known (all (literal_at s k) (unit-decided k h a e) r)
-      by a (reason.Binary ms) e rec = implied-by s w held core f k (reason.Binary ms) refl (subst (IsReason s k) e (w.reason_is k h)) (others (reason.Binary ms) e rec)
+      by a (reason.Binary ms) e rec = implied-by s w held core f k (reason.Binary ms) refl (subst (IsReason s k) e (w.reason_is k h))
+          (others (reason.Binary ms) e rec)
       by a (reason.Long p) e rec = implied-by s w held core f k (reason.Long p) refl (subst (IsReason s k) e (w.reason_is k h)) (others (reason.Long p) e rec)
 
-  core-conflicts : (core : List Literal) → failed ∈ core → ((l : Literal) → IsDecided s l → IsReachedFrom s failed l → l ∈ core) → (held : List Clause) → ViewFits held s → Conflicts held core
+  core-conflicts : (core : List Literal) → failed ∈ core → ((l : Literal) → IsDecided s l → IsReachedFrom s failed l → l ∈ core) →
+      (held : List Clause) → ViewFits held s → Conflicts held core
   core-conflicts core i all held f =
       let (k, a, e) = place_in (opposite failed) s.trail 0 false_now in
       let r : IsReachedFrom s failed (opposite failed) = AtStart (inl (opposite_twice failed)) in
-      implied_clash held core failed (Known i) (subst (λ x. Implied held core x) e (reached-implied core all held f (suc k) k (omega arith) a (subst (IsReachedFrom s failed) (sym e) r)))
+      implied_clash held core failed (Known i)
+      (subst (λ x. Implied held core x) e (reached-implied core all held f (suc k) k (omega arith) a (subst (IsReachedFrom s failed) (sym e) r)))
 
   -- The core is found once the trail was walked over.
   pub core-end : (core : List Literal) (flags : List Bool) → CoreWalk s failed core flags 0 → ListsFailedCore s failed core
@@ -360,7 +390,8 @@ module _ (s : View) (w : WellFormed s) (failed : Literal) (false_now : opposite 
           (u.complete (decision_at s q) (omega arith) (w.decided q a).0 (q, a, refl) (subst (IsReachedFrom s failed) (sym e) r))
 
 -- A step of the walk, as it reads the literal before place i and its flag.
-module _ {s : View} {failed : Literal} {core : List Literal} {flags : List Bool} {i : ℕ} {t : List ℕ} {x : ℕ} (w : WellFormed s) (false_now : opposite failed ∈ s.trail) (u : CoreWalk s failed core flags i) (p : 0 < i) (te : t ≡ s.trail) (is : x ≡ get_or t (i - 1) x) where
+module _ {s : View} {failed : Literal} {core : List Literal} {flags : List Bool} {i : ℕ} {t : List ℕ} {x : ℕ} (w : WellFormed s)
+    (false_now : opposite failed ∈ s.trail) (u : CoreWalk s failed core flags i) (p : 0 < i) (te : t ≡ s.trail) (is : x ≡ get_or t (i - 1) x) where
   before : CoreWalk s failed core flags (suc (i - 1))
   before = let q : i ≡ suc (i - 1) = omega (arith, p) in subst (λ k. CoreWalk s failed core flags k) q u
 
@@ -376,20 +407,26 @@ module _ {s : View} {failed : Literal} {core : List Literal} {flags : List Bool}
   pub pass-skip : (v : ℕ) → v ≡ x → get_or flags v false ≡ false → CoreWalk s failed core flags (i - 1)
   pass-skip v e n = core-skip s w failed false_now core flags (i - 1) before (subst (λ y. get_or flags y false ≡ false) (e ∙ literal-is) n)
 
-  pub pass-next : (v : ℕ) → v ≡ x → get_or flags v false ≡ true → (next : List Literal) (g : List Bool) → next ≡ core ++ decided_by x (node_of s x).reason → FlagsCauses s (causes_of s.clauses (node_of s x).reason) (set flags x false) g → CoreWalk s failed next g (i - 1)
+  pub pass-next : (v : ℕ) → v ≡ x → get_or flags v false ≡ true → (next : List Literal) (g : List Bool) →
+      next ≡ core ++ decided_by x (node_of s x).reason → FlagsCauses s (causes_of s.clauses (node_of s x).reason) (set flags x false) g →
+      CoreWalk s failed next g (i - 1)
   pass-next v e m next g ne c =
       core-pass s w failed false_now core flags (i - 1) before (subst (λ y. get_or flags y false ≡ true) (e ∙ literal-is) m) next g
       (subst (λ y. next ≡ core ++ decided_by y (node_of s y).reason) literal-is ne)
       (subst (λ y. FlagsCauses s (causes_of s.clauses (node_of s y).reason) (set flags y false) g) literal-is c)
 
 -- the walk came to its end
-pub at-start : {s : View} {failed : Literal} {core : List Literal} {flags : List Bool} {i : ℕ} → i ≤ 0 → CoreWalk s failed core flags i → CoreWalk s failed core flags 0
-at-start {s = s} {failed = failed} {core = core} {flags = flags} {i = i} h u = let e : i ≡ 0 = omega (arith, h) in subst (λ k. CoreWalk s failed core flags k) e u
+pub at-start : {s : View} {failed : Literal} {core : List Literal} {flags : List Bool} {i : ℕ} → i ≤ 0 → CoreWalk s failed core flags i →
+    CoreWalk s failed core flags 0
+at-start {s = s} {failed = failed} {core = core} {flags = flags} {i = i} h u = let e : i ≡ 0 = omega (arith, h) in
+    subst (λ k. CoreWalk s failed core flags k) e u
 
 -- flags that were lent are given back, none of them set
-pub flags-back : (old news rest : List Bool) (len n : ℕ) → len ≡ length old → len ≡ length news → old ≡ replicate n false → ((l : ℕ) → get_or news l false ≡ false) → take len (news ++ rest) ≡ old
+pub flags-back : (old news rest : List Bool) (len n : ℕ) → len ≡ length old → len ≡ length news → old ≡ replicate n false →
+    ((l : ℕ) → get_or news l false ≡ false) → take len (news ++ rest) ≡ old
 flags-back old news rest len n a b e h = clear-given-back news rest len n b (a ∙ ap (λ xs. length xs) e ∙ length-replicate n false) h ∙ sym e
 
 -- the literals of a true literal's reason, as they are read
-pub causes-read : (s : View) (ks : List StoredClause) (nodes : List ImplNode) (l v : ℕ) (r : Reason) (lits : List ℕ) → ks ≡ s.clauses → nodes ≡ s.nodes → v ≡ variable_of l → r ≡ (get_or nodes v no_node).reason → lits ≡ causes_of ks r → lits ≡ causes_of s.clauses (node_of s l).reason
+pub causes-read : (s : View) (ks : List StoredClause) (nodes : List ImplNode) (l v : ℕ) (r : Reason) (lits : List ℕ) → ks ≡ s.clauses →
+    nodes ≡ s.nodes → v ≡ variable_of l → r ≡ (get_or nodes v no_node).reason → lits ≡ causes_of ks r → lits ≡ causes_of s.clauses (node_of s l).reason
 causes-read s ks nodes l v r lits ke ne ve re le = le ∙ ap (λ x. causes_of x r) ke ∙ ap (λ x. causes_of s.clauses x) (reason-read s nodes l v r ne ve re)

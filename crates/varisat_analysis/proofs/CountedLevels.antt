@@ -41,12 +41,16 @@ pub level-is : (nodes : List ImplNode) (l v n : ℕ) → v ≡ variable_of l →
 level-is nodes l v n q r = r ∙ ap (λ (x : ℕ). (get_or nodes x no_node).level) q
 
 -- its variable has a node
-pub has-node : (nodes : List ImplNode) (lits : List Literal) {k l v : ℕ} → ((m : Literal) → m ∈ lits → variable_of m < length nodes) → k < length lits → l ≡ get_or lits k l → v ≡ variable_of l → v < length nodes
+pub has-node : (nodes : List ImplNode) (lits : List Literal) {k l v : ℕ} → ((m : Literal) → m ∈ lits → variable_of m < length nodes) →
+    k < length lits → l ≡ get_or lits k l → v ≡ variable_of l → v < length nodes
 has-node nodes lits {k} {l} {v} known h e f = item-below variable_of lits k l v (length nodes) (length nodes) known refl h e f
 
 -- that level has a flag
-pub level-flagged : (nodes : List ImplNode) (lits : List Literal) (old new : List Bool) {k l v n : ℕ} → ((m : Literal) → m ∈ lits → level_in nodes m < length old) → length new ≡ length old → k < length lits → l ≡ get_or lits k l → v ≡ variable_of l → n ≡ (get_or nodes v no_node).level → n < length new
-level-flagged nodes lits old new {k} {l} {v} {n} room q h e f r = item-below (level_in nodes) lits k l n (length old) (length new) room q h e (level-is nodes l v n f r)
+pub level-flagged : (nodes : List ImplNode) (lits : List Literal) (old new : List Bool) {k l v n : ℕ} →
+    ((m : Literal) → m ∈ lits → level_in nodes m < length old) → length new ≡ length old → k < length lits → l ≡ get_or lits k l →
+    v ≡ variable_of l → n ≡ (get_or nodes v no_node).level → n < length new
+level-flagged nodes lits old new {k} {l} {v} {n} room q h e f r =
+    item-below (level_in nodes) lits k l n (length old) (length new) room q h e (level-is nodes l v n f r)
 
 -- Literals have these levels: just those have a flag, and there are as many as `count`.
 pub record Counts (level : Literal → ℕ) (lits : List Literal) (flags : List Bool) (count : ℕ) : Type 0 where
@@ -57,9 +61,11 @@ pub record Counts (level : Literal → ℕ) (lits : List Literal) (flags : List 
   pub same : (n : ℕ) → is_member nat_eq levels n ≡ is_member nat_eq (map level lits) n
 
 module _ (level : Literal → ℕ) where
-  member-snoc : (ls : List Literal) (l : Literal) (n : ℕ) → is_member nat_eq (map level (ls ++ l ∷ [])) n ≡ (is_member nat_eq (map level ls) n || nat_eq n (level l))
+  member-snoc : (ls : List Literal) (l : Literal) (n : ℕ) → is_member nat_eq
+      (map level (ls ++ l ∷ [])) n ≡ (is_member nat_eq (map level ls) n || nat_eq n (level l))
   member-snoc [] l n = or-none (nat_eq n (level l))
-  member-snoc (x ∷ ls) l n = ap (λ b. nat_eq n (level x) || b) (member-snoc ls l n) ∙ or-more (nat_eq n (level x)) (is_member nat_eq (map level ls) n) (nat_eq n (level l))
+  member-snoc (x ∷ ls) l n = ap (λ b. nat_eq n (level x) || b) (member-snoc ls l n)
+      ∙ or-more (nat_eq n (level x)) (is_member nat_eq (map level ls) n) (nat_eq n (level l))
 
   member-found : (ls : List Literal) (n : ℕ) → is_member nat_eq (map level ls) n ≡ true → (l : Literal) × (l ∈ ls) × (level l ≡ n)
   member-found [] n h = absurd cc
@@ -74,7 +80,8 @@ module _ (level : Literal → ℕ) where
   counts-none flags clear = record { levels = []; count_is = refl; distinct = refl; flagged = clear; same = λ n. refl }
 
   -- the level was counted already
-  pub counts-old : (ls : List Literal) (l : Literal) (flags : List Bool) (count : ℕ) → Counts level ls flags count → get_or flags (level l) false ≡ true → Counts level (ls ++ l ∷ []) flags count
+  pub counts-old : (ls : List Literal) (l : Literal) (flags : List Bool) (count : ℕ) → Counts level ls flags count →
+      get_or flags (level l) false ≡ true → Counts level (ls ++ l ∷ []) flags count
   counts-old ls l flags count d h = record {
     levels = d.levels;
     count_is = d.count_is;
@@ -82,23 +89,28 @@ module _ (level : Literal → ℕ) where
     flagged = d.flagged;
     same = λ n. ⊎_elim
         (λ e. let here : is_member nat_eq d.levels n ≡ true = sym (d.flagged n) ∙ ap (λ (u : ℕ). get_or flags u false) e ∙ h in
-        here ∙ sym (member-snoc ls l n ∙ ap (λ b. is_member nat_eq (map level ls) n || b) (is-same n (level l) e) ∙ or-true (is_member nat_eq (map level ls) n)))
-        (λ o. d.same n ∙ sym (member-snoc ls l n ∙ ap (λ b. is_member nat_eq (map level ls) n || b) (is-other n (level l) o) ∙ or-none (is_member nat_eq (map level ls) n)))
+        here ∙ sym (member-snoc ls l n ∙ ap (λ b. is_member nat_eq (map level ls) n || b) (is-same n (level l) e)
+        ∙ or-true (is_member nat_eq (map level ls) n)))
+        (λ o. d.same n ∙ sym (member-snoc ls l n ∙ ap (λ b. is_member nat_eq (map level ls) n || b) (is-other n (level l) o)
+        ∙ or-none (is_member nat_eq (map level ls) n)))
         (equal_or_not n (level l));
   }
 
   -- it was not
-  pub counts-new : (ls : List Literal) (l : Literal) (flags : List Bool) (count : ℕ) → Counts level ls flags count → level l < length flags → get_or flags (level l) false ≡ false → Counts level (ls ++ l ∷ []) (set flags (level l) true) (count + 1)
+  pub counts-new : (ls : List Literal) (l : Literal) (flags : List Bool) (count : ℕ) → Counts level ls flags count → level l < length flags →
+      get_or flags (level l) false ≡ false → Counts level (ls ++ l ∷ []) (set flags (level l) true) (count + 1)
   counts-new ls l flags count d k h = record {
     levels = level l ∷ d.levels;
     count_is = let e = d.count_is in omega (arith, e);
     distinct =
         let fresh : is_member nat_eq d.levels (level l) ≡ false = sym (d.flagged (level l)) ∙ h in
-        let longer : distinct_count nat_eq (level l ∷ d.levels) ≡ suc (distinct_count nat_eq d.levels) = ap (λ b. length (cond b (unique_keys nat_eq d.levels) (level l ∷ unique_keys nat_eq d.levels))) fresh in
+        let longer : distinct_count nat_eq (level l ∷ d.levels) ≡ suc (distinct_count nat_eq d.levels) =
+        ap (λ b. length (cond b (unique_keys nat_eq d.levels) (level l ∷ unique_keys nat_eq d.levels))) fresh in
         let e = d.distinct in
         longer ∙ omega (arith, e);
     flagged = λ n. ⊎_elim
-        (λ e. ap (λ (u : ℕ). get_or (set flags (level l) true) u false) e ∙ get_or-set_same flags (level l) true false k ∙ sym (ap (λ b. b || is_member nat_eq d.levels n) (is-same n (level l) e)))
+        (λ e. ap (λ (u : ℕ). get_or (set flags (level l) true) u false) e ∙ get_or-set_same flags (level l) true false k
+        ∙ sym (ap (λ b. b || is_member nat_eq d.levels n) (is-same n (level l) e)))
         (λ o. get_or-set_other flags (level l) n true false o ∙ d.flagged n ∙ sym (ap (λ b. b || is_member nat_eq d.levels n) (is-other n (level l) o)))
         (equal_or_not n (level l));
     same = λ n. or-swap (nat_eq n (level l)) (is_member nat_eq d.levels n) ∙ ap (λ b. b || nat_eq n (level l)) (d.same n) ∙ sym (member-snoc ls l n);
@@ -108,11 +120,14 @@ module _ (level : Literal → ℕ) where
   counts-all ls flags count d =
       sym d.count_is ∙ length-from_keys number-laws d.levels (map level ls) (IsDistinct-from_count number-laws d.levels (d.distinct ∙ sym d.count_is)) d.same
 
-  pub counts-only : (ls : List Literal) (flags : List Bool) (count n : ℕ) → Counts level ls flags count → get_or flags n false ≡ true → (l : Literal) × (l ∈ ls) × (level l ≡ n)
+  pub counts-only : (ls : List Literal) (flags : List Bool) (count n : ℕ) → Counts level ls flags count → get_or flags n false ≡ true →
+      (l : Literal) × (l ∈ ls) × (level l ≡ n)
   counts-only ls flags count n d h = member-found ls n (sym (d.same n) ∙ sym (d.flagged n) ∙ h)
 
   -- all flags that were set are taken away
-  pub counts-clear : (ls : List Literal) (old mid new : List Bool) → length new ≡ length old → ((n : ℕ) → get_or old n false ≡ false) → ((n : ℕ) → get_or mid n false ≡ true → (l : Literal) × (l ∈ ls) × (level l ≡ n)) → ((l : Literal) → l ∈ ls → get_or new (level l) false ≡ false) → ((n : ℕ) → get_or new n false ≡ true → get_or mid n false ≡ true) → new ≡ old
+  pub counts-clear : (ls : List Literal) (old mid new : List Bool) → length new ≡ length old → ((n : ℕ) → get_or old n false ≡ false) →
+      ((n : ℕ) → get_or mid n false ≡ true → (l : Literal) × (l ∈ ls) × (level l ≡ n)) →
+      ((l : Literal) → l ∈ ls → get_or new (level l) false ≡ false) → ((n : ℕ) → get_or new n false ≡ true → get_or mid n false ≡ true) → new ≡ old
   counts-clear ls old mid new long clear only gone fewer = all-false new (length old) long none ∙ sym (all-false old (length old) refl clear)
     where
       none : (n : ℕ) → get_or new n false ≡ false

@@ -29,7 +29,8 @@ module _ (values : List (Option Bool)) (nodes : List ImplNode) (k : StoredClause
   pub no-value : is_some (get_or values v None) ≡ false → false ≡ is_reason values nodes k
   no-value f = sym (ap (λ b. b && is_clause_at (get_or nodes (variable_of (literal_in k.literals 0)) no_node).reason k.place) (valued false f))
 
-  pub by-reason : (o : Bool) (r : Reason) → is_some (get_or values v None) ≡ true → r ≡ (get_or nodes v no_node).reason → o ≡ is_clause_at r k.place → o ≡ is_reason values nodes k
+  pub by-reason : (o : Bool) (r : Reason) → is_some (get_or values v None) ≡ true → r ≡ (get_or nodes v no_node).reason →
+      o ≡ is_clause_at r k.place → o ≡ is_reason values nodes k
   by-reason o r f g h =
       h
       ∙ ap (λ x. is_clause_at x k.place) (g ∙ ap (λ (x : ℕ). (get_or nodes x no_node).reason) e)
@@ -60,7 +61,8 @@ module _ (values : List (Option Bool)) (nodes : List ImplNode) (k : StoredClause
   mark-live e = ap (λ b. cond b k marked) e
 
 -- the clause of an index that is not marked yet
-pub unmarked-clause : (f : StoredClause → StoredClause) (s t : Store) (i p : ℕ) → ((k : StoredClause) → (f k).place ≡ k.place) → IsSound s → i < length s.places → IsMapped f s t i → p ≡ get_or t.places i 0 → (k : StoredClause) × (k ∈ stored_clauses s) × (stored_at (stored_clauses t) p ≡ k)
+pub unmarked-clause : (f : StoredClause → StoredClause) (s t : Store) (i p : ℕ) → ((k : StoredClause) → (f k).place ≡ k.place) → IsSound s →
+    i < length s.places → IsMapped f s t i → p ≡ get_or t.places i 0 → (k : StoredClause) × (k ∈ stored_clauses s) × (stored_at (stored_clauses t) p ≡ k)
 unmarked-clause f s t i p places ok h m e =
     let n = length-places s.words s.places in
     (get_or (stored_clauses s) i no_clause, ∈-get_or (stored_clauses s) i no_clause (omega (arith, h, n)), mapped-stored f s t i p places ok h m e)
@@ -76,7 +78,8 @@ first-implied : (s : View) (c : Clause) (i : ℕ) → Implies s c i → literal_
 first-implied s [] i g = absurd g
 first-implied s (l ∷ c) i g = g.0
 
-pub reason-first : (s : View) → WellFormed s → (k : StoredClause) (i : ℕ) → k ∈ s.clauses → i < length s.trail → (node_at s i).reason ≡ reason.Long k.place → literal_in k.literals 0 ≡ literal_at s i
+pub reason-first : (s : View) → WellFormed s → (k : StoredClause) (i : ℕ) → k ∈ s.clauses → i < length s.trail →
+    (node_at s i).reason ≡ reason.Long k.place → literal_in k.literals 0 ≡ literal_at s i
 reason-first s w k i h l e =
     let g : IsReason s i (reason.Long k.place) = subst (IsReason s i) e (w.reason_is i l) in
     let c : clause_at s k.place ≡ k.literals = ap (λ (x : StoredClause). x.literals) (stored-found s.clauses w.places k h) in

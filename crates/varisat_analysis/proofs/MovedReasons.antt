@@ -31,8 +31,10 @@ module _ (values : List (Option Bool)) (ns : List ImplNode) (k : StoredClause) (
   pub repoint-not : is_reason values ns k ≡ false → repointed values ns k q ≡ ns
   repoint-not e = ap (λ b. cond b moved ns) e
 
-pub repoint-done : (values : List (Option Bool)) (ns ms : List ImplNode) (k : StoredClause) (v q : ℕ) → is_reason values ns k ≡ true → v ≡ variable_of (literal_in k.literals 0) → ms ≡ set ns v (record (get_or ns v no_node) { reason = reason.Long q }) → ms ≡ repointed values ns k q
-repoint-done values ns ms k v q e f g = g ∙ ap (λ (x : ℕ). set ns x (record (get_or ns x no_node) { reason = reason.Long q })) f ∙ sym (repoint-is values ns k q e)
+pub repoint-done : (values : List (Option Bool)) (ns ms : List ImplNode) (k : StoredClause) (v q : ℕ) → is_reason values ns k ≡ true →
+    v ≡ variable_of (literal_in k.literals 0) → ms ≡ set ns v (record (get_or ns v no_node) { reason = reason.Long q }) → ms ≡ repointed values ns k q
+repoint-done values ns ms k v q e f g = g ∙ ap (λ (x : ℕ). set ns x (record (get_or ns x no_node) { reason = reason.Long q })) f
+    ∙ sym (repoint-is values ns k q e)
 
 -- the first clause of those that are left
 drop-next : (ks : List StoredClause) (i : ℕ) → i < length ks → drop i ks ≡ get_or ks i no_clause ∷ drop (i + 1) ks
@@ -42,9 +44,11 @@ pub record IsNextLeft (values : List (Option Bool)) (ks js : List StoredClause) 
   pub inside : i < length ks
   pub place : (get_or ks i no_clause).place ≡ p
   pub rest_is : rest ≡ map (λ k. k.place) (drop (i + 1) ks)
-  pub each : (ns : List ImplNode) → repointed_each values (drop i ks) (drop i js) ns ≡ repointed_each values (drop (i + 1) ks) (drop (i + 1) js) (repointed values ns (get_or ks i no_clause) (get_or js i no_clause).place)
+  pub each : (ns : List ImplNode) → repointed_each values (drop i ks) (drop i js) ns ≡ repointed_each values (drop (i + 1) ks) (drop (i + 1) js)
+      (repointed values ns (get_or ks i no_clause) (get_or js i no_clause).place)
 
-pub left-next : (values : List (Option Bool)) (ks js : List StoredClause) (i p : ℕ) (rest : List ℕ) → length js ≡ length ks → p ∷ rest ≡ map (λ k. k.place) (drop i ks) → IsNextLeft values ks js i p rest
+pub left-next : (values : List (Option Bool)) (ks js : List StoredClause) (i p : ℕ) (rest : List ℕ) → length js ≡ length ks →
+    p ∷ rest ≡ map (λ k. k.place) (drop i ks) → IsNextLeft values ks js i p rest
 left-next values ks js i p rest n e = ⊎_elim here (λ h. absurd (none (drop i ks) (drop_of_length-le ks {i = i} h) e)) (cases_lt i (length ks))
   where
     none : (xs : List StoredClause) → xs ≡ [] → p ∷ rest ≡ map (λ k. k.place) xs → ⊥
@@ -63,7 +67,8 @@ left-next values ks js i p rest n e = ⊎_elim here (λ h. absurd (none (drop i 
         }
 
 -- none is left
-pub left-none : (values : List (Option Bool)) (ks js : List StoredClause) (i : ℕ) (ps : List ℕ) (ns : List ImplNode) → ps ≡ [] → ps ≡ map (λ k. k.place) (drop i ks) → ns ≡ repointed_each values (drop i ks) (drop i js) ns
+pub left-none : (values : List (Option Bool)) (ks js : List StoredClause) (i : ℕ) (ps : List ℕ) (ns : List ImplNode) → ps ≡ [] →
+    ps ≡ map (λ k. k.place) (drop i ks) → ns ≡ repointed_each values (drop i ks) (drop i js) ns
 left-none values ks js i ps ns e f = go (drop i ks) (sym f ∙ e)
   where
     go : (xs : List StoredClause) → map (λ k. k.place) xs ≡ [] → ns ≡ repointed_each values xs (drop i js) ns
@@ -73,7 +78,8 @@ left-none values ks js i ps ns e f = go (drop i ks) (sym f ∙ e)
 pub repoint-length : (values : List (Option Bool)) (ns : List ImplNode) (k : StoredClause) (q : ℕ) → length (repointed values ns k q) ≡ length ns
 repoint-length values ns k q =
     ⊎_elim
-    (λ e. ap length (repoint-is values ns k q e) ∙ length-set ns (variable_of (literal_in k.literals 0)) (record (get_or ns (variable_of (literal_in k.literals 0)) no_node) { reason = reason.Long q }))
+    (λ e. ap length (repoint-is values ns k q e) ∙ length-set ns (variable_of (literal_in k.literals 0))
+    (record (get_or ns (variable_of (literal_in k.literals 0)) no_node) { reason = reason.Long q }))
     (λ e. ap length (repoint-not values ns k q e))
     (true-or-false (is_reason values ns k))
 

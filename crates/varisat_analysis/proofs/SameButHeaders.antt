@@ -30,7 +30,8 @@ placed-∈ (j ∷ ks) k (inr h) = inr (placed-∈ ks k h)
 ∈-placed (k ∷ ks) x (inr h) = let (j, i, e) = ∈-placed ks x h in (j, inr i, e)
 
 -- each clause was one before, but for its header
-pub headers-found : (ks js : List StoredClause) (j : StoredClause) → SameButHeaders ks js → j ∈ js → (k : StoredClause) × (k ∈ ks) × (placed_clause j ≡ placed_clause k)
+pub headers-found : (ks js : List StoredClause) (j : StoredClause) → SameButHeaders ks js → j ∈ js → (k : StoredClause) × (k ∈ ks)
+    × (placed_clause j ≡ placed_clause k)
 headers-found ks js j d h = ∈-placed ks (placed_clause j) (subst (λ xs. placed_clause j ∈ xs) d (placed-∈ js j h))
 
 pub headers-place : (ks js : List StoredClause) (p : ℕ) → SameButHeaders ks js → IsPlace ks p → IsPlace js p
@@ -55,7 +56,8 @@ placed-at : (ks : List StoredClause) (p : ℕ) → literals_at ks p ≡ literals
 placed-at [] p = refl
 placed-at (k ∷ ks) p = go (nat_eq k.place p) (placed-at ks p)
   where
-    go : (b : Bool) → literals_at ks p ≡ literals-placed (map placed_clause ks) p → (cond b k (stored_at ks p)).literals ≡ cond b k.literals (literals-placed (map placed_clause ks) p)
+    go : (b : Bool) → literals_at ks p ≡ literals-placed (map placed_clause ks) p →
+        (cond b k (stored_at ks p)).literals ≡ cond b k.literals (literals-placed (map placed_clause ks) p)
     go true e = refl
     go false e = e
 
@@ -88,7 +90,8 @@ module _ (ks js : List StoredClause) (d : SameButHeaders ks js) where
   pub headers-watching : (W : Watches) → IsWatching W ks → IsWatching W js
   headers-watching W w = record {
     known = λ x y h. let k = w.known x y h in (headers-place ks js y.cref d k.0, subst (λ c. y.blocking ∈ c) (sym (headers-at y.cref)) k.1);
-    watched = λ i j h b. subst (λ c. HasWatch (watches_of W (opposite (literal_in c j))) i) (sym (headers-at i)) (w.watched i j (headers-place js ks i (sym d) h) b);
+    watched = λ i j h b. subst (λ c. HasWatch (watches_of W (opposite (literal_in c j))) i) (sym (headers-at i))
+        (w.watched i j (headers-place js ks i (sym d) h) b);
   }
 
 -- a clause without its header but for whether it is deleted
@@ -107,7 +110,9 @@ placed-live : (ks : List StoredClause) → map placed_clause (live_of ks) ≡ li
 placed-live [] = refl
 placed-live (k ∷ ks) = go k.header.deleted (placed-live ks)
   where
-    go : (b : Bool) → map placed_clause (live_of ks) ≡ live-placed (map held_clause ks) → map placed_clause (cond b (live_of ks) (k ∷ live_of ks)) ≡ cond b (live-placed (map held_clause ks)) (placed_clause k ∷ live-placed (map held_clause ks))
+    go : (b : Bool) → map placed_clause (live_of ks) ≡ live-placed (map held_clause ks) →
+        map placed_clause (cond b (live_of ks) (k ∷ live_of ks)) ≡ cond b (live-placed (map held_clause ks))
+        (placed_clause k ∷ live-placed (map held_clause ks))
     go true e = e
     go false e = ap (λ xs. placed_clause k ∷ xs) e
 
@@ -116,12 +121,14 @@ pub live-headers : (ks js : List StoredClause) → map held_clause js ≡ map he
 live-headers ks js e = placed-live js ∙ ap live-placed e ∙ sym (placed-live ks)
 
 -- each clause changes in what is not looked at
-pub map-same : {X : Type 0} (look : StoredClause → X) (f : StoredClause → StoredClause) (ks : List StoredClause) → ((k : StoredClause) → look (f k) ≡ look k) → map look (map f ks) ≡ map look ks
+pub map-same : {X : Type 0} (look : StoredClause → X) (f : StoredClause → StoredClause) (ks : List StoredClause) →
+    ((k : StoredClause) → look (f k) ≡ look k) → map look (map f ks) ≡ map look ks
 map-same look f [] h = refl
 map-same look f (k ∷ ks) h = ap₂ (λ x xs. x ∷ xs) (h k) (map-same look f ks h)
 
 -- one clause does
-pub with-same-look : {X : Type 0} (look : StoredClause → X) (ks : List StoredClause) (p : ℕ) (j : StoredClause) → look j ≡ look (stored_at ks p) → map look (with_stored ks p j) ≡ map look ks
+pub with-same-look : {X : Type 0} (look : StoredClause → X) (ks : List StoredClause) (p : ℕ) (j : StoredClause) → look j ≡ look (stored_at ks p) →
+    map look (with_stored ks p j) ≡ map look ks
 with-same-look look [] p j e = refl
 with-same-look look (k ∷ ks) p j e =
     ⊎_elim
@@ -130,11 +137,13 @@ with-same-look look (k ∷ ks) p j e =
     (equal_or_not k.place p)
 
 -- each header changes
-pub live-map : (f : StoredClause → StoredClause) (ks : List StoredClause) → ((k : StoredClause) → held_clause (f k) ≡ held_clause k) → SameButHeaders (live_of ks) (live_of (map f ks))
+pub live-map : (f : StoredClause → StoredClause) (ks : List StoredClause) → ((k : StoredClause) → held_clause (f k) ≡ held_clause k) →
+    SameButHeaders (live_of ks) (live_of (map f ks))
 live-map f ks h = live-headers ks (map f ks) (map-same held_clause f ks h)
 
 -- one header does
-pub live-header : (ks : List StoredClause) (p : ℕ) (h : Header) → h.deleted ≡ (header_at ks p).deleted → is_tier h.tier tier.Irred ≡ is_tier (header_at ks p).tier tier.Irred → SameButHeaders (live_of ks) (live_of (with_header ks p h))
+pub live-header : (ks : List StoredClause) (p : ℕ) (h : Header) → h.deleted ≡ (header_at ks p).deleted →
+    is_tier h.tier tier.Irred ≡ is_tier (header_at ks p).tier tier.Irred → SameButHeaders (live_of ks) (live_of (with_header ks p h))
 live-header ks p h e f =
     let k : StoredClause = stored_at ks p in
     live-headers ks (with_header ks p h) (with-same-look held_clause ks p (record k { header = h })

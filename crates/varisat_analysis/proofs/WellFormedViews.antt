@@ -24,7 +24,8 @@ use Rattle.varisat_prop.proofs.TrailValues.{trail-true}
 use Rattle.varisat_analysis.specs.Learned.{current_level, implying_clause, names_of, reason_clause}
 
 -- where kept clauses are reordered, each was kept before as a set
-pub kept-reordered : (s t : View) → AreReordered s.clauses t.clauses → t.binary ≡ s.binary → (c : Clause) → c ∈ kept t → (d : Clause) × (d ∈ kept s) × SameSet c d
+pub kept-reordered : (s t : View) → AreReordered s.clauses t.clauses → t.binary ≡ s.binary → (c : Clause) → c ∈ kept t → (d : Clause) × (d ∈ kept s)
+    × SameSet c d
 kept-reordered s t a b c h =
     ⊎_elim
     (λ i. let (d, j, e) = reordered-old s.clauses t.clauses a c i in (d, stored-kept s d j, e))
@@ -47,11 +48,13 @@ level-opposite s m = ap (λ v. (get_or s.nodes v no_node).level) (variable-oppos
 pub level-read : (s : View) (nodes : List ImplNode) (m v r : ℕ) → nodes ≡ s.nodes → v ≡ variable_of m → r ≡ (get_or nodes v no_node).level → r ≡ level_of s m
 level-read s nodes m v r e f h = h ∙ ap (λ x. (get_or x v no_node).level) e ∙ ap (λ x. (get_or s.nodes x no_node).level) f
 
-pub reason-read : (s : View) (nodes : List ImplNode) (m v : ℕ) (r : Reason) → nodes ≡ s.nodes → v ≡ variable_of m → r ≡ (get_or nodes v no_node).reason → r ≡ (node_of s m).reason
+pub reason-read : (s : View) (nodes : List ImplNode) (m v : ℕ) (r : Reason) → nodes ≡ s.nodes → v ≡ variable_of m →
+    r ≡ (get_or nodes v no_node).reason → r ≡ (node_of s m).reason
 reason-read s nodes m v r e f h = h ∙ ap (λ x. (get_or x v no_node).reason) e ∙ ap (λ x. (get_or s.nodes x no_node).reason) f
 
 -- the node of a true or false literal can be read
-pub read-inside : (s : View) (w : WellFormed s) (nodes : List ImplNode) (m v : ℕ) → nodes ≡ s.nodes → v ≡ variable_of m → opposite m ∈ s.trail → v < length nodes
+pub read-inside : (s : View) (w : WellFormed s) (nodes : List ImplNode) (m v : ℕ) → nodes ≡ s.nodes → v ≡ variable_of m → opposite m ∈ s.trail →
+    v < length nodes
 read-inside s w nodes m v e f h =
     let a = made-inside s.values (opposite m) (trail-true s w (opposite m) h) in
     let o = variable-opposite m in
@@ -112,7 +115,8 @@ module _ (s : View) (w : WellFormed s) where
       omega (arith, l, f, g)
 
   -- the other literals of a clause that is a reason stand before the literal
-  pub reason-before : (k : ℕ) (r : Reason) (m : Literal) → IsReason s k r → m ∈ implying_clause s (literal_at s k) r → (m ≡ literal_at s k) ⊎ StandsBefore s k (opposite m)
+  pub reason-before : (k : ℕ) (r : Reason) (m : Literal) → IsReason s k r → m ∈ implying_clause s (literal_at s k) r → (m ≡ literal_at s k)
+      ⊎ StandsBefore s k (opposite m)
   reason-before k reason.Unit m h i = absurd i
   reason-before k (reason.Binary ms) m (n, e, a, b) i = ⊎_elim
       inl
@@ -136,7 +140,8 @@ module _ (s : View) (w : WellFormed s) where
   -- a reason's clause is kept
   pub reason-kept : (k : ℕ) (r : Reason) → is_clause r ≡ true → IsReason s k r → (d : Clause) × (d ∈ kept s) × SameSet d (implying_clause s (literal_at s k) r)
   reason-kept k reason.Unit c h = absurd cc
-  reason-kept k (reason.Binary ms) c (m, e, a, b) = subst (λ x. (d : Clause) × (d ∈ kept s) × SameSet d x) (ap (λ x. literal_at s k ∷ x ∷ []) (opposite_twice m) ∙ ap (λ x. literal_at s k ∷ x) (sym e)) (implied-kept s w (opposite m) (literal_at s k) a)
+  reason-kept k (reason.Binary ms) c (m, e, a, b) = subst (λ x. (d : Clause) × (d ∈ kept s) × SameSet d x)
+      (ap (λ x. literal_at s k ∷ x ∷ []) (opposite_twice m) ∙ ap (λ x. literal_at s k ∷ x) (sym e)) (implied-kept s w (opposite m) (literal_at s k) a)
   reason-kept k (reason.Long p) c h = (clause_at s p, kept-here s p h.0, ((λ x i. i), (λ x i. i)))
 
   -- and has the literal first
@@ -150,10 +155,12 @@ module _ (s : View) (w : WellFormed s) where
       by (x ∷ d) g = inl (sym g.0)
 
   -- the clause is the literal and what the reason makes false, which is false by literals before it
-  pub reason-split : (k : ℕ) (r : Reason) (m : Literal) → IsReason s k r → m ∈ implying_clause s (literal_at s k) r → (m ≡ literal_at s k) ⊎ ((m ∈ causes_of s.clauses r) × StandsBefore s k (opposite m))
+  pub reason-split : (k : ℕ) (r : Reason) (m : Literal) → IsReason s k r → m ∈ implying_clause s (literal_at s k) r → (m ≡ literal_at s k)
+      ⊎ ((m ∈ causes_of s.clauses r) × StandsBefore s k (opposite m))
   reason-split k reason.Unit m h i = absurd i
   reason-split k (reason.Binary ms) m h (inl e) = inl e
-  reason-split k (reason.Binary ms) m (n, e, a, b) (inr i) = inr (i, ⊎_elim (λ f. subst (λ x. StandsBefore s k (opposite x)) (sym f) b) (λ z. absurd z) (subst (λ x. m ∈ x) e i))
+  reason-split k (reason.Binary ms) m (n, e, a, b) (inr i) = inr
+      (i, ⊎_elim (λ f. subst (λ x. StandsBefore s k (opposite x)) (sym f) b) (λ z. absurd z) (subst (λ x. m ∈ x) e i))
   reason-split k (reason.Long p) m h i = by (clause_at s p) h.1 i
     where
       by : (d : Clause) → Implies s d k → m ∈ d → (m ≡ literal_at s k) ⊎ ((m ∈ others_of d) × StandsBefore s k (opposite m))
@@ -162,9 +169,11 @@ module _ (s : View) (w : WellFormed s) where
       by (x ∷ d) g (inr j) = inr (j, g.1 m j)
 
   -- a name of it names it
-  pub reason-named : (k : ℕ) (r : Reason) (g : Conflict) → IsReason s k r → g ∈ names_of (literal_at s k) r → NamesKeptClause s g × (named_in s.clauses g ≡ implying_clause s (literal_at s k) r)
+  pub reason-named : (k : ℕ) (r : Reason) (g : Conflict) → IsReason s k r → g ∈ names_of (literal_at s k) r → NamesKeptClause s g
+      × (named_in s.clauses g ≡ implying_clause s (literal_at s k) r)
   reason-named k reason.Unit g h i = absurd i
-  reason-named k (reason.Binary ms) g (m, e, a, b) (inl f) = subst (λ x. NamesKeptClause s x × (named_in s.clauses x ≡ literal_at s k ∷ ms)) (sym f) ((opposite m, literal_at s k, ap (λ x. literal_at s k ∷ x) e ∙ ap (λ x. literal_at s k ∷ x ∷ []) (sym (opposite_twice m)), a), refl)
+  reason-named k (reason.Binary ms) g (m, e, a, b) (inl f) = subst (λ x. NamesKeptClause s x × (named_in s.clauses x ≡ literal_at s k ∷ ms)) (sym f)
+      ((opposite m, literal_at s k, ap (λ x. literal_at s k ∷ x) e ∙ ap (λ x. literal_at s k ∷ x ∷ []) (sym (opposite_twice m)), a), refl)
   reason-named k (reason.Binary ms) g h (inr z) = absurd z
   reason-named k (reason.Long p) g h (inl f) = subst (λ x. NamesKeptClause s x × (named_in s.clauses x ≡ clause_at s p)) (sym f) (h.0, refl)
   reason-named k (reason.Long p) g h (inr z) = absurd z
@@ -173,7 +182,8 @@ module _ (s : View) (w : WellFormed s) where
   last-in d = omega (arith, d)
 
   -- where the last level began with propagation at its end, a false clause has a literal of the current level
-  pub has-late : (f : Conflict) → LevelsSettled s → 0 < current_level s → IsConflicting s f → (m : Literal) × (m ∈ named_in s.clauses f) × (level_of s m ≡ current_level s)
+  pub has-late : (f : Conflict) → LevelsSettled s → 0 < current_level s → IsConflicting s f → (m : Literal) × (m ∈ named_in s.clauses f)
+      × (level_of s m ≡ current_level s)
   has-late f q d c =
       let (x, j, same) = named-kept s w f c.0 in
       ⊎_elim
@@ -192,11 +202,13 @@ module _ (s : View) (w : WellFormed s) where
       )))
       (search-late (named_in s.clauses f) c.1)
     where
-      search-late : (xs : Clause) → IsFalse s.trail xs → ((m : Literal) × (m ∈ xs) × (level_of s m ≡ current_level s)) ⊎ ((m : Literal) → m ∈ xs → level_of s m < current_level s)
+      search-late : (xs : Clause) → IsFalse s.trail xs → ((m : Literal) × (m ∈ xs) × (level_of s m ≡ current_level s))
+          ⊎ ((m : Literal) → m ∈ xs → level_of s m < current_level s)
       search-late [] f = inr (λ m h. absurd h)
       search-late (x ∷ xs) f =
           ⊎_elim
-          (λ (a : level_of s x < current_level s). ⊎_elim (λ (m, h, e). inl (m, inr h, e)) (λ n. inr (λ m h. ⊎_elim (λ e. subst (λ y. level_of s y < current_level s) (sym e) a) (n m) h)) (search-late xs (λ m h. f m (inr h))))
+          (λ (a : level_of s x < current_level s). ⊎_elim (λ (m, h, e). inl (m, inr h, e))
+          (λ n. inr (λ m h. ⊎_elim (λ e. subst (λ y. level_of s y < current_level s) (sym e) a) (n m) h)) (search-late xs (λ m h. f m (inr h))))
           (λ (a : current_level s ≤ level_of s x). let b = level-small x (f x (inl refl)) in inl (x, inl refl, omega (arith, a, b)))
           (cases_lt (level_of s x) (current_level s))
 
@@ -210,28 +222,35 @@ module _ (s : View) (w : WellFormed s) where
   pub zero-below : (j k : ℕ) → j < k → k < length s.trail → (node_at s k).level ≡ 0 → (node_at s j).level ≡ 0
   zero-below j k l h z =
       ⊎_elim
-      (λ (d : 0 < length s.decisions). let o = w.levels_up k 0 h d (omega (arith, z)) in let q = w.levels_down j 0 (omega (arith, l, h)) d (omega (arith, o, l)) in omega (arith, q))
+      (λ (d : 0 < length s.decisions). let o = w.levels_up k 0 h d (omega (arith, z)) in
+      let q = w.levels_down j 0 (omega (arith, l, h)) d (omega (arith, o, l)) in omega (arith, q))
       (λ (d : length s.decisions ≤ 0). let q = w.levels_to j (omega (arith, l, h)) in omega (arith, q, d))
       (cases_lt 0 (length s.decisions))
 
   -- a literal with a kept clause as its reason is implied where the opposites of the clause's others are
-  pub implied-by : (held : List Clause) (base : List Literal) → ViewFits held s → (k : ℕ) (r : Reason) → is_clause r ≡ true → IsReason s k r → ((m : Literal) → m ∈ implying_clause s (literal_at s k) r → StandsBefore s k (opposite m) → Implied held base (opposite m)) → Implied held base (literal_at s k)
+  pub implied-by : (held : List Clause) (base : List Literal) → ViewFits held s → (k : ℕ) (r : Reason) → is_clause r ≡ true → IsReason s k r →
+      ((m : Literal) → m ∈ implying_clause s (literal_at s k) r → StandsBefore s k (opposite m) → Implied held base (opposite m)) →
+      Implied held base (literal_at s k)
   implied-by held base f k r c h g =
       let (x, y, z) = reason-kept k r c h in
       let (d, i, e) = f.stored x y in
-      ByReason d i (e.1 (literal_at s k) (z.1 (literal_at s k) (reason-first k r c h))) (λ m j n. let o = z.0 m (e.0 m j) in ⊎_elim (λ q. absurd (n q)) (g m o) (reason-before k r m h o))
+      ByReason d i (e.1 (literal_at s k) (z.1 (literal_at s k) (reason-first k r c h)))
+      (λ m j n. let o = z.0 m (e.0 m j) in ⊎_elim (λ q. absurd (n q)) (g m o) (reason-before k r m h o))
 
   -- what is true at level 0 is implied by the held clauses alone
   pub fixed-at : (held : List Clause) → ViewFits held s → (n k : ℕ) → k < n → k < length s.trail → (node_at s k).level ≡ 0 → Implied held [] (literal_at s k)
   fixed-at held f zero k l h z = absurd (omega arith)
   fixed-at held f (suc n) k l h z = by (node_at s k).reason refl (w.reason_is k h) (λ o a b y. fixed-at held f n o a b y)
     where
-      by : (r : Reason) → (node_at s k).reason ≡ r → IsReason s k r → ((o : ℕ) → o < n → o < length s.trail → (node_at s o).level ≡ 0 → Implied held [] (literal_at s o)) → Implied held [] (literal_at s k)
+      by : (r : Reason) → (node_at s k).reason ≡ r → IsReason s k r →
+          ((o : ℕ) → o < n → o < length s.trail → (node_at s o).level ≡ 0 → Implied held [] (literal_at s o)) → Implied held [] (literal_at s k)
       by reason.Unit e i rec = let (d, j, u) = f.units k h z e in ByReason d j u.0 (λ m q o. absurd (o (u.1 m q)))
       by (reason.Binary ms) e i rec =
-          implied-by held [] f k (reason.Binary ms) refl i (λ m q (o, a, b). subst (λ y. Implied held [] y) b (rec o (omega (arith, a, l)) (omega (arith, a, h)) (zero-below o k a h z)))
+          implied-by held [] f k (reason.Binary ms) refl i
+          (λ m q (o, a, b). subst (λ y. Implied held [] y) b (rec o (omega (arith, a, l)) (omega (arith, a, h)) (zero-below o k a h z)))
       by (reason.Long c) e i rec =
-          implied-by held [] f k (reason.Long c) refl i (λ m q (o, a, b). subst (λ y. Implied held [] y) b (rec o (omega (arith, a, l)) (omega (arith, a, h)) (zero-below o k a h z)))
+          implied-by held [] f k (reason.Long c) refl i
+          (λ m q (o, a, b). subst (λ y. Implied held [] y) b (rec o (omega (arith, a, l)) (omega (arith, a, h)) (zero-below o k a h z)))
 
   pub fixed-implied : (held : List Clause) → ViewFits held s → (m : Literal) → opposite m ∈ s.trail → level_of s m ≡ 0 → Implied held [] (opposite m)
   fixed-implied held f m t z =
@@ -254,7 +273,8 @@ module _ (s : View) (w : WellFormed s) where
   pub causes-false : (x : Literal) → x ∈ s.trail → IsFalse s.trail (causes_of s.clauses (node_of s x).reason)
   causes-false x h =
       let (k, a, e) = place_in x s.trail 0 h in
-      subst (λ y. IsFalse s.trail (causes_of s.clauses (node_of s y).reason)) e (λ m i. stands-∈ k (opposite m) (omega (arith, a)) (by k (node_at s k).reason (w.reason_is k a) m i))
+      subst (λ y. IsFalse s.trail (causes_of s.clauses (node_of s y).reason)) e
+      (λ m i. stands-∈ k (opposite m) (omega (arith, a)) (by k (node_at s k).reason (w.reason_is k a) m i))
     where
       before : (k : ℕ) (c : Clause) → Implies s c k → (m : Literal) → m ∈ others_of c → StandsBefore s k (opposite m)
       before k [] q m i = absurd i

@@ -57,8 +57,10 @@ pub pushed-cases : (t u : Tier) (p q : ℕ) (l : ListsByTier) → q ∈ tier_lis
 pushed-cases t u p q l h =
     ⊎_elim
     (λ e. let g : u ≡ t = same-tier u t e in
-    let i : q ∈ (tier_list t l ++ p ∷ []) = subst (λ (xs : List ℕ). q ∈ xs) (list-with t u (tier_list t l ++ p ∷ []) l ∙ ap (λ b. cond b (tier_list t l ++ p ∷ []) (tier_list u l)) e) h in
-    ⊎_elim (λ j. inl (subst (λ (x : Tier). q ∈ tier_list x l) (sym g) j)) (λ j. inr (⊎_elim (λ k. k) (λ k. absurd k) j)) (∈-append_cases q (tier_list t l) (p ∷ []) i))
+    let i : q ∈ (tier_list t l ++ p ∷ []) = subst (λ (xs : List ℕ). q ∈ xs)
+    (list-with t u (tier_list t l ++ p ∷ []) l ∙ ap (λ b. cond b (tier_list t l ++ p ∷ []) (tier_list u l)) e) h in
+    ⊎_elim (λ j. inl (subst (λ (x : Tier). q ∈ tier_list x l) (sym g) j)) (λ j. inr (⊎_elim (λ k. k) (λ k. absurd k) j))
+    (∈-append_cases q (tier_list t l) (p ∷ []) i))
     (λ e. inl (subst (λ (xs : List ℕ). q ∈ xs) (list-with t u (tier_list t l ++ p ∷ []) l ∙ ap (λ b. cond b (tier_list t l ++ p ∷ []) (tier_list u l)) e) h))
     (true-or-false (is_tier u t))
 
@@ -66,25 +68,30 @@ pub pushed-old : (t u : Tier) (p q : ℕ) (l : ListsByTier) → q ∈ tier_list 
 pushed-old t u p q l h =
     ⊎_elim
     (λ e. let g : u ≡ t = same-tier u t e in
-    subst (λ (xs : List ℕ). q ∈ xs) (sym (list-with t u (tier_list t l ++ p ∷ []) l ∙ ap (λ b. cond b (tier_list t l ++ p ∷ []) (tier_list u l)) e)) (∈-append_left q (tier_list t l) (p ∷ []) (subst (λ (x : Tier). q ∈ tier_list x l) g h)))
+    subst (λ (xs : List ℕ). q ∈ xs) (sym (list-with t u (tier_list t l ++ p ∷ []) l ∙ ap (λ b. cond b (tier_list t l ++ p ∷ []) (tier_list u l)) e))
+    (∈-append_left q (tier_list t l) (p ∷ []) (subst (λ (x : Tier). q ∈ tier_list x l) g h)))
     (λ e. subst (λ (xs : List ℕ). q ∈ xs) (sym (list-with t u (tier_list t l ++ p ∷ []) l ∙ ap (λ b. cond b (tier_list t l ++ p ∷ []) (tier_list u l)) e)) h)
     (true-or-false (is_tier u t))
 
 pub pushed-new : (t : Tier) (p : ℕ) (l : ListsByTier) → p ∈ tier_list t (pushed t p l)
 pushed-new t p l =
-    subst (λ (xs : List ℕ). p ∈ xs) (sym (list-with t t (tier_list t l ++ p ∷ []) l ∙ ap (λ b. cond b (tier_list t l ++ p ∷ []) (tier_list t l)) (tier-self t))) (∈-append_right p (tier_list t l) (p ∷ []) (inl refl))
+    subst (λ (xs : List ℕ). p ∈ xs)
+    (sym (list-with t t (tier_list t l ++ p ∷ []) l ∙ ap (λ b. cond b (tier_list t l ++ p ∷ []) (tier_list t l)) (tier-self t)))
+    (∈-append_right p (tier_list t l) (p ∷ []) (inl refl))
 
 -- sums over the clauses
 pub total-append : (w : StoredClause → ℕ) (ks : List StoredClause) (k : StoredClause) → total w (ks ++ k ∷ []) ≡ total w ks + w k
 total-append w [] k = omega arith
 total-append w (j ∷ ks) k = let r = total-append w ks k in omega (arith, r)
 
-pub total-clause : (w : StoredClause → ℕ) (ks : List StoredClause) (p : ℕ) (j : StoredClause) → IsPlace ks p → total w (with_stored ks p j) + w (stored_at ks p) ≡ total w ks + w j
+pub total-clause : (w : StoredClause → ℕ) (ks : List StoredClause) (p : ℕ) (j : StoredClause) → IsPlace ks p →
+    total w (with_stored ks p j) + w (stored_at ks p) ≡ total w ks + w j
 total-clause w [] p j (k, h, e) = absurd h
 total-clause w (k ∷ ks) p j h =
     ⊎_elim
     (λ e. let a = ap (total w) (clause-here k ks p j e) in let b = ap w (stored-here k ks p e) in omega (arith, a, b))
-    (λ n. let a = ap (total w) (clause-later k ks p j n) in let b = ap w (stored-later k ks p n) in let r = total-clause w ks p j (place-later k ks p h n) in omega (arith, a, b, r))
+    (λ n. let a = ap (total w) (clause-later k ks p j n) in let b = ap w (stored-later k ks p n) in
+    let r = total-clause w ks p j (place-later k ks p h n) in omega (arith, a, b, r))
     (equal_or_not k.place p)
 
 pub total-most : (w v : StoredClause → ℕ) (ks : List StoredClause) → ((k : StoredClause) → k ∈ ks → w k ≤ v k) → total w ks ≤ total v ks
@@ -130,7 +137,8 @@ garbage-small d s k =
     most false n = omega arith
 
 -- a clause that is not deleted is counted
-pub counted : (d : Database) (s : Store) (p : ℕ) → Tracks d s → IsPlace (stored_clauses s) p → (header_at (stored_clauses s) p).deleted ≡ false → 0 < count_of (header_at (stored_clauses s) p).tier d.counts
+pub counted : (d : Database) (s : Store) (p : ℕ) → Tracks d s → IsPlace (stored_clauses s) p → (header_at (stored_clauses s) p).deleted ≡ false →
+    0 < count_of (header_at (stored_clauses s) p).tier d.counts
 counted d s p k h live =
     let j : StoredClause = stored_at (stored_clauses s) p in
     let a = total-one (λ x. cond (is_live_in j.header.tier x) 1 0) (stored_clauses s) j (stored-∈ (stored_clauses s) p h) in
@@ -146,7 +154,8 @@ pub record Adjusts (d e : Database) (p : ℕ) (k j : StoredClause) : Type 0 wher
   pub known : (t : Tier) (q : ℕ) → q ∈ tier_list t e.lists → (q ∈ tier_list t d.lists) ⊎ (q ≡ p)
   pub listed : is_live j ≡ true → p ∈ tier_list j.header.tier e.lists
 
-pub tracks-changed : (d e : Database) (s n : Store) (size p : ℕ) (j : StoredClause) → Tracks d s → IsPlace (stored_clauses s) p → j.place ≡ p → HoldsClauses n size (with_stored (stored_clauses s) p j) → Adjusts d e p (stored_at (stored_clauses s) p) j → Tracks e n
+pub tracks-changed : (d e : Database) (s n : Store) (size p : ℕ) (j : StoredClause) → Tracks d s → IsPlace (stored_clauses s) p → j.place ≡ p →
+    HoldsClauses n size (with_stored (stored_clauses s) p j) → Adjusts d e p (stored_at (stored_clauses s) p) j → Tracks e n
 tracks-changed d e s n size p j t h q o a = record {
   sound = o.sound;
   counts = λ u.
@@ -160,7 +169,8 @@ tracks-changed d e s n size p j t h q o a = record {
   listed = λ k i live.
       let i2 : k ∈ with_stored (stored_clauses s) p j = subst (λ xs. k ∈ xs) o.clauses i in
       ⊎_elim
-      (λ f. subst (λ (x : StoredClause). x.place ∈ tier_list x.header.tier e.lists) (sym f) (subst (λ (x : ℕ). x ∈ tier_list j.header.tier e.lists) (sym q) (a.listed (subst (λ (x : StoredClause). is_live x ≡ true) f live))))
+      (λ f. subst (λ (x : StoredClause). x.place ∈ tier_list x.header.tier e.lists) (sym f)
+      (subst (λ (x : ℕ). x ∈ tier_list j.header.tier e.lists) (sym q) (a.listed (subst (λ (x : StoredClause). is_live x ≡ true) f live))))
       (λ m. a.keeps k.header.tier k.place (t.listed k m live))
       (clause-cases (stored_clauses s) p j k i2);
   known = λ u x i.
@@ -194,7 +204,8 @@ tracks-none = record {
     nowhere Local p h = h
 
 -- a clause that is not deleted was added
-pub tracks-added : (d : Database) (s n : Store) (k : StoredClause) → Tracks d s → AddsStored s n k → k.header.deleted ≡ false → Tracks (with_added k.header.tier k.place d) n
+pub tracks-added : (d : Database) (s n : Store) (k : StoredClause) → Tracks d s → AddsStored s n k → k.header.deleted ≡ false →
+    Tracks (with_added k.header.tier k.place d) n
 tracks-added d s n k t a live = record {
   sound = a.sound;
   counts = λ u.
@@ -212,7 +223,8 @@ tracks-added d s n k t a live = record {
   listed = λ j i l.
       ⊎_elim
       (λ m. pushed-old k.header.tier j.header.tier k.place j.place d.lists (t.listed j m l))
-      (λ e. subst (λ (x : StoredClause). x.place ∈ tier_list x.header.tier (pushed k.header.tier k.place d.lists)) (sym e) (pushed-new k.header.tier k.place d.lists))
+      (λ e. subst (λ (x : StoredClause). x.place ∈ tier_list x.header.tier (pushed k.header.tier k.place d.lists)) (sym e)
+      (pushed-new k.header.tier k.place d.lists))
       (from-append (stored_clauses s) k j (subst (λ xs. j ∈ xs) a.clauses.0 i));
   known = λ u x i.
       subst (λ xs. IsPlace xs x) (sym a.clauses.0) (⊎_elim
@@ -222,7 +234,8 @@ tracks-added d s n k t a live = record {
 }
 
 -- a clause that is not deleted goes to another tier
-pub adjusts-moved : (d : Database) (p : ℕ) (k : StoredClause) (to : Tier) → k.header.deleted ≡ false → 0 < count_of k.header.tier d.counts → Adjusts d (with_moved p k.header.tier to d) p k (record k { header = record k.header { tier = to } })
+pub adjusts-moved : (d : Database) (p : ℕ) (k : StoredClause) (to : Tier) → k.header.deleted ≡ false → 0 < count_of k.header.tier d.counts →
+    Adjusts d (with_moved p k.header.tier to d) p k (record k { header = record k.header { tier = to } })
 adjusts-moved d p k to live some = record {
   counts = λ t.
       let a = count-lowered k.header.tier t d.counts some in
@@ -239,7 +252,8 @@ adjusts-moved d p k to live some = record {
 }
 
 -- a clause is deleted
-pub adjusts-deleted : (d : Database) (p : ℕ) (k : StoredClause) → k.header.deleted ≡ false → 0 < count_of k.header.tier d.counts → Adjusts d (with_deleted k.header.tier (length k.literals) d) p k (record k { header = record k.header { deleted = true } })
+pub adjusts-deleted : (d : Database) (p : ℕ) (k : StoredClause) → k.header.deleted ≡ false → 0 < count_of k.header.tier d.counts →
+    Adjusts d (with_deleted k.header.tier (length k.literals) d) p k (record k { header = record k.header { deleted = true } })
 adjusts-deleted d p k live some = record {
   counts = λ t.
       let a = count-lowered k.header.tier t d.counts some in
@@ -259,7 +273,10 @@ same-garbage false true m n e h = absurd (cc)
 same-garbage false false m n e h = refl
 
 -- a clause changes, but not its tier nor whether it is deleted, and a deleted one not in length
-pub adjusts-kept : (d : Database) (s : Store) (p : ℕ) (j : StoredClause) → Tracks d s → IsPlace (stored_clauses s) p → (stored_at (stored_clauses s) p).place ≡ p → j.header.tier ≡ (header_at (stored_clauses s) p).tier → j.header.deleted ≡ (header_at (stored_clauses s) p).deleted → (j.header.deleted ≡ true → length j.literals ≡ length (literals_at (stored_clauses s) p)) → Adjusts d d p (stored_at (stored_clauses s) p) j
+pub adjusts-kept : (d : Database) (s : Store) (p : ℕ) (j : StoredClause) → Tracks d s → IsPlace (stored_clauses s) p →
+    (stored_at (stored_clauses s) p).place ≡ p → j.header.tier ≡ (header_at (stored_clauses s) p).tier →
+    j.header.deleted ≡ (header_at (stored_clauses s) p).deleted →
+    (j.header.deleted ≡ true → length j.literals ≡ length (literals_at (stored_clauses s) p)) → Adjusts d d p (stored_at (stored_clauses s) p) j
 adjusts-kept d s p j t h q et ed el =
     let k : StoredClause = stored_at (stored_clauses s) p in
     record {
@@ -267,7 +284,8 @@ adjusts-kept d s p j t h q et ed el =
       garbage = ap (λ (x : ℕ). d.garbage + x) (same-garbage k.header.deleted j.header.deleted (size_of k) (size_of j) ed (λ e. ap (λ (n : ℕ). 3 + n) (el e)));
       keeps = λ u x i. i;
       known = λ u x i. inl i;
-      listed = λ l. subst (λ (x : Tier). p ∈ tier_list x d.lists) (sym et) (subst (λ (x : ℕ). x ∈ tier_list k.header.tier d.lists) q (t.listed k (stored-∈ (stored_clauses s) p h) (rw (← ed) l)));
+      listed = λ l. subst (λ (x : Tier). p ∈ tier_list x d.lists) (sym et)
+          (subst (λ (x : ℕ). x ∈ tier_list k.header.tier d.lists) q (t.listed k (stored-∈ (stored_clauses s) p h) (rw (← ed) l)));
     }
 
 -- the clause at a place stands there, and is as long as its header says
@@ -279,7 +297,8 @@ place-is (k ∷ ks) p h =
     (λ n. ap (λ (x : StoredClause). x.place) (stored-later k ks p n) ∙ place-is ks p (place-later k ks p h n))
     (equal_or_not k.place p)
 
-pub long-at : (s : Store) (p : ℕ) → IsSound s → IsPlace (stored_clauses s) p → (3 ≤ length (literals_at (stored_clauses s) p)) × ((header_at (stored_clauses s) p).len ≡ length (literals_at (stored_clauses s) p))
+pub long-at : (s : Store) (p : ℕ) → IsSound s → IsPlace (stored_clauses s) p → (3 ≤ length (literals_at (stored_clauses s) p))
+    × ((header_at (stored_clauses s) p).len ≡ length (literals_at (stored_clauses s) p))
 long-at s p ok h = are-long s ok (stored_at (stored_clauses s) p) (stored-∈ (stored_clauses s) p h)
 
 -- the clause itself in its own place changes nothing
@@ -295,39 +314,51 @@ pub header-self : (ks : List StoredClause) (p : ℕ) (h : Header) → h ≡ head
 header-self ks p h e = ap (λ (x : Header). with_stored ks p (record (stored_at ks p) { header = x })) e ∙ clause-self ks p
 
 -- what the calls of the database leave
-pub tracks-deleted : (d e : Database) (s n : Store) (p : ℕ) (h : Header) → Tracks d s → IsPlace (stored_clauses s) p → (header_at (stored_clauses s) p).deleted ≡ false → h ≡ header_at (stored_clauses s) p → e ≡ with_deleted h.tier h.len d → HoldsClauses n (length s.words) (with_header (stored_clauses s) p (record h { deleted = true })) → Tracks e n
+pub tracks-deleted : (d e : Database) (s n : Store) (p : ℕ) (h : Header) → Tracks d s → IsPlace (stored_clauses s) p →
+    (header_at (stored_clauses s) p).deleted ≡ false → h ≡ header_at (stored_clauses s) p → e ≡ with_deleted h.tier h.len d →
+    HoldsClauses n (length s.words) (with_header (stored_clauses s) p (record h { deleted = true })) → Tracks e n
 tracks-deleted d e s n p h t at live eh ee o =
     let k : StoredClause = stored_at (stored_clauses s) p in
     let j : StoredClause = record k { header = record k.header { deleted = true } } in
-    let w : with_header (stored_clauses s) p (record h { deleted = true }) ≡ with_stored (stored_clauses s) p j = ap (λ (x : Header). with_header (stored_clauses s) p (record x { deleted = true })) eh in
-    let f : e ≡ with_deleted k.header.tier (length k.literals) d = ee ∙ ap (λ (x : Header). with_deleted x.tier x.len d) eh ∙ ap (λ (x : ℕ). with_deleted k.header.tier x d) ((long-at s p t.sound at).1) in
+    let w : with_header (stored_clauses s) p (record h { deleted = true }) ≡ with_stored (stored_clauses s) p j =
+    ap (λ (x : Header). with_header (stored_clauses s) p (record x { deleted = true })) eh in
+    let f : e ≡ with_deleted k.header.tier (length k.literals) d = ee ∙ ap (λ (x : Header). with_deleted x.tier x.len d) eh
+    ∙ ap (λ (x : ℕ). with_deleted k.header.tier x d) ((long-at s p t.sound at).1) in
     tracks-changed d e s n (length s.words) p j t at (place-is (stored_clauses s) p at) (record { sound = o.sound; words = o.words; clauses = o.clauses ∙ w })
     (subst (λ (x : Database). Adjusts d x p k j) (sym f) (adjusts-deleted d p k live (counted d s p t at live)))
 
-pub tracks-moved : (d e : Database) (s n : Store) (p : ℕ) (h : Header) (to : Tier) → Tracks d s → IsPlace (stored_clauses s) p → (header_at (stored_clauses s) p).deleted ≡ false → h ≡ header_at (stored_clauses s) p → e ≡ with_moved p h.tier to d → HoldsClauses n (length s.words) (with_header (stored_clauses s) p (record h { tier = to })) → Tracks e n
+pub tracks-moved : (d e : Database) (s n : Store) (p : ℕ) (h : Header) (to : Tier) → Tracks d s → IsPlace (stored_clauses s) p →
+    (header_at (stored_clauses s) p).deleted ≡ false → h ≡ header_at (stored_clauses s) p → e ≡ with_moved p h.tier to d →
+    HoldsClauses n (length s.words) (with_header (stored_clauses s) p (record h { tier = to })) → Tracks e n
 tracks-moved d e s n p h to t at live eh ee o =
     let k : StoredClause = stored_at (stored_clauses s) p in
     let j : StoredClause = record k { header = record k.header { tier = to } } in
-    let w : with_header (stored_clauses s) p (record h { tier = to }) ≡ with_stored (stored_clauses s) p j = ap (λ (x : Header). with_header (stored_clauses s) p (record x { tier = to })) eh in
+    let w : with_header (stored_clauses s) p (record h { tier = to }) ≡ with_stored (stored_clauses s) p j =
+    ap (λ (x : Header). with_header (stored_clauses s) p (record x { tier = to })) eh in
     let f : e ≡ with_moved p k.header.tier to d = ee ∙ ap (λ (x : Header). with_moved p x.tier to d) eh in
     tracks-changed d e s n (length s.words) p j t at (place-is (stored_clauses s) p at) (record { sound = o.sound; words = o.words; clauses = o.clauses ∙ w })
     (subst (λ (x : Database). Adjusts d x p k j) (sym f) (adjusts-moved d p k to live (counted d s p t at live)))
 
 -- other literals of a clause, a header of the same tier, or fewer literals
-pub tracks-literals : (d : Database) (s n : Store) (p : ℕ) (c : List ℕ) → Tracks d s → IsPlace (stored_clauses s) p → length c ≡ length (literals_at (stored_clauses s) p) → HoldsClauses n (length s.words) (with_literals (stored_clauses s) p c) → Tracks d n
+pub tracks-literals : (d : Database) (s n : Store) (p : ℕ) (c : List ℕ) → Tracks d s → IsPlace (stored_clauses s) p →
+    length c ≡ length (literals_at (stored_clauses s) p) → HoldsClauses n (length s.words) (with_literals (stored_clauses s) p c) → Tracks d n
 tracks-literals d s n p c t at el o =
     let k : StoredClause = stored_at (stored_clauses s) p in
     let j : StoredClause = record k { literals = c } in
-    tracks-changed d d s n (length s.words) p j t at (place-is (stored_clauses s) p at) (record { sound = o.sound; words = o.words; clauses = o.clauses ∙ sym (literals-clause (stored_clauses s) p c) })
+    tracks-changed d d s n (length s.words) p j t at (place-is (stored_clauses s) p at)
+    (record { sound = o.sound; words = o.words; clauses = o.clauses ∙ sym (literals-clause (stored_clauses s) p c) })
     (adjusts-kept d s p j t at (place-is (stored_clauses s) p at) refl refl (λ e. el))
 
-pub tracks-header : (d : Database) (s n : Store) (p : ℕ) (h : Header) → Tracks d s → IsPlace (stored_clauses s) p → h.tier ≡ (header_at (stored_clauses s) p).tier → h.deleted ≡ (header_at (stored_clauses s) p).deleted → HoldsClauses n (length s.words) (with_header (stored_clauses s) p h) → Tracks d n
+pub tracks-header : (d : Database) (s n : Store) (p : ℕ) (h : Header) → Tracks d s → IsPlace (stored_clauses s) p →
+    h.tier ≡ (header_at (stored_clauses s) p).tier → h.deleted ≡ (header_at (stored_clauses s) p).deleted →
+    HoldsClauses n (length s.words) (with_header (stored_clauses s) p h) → Tracks d n
 tracks-header d s n p h t at et ed o =
     let k : StoredClause = stored_at (stored_clauses s) p in
     tracks-changed d d s n (length s.words) p (record k { header = h }) t at (place-is (stored_clauses s) p at) o
     (adjusts-kept d s p (record k { header = h }) t at (place-is (stored_clauses s) p at) et ed (λ e. refl))
 
-pub tracks-shortened : (d : Database) (s n : Store) (p c : ℕ) → Tracks d s → IsPlace (stored_clauses s) p → (header_at (stored_clauses s) p).deleted ≡ false → HoldsClauses n (length s.words) (shortened (stored_clauses s) p c) → Tracks d n
+pub tracks-shortened : (d : Database) (s n : Store) (p c : ℕ) → Tracks d s → IsPlace (stored_clauses s) p →
+    (header_at (stored_clauses s) p).deleted ≡ false → HoldsClauses n (length s.words) (shortened (stored_clauses s) p c) → Tracks d n
 tracks-shortened d s n p c t at live o =
     let k : StoredClause = stored_at (stored_clauses s) p in
     let j : StoredClause = record { place = p; header = record k.header { len = c }; literals = take c k.literals } in

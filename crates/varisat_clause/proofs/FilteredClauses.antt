@@ -22,7 +22,8 @@ with-length (k ∷ ks) p j =
     (equal_or_not k.place p)
 
 -- what stands at the place of a clause that was altered
-module _ (d : Database) (s n : Store) (p : ℕ) (t : Tracks d s) (at : IsPlace (stored_clauses s) p) (live : (header_at (stored_clauses s) p).deleted ≡ false) (a : Alters s n p) where
+module _ (d : Database) (s n : Store) (p : ℕ) (t : Tracks d s) (at : IsPlace (stored_clauses s) p)
+    (live : (header_at (stored_clauses s) p).deleted ≡ false) (a : Alters s n p) where
   pub altered-stored : stored_at (stored_clauses n) p ≡ a.clause
   altered-stored = ap (λ xs. stored_at xs p) a.is.clauses ∙ clause-same (stored_clauses s) p a.clause at a.place
 
@@ -51,17 +52,21 @@ live-same : (k : StoredClause) → k.header.deleted ≡ false → left_if true k
 live-same k e = sym (ap (λ (b : Bool). record k { header = record k.header { deleted = b } }) e)
 
 -- the clause stays, or it is deleted
-module _ {F : Type 0} (Leaves : F → StoredClause → StoredClause → F → Type 0) (f g : F) (d : Database) (s n : Store) (p : ℕ) (t : Tracks d s) (at : IsPlace (stored_clauses s) p) (live : (header_at (stored_clauses s) p).deleted ≡ false) (a : Alters s n p) where
+module _ {F : Type 0} (Leaves : F → StoredClause → StoredClause → F → Type 0) (f g : F) (d : Database) (s n : Store) (p : ℕ) (t : Tracks d s)
+    (at : IsPlace (stored_clauses s) p) (live : (header_at (stored_clauses s) p).deleted ≡ false) (a : Alters s n p) where
   pub changes-kept : Leaves f (stored_at (stored_clauses s) p) (left_if true (stored_at (stored_clauses n) p)) g → FiltersAt Leaves f g s n p
   changes-kept r = record {
     clause = a.clause;
     place = a.place;
     tier = a.tier;
-    left = subst (λ (x : StoredClause). Leaves f (stored_at (stored_clauses s) p) x g) (ap (left_if true) (altered-stored d s n p t at live a) ∙ live-same a.clause a.live) r;
+    left = subst (λ (x : StoredClause). Leaves f (stored_at (stored_clauses s) p) x g)
+        (ap (left_if true) (altered-stored d s n p t at live a) ∙ live-same a.clause a.live) r;
     is = a.is;
   }
 
-  pub changes-deleted : (u : Store) → Leaves f (stored_at (stored_clauses s) p) (left_if false (stored_at (stored_clauses n) p)) g → HoldsClauses u (length n.words) (with_header (stored_clauses n) p (record (header_at (stored_clauses n) p) { deleted = true })) → FiltersAt Leaves f g s u p
+  pub changes-deleted : (u : Store) → Leaves f (stored_at (stored_clauses s) p) (left_if false (stored_at (stored_clauses n) p)) g →
+      HoldsClauses u (length n.words) (with_header (stored_clauses n) p (record (header_at (stored_clauses n) p) { deleted = true })) →
+      FiltersAt Leaves f g s u p
   changes-deleted u r o =
       let e = altered-stored d s n p t at live a in
       record {
@@ -72,19 +77,22 @@ module _ {F : Type 0} (Leaves : F → StoredClause → StoredClause → F → Ty
         is = record {
           sound = o.sound;
           words = o.words ∙ a.is.words;
-          clauses = o.clauses ∙ ap (λ (x : StoredClause). with_stored (stored_clauses n) p (left_if false x)) e ∙ ap (λ xs. with_stored xs p (left_if false a.clause)) a.is.clauses ∙ clause-twice (stored_clauses s) p a.clause (left_if false a.clause) a.place;
+          clauses = o.clauses ∙ ap (λ (x : StoredClause). with_stored (stored_clauses n) p (left_if false x)) e
+              ∙ ap (λ xs. with_stored xs p (left_if false a.clause)) a.is.clauses ∙ clause-twice (stored_clauses s) p a.clause (left_if false a.clause) a.place;
         };
       }
 
 -- one more clause
-filters-more : {F : Type 0} (Leaves : F → StoredClause → StoredClause → F → Type 0) (f g h : F) (ks js : List StoredClause) (k j : StoredClause) → Filters Leaves f ks js g → FiltersOne Leaves g k j h → Filters Leaves f (ks ++ k ∷ []) (js ++ j ∷ []) h
+filters-more : {F : Type 0} (Leaves : F → StoredClause → StoredClause → F → Type 0) (f g h : F) (ks js : List StoredClause) (k j : StoredClause) →
+    Filters Leaves f ks js g → FiltersOne Leaves g k j h → Filters Leaves f (ks ++ k ∷ []) (js ++ j ∷ []) h
 filters-more Leaves f g h [] [] k j a p = (h, subst (λ x. FiltersOne Leaves x k j h) a p, refl)
 filters-more Leaves f g h [] (x ∷ js) k j a p = absurd a
 filters-more Leaves f g h (y ∷ ks) [] k j a p = absurd a
 filters-more Leaves f g h (y ∷ ks) (x ∷ js) k j (m, q, a) p = (m, q, filters-more Leaves m g h ks js k j a p)
 
 -- the clause behind the first ones
-behind : (xs ys : List StoredClause) → length xs < length (xs ++ ys) → (k : StoredClause) × (zs : List StoredClause) × (ys ≡ k ∷ zs) × (get_or (xs ++ ys) (length xs) no_clause ≡ k)
+behind : (xs ys : List StoredClause) → length xs < length (xs ++ ys) → (k : StoredClause) × (zs : List StoredClause) × (ys ≡ k ∷ zs)
+    × (get_or (xs ++ ys) (length xs) no_clause ≡ k)
 behind [] [] h = absurd (omega (arith, h))
 behind [] (y ∷ ys) h = (y, ys, refl, refl)
 behind (x ∷ xs) ys h = behind xs ys (omega (arith, h))
@@ -108,14 +116,16 @@ length-more : (xs : List StoredClause) (x : StoredClause) → length (xs ++ x �
 length-more [] x = refl
 length-more (y ∷ xs) x = let r = length-more xs x in omega (arith, r)
 
-filters-length : {F : Type 0} (Leaves : F → StoredClause → StoredClause → F → Type 0) (f g : F) (ks js : List StoredClause) → Filters Leaves f ks js g → length js ≡ length ks
+filters-length : {F : Type 0} (Leaves : F → StoredClause → StoredClause → F → Type 0) (f g : F) (ks js : List StoredClause) →
+    Filters Leaves f ks js g → length js ≡ length ks
 filters-length Leaves f g [] [] a = refl
 filters-length Leaves f g [] (x ∷ js) a = absurd a
 filters-length Leaves f g (y ∷ ks) [] a = absurd a
 filters-length Leaves f g (y ∷ ks) (x ∷ js) (m, q, a) = ap suc (filters-length Leaves m g ks js a)
 
 -- how far a filter has come: it left the clauses `left` of the first ones, and has still to come to the rest
-pub record IsFiltering {F : Type 0} (Leaves : F → StoredClause → StoredClause → F → Type 0) (Accepts : F → StoredClause → Type 0) (f g : F) (s t : Store) (d : Database) (i : ℕ) : Type 0 where
+pub record IsFiltering {F : Type 0} (Leaves : F → StoredClause → StoredClause → F → Type 0) (Accepts : F → StoredClause → Type 0) (f g : F)
+    (s t : Store) (d : Database) (i : ℕ) : Type 0 where
   pub first : List StoredClause
   pub rest : List StoredClause
   pub left : List StoredClause
@@ -128,7 +138,8 @@ pub record IsFiltering {F : Type 0} (Leaves : F → StoredClause → StoredClaus
   pub accepted : (k : StoredClause) → k ∈ rest → is_live k ≡ true → Accepts g k
   pub tracks : Tracks d t
 
-pub filtering-none : {F : Type 0} (Leaves : F → StoredClause → StoredClause → F → Type 0) (Accepts : F → StoredClause → Type 0) (f : F) (s : Store) (d : Database) → Tracks d s → ((k : StoredClause) → k ∈ stored_clauses s → is_live k ≡ true → Accepts f k) → IsFiltering Leaves Accepts f f s s d 0
+pub filtering-none : {F : Type 0} (Leaves : F → StoredClause → StoredClause → F → Type 0) (Accepts : F → StoredClause → Type 0) (f : F) (s : Store)
+    (d : Database) → Tracks d s → ((k : StoredClause) → k ∈ stored_clauses s → is_live k ≡ true → Accepts f k) → IsFiltering Leaves Accepts f f s s d 0
 filtering-none Leaves Accepts f s d t a = record {
   first = [];
   rest = stored_clauses s;
@@ -143,7 +154,8 @@ filtering-none Leaves Accepts f s d t a = record {
   tracks = t;
 }
 
-module _ {F : Type 0} (Leaves : F → StoredClause → StoredClause → F → Type 0) (Accepts : F → StoredClause → Type 0) (f g : F) (s t : Store) (d : Database) (i p : ℕ) (m : IsFiltering Leaves Accepts f g s t d i) where
+module _ {F : Type 0} (Leaves : F → StoredClause → StoredClause → F → Type 0) (Accepts : F → StoredClause → Type 0) (f g : F) (s t : Store)
+    (d : Database) (i p : ℕ) (m : IsFiltering Leaves Accepts f g s t d i) where
   pub filtering-stopped : StopsWithin Leaves f (stored_clauses s) (stored_clauses t)
   filtering-stopped = record { first = m.first; rest = m.rest; left = m.left; filter = g; old = m.old; filtered = m.filtered; new = m.new }
 
@@ -166,7 +178,8 @@ module _ {F : Type 0} (Leaves : F → StoredClause → StoredClause → F → Ty
         let b = ap length m.new in
         let l : i < length t.places = omega (arith, h, m.places) in
         let (k, zs, r, q) = behind m.left m.rest (omega (arith, l, a, b, m.index)) in
-        let c : get_or (stored_clauses t) i no_clause ≡ k = ap (λ xs. get_or xs i no_clause) m.new ∙ ap (λ (n : ℕ). get_or (m.left ++ m.rest) n no_clause) m.index ∙ q in
+        let c : get_or (stored_clauses t) i no_clause ≡ k = ap (λ xs. get_or xs i no_clause) m.new
+        ∙ ap (λ (n : ℕ). get_or (m.left ++ m.rest) n no_clause) m.index ∙ q in
         let o : p ≡ k.place = e ∙ sym (ap (λ (x : StoredClause). x.place) (place-of t.words t.places i l)) ∙ ap (λ (x : StoredClause). x.place) c in
         (k, zs, r, sym (clause-of-index t i p l e) ∙ c, o)
 
@@ -176,11 +189,14 @@ module _ {F : Type 0} (Leaves : F → StoredClause → StoredClause → F → Ty
         m.accepted (stored_at (stored_clauses t) p) (subst (λ xs. stored_at (stored_clauses t) p ∈ xs) (sym r) (inl c)) (rw live refl)
 
     -- it was passed
-    pub filtering-more : (j : StoredClause) (o : F) (u : Store) (b : Database) → FiltersOne Leaves g (stored_at (stored_clauses t) p) j o → HoldsClauses u (length t.words) (with_stored (stored_clauses t) p j) → ((k : StoredClause) → Accepts g k → Accepts o k) → Tracks b u → IsFiltering Leaves Accepts f o s u b (i + 1)
+    pub filtering-more : (j : StoredClause) (o : F) (u : Store) (b : Database) → FiltersOne Leaves g (stored_at (stored_clauses t) p) j o →
+        HoldsClauses u (length t.words) (with_stored (stored_clauses t) p j) → ((k : StoredClause) → Accepts g k → Accepts o k) → Tracks b u →
+        IsFiltering Leaves Accepts f o s u b (i + 1)
     filtering-more j o u b q w more t2 =
         let (k, zs, r, c, at) = next-clause in
         let is : stored_clauses t ≡ m.left ++ k ∷ zs = m.new ∙ ap (λ xs. m.left ++ xs) r in
-        let new : stored_clauses u ≡ m.left ++ j ∷ zs = w.clauses ∙ ap (λ (x : ℕ). with_stored (stored_clauses t) x j) at ∙ ap (λ xs. with_stored xs k.place j) is ∙ with-behind m.left zs k j (subst AreRising is (are-rising t m.tracks.sound)) in
+        let new : stored_clauses u ≡ m.left ++ j ∷ zs = w.clauses ∙ ap (λ (x : ℕ). with_stored (stored_clauses t) x j) at
+        ∙ ap (λ xs. with_stored xs k.place j) is ∙ with-behind m.left zs k j (subst AreRising is (are-rising t m.tracks.sound)) in
         record {
           first = m.first ++ k ∷ [];
           rest = zs;
@@ -207,6 +223,7 @@ module _ {F : Type 0} (Leaves : F → StoredClause → StoredClause → F → Ty
         (record { sound = m.tracks.sound; words = refl; clauses = sym (clause-self (stored_clauses t) p) }) (λ k a. a) m.tracks
 
     -- the filter came to it
-    pub filtering-on : (o : F) (u : Store) (b : Database) → IsPlace (stored_clauses t) p → (header_at (stored_clauses t) p).deleted ≡ false → FiltersAt Leaves g o t u p → ((k : StoredClause) → Accepts g k → Accepts o k) → Tracks b u → IsFiltering Leaves Accepts f o s u b (i + 1)
+    pub filtering-on : (o : F) (u : Store) (b : Database) → IsPlace (stored_clauses t) p → (header_at (stored_clauses t) p).deleted ≡ false →
+        FiltersAt Leaves g o t u p → ((k : StoredClause) → Accepts g k → Accepts o k) → Tracks b u → IsFiltering Leaves Accepts f o s u b (i + 1)
     filtering-on o u b at live w more t2 =
         filtering-more w.clause o u b (ComesTo live (w.place ∙ sym (place-is (stored_clauses t) p at)) w.tier w.left) w.is more t2

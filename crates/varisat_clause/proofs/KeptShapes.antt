@@ -21,11 +21,14 @@ pub shapes-with : (ks : List StoredClause) (p : ℕ) (c : Clause) → length c �
 shapes-with [] p c e = refl
 shapes-with (k ∷ ks) p c e =
     ⊎_elim
-    (λ h. ap shapes_of (with-here k ks p c h) ∙ ap (λ (n : ℕ). record { place = k.place; header = k.header; count = n } ∷ shapes_of ks) (e ∙ ap (λ (x : StoredClause). length x.literals) (stored-here k ks p h)))
-    (λ n. ap shapes_of (with-later k ks p c n) ∙ ap (λ xs. shape_of k ∷ xs) (shapes-with ks p c (e ∙ ap (λ (x : StoredClause). length x.literals) (stored-later k ks p n))))
+    (λ h. ap shapes_of (with-here k ks p c h) ∙ ap (λ (n : ℕ). record { place = k.place; header = k.header; count = n } ∷ shapes_of ks)
+    (e ∙ ap (λ (x : StoredClause). length x.literals) (stored-here k ks p h)))
+    (λ n. ap shapes_of (with-later k ks p c n) ∙ ap (λ xs. shape_of k ∷ xs)
+    (shapes-with ks p c (e ∙ ap (λ (x : StoredClause). length x.literals) (stored-later k ks p n))))
     (equal_or_not k.place p)
 
-pub shapes-changed : (s n : Store) (size p : ℕ) (c : Clause) → length c ≡ length (literals_at (stored_clauses s) p) → HoldsClauses n size (with_literals (stored_clauses s) p c) → KeepsShapes s n
+pub shapes-changed : (s n : Store) (size p : ℕ) (c : Clause) → length c ≡ length (literals_at (stored_clauses s) p) →
+    HoldsClauses n size (with_literals (stored_clauses s) p c) → KeepsShapes s n
 shapes-changed s n size p c e h = ap shapes_of h.clauses ∙ shapes-with (stored_clauses s) p c e
 
 -- the shape of each clause is among the shapes, and each of these is that of a clause
@@ -40,7 +43,8 @@ pub ∈-shapes : (ks : List StoredClause) (x : ClauseShape) → x ∈ shapes_of 
 ∈-shapes (k ∷ ks) x (inr h) = let (j, i, e) = ∈-shapes ks x h in (j, inr i, e)
 
 -- each clause has the shape of one of the others
-pub shape-found : (ks js : List StoredClause) (k : StoredClause) → shapes_of ks ≡ shapes_of js → k ∈ ks → (j : StoredClause) × (j ∈ js) × (shape_of k ≡ shape_of j)
+pub shape-found : (ks js : List StoredClause) (k : StoredClause) → shapes_of ks ≡ shapes_of js → k ∈ ks → (j : StoredClause) × (j ∈ js)
+    × (shape_of k ≡ shape_of j)
 shape-found ks js k e h = ∈-shapes js (shape_of k) (subst (λ xs. shape_of k ∈ xs) e (shape-∈ ks k h))
 
 pub shape-place : (ks js : List StoredClause) (p : ℕ) → shapes_of ks ≡ shapes_of js → IsPlace ks p → IsPlace js p
@@ -55,7 +59,8 @@ total-shapes : (w : ClauseShape → ℕ) (ks : List StoredClause) → total (λ 
 total-shapes w [] = refl
 total-shapes w (k ∷ ks) = ap (λ n. w (shape_of k) + n) (total-shapes w ks)
 
-pub total-same : (w : ClauseShape → ℕ) (ks js : List StoredClause) → shapes_of ks ≡ shapes_of js → total (λ k. w (shape_of k)) ks ≡ total (λ k. w (shape_of k)) js
+pub total-same : (w : ClauseShape → ℕ) (ks js : List StoredClause) → shapes_of ks ≡ shapes_of js →
+    total (λ k. w (shape_of k)) ks ≡ total (λ k. w (shape_of k)) js
 total-same w ks js e = total-shapes w ks ∙ ap (shape-total w) e ∙ sym (total-shapes w js)
 
 pub tracks-shapes : (d : Database) (s t : Store) → Tracks d s → IsSound t → KeepsShapes s t → Tracks d t

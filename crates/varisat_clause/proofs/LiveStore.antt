@@ -24,14 +24,16 @@ live-∈ [] k h = absurd h
 live-∈ (j ∷ ks) k h =
     ⊎_elim
     (λ d. let (i, e) = live-∈ ks k (subst (λ xs. k ∈ xs) (live-later j ks d) h) in (inr i, e))
-    (λ d. ⊎_elim (λ e. (inl e, ap (λ (x : StoredClause). x.header.deleted) e ∙ d)) (λ m. let (i, e) = live-∈ ks k m in (inr i, e)) (subst (λ xs. k ∈ xs) (live-here j ks d) h))
+    (λ d. ⊎_elim (λ e. (inl e, ap (λ (x : StoredClause). x.header.deleted) e ∙ d)) (λ m. let (i, e) = live-∈ ks k m in (inr i, e))
+    (subst (λ xs. k ∈ xs) (live-here j ks d) h))
     (true-or-false j.header.deleted)
 
 pub ∈-live : (ks : List StoredClause) (k : StoredClause) → k ∈ ks → k.header.deleted ≡ false → k ∈ live_of ks
 ∈-live [] k h e = absurd h
 ∈-live (j ∷ ks) k h e =
     ⊎_elim
-    (λ d. subst (λ xs. k ∈ xs) (sym (live-later j ks d)) (⊎_elim (λ f. absurd (let g : true ≡ false = sym d ∙ sym (ap (λ (x : StoredClause). x.header.deleted) f) ∙ e in cc)) (λ i. ∈-live ks k i e) h))
+    (λ d. subst (λ xs. k ∈ xs) (sym (live-later j ks d))
+    (⊎_elim (λ f. absurd (let g : true ≡ false = sym d ∙ sym (ap (λ (x : StoredClause). x.header.deleted) f) ∙ e in cc)) (λ i. ∈-live ks k i e) h))
     (λ d. subst (λ xs. k ∈ xs) (sym (live-here j ks d)) (⊎_elim inl (λ i. inr (∈-live ks k i e)) h))
     (true-or-false j.header.deleted)
 
@@ -58,19 +60,25 @@ live-at (j ∷ ks) p r h =
     ap (λ xs. stored_at xs p) (live-later j ks d) ∙ live-at ks p r.1 i ∙ sym (stored-later j ks p (passed j ks p r i)))
     (λ d. ap (λ xs. stored_at xs p) (live-here j ks d) ∙ ⊎_elim
     (λ e. stored-here j (live_of ks) p e ∙ sym (stored-here j ks p e))
-    (λ n. stored-later j (live_of ks) p n ∙ live-at ks p r.1 (place-later j (live_of ks) p (subst (λ xs. IsPlace xs p) (live-here j ks d) h) n) ∙ sym (stored-later j ks p n))
+    (λ n. stored-later j (live_of ks) p n ∙ live-at ks p r.1 (place-later j (live_of ks) p (subst (λ xs. IsPlace xs p) (live-here j ks d) h) n)
+    ∙ sym (stored-later j ks p n))
     (equal_or_not j.place p))
     (true-or-false j.header.deleted)
 
-live-with : (ks : List StoredClause) (p : ℕ) (c : Clause) → AreRising ks → IsPlace (live_of ks) p → live_of (with_literals ks p c) ≡ with_literals (live_of ks) p c
+live-with : (ks : List StoredClause) (p : ℕ) (c : Clause) → AreRising ks → IsPlace (live_of ks) p →
+    live_of (with_literals ks p c) ≡ with_literals (live_of ks) p c
 live-with [] p c r (k, h, e) = absurd h
 live-with (j ∷ ks) p c r h =
     ⊎_elim
     (λ d. let i = subst (λ xs. IsPlace xs p) (live-later j ks d) h in
-    ap live_of (with-later j ks p c (passed j ks p r i)) ∙ live-later j (with_literals ks p c) d ∙ live-with ks p c r.1 i ∙ sym (ap (λ xs. with_literals xs p c) (live-later j ks d)))
+    ap live_of (with-later j ks p c (passed j ks p r i)) ∙ live-later j (with_literals ks p c) d ∙ live-with ks p c r.1 i
+    ∙ sym (ap (λ xs. with_literals xs p c) (live-later j ks d)))
     (λ d. ⊎_elim
-    (λ e. ap live_of (with-here j ks p c e) ∙ live-here (record j { literals = c }) ks d ∙ sym (with-here j (live_of ks) p c e) ∙ sym (ap (λ xs. with_literals xs p c) (live-here j ks d)))
-    (λ n. ap live_of (with-later j ks p c n) ∙ live-here j (with_literals ks p c) d ∙ ap (λ xs. j ∷ xs) (live-with ks p c r.1 (place-later j (live_of ks) p (subst (λ xs. IsPlace xs p) (live-here j ks d) h) n)) ∙ sym (with-later j (live_of ks) p c n) ∙ sym (ap (λ xs. with_literals xs p c) (live-here j ks d)))
+    (λ e. ap live_of (with-here j ks p c e) ∙ live-here (record j { literals = c }) ks d ∙ sym (with-here j (live_of ks) p c e)
+    ∙ sym (ap (λ xs. with_literals xs p c) (live-here j ks d)))
+    (λ n. ap live_of (with-later j ks p c n) ∙ live-here j (with_literals ks p c) d
+    ∙ ap (λ xs. j ∷ xs) (live-with ks p c r.1 (place-later j (live_of ks) p (subst (λ xs. IsPlace xs p) (live-here j ks d) h) n))
+    ∙ sym (with-later j (live_of ks) p c n) ∙ sym (ap (λ xs. with_literals xs p c) (live-here j ks d)))
     (equal_or_not j.place p))
     (true-or-false j.header.deleted)
 
@@ -83,7 +91,8 @@ module _ (s : Store) (p : ℕ) (ok : IsSound s) (h : IsPlace (live_clauses s) p)
   live-literals = ap (λ (k : StoredClause). k.literals) live-stored
 
   -- its literals were changed
-  pub live-changed : (n : Store) (size : ℕ) (c : Clause) → HoldsClauses n size (with_literals (stored_clauses s) p c) → live_clauses n ≡ with_literals (live_clauses s) p c
+  pub live-changed : (n : Store) (size : ℕ) (c : Clause) → HoldsClauses n size (with_literals (stored_clauses s) p c) →
+      live_clauses n ≡ with_literals (live_clauses s) p c
   live-changed n size c w = ap live_of w.clauses ∙ live-with (stored_clauses s) p c (are-rising s ok) h
 
 pub are-live-rising : (s : Store) → IsSound s → AreRising (live_clauses s)

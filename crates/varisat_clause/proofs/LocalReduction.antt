@@ -34,7 +34,8 @@ live-not-deleted t k e = go k.header.deleted (is_tier t k.header.tier) e
     go true b f = absurd (cc)
     go false b f = refl
 
-pub reducing-none : (t : Tier) (s : Store) (n : ℕ) (ps : List ℕ) → ListsTier t (stored_clauses s) ps → IsReducing (all_deleted (unmarked_places (stored_clauses s) n ps) (stored_clauses s)) s s n ps
+pub reducing-none : (t : Tier) (s : Store) (n : ℕ) (ps : List ℕ) → ListsTier t (stored_clauses s) ps →
+    IsReducing (all_deleted (unmarked_places (stored_clauses s) n ps) (stored_clauses s)) s s n ps
 reducing-none t s n ps l = record {
   size = refl;
   marks = λ q. refl;
@@ -45,7 +46,8 @@ reducing-none t s n ps l = record {
 }
 
 -- the next one stays
-pub reducing-kept : (goal : List StoredClause) (s t : Store) (left p : ℕ) (ps : List ℕ) → IsReducing goal s t left (p ∷ ps) → (left ≡ 0) ⊎ ((header_at (stored_clauses t) p).mark ≡ true) → IsReducing goal s t left ps
+pub reducing-kept : (goal : List StoredClause) (s t : Store) (left p : ℕ) (ps : List ℕ) → IsReducing goal s t left (p ∷ ps) → (left ≡ 0)
+    ⊎ ((header_at (stored_clauses t) p).mark ≡ true) → IsReducing goal s t left ps
 reducing-kept goal s t left p ps r h = record {
   size = r.size;
   marks = r.marks;
@@ -59,40 +61,48 @@ reducing-kept goal s t left p ps r h = record {
     none zero e = sym (unmarked-none (stored_clauses s) ps)
     none (suc n) e = absurd (omega (arith, e))
 
-    passed : (left : ℕ) → (header_at (stored_clauses t) p).mark ≡ true → unmarked_places (stored_clauses s) left (p ∷ ps) ≡ unmarked_places (stored_clauses s) left ps
+    passed : (left : ℕ) → (header_at (stored_clauses t) p).mark ≡ true →
+        unmarked_places (stored_clauses s) left (p ∷ ps) ≡ unmarked_places (stored_clauses s) left ps
     passed zero e = sym (unmarked-none (stored_clauses s) ps)
     passed (suc n) e = ap (λ b. cond b (unmarked_places (stored_clauses s) (suc n) ps) (p ∷ unmarked_places (stored_clauses s) n ps)) (sym (r.marks p) ∙ e)
 
-    same : (left : ℕ) → (left ≡ 0) ⊎ ((header_at (stored_clauses t) p).mark ≡ true) → unmarked_places (stored_clauses s) left (p ∷ ps) ≡ unmarked_places (stored_clauses s) left ps
+    same : (left : ℕ) → (left ≡ 0) ⊎ ((header_at (stored_clauses t) p).mark ≡ true) →
+        unmarked_places (stored_clauses s) left (p ∷ ps) ≡ unmarked_places (stored_clauses s) left ps
     same left k = ⊎_elim (none left) (passed left) k
 
 -- the next one is deleted
-pub reducing-deleted : (goal : List StoredClause) (s t u : Store) (left p : ℕ) (ps : List ℕ) → IsReducing goal s t left (p ∷ ps) → 0 < left → (header_at (stored_clauses t) p).mark ≡ false → HoldsClauses u (length t.words) (deleted_at (stored_clauses t) p) → IsReducing goal s u (left - 1) ps
+pub reducing-deleted : (goal : List StoredClause) (s t u : Store) (left p : ℕ) (ps : List ℕ) → IsReducing goal s t left (p ∷ ps) → 0 < left →
+    (header_at (stored_clauses t) p).mark ≡ false → HoldsClauses u (length t.words) (deleted_at (stored_clauses t) p) → IsReducing goal s u (left - 1) ps
 reducing-deleted goal s t u zero p ps r l m o = absurd (omega (arith, l))
 reducing-deleted goal s t u (suc n) p ps r l m o =
     let k : StoredClause = stored_at (stored_clauses t) p in
     let j : StoredClause = record k { header = record k.header { deleted = true } } in
     let at = r.known p (inl refl) in
     let here : j.place ≡ p = place-is (stored_clauses t) p at in
-    let other : (q : ℕ) → q ≢ p → stored_at (stored_clauses u) q ≡ stored_at (stored_clauses t) q = λ q e. ap (λ xs. stored_at xs q) o.clauses ∙ clause-other (stored_clauses t) p q j here e in
+    let other : (q : ℕ) → q ≢ p → stored_at (stored_clauses u) q ≡ stored_at (stored_clauses t) q = λ q e. ap (λ xs. stored_at xs q) o.clauses
+    ∙ clause-other (stored_clauses t) p q j here e in
     let not-here : (q : ℕ) → q ∈ ps → q ≢ p = λ q i e. r.distinct.0 (subst (λ (x : ℕ). x ∈ ps) e i) in
     let less : n ≡ suc n - 1 = omega arith in
     subst (λ (x : ℕ). IsReducing goal s u x ps) less (record {
       size = o.words ∙ r.size;
       marks = λ q. ⊎_elim
-          (λ e. ap (λ (x : ℕ). (header_at (stored_clauses u) x).mark) e ∙ ap (λ xs. (header_at xs p).mark) o.clauses ∙ ap (λ (x : StoredClause). x.header.mark) (clause-same (stored_clauses t) p j at here) ∙ sym (ap (λ (x : ℕ). (header_at (stored_clauses t) x).mark) e) ∙ r.marks q)
+          (λ e. ap (λ (x : ℕ). (header_at (stored_clauses u) x).mark) e ∙ ap (λ xs. (header_at xs p).mark) o.clauses
+          ∙ ap (λ (x : StoredClause). x.header.mark) (clause-same (stored_clauses t) p j at here)
+          ∙ sym (ap (λ (x : ℕ). (header_at (stored_clauses t) x).mark) e) ∙ r.marks q)
           (λ e. ap (λ (x : StoredClause). x.header.mark) (other q e) ∙ r.marks q)
           (equal_or_not q p);
       known = λ q i. subst (λ xs. IsPlace xs q) (sym o.clauses) (clause-place (stored_clauses t) p q j here (r.known q (inr i)));
       live = λ q i. ap (λ (x : StoredClause). x.header.deleted) (other q (not-here q i)) ∙ r.live q (inr i);
       distinct = r.distinct.1;
       result =
-          let v : unmarked_places (stored_clauses s) (suc n) (p ∷ ps) ≡ p ∷ unmarked_places (stored_clauses s) n ps = ap (λ b. cond b (unmarked_places (stored_clauses s) (suc n) ps) (p ∷ unmarked_places (stored_clauses s) n ps)) (sym (r.marks p) ∙ m) in
+          let v : unmarked_places (stored_clauses s) (suc n) (p ∷ ps) ≡ p ∷ unmarked_places (stored_clauses s) n ps =
+          ap (λ b. cond b (unmarked_places (stored_clauses s) (suc n) ps) (p ∷ unmarked_places (stored_clauses s) n ps)) (sym (r.marks p) ∙ m) in
           ap (λ xs. all_deleted (unmarked_places (stored_clauses s) n ps) xs) o.clauses ∙ sym (ap (λ xs. all_deleted xs (stored_clauses t)) v) ∙ r.result;
     })
 
 -- none is left
-pub reducing-done : (goal : List StoredClause) (s t : Store) (left : ℕ) (rest : List ℕ) → rest ≡ [] → IsSound t → IsReducing goal s t left rest → HoldsClauses t (length s.words) goal
+pub reducing-done : (goal : List StoredClause) (s t : Store) (left : ℕ) (rest : List ℕ) → rest ≡ [] → IsSound t → IsReducing goal s t left rest →
+    HoldsClauses t (length s.words) goal
 reducing-done goal s t left rest e ok r = record {
   sound = ok;
   words = r.size;

@@ -29,20 +29,24 @@ later-above k ks i r h = r.0 (get_or ks i no_clause) (inside ks i h)
 
 module _ (f : StoredClause → StoredClause) (places : (k : StoredClause) → (f k).place ≡ k.place) where
   -- the clause of the index is not changed yet
-  pub mapped-at : (i : ℕ) (ks : List StoredClause) → i < length ks → AreRising ks → stored_at (mapped_up_to f i ks) (get_or ks i no_clause).place ≡ get_or ks i no_clause
+  pub mapped-at : (i : ℕ) (ks : List StoredClause) → i < length ks → AreRising ks →
+      stored_at (mapped_up_to f i ks) (get_or ks i no_clause).place ≡ get_or ks i no_clause
   mapped-at i [] h r = absurd (omega (arith, h))
   mapped-at zero (k ∷ ks) h r = stored-here k ks k.place refl
   mapped-at (suc i) (k ∷ ks) h r =
       let l = later-above k ks i r (omega (arith, h)) in
-      stored-later (f k) (mapped_up_to f i ks) (get_or ks i no_clause).place (λ e. let q = places k in absurd (omega (arith, e, l, q))) ∙ mapped-at i ks (omega (arith, h)) r.1
+      stored-later (f k) (mapped_up_to f i ks) (get_or ks i no_clause).place (λ e. let q = places k in absurd (omega (arith, e, l, q)))
+      ∙ mapped-at i ks (omega (arith, h)) r.1
 
   -- one more is changed
-  pub mapped-next : (i : ℕ) (ks : List StoredClause) → i < length ks → AreRising ks → with_stored (mapped_up_to f i ks) (get_or ks i no_clause).place (f (get_or ks i no_clause)) ≡ mapped_up_to f (suc i) ks
+  pub mapped-next : (i : ℕ) (ks : List StoredClause) → i < length ks → AreRising ks →
+      with_stored (mapped_up_to f i ks) (get_or ks i no_clause).place (f (get_or ks i no_clause)) ≡ mapped_up_to f (suc i) ks
   mapped-next i [] h r = absurd (omega (arith, h))
   mapped-next zero (k ∷ ks) h r = clause-here k ks k.place (f k) refl
   mapped-next (suc i) (k ∷ ks) h r =
       let l = later-above k ks i r (omega (arith, h)) in
-      clause-later (f k) (mapped_up_to f i ks) (get_or ks i no_clause).place (f (get_or ks i no_clause)) (λ e. let q = places k in absurd (omega (arith, e, l, q))) ∙ ap (λ xs. f k ∷ xs) (mapped-next i ks (omega (arith, h)) r.1)
+      clause-later (f k) (mapped_up_to f i ks) (get_or ks i no_clause).place (f (get_or ks i no_clause))
+      (λ e. let q = places k in absurd (omega (arith, e, l, q))) ∙ ap (λ xs. f k ∷ xs) (mapped-next i ks (omega (arith, h)) r.1)
 
 -- the store whose first i clauses are changed
 pub record IsMapped (f : StoredClause → StoredClause) (s t : Store) (i : ℕ) : Type 0 where
@@ -53,23 +57,30 @@ pub mapped-none : (f : StoredClause → StoredClause) (s : Store) → IsSound s 
 mapped-none f s ok = record { store = record { sound = ok; words = refl; clauses = refl }; places = refl }
 
 -- the place of an index
-pub mapped-place : (f : StoredClause → StoredClause) (s t : Store) (i p : ℕ) → ((k : StoredClause) → (f k).place ≡ k.place) → i < length s.places → IsMapped f s t i → p ≡ get_or t.places i 0 → p ≡ (get_or (stored_clauses s) i no_clause).place
+pub mapped-place : (f : StoredClause → StoredClause) (s t : Store) (i p : ℕ) → ((k : StoredClause) → (f k).place ≡ k.place) → i < length s.places →
+    IsMapped f s t i → p ≡ get_or t.places i 0 → p ≡ (get_or (stored_clauses s) i no_clause).place
 mapped-place f s t i p places h m e =
     let l : i < length t.places = omega (arith, h, m.places) in
-    e ∙ sym (ap (λ (x : StoredClause). x.place) (place-of t.words t.places i l)) ∙ ap (λ xs. (get_or xs i no_clause).place) (m.store.clauses) ∙ unchanged f i (stored_clauses s)
+    e ∙ sym (ap (λ (x : StoredClause). x.place) (place-of t.words t.places i l)) ∙ ap (λ xs. (get_or xs i no_clause).place) (m.store.clauses)
+    ∙ unchanged f i (stored_clauses s)
   where
-    unchanged : (f : StoredClause → StoredClause) (i : ℕ) (ks : List StoredClause) → (get_or (mapped_up_to f i ks) i no_clause).place ≡ (get_or ks i no_clause).place
+    unchanged : (f : StoredClause → StoredClause) (i : ℕ) (ks : List StoredClause) →
+        (get_or (mapped_up_to f i ks) i no_clause).place ≡ (get_or ks i no_clause).place
     unchanged f zero ks = refl
     unchanged f (suc i) [] = refl
     unchanged f (suc i) (k ∷ ks) = unchanged f i ks
 
 -- the clause there, and the store after it was changed
-pub mapped-stored : (f : StoredClause → StoredClause) (s t : Store) (i p : ℕ) → ((k : StoredClause) → (f k).place ≡ k.place) → IsSound s → i < length s.places → IsMapped f s t i → p ≡ get_or t.places i 0 → stored_at (stored_clauses t) p ≡ get_or (stored_clauses s) i no_clause
+pub mapped-stored : (f : StoredClause → StoredClause) (s t : Store) (i p : ℕ) → ((k : StoredClause) → (f k).place ≡ k.place) → IsSound s →
+    i < length s.places → IsMapped f s t i → p ≡ get_or t.places i 0 → stored_at (stored_clauses t) p ≡ get_or (stored_clauses s) i no_clause
 mapped-stored f s t i p places ok h m e =
     let n = length-places s.words s.places in
-    ap (λ ks. stored_at ks p) m.store.clauses ∙ ap (stored_at (mapped_up_to f i (stored_clauses s))) (mapped-place f s t i p places h m e) ∙ mapped-at f places i (stored_clauses s) (omega (arith, h, n)) (are-rising s ok)
+    ap (λ ks. stored_at ks p) m.store.clauses ∙ ap (stored_at (mapped_up_to f i (stored_clauses s))) (mapped-place f s t i p places h m e)
+    ∙ mapped-at f places i (stored_clauses s) (omega (arith, h, n)) (are-rising s ok)
 
-pub mapped-more : (f : StoredClause → StoredClause) (s t u : Store) (i p : ℕ) (j : StoredClause) → ((k : StoredClause) → (f k).place ≡ k.place) → IsSound s → i < length s.places → IsMapped f s t i → p ≡ get_or t.places i 0 → j ≡ f (stored_at (stored_clauses t) p) → HoldsClauses u (length t.words) (with_stored (stored_clauses t) p j) → IsMapped f s u (i + 1)
+pub mapped-more : (f : StoredClause → StoredClause) (s t u : Store) (i p : ℕ) (j : StoredClause) → ((k : StoredClause) → (f k).place ≡ k.place) →
+    IsSound s → i < length s.places → IsMapped f s t i → p ≡ get_or t.places i 0 → j ≡ f (stored_at (stored_clauses t) p) →
+    HoldsClauses u (length t.words) (with_stored (stored_clauses t) p j) → IsMapped f s u (i + 1)
 mapped-more f s t u i p j places ok h m e q o =
     let n = length-places s.words s.places in
     let at = mapped-place f s t i p places h m e in
@@ -91,17 +102,21 @@ mapped-more f s t u i p j places ok h m e q o =
     }
 
 -- a clause that stays as it is
-pub mapped-same : (f : StoredClause → StoredClause) (s t : Store) (i p : ℕ) → ((k : StoredClause) → (f k).place ≡ k.place) → IsSound s → i < length s.places → IsMapped f s t i → p ≡ get_or t.places i 0 → f (stored_at (stored_clauses t) p) ≡ stored_at (stored_clauses t) p → with_stored (stored_clauses t) p (stored_at (stored_clauses t) p) ≡ stored_clauses t → IsMapped f s t (i + 1)
+pub mapped-same : (f : StoredClause → StoredClause) (s t : Store) (i p : ℕ) → ((k : StoredClause) → (f k).place ≡ k.place) → IsSound s →
+    i < length s.places → IsMapped f s t i → p ≡ get_or t.places i 0 → f (stored_at (stored_clauses t) p) ≡ stored_at (stored_clauses t) p →
+    with_stored (stored_clauses t) p (stored_at (stored_clauses t) p) ≡ stored_clauses t → IsMapped f s t (i + 1)
 mapped-same f s t i p places ok h m e q o =
     mapped-more f s t t i p (stored_at (stored_clauses t) p) places ok h m e (sym q) (record { sound = m.store.sound; words = refl; clauses = sym o })
 
-pub mapped-done : (f : StoredClause → StoredClause) (s t : Store) (i : ℕ) → length s.places ≤ i → IsMapped f s t i → HoldsClauses t (length s.words) (map f (stored_clauses s))
+pub mapped-done : (f : StoredClause → StoredClause) (s t : Store) (i : ℕ) → length s.places ≤ i → IsMapped f s t i →
+    HoldsClauses t (length s.words) (map f (stored_clauses s))
 mapped-done f s t i h m =
     let n = length-places s.words s.places in
     record { sound = m.store.sound; words = m.store.words; clauses = m.store.clauses ∙ mapped-all f i (stored_clauses s) (omega (arith, h, n)) }
 
 -- a place stays one
-pub mapped-known : (f : StoredClause → StoredClause) (ks : List StoredClause) (p : ℕ) → ((k : StoredClause) → (f k).place ≡ k.place) → IsPlace ks p → IsPlace (map f ks) p
+pub mapped-known : (f : StoredClause → StoredClause) (ks : List StoredClause) (p : ℕ) → ((k : StoredClause) → (f k).place ≡ k.place) →
+    IsPlace ks p → IsPlace (map f ks) p
 mapped-known f [] p places h = h
 mapped-known f (k ∷ ks) p places (j, inl e, q) = (f k, inl refl, places k ∙ sym (ap (λ (x : StoredClause). x.place) e) ∙ q)
 mapped-known f (k ∷ ks) p places (j, inr i, q) = let (x, m, r) = mapped-known f ks p places (j, i, q) in (x, inr m, r)

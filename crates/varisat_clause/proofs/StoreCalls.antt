@@ -60,7 +60,9 @@ module _ (ws : List ℕ) (p : ℕ) (h : Header) (room : p + 2 < length ws) where
   written-length = simp length-set
 
 -- a header of the same length is written
-pub header-put : (s n : Store) (p o : ℕ) (w : List ℕ) (h : Header) → IsSound s → IsPlace (stored_clauses s) p → w ≡ s.words → o ≡ p → h.len ≡ (header_at (stored_clauses s) p).len → flags_of h < 2 ^ 11 → header_of_words h.activity (flags_of h) h.len ≡ h → n.words ≡ header_written w o h → n.places ≡ s.places → HoldsClauses n (length s.words) (with_header (stored_clauses s) p h)
+pub header-put : (s n : Store) (p o : ℕ) (w : List ℕ) (h : Header) → IsSound s → IsPlace (stored_clauses s) p → w ≡ s.words → o ≡ p →
+    h.len ≡ (header_at (stored_clauses s) p).len → flags_of h < 2 ^ 11 → header_of_words h.activity (flags_of h) h.len ≡ h →
+    n.words ≡ header_written w o h → n.places ≡ s.places → HoldsClauses n (length s.words) (with_header (stored_clauses s) p h)
 header-put s n p o w h ok at ew eo el small back en ep =
     let f = found s p ok at in
     let room : p + 2 < length s.words = omega (arith, f.ends) in
@@ -69,21 +71,26 @@ header-put s n p o w h ok at ew eo el small back en ep =
     let long : h.len ≡ len_at s.words p = el ∙ ap (λ (x : StoredClause). x.header.len) f.is in
     let r : Rewrites s.words new p = record {
       as_long = written-length s.words p h room;
-      before = λ k l. written-other s.words p h room k (λ e. absurd (omega (arith, l, e))) (λ e. absurd (omega (arith, l, e))) (λ e. absurd (omega (arith, l, e)));
-      after = λ k l. written-other s.words p h room k (λ e. absurd (omega (arith, l, e))) (λ e. absurd (omega (arith, l, e))) (λ e. absurd (omega (arith, l, e)));
+      before = λ k l. written-other s.words p h room k (λ e. absurd (omega (arith, l, e))) (λ e. absurd (omega (arith, l, e)))
+          (λ e. absurd (omega (arith, l, e)));
+      after = λ k l. written-other s.words p h room k (λ e. absurd (omega (arith, l, e))) (λ e. absurd (omega (arith, l, e)))
+          (λ e. absurd (omega (arith, l, e)));
       shorter = let e = written-len s.words p h room in omega (arith, e, long);
       long = let e = written-len s.words p h room in omega (arith, e, long, f.long);
       flags = rw (written-flags s.words p h room) small;
     } in
     let hold = rewritten s n p ok at ep (subst (λ (x : List ℕ). Rewrites s.words x p) (sym is) r) in
     let same : Same s.words new (p + 3) (p + 3 + len_at s.words p) = record {
-      words = λ k l u. written-other s.words p h room k (λ e. absurd (omega (arith, l, e))) (λ e. absurd (omega (arith, l, e))) (λ e. absurd (omega (arith, l, e)));
+      words = λ k l u. written-other s.words p h room k (λ e. absurd (omega (arith, l, e))) (λ e. absurd (omega (arith, l, e)))
+          (λ e. absurd (omega (arith, l, e)));
       room = f.ends;
       new_room = let e = written-length s.words p h room in omega (arith, e, f.ends);
     } in
-    let lits : take (len_at s.words p) (drop (p + 3) new) ≡ take (len_at s.words p) (drop (p + 3) s.words) = window-same s.words new (p + 3) (len_at s.words p) same in
+    let lits : take (len_at s.words p) (drop (p + 3) new) ≡ take (len_at s.words p) (drop (p + 3) s.words) =
+    window-same s.words new (p + 3) (len_at s.words p) same in
     let hd : header_in new p ≡ h = rw (written-activity s.words p h room, written-flags s.words p h room, written-len s.words p h room) back in
-    let li : take (len_at new p) (drop (p + 3) new) ≡ take (len_at s.words p) (drop (p + 3) s.words) = ap (λ (x : ℕ). take x (drop (p + 3) new)) (written-len s.words p h room ∙ long) ∙ lits in
+    let li : take (len_at new p) (drop (p + 3) new) ≡ take (len_at s.words p) (drop (p + 3) s.words) =
+    ap (λ (x : ℕ). take x (drop (p + 3) new)) (written-len s.words p h room ∙ long) ∙ lits in
     let c : clause_in new p ≡ record (stored_at (stored_clauses s) p) { header = h } =
     ap (λ (x : Header). record { place = p; header = x; literals = take (len_at new p) (drop (p + 3) new) }) hd
     ∙ ap (λ (x : List ℕ). record { place = p; header = h; literals = x }) li
@@ -105,7 +112,9 @@ take-take (x ∷ xs) (suc m) zero h = absurd (omega (arith, h))
 take-take (x ∷ xs) (suc m) (suc n) h = ap (λ ys. x ∷ ys) (take-take xs m n (omega (arith, h)))
 
 -- a length is written
-pub length-put : (s n : Store) (p o c : ℕ) (w : List ℕ) → IsSound s → IsPlace (stored_clauses s) p → w ≡ s.words → o ≡ p → 3 ≤ c → c ≤ (header_at (stored_clauses s) p).len → n.words ≡ set w (o + 2) c → n.places ≡ s.places → HoldsClauses n (length s.words) (shortened (stored_clauses s) p c)
+pub length-put : (s n : Store) (p o c : ℕ) (w : List ℕ) → IsSound s → IsPlace (stored_clauses s) p → w ≡ s.words → o ≡ p → 3 ≤ c →
+    c ≤ (header_at (stored_clauses s) p).len → n.words ≡ set w (o + 2) c → n.places ≡ s.places →
+    HoldsClauses n (length s.words) (shortened (stored_clauses s) p c)
 length-put s n p o c w ok at ew eo least most en ep =
     let f = found s p ok at in
     let room : p + 2 < length s.words = omega (arith, f.ends) in
@@ -129,7 +138,8 @@ length-put s n p o c w ok at ew eo least most en ep =
       room = omega (arith, f.ends, short);
       new_room = omega (arith, len, f.ends, short);
     } in
-    let lits : take c (drop (p + 3) new) ≡ take c (take (len_at s.words p) (drop (p + 3) s.words)) = window-same s.words new (p + 3) c same ∙ sym (take-take (drop (p + 3) s.words) c (len_at s.words p) short) in
+    let lits : take c (drop (p + 3) new) ≡ take c (take (len_at s.words p) (drop (p + 3) s.words)) = window-same s.words new (p + 3) c same
+    ∙ sym (take-take (drop (p + 3) s.words) c (len_at s.words p) short) in
     let w0 : get_or new p 0 ≡ get_or s.words p 0 = other p (λ e. absurd (omega (arith, e))) in
     let w1 : get_or new (p + 1) 0 ≡ get_or s.words (p + 1) 0 = other (p + 1) (λ e. absurd (omega (arith, e))) in
     let j : StoredClause → StoredClause = λ (x : StoredClause). record { place = p; header = record x.header { len = c }; literals = take c x.literals } in

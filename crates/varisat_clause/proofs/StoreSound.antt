@@ -47,20 +47,27 @@ true-lies ws low high p h =
       begins = from-most low p (and-left (nat_le low p) (nat_le 3 (len_at ws p)) b);
       long = from-most 3 (len_at ws p) (and-right (nat_le low p) (nat_le 3 (len_at ws p)) b);
       ends = from-most (p + 3 + len_at ws p) high (and-right (nat_le low p && nat_le 3 (len_at ws p)) (nat_le (p + 3 + len_at ws p) high) a);
-      flags = from-below (get_or ws (p + 1) 0) (2 ^ 11) (and-right (nat_le low p && nat_le 3 (len_at ws p) && nat_le (p + 3 + len_at ws p) high) (nat_lt (get_or ws (p + 1) 0) (2 ^ 11)) h);
+      flags = from-below (get_or ws (p + 1) 0) (2 ^ 11)
+          (and-right (nat_le low p && nat_le 3 (len_at ws p) && nat_le (p + 3 + len_at ws p) high) (nat_lt (get_or ws (p + 1) 0) (2 ^ 11)) h);
     }
 
 fit-true : (ws : List ℕ) (low high : ℕ) (ps : List ℕ) → FitsWords ws low high ps → fit ws low high ps ≡ true
 fit-true ws low high [] f = at-most low high f
-fit-true ws low high (p ∷ ps) f = and-both (lies ws low high p) (fit ws (p + 3 + len_at ws p) high ps) (lies-true ws low high p f.0) (fit-true ws (p + 3 + len_at ws p) high ps f.1)
+fit-true ws low high (p ∷ ps) f = and-both (lies ws low high p) (fit ws (p + 3 + len_at ws p) high ps) (lies-true ws low high p f.0)
+    (fit-true ws (p + 3 + len_at ws p) high ps f.1)
 
 true-fits : (ws : List ℕ) (low high : ℕ) (ps : List ℕ) → fit ws low high ps ≡ true → FitsWords ws low high ps
 true-fits ws low high [] h = from-most low high h
-true-fits ws low high (p ∷ ps) h = (true-lies ws low high p (and-left (lies ws low high p) (fit ws (p + 3 + len_at ws p) high ps) h), true-fits ws (p + 3 + len_at ws p) high ps (and-right (lies ws low high p) (fit ws (p + 3 + len_at ws p) high ps) h))
+true-fits ws low high (p ∷ ps) h = (
+  true-lies ws low high p (and-left (lies ws low high p) (fit ws (p + 3 + len_at ws p) high ps) h),
+  true-fits ws (p + 3 + len_at ws p) high ps
+      (and-right (lies ws low high p) (fit ws (p + 3 + len_at ws p) high ps) h),
+)
 
 -- a store is sound just where the test says so
 pub sound-is : (s : Store) → IsSound s → is_sound s ≡ true
-sound-is s ok = and-both (fit s.words 0 (length s.words) s.places) (nat_lt (length s.words) (2 ^ 32)) (fit-true s.words 0 (length s.words) s.places ok.fits) (below (length s.words) (2 ^ 32) ok.small)
+sound-is s ok = and-both (fit s.words 0 (length s.words) s.places) (nat_lt (length s.words) (2 ^ 32))
+    (fit-true s.words 0 (length s.words) s.places ok.fits) (below (length s.words) (2 ^ 32) ok.small)
 
 pub is-sound : (s : Store) → is_sound s ≡ true → IsSound s
 is-sound s h = record {
@@ -71,8 +78,10 @@ is-sound s h = record {
 -- The places rise.
 rising-from : (ws : List ℕ) (low high : ℕ) (ps : List ℕ) → FitsWords ws low high ps → AreRising (map (clause_in ws) ps)
 rising-from ws low high [] f = tt
-rising-from ws low high (p ∷ ps) f =
-    ((λ j h. let l = lies-at ws (p + 3 + len_at ws p) high ps j.place f.1 (from-place ws ps j.place (j, h, refl)) in omega (arith, l.begins)), rising-from ws (p + 3 + len_at ws p) high ps f.1)
+rising-from ws low high (p ∷ ps) f = (
+  (λ j h. let l = lies-at ws (p + 3 + len_at ws p) high ps j.place f.1 (from-place ws ps j.place (j, h, refl)) in omega (arith, l.begins)),
+  rising-from ws (p + 3 + len_at ws p) high ps f.1,
+)
 
 pub are-rising : (s : Store) → IsSound s → AreRising (stored_clauses s)
 are-rising s ok = rising-from s.words 0 (length s.words) s.places ok.fits

@@ -22,7 +22,8 @@ window-same buf new p n s =
     let b : length (take n (drop p buf)) ≡ n = simp (length-take, length-drop) (omega (arith, s.room)) in
     ext_get_or 0 (take n (drop p new)) (take n (drop p buf)) (a ∙ sym b)
     (λ i h. let l : i < n = omega (arith, a) in
-    get_or-take n (drop p new) i 0 l ∙ get_or-drop p new i 0 ∙ s.words (p + i) (omega arith) (omega arith) ∙ sym (get_or-drop p buf i 0) ∙ sym (get_or-take n (drop p buf) i 0 l))
+    get_or-take n (drop p new) i 0 l ∙ get_or-drop p new i 0 ∙ s.words (p + i) (omega arith) (omega arith) ∙ sym (get_or-drop p buf i 0)
+    ∙ sym (get_or-take n (drop p buf) i 0 l))
 
 pub clause-stays : (buf new : List ℕ) (p : ℕ) → Same buf new p (p + 3 + len_at buf p) → clause_in new p ≡ clause_in buf p
 clause-stays buf new p s =
@@ -34,14 +35,16 @@ clause-stays buf new p s =
     rw (e0, e1, e2, w) refl
 
 pub narrow : (buf new : List ℕ) (low high low' high' : ℕ) → Same buf new low high → low ≤ low' → high' ≤ high → Same buf new low' high'
-narrow buf new low high low' high' s a b = record { words = λ k l h. s.words k (omega arith) (omega arith); room = omega (arith, s.room); new_room = omega (arith, s.new_room) }
+narrow buf new low high low' high' s a b =
+    record { words = λ k l h. s.words k (omega arith) (omega arith); room = omega (arith, s.room); new_room = omega (arith, s.new_room) }
 
 pub low-le : (buf : List ℕ) (low high : ℕ) (ps : List ℕ) → FitsWords buf low high ps → low ≤ high
 low-le buf low high [] f = f
 low-le buf low high (p ∷ ps) f = let l = f.0 in let r = low-le buf (p + 3 + len_at buf p) high ps f.1 in omega (arith, l.begins, r)
 
 -- all clauses stay where all their words stay
-pub clauses-stay : (buf new : List ℕ) (low high : ℕ) (ps : List ℕ) → FitsWords buf low high ps → Same buf new low high → (map (clause_in new) ps ≡ map (clause_in buf) ps) × FitsWords new low high ps
+pub clauses-stay : (buf new : List ℕ) (low high : ℕ) (ps : List ℕ) → FitsWords buf low high ps → Same buf new low high →
+    (map (clause_in new) ps ≡ map (clause_in buf) ps) × FitsWords new low high ps
 clauses-stay buf new low high [] f s = (refl, f)
 clauses-stay buf new low high (p ∷ ps) f s =
     let l = f.0 in
@@ -50,7 +53,8 @@ clauses-stay buf new low high (p ∷ ps) f s =
     let e : clause_in new p ≡ clause_in buf p = clause-stays buf new p here in
     let n : len_at new p ≡ len_at buf p = s.words (p + 2) (omega (arith, l.begins)) (omega (arith, l.ends)) in
     let g : get_or new (p + 1) 0 ≡ get_or buf (p + 1) 0 = s.words (p + 1) (omega (arith, l.begins)) (omega (arith, l.ends)) in
-    let r = clauses-stay buf new (p + 3 + len_at buf p) high ps f.1 (narrow buf new low high (p + 3 + len_at buf p) high s (omega (arith, l.begins)) (omega arith)) in
+    let r = clauses-stay buf new (p + 3 + len_at buf p) high ps f.1
+    (narrow buf new low high (p + 3 + len_at buf p) high s (omega (arith, l.begins)) (omega arith)) in
     (rw (e, r.0) refl, (record { begins = l.begins; long = rw n l.long; ends = rw n l.ends; flags = rw g l.flags }, rw n r.1))
 
 pub longer : (buf xs : List ℕ) (low : ℕ) → Same buf (buf ++ xs) low (length buf)
@@ -114,7 +118,9 @@ pub places-below : (buf : List ℕ) (low high : ℕ) (ps : List ℕ) → FitsWor
 places-below buf low high ps f k h = let l = lies-at buf low high ps k.place f (from-place buf ps k.place (k, h, refl)) in let e = l.ends in omega (arith, e)
 
 -- what add_clause leaves
-pub added : (s n : Store) (h : Header) (c : List ℕ) → IsSound s → 3 ≤ length c → length s.words + 3 + length c < 2 ^ 32 → flags_of h < 2 ^ 11 → header_of_words h.activity (flags_of h) h.len ≡ h → n.words ≡ s.words ++ (h.activity ∷ flags_of h ∷ length c ∷ c) → n.places ≡ s.places ++ length s.words ∷ [] → AddsStored s n (record { place = length s.words; header = record h { len = length c }; literals = c })
+pub added : (s n : Store) (h : Header) (c : List ℕ) → IsSound s → 3 ≤ length c → length s.words + 3 + length c < 2 ^ 32 → flags_of h < 2 ^ 11 →
+    header_of_words h.activity (flags_of h) h.len ≡ h → n.words ≡ s.words ++ (h.activity ∷ flags_of h ∷ length c ∷ c) →
+    n.places ≡ s.places ++ length s.words ∷ [] → AddsStored s n (record { place = length s.words; header = record h { len = length c }; literals = c })
 added s n h c ok long small flags back ew ep =
     let buf : List ℕ = s.words in
     let ps : List ℕ = s.places in
@@ -127,9 +133,11 @@ added s n h c ok long small flags back ew ep =
     let d : drop (p + 3) new ≡ c = drop-append-add buf (h.activity ∷ flags_of h ∷ length c ∷ c) 3 in
     let j : Header = record h { len = length c } in
     let g : header_of_words h.activity (flags_of h) (length c) ≡ j = ap (λ (x : Header). record x { len = length c }) back in
-    let e : clause_in new p ≡ record { place = p; header = j; literals = c } = rw (r0, r1, r2, d, take-length) (ap (λ (x : Header). record { place = p; header = x; literals = c }) g) in
+    let e : clause_in new p ≡ record { place = p; header = j; literals = c } =
+    rw (r0, r1, r2, d, take-length) (ap (λ (x : Header). record { place = p; header = x; literals = c }) g) in
     let l : length new ≡ p + 3 + length c = omega (arith, length-append buf (h.activity ∷ flags_of h ∷ length c ∷ c)) in
-    let m : map (clause_in new) (ps ++ p ∷ []) ≡ map (clause_in buf) ps ++ record { place = p; header = j; literals = c } ∷ [] = map-append (clause_in new) ps (p ∷ []) ∙ rw (k.0, e) refl in
+    let m : map (clause_in new) (ps ++ p ∷ []) ≡ map (clause_in buf) ps ++ record { place = p; header = j; literals = c } ∷ [] =
+    map-append (clause_in new) ps (p ∷ []) ∙ rw (k.0, e) refl in
     let lies : Lies new p (length new) p = record { begins = omega arith; long = rw r2 long; ends = rw r2 (omega (arith, l)); flags = rw r1 flags } in
     record {
       sound = record { fits = rw (ew, ep) (Fits-push new 0 ps p (length new) k.1 lies); small = rw (ew, l) small };
@@ -145,7 +153,8 @@ pub record Spliced (buf new : List ℕ) (a : ℕ) (ws : List ℕ) : Type 0 where
   pub as_long : length new ≡ length buf
   pub here : take (length ws) (drop a new) ≡ ws
 
-pub spliced : (buf : List ℕ) (a : ℕ) (ws : List ℕ) → a + length ws ≤ length buf → Spliced buf (take (length buf) (splice buf a ws ++ drop (length (splice buf a ws)) buf)) a ws
+pub spliced : (buf : List ℕ) (a : ℕ) (ws : List ℕ) → a + length ws ≤ length buf →
+    Spliced buf (take (length buf) (splice buf a ws ++ drop (length (splice buf a ws)) buf)) a ws
 spliced buf a ws h =
     let front : List ℕ = take a buf in
     let back : List ℕ = drop (length ws) (drop a buf) in
@@ -161,7 +170,8 @@ spliced buf a ws h =
       after = λ k l.
           let j : ℕ = k - a - length ws in
           let m : a + (length ws + j) ≡ k = omega arith in
-          get_or-append_right front (ws ++ back) a k 0 fl (omega arith) ∙ get_or-append_right ws back (length ws) (k - a) 0 refl (omega arith) ∙ get_or-drop (length ws) (drop a buf) j 0 ∙ get_or-drop a buf (length ws + j) 0 ∙ ap (λ (x : ℕ). get_or buf x 0) m;
+          get_or-append_right front (ws ++ back) a k 0 fl (omega arith) ∙ get_or-append_right ws back (length ws) (k - a) 0 refl (omega arith)
+          ∙ get_or-drop (length ws) (drop a buf) j 0 ∙ get_or-drop a buf (length ws + j) 0 ∙ ap (λ (x : ℕ). get_or buf x 0) m;
       as_long = nl;
       here = ap (λ (x : ℕ). take (length ws) (drop x new)) (sym fl) ∙ ap (take (length ws)) (drop-append_seam front (ws ++ back)) ∙ take-append_seam ws back;
     })
@@ -175,37 +185,52 @@ pub record Rewrites (buf new : List ℕ) (p : ℕ) : Type 0 where
   pub long : 3 ≤ len_at new p
   pub flags : get_or new (p + 1) 0 < 2 ^ 11
 
-pub put-one : (buf new : List ℕ) (low high : ℕ) (ps : List ℕ) (p : ℕ) → FitsWords buf low high ps → high ≤ length buf → p ∈ ps → Rewrites buf new p → (map (clause_in new) ps ≡ with_stored (map (clause_in buf) ps) p (clause_in new p)) × FitsWords new low high ps
+pub put-one : (buf new : List ℕ) (low high : ℕ) (ps : List ℕ) (p : ℕ) → FitsWords buf low high ps → high ≤ length buf → p ∈ ps →
+    Rewrites buf new p → (map (clause_in new) ps ≡ with_stored (map (clause_in buf) ps) p (clause_in new p)) × FitsWords new low high ps
 put-one buf new low high [] p f hi h s = absurd h
 put-one buf new low high (q ∷ ps) p f hi h s =
     ⊎_elim
-    (λ e. let eq : p ≡ q = sym e in subst (λ (x : ℕ). Rewrites buf new x → (map (clause_in new) (q ∷ ps) ≡ with_stored (map (clause_in buf) (q ∷ ps)) x (clause_in new x)) × FitsWords new low high (q ∷ ps)) e (here buf new low high q ps f hi) s)
-    (λ n. there buf new low high q ps p f hi n (⊎_elim (λ e. absurd (n (sym e))) (λ i. i) h) s (put-one buf new (q + 3 + len_at buf q) high ps p f.1 hi (⊎_elim (λ e. absurd (n (sym e))) (λ i. i) h) s))
+    (λ e. let eq : p ≡ q = sym e in
+    subst (λ (x : ℕ). Rewrites buf new x → (map (clause_in new) (q ∷ ps) ≡ with_stored (map (clause_in buf) (q ∷ ps)) x (clause_in new x))
+    × FitsWords new low high (q ∷ ps)) e (here buf new low high q ps f hi) s)
+    (λ n. there buf new low high q ps p f hi n (⊎_elim (λ e. absurd (n (sym e))) (λ i. i) h) s
+    (put-one buf new (q + 3 + len_at buf q) high ps p f.1 hi (⊎_elim (λ e. absurd (n (sym e))) (λ i. i) h) s))
     (equal_or_not q p)
   where
-    here : (buf new : List ℕ) (low high q : ℕ) (ps : List ℕ) → FitsWords buf low high (q ∷ ps) → high ≤ length buf → Rewrites buf new q → (map (clause_in new) (q ∷ ps) ≡ with_stored (map (clause_in buf) (q ∷ ps)) q (clause_in new q)) × FitsWords new low high (q ∷ ps)
+    here : (buf new : List ℕ) (low high q : ℕ) (ps : List ℕ) → FitsWords buf low high (q ∷ ps) → high ≤ length buf → Rewrites buf new q →
+        (map (clause_in new) (q ∷ ps) ≡ with_stored (map (clause_in buf) (q ∷ ps)) q (clause_in new q)) × FitsWords new low high (q ∷ ps)
     here buf new low high q ps f hi s =
         let l = f.0 in
         let up = low-le buf (q + 3 + len_at buf q) high ps f.1 in
         let same : Same buf new (q + 3 + len_at buf q) high = record { words = λ k m g. s.after k m; room = hi; new_room = omega (arith, s.as_long) } in
         let tail = clauses-stay buf new (q + 3 + len_at buf q) high ps f.1 same in (
           ap (λ xs. clause_in new q ∷ xs) tail.0 ∙ sym (clause-here (clause_in buf q) (map (clause_in buf) ps) q (clause_in new q) refl),
-          (record { begins = l.begins; long = s.long; ends = omega (arith, l.ends, s.shorter); flags = s.flags }, Fits-lower new (q + 3 + len_at buf q) (q + 3 + len_at new q) high ps (omega (arith, s.shorter)) tail.1),
+          (
+            record { begins = l.begins; long = s.long; ends = omega (arith, l.ends, s.shorter); flags = s.flags },
+            Fits-lower new
+                (q + 3 + len_at buf q) (q + 3 + len_at new q) high ps (omega (arith, s.shorter)) tail.1,
+          ),
         )
 
-    there : (buf new : List ℕ) (low high q : ℕ) (ps : List ℕ) (p : ℕ) → FitsWords buf low high (q ∷ ps) → high ≤ length buf → q ≢ p → p ∈ ps → Rewrites buf new p → (map (clause_in new) ps ≡ with_stored (map (clause_in buf) ps) p (clause_in new p)) × FitsWords new (q + 3 + len_at buf q) high ps → (map (clause_in new) (q ∷ ps) ≡ with_stored (map (clause_in buf) (q ∷ ps)) p (clause_in new p)) × FitsWords new low high (q ∷ ps)
+    there : (buf new : List ℕ) (low high q : ℕ) (ps : List ℕ) (p : ℕ) → FitsWords buf low high (q ∷ ps) → high ≤ length buf → q ≢ p → p ∈ ps →
+        Rewrites buf new p → (map (clause_in new) ps ≡ with_stored (map (clause_in buf) ps) p (clause_in new p))
+        × FitsWords new (q + 3 + len_at buf q) high ps →
+        (map (clause_in new) (q ∷ ps) ≡ with_stored (map (clause_in buf) (q ∷ ps)) p (clause_in new p)) × FitsWords new low high (q ∷ ps)
     there buf new low high q ps p f hi n h s r =
         let l = f.0 in
         let m = lies-at buf (q + 3 + len_at buf q) high ps p f.1 h in
-        let same : Same buf new q (q + 3 + len_at buf q) = record { words = λ k a b. s.before k (omega (arith, m.begins)); room = omega (arith, l.ends); new_room = omega (arith, s.as_long, l.ends) } in
+        let same : Same buf new q (q + 3 + len_at buf q) =
+        record { words = λ k a b. s.before k (omega (arith, m.begins)); room = omega (arith, l.ends); new_room = omega (arith, s.as_long, l.ends) } in
         let w2 : get_or new (q + 2) 0 ≡ get_or buf (q + 2) 0 = s.before (q + 2) (omega (arith, m.begins)) in
         let w1 : get_or new (q + 1) 0 ≡ get_or buf (q + 1) 0 = s.before (q + 1) (omega (arith, m.begins)) in (
-          ap (λ x. x ∷ map (clause_in new) ps) (clause-stays buf new q same) ∙ ap (λ xs. clause_in buf q ∷ xs) r.0 ∙ sym (clause-later (clause_in buf q) (map (clause_in buf) ps) p (clause_in new p) n),
+          ap (λ x. x ∷ map (clause_in new) ps) (clause-stays buf new q same) ∙ ap (λ xs. clause_in buf q ∷ xs) r.0
+              ∙ sym (clause-later (clause_in buf q) (map (clause_in buf) ps) p (clause_in new p) n),
           (record { begins = l.begins; long = rw w2 l.long; ends = rw w2 l.ends; flags = rw w1 l.flags }, rw w2 r.1),
         )
 
 -- the store after such a write
-pub rewritten : (s n : Store) (p : ℕ) → IsSound s → IsPlace (stored_clauses s) p → n.places ≡ s.places → Rewrites s.words n.words p → HoldsClauses n (length s.words) (with_stored (stored_clauses s) p (clause_in n.words p))
+pub rewritten : (s n : Store) (p : ℕ) → IsSound s → IsPlace (stored_clauses s) p → n.places ≡ s.places → Rewrites s.words n.words p →
+    HoldsClauses n (length s.words) (with_stored (stored_clauses s) p (clause_in n.words p))
 rewritten s n p ok h e r =
     let i = from-place s.words s.places p h in
     let q = put-one s.words n.words 0 (length s.words) s.places p ok.fits (omega arith) i r in
@@ -216,7 +241,8 @@ rewritten s n p ok h e r =
     }
 
 -- a write to the literals of one clause
-pub literals-put : (s : Store) (p : ℕ) (ws : List ℕ) → IsSound s → IsPlace (stored_clauses s) p → length ws ≡ len_at s.words p → HoldsClauses (put_words s (p + 3) ws) (length s.words) (with_literals (stored_clauses s) p ws)
+pub literals-put : (s : Store) (p : ℕ) (ws : List ℕ) → IsSound s → IsPlace (stored_clauses s) p → length ws ≡ len_at s.words p →
+    HoldsClauses (put_words s (p + 3) ws) (length s.words) (with_literals (stored_clauses s) p ws)
 literals-put s p ws ok h e =
     let f = found s p ok h in
     let sp = spliced s.words (p + 3) ws (omega (arith, f.ends)) in

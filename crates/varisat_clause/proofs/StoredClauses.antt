@@ -104,7 +104,8 @@ stored-more (x ∷ ks) j p h =
 
 pub stored-last : (ks : List StoredClause) (j : StoredClause) → ((k : StoredClause) → k ∈ ks → k.place < j.place) → stored_at (ks ++ j ∷ []) j.place ≡ j
 stored-last [] j h = stored-here j [] j.place refl
-stored-last (x ∷ ks) j h = let l = h x (inl refl) in stored-later x (ks ++ j ∷ []) j.place (λ e. absurd (omega (arith, l, e))) ∙ stored-last ks j (λ k i. h k (inr i))
+stored-last (x ∷ ks) j h = let l = h x (inl refl) in stored-later x (ks ++ j ∷ []) j.place (λ e. absurd (omega (arith, l, e)))
+    ∙ stored-last ks j (λ k i. h k (inr i))
 
 pub literals-more : (ks : List StoredClause) (j : StoredClause) → literals_of (ks ++ j ∷ []) ≡ literals_of ks ++ j.literals ∷ []
 literals-more [] j = refl
@@ -170,8 +171,10 @@ reordered-at [] (q ∷ Q) n a = absurd a
 reordered-at (p ∷ P) [] n a = absurd a
 reordered-at (p ∷ P) (q ∷ Q) n a =
     ⊎_elim
-    (λ e. subst (λ x. SameSet (literals_at (q ∷ Q) n) x) (sym (ap (λ x. x.literals) (stored-here p P n e))) (subst (λ x. SameSet x p.literals) (sym (ap (λ x. x.literals) (stored-here q Q n (a.0 ∙ e)))) a.2))
-    (λ m. subst (λ x. SameSet (literals_at (q ∷ Q) n) x) (sym (ap (λ x. x.literals) (stored-later p P n m))) (subst (λ x. SameSet x (literals_at P n)) (sym (ap (λ x. x.literals) (stored-later q Q n (λ e. m (sym a.0 ∙ e))))) (reordered-at P Q n a.3)))
+    (λ e. subst (λ x. SameSet (literals_at (q ∷ Q) n) x) (sym (ap (λ x. x.literals) (stored-here p P n e)))
+    (subst (λ x. SameSet x p.literals) (sym (ap (λ x. x.literals) (stored-here q Q n (a.0 ∙ e)))) a.2))
+    (λ m. subst (λ x. SameSet (literals_at (q ∷ Q) n) x) (sym (ap (λ x. x.literals) (stored-later p P n m)))
+    (subst (λ x. SameSet x (literals_at P n)) (sym (ap (λ x. x.literals) (stored-later q Q n (λ e. m (sym a.0 ∙ e))))) (reordered-at P Q n a.3)))
     (equal_or_not p.place n)
 
 pub reordered-rising : (P Q : List StoredClause) → AreReordered P Q → AreRising P → AreRising Q
@@ -186,8 +189,10 @@ pub with-reordered : (ks : List StoredClause) (p : ℕ) (c : Clause) → SameSet
 with-reordered [] p c s = tt
 with-reordered (k ∷ ks) p c s =
     ⊎_elim
-    (λ e. subst (AreReordered (k ∷ ks)) (sym (with-here k ks p c e)) (refl, refl, subst (λ x. SameSet c x.literals) (stored-here k ks p e) s, reordered-refl ks))
-    (λ n. subst (AreReordered (k ∷ ks)) (sym (with-later k ks p c n)) (refl, refl, same-self k.literals, with-reordered ks p c (subst (λ x. SameSet c x.literals) (stored-later k ks p n) s)))
+    (λ e. subst (AreReordered (k ∷ ks)) (sym (with-here k ks p c e))
+    (refl, refl, subst (λ x. SameSet c x.literals) (stored-here k ks p e) s, reordered-refl ks))
+    (λ n. subst (AreReordered (k ∷ ks)) (sym (with-later k ks p c n))
+    (refl, refl, same-self k.literals, with-reordered ks p c (subst (λ x. SameSet c x.literals) (stored-later k ks p n) s)))
     (equal_or_not k.place p)
 
 pub with-same : (ks : List StoredClause) (p : ℕ) (c : Clause) → IsPlace ks p → literals_at (with_literals ks p c) p ≡ c
@@ -195,7 +200,8 @@ with-same [] p c (k, h, e) = absurd h
 with-same (k ∷ ks) p c h =
     ⊎_elim
     (λ e. ap (λ xs. literals_at xs p) (with-here k ks p c e) ∙ ap (λ x. x.literals) (stored-here (record k { literals = c }) ks p e))
-    (λ n. ap (λ xs. literals_at xs p) (with-later k ks p c n) ∙ ap (λ x. x.literals) (stored-later k (with_literals ks p c) p n) ∙ with-same ks p c (place-later k ks p h n))
+    (λ n. ap (λ xs. literals_at xs p) (with-later k ks p c n) ∙ ap (λ x. x.literals) (stored-later k (with_literals ks p c) p n)
+    ∙ with-same ks p c (place-later k ks p h n))
     (equal_or_not k.place p)
 
 pub with-other : (ks : List StoredClause) (p q : ℕ) (c : Clause) → q ≢ p → literals_at (with_literals ks p c) q ≡ literals_at ks q
@@ -225,7 +231,8 @@ with-own [] p = refl
 with-own (k ∷ ks) p =
     ⊎_elim
     (λ e. with-here k ks p (literals_at (k ∷ ks) p) e ∙ ap (λ (x : StoredClause). record k { literals = x.literals } ∷ ks) (stored-here k ks p e))
-    (λ n. with-later k ks p (literals_at (k ∷ ks) p) n ∙ ap (λ (x : StoredClause). k ∷ with_literals ks p x.literals) (stored-later k ks p n) ∙ ap (λ xs. k ∷ xs) (with-own ks p))
+    (λ n. with-later k ks p (literals_at (k ∷ ks) p) n ∙ ap (λ (x : StoredClause). k ∷ with_literals ks p x.literals) (stored-later k ks p n)
+    ∙ ap (λ xs. k ∷ xs) (with-own ks p))
     (equal_or_not k.place p)
 
 -- One clause is another.
@@ -241,7 +248,8 @@ literals-clause [] p c = refl
 literals-clause (k ∷ ks) p c =
     ⊎_elim
     (λ e. clause-here k ks p _ e ∙ ap (λ (x : StoredClause). record x { literals = c } ∷ ks) (stored-here k ks p e) ∙ sym (with-here k ks p c e))
-    (λ n. clause-later k ks p _ n ∙ ap (λ (x : StoredClause). k ∷ with_stored ks p (record x { literals = c })) (stored-later k ks p n) ∙ ap (λ xs. k ∷ xs) (literals-clause ks p c) ∙ sym (with-later k ks p c n))
+    (λ n. clause-later k ks p _ n ∙ ap (λ (x : StoredClause). k ∷ with_stored ks p (record x { literals = c })) (stored-later k ks p n)
+    ∙ ap (λ xs. k ∷ xs) (literals-clause ks p c) ∙ sym (with-later k ks p c n))
     (equal_or_not k.place p)
 
 -- the other clause is found at the place, and no clause elsewhere changes
@@ -296,5 +304,6 @@ clause-twice [] p c j e = refl
 clause-twice (k ∷ ks) p c j e =
     ⊎_elim
     (λ f. ap (λ xs. with_stored xs p j) (clause-here k ks p c f) ∙ clause-here c ks p j e ∙ sym (clause-here k ks p j f))
-    (λ n. ap (λ xs. with_stored xs p j) (clause-later k ks p c n) ∙ clause-later k (with_stored ks p c) p j n ∙ ap (λ xs. k ∷ xs) (clause-twice ks p c j e) ∙ sym (clause-later k ks p j n))
+    (λ n. ap (λ xs. with_stored xs p j) (clause-later k ks p c n) ∙ clause-later k (with_stored ks p c) p j n
+    ∙ ap (λ xs. k ∷ xs) (clause-twice ks p c j e) ∙ sym (clause-later k ks p j n))
     (equal_or_not k.place p)

@@ -87,7 +87,8 @@ cut-append (k ∷ ns) ls c n u e =
 pub fits_more : (count more : ℕ) (ns ls : List ℕ) → BuffersFit count ns ls → count ≤ more → more ≤ 2 ^ 31 → BuffersFit more ns ls
 fits_more count more ns ls f h k = record { used = f.used; below = below_more count more ls h f.below; small = k }
 
-pub fits_append : (count next n : ℕ) (ns ls c ms ks : List ℕ) → BuffersFit count ns ls → n ≡ length c → ms ≡ ns ++ n ∷ [] → ks ≡ ls ++ c → next ≡ max count (variables_of c) → variables_of c ≤ 2 ^ 31 → BuffersFit next ms ks
+pub fits_append : (count next n : ℕ) (ns ls c ms ks : List ℕ) → BuffersFit count ns ls → n ≡ length c → ms ≡ ns ++ n ∷ [] → ks ≡ ls ++ c →
+    next ≡ max count (variables_of c) → variables_of c ≤ 2 ^ 31 → BuffersFit next ms ks
 fits_append count next n ns ls c ms ks f e p q h k =
     let s = f.small in
     let a : count ≤ next = omega arith in
@@ -98,7 +99,8 @@ fits_append count next n ns ls c ms ks f e p q h k =
       small = omega arith;
     }))
 
-pub clause_added : (count next n : ℕ) (ns ls c ms ks : List ℕ) → BuffersFit count ns ls → n ≡ length c → ms ≡ ns ++ n ∷ [] → ks ≡ ls ++ c → next ≡ max count (variables_of c) →
+pub clause_added : (count next n : ℕ) (ns ls c ms ks : List ℕ) → BuffersFit count ns ls → n ≡ length c → ms ≡ ns ++ n ∷ [] → ks ≡ ls ++ c →
+    next ≡ max count (variables_of c) →
     record { var_count = next; clauses = cut ms ks } ≡ with_one_more (record { var_count = count; clauses = cut ns ls }) c
 clause_added count next n ns ls c ms ks f e p q h =
     let made : ℕ → List (List ℕ) → Formula = λ v cs. record { var_count = v; clauses = cs } in
@@ -110,13 +112,15 @@ with_more-append f [] c = refl
 with_more-append f (d ∷ cs) c = with_more-append (with_one_more f d) cs c
 
 -- one of the clauses more
-pub clauses_step : {B : Type 0} (now : B → List ℕ) (all : List B) (i : ℕ) (b : B) (clause : List ℕ) (f s t : Formula) → i < length all → b ≡ get_or all i b → clause ≡ now b →
+pub clauses_step : {B : Type 0} (now : B → List ℕ) (all : List B) (i : ℕ) (b : B) (clause : List ℕ) (f s t : Formula) → i < length all →
+    b ≡ get_or all i b → clause ≡ now b →
     s ≡ with_more f (map now (take i all)) → t ≡ with_one_more s clause → t ≡ with_more f (map now (take (i + 1) all))
 clauses_step {B} now all i b clause f s t h e k p q =
     q ∙ ap (λ x. with_one_more x clause) p ∙ ap (λ x. with_one_more (with_more f (map now (take i all))) x) k
     ∙ sym (with_more-append f (map now (take i all)) (now b)) ∙ ap (λ cs. with_more f cs) (sym (map_take now all i b h e))
   where
-    map_take : {B : Type 0} (now : B → List ℕ) (all : List B) (i : ℕ) (b : B) → i < length all → b ≡ get_or all i b → map now (take (i + 1) all) ≡ map now (take i all) ++ now b ∷ []
+    map_take : {B : Type 0} (now : B → List ℕ) (all : List B) (i : ℕ) (b : B) → i < length all → b ≡ get_or all i b →
+        map now (take (i + 1) all) ≡ map now (take i all) ++ now b ∷ []
     map_take now [] i b h e = absurd (omega arith)
     map_take now (x ∷ all) zero b h e = ap (λ y. now y ∷ []) (sym e)
     map_take now (x ∷ all) (suc i) b h e = ap (λ k. map now (take k (x ∷ all))) (grow i) ∙ ap (λ ys. now x ∷ ys) (map_take now all i b (omega arith) e)
@@ -168,7 +172,8 @@ same_buffers ns ls ms ks u v =
 
 -- what `==` looks at, in order
 same_by : (m n : ℕ) (ns ls ms ks : List ℕ) → UseUp ns ls → UseUp ms ks →
-    same_formula (record { var_count = m; clauses = cut ns ls }) (record { var_count = n; clauses = cut ms ks }) ≡ ((m == n) && (pointwise ◌==◌ ns ms && pointwise ◌==◌ ls ks))
+    same_formula (record { var_count = m; clauses = cut ns ls })
+    (record { var_count = n; clauses = cut ms ks }) ≡ ((m == n) && (pointwise ◌==◌ ns ms && pointwise ◌==◌ ls ks))
 same_by m n ns ls ms ks u v = ap (λ b. (m == n) && b) (same_buffers ns ls ms ks u v)
 
 not_true : (b : Bool) → true ≡ not b → b ≡ false
@@ -189,9 +194,11 @@ equal_test m n e = search (rules, e)
 pub lengths_differ : (m n : ℕ) (ns ls ms ks : List ℕ) (t : Bool) → UseUp ns ls → UseUp ms ks → t ≡ not (pointwise ◌==◌ ns ms) → t ≡ true →
     false ≡ same_formula (record { var_count = m; clauses = cut ns ls }) (record { var_count = n; clauses = cut ms ks })
 lengths_differ m n ns ls ms ks t u v e f =
-    and_false (m == n) ∙ sym (ap (λ b. (m == n) && (b && pointwise ◌==◌ ls ks)) (not_true (pointwise ◌==◌ ns ms) (sym f ∙ e))) ∙ sym (same_by m n ns ls ms ks u v)
+    and_false (m == n) ∙ sym (ap (λ b. (m == n) && (b && pointwise ◌==◌ ls ks)) (not_true (pointwise ◌==◌ ns ms) (sym f ∙ e)))
+    ∙ sym (same_by m n ns ls ms ks u v)
 
-pub literals_compared : (m n : ℕ) (ns ls ms ks : List ℕ) (t r : Bool) → UseUp ns ls → UseUp ms ks → m ≡ n → t ≡ not (pointwise ◌==◌ ns ms) → t ≡ false → r ≡ pointwise ◌==◌ ls ks →
+pub literals_compared : (m n : ℕ) (ns ls ms ks : List ℕ) (t r : Bool) → UseUp ns ls → UseUp ms ks → m ≡ n → t ≡ not (pointwise ◌==◌ ns ms) →
+    t ≡ false → r ≡ pointwise ◌==◌ ls ks →
     r ≡ same_formula (record { var_count = m; clauses = cut ns ls }) (record { var_count = n; clauses = cut ms ks })
 literals_compared m n ns ls ms ks t r u v d e f g =
     g ∙ sym (ap (λ b. b && (true && pointwise ◌==◌ ls ks)) (equal_test m n d))

@@ -41,7 +41,13 @@ begun b w [] = record { more = []; rest = []; are = tokens_end (b ∷ w) ∙ ap 
     nothing_more (x ∷ w) = ap (λ y. x ∷ y) (nothing_more w)
 begun b w (c ∷ bs) = by_byte (is_blank c)
     (λ e. record { more = []; rest = words [] bs; are = tokens_blank true (b ∷ w) c bs e ∙ ap (λ x. (b ∷ x) ∷ words [] bs) (sym (nothing_more w)) })
-    (λ e. let r = begun b (w ++ c ∷ []) bs in record { more = c ∷ r.more; rest = r.rest; are = tokens_more true (b ∷ w) c bs e ∙ r.are ∙ ap (λ x. (b ∷ x) ∷ r.rest) (append_assoc w (c ∷ []) r.more) })
+    (λ e. let r = begun b (w ++ c ∷ []) bs in
+    record {
+      more = c ∷ r.more;
+      rest = r.rest;
+      are = tokens_more true (b ∷ w) c bs e ∙ r.are
+          ∙ ap (λ x. (b ∷ x) ∷ r.rest) (append_assoc w (c ∷ []) r.more);
+    })
   where
     nothing_more : (w : List ℕ) → w ++ [] ≡ w
     nothing_more [] = refl
@@ -49,7 +55,8 @@ begun b w (c ∷ bs) = by_byte (is_blank c)
 
 bad_stays : (bs : List ℕ) → header_says (header_from Bad bs) ≡ Malformed
 bad_stays [] = refl
-bad_stays (b ∷ bs) = by_byte (is_blank b) (λ e. ap header_says (blank_state Bad b bs e) ∙ bad_stays bs) (λ e. ap header_says (more_state Bad b bs e) ∙ bad_stays bs)
+bad_stays (b ∷ bs) = by_byte (is_blank b) (λ e. ap header_says (blank_state Bad b bs e) ∙ bad_stays bs)
+    (λ e. ap header_says (more_state Bad b bs e) ∙ bad_stays bs)
 
 -- 1. Behind the counts nothing more may come.
 abbrev pub alone : Heading → List (List ℕ) → Heading
@@ -63,7 +70,8 @@ behind_last : (v c : ℕ) (bs : List ℕ) → alone (sized v c) (words [] bs) �
 behind_last v c [] = refl
 behind_last v c (b ∷ bs) = by_byte (is_blank b)
     (λ e. ap (alone (sized v c)) (tokens_blank true [] b bs e) ∙ behind_last v c bs ∙ sym (ap header_says (blank_state (Last v c) b bs e)))
-    (λ e. ap (alone (sized v c)) (tokens_more true [] b bs e) ∙ alone_begun (sized v c) b bs ∙ sym (bad_stays bs) ∙ sym (ap header_says (more_state (Last v c) b bs e)))
+    (λ e. ap (alone (sized v c)) (tokens_more true [] b bs e) ∙ alone_begun (sized v c) b bs ∙ sym (bad_stays bs)
+    ∙ sym (ap header_says (more_state (Last v c) b bs e)))
 
 behind_bad : (ts : List (List ℕ)) (bs : List ℕ) → alone Malformed ts ≡ header_says (header_from Bad bs)
 behind_bad [] bs = sym (bad_stays bs)
@@ -139,7 +147,8 @@ sized_kept v w c e = go (nat_lt variable_limit v) refl
         let h : variable_limit < v = search (rules, f) in
         let k : variable_limit < w = omega arith in
         let g : nat_lt variable_limit w ≡ true = search (rules, k) in
-        ap (λ t. if t then Oversized else Sized (record { vars = v; clauses = c })) f ∙ sym (ap (λ t. if t then Oversized else Sized (record { vars = w; clauses = c })) g)
+        ap (λ t. if t then Oversized else Sized (record { vars = v; clauses = c })) f
+        ∙ sym (ap (λ t. if t then Oversized else Sized (record { vars = w; clauses = c })) g)
     go false f =
         let h : v ≤ variable_limit = search (rules, f) in
         let k : v ≡ w = omega arith in
@@ -167,15 +176,19 @@ counted v w o Large e s f =
 counted v w o NoNumber e s f = ap (sizes (Some v)) (from_empty o f)
 
 -- with the clause count begun
-clauses_step : (v w : ℕ) (c : List ℕ) (vs : List ℕ) (d : Digits) (bs : List ℕ) → number vs ≡ Some v → w ≡ min v (2 ^ 64 - 1) → IsShort d → option_map capped (number c) ≡ says d → (d ≡ Empty → ⊥) →
+clauses_step : (v w : ℕ) (c : List ℕ) (vs : List ℕ) (d : Digits) (bs : List ℕ) → number vs ≡ Some v → w ≡ min v (2 ^ 64 - 1) → IsShort d →
+    option_map capped (number c) ≡ says d → (d ≡ Empty → ⊥) →
     header_of (p_word ∷ cnf_word ∷ vs ∷ c ∷ words [] bs) ≡ header_says (header_from (clauses_ended w d) bs)
 clauses_step v w c vs Empty bs n e s f g = absurd (g refl)
 clauses_step v w c vs (Number m) bs n e s f g =
-    with_rest vs c (words [] bs) ∙ ap (λ o. alone (sizes o (number c)) (words [] bs)) n ∙ ap (λ h. alone h (words [] bs)) (counted v w (number c) (Number m) e s f) ∙ behind_last w m bs
+    with_rest vs c (words [] bs) ∙ ap (λ o. alone (sizes o (number c)) (words [] bs)) n
+    ∙ ap (λ h. alone h (words [] bs)) (counted v w (number c) (Number m) e s f) ∙ behind_last w m bs
 clauses_step v w c vs Large bs n e s f g =
-    with_rest vs c (words [] bs) ∙ ap (λ o. alone (sizes o (number c)) (words [] bs)) n ∙ ap (λ h. alone h (words [] bs)) (counted v w (number c) Large e s f) ∙ behind_bad (words [] bs) bs
+    with_rest vs c (words [] bs) ∙ ap (λ o. alone (sizes o (number c)) (words [] bs)) n
+    ∙ ap (λ h. alone h (words [] bs)) (counted v w (number c) Large e s f) ∙ behind_bad (words [] bs) bs
 clauses_step v w c vs NoNumber bs n e s f g =
-    with_rest vs c (words [] bs) ∙ ap (λ o. alone (sizes o (number c)) (words [] bs)) n ∙ ap (λ h. alone h (words [] bs)) (counted v w (number c) NoNumber e s f) ∙ behind_bad (words [] bs) bs
+    with_rest vs c (words [] bs) ∙ ap (λ o. alone (sizes o (number c)) (words [] bs)) n
+    ∙ ap (λ h. alone h (words [] bs)) (counted v w (number c) NoNumber e s f) ∙ behind_bad (words [] bs) bs
 
 not_begun : (d : Digits) → is_empty d ≡ false → d ≡ Empty → ⊥
 not_begun d e f = no (sym e ∙ ap is_empty f)
@@ -276,7 +289,8 @@ other_name p (t ∷ v ∷ c ∷ []) f = ap (λ b. if b && bytes_eq t cnf_word th
 other_name p (t ∷ v ∷ c ∷ more ∷ ts) f = refl
 
 -- a word that began otherwise
-wrong_format : (b : ℕ) (w bs : List ℕ) → ((more : List ℕ) → (b ∷ w) ++ more ≡ cnf_word → ⊥) → header_of (p_word ∷ words (b ∷ w) bs) ≡ header_says (header_from Bad bs)
+wrong_format : (b : ℕ) (w bs : List ℕ) → ((more : List ℕ) → (b ∷ w) ++ more ≡ cnf_word → ⊥) →
+    header_of (p_word ∷ words (b ∷ w) bs) ≡ header_says (header_from Bad bs)
 wrong_format b w bs f =
     let r = begun b w bs in
     ap (λ ts. header_of (p_word ∷ ts)) r.are ∙ other_format ((b ∷ w) ++ r.more) r.rest (f r.more) ∙ sym (bad_stays bs)
@@ -299,7 +313,8 @@ word_goes k b w bs x next f g = by_byte (b == k)
 format_end : (x : ℕ) (w : List ℕ) → header_of (p_word ∷ words (x ∷ w) []) ≡ Malformed
 format_end x w = ap (λ ts. header_of (p_word ∷ ts)) (tokens_end (x ∷ w))
 
-format_blank : (x : ℕ) (w : List ℕ) (b : ℕ) (bs : List ℕ) → is_blank b ≡ true → (x ∷ w ≡ cnf_word → ⊥) → header_of (p_word ∷ words (x ∷ w) (b ∷ bs)) ≡ header_says (header_from Bad bs)
+format_blank : (x : ℕ) (w : List ℕ) (b : ℕ) (bs : List ℕ) → is_blank b ≡ true → (x ∷ w ≡ cnf_word → ⊥) →
+    header_of (p_word ∷ words (x ∷ w) (b ∷ bs)) ≡ header_says (header_from Bad bs)
 format_blank x w b bs e f = ap (λ ts. header_of (p_word ∷ ts)) (tokens_blank true (x ∷ w) b bs e) ∙ other_format (x ∷ w) (words [] bs) f ∙ sym (bad_stays bs)
 
 cnf_agrees : (bs : List ℕ) → header_of (p_word ∷ words cnf_word bs) ≡ header_says (header_from Cnf bs)
@@ -332,7 +347,8 @@ gap_agrees (b ∷ bs) = by_byte (is_blank b)
     (λ e. ap (λ ts. header_of (p_word ∷ ts)) (tokens_more true [] b bs e) ∙ first (b == 99) refl ∙ sym (ap header_says (more_state Gap b bs e)))
   where
     first : (t : Bool) → (b == 99) ≡ t → header_of (p_word ∷ words (b ∷ []) bs) ≡ header_says (header_from (if b == 99 then C else Bad) bs)
-    first true e = ap (λ x. header_of (p_word ∷ words (x ∷ []) bs)) (is_byte b 99 e) ∙ c_agrees bs ∙ sym (ap (λ t. header_says (header_from (if t then C else Bad) bs)) e)
+    first true e = ap (λ x. header_of (p_word ∷ words (x ∷ []) bs)) (is_byte b 99 e) ∙ c_agrees bs
+        ∙ sym (ap (λ t. header_says (header_from (if t then C else Bad) bs)) e)
     first false e = wrong_format b [] bs (λ more h. not_byte b 99 e (begins b more h)) ∙ sym (ap (λ t. header_says (header_from (if t then C else Bad) bs)) e)
       where
         begins : (b : ℕ) (more : List ℕ) → (b ∷ []) ++ more ≡ cnf_word → b ≡ 99

@@ -43,7 +43,8 @@ reads_more s t u xs ys f g =
 
 -- 2. A piece.
 -- the source failed
-pub source_failed : (s t : Stand) (p q : Progress) (e : DimacsError) → t.given ≡ s.given → Keeps s.left t.left → t.pieces ≤ s.pieces → t.faults ≡ s.faults + 1 → e ≡ failing p → q.reading ≡ gives_from (BreaksOff Io) p [] → TakesPiece s p (Err e) t q
+pub source_failed : (s t : Stand) (p q : Progress) (e : DimacsError) → t.given ≡ s.given → Keeps s.left t.left → t.pieces ≤ s.pieces →
+    t.faults ≡ s.faults + 1 → e ≡ failing p → q.reading ≡ gives_from (BreaksOff Io) p [] → TakesPiece s p (Err e) t q
 source_failed s t p q e v k n f h b = record {
   piece = [];
   reads = record { gave = v ∙ sym (append-nil s.given); consumed = consumes_none s.left t.left k; no_more = n };
@@ -54,7 +55,8 @@ source_failed s t p q e v k n f h b = record {
 }
 
 -- the text has a fault, or memory ran out in it
-pub piece_failed : (s t : Stand) (p q : Progress) (piece : List ℕ) (e : DimacsError) → Reads s piece t → t.faults ≡ s.faults → AdvancesBy p piece q ⊎ RunsOutIn p piece q → q.reading.fault ≡ Some e → TakesPiece s p (Err e) t q
+pub piece_failed : (s t : Stand) (p q : Progress) (piece : List ℕ) (e : DimacsError) → Reads s piece t → t.faults ≡ s.faults → AdvancesBy p piece q
+    ⊎ RunsOutIn p piece q → q.reading.fault ≡ Some e → TakesPiece s p (Err e) t q
 piece_failed s t p q piece e k f w h = record {
   piece = piece;
   reads = k;
@@ -79,7 +81,8 @@ failing_told p e o h = by_fault p.reading.fault refl
     by_fault (Some x) g = ap (λ z. z.fault) (gives_failed (BreaksOff Io) p x g []) ∙ g ∙ ap Some (sym (h ∙ ap (λ f. failing_by f p.line) g))
 
 -- the fault that a piece had is the reader's, unless the text was over
-pub piece_told : (s t : Stand) (p q : Progress) (e : DimacsError) (r : Result Bool DimacsError) → p.over ≡ false → TakesPiece s p r t q → r ≡ Err e → q.reading.fault ≡ Some e
+pub piece_told : (s t : Stand) (p q : Progress) (e : DimacsError) (r : Result Bool DimacsError) → p.over ≡ false → TakesPiece s p r t q →
+    r ≡ Err e → q.reading.fault ≡ Some e
 piece_told s t p q e r o k h = by_why (k.bad e h).0 (k.bad e h).1
   where
     by_why : (rise : ℕ) → EndsInFault p k.piece q e rise → q.reading.fault ≡ Some e
@@ -114,7 +117,8 @@ read_nothing s p e = record {
   quiet = refl;
 }
 
-pub read_more : (s t u : Stand) (p q : Progress) (more : Bool) (r : Result Bool DimacsError) → ReadSo s t p → TakesPiece t p r u q → r ≡ Ok more → q.over ≡ p.over → ReadSo s u q
+pub read_more : (s t u : Stand) (p q : Progress) (more : Bool) (r : Result Bool DimacsError) → ReadSo s t p → TakesPiece t p r u q → r ≡ Ok more →
+    q.over ≡ p.over → ReadSo s u q
 read_more s t u p q more r w k e o =
     let g = k.good more e in
     record {
@@ -136,13 +140,15 @@ not_both : (f : Formula) (e : DimacsError) (r : Result Formula DimacsError) → 
 not_both f e r a b = cc
 
 -- what the definition of a text says of it
-whole_gives : (ending : Ending) (text : List ℕ) (p : Progress) (rest : List ℕ) → AdvancesBy begin text p → gives ending (text ++ rest) ≡ gives_from ending p rest
+whole_gives : (ending : Ending) (text : List ℕ) (p : Progress) (rest : List ℕ) → AdvancesBy begin text p →
+    gives ending (text ++ rest) ≡ gives_from ending p rest
 whole_gives ending text p rest f = sym (begin_gives ending (text ++ rest)) ∙ sym (f.same ending rest)
 
 end_gives : (ending : Ending) (text : List ℕ) (p : Progress) → AdvancesBy begin text p → gives ending text ≡ gives_from ending p []
 end_gives ending text p f = sym (ap (λ x. gives ending x) (append-nil text)) ∙ whole_gives ending text p [] f
 
-pub fault_told : (s t u : Stand) (p q : Progress) (e : DimacsError) (r : Result Bool DimacsError) (answer : Result Formula DimacsError) → ReadSo s t p → TakesPiece t p r u q → r ≡ Err e → answer ≡ Err e → Parses s answer u
+pub fault_told : (s t u : Stand) (p q : Progress) (e : DimacsError) (r : Result Bool DimacsError) (answer : Result Formula DimacsError) →
+    ReadSo s t p → TakesPiece t p r u q → r ≡ Err e → answer ≡ Err e → Parses s answer u
 fault_told s t u p q e r answer w k d a = record {
   text = w.text ++ k.piece;
   reads = reads_more s t u w.text k.piece w.reads k.reads;
@@ -168,20 +174,29 @@ fault_told s t u p q e r answer w k d a = record {
           rest = drop o.at k.piece;
           splits = append_assoc w.text front (drop o.at k.piece) ∙ ap (λ z. w.text ++ z) (take-append-drop o.at k.piece);
           ends = blank_ends u o.at k.piece o.blank;
-          wants = kept_by _ _ _ _ (whole_gives GoesOn w.text p front w.advances) (ap so_far (append_assoc w.text front (32 ∷ [])) ∙ whole_gives GoesOn w.text p (front ++ 32 ∷ []) w.advances) o.out.wants;
+          wants = kept_by _ _ _ _ (whole_gives GoesOn w.text p front w.advances)
+              (ap so_far (append_assoc w.text front (32 ∷ [])) ∙ whole_gives GoesOn w.text p (front ++ 32 ∷ []) w.advances) o.out.wants;
           told = ap (λ z. z.fault) (whole_gives (BreaksOff OutOfMemory) w.text p front w.advances ∙ sym o.out.reading) ∙ h;
         })
         (as_before rise z n)
     why rise (SourceFailed b h m z) n =
-        OfSource (ap (λ z. z.fault) (ap (λ z. broken Io (w.text ++ z)) m ∙ whole_gives (BreaksOff Io) w.text p [] w.advances) ∙ failing_told p e w.open_still h) (one_more rise z n)
+        OfSource (ap (λ z. z.fault) (ap (λ z. broken Io (w.text ++ z)) m ∙ whole_gives (BreaksOff Io) w.text p [] w.advances)
+        ∙ failing_told p e w.open_still h) (one_more rise z n)
 
 -- the text ended
-pub formula_told : (s t : Stand) (p q : Progress) (answer : Result Formula DimacsError) (f : Formula) → ReadSo s t p → HasEnded t → IsEnding p q → q.reading.fault ≡ None →
+pub formula_told : (s t : Stand) (p q : Progress) (answer : Result Formula DimacsError) (f : Formula) → ReadSo s t p → HasEnded t → IsEnding p q →
+    q.reading.fault ≡ None →
     f ≡ record { var_count = q.reading.highest; clauses = q.reading.clauses } → answer ≡ Ok f → Parses s answer t
 formula_told s t p q answer f w a r h d b = record {
   text = w.text;
   reads = w.reads;
-  formula = λ x c. (sym (same_ok f x answer b c) ∙ d ∙ ap (λ z. record { var_count = z.highest; clauses = z.clauses }) is_whole, ap (λ z. z.fault) (sym is_whole) ∙ h, a, w.quiet);
+  formula = λ x c. (
+    sym (same_ok f x answer b c) ∙ d ∙ ap (λ z. record { var_count = z.highest; clauses = z.clauses }) is_whole,
+    ap (λ z. z.fault)
+        (sym is_whole) ∙ h,
+    a,
+    w.quiet,
+  );
   fault = λ e c. absurd (not_both f e answer b c);
 }
   where
@@ -195,7 +210,8 @@ formula_told s t p q answer f w a r h d b = record {
     is_whole : q.reading ≡ dimacs w.text
     is_whole = by_end r
 
-pub end_told : (s t : Stand) (p q : Progress) (e : DimacsError) (answer : Result Formula DimacsError) → ReadSo s t p → HasEnded t → IsEnding p q → q.reading.fault ≡ Some e → answer ≡ Err e → Parses s answer t
+pub end_told : (s t : Stand) (p q : Progress) (e : DimacsError) (answer : Result Formula DimacsError) → ReadSo s t p → HasEnded t → IsEnding p q →
+    q.reading.fault ≡ Some e → answer ≡ Err e → Parses s answer t
 end_told s t p q e answer w a r h b = record {
   text = w.text;
   reads = w.reads;

@@ -36,13 +36,17 @@ pub ran_out : (p s t q : Progress) (text : List ℕ) → AdvancesBy p text s →
     q ≡ record t { reading = failed t.reading t.line OutOfMemory } → RunsOut p text q
 ran_out p s t q text f e h w d k =
     let here : so_far_from p text ≡ s.reading = sym (ap (λ x. so_far_from p x) (append-nil text)) ∙ sym (f.same GoesOn []) ∙ goes_on s in
-    let there : so_far_from p (text ++ 32 ∷ []) ≡ read s.reading (word_items s.line w.word) = sym (f.same GoesOn (32 ∷ [])) ∙ blank_gives s w.word e w.place_is in
+    let there : so_far_from p (text ++ 32 ∷ []) ≡ read s.reading (word_items s.line w.word) = sym (f.same GoesOn (32 ∷ []))
+    ∙ blank_gives s w.word e w.place_is in
     let failing : Progress → Reading = λ x. failed x.reading x.line OutOfMemory in
     record {
-      reading = ap (λ x. x.reading) k ∙ ap failing d ∙ sym (breaks_off OutOfMemory s e h) ∙ f.same (BreaksOff OutOfMemory) [] ∙ ap (λ x. gives_from (BreaksOff OutOfMemory) p x) (append-nil text);
-      wants = subst (λ x. KeepsToken x (so_far_from p (text ++ 32 ∷ []))) (sym here) (kept_at s.reading (read s.reading (word_items s.line w.word)) (so_far_from p (text ++ 32 ∷ [])) there w.keeps);
+      reading = ap (λ x. x.reading) k ∙ ap failing d ∙ sym (breaks_off OutOfMemory s e h) ∙ f.same (BreaksOff OutOfMemory) []
+          ∙ ap (λ x. gives_from (BreaksOff OutOfMemory) p x) (append-nil text);
+      wants = subst (λ x. KeepsToken x (so_far_from p (text ++ 32 ∷ []))) (sym here)
+          (kept_at s.reading (read s.reading (word_items s.line w.word)) (so_far_from p (text ++ 32 ∷ [])) there w.keeps);
     }
 
-pub ran_out_in : (p s t q : Progress) (piece : List ℕ) (i : ℕ) → AdvancesBy p (take i piece) s → s.over ≡ false → s.reading.fault ≡ None → WantsRoom s → is_blank (get_or piece i 0) ≡ true → t ≡ s →
+pub ran_out_in : (p s t q : Progress) (piece : List ℕ) (i : ℕ) → AdvancesBy p (take i piece) s → s.over ≡ false → s.reading.fault ≡ None →
+    WantsRoom s → is_blank (get_or piece i 0) ≡ true → t ≡ s →
     q ≡ record t { reading = failed t.reading t.line OutOfMemory } → RunsOutIn p piece q
 ran_out_in p s t q piece i f e h w b d k = record { at = i; blank = b; out = ran_out p s t q (take i piece) f e h w d k }

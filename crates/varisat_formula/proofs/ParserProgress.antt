@@ -88,14 +88,17 @@ plain_more n w b h ended line = ap (λ t. if t then word_items n w ++ plain_rest
 pub header_more : (n : ℕ) (h : HeaderPart) (b : ℕ) → LineStep n (Header h) b [] (Header (after_header_byte h b))
 header_more n h b ended line = refl
 
-plain_start : (n b : ℕ) (ended : Bool) (line : List ℕ) → plain_rest ended n no_word (b ∷ line) ≡ line_rest ended n (if is_blank b then Plain no_word else Plain (after_byte no_word b)) line
+plain_start : (n b : ℕ) (ended : Bool) (line : List ℕ) → plain_rest ended n no_word (b ∷ line) ≡ line_rest ended n
+    (if is_blank b then Plain no_word else Plain (after_byte no_word b)) line
 plain_start n b ended line = go (is_blank b)
   where
-    go : (t : Bool) → (if t then [] ++ plain_rest ended n no_word line else plain_rest ended n (after_byte no_word b) line) ≡ line_rest ended n (if t then Plain no_word else Plain (after_byte no_word b)) line
+    go : (t : Bool) → (if t then [] ++ plain_rest ended n no_word line else plain_rest ended n (after_byte no_word b) line) ≡ line_rest ended n
+        (if t then Plain no_word else Plain (after_byte no_word b)) line
     go true = refl
     go false = refl
 
-header_start : (n b : ℕ) (ended : Bool) (line : List ℕ) → b ≡ 112 → header_items ended n (header_of (tokens true (b ∷ line))) ≡ line_rest ended n (Header Name) line
+header_start : (n b : ℕ) (ended : Bool) (line : List ℕ) → b ≡ 112 →
+    header_items ended n (header_of (tokens true (b ∷ line))) ≡ line_rest ended n (Header Name) line
 header_start n b ended line e = ap (λ x. header_items ended n (header_of (tokens true (x ∷ line)))) e ∙ ap (λ h. header_items ended n h) (header_agrees line)
 
 is_byte : (b k : ℕ) → (b == k) ≡ true → b ≡ k
@@ -130,17 +133,22 @@ start_more n b ended line = by_first (b == 99) refl
 pub open_gives : (ending : Ending) (p : Progress) (rest : List ℕ) → p.over ≡ false →
     gives_from ending p rest ≡ close ending (read p.reading (rest_items (is_whole ending) p.line p.place (lines rest))) (last_line p.line (lines rest))
 open_gives ending p rest e =
-    ap (λ t. if t then p.reading else close ending (read p.reading (rest_items (is_whole ending) p.line p.place (lines rest))) (last_line p.line (lines rest))) e
+    ap (λ t. if t then p.reading else close ending (read p.reading (rest_items (is_whole ending) p.line p.place (lines rest)))
+    (last_line p.line (lines rest))) e
 
 pub over_gives : (ending : Ending) (p : Progress) (rest : List ℕ) → p.over ≡ true → gives_from ending p rest ≡ p.reading
 over_gives ending p rest e =
-    ap (λ t. if t then p.reading else close ending (read p.reading (rest_items (is_whole ending) p.line p.place (lines rest))) (last_line p.line (lines rest))) e
+    ap (λ t. if t then p.reading else close ending (read p.reading (rest_items (is_whole ending) p.line p.place (lines rest)))
+    (last_line p.line (lines rest))) e
 
 pub advances_none : (p : Progress) → AdvancesBy p [] p
 advances_none p = record { same = λ ending rest. refl }
 
 pub advances_more : (p q s : Progress) (a b : List ℕ) → AdvancesBy p a q → AdvancesBy q b s → AdvancesBy p (a ++ b) s
-advances_more p q s a b f g = record { same = λ ending rest. g.same ending rest ∙ f.same ending (b ++ rest) ∙ ap (λ t. gives_from ending p t) (sym (append_assoc a b rest)) }
+advances_more p q s a b f g = record {
+  same = λ ending rest. g.same ending rest ∙ f.same ending (b ++ rest)
+      ∙ ap (λ t. gives_from ending p t) (sym (append_assoc a b rest));
+}
 
 pub gives_failed : (ending : Ending) (p : Progress) (e : DimacsError) → p.reading.fault ≡ Some e → (text : List ℕ) → gives_from ending p text ≡ p.reading
 gives_failed ending p e h text = by_over p.over refl
@@ -164,15 +172,18 @@ pub advances_byte : (n : ℕ) (place : Place) (r : Reading) (b : ℕ) (front : L
 advances_byte n place r b front place' s h = record {
   same = λ ending rest.
       ap (λ x. close ending x (last_line n (lines rest)))
-      (sym (read-append r front (rest_items (is_whole ending) n place' (lines rest))) ∙ sym (ap (λ xs. read r xs) (step_items (is_whole ending) n place b front place' s h rest)))
+      (sym (read-append r front (rest_items (is_whole ending) n place' (lines rest)))
+      ∙ sym (ap (λ xs. read r xs) (step_items (is_whole ending) n place b front place' s h rest)))
       ∙ ap (λ m. close ending (read r (rest_items (is_whole ending) n place (lines (b ∷ rest)))) m) (sym (step_last n b h rest));
 }
 
-pub advances_line_feed : (n : ℕ) (place : Place) (r : Reading) → AdvancesBy (standing n place r) (10 ∷ []) (standing (next n) Start (read r (line_rest true n place [])))
+pub advances_line_feed : (n : ℕ) (place : Place) (r : Reading) →
+    AdvancesBy (standing n place r) (10 ∷ []) (standing (next n) Start (read r (line_rest true n place [])))
 advances_line_feed n place r = record {
   same = λ ending rest.
       ap (λ x. close ending x (last_line (next n) (lines rest)))
-      (sym (read-append r (line_rest true n place []) (rest_items (is_whole ending) (next n) Start (lines rest))) ∙ sym (ap (λ xs. read r xs) (line_feed_items (is_whole ending) n place rest)))
+      (sym (read-append r (line_rest true n place []) (rest_items (is_whole ending) (next n) Start (lines rest)))
+      ∙ sym (ap (λ xs. read r xs) (line_feed_items (is_whole ending) n place rest)))
       ∙ ap (λ m. close ending (read r (rest_items (is_whole ending) n place (lines (10 ∷ rest)))) m) (sym (line_feed_last n rest));
 }
 
@@ -186,7 +197,8 @@ place_now n Comment = refl
 place_now n (Header h) = refl
 place_now n (Plain w) = refl
 
-pub breaks_off : (kind : DimacsErrorKind) (p : Progress) → p.over ≡ false → p.reading.fault ≡ None → gives_from (BreaksOff kind) p [] ≡ failed p.reading p.line kind
+pub breaks_off : (kind : DimacsErrorKind) (p : Progress) → p.over ≡ false → p.reading.fault ≡ None →
+    gives_from (BreaksOff kind) p [] ≡ failed p.reading p.line kind
 breaks_off kind p e h =
     open_gives (BreaksOff kind) p [] e
     ∙ ap (λ xs. close (BreaksOff kind) (read p.reading xs) p.line) (place_now p.line p.place)
@@ -204,21 +216,26 @@ goes_on p = by_over p.over refl
     by_over false f = open_gives GoesOn p [] f ∙ ap (λ xs. close GoesOn (read p.reading xs) p.line) (place_now p.line p.place) ∙ by_fault p.reading.fault
 
 -- 4. The same, for what the code has.
-pub reads_byte : (s p q : Progress) (b : ℕ) (front : List Item) (place place' : Place) → p ≡ s → s.over ≡ false → p.place ≡ place → q ≡ record p { place = place'; reading = read p.reading front } →
+pub reads_byte : (s p q : Progress) (b : ℕ) (front : List Item) (place place' : Place) → p ≡ s → s.over ≡ false → p.place ≡ place →
+    q ≡ record p { place = place'; reading = read p.reading front } →
     LineStep p.line place b front place' → is_line_feed b ≡ false → AdvancesBy s (b ∷ []) q
 reads_byte s p q b front place place' v e f k step h =
     let o : p.over ≡ false = ap (λ x. x.over) v ∙ e in
     let p_is : p ≡ standing p.line place p.reading = ap (λ x. record p { over = x }) o ∙ ap (λ x. standing p.line x p.reading) f in
-    let q_is : q ≡ standing p.line place' (read p.reading front) = k ∙ ap (λ x. record { line = p.line; place = place'; over = x; reading = read p.reading front }) o in
-    subst (λ x. AdvancesBy x (b ∷ []) q) (sym p_is ∙ v) (subst (λ x. AdvancesBy (standing p.line place p.reading) (b ∷ []) x) (sym q_is) (advances_byte p.line place p.reading b front place' step h))
+    let q_is : q ≡ standing p.line place' (read p.reading front) = k
+    ∙ ap (λ x. record { line = p.line; place = place'; over = x; reading = read p.reading front }) o in
+    subst (λ x. AdvancesBy x (b ∷ []) q) (sym p_is ∙ v)
+    (subst (λ x. AdvancesBy (standing p.line place p.reading) (b ∷ []) x) (sym q_is) (advances_byte p.line place p.reading b front place' step h))
 
-pub reads_line_feed : (s q : Progress) (b : ℕ) → s.over ≡ false → b ≡ 10 → q ≡ record s { line = next s.line; place = Start; reading = read s.reading (line_rest true s.line s.place []) } → AdvancesBy s (b ∷ []) q
+pub reads_line_feed : (s q : Progress) (b : ℕ) → s.over ≡ false → b ≡ 10 →
+    q ≡ record s { line = next s.line; place = Start; reading = read s.reading (line_rest true s.line s.place []) } → AdvancesBy s (b ∷ []) q
 reads_line_feed s q b e f k =
     let s_is : s ≡ standing s.line s.place s.reading = ap (λ x. record s { over = x }) e in
     let q_is : q ≡ standing (next s.line) Start (read s.reading (line_rest true s.line s.place [])) =
     k ∙ ap (λ x. record { line = next s.line; place = Start; over = x; reading = read s.reading (line_rest true s.line s.place []) }) e in
     subst (λ x. AdvancesBy x (b ∷ []) q) (sym s_is) (subst (λ x. AdvancesBy (standing s.line s.place s.reading) (b ∷ []) x) (sym q_is)
-    (subst (λ c. AdvancesBy (standing s.line s.place s.reading) (c ∷ []) (standing (next s.line) Start (read s.reading (line_rest true s.line s.place [])))) (sym f) (advances_line_feed s.line s.place s.reading)))
+    (subst (λ c. AdvancesBy (standing s.line s.place s.reading) (c ∷ [])
+    (standing (next s.line) Start (read s.reading (line_rest true s.line s.place [])))) (sym f) (advances_line_feed s.line s.place s.reading)))
 
 -- a piece, of which a byte was the last that was read
 pub stopped : (p s q : Progress) (piece : List ℕ) (i : ℕ) (e : DimacsError) → i < length piece →
@@ -226,4 +243,5 @@ pub stopped : (p s q : Progress) (piece : List ℕ) (i : ℕ) (e : DimacsError) 
 stopped p s q piece i e l f g h =
     subst (λ t. AdvancesBy p t q)
     (ap (λ t. t ++ drop (suc i) piece) (sym (take-suc piece i 0 l)) ∙ take-append-drop (suc i) piece)
-    (advances_more p q q (take i piece ++ get_or piece i 0 ∷ []) (drop (suc i) piece) (advances_more p s q (take i piece) (get_or piece i 0 ∷ []) f g) (advances_failed q e (drop (suc i) piece) h))
+    (advances_more p q q (take i piece ++ get_or piece i 0 ∷ []) (drop (suc i) piece)
+    (advances_more p s q (take i piece) (get_or piece i 0 ∷ []) f g) (advances_failed q e (drop (suc i) piece) h))

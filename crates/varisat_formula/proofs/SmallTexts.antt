@@ -31,7 +31,8 @@ wrong_tokens = (refl, refl)
 pub large_literal : AllFail (codes "-268435457 0\n" ∷ []) (at 1 LiteralTooLarge)
 large_literal = (refl, refl)
 
-pub malformed_headers : AllFail (codes "pq" ∷ codes "p cnf 1 18446744073709551616" ∷ codes "p cnf 268435457 01" ∷ codes "p cnf 1 1 1\n1 0" ∷ []) (at 1 InvalidHeader)
+pub malformed_headers : AllFail (codes "pq" ∷ codes "p cnf 1 18446744073709551616" ∷ codes "p cnf 268435457 01" ∷ codes "p cnf 1 1 1\n1 0" ∷ [])
+    (at 1 InvalidHeader)
 malformed_headers = (refl, refl)
 
 pub late_headers : AllFail (codes "p cnf 0 0\np cnf 0 0\n" ∷ codes "1\np cnf 1 1\n0" ∷ []) (at 2 InvalidHeader)

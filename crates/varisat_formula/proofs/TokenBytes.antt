@@ -30,7 +30,8 @@ none_stays (b ∷ bs) = none_stays bs
 abbrev pub state_of : ℕ → Digits
 state_of m = if nat_lt m (2 ^ 64) then Number m else Large
 
-next_case : (t : Bool) (k b : ℕ) → nat_lt (suc k) (2 ^ 64) ≡ t → after_digit (state_of (suc k)) b ≡ (if is_digit b then state_of (10 * suc k + (b - 48)) else NoNumber)
+next_case : (t : Bool) (k b : ℕ) → nat_lt (suc k) (2 ^ 64) ≡ t →
+    after_digit (state_of (suc k)) b ≡ (if is_digit b then state_of (10 * suc k + (b - 48)) else NoNumber)
 next_case true k b e = ap (λ t. after_digit (if t then Number (suc k) else Large) b) e
 next_case false k b e =
     let f : nat_lt (10 * suc k + (b - 48)) (2 ^ 64) ≡ false = not_below (suc k) (10 * suc k + (b - 48)) e (omega arith) in
@@ -68,7 +69,8 @@ digits_agree m (b ∷ bs) h =
 digit_bound : (b : ℕ) → is_digit b ≡ true → (48 ≤ b) × (b ≤ 57)
 digit_bound b e = search (rules, e)
 
-one_digit : (t : Bool) (b : ℕ) → is_digit b ≡ t → option_map capped (if t then Some (10 * 0 + (b - 48)) else None) ≡ says (if t then Number (b - 48) else NoNumber)
+one_digit : (t : Bool) (b : ℕ) → is_digit b ≡ t → option_map capped (if t then Some (10 * 0 + (b - 48)) else None) ≡ says
+    (if t then Number (b - 48) else NoNumber)
 one_digit true b e = let h = digit_bound b e in ap Some (omega (arith, h))
 one_digit false b e = refl
 
@@ -178,7 +180,8 @@ pub digits_not_empty : (d : Digits) (bs : List ℕ) → is_empty d ≡ false →
 digits_not_empty d [] h = h
 digits_not_empty d (b ∷ bs) h = digits_not_empty (after_digit d b) bs (not_empty d b)
 
-behind_digits : (d : Digits) (bs : List ℕ) → is_empty d ≡ false → word_from (record { minus = false; digits = d }) bs ≡ record { minus = false; digits = digits_from d bs }
+behind_digits : (d : Digits) (bs : List ℕ) → is_empty d ≡ false →
+    word_from (record { minus = false; digits = d }) bs ≡ record { minus = false; digits = digits_from d bs }
 behind_digits d [] h = refl
 behind_digits d (b ∷ bs) h =
     ap (λ t. word_from (if t && (b == 45) then record { minus = true; digits = Empty } else record { minus = false; digits = after_digit d b }) bs) h
@@ -186,15 +189,18 @@ behind_digits d (b ∷ bs) h =
 
 -- the token of bytes
 word_case : (t : Bool) (b : ℕ) (bs : List ℕ) → (b == 45) ≡ t →
-    word_from no_word (b ∷ bs) ≡ (if t then record { minus = true; digits = digits_from Empty bs } else record { minus = false; digits = digits_from Empty (b ∷ bs) })
+    word_from no_word (b ∷ bs) ≡ (if t then record { minus = true; digits = digits_from Empty bs } else
+    record { minus = false; digits = digits_from Empty (b ∷ bs) })
 word_case true b bs e =
-    ap (λ t. word_from (if t then record { minus = true; digits = Empty } else record { minus = false; digits = after_digit Empty b }) bs) e ∙ behind_minus Empty bs
+    ap (λ t. word_from (if t then record { minus = true; digits = Empty } else record { minus = false; digits = after_digit Empty b }) bs) e
+    ∙ behind_minus Empty bs
 word_case false b bs e =
     ap (λ t. word_from (if t then record { minus = true; digits = Empty } else record { minus = false; digits = after_digit Empty b }) bs) e
     ∙ behind_digits (after_digit Empty b) bs (not_empty Empty b)
 
 meaning_case : (t : Bool) (b : ℕ) (bs : List ℕ) →
-    (if t then negative (number bs) else positive (number (b ∷ bs))) ≡ word_says (if t then record { minus = true; digits = digits_from Empty bs } else record { minus = false; digits = digits_from Empty (b ∷ bs) })
+    (if t then negative (number bs) else positive (number (b ∷ bs))) ≡ word_says
+    (if t then record { minus = true; digits = digits_from Empty bs } else record { minus = false; digits = digits_from Empty (b ∷ bs) })
 meaning_case true b bs = sym (negative_capped (number bs)) ∙ ap negative (number_agrees bs)
 meaning_case false b bs = sym (positive_capped (number (b ∷ bs))) ∙ ap positive (number_agrees (b ∷ bs))
 
@@ -202,7 +208,8 @@ pub meaning_agrees : (w : List ℕ) → meaning w ≡ word_says (word_from no_wo
 meaning_agrees [] = refl
 meaning_agrees (b ∷ bs) = meaning_case (b == 45) b bs ∙ sym (ap word_says (word_case (b == 45) b bs refl))
 
-some_case : (t : Bool) (b : ℕ) (bs : List ℕ) → is_none (if t then record { minus = true; digits = digits_from Empty bs } else record { minus = false; digits = digits_from Empty (b ∷ bs) }) ≡ false
+some_case : (t : Bool) (b : ℕ) (bs : List ℕ) →
+    is_none (if t then record { minus = true; digits = digits_from Empty bs } else record { minus = false; digits = digits_from Empty (b ∷ bs) }) ≡ false
 some_case true b bs = refl
 some_case false b bs = digits_not_empty (after_digit Empty b) bs (not_empty Empty b)
 
@@ -266,7 +273,8 @@ tokens_end w = ap (λ x. nonempty (x ∷ [])) (append-nil w) ∙ one w
     one [] = refl
     one (b ∷ bs) = refl
 
-pub tokens_blank : (ended : Bool) (w : List ℕ) (b : ℕ) (line : List ℕ) → is_blank b ≡ true → tokens_behind ended w (b ∷ line) ≡ one_token w ++ tokens_behind ended [] line
+pub tokens_blank : (ended : Bool) (w : List ℕ) (b : ℕ) (line : List ℕ) → is_blank b ≡ true →
+    tokens_behind ended w (b ∷ line) ≡ one_token w ++ tokens_behind ended [] line
 tokens_blank ended w b line h =
     let p = split_pieces is_blank line in
     ap (λ t. nonempty (ended_pieces ended (join w (put t b (split is_blank line))))) h
@@ -275,7 +283,8 @@ tokens_blank ended w b line h =
     ∙ blank_pieces ended w p.first p.rest
     ∙ sym (ap (λ ps. one_token w ++ nonempty (ended_pieces ended (join [] ps))) p.are)
 
-pub tokens_more : (ended : Bool) (w : List ℕ) (b : ℕ) (line : List ℕ) → is_blank b ≡ false → tokens_behind ended w (b ∷ line) ≡ tokens_behind ended (w ++ b ∷ []) line
+pub tokens_more : (ended : Bool) (w : List ℕ) (b : ℕ) (line : List ℕ) → is_blank b ≡ false →
+    tokens_behind ended w (b ∷ line) ≡ tokens_behind ended (w ++ b ∷ []) line
 tokens_more ended w b line h =
     let p = split_pieces is_blank line in
     ap (λ t. nonempty (ended_pieces ended (join w (put t b (split is_blank line))))) h
@@ -289,7 +298,8 @@ items-append n (t ∷ ts) us = ap (λ xs. Token n (meaning t) ∷ xs) (items-app
 
 tokens_step : (t ended : Bool) (n : ℕ) (w : List ℕ) (b : ℕ) (line : List ℕ) → is_blank b ≡ t →
     ((v : List ℕ) → token_items n (tokens_behind ended v line) ≡ plain_rest ended n (word_from no_word v) line) →
-    token_items n (tokens_behind ended w (b ∷ line)) ≡ (if t then word_items n (word_from no_word w) ++ plain_rest ended n no_word line else plain_rest ended n (after_byte (word_from no_word w) b) line)
+    token_items n (tokens_behind ended w (b ∷ line)) ≡ (if t then word_items n
+    (word_from no_word w) ++ plain_rest ended n no_word line else plain_rest ended n (after_byte (word_from no_word w) b) line)
 tokens_step true ended n w b line h f =
     ap (λ ts. token_items n ts) (tokens_blank ended w b line h)
     ∙ items-append n (one_token w) (tokens_behind ended [] line)

@@ -35,8 +35,10 @@ pub rest_bound : (i n m : ℕ) (xs : List ℕ) → m ≡ i + n → i ≤ length 
 rest_bound i n m xs e h k = let f = ap length (rest_taken i xs) in let g = length-drop i xs in omega arith
 
 -- one write more
-pub wrote_more : (a b c : Option (List ℕ)) (bytes : List ℕ) (i n m : ℕ) → m ≡ i + n → Appends a b (take i bytes) → Appends b c (take n (take (length bytes - i) (drop i bytes))) → Appends a c (take m bytes)
-wrote_more a b c bytes i n m e f g = appends_more a b c (take i bytes) (take n (drop i bytes)) (take m bytes) f (subst (λ xs. Appends b c (take n xs)) (rest_taken i bytes) g) (take_add i n bytes ∙ ap (λ k. take k bytes) (sym e))
+pub wrote_more : (a b c : Option (List ℕ)) (bytes : List ℕ) (i n m : ℕ) → m ≡ i + n → Appends a b (take i bytes) →
+    Appends b c (take n (take (length bytes - i) (drop i bytes))) → Appends a c (take m bytes)
+wrote_more a b c bytes i n m e f g = appends_more a b c (take i bytes) (take n (drop i bytes)) (take m bytes) f
+    (subst (λ xs. Appends b c (take n xs)) (rest_taken i bytes) g) (take_add i n bytes ∙ ap (λ k. take k bytes) (sym e))
 
 -- a write that failed
 pub wrote_none : (a b c : Option (List ℕ)) (bytes : List ℕ) (i m : ℕ) → m ≡ i → Appends a b (take i bytes) → Keeps b c → Appends a c (take m bytes)

@@ -39,7 +39,8 @@ digit_solid : (k : ℕ) → k < 10 → is_blank (48 + k) ≡ false
 digit_solid k h = search (rules, h)
 
 decimal_solid : (n : ℕ) → n < 2 ^ 64 → Solid (decimal n)
-decimal_solid n h = decimal_by_steps (λ k ds. Solid ds) (λ k l. (digit_solid k l, tt)) (λ k ds l s. solid_end ds (48 + k % 10) s (digit_solid (k % 10) (omega arith))) n h
+decimal_solid n h = decimal_by_steps (λ k ds. Solid ds) (λ k l. (digit_solid k l, tt))
+    (λ k ds l s. solid_end ds (48 + k % 10) s (digit_solid (k % 10) (omega arith))) n h
 
 or_last : (x y z w : Bool) → (x || y || z || w) ≡ false → w ≡ false
 or_last true y z w h = absurd cc
@@ -57,11 +58,13 @@ solid_advances n w (b ∷ bs) r s =
     (advances_byte n (Plain w) r b [] (Plain (after_byte w b)) (plain_more n w b s.0) (not_feed b s.0)) (solid_advances n (after_byte w b) bs r s.1)
 
 -- a token and a space
-token_advances : (n : ℕ) (bs : List ℕ) (r : Reading) → Solid bs → AdvancesBy (plain n no_word r) (bs ++ 32 ∷ []) (plain n no_word (read r (word_items n (word_from no_word bs))))
+token_advances : (n : ℕ) (bs : List ℕ) (r : Reading) → Solid bs →
+    AdvancesBy (plain n no_word r) (bs ++ 32 ∷ []) (plain n no_word (read r (word_items n (word_from no_word bs))))
 token_advances n bs r s =
     advances_more (plain n no_word r) (plain n (word_from no_word bs) r) (plain n no_word (read r (word_items n (word_from no_word bs)))) bs (32 ∷ [])
     (solid_advances n no_word bs r s)
-    (advances_byte n (Plain (word_from no_word bs)) r 32 (word_items n (word_from no_word bs)) (Plain no_word) (plain_blank n (word_from no_word bs) 32 refl) refl)
+    (advances_byte n (Plain (word_from no_word bs)) r 32 (word_items n (word_from no_word bs)) (Plain no_word)
+    (plain_blank n (word_from no_word bs) 32 refl) refl)
 
 -- 2. Literals.
 meaning_plain : (ds : List ℕ) → 48 < get_or ds 0 0 → meaning ds ≡ positive (number ds)
@@ -84,7 +87,15 @@ ranged s n l h e = ap (λ t. if t then TooLarge else Literal (literal_of (n - 1)
 
 -- the reading of a formula that is being read
 abbrev pub at : ℕ → ℕ → List (List ℕ) → List ℕ → ℕ → Reading
-at vars total done begun k = record { clauses = done; begun = begun; count = k; header = Some (record { vars = vars; clauses = total }); highest = vars; fault = None }
+at vars total done begun k = record {
+  clauses = done;
+  begun = begun;
+  count = k;
+  header = Some (record { vars = vars; clauses = total });
+  highest =
+      vars;
+  fault = None;
+}
 
 not_full : (begun : List ℕ) (vars total k : ℕ) → k < total → is_one_too_many (Some (record { vars = vars; clauses = total })) begun k ≡ false
 not_full [] vars total k h = search (rules, h)
@@ -96,8 +107,17 @@ after_literal vars total done begun k n l f g =
     let top : max vars (l / 2 + 1) ≡ vars = omega arith in
     let small : l / 2 + 1 ≤ vars = omega arith in
     let r : Reading = at vars total done begun k in
-    let s : ℕ → Reading = λ x. record { clauses = done; begun = begun ++ l ∷ []; count = k; header = Some (record { vars = vars; clauses = total }); highest = x; fault = None } in
-    ap (λ t. if t then failed r n ClauseCount else (if nat_lt vars (l / 2 + 1) then failed r n VarCount else s (max vars (l / 2 + 1)))) (not_full begun vars total k f)
+    let s : ℕ → Reading = λ x. record {
+      clauses = done;
+      begun = begun ++ l ∷ [];
+      count = k;
+      header =
+          Some (record { vars = vars; clauses = total });
+      highest = x;
+      fault = None;
+    } in
+    ap (λ t. if t then failed r n ClauseCount else (if nat_lt vars (l / 2 + 1) then failed r n VarCount else s (max vars (l / 2 + 1))))
+    (not_full begun vars total k f)
     ∙ ap (λ t. if t then failed r n VarCount else s (max vars (l / 2 + 1))) (not_large vars (l / 2 + 1) small)
     ∙ ap s top
 
@@ -136,7 +156,8 @@ literal_case false l h e =
       some = omega arith;
     }
 
-token_read : (r : Reading) (n : ℕ) (text : List ℕ) → r.fault ≡ None → 0 < length text → read r (word_items n (word_from no_word text)) ≡ after_token r n (meaning text)
+token_read : (r : Reading) (n : ℕ) (text : List ℕ) → r.fault ≡ None → 0 < length text →
+    read r (word_items n (word_from no_word text)) ≡ after_token r n (meaning text)
 token_read r n [] h l = absurd (omega arith)
 token_read r n (b ∷ bs) h l = sym (ap (λ xs. read r xs) (one_items n (b ∷ bs))) ∙ ap (λ f. step_with f r n (meaning (b ∷ bs))) h
   where
@@ -157,11 +178,15 @@ literal_advances vars total done begun k n l h f g =
 literals_advance : (vars total : ℕ) (done : List (List ℕ)) (begun : List ℕ) (k n : ℕ) (ls : List ℕ) → vars ≤ variable_limit → k < total → AllBelow vars ls →
     AdvancesBy (plain n no_word (at vars total done begun k)) (spaced_literals ls) (plain n no_word (at vars total done (begun ++ ls) k))
 literals_advance vars total done begun k n [] h f b =
-    subst (λ x. AdvancesBy (plain n no_word (at vars total done begun k)) [] (plain n no_word (at vars total done x k))) (sym (append-nil begun)) (advances_none (plain n no_word (at vars total done begun k)))
+    subst (λ x. AdvancesBy (plain n no_word (at vars total done begun k)) [] (plain n no_word (at vars total done x k))) (sym (append-nil begun))
+    (advances_none (plain n no_word (at vars total done begun k)))
 literals_advance vars total done begun k n (l ∷ ls) h f b =
-    subst (λ x. AdvancesBy (plain n no_word (at vars total done begun k)) (spaced_literals (l ∷ ls)) (plain n no_word (at vars total done x k))) (append_assoc begun (l ∷ []) ls)
-    (subst (λ t. AdvancesBy (plain n no_word (at vars total done begun k)) t (plain n no_word (at vars total done ((begun ++ l ∷ []) ++ ls) k))) (append_assoc (literal_text l) (32 ∷ []) (spaced_literals ls))
-    (advances_more (plain n no_word (at vars total done begun k)) (plain n no_word (at vars total done (begun ++ l ∷ []) k)) (plain n no_word (at vars total done ((begun ++ l ∷ []) ++ ls) k))
+    subst (λ x. AdvancesBy (plain n no_word (at vars total done begun k)) (spaced_literals (l ∷ ls)) (plain n no_word (at vars total done x k)))
+    (append_assoc begun (l ∷ []) ls)
+    (subst (λ t. AdvancesBy (plain n no_word (at vars total done begun k)) t (plain n no_word (at vars total done ((begun ++ l ∷ []) ++ ls) k)))
+    (append_assoc (literal_text l) (32 ∷ []) (spaced_literals ls))
+    (advances_more (plain n no_word (at vars total done begun k)) (plain n no_word (at vars total done (begun ++ l ∷ []) k))
+    (plain n no_word (at vars total done ((begun ++ l ∷ []) ++ ls) k))
     (literal_text l ++ 32 ∷ []) (spaced_literals ls)
     (literal_advances vars total done begun k n l h f b.0) (literals_advance vars total done (begun ++ l ∷ []) k n ls h f b.1)))
 
@@ -175,7 +200,8 @@ zero_advances vars total done begun k n h f =
     subst (λ x. AdvancesBy (plain n no_word r) (48 ∷ 10 ∷ []) (standing (next n) Start x))
     (ap (λ t. if t then failed r n ClauseCount else at vars total (done ++ begun ∷ []) [] (next k)) (not_full begun vars total k h)
     ∙ ap (λ x. at vars total (done ++ begun ∷ []) [] x) e)
-    (advances_more (plain n no_word r) (plain n (word_from no_word (48 ∷ [])) r) _ (48 ∷ []) (10 ∷ []) (solid_advances n no_word (48 ∷ []) r (refl, tt)) (advances_line_feed n (Plain (word_from no_word (48 ∷ []))) r))
+    (advances_more (plain n no_word r) (plain n (word_from no_word (48 ∷ [])) r) _ (48 ∷ []) (10 ∷ [])
+    (solid_advances n no_word (48 ∷ []) r (refl, tt)) (advances_line_feed n (Plain (word_from no_word (48 ∷ []))) r))
 
 -- a line that begins with a digit or a minus sign
 abbrev pub Fine : List ℕ → Type 0
@@ -196,7 +222,8 @@ from_start n (b ∷ w) r q h f =
     let there = advances_byte n (Plain no_word) r b [] (Plain (after_byte no_word b)) (plain_more n no_word b h.0) feed in
     record {
       same = λ ending rest.
-          f.same ending rest ∙ sym (there.same ending (w ++ rest)) ∙ sym (ap (λ x. gives_from ending (standing n x r) (w ++ rest)) (start_is b h)) ∙ here.same ending (w ++ rest);
+          f.same ending rest ∙ sym (there.same ending (w ++ rest)) ∙ sym (ap (λ x. gives_from ending (standing n x r) (w ++ rest)) (start_is b h))
+          ∙ here.same ending (w ++ rest);
     }
 
 fine_more : (w rest : List ℕ) → Fine w → Fine (w ++ rest)
@@ -218,16 +245,19 @@ fine_clause vars [] rest h b = (refl, refl, refl)
 fine_clause vars (l ∷ ls) rest h b =
     let f = b.0 in
     let p : l / 2 + 1 < 2 ^ 64 = omega (arith, f) in
-    fine_more (literal_text l ++ 32 ∷ spaced_literals ls) (48 ∷ rest) (fine_more (literal_text l) (32 ∷ spaced_literals ls) (subst (λ t. Fine t) (sym (literal_text_is l)) (fine_literal (l % 2 == 0) (l / 2 + 1) p)))
+    fine_more (literal_text l ++ 32 ∷ spaced_literals ls) (48 ∷ rest)
+    (fine_more (literal_text l) (32 ∷ spaced_literals ls) (subst (λ t. Fine t) (sym (literal_text_is l)) (fine_literal (l % 2 == 0) (l / 2 + 1) p)))
 
 clause_advances : (vars total : ℕ) (done : List (List ℕ)) (k n : ℕ) (c : List ℕ) → vars ≤ variable_limit → k < total → total < 2 ^ 64 → AllBelow vars c →
-    AdvancesBy (standing n Start (at vars total done [] k)) (spaced_literals c ++ 48 ∷ 10 ∷ []) (standing (next n) Start (at vars total (done ++ c ∷ []) [] (suc k)))
+    AdvancesBy (standing n Start (at vars total done [] k)) (spaced_literals c ++ 48 ∷ 10 ∷ [])
+    (standing (next n) Start (at vars total (done ++ c ∷ []) [] (suc k)))
 clause_advances vars total done k n c h f g b =
     from_start n (spaced_literals c ++ 48 ∷ 10 ∷ []) (at vars total done [] k) _ (fine_clause vars c (10 ∷ []) h b)
     (advances_more (plain n no_word (at vars total done [] k)) (plain n no_word (at vars total done c k)) _ (spaced_literals c) (48 ∷ 10 ∷ [])
     (literals_advance vars total done [] k n c h f b) (zero_advances vars total done c k n f g))
 
-clauses_advance : (vars total : ℕ) (done : List (List ℕ)) (k n : ℕ) (cs : List (List ℕ)) → vars ≤ variable_limit → k + length cs ≡ total → total < 2 ^ 64 → AreBelow vars cs →
+clauses_advance : (vars total : ℕ) (done : List (List ℕ)) (k n : ℕ) (cs : List (List ℕ)) → vars ≤ variable_limit → k + length cs ≡ total →
+    total < 2 ^ 64 → AreBelow vars cs →
     (m : ℕ) × AdvancesBy (standing n Start (at vars total done [] k)) (clauses_text cs) (standing m Start (at vars total (done ++ cs) [] total))
 clauses_advance vars total done k n [] h e f b =
     let p : Progress = standing n Start (at vars total done [] k) in
@@ -243,7 +273,8 @@ clauses_advance vars total done k n (c ∷ cs) h e f b =
     let later = clauses_advance vars total (done ++ c ∷ []) (suc k) (next n) cs h g2 f b.1 in (
       later.0,
       subst (λ x. AdvancesBy p (clauses_text (c ∷ cs)) (standing later.0 Start (at vars total x [] total))) (append_assoc done (c ∷ []) cs)
-          (subst (λ t. AdvancesBy p t (standing later.0 Start (at vars total ((done ++ c ∷ []) ++ cs) [] total))) (append_assoc (spaced_literals c) (48 ∷ 10 ∷ []) (clauses_text cs))
+          (subst (λ t. AdvancesBy p t (standing later.0 Start (at vars total ((done ++ c ∷ []) ++ cs) [] total)))
+          (append_assoc (spaced_literals c) (48 ∷ 10 ∷ []) (clauses_text cs))
           (advances_more p _ _ (spaced_literals c ++ 48 ∷ 10 ∷ []) (clauses_text cs) (clause_advances vars total done k n c h g f b.0) later.1)),
     )
 
@@ -260,7 +291,8 @@ no_feed : (w : List ℕ) → Solid w → NoFeed w
 no_feed [] s = tt
 no_feed (b ∷ w) s = (not_feed b s.0, no_feed w s.1)
 
-header_bytes : (n : ℕ) (h : HeaderPart) (bs : List ℕ) (r : Reading) → NoFeed bs → AdvancesBy (standing n (Header h) r) bs (standing n (Header (header_from h bs)) r)
+header_bytes : (n : ℕ) (h : HeaderPart) (bs : List ℕ) (r : Reading) → NoFeed bs →
+    AdvancesBy (standing n (Header h) r) bs (standing n (Header (header_from h bs)) r)
 header_bytes n h [] r s = advances_none (standing n (Header h) r)
 header_bytes n h (b ∷ bs) r s =
     advances_more (standing n (Header h) r) (standing n (Header (after_header_byte h b)) r) _ (b ∷ []) bs
@@ -286,25 +318,31 @@ tokens_word (b ∷ w) rest f s = ap nonempty (split_solid (b ∷ w) (32 ∷ rest
 
 tokens_last : (w : List ℕ) → Fine w → Solid w → tokens true w ≡ w ∷ []
 tokens_last [] f s = absurd f
-tokens_last (b ∷ w) f s = ap (λ x. tokens true x) (sym (append-nil (b ∷ w))) ∙ ap nonempty (split_solid (b ∷ w) [] s) ∙ ap (λ x. nonempty (x ∷ [])) (append-nil (b ∷ w))
+tokens_last (b ∷ w) f s = ap (λ x. tokens true x) (sym (append-nil (b ∷ w))) ∙ ap nonempty (split_solid (b ∷ w) [] s)
+    ∙ ap (λ x. nonempty (x ∷ [])) (append-nil (b ∷ w))
 
 abbrev pub header_line : ℕ → ℕ → List ℕ
 header_line vars total = codes "p cnf " ++ decimal vars ++ 32 ∷ decimal total
 
-header_is : (vars total : ℕ) → vars ≤ variable_limit → total < 2 ^ 64 → header_of (tokens true (header_line vars total)) ≡ Sized (record { vars = vars; clauses = total })
+header_is : (vars total : ℕ) → vars ≤ variable_limit → total < 2 ^ 64 →
+    header_of (tokens true (header_line vars total)) ≡ Sized (record { vars = vars; clauses = total })
 header_is vars total h f =
     let v : vars < 2 ^ 64 = omega arith in
-    ap (λ ts. header_of (codes "p" ∷ codes "cnf" ∷ ts)) (tokens_word (decimal vars) (decimal total) (fine_decimal vars v) (decimal_solid vars v) ∙ ap (λ ts. decimal vars ∷ ts) (tokens_last (decimal total) (fine_decimal total f) (decimal_solid total f)))
+    ap (λ ts. header_of (codes "p" ∷ codes "cnf" ∷ ts))
+    (tokens_word (decimal vars) (decimal total) (fine_decimal vars v) (decimal_solid vars v)
+    ∙ ap (λ ts. decimal vars ∷ ts) (tokens_last (decimal total) (fine_decimal total f) (decimal_solid total f)))
     ∙ ap (λ o. sizes o (number (decimal total))) (number_decimal vars v) ∙ ap (λ o. sizes (Some vars) o) (number_decimal total f)
     ∙ ap (λ t. if t then sized vars total else Malformed) (below_test total f)
     ∙ ap (λ t. if t then Oversized else Sized (record { vars = vars; clauses = total })) (not_large variable_limit vars h)
 
-header_advances : (vars total : ℕ) → vars ≤ variable_limit → total < 2 ^ 64 → AdvancesBy begin (header_line vars total ++ 10 ∷ []) (standing 2 Start (at vars total [] [] 0))
+header_advances : (vars total : ℕ) → vars ≤ variable_limit → total < 2 ^ 64 →
+    AdvancesBy begin (header_line vars total ++ 10 ∷ []) (standing 2 Start (at vars total [] [] 0))
 header_advances vars total h f =
     let v : vars < 2 ^ 64 = omega arith in
     let m : max 0 vars ≡ vars = omega arith in
     let line : List ℕ = codes " cnf " ++ (decimal vars ++ 32 ∷ decimal total) in
-    let quiet : NoFeed (decimal vars ++ 32 ∷ decimal total) = no_feed_append (decimal vars) (32 ∷ decimal total) (decimal_solid vars v) (refl, no_feed (decimal total) (decimal_solid total f)) in
+    let quiet : NoFeed (decimal vars ++ 32 ∷ decimal total) = no_feed_append (decimal vars) (32 ∷ decimal total) (decimal_solid vars v)
+    (refl, no_feed (decimal total) (decimal_solid total f)) in
     let first : AdvancesBy begin (112 ∷ []) (standing 1 (Header Name) nothing) = advances_byte 1 Start nothing 112 [] (Header Name) (start_more 1 112) refl in
     let bytes = header_bytes 1 Name line nothing (refl, (refl, (refl, (refl, (refl, quiet))))) in
     let feed = advances_line_feed 1 (Header (header_from Name line)) nothing in
@@ -314,7 +352,8 @@ header_advances vars total h f =
     (advances_more begin _ _ (112 ∷ []) (line ++ 10 ∷ []) first (advances_more _ _ _ line (10 ∷ []) bytes feed))
 
 end_is : (vars total m : ℕ) (cs : List (List ℕ)) → at_end (at vars total cs [] total) m ≡ at vars total cs [] total
-end_is vars total m cs = ap (λ t. if t then failed (at vars total cs [] total) m ClauseCount else at vars total cs [] total) (not_large total total (omega arith))
+end_is vars total m cs = ap (λ t. if t then failed (at vars total cs [] total) m ClauseCount else at vars total cs [] total)
+    (not_large total total (omega arith))
 
 pub reads_back : (f : Formula) → f.var_count ≤ variable_limit → length f.clauses < 2 ^ 64 → AreBelow f.var_count f.clauses → ReadsBack f
 reads_back f h k b =
@@ -323,5 +362,6 @@ reads_back f h k b =
     let all = clauses_advance vars (length cs) [] 0 2 cs h (omega arith) k b in
     let text : List ℕ = formula_text f in
     let q : Progress = standing all.0 Start (at vars (length cs) cs [] (length cs)) in
-    let g : AdvancesBy begin text q = advances_more begin _ q (header_line vars (length cs) ++ 10 ∷ []) (clauses_text cs) (header_advances vars (length cs) h k) all.1 in
+    let g : AdvancesBy begin text q = advances_more begin _ q (header_line vars (length cs) ++ 10 ∷ []) (clauses_text cs)
+    (header_advances vars (length cs) h k) all.1 in
     sym (begin_gives Ends text) ∙ ap (λ t. gives_from Ends begin t) (sym (append-nil text)) ∙ sym (g.same Ends []) ∙ end_is vars (length cs) all.0 cs

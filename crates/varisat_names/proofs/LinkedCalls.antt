@@ -20,14 +20,17 @@ module _ {p q : VariableParts} (same : p ≡ q) (known : AreLinked q.tables × A
   named-live u x {t} seen named = begun.0.named x u (begun.0.users.there u x (named-before u x seen named))
 
   -- the variable that has a solver variable, as it was read
-  pub taken-before : (x v : ℕ) {m : List (Option ℕ)} {o : Option ℕ} → m ≡ q.tables.solvers.backward → o ≡ at m v → o ≡ Some x → at p.tables.solvers.forward x ≡ Some v
+  pub taken-before : (x v : ℕ) {m : List (Option ℕ)} {o : Option ℕ} → m ≡ q.tables.solvers.backward → o ≡ at m v → o ≡ Some x →
+      at p.tables.solvers.forward x ≡ Some v
   taken-before x v {m} {o} map read is = begun.0.solvers.back x v (ap (λ r. at r.tables.solvers.backward v) same ∙ ap (λ n. at n v) (sym map) ∙ sym read ∙ is)
 
-  pub taken-live : (x v : ℕ) {m : List (Option ℕ)} {o : Option ℕ} → m ≡ q.tables.solvers.backward → o ≡ at m v → o ≡ Some x → (kept_at p.tables.kept x).deleted ≡ false
+  pub taken-live : (x v : ℕ) {m : List (Option ℕ)} {o : Option ℕ} → m ≡ q.tables.solvers.backward → o ≡ at m v → o ≡ Some x →
+      (kept_at p.tables.kept x).deleted ≡ false
   taken-live x v {m} {o} map read is = begun.0.taken x v (taken-before x v map read is)
 
   -- Other data is kept of a live variable, which is live by it too.
-  pub data-set : (x : ℕ) {t : Tables} {kept : List VarData} {free : BTreeSet ℕ} {d e : VarData} → q.tables ≡ t → (kept_at t.kept x).deleted ≡ false → d ≡ kept_at p.tables.kept x → e.deleted ≡ d.deleted → IsKeptAs p.tables.kept x e kept → AreDeleted kept free →
+  pub data-set : (x : ℕ) {t : Tables} {kept : List VarData} {free : BTreeSet ℕ} {d e : VarData} → q.tables ≡ t →
+      (kept_at t.kept x).deleted ≡ false → d ≡ kept_at p.tables.kept x → e.deleted ≡ d.deleted → IsKeptAs p.tables.kept x e kept → AreDeleted kept free →
       AreLinked (record p.tables { kept = kept }) × AreListed (record { tables = record p.tables { kept = kept }; free = record p.free { globals = free } })
   data-set x {t} {kept} {free} {d} {e} seen live read same_live k deleted =
       let (linked, listed) = begun in
@@ -38,5 +41,7 @@ module _ {p q : VariableParts} (same : p ≡ q) (known : AreLinked q.tables × A
   pub names-stay : {users : BiMap} {free : BTreeSet ℕ} → users ≡ p.tables.users → AreFree users.forward free →
       AreLinked (record p.tables { users = users }) × AreListed (record { tables = record p.tables { users = users }; free = record p.free { users = free } })
   names-stay {users} {free} stay free_names =
-      let (linked, listed) = begun in
-      (same-tables p.tables users p.tables.solvers p.tables.kept stay refl refl linked, record { users = free_names; solvers = listed.solvers; globals = listed.globals })
+      let (linked, listed) = begun in (
+        same-tables p.tables users p.tables.solvers p.tables.kept stay refl refl linked,
+        record { users = free_names; solvers = listed.solvers; globals = listed.globals },
+      )

@@ -20,7 +20,8 @@ set-kept xs x i d e h =
     let c = length-set xs i d in
     record {
       count = omega (arith, c, h);
-      at_each = λ j. ap (λ k. kept_at (slice_set xs k d) j) e ∙ updated-all (λ m o. kept_at (slice_set xs x d) m ≡ o) (kept_at xs) x d (get_or-set_same xs x d dead h) j (λ n. get_or-set_other xs x j d dead n);
+      at_each = λ j. ap (λ k. kept_at (slice_set xs k d) j) e ∙ updated-all (λ m o. kept_at (slice_set xs x d) m ≡ o) (kept_at xs) x d
+          (get_or-set_same xs x d dead h) j (λ n. get_or-set_other xs x j d dead n);
     }
 
 -- no variable past the list is live
@@ -53,7 +54,8 @@ pub record AreGivenUpTo (w u : ℕ) (old now : Tables) (index : ℕ) : Type 0 wh
   pub count : length now.kept ≤ length old.kept + (index - w)
   pub bounded : index - w ≤ u + 1 - w
 
-pub one-more : (w u : ℕ) (old now new : Tables) (index x : ℕ) → w ≤ index → index < u + 1 → AreGivenUpTo w u old now index → IsGiven now new index x → AreGivenUpTo w u old new (index + 1)
+pub one-more : (w u : ℕ) (old now new : Tables) (index x : ℕ) → w ≤ index → index < u + 1 → AreGivenUpTo w u old now index →
+    IsGiven now new index x → AreGivenUpTo w u old new (index + 1)
 one-more w u old now new index x a b h g =
     let e : suc (index - w) ≡ index + 1 - w = omega (arith, a) in
     let near = least-near now.kept x g.unused in
@@ -73,7 +75,8 @@ pub least-full : (map : List (Option ℕ)) (u : ℕ) → IsFull map → IsLeastU
 least-full map u f (e, l) h = ⊎_elim (λ p. absurd (f u p e)) (λ p. omega (arith, p, h)) (cases_lt u (length map))
 
 -- the least number of the set of free names
-pub least-free : (map : List (Option ℕ)) (free : BTreeSet ℕ) (u : ℕ) → AreFree map free → contains nat_cmp free u ≡ true → ((v : ℕ) → contains nat_cmp free v ≡ true → is_gt (nat_cmp u v) ≡ false) → IsLeastUnmapped map u
+pub least-free : (map : List (Option ℕ)) (free : BTreeSet ℕ) (u : ℕ) → AreFree map free → contains nat_cmp free u ≡ true →
+    ((v : ℕ) → contains nat_cmp free v ≡ true → is_gt (nat_cmp u v) ≡ false) → IsLeastUnmapped map u
 least-free map free u h m l =
     let (inside, none) = (h u).0 m in (
       none,
@@ -85,13 +88,16 @@ pub full-put : (old new : List (Option ℕ)) (v : ℕ) → IsFull old → IsPut 
 full-put old new v f p u h e =
     let w = p.watermark in
     let at_u : at new u ≡ None = e in
-    updated-all (λ i o. i < length new → o ≡ None → ⊥) (at old) (length old) (Some v) (λ _ q. absurd cc) u (λ n b q. f u (omega (arith, n, b, w)) q) h (sym (p.at_each u) ∙ at_u)
+    updated-all (λ i o. i < length new → o ≡ None → ⊥) (at old) (length old) (Some v) (λ _ q. absurd cc) u
+    (λ n b q. f u (omega (arith, n, b, w)) q) h (sym (p.at_each u) ∙ at_u)
 
 -- what is kept of another variable stays live
-live-put : (old new : List VarData) (x : ℕ) (d : VarData) → d.deleted ≡ false → ((y : ℕ) → y < length old → (kept_at old y).deleted ≡ false) → IsKeptAs old x d new → x ≤ length old → (y : ℕ) → y < length new → (kept_at new y).deleted ≡ false
+live-put : (old new : List VarData) (x : ℕ) (d : VarData) → d.deleted ≡ false → ((y : ℕ) → y < length old → (kept_at old y).deleted ≡ false) →
+    IsKeptAs old x d new → x ≤ length old → (y : ℕ) → y < length new → (kept_at new y).deleted ≡ false
 live-put old new x d h f p n y b =
     let w = p.count in
-    ap (λ k. k.deleted) (p.at_each y) ∙ updated-all (λ i k. i < length new → k.deleted ≡ false) (kept_at old) x d (λ _. h) y (λ e c. f y (omega (arith, e, c, w, n))) b
+    ap (λ k. k.deleted) (p.at_each y) ∙ updated-all (λ i k. i < length new → k.deleted ≡ false) (kept_at old) x d (λ _. h) y
+    (λ e c. f y (omega (arith, e, c, w, n))) b
 
 -- the least variable that is not live where all are
 pub least-live : (xs : List VarData) (x : ℕ) → ((y : ℕ) → y < length xs → (kept_at xs y).deleted ≡ false) → IsLeastDeleted xs x → x ≡ length xs
@@ -107,7 +113,8 @@ given-same old new u x p e g =
     let k = g.kept.count in (
       same,
       record {
-        users = λ v b. g.users.forward.at_each v ∙ updated-all (λ i o. i < length new.users.forward → o ≡ Some i) (at old.users.forward) u (Some x) (λ _. ap Some same) v (λ n h. p.users v (omega (arith, n, h, w, e))) b;
+        users = λ v b. g.users.forward.at_each v ∙ updated-all (λ i o. i < length new.users.forward → o ≡ Some i) (at old.users.forward) u (Some x)
+            (λ _. ap Some same) v (λ n h. p.users v (omega (arith, n, h, w, e))) b;
         count = omega (arith, w, k, c, same, e);
         live = live-put old.kept new.kept x fresh refl p.live g.kept (omega (arith, here));
         solvers = subst (λ m. IsFull m.backward) (sym g.solvers) p.solvers;
@@ -120,7 +127,8 @@ next-given-same zero old new p e = subst (λ t. IsNothingHidden t) (sym e) p
 next-given-same (suc k) old new p (t, x, g, r) = next-given-same k t new (given-same old t (length old.users.forward) x p refl g).1 r
 
 -- Where nothing was hidden yet a solver variable that is taken is the watermark.
-pub taken-next : (old new : Tables) (x v : ℕ) → IsNothingHidden old → v ≤ length old.solvers.backward → IsTaken old new x v → (v ≡ length old.solvers.backward) × IsNothingHidden new
+pub taken-next : (old new : Tables) (x v : ℕ) → IsNothingHidden old → v ≤ length old.solvers.backward → IsTaken old new x v →
+    (v ≡ length old.solvers.backward) × IsNothingHidden new
 taken-next old new x v p h t =
     let here = least-full old.solvers.backward v p.solvers t.least h in (
       here,
@@ -128,7 +136,8 @@ taken-next old new x v p h t =
         users = subst (λ m. (u : ℕ) → u < length m.forward → at m.forward u ≡ Some u) (sym t.users) p.users;
         count = ap length t.kept ∙ p.count ∙ ap (λ m. length m.forward) (sym t.users);
         live = subst (λ xs. (y : ℕ) → y < length xs → (kept_at xs y).deleted ≡ false) (sym t.kept) p.live;
-        solvers = full-put old.solvers.backward new.solvers.backward x p.solvers (subst (λ i. IsPut old.solvers.backward i (Some x) new.solvers.backward) here t.solvers.backward);
+        solvers = full-put old.solvers.backward new.solvers.backward x p.solvers
+            (subst (λ i. IsPut old.solvers.backward i (Some x) new.solvers.backward) here t.solvers.backward);
       },
     )
 
@@ -140,11 +149,16 @@ next-keeps (suc k) old new u x (t, y, g, r) h =
     next-keeps k t new u x r (g.users.forward.at_each u ∙ updated-other (at old.users.forward) (length old.users.forward) (Some y) u n ∙ h)
 
 -- a name that was named is in use
-pub named-in-use : (k : ℕ) (old new : Tables) (u : ℕ) → AreNextGiven k old new → length old.users.forward ≤ u → u < length old.users.forward + k → (x : ℕ) × (at new.users.forward u ≡ Some x)
+pub named-in-use : (k : ℕ) (old new : Tables) (u : ℕ) → AreNextGiven k old new → length old.users.forward ≤ u → u < length old.users.forward + k →
+    (x : ℕ) × (at new.users.forward u ≡ Some x)
 named-in-use zero old new u e a b = absurd omega (arith, a, b)
 named-in-use (suc k) old new u (t, x, g, r) a b =
     let w = g.users.forward.watermark in
     ⊎_elim
     (λ p. named-in-use k t new u r (omega (arith, p, w)) (omega (arith, b, w)))
-    (λ p. let q : u ≡ length old.users.forward = omega (arith, a, p) in (x, next-keeps k t new u x r (g.users.forward.at_each u ∙ ap (λ i. updated (at old.users.forward) (length old.users.forward) (Some x) i) q ∙ updated-at (at old.users.forward) (length old.users.forward) (Some x))))
+    (λ p. let q : u ≡ length old.users.forward = omega (arith, a, p) in (
+      x,
+      next-keeps k t new u x r (g.users.forward.at_each u ∙ ap (λ i. updated (at old.users.forward) (length old.users.forward) (Some x) i) q
+          ∙ updated-at (at old.users.forward) (length old.users.forward) (Some x)),
+    ))
     (cases_lt (length old.users.forward) u)

@@ -29,7 +29,8 @@ padded [] n i = at-none n i
 padded (x ∷ xs) n zero = refl
 padded (x ∷ xs) n (suc i) = padded xs n i
 
-pub put-padded : (old reached new : List (Option ℕ)) (k : ℕ) (v : Option ℕ) → reached ≡ old ++ replicate (k + 1 - length old) None → IsPut reached k v new → IsPut old k v new
+pub put-padded : (old reached new : List (Option ℕ)) (k : ℕ) (v : Option ℕ) → reached ≡ old ++ replicate (k + 1 - length old) None →
+    IsPut reached k v new → IsPut old k v new
 put-padded old reached new k v e p =
     let n = k + 1 - length old in
     let a = length-append old (replicate n None) in
@@ -40,11 +41,15 @@ put-padded old reached new k v e p =
       at_each = λ i. p.at_each i ∙ ap (λ z. if nat_eq i k then v else z) (ap (λ xs. at xs i) e ∙ padded old n i);
     }
 
-pub joined-inverse : (f b f' b' : List (Option ℕ)) (k j : ℕ) → IsInverse (at f) (at b) → at f k ≡ None → at b j ≡ None → IsPut f k (Some j) f' → IsPut b j (Some k) b' → IsInverse (at f') (at b')
-joined-inverse f b f' b' k j h m n p q = inverse-same (updated (at f) k (Some j)) (updated (at b) j (Some k)) (at f') (at b') p.at_each q.at_each (joined (at f) (at b) k j h m n)
+pub joined-inverse : (f b f' b' : List (Option ℕ)) (k j : ℕ) → IsInverse (at f) (at b) → at f k ≡ None → at b j ≡ None → IsPut f k (Some j) f' →
+    IsPut b j (Some k) b' → IsInverse (at f') (at b')
+joined-inverse f b f' b' k j h m n p q = inverse-same (updated (at f) k (Some j)) (updated (at b) j (Some k)) (at f') (at b') p.at_each q.at_each
+    (joined (at f) (at b) k j h m n)
 
-pub parted-inverse : (f b f' b' : List (Option ℕ)) (k j : ℕ) → IsInverse (at f) (at b) → at f k ≡ Some j → IsPut f k None f' → IsPut b j None b' → IsInverse (at f') (at b')
-parted-inverse f b f' b' k j h m p q = inverse-same (updated (at f) k None) (updated (at b) j None) (at f') (at b') p.at_each q.at_each (parted (at f) (at b) k j h m)
+pub parted-inverse : (f b f' b' : List (Option ℕ)) (k j : ℕ) → IsInverse (at f) (at b) → at f k ≡ Some j → IsPut f k None f' → IsPut b j None b' →
+    IsInverse (at f') (at b')
+parted-inverse f b f' b' k j h m p q = inverse-same (updated (at f) k None) (updated (at b) j None) (at f') (at b') p.at_each q.at_each
+    (parted (at f) (at b) k j h m)
 
 -- how long the list of an encoded map is
 pub length-mapped : (xs : List ℕ) → length (map mapped xs) ≡ length xs
@@ -63,7 +68,8 @@ mapped-none zero = refl
 mapped-none (suc n) = ap (λ xs. None ∷ xs) (mapped-none n)
 
 -- a longer map
-pub reached : (xs new : List ℕ) (old : List (Option ℕ)) (from i len : ℕ) → map mapped xs ≡ old → i ≡ from → len ≡ length xs → len ≤ i → new ≡ take (i + 1) xs ++ replicate (i + 1 - len) 0x8000_0000 → map mapped new ≡ old ++ replicate (from + 1 - length old) None
+pub reached : (xs new : List ℕ) (old : List (Option ℕ)) (from i len : ℕ) → map mapped xs ≡ old → i ≡ from → len ≡ length xs → len ≤ i →
+    new ≡ take (i + 1) xs ++ replicate (i + 1 - len) 0x8000_0000 → map mapped new ≡ old ++ replicate (from + 1 - length old) None
 reached xs new old from i len e q l h n =
     let k = i + 1 - len in
     ap (map mapped) n
@@ -79,19 +85,23 @@ set-at xs k code i h =
     let ys = map mapped xs in
     let e = length-mapped xs in
     ap (λ zs. at zs i) (map-set mapped xs k code)
-    ∙ updated-all (λ j o. at (slice_set ys k (mapped code)) j ≡ o) (at ys) k (mapped code) (get_or-set_same ys k (mapped code) None (omega (arith, h, e))) i (λ n. get_or-set_other ys k i (mapped code) None n)
+    ∙ updated-all (λ j o. at (slice_set ys k (mapped code)) j ≡ o) (at ys) k (mapped code)
+    (get_or-set_same ys k (mapped code) None (omega (arith, h, e))) i (λ n. get_or-set_other ys k i (mapped code) None n)
 
 -- another entry
-pub put-entry : (xs : List ℕ) (old : List (Option ℕ)) (k i code : ℕ) (v : Option ℕ) → map mapped xs ≡ old → i ≡ k → mapped code ≡ v → k < length old → IsPut old k v (map mapped (slice_set xs i code))
+pub put-entry : (xs : List ℕ) (old : List (Option ℕ)) (k i code : ℕ) (v : Option ℕ) → map mapped xs ≡ old → i ≡ k → mapped code ≡ v →
+    k < length old → IsPut old k v (map mapped (slice_set xs i code))
 put-entry xs old k i code v e q m h =
     let a = length-mapped xs in
     let b = length-mapped (slice_set xs i code) in
     let c = length-set xs i code in
     let d = ap length e in
-    let at_each : (j : ℕ) → at (map mapped (slice_set xs i code)) j ≡ updated (at (map mapped xs)) i (mapped code) j = λ j. set-at xs i code j (omega (arith, q, a, d, h)) in
+    let at_each : (j : ℕ) → at (map mapped (slice_set xs i code)) j ≡ updated (at (map mapped xs)) i (mapped code) j =
+    λ j. set-at xs i code j (omega (arith, q, a, d, h)) in
     record {
       watermark = omega (arith, q, a, b, c, d, h);
-      at_each = λ j. at_each j ∙ ap (λ o. updated (at (map mapped xs)) i o j) m ∙ ap (λ n. updated (at (map mapped xs)) n v j) q ∙ ap (λ ys. updated (at ys) k v j) e;
+      at_each = λ j. at_each j ∙ ap (λ o. updated (at (map mapped xs)) i o j) m ∙ ap (λ n. updated (at (map mapped xs)) n v j) q
+          ∙ ap (λ ys. updated (at ys) k v j) e;
     }
 
 -- a variable stands for itself

@@ -51,7 +51,8 @@ part_more xs ys i s h x m = ⊎_elim (λ k. s x k) (λ e. subst (λ y. y ∈ ys)
 pub part_all : (xs ys : List ℕ) (i : ℕ) → length xs ≤ i → take i xs ⊆ ys → xs ⊆ ys
 part_all xs ys i l s x h = s x (∈-take_all x xs i l h)
 
-pub clash_more : (known : List Literal) (i r : ℕ) → r ≡ opposite (get_or known i 0) → (r ∈ known → ⊥) → ((x : ℕ) → x ∈ take i known → opposite x ∈ known → ⊥) → (x : ℕ) → x ∈ take (i + 1) known → opposite x ∈ known → ⊥
+pub clash_more : (known : List Literal) (i r : ℕ) → r ≡ opposite (get_or known i 0) → (r ∈ known → ⊥) →
+    ((x : ℕ) → x ∈ take i known → opposite x ∈ known → ⊥) → (x : ℕ) → x ∈ take (i + 1) known → opposite x ∈ known → ⊥
 clash_more known i r e n f x h o =
     ⊎_elim (λ k. f x k o) (λ q. n (subst (λ y. y ∈ known) (ap opposite q ∙ sym e) o)) (∈-take_more x known i 0 h)
 
@@ -62,12 +63,15 @@ opposites_append : (xs ys : List ℕ) → opposites (xs ++ ys) ≡ opposites xs 
 opposites_append [] ys = refl
 opposites_append (x ∷ xs) ys = ap (λ l. opposite x ∷ l) (opposites_append xs ys)
 
-pub opposites_more : (xs : List ℕ) (i : ℕ) (old new : List ℕ) (r : ℕ) → i < length xs → old ≡ opposites (take i xs) → new ≡ old ++ (r ∷ []) → r ≡ opposite (get_or xs i 0) → new ≡ opposites (take (i + 1) xs)
+pub opposites_more : (xs : List ℕ) (i : ℕ) (old new : List ℕ) (r : ℕ) → i < length xs → old ≡ opposites (take i xs) → new ≡ old ++ (r ∷ []) →
+    r ≡ opposite (get_or xs i 0) → new ≡ opposites (take (i + 1) xs)
 opposites_more xs i old new r l e f g =
-    f ∙ ap (λ z. z ++ (r ∷ [])) e ∙ ap (λ z. opposites (take i xs) ++ (z ∷ [])) g ∙ sym (opposites_append (take i xs) (get_or xs i 0 ∷ [])) ∙ ap opposites (sym (take_more xs i 0 l))
+    f ∙ ap (λ z. z ++ (r ∷ [])) e ∙ ap (λ z. opposites (take i xs) ++ (z ∷ [])) g ∙ sym (opposites_append (take i xs) (get_or xs i 0 ∷ []))
+    ∙ ap opposites (sym (take_more xs i 0 l))
 
 -- the clause at a place
-pub list_at : {A : Type 0} (cs : List (Vec ℕ A)) (i : ℕ) (v : Vec ℕ A) (xs : List ℕ) → i < length cs → v ≡ get_or cs i v → xs ≡ v.items → get_or (clause_lists cs) i [] ≡ xs
+pub list_at : {A : Type 0} (cs : List (Vec ℕ A)) (i : ℕ) (v : Vec ℕ A) (xs : List ℕ) → i < length cs → v ≡ get_or cs i v → xs ≡ v.items →
+    get_or (clause_lists cs) i [] ≡ xs
 list_at cs i v xs h e f = get_or-map (λ w. w.items) cs i v [] h ∙ sym (f ∙ ap (λ w. w.items) e)
 
 pub list_in : {A : Type 0} (cs : List (Vec ℕ A)) (i : ℕ) (v : Vec ℕ A) (xs : List ℕ) → i < length cs → v ≡ get_or cs i v → xs ≡ v.items → xs ∈ clause_lists cs
@@ -80,7 +84,8 @@ lists_short cs i h = let e = length-map cs (λ v. v.items) in omega (arith, e)
 pub lists_all : {A : Type 0} (cs : List (Vec ℕ A)) (i : ℕ) (c : Clause) → length cs ≤ i → c ∈ clause_lists cs → c ∈ take i (clause_lists cs)
 lists_all cs i c h m = ∈-take_all c (clause_lists cs) i (let e = length-map cs (λ v. v.items) in omega (arith, e)) m
 
-pub absent_more : {A : Type 0} (cs : List (Vec ℕ A)) (i : ℕ) (v : Vec ℕ A) (xs c : List ℕ) → i < length cs → v ≡ get_or cs i v → xs ≡ v.items → (SameSet xs c → ⊥) → IsAbsent (take i (clause_lists cs)) c → IsAbsent (take (i + 1) (clause_lists cs)) c
+pub absent_more : {A : Type 0} (cs : List (Vec ℕ A)) (i : ℕ) (v : Vec ℕ A) (xs c : List ℕ) → i < length cs → v ≡ get_or cs i v → xs ≡ v.items →
+    (SameSet xs c → ⊥) → IsAbsent (take i (clause_lists cs)) c → IsAbsent (take (i + 1) (clause_lists cs)) c
 absent_more cs i v xs c h e f n a d m s =
     ⊎_elim (λ k. a d k s) (λ q. n (subst (λ y. SameSet y c) (q ∙ list_at cs i v xs h e f) s)) (∈-take_more d (clause_lists cs) i [] m)
 
@@ -88,25 +93,39 @@ pub absent_all : {A : Type 0} (cs : List (Vec ℕ A)) (i : ℕ) (c : Clause) →
 absent_all cs i c h a d m s = a d (lists_all cs i d h m) s
 
 -- the clause at a place is taken out
-pub takes_at_place : {A : Type 0} (vs ws : List (Vec ℕ A)) (i : ℕ) (c : Clause) → i < length vs → SameSet (get_or (clause_lists vs) i []) c → ws ≡ take i vs ++ drop (i + 1) vs → TakesOut (clause_lists vs) c (clause_lists ws)
+pub takes_at_place : {A : Type 0} (vs ws : List (Vec ℕ A)) (i : ℕ) (c : Clause) → i < length vs → SameSet (get_or (clause_lists vs) i []) c →
+    ws ≡ take i vs ++ drop (i + 1) vs → TakesOut (clause_lists vs) c (clause_lists ws)
 takes_at_place vs ws i c h s e =
     let n : i + 1 ≡ suc i = omega arith in
-    let l : i < length (clause_lists vs) = (let q = length-map vs (λ v. v.items) in omega (arith, q)) in
-    (take i (clause_lists vs), get_or (clause_lists vs) i [], drop (suc i) (clause_lists vs), cut_at (clause_lists vs) i [] l, s, ap clause_lists e ∙ map-append (λ v. v.items) (take i vs) (drop (i + 1) vs) ∙ ap (λ z. z ++ clause_lists (drop (i + 1) vs)) (sym (take-map (λ v. v.items) i vs)) ∙ ap (λ z. take i (clause_lists vs) ++ z) (sym (drop-map (λ v. v.items) (i + 1) vs)) ∙ ap (λ k. take i (clause_lists vs) ++ drop k (clause_lists vs)) n)
+    let l : i < length (clause_lists vs) = (let q = length-map vs (λ v. v.items) in omega (arith, q)) in (
+      take i (clause_lists vs),
+      get_or (clause_lists vs) i [],
+      drop (suc i) (clause_lists vs),
+      cut_at (clause_lists vs) i [] l,
+      s,
+      ap clause_lists e
+          ∙ map-append (λ v. v.items) (take i vs) (drop (i + 1) vs) ∙ ap (λ z. z ++ clause_lists (drop (i + 1) vs))
+          (sym (take-map (λ v. v.items) i vs)) ∙ ap (λ z. take i (clause_lists vs) ++ z) (sym (drop-map (λ v. v.items) (i + 1) vs))
+          ∙ ap (λ k. take i (clause_lists vs) ++ drop k (clause_lists vs)) n,
+    )
 
 pub lists_added : {A : Type 0} (vs : List (Vec ℕ A)) (v : Vec ℕ A) (c : Clause) → v.items ≡ c → clause_lists (vs ++ (v ∷ [])) ≡ clause_lists vs ++ (c ∷ [])
 lists_added vs v c e = map-append (λ w. w.items) vs (v ∷ []) ∙ ap (λ x. clause_lists vs ++ (x ∷ [])) e
 
-pub copied_more : {A B : Type 0} (cs : List (Vec ℕ A)) (made new : List (Vec ℕ B)) (i : ℕ) (v : Vec ℕ A) (w : Vec ℕ B) (xs : List ℕ) → i < length cs → v ≡ get_or cs i v → xs ≡ v.items → w.items ≡ xs → new ≡ made ++ (w ∷ []) → clause_lists made ≡ take i (clause_lists cs) → clause_lists new ≡ take (i + 1) (clause_lists cs)
+pub copied_more : {A B : Type 0} (cs : List (Vec ℕ A)) (made new : List (Vec ℕ B)) (i : ℕ) (v : Vec ℕ A) (w : Vec ℕ B) (xs : List ℕ) →
+    i < length cs → v ≡ get_or cs i v → xs ≡ v.items → w.items ≡ xs → new ≡ made ++ (w ∷ []) → clause_lists made ≡ take i (clause_lists cs) →
+    clause_lists new ≡ take (i + 1) (clause_lists cs)
 copied_more cs made new i v w xs h e f g n m =
     let l : i < length (clause_lists cs) = (let q = length-map cs (λ u. u.items) in omega (arith, q)) in
-    ap clause_lists n ∙ lists_added made w xs g ∙ ap (λ z. z ++ (xs ∷ [])) m ∙ ap (λ z. take i (clause_lists cs) ++ (z ∷ [])) (sym (list_at cs i v xs h e f)) ∙ sym (take_more (clause_lists cs) i [] l)
+    ap clause_lists n ∙ lists_added made w xs g ∙ ap (λ z. z ++ (xs ∷ [])) m
+    ∙ ap (λ z. take i (clause_lists cs) ++ (z ∷ [])) (sym (list_at cs i v xs h e f)) ∙ sym (take_more (clause_lists cs) i [] l)
 
 -- of the slice in place of the list
 pub absent_there : {A : Type 0} (slice vs : List (Vec ℕ A)) (c : Clause) → slice ≡ vs → IsAbsent (clause_lists slice) c → IsAbsent (clause_lists vs) c
 absent_there {A = A} slice vs c e a = subst (λ (l : List (Vec ℕ A)). IsAbsent (clause_lists l) c) e a
 
-pub takes_out_there : {A : Type 0} (slice vs ws : List (Vec ℕ A)) (i : ℕ) (c : Clause) → slice ≡ vs → (i < length slice) × SameSet (get_or (clause_lists slice) i []) c → ws ≡ take i vs ++ drop (i + 1) vs → TakesOut (clause_lists vs) c (clause_lists ws)
+pub takes_out_there : {A : Type 0} (slice vs ws : List (Vec ℕ A)) (i : ℕ) (c : Clause) → slice ≡ vs → (i < length slice)
+    × SameSet (get_or (clause_lists slice) i []) c → ws ≡ take i vs ++ drop (i + 1) vs → TakesOut (clause_lists vs) c (clause_lists ws)
 takes_out_there {A = A} slice vs ws i c e w f =
     let v = subst (λ (l : List (Vec ℕ A)). (i < length l) × SameSet (get_or (clause_lists l) i []) c) e w in
     takes_at_place vs ws i c v.0 v.1 f

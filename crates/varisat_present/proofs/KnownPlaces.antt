@@ -5,7 +5,8 @@ use Rattle.varisat_theory.specs.Membership.{◌∈◌}
 use Rattle.varisat_theory.proofs.Places.{∈-get_or, place_in}
 use Rattle.varisat_present.specs.Places.{ArePlaced, place_limit}
 
-place_of : (xs ps : List ℕ) (l : ℕ) → ArePlaced xs ps → l < place_limit → l ∈ xs → (k : ℕ) × (k < length xs) × (get_or xs k 0 ≡ l) × (l < length ps) × (get_or ps l 0 ≡ k)
+place_of : (xs ps : List ℕ) (l : ℕ) → ArePlaced xs ps → l < place_limit → l ∈ xs → (k : ℕ) × (k < length xs) × (get_or xs k 0 ≡ l) × (l < length ps)
+    × (get_or ps l 0 ≡ k)
 place_of xs ps l w s m =
     let (k, h, e) = place_in l xs 0 m in
     let s' = subst (λ x. x < place_limit) (sym e) s in
@@ -15,7 +16,8 @@ pub not_outside : (xs ps : List ℕ) (l : ℕ) → ArePlaced xs ps → l < place
 not_outside xs ps l w s h m = let (k, a, e, b, f) = place_of xs ps l w s m in omega (arith, b)
 
 -- the place that is read is that of the literal, if it is known
-pub at_place : (xs ps : List ℕ) (l p : ℕ) → ArePlaced xs ps → l < place_limit → l < length ps → p ≡ get_or ps l p → l ∈ xs → (p < length xs) × (get_or xs p 0 ≡ l)
+pub at_place : (xs ps : List ℕ) (l p : ℕ) → ArePlaced xs ps → l < place_limit → l < length ps → p ≡ get_or ps l p → l ∈ xs → (p < length xs)
+    × (get_or xs p 0 ≡ l)
 at_place xs ps l p w s h g m =
     let (k, a, e, b, f) = place_of xs ps l w s m in
     let q : p ≡ k = get_or_read ps l p h g 0 ∙ f in
@@ -43,8 +45,10 @@ take_short (suc n) (x ∷ xs) (suc k) h = let (a, b) = take_short n xs k (omega 
 pub placed_cut : (xs ps : List ℕ) (n : ℕ) → ArePlaced xs ps → ArePlaced (take n xs) ps
 placed_cut xs ps n w = record {
   short = w.short;
-  reached = λ k h s. let (i, j) = take_short n xs k h in let e = get_or-take n xs k 0 i in subst (λ x. x < length ps) (sym e) (w.reached k j (subst (λ x. x < place_limit) e s));
-  placed = λ k h s. let (i, j) = take_short n xs k h in let e = get_or-take n xs k 0 i in subst (λ x. get_or ps x 0 ≡ k) (sym e) (w.placed k j (subst (λ x. x < place_limit) e s));
+  reached = λ k h s. let (i, j) = take_short n xs k h in let e = get_or-take n xs k 0 i in
+      subst (λ x. x < length ps) (sym e) (w.reached k j (subst (λ x. x < place_limit) e s));
+  placed = λ k h s. let (i, j) = take_short n xs k h in let e = get_or-take n xs k 0 i in
+      subst (λ x. get_or ps x 0 ≡ k) (sym e) (w.placed k j (subst (λ x. x < place_limit) e s));
 }
 
 cases : (xs : List ℕ) (l k : ℕ) → k < length (xs ++ (l ∷ [])) → (k < length xs) ⊎ (length xs ≡ k)
@@ -59,12 +63,15 @@ placed_pushed xs ps l w n h = record {
   reached = λ k i t.
       let s = length-set ps l (length xs) in
       ⊎_elim
-      (λ j. let e = get_or_append_left xs (l ∷ []) 0 k j in let a = w.reached k j (subst (λ x. x < place_limit) e t) in subst (λ x. x < length (set ps l (length xs))) (sym e) (omega (arith, a, s)))
+      (λ j. let e = get_or_append_left xs (l ∷ []) 0 k j in let a = w.reached k j (subst (λ x. x < place_limit) e t) in
+      subst (λ x. x < length (set ps l (length xs))) (sym e) (omega (arith, a, s)))
       (λ j. let e = get_or_at xs l [] 0 k j in subst (λ x. x < length (set ps l (length xs))) (sym e) (omega (arith, s)))
       (cases xs l k i);
   placed = λ k i t.
       ⊎_elim
-      (λ j. let e = get_or_append_left xs (l ∷ []) 0 k j in let d = get_or-set_other ps l (get_or xs k 0) (length xs) 0 (λ q. n (subst (λ x. x ∈ xs) q (∈-get_or xs k 0 j))) in subst (λ x. get_or (set ps l (length xs)) x 0 ≡ k) (sym e) (d ∙ w.placed k j (subst (λ x. x < place_limit) e t)))
+      (λ j. let e = get_or_append_left xs (l ∷ []) 0 k j in let d =
+      get_or-set_other ps l (get_or xs k 0) (length xs) 0 (λ q. n (subst (λ x. x ∈ xs) q (∈-get_or xs k 0 j))) in
+      subst (λ x. get_or (set ps l (length xs)) x 0 ≡ k) (sym e) (d ∙ w.placed k j (subst (λ x. x < place_limit) e t)))
       (λ j. let e = get_or_at xs l [] 0 k j in subst (λ x. get_or (set ps l (length xs)) x 0 ≡ k) (sym e) (get_or-set_same ps l (length xs) 0 h ∙ j))
       (cases xs l k i);
 }
@@ -84,6 +91,9 @@ placed_far xs ps new l code w p h e = subst (λ (x : List ℕ). ArePlaced x ps) 
       (cases xs l k i);
 }
 
-pub placed_at : (xs ps new : List ℕ) (l code place : ℕ) → ArePlaced xs ps → (l ∈ xs → ⊥) → code < length ps → code ≡ l → place ≡ length xs → new ≡ xs ++ (l ∷ []) → ArePlaced new (set ps code place)
+pub placed_at : (xs ps new : List ℕ) (l code place : ℕ) → ArePlaced xs ps → (l ∈ xs → ⊥) → code < length ps → code ≡ l → place ≡ length xs →
+    new ≡ xs ++ (l ∷ []) → ArePlaced new (set ps code place)
 placed_at xs ps new l code place w n h p q e =
-    subst (λ (x : List ℕ). ArePlaced x (set ps code place)) (sym e) (subst (λ (v : ℕ). ArePlaced (xs ++ (l ∷ [])) (set ps code v)) (sym q) (subst (λ (v : ℕ). ArePlaced (xs ++ (l ∷ [])) (set ps v (length xs))) (sym p) (placed_pushed xs ps l w n (subst (λ v. v < length ps) p h))))
+    subst (λ (x : List ℕ). ArePlaced x (set ps code place)) (sym e)
+    (subst (λ (v : ℕ). ArePlaced (xs ++ (l ∷ [])) (set ps code v)) (sym q)
+    (subst (λ (v : ℕ). ArePlaced (xs ++ (l ∷ [])) (set ps v (length xs))) (sym p) (placed_pushed xs ps l w n (subst (λ v. v < length ps) p h))))

@@ -22,7 +22,8 @@ mentioned v [] i h e = absurd (omega arith)
 mentioned v (x ∷ c) zero h e = ap (λ t. t || mentions v c) (equal (variable_of x) v e)
 mentioned v (x ∷ c) (suc i) h e = or_true (nat_eq (variable_of x) v) (mentions v c) (mentioned v c i (omega arith) e)
 
-pub not_mentioned : (v : ℕ) (c : Clause) (i : ℕ) → i < length c → (variable_of (get_or c i 0) ≡ v → ⊥) → mentions v (take i c) ≡ false → mentions v (take (i + 1) c) ≡ false
+pub not_mentioned : (v : ℕ) (c : Clause) (i : ℕ) → i < length c → (variable_of (get_or c i 0) ≡ v → ⊥) → mentions v (take i c) ≡ false →
+    mentions v (take (i + 1) c) ≡ false
 not_mentioned v [] i h n e = absurd (omega arith)
 not_mentioned v (x ∷ c) zero h n e = ap (λ t. t || false) (not_equal (variable_of x) v n)
 not_mentioned v (x ∷ c) (suc i) h n e =

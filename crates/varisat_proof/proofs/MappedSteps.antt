@@ -24,9 +24,12 @@ maps_end R [] (y ∷ ms) l m h w = absurd cc
 maps_end R (x ∷ ls) [] l m h w = absurd h
 maps_end R (x ∷ ls) (y ∷ ms) l m h w = (h.0, maps_end R ls ms l m h.1 w)
 
-pub maps_more : (R : ℕ → ℕ → Type 0) (ls old new : List Literal) (i l m : ℕ) → i < length ls → l ≡ get_or ls i 0 → MapsLits R (take i ls) old → new ≡ old ++ m ∷ [] → MapsLit R l m → MapsLits R (take (i + 1) ls) new
+pub maps_more : (R : ℕ → ℕ → Type 0) (ls old new : List Literal) (i l m : ℕ) → i < length ls → l ≡ get_or ls i 0 → MapsLits R (take i ls) old →
+    new ≡ old ++ m ∷ [] → MapsLit R l m → MapsLits R (take (i + 1) ls) new
 maps_more R ls old new i l m h e f g w =
-    subst (λ xs. MapsLits R xs new) (sym (take_more ls i 0 h)) (subst (λ ys. MapsLits R (take i ls ++ get_or ls i 0 ∷ []) ys) (sym g) (maps_end R (take i ls) old (get_or ls i 0) m f (subst (λ x. MapsLit R x m) e w)))
+    subst (λ xs. MapsLits R xs new) (sym (take_more ls i 0 h))
+    (subst (λ ys. MapsLits R (take i ls ++ get_or ls i 0 ∷ []) ys) (sym g)
+    (maps_end R (take i ls) old (get_or ls i 0) m f (subst (λ x. MapsLit R x m) e w)))
 
 pub maps_all : (R : ℕ → ℕ → Type 0) (ls made : List Literal) (i : ℕ) → length ls ≤ i → MapsLits R (take i ls) made → MapsLits R ls made
 maps_all R ls made i h w = subst (λ xs. MapsLits R xs made) (take_all i ls h) w

@@ -28,7 +28,8 @@ pub implying-start : (s : View) (l : Literal) → WellFormed s → IsTrueIn s l 
 implying-start s l w h = record { propagates = propagates-refl s w; holds = h; done = λ j a. absurd (omega (arith, a)) }
 
 -- the next literal m, as the code reads it
-module _ {s t : View} {l : Literal} {k : ℕ} {m : Literal} {xs : List ℕ} (g : Implying s t l k) (is : xs ≡ implied_by s l) (a : k < length xs) (read : m ≡ get_or xs k m) where
+module _ {s t : View} {l : Literal} {k : ℕ} {m : Literal} {xs : List ℕ} (g : Implying s t l k) (is : xs ≡ implied_by s l) (a : k < length xs)
+    (read : m ≡ get_or xs k m) where
   inside : k < length (implied_by s l)
   inside = let n = ap (λ (ys : List ℕ). length ys) is in omega (arith, a, n)
 
@@ -71,7 +72,9 @@ module _ {s t : View} {l : Literal} {k : ℕ} {m : Literal} {xs : List ℕ} (g :
     implying-new {u = u} {x = x} f eq = subst (λ v. Implying s v l (k + 1)) (sym (eq ∙ ap (λ y. enqueued t m (reason.Binary (y ∷ []))) f)) record {
       propagates = propagates-trans s t v g.propagates p;
       holds = trail-true v p.well l (∈-append_left l t.trail (m ∷ []) (on-trail t g.propagates.well l g.holds));
-      done = below_more (λ j. get_or (implied_by s l) j 0 ∈ v.trail) k (λ j a. ∈-append_left (get_or (implied_by s l) j 0) t.trail (m ∷ []) (g.done j a)) (subst (λ y. y ∈ v.trail) e (∈-append_right m t.trail (m ∷ []) (inl refl)));
+      done = below_more (λ j. get_or (implied_by s l) j 0 ∈ v.trail) k
+          (λ j a. ∈-append_left (get_or (implied_by s l) j 0) t.trail (m ∷ []) (g.done j a))
+          (subst (λ y. y ∈ v.trail) e (∈-append_right m t.trail (m ∷ []) (inl refl)));
     }
       where
         v : View
@@ -79,10 +82,14 @@ module _ {s t : View} {l : Literal} {k : ℕ} {m : Literal} {xs : List ℕ} (g :
 
         p : Propagates t v
         p = record {
-          well = enqueued-well t m (reason.Binary (opposite l ∷ [])) g.propagates.well within-implied free-implied (opposite l, refl, subst (λ y. m ∈ implied_by t y) (sym (opposite_twice l)) is-in, subst (IsTrueIn t) (sym (opposite_twice l)) g.holds);
-          grows = ext-grows t m (reason.Binary (opposite l ∷ [])) t.decisions g.propagates.well within-implied free-implied (λ a b. cc) [] (sym (append-nil t.decisions));
+          well = enqueued-well t m (reason.Binary (opposite l ∷ [])) g.propagates.well within-implied free-implied
+              (opposite l, refl, subst (λ y. m ∈ implied_by t y) (sym (opposite_twice l)) is-in, subst (IsTrueIn t) (sym (opposite_twice l)) g.holds);
+          grows = ext-grows t m (reason.Binary (opposite l ∷ [])) t.decisions g.propagates.well within-implied free-implied (λ a b. cc) []
+              (sym (append-nil t.decisions));
           decisions = refl;
         }
 
-pub implying-end : {s t : View} {l : Literal} {k : ℕ} {xs : List ℕ} → Implying s t l k → xs ≡ implied_by s l → length xs ≤ k → (m : Literal) → m ∈ implied_by s l → m ∈ t.trail
-implying-end {s = s} {t = t} {l = l} g is h m i = let (j, a, e) = place_in m (implied_by s l) 0 i in let n = ap (λ (ys : List ℕ). length ys) is in subst (λ x. x ∈ t.trail) e (g.done j (omega (arith, a, h, n)))
+pub implying-end : {s t : View} {l : Literal} {k : ℕ} {xs : List ℕ} → Implying s t l k → xs ≡ implied_by s l → length xs ≤ k → (m : Literal) →
+    m ∈ implied_by s l → m ∈ t.trail
+implying-end {s = s} {t = t} {l = l} g is h m i = let (j, a, e) = place_in m (implied_by s l) 0 i in let n = ap (λ (ys : List ℕ). length ys) is in
+    subst (λ x. x ∈ t.trail) e (g.done j (omega (arith, a, h, n)))

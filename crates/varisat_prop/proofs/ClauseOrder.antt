@@ -13,7 +13,8 @@ use Rattle.varisat_prop.proofs.PropagateSteps.{propagates-refl}
 use Rattle.varisat_prop.proofs.ViewGrowth.{grows-reordered}
 use Rattle.varisat_prop.proofs.WellFormedChanges.{well-with, stored-kept, kept-here}
 
-pub fits-reordered : (s : View) (P : List StoredClause) (held : List Clause) → AreReordered s.clauses P → ViewFits held s → ViewFits held (record s { clauses = P })
+pub fits-reordered : (s : View) (P : List StoredClause) (held : List Clause) → AreReordered s.clauses P → ViewFits held s →
+    ViewFits held (record s { clauses = P })
 fits-reordered s P held a f = record {
   stored = λ c i. ⊎_elim
       (λ o. let (d, j, e) = reordered-old s.clauses P a c o in let (h, k, g) = f.stored d (stored-kept s d j) in (h, k, same-trans h d c g (e.1, e.0)))
@@ -30,14 +31,16 @@ abbrev pub reordered : View → ℕ → Clause → View
 reordered s i d = record s { clauses = with_literals s.clauses i d }
 
 -- a clause whose first literal isn't true is no reason
-pub unused : (s : View) (i : ℕ) → WellFormed s → (IsTrueIn s (literal_in (clause_at s i) 0) → ⊥) → (k : ℕ) → k < length s.trail → (node_at s k).reason ≡ reason.Long i → ⊥
+pub unused : (s : View) (i : ℕ) → WellFormed s → (IsTrueIn s (literal_in (clause_at s i) 0) → ⊥) → (k : ℕ) → k < length s.trail →
+    (node_at s k).reason ≡ reason.Long i → ⊥
 unused s i w n k h e = let r : IsReason s k (reason.Long i) = subst (IsReason s k) e (w.reason_is k h) in n (first-true (clause_at s i) r.1)
   where
     first-true : (d : Clause) → Implies s d k → IsTrueIn s (literal_in d 0)
     first-true [] m = absurd m
     first-true (x ∷ d) (e, m) = subst (IsTrueIn s) (sym e) (w.is_true k h)
 
-module _ (s : View) (i : ℕ) (d : Clause) (w : WellFormed s) (a : IsPlace s.clauses i) (r : IsRearranged (clause_at s i) d) (n : (k : ℕ) → k < length s.trail → (node_at s k).reason ≡ reason.Long i → ⊥) where
+module _ (s : View) (i : ℕ) (d : Clause) (w : WellFormed s) (a : IsPlace s.clauses i) (r : IsRearranged (clause_at s i) d)
+    (n : (k : ℕ) → k < length s.trail → (node_at s k).reason ≡ reason.Long i → ⊥) where
   abbrev u : View
   u = reordered s i d
 
@@ -55,7 +58,8 @@ module _ (s : View) (i : ℕ) (d : Clause) (w : WellFormed s) (a : IsPlace s.cla
   changed-well =
       well-with s u.clauses s.queue_head w (record {
         places = reordered-rising s.clauses u.clauses are-reordered w.places;
-        in_range = each (λ c. (l : Literal) → l ∈ c → variable_of l < length s.values) w.in_range (λ l h. w.in_range (clause_at s i) clause-in l (r.same.0 l h));
+        in_range = each (λ c. (l : Literal) → l ∈ c → variable_of l < length s.values) w.in_range
+            (λ l h. w.in_range (clause_at s i) clause-in l (r.same.0 l h));
         several = each (λ c. 2 ≤ length c) w.several (let m = r.long in let o = w.several (clause_at s i) clause-in in omega (arith, m, o));
         distinct = each IsDistinct w.distinct (r.distinct (w.distinct (clause_at s i) clause-in));
         reasons = λ k j h e m. (reordered-place s.clauses u.clauses j are-reordered m, with-other s.clauses i j d (λ q. n k h (e ∙ ap reason.Long q)));
@@ -68,9 +72,11 @@ module _ (s : View) (i : ℕ) (d : Clause) (w : WellFormed s) (a : IsPlace s.cla
   changed-unused = record { well = changed-well; grows = changed-grows; decisions = refl }
 
 -- a clause changes its order only where its first literal isn't true
-pub changed : (s : View) (i : ℕ) (d : Clause) → WellFormed s → IsPlace s.clauses i → IsRearranged (clause_at s i) d → (d ≡ clause_at s i) ⊎ (IsTrueIn s (literal_in (clause_at s i) 0) → ⊥) → Propagates s (reordered s i d)
+pub changed : (s : View) (i : ℕ) (d : Clause) → WellFormed s → IsPlace s.clauses i → IsRearranged (clause_at s i) d → (d ≡ clause_at s i)
+    ⊎ (IsTrueIn s (literal_in (clause_at s i) 0) → ⊥) → Propagates s (reordered s i d)
 changed s i d w a r o =
     ⊎_elim
-    (λ e. let f : with_literals s.clauses i d ≡ s.clauses = ap (λ x. with_literals s.clauses i x) e ∙ with-own s.clauses i in subst (λ x. Propagates s (record s { clauses = x })) (sym f) (propagates-refl s w))
+    (λ e. let f : with_literals s.clauses i d ≡ s.clauses = ap (λ x. with_literals s.clauses i x) e ∙ with-own s.clauses i in
+    subst (λ x. Propagates s (record s { clauses = x })) (sym f) (propagates-refl s w))
     (λ n. changed-unused s i d w a r (unused s i w n))
     o

@@ -14,8 +14,11 @@ distinct-places (x ∷ xs) d h (suc i) (suc j) a b e = distinct-places xs d h.1 
 
 pub distinct-by-places : {X : Type 0} (xs : List X) (d : X) → ((i j : ℕ) → i < j → j < length xs → get_or xs i d ≢ get_or xs j d) → IsDistinct xs
 distinct-by-places [] d h = tt
-distinct-by-places (x ∷ xs) d h =
-    ((λ k. let (j, a, e) = place_in x xs d k in h zero (suc j) (omega arith) (omega (arith, a)) (sym e)), distinct-by-places xs d (λ i j a b. h (suc i) (suc j) (omega (arith, a)) (omega (arith, b))))
+distinct-by-places (x ∷ xs) d h = (
+  (λ k. let (j, a, e) = place_in x xs d k in h zero (suc j) (omega arith) (omega (arith, a)) (sym e)),
+  distinct-by-places xs d
+      (λ i j a b. h (suc i) (suc j) (omega (arith, a)) (omega (arith, b))),
+)
 
 -- the numbers below n
 abbrev pub below : ℕ → List ℕ

@@ -20,21 +20,24 @@ MayImply s l reason.Unit = s.decisions ≡ []
 MayImply s l (reason.Binary ms) = (m : Literal) × (ms ≡ m ∷ []) × (l ∈ implied_by s (opposite m)) × IsTrueIn s (opposite m)
 MayImply s l (reason.Long i) = IsPlace s.clauses i × ((others : Clause) × (clause_at s i ≡ l ∷ others) × ((m : Literal) → m ∈ others → IsTrueIn s (opposite m)))
 
-module _ (s : View) (l : Literal) (r : Reason) (w : WellFormed s) (inside : variable_of l < length s.values) (free : get_or s.values (variable_of l) None ≡ None) where
+module _ (s : View) (l : Literal) (r : Reason) (w : WellFormed s) (inside : variable_of l < length s.values)
+    (free : get_or s.values (variable_of l) None ≡ None) where
   abbrev t : View
   t = enqueued s l r
 
   same-levels : Levels s l r s.decisions w inside free
   same-levels = record {
     keeps = λ k h. h;
-    decided = λ j h. let d = w.decided j h in let n = ext-length s l r s.decisions w inside free in (omega (arith, d.0, n), ap (λ n. n.reason) (node-old s l r s.decisions w inside free (decision_at s j) d.0) ∙ d.1);
+    decided = λ j h. let d = w.decided j h in let n = ext-length s l r s.decisions w inside free in
+        (omega (arith, d.0, n), ap (λ n. n.reason) (node-old s l r s.decisions w inside free (decision_at s j) d.0) ∙ d.1);
     rising = w.rising;
     levels_to = each-place s l r s.decisions w inside free (λ k. (node_at t k).level ≤ length s.decisions)
         (λ k h. let e = ap (λ n. n.level) (node-old s l r s.decisions w inside free k h) in let f = w.levels_to k h in omega (arith, e, f))
         (let e = ap (λ n. n.level) (node-new s l r s.decisions w inside free) in omega (arith, e));
     levels_up = λ k j h i e. ⊎_elim
         (λ p. w.levels_up k j p i (let f = ap (λ n. n.level) (node-old s l r s.decisions w inside free k p) in omega (arith, e, f)))
-        (λ p. let f = ap (λ n. n.level) (node-new s l r s.decisions w inside free) in let g = ap (λ x. (node_at t x).level) p in absurd (omega (arith, e, f, g, i)))
+        (λ p. let f = ap (λ n. n.level) (node-new s l r s.decisions w inside free) in let g = ap (λ x. (node_at t x).level) p in
+        absurd (omega (arith, e, f, g, i)))
         (place-cases s l r s.decisions w inside free k h);
     levels_down = λ k j h i e. ⊎_elim
         (λ p. let f = ap (λ n. n.level) (node-old s l r s.decisions w inside free k p) in let g = w.levels_down k j p i e in omega (arith, f, g))
@@ -44,30 +47,48 @@ module _ (s : View) (l : Literal) (r : Reason) (w : WellFormed s) (inside : vari
 
   new-reason : (q : Reason) → MayImply s l q → (node_at t (length s.trail)).level ≡ length s.decisions → IsReason t (length s.trail) q
   new-reason reason.Unit e f = inr (f ∙ ap (λ (x : List ℕ). length x) e)
-  new-reason (reason.Binary ms) (m, e, i, h) f = let (j, b, g) = w.stands (opposite m) h in (m, e, subst (λ x. x ∈ implied_by s (opposite m)) (sym (literal-new s l r s.decisions w inside free)) i, (j, b, literal-old s l r s.decisions w inside free j b ∙ g))
-  new-reason (reason.Long i) (a, (others, e, h)) f =
-      (a, subst (λ c. Implies t c (length s.trail)) (sym e) (sym (literal-new s l r s.decisions w inside free), λ m k. let (j, b, g) = w.stands (opposite m) (h m k) in (j, b, literal-old s l r s.decisions w inside free j b ∙ g)))
+  new-reason (reason.Binary ms) (m, e, i, h) f = let (j, b, g) = w.stands (opposite m) h in (
+    m,
+    e,
+    subst (λ x. x ∈ implied_by s (opposite m)) (sym (literal-new s l r s.decisions w inside free)) i,
+    (j, b, literal-old s l r s.decisions w inside free j b ∙ g),
+  )
+  new-reason (reason.Long i) (a, (others, e, h)) f = (
+    a,
+    subst (λ c. Implies t c (length s.trail)) (sym e) (
+      sym (literal-new s l r s.decisions w inside free),
+      λ m k. let (j, b, g) = w.stands (opposite m) (h m k) in
+          (j, b, literal-old s l r s.decisions w inside free j b ∙ g),
+    ),
+  )
 
   pub enqueued-well : MayImply s l r → WellFormed t
   enqueued-well m = ext-well s l r s.decisions w inside free same-levels (new-reason r m (ap (λ n. n.level) (node-new s l r s.decisions w inside free)))
 
 -- whatever the decisions are
-module _ (s : View) (l : Literal) (r : Reason) (ds : List ℕ) (w : WellFormed s) (inside : variable_of l < length s.values) (free : get_or s.values (variable_of l) None ≡ None) where
+module _ (s : View) (l : Literal) (r : Reason) (ds : List ℕ) (w : WellFormed s) (inside : variable_of l < length s.values)
+    (free : get_or s.values (variable_of l) None ≡ None) where
   abbrev e : View
   e = ext s l r ds w inside free
 
   fixed-old : (x : Literal) → IsFixed s x → IsFixed e x
   fixed-old x (t, z) =
-      let (k, h, p) = w.stands x t in
-      (true-old s l r ds w inside free x t, ap (λ n. n.level) (node-other s l r ds w inside free x (λ q. fresh s l r ds w inside free k h (ap variable_of p ∙ q))) ∙ z)
+      let (k, h, p) = w.stands x t in (
+        true-old s l r ds w inside free x t,
+        ap (λ n. n.level)
+            (node-other s l r ds w inside free x (λ q. fresh s l r ds w inside free k h (ap variable_of p ∙ q))) ∙ z,
+      )
 
   -- a unit that is enqueued is held
   pub ext-fits : (held : List Clause) → (r ≡ reason.Unit → ds ≡ [] → (d : Clause) × (d ∈ held) × IsUnit l d) → ViewFits held s → ViewFits held e
   ext-fits held u f = record {
     stored = f.stored;
-    units = each-place s l r ds w inside free (λ k. (node_at e k).level ≡ 0 → (node_at e k).reason ≡ reason.Unit → (d : Clause) × (d ∈ held) × IsUnit (literal_at e k) d)
-        (λ k h a b. let n = node-old s l r ds w inside free k h in subst (λ x. (d : Clause) × (d ∈ held) × IsUnit x d) (sym (literal-old s l r ds w inside free k h)) (f.units k h (sym (ap (λ n. n.level) n) ∙ a) (sym (ap (λ n. n.reason) n) ∙ b)))
-        (λ a b. let n = node-new s l r ds w inside free in subst (λ x. (d : Clause) × (d ∈ held) × IsUnit x d) (sym (literal-new s l r ds w inside free)) (u (sym (ap (λ n. n.reason) n) ∙ b) (no-length ds (sym (ap (λ n. n.level) n) ∙ a))));
+    units = each-place s l r ds w inside free
+        (λ k. (node_at e k).level ≡ 0 → (node_at e k).reason ≡ reason.Unit → (d : Clause) × (d ∈ held) × IsUnit (literal_at e k) d)
+        (λ k h a b. let n = node-old s l r ds w inside free k h in subst (λ x. (d : Clause) × (d ∈ held) × IsUnit x d)
+        (sym (literal-old s l r ds w inside free k h)) (f.units k h (sym (ap (λ n. n.level) n) ∙ a) (sym (ap (λ n. n.reason) n) ∙ b)))
+        (λ a b. let n = node-new s l r ds w inside free in subst (λ x. (d : Clause) × (d ∈ held) × IsUnit x d)
+        (sym (literal-new s l r ds w inside free)) (u (sym (ap (λ n. n.reason) n) ∙ b) (no-length ds (sym (ap (λ n. n.level) n) ∙ a))));
     covered = λ c h. ⊎_elim inl (λ p. inr (⊎_elim inl (λ (x, i, q). inr (x, i, fixed-old x q)) p)) (f.covered c h);
   }
     where
@@ -98,7 +119,8 @@ module _ (s : View) (l : Literal) (w : WellFormed s) (inside : variable_of l < l
   ds-old : (j : ℕ) → j < length s.decisions → get_or ds j 0 ≡ decision_at s j
   ds-old j h = get_or_append_left s.decisions (length s.trail ∷ []) 0 j h
 
-  ds-cases : (j : ℕ) → j < length ds → ((j < length s.decisions) × (get_or ds j 0 ≡ decision_at s j)) ⊎ ((j ≡ length s.decisions) × (get_or ds j 0 ≡ length s.trail))
+  ds-cases : (j : ℕ) → j < length ds → ((j < length s.decisions) × (get_or ds j 0 ≡ decision_at s j))
+      ⊎ ((j ≡ length s.decisions) × (get_or ds j 0 ≡ length s.trail))
   ds-cases j h =
       let e = ds-length in
       ⊎_elim
@@ -116,7 +138,11 @@ module _ (s : View) (l : Literal) (w : WellFormed s) (inside : variable_of l < l
   more-levels = record {
     keeps = λ k h. ∈-append_left k s.decisions (length s.trail ∷ []) h;
     decided = λ j h. let n = ext-length s l reason.Unit ds w inside free in ⊎_elim
-        (λ (p, e). let d = w.decided j p in (omega (arith, e, d.0, n), ap (λ x. (node_at (decided_on s l) x).reason) e ∙ ap (λ n. n.reason) (node-old s l reason.Unit ds w inside free (decision_at s j) d.0) ∙ d.1))
+        (λ (p, e). let d = w.decided j p in (
+          omega (arith, e, d.0, n),
+          ap (λ x. (node_at (decided_on s l) x).reason) e
+              ∙ ap (λ n. n.reason) (node-old s l reason.Unit ds w inside free (decision_at s j) d.0) ∙ d.1,
+        ))
         (λ (p, e). (omega (arith, e, n), ap (λ x. (node_at (decided_on s l) x).reason) e ∙ ap (λ n. n.reason) (node-new s l reason.Unit ds w inside free)))
         (ds-cases j h);
     rising = λ i j a h. ⊎_elim
@@ -147,4 +173,5 @@ module _ (s : View) (l : Literal) (w : WellFormed s) (inside : variable_of l < l
   decided-well = ext-well s l reason.Unit ds w inside free more-levels (inl (∈-append_right (length s.trail) s.decisions (length s.trail ∷ []) (inl refl)))
 
   pub decided-grows : GrowsTrail s (decided_on s l)
-  decided-grows = ext-grows s l reason.Unit ds w inside free (λ a b. let n = ds-length in let m = ap (λ (x : List ℕ). length x) b in absurd (omega (arith, n, m))) (length s.trail ∷ []) refl
+  decided-grows = ext-grows s l reason.Unit ds w inside free
+      (λ a b. let n = ds-length in let m = ap (λ (x : List ℕ). length x) b in absurd (omega (arith, n, m))) (length s.trail ∷ []) refl

@@ -21,7 +21,8 @@ pub pair-with : (x : Literal) (ms : List Literal) (c : Clause) → c ∈ pairs_w
 pair-with x [] c h = absurd h
 pair-with x (m ∷ ms) c h = go (nat_lt x m) h (pair-with x ms c)
   where
-    go : (b : Bool) → c ∈ cond b ((x ∷ m ∷ []) ∷ pairs_with x ms) (pairs_with x ms) → (c ∈ pairs_with x ms → (n : Literal) × (n ∈ ms) × (c ≡ x ∷ n ∷ [])) → (n : Literal) × (n ∈ (m ∷ ms)) × (c ≡ x ∷ n ∷ [])
+    go : (b : Bool) → c ∈ cond b ((x ∷ m ∷ []) ∷ pairs_with x ms) (pairs_with x ms) →
+        (c ∈ pairs_with x ms → (n : Literal) × (n ∈ ms) × (c ≡ x ∷ n ∷ [])) → (n : Literal) × (n ∈ (m ∷ ms)) × (c ≡ x ∷ n ∷ [])
     go true (inl e) f = (m, inl refl, e)
     go true (inr i) f = let (n, j, e) = f i in (n, inr j, e)
     go false i f = let (n, j, e) = f i in (n, inr j, e)
@@ -29,7 +30,8 @@ pair-with x (m ∷ ms) c h = go (nat_lt x m) h (pair-with x ms c)
 -- and each that comes behind it is there
 pub pair-there : (x : Literal) (ms : List Literal) (m : Literal) → x < m → m ∈ ms → (x ∷ m ∷ []) ∈ pairs_with x ms
 pair-there x [] m l h = absurd h
-pair-there x (n ∷ ms) m l (inl e) = subst (λ b. (x ∷ m ∷ []) ∈ cond b ((x ∷ n ∷ []) ∷ pairs_with x ms) (pairs_with x ms)) (sym (is-less x n (subst (λ y. x < y) e l))) (inl (ap (λ y. x ∷ y ∷ []) e))
+pair-there x (n ∷ ms) m l (inl e) = subst (λ b. (x ∷ m ∷ []) ∈ cond b ((x ∷ n ∷ []) ∷ pairs_with x ms) (pairs_with x ms))
+    (sym (is-less x n (subst (λ y. x < y) e l))) (inl (ap (λ y. x ∷ y ∷ []) e))
 pair-there x (n ∷ ms) m l (inr h) = go (nat_lt x n) (pair-there x ms m l h)
   where
     go : (b : Bool) → (x ∷ m ∷ []) ∈ pairs_with x ms → (x ∷ m ∷ []) ∈ cond b ((x ∷ n ∷ []) ∷ pairs_with x ms) (pairs_with x ms)
@@ -56,7 +58,8 @@ pair-listed (ms ∷ B) k zero m h b =
 pair-listed (ms ∷ B) k (suc l) m h b =
     let e : k + suc l ≡ suc k + l = omega arith in
     subst (λ x. (opposite x ∷ m ∷ []) ∈ (pairs_with (opposite k) ms ++ pairs_from (suc k) B)) (sym e)
-    (∈-append_right (opposite (suc k + l) ∷ m ∷ []) (pairs_with (opposite k) ms) (pairs_from (suc k) B) (pair-listed B (suc k) l m h (subst (λ x. opposite x < m) e b)))
+    (∈-append_right (opposite (suc k + l) ∷ m ∷ []) (pairs_with (opposite k) ms) (pairs_from (suc k) B)
+    (pair-listed B (suc k) l m h (subst (λ x. opposite x < m) e b)))
 
 pub turned : (a b : Literal) → SameSet (a ∷ b ∷ []) (b ∷ a ∷ [])
 turned a b = (turn a b, turn b a)
@@ -73,8 +76,12 @@ implied-kept s w l m i =
     (λ b. (opposite l ∷ m ∷ [], there l m i b, turned (opposite l) m))
     (λ b.
     let j = w.binary_back l m i in
-    let n : m < opposite l = lower m (opposite l) (w.binary_other l m i) b in
-    (m ∷ opposite l ∷ [], subst (λ x. (x ∷ opposite l ∷ []) ∈ kept s) (opposite_twice m) (there (opposite m) (opposite l) j (subst (λ x. x < opposite l) (sym (opposite_twice m)) n)), ((λ x h. h), (λ x h. h))))
+    let n : m < opposite l = lower m (opposite l) (w.binary_other l m i) b in (
+      m ∷ opposite l ∷ [],
+      subst (λ x. (x ∷ opposite l ∷ []) ∈ kept s) (opposite_twice m)
+          (there (opposite m) (opposite l) j (subst (λ x. x < opposite l) (sym (opposite_twice m)) n)),
+      ((λ x h. h), (λ x h. h)),
+    ))
     (cases_lt (opposite l) m)
   where
     there : (l m : Literal) → m ∈ implied_by s l → opposite l < m → (opposite l ∷ m ∷ []) ∈ kept s
@@ -91,7 +98,8 @@ implied-range s w l m i = let (d, j, e) = implied-kept s w l m i in w.in_range d
 
 -- where a literal implies another its variable is known too
 pub implying-range : (s : View) → WellFormed s → (l m : Literal) → m ∈ implied_by s l → variable_of l < length s.values
-implying-range s w l m i = let (d, j, e) = implied-kept s w l m i in let a = w.in_range d j (opposite l) (e.1 (opposite l) (inr (inl refl))) in let v = variable-opposite l in omega (arith, a, v)
+implying-range s w l m i = let (d, j, e) = implied-kept s w l m i in let a = w.in_range d j (opposite l) (e.1 (opposite l) (inr (inl refl))) in
+    let v = variable-opposite l in omega (arith, a, v)
 
 -- further literals, which imply nothing
 abbrev no_literals : List Literal

@@ -8,11 +8,25 @@ use Rattle.varisat_prop.specs.Leaving.{leaves, staying, cleared}
 use Rattle.varisat_prop.proofs.SimplifiedPairs.{filter-∈, ∈-filter}
 
 -- 1. The trail.
-pub trail-left : (t : TrailParts) (gone : List Bool) (ls : List Literal) (n m q u : ℕ) → ls ≡ staying gone t.literals → n ≡ length t.literals → m ≡ length ls → q ≡ length ls → u ≡ min (t.units_removed + (n - m)) (2 ^ 64 - 1) → record { literals = ls; queue_head = q; decisions = t.decisions; units_removed = u } ≡ record t { literals = staying gone t.literals; queue_head = length (staying gone t.literals); units_removed = min (t.units_removed + (length t.literals - length (staying gone t.literals))) (2 ^ 64 - 1) }
+pub trail-left : (t : TrailParts) (gone : List Bool) (ls : List Literal) (n m q u : ℕ) → ls ≡ staying gone t.literals → n ≡ length t.literals →
+    m ≡ length ls → q ≡ length ls → u ≡ min (t.units_removed + (n - m)) (2 ^ 64 - 1) →
+    record { literals = ls; queue_head = q; decisions = t.decisions; units_removed = u } ≡ record t {
+      literals = staying gone t.literals;
+      queue_head = length (staying gone t.literals);
+      units_removed =
+          min (t.units_removed + (length t.literals - length (staying gone t.literals))) (2 ^ 64 - 1);
+    }
 trail-left t gone ls n m q u e a b c d =
     ap (λ (x : ℕ). record { literals = ls; queue_head = x; decisions = t.decisions; units_removed = u }) c
-    ∙ ap (λ (x : ℕ). record { literals = ls; queue_head = length ls; decisions = t.decisions; units_removed = x }) (d ∙ ap₂ (λ x y. min (t.units_removed + (x - y)) (2 ^ 64 - 1)) a b)
-    ∙ ap (λ (x : List Literal). record { literals = x; queue_head = length x; decisions = t.decisions; units_removed = min (t.units_removed + (length t.literals - length x)) (2 ^ 64 - 1) }) e
+    ∙ ap (λ (x : ℕ). record { literals = ls; queue_head = length ls; decisions = t.decisions; units_removed = x })
+    (d ∙ ap₂ (λ x y. min (t.units_removed + (x - y)) (2 ^ 64 - 1)) a b)
+    ∙ ap (λ (x : List Literal). record {
+      literals = x;
+      queue_head = length x;
+      decisions = t.decisions;
+      units_removed =
+          min (t.units_removed + (length t.literals - length x)) (2 ^ 64 - 1);
+    }) e
 
 not-true : (b : Bool) → not b ≡ true → b ≡ false
 not-true true e = absurd (let f : false ≡ true = e in cc)
@@ -37,21 +51,24 @@ cleared-left (g ∷ gone) x [] v e = refl
 cleared-left (g ∷ gone) x (y ∷ ys) zero e = ap (λ (b : Bool). if b then x else y) e
 cleared-left (g ∷ gone) x (y ∷ ys) (suc v) e = cleared-left gone x ys v e
 
-pub cleared-stays : {X : Type 0} (gone : List Bool) (x : X) (ys : List X) (d : X) (v : ℕ) → leaves gone v ≡ false → get_or (cleared gone x ys) v d ≡ get_or ys v d
+pub cleared-stays : {X : Type 0} (gone : List Bool) (x : X) (ys : List X) (d : X) (v : ℕ) → leaves gone v ≡ false →
+    get_or (cleared gone x ys) v d ≡ get_or ys v d
 cleared-stays [] x ys d v e = refl
 cleared-stays (g ∷ gone) x [] d v e = refl
 cleared-stays (g ∷ gone) x (y ∷ ys) d zero e = ap (λ (b : Bool). if b then x else y) e
 cleared-stays (g ∷ gone) x (y ∷ ys) d (suc v) e = cleared-stays gone x ys d v e
 
 -- one variable after another
-pub cleared-on : {X : Type 0} (gone : List Bool) (x : X) (ys : List X) (k : ℕ) → leaves gone k ≡ true → set (cleared (take k gone) x ys) k x ≡ cleared (take (suc k) gone) x ys
+pub cleared-on : {X : Type 0} (gone : List Bool) (x : X) (ys : List X) (k : ℕ) → leaves gone k ≡ true →
+    set (cleared (take k gone) x ys) k x ≡ cleared (take (suc k) gone) x ys
 cleared-on [] x ys k e = absurd (let f : false ≡ true = e in cc)
 cleared-on (g ∷ gone) x [] zero e = refl
 cleared-on (g ∷ gone) x [] (suc k) e = refl
 cleared-on (g ∷ gone) x (y ∷ ys) zero e = ap (λ (b : Bool). (if b then x else y) ∷ ys) (sym e)
 cleared-on (g ∷ gone) x (y ∷ ys) (suc k) e = ap (λ zs. (if g then x else y) ∷ zs) (cleared-on gone x ys k e)
 
-pub cleared-off : {X : Type 0} (gone : List Bool) (x : X) (ys : List X) (k : ℕ) → leaves gone k ≡ false → cleared (take k gone) x ys ≡ cleared (take (suc k) gone) x ys
+pub cleared-off : {X : Type 0} (gone : List Bool) (x : X) (ys : List X) (k : ℕ) → leaves gone k ≡ false →
+    cleared (take k gone) x ys ≡ cleared (take (suc k) gone) x ys
 cleared-off [] x ys zero e = refl
 cleared-off [] x ys (suc k) e = refl
 cleared-off (g ∷ gone) x [] zero e = refl

@@ -61,7 +61,8 @@ made-clash vs l h k = differ (polarity_of l) (sym h ∙ ap (λ v. get_or vs v No
 
 -- a variable has no value where neither literal is true, and has one else
 pub made-none : (vs : List (Option Bool)) (l : Literal) → (IsMadeTrue vs l → ⊥) → (IsMadeTrue vs (opposite l) → ⊥) → get_or vs (variable_of l) None ≡ None
-made-none vs l a b = go (get_or vs (variable_of l) None) (polarity_of l) a (λ e. b (ap (λ v. get_or vs v None) (variable-opposite l) ∙ e ∙ ap Some (sym (polarity-opposite l))))
+made-none vs l a b = go (get_or vs (variable_of l) None) (polarity_of l) a
+    (λ e. b (ap (λ v. get_or vs v None) (variable-opposite l) ∙ e ∙ ap Some (sym (polarity-opposite l))))
   where
     go : (o : Option Bool) (p : Bool) → (o ≡ Some p → ⊥) → (o ≡ Some (not p) → ⊥) → o ≡ None
     go None p a b = refl

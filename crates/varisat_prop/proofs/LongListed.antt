@@ -31,11 +31,13 @@ pub record Listing (s t : View) (W : Watches) (q : ℕ) (l : Literal) (kept rest
   pub inside : l < length W.lists
 
 -- all watches are to be visited
-pub listing-start : (s : View) (W : Watches) (q : ℕ) (l : Literal) (rest : List Watch) → Propagates s s → IsWatched (with_watches W l rest) s q → literal_at s q ≡ l → q < length s.trail → l < length W.lists → Listing s s W q l [] rest
+pub listing-start : (s : View) (W : Watches) (q : ℕ) (l : Literal) (rest : List Watch) → Propagates s s → IsWatched (with_watches W l rest) s q →
+    literal_at s q ≡ l → q < length s.trail → l < length W.lists → Listing s s W q l [] rest
 listing-start s W q l rest p w h a i = record {
   propagates = p;
   watched = w;
-  but = λ k j b c e. inl (subst (λ ws. HasWatch ws k) (get_or-set_same W.lists l rest [] i) (subst (λ x. HasWatch (watches_of (with_watches W l rest) x) k) (sym e) (w.watching.watched k j b c)));
+  but = λ k j b c e. inl (subst (λ ws. HasWatch ws k) (get_or-set_same W.lists l rest [] i)
+      (subst (λ x. HasWatch (watches_of (with_watches W l rest) x) k) (sym e) (w.watching.watched k j b c)));
   head = h;
   within = a;
   inside = i;
@@ -44,7 +46,8 @@ listing-start s W q l rest p w h a i = record {
 -- what a visit needs of its watch
 module _ (s t : View) (W : Watches) (q : ℕ) (l : Literal) (kept rest : List Watch) (w : Watch) (g : Listing s t W q l kept (w ∷ rest)) where
   pub watch-known : IsPlace t.clauses w.cref × (w.blocking ∈ clause_at t w.cref)
-  watch-known = g.watched.watching.known l w (subst (λ ws. w ∈ ws) (sym (get_or-set_same W.lists l (kept ++ w ∷ rest) [] g.inside)) (∈-append_right w kept (w ∷ rest) (inl refl)))
+  watch-known = g.watched.watching.known l w
+      (subst (λ ws. w ∈ ws) (sym (get_or-set_same W.lists l (kept ++ w ∷ rest) [] g.inside)) (∈-append_right w kept (w ∷ rest) (inl refl)))
 
   pub watch-lists : length W.lists ≡ 2 * length t.values
   watch-lists = sym (length-set W.lists l (kept ++ w ∷ rest)) ∙ g.watched.lists
@@ -83,7 +86,12 @@ module _ (s t : View) (W : Watches) (q : ℕ) (l : Literal) (kept rest : List Wa
 
     -- a watch of another clause stays, and in another list each watch stays
     has-other : (x : Literal) (k : ℕ) → x ≢ l → HasWatch (watches_of A x) k → HasWatch (watches_of B x) k
-    has-other x k n (y, h, e) = (y, subst (λ ws. y ∈ ws) (sym (other-list x n)) (v.adds.old x y (subst (λ ws. y ∈ ws) (get_or-set_other W.lists l x (kept ++ w ∷ rest) [] n) h)), e)
+    has-other x k n (y, h, e) = (
+      y,
+      subst (λ ws. y ∈ ws) (sym (other-list x n))
+          (v.adds.old x y (subst (λ ws. y ∈ ws) (get_or-set_other W.lists l x (kept ++ w ∷ rest) [] n) h)),
+      e,
+    )
 
     has-own : (k : ℕ) → k ≢ i → HasWatch (watches_of A l) k → HasWatch (watches_of B l) k
     has-own k n (y, h, e) = (
@@ -96,7 +104,8 @@ module _ (s t : View) (W : Watches) (q : ℕ) (l : Literal) (kept rest : List Wa
     )
 
     has : (x : Literal) (k : ℕ) → k ≢ i → HasWatch (watches_of A x) k → HasWatch (watches_of B x) k
-    has x k n h = ⊎_elim (λ e. subst (λ y. HasWatch (watches_of B y) k) (sym e) (has-own k n (subst (λ y. HasWatch (watches_of A y) k) e h))) (λ m. has-other x k m h) (equal_or_not x l)
+    has x k n h = ⊎_elim (λ e. subst (λ y. HasWatch (watches_of B y) k) (sym e) (has-own k n (subst (λ y. HasWatch (watches_of A y) k) e h)))
+        (λ m. has-other x k m h) (equal_or_not x l)
 
     in-own : (ws : List Watch) (k : ℕ) → ws ≡ kept' → HasWatch ws k → HasWatch (watches_of B l) k
     in-own ws k e (y, h, f) = (y, subst (λ zs. y ∈ zs) (sym own-list) (∈-append_left y kept' rest (subst (λ zs. y ∈ zs) e h)), f)
@@ -107,7 +116,8 @@ module _ (s t : View) (W : Watches) (q : ℕ) (l : Literal) (kept rest : List Wa
         ⊎_elim
         (λ e. ⊎_elim (λ n. absurd (n (sym e))) (λ h. subst (λ y. HasWatch (watches_of B y) i) (sym e) (in-own kept' i refl h)) (own j b))
         (λ m. ⊎_elim
-        (λ (h, c, e). subst (λ y. HasWatch (watches_of B (opposite y)) i) (sym e) (has-other (opposite (literal_in (clause_at t i) h)) i (λ z. m (ap opposite e ∙ z)) (g.watched.watching.watched i h watch-known.0 c)))
+        (λ (h, c, e). subst (λ y. HasWatch (watches_of B (opposite y)) i) (sym e)
+        (has-other (opposite (literal_in (clause_at t i) h)) i (λ z. m (ap opposite e ∙ z)) (g.watched.watching.watched i h watch-known.0 c)))
         (λ (y, h, e). (y, subst (λ ws. y ∈ ws) (sym (other-list (opposite (literal_in (clause_at u i) j)) m)) h, e))
         (v.pair j b))
         (equal_or_not (opposite (literal_in (clause_at u i) j)) l)
@@ -145,20 +155,24 @@ module _ (s t : View) (W : Watches) (q : ℕ) (l : Literal) (kept rest : List Wa
 
     pub watched-on : IsWatched B u q
     watched-on = record {
-      lists = let a = length-set V.lists l (kept' ++ rest) in let b = v.adds.count in let c = watch-lists in let d = v.propagates.grows.count in omega (arith, a, b, c, d);
+      lists = let a = length-set V.lists l (kept' ++ rest) in let b = v.adds.count in let c = watch-lists in let d = v.propagates.grows.count in
+          omega (arith, a, b, c, d);
       enabled = v.adds.enabled ∙ g.watched.enabled;
       watching = record {
         known = known-is;
         watched = λ k j h b. ⊎_elim
             (λ e. subst (λ z. HasWatch (watches_of B (opposite (literal_in (clause_at u z) j))) z) (sym e) (has-visited j b))
-            (λ n. subst (λ c. HasWatch (watches_of B (opposite (literal_in c j))) k) (sym (v.elsewhere k n)) (has (opposite (literal_in (clause_at t k) j)) k n (g.watched.watching.watched k j (place-back k h) b)))
+            (λ n. subst (λ c. HasWatch (watches_of B (opposite (literal_in c j))) k) (sym (v.elsewhere k n))
+            (has (opposite (literal_in (clause_at t k) j)) k n (g.watched.watching.watched k j (place-back k h) b)))
             (equal_or_not k i);
       };
       settled = v.settled q (let n = g.within in omega (arith, n)) g.watched.settled;
-      binary = (let n = ap (λ (x : List (List ℕ)). length x) v.propagates.grows.binary in let m = v.propagates.grows.count in let o = g.watched.binary in omega (arith, n, m, o));
+      binary = (let n = ap (λ (x : List (List ℕ)). length x) v.propagates.grows.binary in let m = v.propagates.grows.count in
+          let o = g.watched.binary in omega (arith, n, m, o));
       implied = implied-longer t u q (propagates-goes-on t u v.propagates) (let n = g.within in omega (arith, n)) g.watched.implied;
       within = (let n = within-on in omega (arith, n));
-      queue = λ j h. let e = v.propagates.decisions in let n = ap (λ (x : List ℕ). length x) e in let m = ap (λ (x : List ℕ). get_or x j 0) e in let o = g.watched.queue j (omega (arith, h, n)) in omega (arith, o, m);
+      queue = λ j h. let e = v.propagates.decisions in let n = ap (λ (x : List ℕ). length x) e in let m = ap (λ (x : List ℕ). get_or x j 0) e in
+          let o = g.watched.queue j (omega (arith, h, n)) in omega (arith, o, m);
     }
 
     pub listing-on : ((j : ℕ) → j < 2 → l ≡ opposite (literal_in (clause_at u w.cref) j) → IsSatisfied u (clause_at u w.cref)) → Listing s u V q l kept' rest
@@ -169,7 +183,12 @@ module _ (s t : View) (W : Watches) (q : ℕ) (l : Literal) (kept rest : List Wa
           (λ f. inr (subst (λ z. IsSatisfied u (clause_at u z)) (sym f) (sat j b (subst (λ z. l ≡ opposite (literal_in (clause_at u z) j)) f e))))
           (λ n. ⊎_elim
           (λ (y, m, r). ⊎_elim (λ z. absurd (n (sym r ∙ ap (λ o. o.cref) z))) (λ z. inl (y, z, r)) m)
-          (λ (y, m, r). inr (y, (let o = grows-longer t u v.propagates.grows in omega (arith, m, o)), subst (λ z. z ∈ clause_at u k) (sym (literal-stays t u v.propagates.grows y m)) (same-in k (literal_at t y) r)))
+          (λ (y, m, r). inr (
+            y,
+            (let o = grows-longer t u v.propagates.grows in omega (arith, m, o)),
+            subst (λ z. z ∈ clause_at u k)
+                (sym (literal-stays t u v.propagates.grows y m)) (same-in k (literal_at t y) r),
+          ))
           (g.but k j (place-back k h) b (e ∙ ap (λ c. opposite (literal_in c j)) (v.elsewhere k n))))
           (equal_or_not k i);
       head = head-on;
@@ -180,7 +199,8 @@ module _ (s t : View) (W : Watches) (q : ℕ) (l : Literal) (kept rest : List Wa
   -- the watch isn't kept
   pub listing-dropped : (u : View) (V : Watches) → IsVisited t u W V w.cref → IsVisit u l w.cref visit.Dropped → Listing s u V q l kept rest
   listing-dropped u V v d =
-      let n : (j : ℕ) → j < 2 → l ≡ opposite (literal_in (clause_at u w.cref) j) → ⊥ = λ j b e. d j b (sym (opposite_twice (literal_in (clause_at u w.cref) j)) ∙ ap opposite (sym e)) in
+      let n : (j : ℕ) → j < 2 → l ≡ opposite (literal_in (clause_at u w.cref) j) →
+      ⊥ = λ j b e. d j b (sym (opposite_twice (literal_in (clause_at u w.cref) j)) ∙ ap opposite (sym e)) in
       listing-on u V kept v (λ x h. h) (λ x h. inl h) (λ j b. inl (n j b)) (λ j b e. absurd (n j b e))
 
   -- the watch is kept, with another blocking literal
@@ -189,7 +209,8 @@ module _ (s t : View) (W : Watches) (q : ℕ) (l : Literal) (kept rest : List Wa
     one-in = ∈-append_right x kept (x ∷ []) (inl refl)
 
     new-is : (y : Watch) → y ∈ (kept ++ x ∷ []) → (y ∈ kept) ⊎ ((y.cref ≡ w.cref) × (y.blocking ∈ clause_at u w.cref))
-    new-is y m = ⊎_elim inl (λ k. ⊎_elim (λ z. inr (ap (λ o. o.cref) z ∙ e, subst (λ o. o ∈ clause_at u w.cref) (sym (ap (λ o. o.blocking) z)) h)) (λ z. absurd z) k) (∈-append_cases y kept (x ∷ []) m)
+    new-is y m = ⊎_elim inl (λ k. ⊎_elim (λ z. inr (ap (λ o. o.cref) z ∙ e, subst (λ o. o ∈ clause_at u w.cref) (sym (ap (λ o. o.blocking) z)) h))
+        (λ z. absurd z) k) (∈-append_cases y kept (x ∷ []) m)
 
     pub listing-kept : IsSatisfied u (clause_at u w.cref) → Listing s u V q l (kept ++ x ∷ []) rest
     listing-kept sat = listing-on u V (kept ++ x ∷ []) v (λ y m. ∈-append_left y kept (x ∷ []) m) new-is (λ j b. inr (x, one-in, e)) (λ j b f. sat)
@@ -210,7 +231,8 @@ pub record Visiting (p q : SearchParts) (W V : Watches) (l : Literal) (xs : List
   pub lists : length V.lists ≡ length W.lists
   pub keeps : KeepsParts p q
 
-pub visiting-start : (p : SearchParts) (W : Watches) (l : Literal) (xs : List Watch) → l < length W.lists → IsNext (with_watches W l xs) (view_of_parts p) l → Visiting p p W W l xs 0 0
+pub visiting-start : (p : SearchParts) (W : Watches) (l : Literal) (xs : List Watch) → l < length W.lists →
+    IsNext (with_watches W l xs) (view_of_parts p) l → Visiting p p W W l xs 0 0
 visiting-start p W l xs i n = record {
   listing = listing-start (view_of_parts p) W p.trail.queue_head l xs (propagates-refl (view_of_parts p) n.well) n.watched n.head n.within i;
   order = omega arith;
@@ -244,7 +266,8 @@ module _ {p q : SearchParts} {W V : Watches} {l : Literal} {xs : List Watch} {a 
 
     module _ {m : SearchParts} {X : Watches} {v : Visit} (k : IsVisitedAs (with_lists q V) (with_lists m X) l w.cref v) where
       -- what stays as it is, and the place of the next watch
-      step : (ys : List Watch) (b : ℕ) → Listing s (view_of_parts m) X q.trail.queue_head l (take b ys) (drop (r + 1) ys) → b ≤ r + 1 → length ys ≡ length xs → Visiting p m W X l ys b (r + 1)
+      step : (ys : List Watch) (b : ℕ) → Listing s (view_of_parts m) X q.trail.queue_head l (take b ys) (drop (r + 1) ys) → b ≤ r + 1 →
+          length ys ≡ length xs → Visiting p m W X l ys b (r + 1)
       step ys b h o n = record {
         listing = subst (λ z. Listing s (view_of_parts m) X z l (take b ys) (drop (r + 1) ys)) (sym k.keeps.head) h;
         order = o;
@@ -255,7 +278,8 @@ module _ {p q : SearchParts} {W V : Watches} {l : Literal} {xs : List Watch} {a 
 
       pub visiting-dropped : v ≡ visit.Dropped → Visiting p m W X l xs a (r + 1)
       visiting-dropped f =
-          step xs a (listing-dropped s t V q.trail.queue_head l (take a xs) (drop (r + 1) xs) w next (view_of_parts m) X k.visited (subst (IsVisit (view_of_parts m) l w.cref) f k.visit))
+          step xs a (listing-dropped s t V q.trail.queue_head l (take a xs) (drop (r + 1) xs) w next (view_of_parts m) X k.visited
+          (subst (IsVisit (view_of_parts m) l w.cref) f k.visit))
           (let o = g.order in omega (arith, o)) refl
 
       -- it is written to the front, with another blocking literal
@@ -271,21 +295,25 @@ module _ {p q : SearchParts} {W V : Watches} {l : Literal} {xs : List Watch} {a 
           let ys = set xs a x in
           let d = subst (IsVisit (view_of_parts m) l w.cref) f k.visit in
           step ys (a + 1)
-          (subst (λ zs. Listing s (view_of_parts m) X q.trail.queue_head l zs (drop (r + 1) ys)) (sym (kept-is x)) (subst (λ zs. Listing s (view_of_parts m) X q.trail.queue_head l (take a xs ++ x ∷ []) zs) (sym (rest-is x))
+          (subst (λ zs. Listing s (view_of_parts m) X q.trail.queue_head l zs (drop (r + 1) ys)) (sym (kept-is x))
+          (subst (λ zs. Listing s (view_of_parts m) X q.trail.queue_head l (take a xs ++ x ∷ []) zs) (sym (rest-is x))
           (listing-kept s t V q.trail.queue_head l (take a xs) (drop (r + 1) xs) w next (view_of_parts m) X x k.visited refl d.0 d.1)))
           (let o = g.order in omega (arith, o)) (length-set xs a x)
 
-      pub visiting-false : {b : Literal} {zs : List Watch} → v ≡ visit.Conflicting b → zs ≡ take (a + 1) (set xs a (record { cref = w.cref; blocking = b })) ++ drop (r + 1) (set xs a (record { cref = w.cref; blocking = b }))
+      pub visiting-false : {b : Literal} {zs : List Watch} → v ≡ visit.Conflicting b →
+          zs ≡ take (a + 1) (set xs a (record { cref = w.cref; blocking = b })) ++ drop (r + 1) (set xs a (record { cref = w.cref; blocking = b }))
           → GoesOnWith p m (with_watches X l zs) × IsConflicting (view_of_parts m) (conflict.Long w.cref)
       visiting-false {b = b} {zs = zs} f z =
           let x : Watch = record { cref = w.cref; blocking = b } in
           let d = subst (IsVisit (view_of_parts m) l w.cref) f k.visit in
           let u = view_of_parts m in
-          let is : zs ≡ (take a xs ++ x ∷ []) ++ drop (r + 1) xs = z ∙ ap (λ us. us ++ drop (r + 1) (set xs a x)) (kept-is x) ∙ ap (λ us. (take a xs ++ x ∷ []) ++ us) (rest-is x) in (
+          let is : zs ≡ (take a xs ++ x ∷ []) ++ drop (r + 1) xs = z ∙ ap (λ us. us ++ drop (r + 1) (set xs a x)) (kept-is x)
+          ∙ ap (λ us. (take a xs ++ x ∷ []) ++ us) (rest-is x) in (
             record {
               propagates = propagates-trans s t u g.listing.propagates k.visited.propagates;
               keeps = keeps-trans g.keeps k.keeps;
-              watched = subst (λ h. IsWatched (with_watches X l zs) u h) (sym k.keeps.head) (subst (λ us. IsWatched (with_watches X l us) u q.trail.queue_head) (sym is)
+              watched = subst (λ h. IsWatched (with_watches X l zs) u h) (sym k.keeps.head)
+                  (subst (λ us. IsWatched (with_watches X l us) u q.trail.queue_head) (sym is)
                   (watched-kept s t V q.trail.queue_head l (take a xs) (drop (r + 1) xs) w next u X x k.visited refl d.0));
             },
             (reordered-place t.clauses u.clauses w.cref k.visited.propagates.grows.clauses is-watch.place, d.1),

@@ -82,5 +82,6 @@ swap-rearranged c d a b p q e =
     }
 
 -- the literals after a swap, by places
-pub swap-at : (c d : Clause) (a b : ℕ) → a < length c → b < length c → d ≡ swap c a b → (literal_in d a ≡ literal_in c b) × (literal_in d b ≡ literal_in c a) × ((m : ℕ) → (m ≡ a → ⊥) → (m ≡ b → ⊥) → literal_in d m ≡ literal_in c m)
+pub swap-at : (c d : Clause) (a b : ℕ) → a < length c → b < length c → d ≡ swap c a b → (literal_in d a ≡ literal_in c b)
+    × (literal_in d b ≡ literal_in c a) × ((m : ℕ) → (m ≡ a → ⊥) → (m ≡ b → ⊥) → literal_in d m ≡ literal_in c m)
 swap-at c d a b p q e = let s = swapped_from_swap c d a b 0 p q e in (s.0, s.1, s.2)

@@ -110,7 +110,8 @@ module _ (s : View) (W : Watches) (i : ℕ) (d : Clause) (l : Literal) (w : Well
   found-stale (e, m, n) =
       let r : IsRearranged c d = subst (IsRearranged c) (sym e) (record { same = ((λ x h. h), (λ x h. h)); long = refl; distinct = λ h. h }) in (
         visited-turned r (λ j b. (j, b, ap (λ x. literal_in x j) e)) (changed s i d w a r (inl e)),
-        two (λ j. literal_in (clause_at u i) j ≢ f) (λ g. m (sym (ap (λ x. literal_in x 0) (now-is ∙ e)) ∙ g)) (λ g. n (sym (ap (λ x. literal_in x 1) (now-is ∙ e)) ∙ g)),
+        two (λ j. literal_in (clause_at u i) j ≢ f) (λ g. m (sym (ap (λ x. literal_in x 0) (now-is ∙ e)) ∙ g))
+            (λ g. n (sym (ap (λ x. literal_in x 1) (now-is ∙ e)) ∙ g)),
       )
 
   pub found-true : (x : Literal) → IsFound s.values c d f (found.True x) → IsVisited s u W W i × IsVisit u l i (visit.Keep x)
@@ -124,7 +125,11 @@ module _ (s : View) (W : Watches) (i : ℕ) (d : Clause) (l : Literal) (w : Well
   found-false x (r, p, e, g, n, h) =
       let v : Propagates s u = changed s i d w a r (inr (not-first x p n)) in (
         visited-turned r (from-pair x p e g) v,
-        (first-in r x e, λ m k. let (j, b, z) = place_in m d 0 (subst (λ y. m ∈ y) now-is k) in on-trail s w (opposite m) (subst (λ y. IsTrueIn s (opposite y)) z (h j b))),
+        (
+          first-in r x e,
+          λ m k. let (j, b, z) = place_in m d 0 (subst (λ y. m ∈ y) now-is k) in
+              on-trail s w (opposite m) (subst (λ y. IsTrueIn s (opposite y)) z (h j b)),
+        ),
       )
 
   -- another literal is watched
@@ -133,7 +138,13 @@ module _ (s : View) (W : Watches) (i : ℕ) (d : Clause) (l : Literal) (w : Well
     more = with_watches W (opposite m) (watches_of W (opposite m) ++ record { cref = i; blocking = x } ∷ [])
 
     new-watch : HasWatch (watches_of more (opposite m)) i
-    new-watch = (record { cref = i; blocking = x }, subst (λ ws. record { cref = i; blocking = x } ∈ ws) (sym (get_or-set_same W.lists (opposite m) (watches_of W (opposite m) ++ record { cref = i; blocking = x } ∷ []) [] inside)) (∈-append_right (record { cref = i; blocking = x }) (watches_of W (opposite m)) (record { cref = i; blocking = x } ∷ []) (inl refl)), refl)
+    new-watch = (
+      record { cref = i; blocking = x },
+      subst (λ ws. record { cref = i; blocking = x } ∈ ws)
+          (sym (get_or-set_same W.lists (opposite m) (watches_of W (opposite m) ++ record { cref = i; blocking = x } ∷ []) [] inside))
+          (∈-append_right (record { cref = i; blocking = x }) (watches_of W (opposite m)) (record { cref = i; blocking = x } ∷ []) (inl refl)),
+      refl,
+    )
 
     abbrev ws : List Watch
     ws = watches_of W (opposite m) ++ record { cref = i; blocking = x } ∷ []
@@ -143,14 +154,17 @@ module _ (s : View) (W : Watches) (i : ℕ) (d : Clause) (l : Literal) (w : Well
       enabled = refl;
       count = length-set W.lists (opposite m) ws;
       old = λ y v h. ⊎_elim
-          (λ e. subst (λ z. v ∈ watches_of more z) (sym e) (subst (λ z. v ∈ z) (sym (get_or-set_same W.lists (opposite m) ws [] inside)) (∈-append_left v (watches_of W (opposite m)) (record { cref = i; blocking = x } ∷ []) (subst (λ z. v ∈ watches_of W z) e h))))
+          (λ e. subst (λ z. v ∈ watches_of more z) (sym e)
+          (subst (λ z. v ∈ z) (sym (get_or-set_same W.lists (opposite m) ws [] inside))
+          (∈-append_left v (watches_of W (opposite m)) (record { cref = i; blocking = x } ∷ []) (subst (λ z. v ∈ watches_of W z) e h))))
           (λ n. subst (λ z. v ∈ z) (sym (get_or-set_other W.lists (opposite m) y ws [] n)) h)
           (equal_or_not y (opposite m));
       new = λ y v h. ⊎_elim
           (λ e. ⊎_elim
           (λ k. inl (subst (λ z. v ∈ watches_of W z) (sym e) k))
           (λ k. ⊎_elim (λ z. inr (ap (λ q. q.cref) z, subst (λ q. q ∈ clause_at u i) (sym (ap (λ q. q.blocking) z)) (first-in fd.0 x fd.2))) (λ z. absurd z) k)
-          (∈-append_cases v (watches_of W (opposite m)) (record { cref = i; blocking = x } ∷ []) (subst (λ z. v ∈ z) (get_or-set_same W.lists (opposite m) ws [] inside) (subst (λ z. v ∈ watches_of more z) e h))))
+          (∈-append_cases v (watches_of W (opposite m)) (record { cref = i; blocking = x } ∷ [])
+          (subst (λ z. v ∈ z) (get_or-set_same W.lists (opposite m) ws [] inside) (subst (λ z. v ∈ watches_of more z) e h))))
           (λ n. inl (subst (λ z. v ∈ z) (get_or-set_other W.lists (opposite m) y ws [] n) h))
           (equal_or_not y (opposite m));
     }
@@ -161,9 +175,12 @@ module _ (s : View) (W : Watches) (i : ℕ) (d : Clause) (l : Literal) (w : Well
           record {
             propagates = changed s i d w a r (inr (not-first x p n));
             elsewhere = elsewhere-is;
-            settled = λ q h st. settled-reordered s i q d r (two (λ j. ((h : ℕ) × (h < 2) × (literal_in d j ≡ literal_in c h)) ⊎ ((p : ℕ) → p < q → literal_at s p ≢ opposite (literal_in d j))) (inl (pair-first x p e)) (inr (λ k b z. o (subst (IsTrueIn s) (z ∙ ap opposite g) (w.is_true k (omega (arith, b, h))))))) st;
+            settled = λ q h st. settled-reordered s i q d r
+                (two (λ j. ((h : ℕ) × (h < 2) × (literal_in d j ≡ literal_in c h)) ⊎ ((p : ℕ) → p < q → literal_at s p ≢ opposite (literal_in d j)))
+                (inl (pair-first x p e)) (inr (λ k b z. o (subst (IsTrueIn s) (z ∙ ap opposite g) (w.is_true k (omega (arith, b, h))))))) st;
             adds = adds-one;
-            pair = two (λ j. ((h : ℕ) × (h < 2) × (literal_in (clause_at u i) j ≡ literal_in c h)) ⊎ HasWatch (watches_of more (opposite (literal_in (clause_at u i) j))) i)
+            pair = two (λ j. ((h : ℕ) × (h < 2) × (literal_in (clause_at u i) j ≡ literal_in c h))
+                ⊎ HasWatch (watches_of more (opposite (literal_in (clause_at u i) j))) i)
                 (let (h, b, z) = pair-first x p e in inl (h, b, ap (λ y. literal_in y 0) now-is ∙ z))
                 (inr (subst (λ y. HasWatch (watches_of more (opposite y)) i) (sym (ap (λ y. literal_in y 1) now-is ∙ g)) new-watch));
           },
@@ -198,9 +215,15 @@ module _ (s : View) (W : Watches) (i : ℕ) (d : Clause) (l : Literal) (w : Well
         let (others, z, y) = split d e (let k = r.long in let k' = long in omega (arith, k, k')) h in
         (place-in r, (others, now-is ∙ z, y))
       where
-        split : (b : Clause) → literal_in b 0 ≡ x → 0 < length b → ((k : ℕ) → 1 ≤ k → k < length b → IsTrueIn s (opposite (literal_in b k))) → (others : Clause) × (b ≡ x ∷ others) × ((m : Literal) → m ∈ others → IsTrueIn u (opposite m))
+        split : (b : Clause) → literal_in b 0 ≡ x → 0 < length b → ((k : ℕ) → 1 ≤ k → k < length b → IsTrueIn s (opposite (literal_in b k))) →
+            (others : Clause) × (b ≡ x ∷ others) × ((m : Literal) → m ∈ others → IsTrueIn u (opposite m))
         split [] e z h = absurd (omega (arith, z))
-        split (y ∷ b) e z h = (b, ap (λ q. q ∷ b) e, λ m k. let (j, v, q) = place_in m b 0 k in subst (λ y. IsTrueIn s (opposite y)) q (h (suc j) (omega arith) (omega (arith, v))))
+        split (y ∷ b) e z h = (
+          b,
+          ap (λ q. q ∷ b) e,
+          λ m k. let (j, v, q) = place_in m b 0 k in
+              subst (λ y. IsTrueIn s (opposite y)) q (h (suc j) (omega arith) (omega (arith, v))),
+        )
 
     longer : Lengthens u t
     longer = record {
@@ -229,7 +252,15 @@ module _ (s : View) (W : Watches) (i : ℕ) (d : Clause) (l : Literal) (w : Well
             adds = v.adds;
             pair = v.pair;
           },
-          (first-in r x e, (length s.trail, (let z = ext-length u x (reason.Long i) s.decisions goes.well implied-inside implied-free in omega (arith, z)), subst (λ y. y ∈ clause_at u i) (sym (literal-new u x (reason.Long i) s.decisions goes.well implied-inside implied-free)) (first-in r x e))),
+          (
+            first-in r x e,
+            (
+              length s.trail,
+              (let z = ext-length u x (reason.Long i) s.decisions goes.well implied-inside implied-free in omega (arith, z)),
+              subst
+                  (λ y. y ∈ clause_at u i) (sym (literal-new u x (reason.Long i) s.decisions goes.well implied-inside implied-free)) (first-in r x e),
+            ),
+          ),
         )
 
 -- where a variable is known its literals have lists
@@ -271,23 +302,28 @@ module _ (p : SearchParts) {W : Watches} {l : Literal} {w : Watch} (g : IsWatchO
 
       -- only the order of the clause's literals is another
       is-reordered : view_of_parts q ≡ reordered s i b
-      is-reordered = ap (λ (x : Bool). record s { sound = x; clauses = live_clauses store }) (sound-is store r.sound ∙ sym g.well.sound) ∙ ap (λ (x : List StoredClause). record s { clauses = x }) r.changed
+      is-reordered = ap (λ (x : Bool). record s { sound = x; clauses = live_clauses store }) (sound-is store r.sound ∙ sym g.well.sound)
+          ∙ ap (λ (x : List StoredClause). record s { clauses = x }) r.changed
 
       turn : IsFound s.values (clause_at s i) b (opposite l) o
       turn = subst (λ x. IsFound s.values (clause_at s i) b x o) n r.found
 
-      back : (V : Watches) (v : Visit) → IsVisited s (reordered s i b) W V i × IsVisit (reordered s i b) l i v → IsVisitedAs (with_lists p W) (with_lists q V) l i v
+      back : (V : Watches) (v : Visit) → IsVisited s (reordered s i b) W V i × IsVisit (reordered s i b) l i v →
+          IsVisitedAs (with_lists p W) (with_lists q V) l i v
       back V v h =
           let h' = subst (λ x. IsVisited s x W V i × IsVisit x l i v) (sym is-reordered) h in
           record { visited = h'.0; visit = h'.1; keeps = record { last = refl; head = refl; units = refl; store = r.store } }
 
-    pub code-stale : {store : Store} → IsReorderedAt p.store store p.values.current i m found.Stale → IsVisitedAs (with_lists p W) (with_lists (record p { store = store }) W) l i visit.Dropped
+    pub code-stale : {store : Store} → IsReorderedAt p.store store p.values.current i m found.Stale →
+        IsVisitedAs (with_lists p W) (with_lists (record p { store = store }) W) l i visit.Dropped
     code-stale r = back r W visit.Dropped (found-stale s W i (b r) l g.well g.place g.is_true (turn r))
 
-    pub code-true : {store : Store} {x : Literal} → IsReorderedAt p.store store p.values.current i m (found.True x) → IsVisitedAs (with_lists p W) (with_lists (record p { store = store }) W) l i (visit.Keep x)
+    pub code-true : {store : Store} {x : Literal} → IsReorderedAt p.store store p.values.current i m (found.True x) →
+        IsVisitedAs (with_lists p W) (with_lists (record p { store = store }) W) l i (visit.Keep x)
     code-true {x = x} r = back r W (visit.Keep x) (found-true s W i (b r) l g.well g.place g.is_true x (turn r))
 
-    pub code-false : {store : Store} {x : Literal} → IsReorderedAt p.store store p.values.current i m (found.False x) → IsVisitedAs (with_lists p W) (with_lists (record p { store = store }) W) l i (visit.Conflicting x)
+    pub code-false : {store : Store} {x : Literal} → IsReorderedAt p.store store p.values.current i m (found.False x) →
+        IsVisitedAs (with_lists p W) (with_lists (record p { store = store }) W) l i (visit.Conflicting x)
     code-false {x = x} r = back r W (visit.Conflicting x) (found-false s W i (b r) l g.well g.place g.is_true x (turn r))
 
     -- another literal is watched
@@ -300,11 +336,14 @@ module _ (p : SearchParts) {W : Watches} {l : Literal} {w : Watch} (g : IsWatchO
       pub other-listed : z < length W.lists
       other-listed = subst (λ v. v < length W.lists) (sym e) (let o = listed y (length s.values) other-inside in let k = g.lists in omega (arith, o, k))
 
-      pub code-other : {V : Watches} → V ≡ with_watches W z (watches_of W z ++ record { cref = i; blocking = x } ∷ []) → IsVisitedAs (with_lists p W) (with_lists (record p { store = store }) V) l i visit.Dropped
+      pub code-other : {V : Watches} → V ≡ with_watches W z (watches_of W z ++ record { cref = i; blocking = x } ∷ []) →
+          IsVisitedAs (with_lists p W) (with_lists (record p { store = store }) V) l i visit.Dropped
       code-other {V = V} f =
           let o = subst (λ v. v < length W.lists) e other-listed in
-          subst (λ X. IsVisitedAs (with_lists p W) (with_lists (record p { store = store }) X) l i visit.Dropped) (sym (f ∙ ap (λ v. with_watches W v (watches_of W v ++ record { cref = i; blocking = x } ∷ [])) e))
-          (back r (with_watches W (opposite y) (watches_of W (opposite y) ++ record { cref = i; blocking = x } ∷ [])) visit.Dropped (found-other s W i (b r) l g.well g.place g.is_true x y (turn r) o))
+          subst (λ X. IsVisitedAs (with_lists p W) (with_lists (record p { store = store }) X) l i visit.Dropped)
+          (sym (f ∙ ap (λ v. with_watches W v (watches_of W v ++ record { cref = i; blocking = x } ∷ [])) e))
+          (back r (with_watches W (opposite y) (watches_of W (opposite y) ++ record { cref = i; blocking = x } ∷ [])) visit.Dropped
+          (found-other s W i (b r) l g.well g.place g.is_true x y (turn r) o))
 
     -- the first literal becomes true
     module _ {store : Store} {x : Literal} (r : IsReorderedAt p.store store p.values.current i m (found.Implied x)) where
@@ -314,8 +353,10 @@ module _ (p : SearchParts) {W : Watches} {l : Literal} {w : Watch} (g : IsWatchO
           let k = g.well.nodes_are in
           (h, omega (arith, h, k), implied-free s W i (b r) l g.well g.place g.is_true x (turn r))
 
-      pub code-implied : (t : SearchParts) → view_of_parts t ≡ enqueued (view_of_parts (record p { store = store })) x (reason.Long i) → KeepsParts p t → IsVisitedAs (with_lists p W) (with_lists t W) l i (visit.Keep x)
+      pub code-implied : (t : SearchParts) → view_of_parts t ≡ enqueued (view_of_parts (record p { store = store })) x (reason.Long i) →
+          KeepsParts p t → IsVisitedAs (with_lists p W) (with_lists t W) l i (visit.Keep x)
       code-implied t e k =
           let f = found-implied s W i (b r) l g.well g.place g.is_true x (turn r) in
-          let h = subst (λ v. IsVisited s v W W i × IsVisit v l i (visit.Keep x)) (sym (e ∙ ap (λ (v : View). enqueued v x (reason.Long i)) (is-reordered r))) f in
+          let h = subst (λ v. IsVisited s v W W i × IsVisit v l i (visit.Keep x))
+          (sym (e ∙ ap (λ (v : View). enqueued v x (reason.Long i)) (is-reordered r))) f in
           record { visited = h.0; visit = h.1; keeps = k }

@@ -63,12 +63,14 @@ pub goes-put : {p q : SearchParts} {V X : Watches} → GoesOnWith p q V → X �
 goes-put {p = p} {q = q} g e = subst (λ Y. GoesOnWith p q Y) (sym e) g
 
 -- clauses of two literals were propagated
-module _ {W : Watches} {p q : SearchParts} {l : Literal} (n : IsNext W (view_of_parts p) l) (g : Propagates (view_of_parts p) (view_of_parts q)) (k : KeepsParts p q) (same : live_clauses q.store ≡ live_clauses p.store) where
+module _ {W : Watches} {p q : SearchParts} {l : Literal} (n : IsNext W (view_of_parts p) l) (g : Propagates (view_of_parts p) (view_of_parts q))
+    (k : KeepsParts p q) (same : live_clauses q.store ≡ live_clauses p.store) where
   pub pairs-go : GoesOnWith p q W
   pairs-go = record {
     propagates = g;
     keeps = k;
-    watched = subst (λ h. IsWatched W (view_of_parts q) h) (sym k.head) (watched-longer W (view_of_parts p) (view_of_parts q) p.trail.queue_head n.watched g same);
+    watched = subst (λ h. IsWatched W (view_of_parts q) h) (sym k.head)
+        (watched-longer W (view_of_parts p) (view_of_parts q) p.trail.queue_head n.watched g same);
   }
 
   pub still-next : IsNext W (view_of_parts q) l
@@ -87,8 +89,10 @@ goes-then {p = p} {q = q} {r = r} g h = record {
   watched = h.watched;
 }
 
-pub ends-both : {q r : SearchParts} {W V : Watches} {l : Literal} (end : Result (Unit {0}) Conflict) → IsNext W (view_of_parts q) l → GoesOnWith q r V → ((m : Literal) → m ∈ implied_by (view_of_parts q) l → m ∈ q.trail.literals)
-    → EndsPropagation (λ s. IsSettledTo s (suc s.queue_head)) (view_of_parts r) end → EndsPropagation (λ s. IsSettledTo s (suc s.queue_head) × IsImpliedTo s (suc s.queue_head)) (view_of_parts r) end
+pub ends-both : {q r : SearchParts} {W V : Watches} {l : Literal} (end : Result (Unit {0}) Conflict) → IsNext W (view_of_parts q) l →
+    GoesOnWith q r V → ((m : Literal) → m ∈ implied_by (view_of_parts q) l → m ∈ q.trail.literals)
+    → EndsPropagation (λ s. IsSettledTo s (suc s.queue_head)) (view_of_parts r) end →
+    EndsPropagation (λ s. IsSettledTo s (suc s.queue_head) × IsImpliedTo s (suc s.queue_head)) (view_of_parts r) end
 ends-both (Err f) n g d m = m
 ends-both {q = q} {r = r} {l = l} (Ok x) n g d m =
     let t = view_of_parts q in
@@ -98,7 +102,8 @@ ends-both {q = q} {r = r} {l = l} (Ok x) n g d m =
       implied-next u r.trail.queue_head l g.propagates.well
           (ap (λ h. literal_at u h) g.keeps.head ∙ literal-stays t u g.propagates.grows q.trail.queue_head n.within ∙ n.head)
           g.watched.queue g.watched.implied
-          (λ y i. subst (λ xs. y ∈ xs) (sym more.1) (∈-append_left y t.trail more.0 (d y (subst (λ (B : List (List ℕ)). y ∈ get_or B l []) g.propagates.grows.binary i)))),
+          (λ y i. subst (λ xs. y ∈ xs) (sym more.1)
+          (∈-append_left y t.trail more.0 (d y (subst (λ (B : List (List ℕ)). y ∈ get_or B l []) g.propagates.grows.binary i)))),
     )
 
 -- Where all of the queue was propagated that stands before its head: what `propagate` keeps from literal to literal.
@@ -120,18 +125,22 @@ queue-more {p = p} {q = q} {r = r} a g = record {
 }
 
 -- and leaves the queue
-queue-within : {W V : Watches} {q r : SearchParts} {l : Literal} → IsNext W (view_of_parts q) l → GoesOnWith q r V → r.trail.queue_head < length r.trail.literals
-queue-within {q = q} {r = r} n g = let a = grows-longer (view_of_parts q) (view_of_parts r) g.propagates.grows in let b = n.within in let c = g.keeps.head in omega (arith, a, b, c)
+queue-within : {W V : Watches} {q r : SearchParts} {l : Literal} → IsNext W (view_of_parts q) l → GoesOnWith q r V →
+    r.trail.queue_head < length r.trail.literals
+queue-within {q = q} {r = r} n g = let a = grows-longer (view_of_parts q) (view_of_parts r) g.propagates.grows in let b = n.within in
+    let c = g.keeps.head in omega (arith, a, b, c)
 
 module _ {W V : Watches} {q r : SearchParts} {l : Literal} {o : Option ℕ} (tr : TrailParts) (n : IsNext W (view_of_parts q) l) (g : GoesOnWith q r V)
-    (head : o ≡ slice_get r.trail.literals r.trail.queue_head) (taken : MatchOption o (tr ≡ r.trail) (λ m. tr ≡ record r.trail { queue_head = r.trail.queue_head + 1 })) where
+    (head : o ≡ slice_get r.trail.literals r.trail.queue_head)
+    (taken : MatchOption o (tr ≡ r.trail) (λ m. tr ≡ record r.trail { queue_head = r.trail.queue_head + 1 })) where
   within : r.trail.queue_head < length r.trail.literals
   within = queue-within n g
 
   left : tr ≡ record r.trail { queue_head = r.trail.queue_head + 1 }
   left = popped r.trail.literals r.trail.queue_head o (tr ≡ r.trail) (λ m. tr ≡ record r.trail { queue_head = r.trail.queue_head + 1 }) head within taken
 
-  pub queue-next : {p : SearchParts} {X : Watches} → QueueGoesOn p q X → IsSettledTo (view_of_parts r) (suc r.trail.queue_head) × IsImpliedTo (view_of_parts r) (suc r.trail.queue_head) → QueueGoesOn p (record r { trail = tr }) V
+  pub queue-next : {p : SearchParts} {X : Watches} → QueueGoesOn p q X → IsSettledTo (view_of_parts r) (suc r.trail.queue_head)
+      × IsImpliedTo (view_of_parts r) (suc r.trail.queue_head) → QueueGoesOn p (record r { trail = tr }) V
   queue-next {p = p} a st =
       let b = queue-more a g in
       subst (λ (y : TrailParts). QueueGoesOn p (record r { trail = y }) V) (sym left) record {

@@ -29,7 +29,8 @@ module _ (B : List (List Literal)) (x m : Literal) (inside : x < length B) where
 
   push-old : (y n : Literal) → n ∈ get_or B y [] → n ∈ get_or (with_implied B x m) y []
   push-old y n h = ⊎_elim
-      (λ e. subst (λ z. n ∈ get_or (with_implied B x m) z []) (sym e) (subst (λ zs. n ∈ zs) (sym own) (∈-append_left n (get_or B x []) (m ∷ []) (subst (λ z. n ∈ get_or B z []) e h))))
+      (λ e. subst (λ z. n ∈ get_or (with_implied B x m) z []) (sym e)
+      (subst (λ zs. n ∈ zs) (sym own) (∈-append_left n (get_or B x []) (m ∷ []) (subst (λ z. n ∈ get_or B z []) e h))))
       (λ d. subst (λ zs. n ∈ zs) (sym (get_or-set_other B x y ms [] d)) h)
       (equal_or_not y x)
 
@@ -50,7 +51,9 @@ with-last : (x : Literal) (ms : List Literal) (m : Literal) → x < m → pairs_
 with-last x [] m l = rw (is-less x m l) refl
 with-last x (n ∷ ms) m l = go (nat_lt x n) (with-last x ms m l)
   where
-    go : (b : Bool) → pairs_with x (ms ++ m ∷ []) ≡ pairs_with x ms ++ (x ∷ m ∷ []) ∷ [] → cond b ((x ∷ n ∷ []) ∷ pairs_with x (ms ++ m ∷ [])) (pairs_with x (ms ++ m ∷ [])) ≡ cond b ((x ∷ n ∷ []) ∷ pairs_with x ms) (pairs_with x ms) ++ (x ∷ m ∷ []) ∷ []
+    go : (b : Bool) → pairs_with x (ms ++ m ∷ []) ≡ pairs_with x ms ++ (x ∷ m ∷ []) ∷ [] →
+        cond b ((x ∷ n ∷ []) ∷ pairs_with x (ms ++ m ∷ [])) (pairs_with x (ms ++ m ∷ [])) ≡ cond b ((x ∷ n ∷ []) ∷ pairs_with x ms)
+        (pairs_with x ms) ++ (x ∷ m ∷ []) ∷ []
     go true e = ap (λ cs. (x ∷ n ∷ []) ∷ cs) e
     go false e = e
 
@@ -58,7 +61,8 @@ with-none : (x : Literal) (ms : List Literal) (m : Literal) → (x < m → ⊥) 
 with-none x [] m l = rw (is-not-less x m l) refl
 with-none x (n ∷ ms) m l = go (nat_lt x n) (with-none x ms m l)
   where
-    go : (b : Bool) → pairs_with x (ms ++ m ∷ []) ≡ pairs_with x ms → cond b ((x ∷ n ∷ []) ∷ pairs_with x (ms ++ m ∷ [])) (pairs_with x (ms ++ m ∷ [])) ≡ cond b ((x ∷ n ∷ []) ∷ pairs_with x ms) (pairs_with x ms)
+    go : (b : Bool) → pairs_with x (ms ++ m ∷ []) ≡ pairs_with x ms →
+        cond b ((x ∷ n ∷ []) ∷ pairs_with x (ms ++ m ∷ [])) (pairs_with x (ms ++ m ∷ [])) ≡ cond b ((x ∷ n ∷ []) ∷ pairs_with x ms) (pairs_with x ms)
     go true e = ap (λ cs. (x ∷ n ∷ []) ∷ cs) e
     go false e = e
 
@@ -70,7 +74,8 @@ inserts-before before cs ds p i = record {
   new = ap (λ x. before ++ x) i.new ∙ sym (append_assoc before i.front (p ∷ i.back));
 }
 
-insert-one : (B : List (List Literal)) (k x m : ℕ) → x < length B → opposite (k + x) < m → Inserts (pairs_from k B) (pairs_from k (with_implied B x m)) (opposite (k + x) ∷ m ∷ [])
+insert-one : (B : List (List Literal)) (k x m : ℕ) → x < length B → opposite (k + x) < m →
+    Inserts (pairs_from k B) (pairs_from k (with_implied B x m)) (opposite (k + x) ∷ m ∷ [])
 insert-one [] k x m h l = absurd (omega (arith, h))
 insert-one (ms ∷ B) k zero m h l =
     let e : k + 0 ≡ k = omega arith in
@@ -80,7 +85,8 @@ insert-one (ms ∷ B) k zero m h l =
       front = pairs_with (opposite k) ms;
       back = pairs_from (suc k) B;
       old = refl;
-      new = ap (λ cs. cs ++ pairs_from (suc k) B) (with-last (opposite k) ms m (subst (λ y. opposite y < m) e l)) ∙ append_assoc (pairs_with (opposite k) ms) (p ∷ []) (pairs_from (suc k) B);
+      new = ap (λ cs. cs ++ pairs_from (suc k) B) (with-last (opposite k) ms m (subst (λ y. opposite y < m) e l))
+          ∙ append_assoc (pairs_with (opposite k) ms) (p ∷ []) (pairs_from (suc k) B);
     })
 insert-one (ms ∷ B) k (suc x) m h l =
     let e : k + suc x ≡ suc k + x = omega arith in
@@ -114,16 +120,20 @@ module _ (B : List (List Literal)) (a b : Literal) (first : opposite a < length 
     old = λ z w i. push-old C (opposite b) a second-inside z w (push-old B (opposite a) b first z w i);
     first = push-old C (opposite b) a second-inside (opposite a) b (push-here B (opposite a) b first);
     second = push-here C (opposite b) a second-inside;
-    new = λ z w i. ⊎_elim (λ j. ⊎_elim inl (λ o. inr (inl o)) (push-new B (opposite a) b first z w j)) (λ o. inr (inr o)) (push-new C (opposite b) a second-inside z w i);
+    new = λ z w i. ⊎_elim (λ j. ⊎_elim inl (λ o. inr (inl o)) (push-new B (opposite a) b first z w j)) (λ o. inr (inr o))
+        (push-new C (opposite b) a second-inside z w i);
   }
 
   -- a literal is implied from the other end too still, and no clause has a literal and its opposite
-  pub back-more : ((l m : Literal) → m ∈ get_or B l [] → opposite l ∈ get_or B (opposite m) []) → (l m : Literal) → m ∈ get_or (with_pair B a b) l [] → opposite l ∈ get_or (with_pair B a b) (opposite m) []
+  pub back-more : ((l m : Literal) → m ∈ get_or B l [] → opposite l ∈ get_or B (opposite m) []) → (l m : Literal) →
+      m ∈ get_or (with_pair B a b) l [] → opposite l ∈ get_or (with_pair B a b) (opposite m) []
   back-more back l m h = ⊎_elim
       (λ k. adds-pair.old (opposite m) (opposite l) (back l m k))
       (λ o. ⊎_elim
-      (λ (e, f). subst (λ x. x ∈ get_or (with_pair B a b) (opposite m) []) (sym (ap opposite e ∙ opposite_twice a)) (subst (λ x. a ∈ get_or (with_pair B a b) (opposite x) []) (sym f) adds-pair.second))
-      (λ (e, f). subst (λ x. x ∈ get_or (with_pair B a b) (opposite m) []) (sym (ap opposite e ∙ opposite_twice b)) (subst (λ x. b ∈ get_or (with_pair B a b) (opposite x) []) (sym f) adds-pair.first))
+      (λ (e, f). subst (λ x. x ∈ get_or (with_pair B a b) (opposite m) []) (sym (ap opposite e ∙ opposite_twice a))
+      (subst (λ x. a ∈ get_or (with_pair B a b) (opposite x) []) (sym f) adds-pair.second))
+      (λ (e, f). subst (λ x. x ∈ get_or (with_pair B a b) (opposite m) []) (sym (ap opposite e ∙ opposite_twice b))
+      (subst (λ x. b ∈ get_or (with_pair B a b) (opposite x) []) (sym f) adds-pair.first))
       o)
       (adds-pair.new l m h)
 
@@ -139,12 +149,14 @@ module _ (B : List (List Literal)) (a b : Literal) (first : opposite a < length 
   low : (x : Literal) → opposite (0 + opposite x) ≡ x
   low x = let e : 0 + opposite x ≡ opposite x = omega arith in ap opposite e ∙ opposite_twice x
 
-  pub inserts-pair : a ≢ b → (p : Clause) × Inserts (pairs_from 0 B) (pairs_from 0 (with_pair B a b)) p × SameSet p (a ∷ b ∷ []) × ((p ≡ a ∷ b ∷ []) ⊎ (p ≡ b ∷ a ∷ []))
+  pub inserts-pair : a ≢ b → (p : Clause) × Inserts (pairs_from 0 B) (pairs_from 0 (with_pair B a b)) p × SameSet p (a ∷ b ∷ [])
+      × ((p ≡ a ∷ b ∷ []) ⊎ (p ≡ b ∷ a ∷ []))
   inserts-pair n = ⊎_elim
       (λ l. (
         a ∷ b ∷ [],
         subst (λ x. Inserts (pairs_from 0 B) (pairs_from 0 (with_pair B a b)) (x ∷ b ∷ [])) (low a)
-            (subst (λ cs. Inserts (pairs_from 0 B) cs (opposite (0 + opposite a) ∷ b ∷ [])) (sym (insert-none C 0 (opposite b) a second-inside (subst (λ x. x < a → ⊥) (sym (low b)) (λ k. absurd (omega (arith, k, l))))))
+            (subst (λ cs. Inserts (pairs_from 0 B) cs (opposite (0 + opposite a) ∷ b ∷ []))
+            (sym (insert-none C 0 (opposite b) a second-inside (subst (λ x. x < a → ⊥) (sym (low b)) (λ k. absurd (omega (arith, k, l))))))
             (insert-one B 0 (opposite a) b first (subst (λ x. x < b) (sym (low a)) l))),
         ((λ x h. h), (λ x h. h)),
         inl refl,
@@ -152,7 +164,8 @@ module _ (B : List (List Literal)) (a b : Literal) (first : opposite a < length 
       (λ l. let k : b < a = lower l in (
         b ∷ a ∷ [],
         subst (λ x. Inserts (pairs_from 0 B) (pairs_from 0 (with_pair B a b)) (x ∷ a ∷ [])) (low b)
-            (subst (λ cs. Inserts cs (pairs_from 0 (with_pair B a b)) (opposite (0 + opposite b) ∷ a ∷ [])) (insert-none B 0 (opposite a) b first (subst (λ x. x < b → ⊥) (sym (low a)) (λ j. absurd (omega (arith, k, j)))))
+            (subst (λ cs. Inserts cs (pairs_from 0 (with_pair B a b)) (opposite (0 + opposite b) ∷ a ∷ []))
+            (insert-none B 0 (opposite a) b first (subst (λ x. x < b → ⊥) (sym (low a)) (λ j. absurd (omega (arith, k, j)))))
             (insert-one C 0 (opposite b) a second-inside (subst (λ x. x < a) (sym (low b)) k))),
         turned b a,
         inr refl,
@@ -168,7 +181,8 @@ module _ (s : View) (a b : Literal) (first : opposite a < length s.binary) (seco
   more = record s { binary = with_pair s.binary a b }
 
   pub kept-inserted : (p : Clause) × Inserts (kept s) (kept more) p × SameSet p (a ∷ b ∷ []) × ((p ≡ a ∷ b ∷ []) ⊎ (p ≡ b ∷ a ∷ []))
-  kept-inserted = let (p, i, same, is) = inserts-pair s.binary a b first second other in (p, inserts-before (literals_of s.clauses) (pairs_from 0 s.binary) (pairs_from 0 more.binary) p i, same, is)
+  kept-inserted = let (p, i, same, is) = inserts-pair s.binary a b first second other in
+      (p, inserts-before (literals_of s.clauses) (pairs_from 0 s.binary) (pairs_from 0 more.binary) p i, same, is)
 
   kept-cases : (c : Clause) → c ∈ kept more → (c ∈ kept s) ⊎ ((c ≡ a ∷ b ∷ []) ⊎ (c ≡ b ∷ a ∷ []))
   kept-cases c h =
@@ -208,7 +222,8 @@ module _ (s : View) (a b : Literal) (first : opposite a < length s.binary) (seco
         reasons = λ k h. reason-stays k (node_at s k).reason (w.reason_is k h);
       })
     where
-      range : (x y : Literal) → variable_of x < length s.values → variable_of y < length s.values → (l : Literal) → l ∈ (x ∷ y ∷ []) → variable_of l < length s.values
+      range : (x y : Literal) → variable_of x < length s.values → variable_of y < length s.values → (l : Literal) → l ∈ (x ∷ y ∷ []) →
+          variable_of l < length s.values
       range x y h k l (inl e) = subst (λ z. variable_of z < length s.values) (sym e) h
       range x y h k l (inr (inl e)) = subst (λ z. variable_of z < length s.values) (sym e) k
       range x y h k l (inr (inr z)) = absurd z
@@ -218,14 +233,16 @@ module _ (s : View) (a b : Literal) (first : opposite a < length s.binary) (seco
 
   -- 5. Propagation.
   -- What is implied is settled still where each of the two that is false before place q has the other beside it.
-  pub implied-more : (q : ℕ) → ((k : ℕ) → k < q → literal_at s k ≡ opposite a → IsCovered s (b ∷ []) k) → ((k : ℕ) → k < q → literal_at s k ≡ opposite b → IsCovered s (a ∷ []) k) → IsImpliedTo s q → IsImpliedTo more q
+  pub implied-more : (q : ℕ) → ((k : ℕ) → k < q → literal_at s k ≡ opposite a → IsCovered s (b ∷ []) k) →
+      ((k : ℕ) → k < q → literal_at s k ≡ opposite b → IsCovered s (a ∷ []) k) → IsImpliedTo s q → IsImpliedTo more q
   implied-more q f g st = λ m k h i. ⊎_elim (st m k h) (λ o. ⊎_elim
       (λ (e, z). subst (λ x. IsCovered s (x ∷ []) k) (sym z) (f k h e))
       (λ (e, z). subst (λ x. IsCovered s (x ∷ []) k) (sym z) (g k h e))
       o) ((adds-pair s.binary a b first second).new (literal_at s k) m i)
 
   -- A loaded clause of two literals, after which no literal counts as propagated.
-  pub propagated-loaded-pair : (W : Watches) → IsPropagated W s → s.decisions ≡ [] → IsPropagated W (record s { binary = with_pair s.binary a b; queue_head = 0 })
+  pub propagated-loaded-pair : (W : Watches) → IsPropagated W s → s.decisions ≡ [] →
+      IsPropagated W (record s { binary = with_pair s.binary a b; queue_head = 0 })
   propagated-loaded-pair W w e = record {
     lists = w.lists;
     watching = w.watching;
@@ -245,7 +262,8 @@ module _ (s : View) (a b : Literal) (first : opposite a < length s.binary) (seco
   propagated-learned-pair W r f w n o =
       let g = propagated-enqueued W s a r f w in
       let m = length-append s.trail (a ∷ []) in
-      let keep : (k : ℕ) → k < s.queue_head → literal_at (enqueued s a r) k ≡ literal_at s k = λ k h. get_or_append_left s.trail (a ∷ []) 0 k (let u = f.head in omega (arith, h, u)) in
+      let keep : (k : ℕ) → k < s.queue_head → literal_at (enqueued s a r) k ≡ literal_at s k =
+      λ k h. get_or_append_left s.trail (a ∷ []) 0 k (let u = f.head in omega (arith, h, u)) in
       record {
         lists = g.lists;
         watching = g.watching;
@@ -254,7 +272,13 @@ module _ (s : View) (a b : Literal) (first : opposite a < length s.binary) (seco
         binary = (adds-pair s.binary a b first second).count ∙ g.binary;
         implied = implied-more (enqueued s a r) a b first second other s.queue_head
             (λ k h e. absurd (n k h (sym (keep k h) ∙ e)))
-            (λ k h e. (length s.trail, omega (arith, m), inl (get_or-last s.trail a 0), λ j d z. let u = o k h (sym (keep k h) ∙ e) j d in absurd (omega (arith, u, z))))
+            (λ k h e. (
+              length s.trail,
+              omega (arith, m),
+              inl (get_or-last s.trail a 0),
+              λ j d z. let u = o k h (sym (keep k h) ∙ e) j d in
+                  absurd (omega (arith, u, z)),
+            ))
             g.implied;
         queue = g.queue;
       }

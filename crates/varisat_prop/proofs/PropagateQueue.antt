@@ -19,7 +19,8 @@ pub popped : (xs : List ℕ) (q : ℕ) (o : Option ℕ) (P : Type 0) (Q : ℕ �
 popped xs q o P Q e h m = MatchOption-at_some P Q (get_or xs q 0) (e ∙ slice_get-get_or xs q 0 h) m
 
 -- the next literal of the queue was propagated
-pub watched-next : (W : Watches) (u : View) (k : ℕ) → IsWatched W u k → k < length u.trail → IsSettledTo u (suc k) → IsImpliedTo u (suc k) → IsWatched W (record u { queue_head = k + 1 }) (k + 1)
+pub watched-next : (W : Watches) (u : View) (k : ℕ) → IsWatched W u k → k < length u.trail → IsSettledTo u (suc k) → IsImpliedTo u (suc k) →
+    IsWatched W (record u { queue_head = k + 1 }) (k + 1)
 watched-next W u k w a st im = subst (λ n. IsWatched W (record u { queue_head = k + 1 }) n) (sym (add-one k)) record {
   lists = w.lists;
   enabled = w.enabled;
@@ -73,7 +74,8 @@ watched-propagated W s w = record {
 }
 
 -- lists that were off are made anew
-pub watched-enabled : (W V : Watches) (s : View) → WellFormed s → IsPropagated W s → V.enabled ≡ true → length V.lists ≡ length W.lists → (W.enabled ≡ true → V ≡ W) → (W.enabled ≡ false → IsWatching V s.clauses) → IsWatched V s s.queue_head
+pub watched-enabled : (W V : Watches) (s : View) → WellFormed s → IsPropagated W s → V.enabled ≡ true → length V.lists ≡ length W.lists →
+    (W.enabled ≡ true → V ≡ W) → (W.enabled ≡ false → IsWatching V s.clauses) → IsWatched V s s.queue_head
 watched-enabled W V s f p on n same anew = record {
   lists = n ∙ p.lists;
   enabled = on;
@@ -98,9 +100,11 @@ watched-longer W s t q w p e =
       lists = (let k = w.lists in omega (arith, k, n));
       enabled = w.enabled;
       watching = subst (λ P. IsWatching W P) (sym e) w.watching;
-      settled = settled-longer s t q (record { clauses = e; binary = g.binary; decisions = g.decisions; longer = g.longer; keeps = g.keeps }) w.within w.settled;
+      settled = settled-longer s t q (record { clauses = e; binary = g.binary; decisions = g.decisions; longer = g.longer; keeps = g.keeps })
+          w.within w.settled;
       implied = implied-longer s t q g w.within w.implied;
       binary = (let k = ap (λ (x : List (List ℕ)). length x) p.grows.binary in let o = w.binary in omega (arith, k, n, o));
       within = (let k = g.longer in let o = w.within in omega (arith, k, o));
-      queue = λ j h. let d = p.decisions in let a = ap (λ (x : List ℕ). length x) d in let b = ap (λ (x : List ℕ). get_or x j 0) d in let o = w.queue j (omega (arith, h, a)) in omega (arith, o, b);
+      queue = λ j h. let d = p.decisions in let a = ap (λ (x : List ℕ). length x) d in let b = ap (λ (x : List ℕ). get_or x j 0) d in
+          let o = w.queue j (omega (arith, h, a)) in omega (arith, o, b);
     }

@@ -23,10 +23,12 @@ item-∈ (x ∷ xs) (suc i) v h e = inr (item-∈ xs i v (omega (arith, h)) e)
 -- all but the first
 pub others-read : (c r : List ℕ) → r ≡ c → 1 ≤ length c → take (length r - 1) (drop 1 r) ≡ others_of c
 others-read [] r e h = absurd (omega (arith, h))
-others-read (l ∷ c) r e h = subst (λ (x : List ℕ). take (length x - 1) (drop 1 x) ≡ c) (sym e) (let n : suc (length c) - 1 ≡ length c = omega arith in ap (λ (k : ℕ). take k c) n ∙ take-length c)
+others-read (l ∷ c) r e h = subst (λ (x : List ℕ). take (length x - 1) (drop 1 x) ≡ c) (sym e)
+    (let n : suc (length c) - 1 ≡ length c = omega arith in ap (λ (k : ℕ). take k c) n ∙ take-length c)
 
 -- the clause that a reason names, as it is read: it is not empty
-pub reason-read : {r : Reason} {s : Store} {p : ℕ} {c : List ℕ} → IsSound s → NamesClause (live_clauses s) r → r ≡ reason.Long p → c ≡ literals_at (stored_clauses s) p → (c ≡ literals_at (live_clauses s) p) × (1 ≤ length c)
+pub reason-read : {r : Reason} {s : Store} {p : ℕ} {c : List ℕ} → IsSound s → NamesClause (live_clauses s) r → r ≡ reason.Long p →
+    c ≡ literals_at (stored_clauses s) p → (c ≡ literals_at (live_clauses s) p) × (1 ≤ length c)
 reason-read {s = s} {p = p} ok n e q =
     let h = subst (NamesClause (live_clauses s)) e n in
     let f = q ∙ live-literals s p ok h.0 in

@@ -81,24 +81,28 @@ settled-undecided s d j h = let n = ap (λ (x : List ℕ). length x) d in absurd
 module _ (t : View) (w : WellFormed t) (free : (c : Clause) → c ∈ kept t → (l : Literal) → l ∈ c → is_unassigned t.values l ≡ true) where
   -- no literal of the trail makes one of theirs false
   not-false : (c : Clause) → c ∈ kept t → (k : ℕ) → k < length t.trail → (l : Literal) → l ∈ c → literal_at t k ≢ opposite l
-  not-false c h k b l i e = none-made t.values l (literal_at t k) (unassigned-none t.values l (free c h l i)) (ap variable_of e ∙ variable-opposite l) (w.is_true k b)
+  not-false c h k b l i e = none-made t.values l (literal_at t k) (unassigned-none t.values l (free c h l i))
+      (ap variable_of e ∙ variable-opposite l) (w.is_true k b)
 
   watched-in : (i j : ℕ) → IsPlace t.clauses i → j < 2 → literal_in (clause_at t i) j ∈ clause_at t i
   watched-in i j a l = ∈-get_or (clause_at t i) j 0 (let n = w.several (clause_at t i) (kept-here t i a) in omega (arith, l, n))
 
   -- what stands on the trail is settled
   pub settled-unassigned : IsSettledTo t t.queue_head
-  settled-unassigned i j p a l h g = absurd (not-false (clause_at t i) (kept-here t i a) p (let q = w.head in omega (arith, h, q)) (literal_in (clause_at t i) j) (watched-in i j a l) g)
+  settled-unassigned i j p a l h g =
+      absurd (not-false (clause_at t i) (kept-here t i a) p (let q = w.head in omega (arith, h, q)) (literal_in (clause_at t i) j) (watched-in i j a l) g)
 
   pub implied-unassigned : IsImpliedTo t t.queue_head
   implied-unassigned m p h i = absurd (
       let q = w.head in
       let (c, k, same) = implied-kept t w (literal_at t p) m i in
-      not-false c k p (omega (arith, h, q)) (opposite (literal_at t p)) (same.1 (opposite (literal_at t p)) (inr (inl refl))) (sym (opposite_twice (literal_at t p)))
+      not-false c k p (omega (arith, h, q)) (opposite (literal_at t p)) (same.1 (opposite (literal_at t p)) (inr (inl refl)))
+      (sym (opposite_twice (literal_at t p)))
       )
 
   -- The lists of watches are off.
-  pub propagated-unassigned : (W : Watches) → length W.lists ≡ 2 * length t.values → W.enabled ≡ false → ((x : Literal) → watches_of W x ≡ []) → length t.binary ≡ 2 * length t.values → t.decisions ≡ [] → IsPropagated W t
+  pub propagated-unassigned : (W : Watches) → length W.lists ≡ 2 * length t.values → W.enabled ≡ false → ((x : Literal) → watches_of W x ≡ []) →
+      length t.binary ≡ 2 * length t.values → t.decisions ≡ [] → IsPropagated W t
   propagated-unassigned W n off e b d = record {
     lists = n;
     watching = λ on. absurd (apart (sym off ∙ on));

@@ -17,7 +17,8 @@ get_or-last [] x d = refl
 get_or-last (y ∷ xs) x d = get_or-last xs x d
 
 -- The literal of a variable without a value is enqueued, over a list of decisions.
-module _ (s : View) (l : Literal) (r : Reason) (ds : List ℕ) (w : WellFormed s) (inside : variable_of l < length s.values) (free : get_or s.values (variable_of l) None ≡ None) where
+module _ (s : View) (l : Literal) (r : Reason) (ds : List ℕ) (w : WellFormed s) (inside : variable_of l < length s.values)
+    (free : get_or s.values (variable_of l) None ≡ None) where
   abbrev pub ext : View
   ext = enqueued (record s { decisions = ds }) l r
 
@@ -74,7 +75,8 @@ module _ (s : View) (l : Literal) (r : Reason) (ds : List ℕ) (w : WellFormed s
 
   reason-old : ((k : ℕ) → k ∈ s.decisions → k ∈ ds) → (q : Reason) (k : ℕ) → k < length s.trail → IsReason s k q → IsReason ext k q
   reason-old keeps reason.Unit k h p = ⊎_elim (λ i. inl (keeps k i)) (λ e. inr (ap (λ n. n.level) (node-old k h) ∙ e)) p
-  reason-old keeps (reason.Binary ms) k h (m, e, i, b) = (m, e, subst (λ x. x ∈ implied_by s (opposite m)) (sym (literal-old k h)) i, stands-old k (opposite m) (omega (arith, h)) b)
+  reason-old keeps (reason.Binary ms) k h (m, e, i, b) =
+      (m, e, subst (λ x. x ∈ implied_by s (opposite m)) (sym (literal-old k h)) i, stands-old k (opposite m) (omega (arith, h)) b)
   reason-old keeps (reason.Long i) k h p = (p.0, implies-old (clause_at s i) k h p.1)
 
   -- what is kept of the decisions
@@ -97,8 +99,10 @@ module _ (s : View) (l : Literal) (r : Reason) (ds : List ℕ) (w : WellFormed s
     distinct = w.distinct;
     binary_back = w.binary_back;
     binary_other = w.binary_other;
-    is_true = each-place (λ k. IsTrueIn ext (literal_at ext k)) (λ k h. subst (IsTrueIn ext) (sym (literal-old k h)) (true-old (literal_at s k) (w.is_true k h))) (subst (IsTrueIn ext) (sym literal-new) true-new);
-    stands = λ m h. let n = ext-length in ⊎_elim (λ e. (length s.trail, omega (arith, n), literal-new ∙ sym e)) (λ t. let (j, a, e) = w.stands m t in (j, omega (arith, a, n), literal-old j a ∙ e)) (true-cases m h);
+    is_true = each-place (λ k. IsTrueIn ext (literal_at ext k))
+        (λ k h. subst (IsTrueIn ext) (sym (literal-old k h)) (true-old (literal_at s k) (w.is_true k h))) (subst (IsTrueIn ext) (sym literal-new) true-new);
+    stands = λ m h. let n = ext-length in ⊎_elim (λ e. (length s.trail, omega (arith, n), literal-new ∙ sym e))
+        (λ t. let (j, a, e) = w.stands m t in (j, omega (arith, a, n), literal-old j a ∙ e)) (true-cases m h);
     head = let n = ext-length in let q = w.head in omega (arith, n, q);
     depth_is = each-place (λ k. (node_at ext k).depth ≡ suc k) (λ k h. ap (λ n. n.depth) (node-old k h) ∙ w.depth_is k h) (ap (λ n. n.depth) node-new);
     decided = d.decided;

@@ -11,7 +11,8 @@ append-nil [] = refl
 append-nil (x ∷ xs) = ap (λ ys. x ∷ ys) (append-nil xs)
 
 -- only the order of literals in clauses is another
-pub grows-reordered : (s : View) (P : List StoredClause) → AreReordered s.clauses P → ((held : List Clause) → ViewFits held s → ViewFits held (record s { clauses = P })) → GrowsTrail s (record s { clauses = P })
+pub grows-reordered : (s : View) (P : List StoredClause) → AreReordered s.clauses P →
+    ((held : List Clause) → ViewFits held s → ViewFits held (record s { clauses = P })) → GrowsTrail s (record s { clauses = P })
 grows-reordered s P a f = record {
   clauses = a;
   binary = refl;
@@ -34,9 +35,17 @@ grows-trans s t u g h = record {
   clauses = reordered-trans s.clauses t.clauses u.clauses g.clauses h.clauses;
   binary = h.binary ∙ g.binary;
   count = h.count ∙ g.count;
-  trail_more = (g.trail_more.0 ++ h.trail_more.0, h.trail_more.1 ∙ ap (λ x. x ++ h.trail_more.0) g.trail_more.1 ∙ append_assoc s.trail g.trail_more.0 h.trail_more.0);
+  trail_more = (
+    g.trail_more.0 ++ h.trail_more.0,
+    h.trail_more.1 ∙ ap (λ x. x ++ h.trail_more.0) g.trail_more.1
+        ∙ append_assoc s.trail g.trail_more.0 h.trail_more.0,
+  );
   head = let a = g.head in let b = h.head in omega (arith, a, b);
-  decisions_more = (g.decisions_more.0 ++ h.decisions_more.0, h.decisions_more.1 ∙ ap (λ x. x ++ h.decisions_more.0) g.decisions_more.1 ∙ append_assoc s.decisions g.decisions_more.0 h.decisions_more.0);
+  decisions_more = (
+    g.decisions_more.0 ++ h.decisions_more.0,
+    h.decisions_more.1 ∙ ap (λ x. x ++ h.decisions_more.0) g.decisions_more.1
+        ∙ append_assoc s.decisions g.decisions_more.0 h.decisions_more.0,
+  );
   nodes = λ k l. let n = grows-longer s t g in h.nodes k (omega (arith, l, n)) ∙ g.nodes k l;
   fits = λ held f. h.fits held (g.fits held f);
 }
@@ -53,5 +62,6 @@ pub kinds-more : (s t : View) (g : GrowsTrail s t) → kinds t ≡ kinds s ++ ma
 kinds-more s t g =
     let f : ℕ → Bool = λ l. is_implied (node_of t l) in
     let f' : ℕ → Bool = λ l. is_implied (node_of s l) in
-    let same : map f s.trail ≡ map f' s.trail = map-same f f' s.trail (λ k h. ap (λ l. is_implied (node_of t l)) (sym (literal-stays s t g k h)) ∙ ap is_implied (g.nodes k h)) in
+    let same : map f s.trail ≡ map f' s.trail = map-same f f' s.trail
+    (λ k h. ap (λ l. is_implied (node_of t l)) (sym (literal-stays s t g k h)) ∙ ap is_implied (g.nodes k h)) in
     ap (map f) g.trail_more.1 ∙ map-append f s.trail g.trail_more.0 ∙ ap (λ y. y ++ map f g.trail_more.0) same

@@ -73,7 +73,8 @@ module _ (W : Watches) (s : View) (l : Literal) (f : WellFormed s) (done : s.que
     empty = w.empty;
     settled = settled-longer opened (decided_on s l) s.queue_head (enqueued-longer opened l reason.Unit) f.head opened-settled;
     binary = (let n = length-set s.values (variable_of l) (Some (polarity_of l)) in let m = w.binary in omega (arith, n, m));
-    implied = implied-longer opened (decided_on s l) s.queue_head (lengthens-goes-on opened (decided_on s l) (enqueued-longer opened l reason.Unit)) f.head opened-implied;
+    implied = implied-longer opened (decided_on s l) s.queue_head
+        (lengthens-goes-on opened (decided_on s l) (enqueued-longer opened l reason.Unit)) f.head opened-implied;
     queue = λ j h. ⊎_elim (λ (g, o). let q = w.queue j g in omega (arith, o, q)) (λ o. omega (arith, o, done)) (at-level j h);
   }
 
@@ -111,20 +112,25 @@ module _ (P : List StoredClause) (c : StoredClause) (last : (k : StoredClause) �
   new-at : literals_at more c.place ≡ c.literals
   new-at = ap (λ x. x.literals) (stored-last P c last)
 
-  pub watching-more : (W V : Watches) → IsWatching W P → AddsWatches W V c.place c.literals → ((j : ℕ) → j < 2 → HasWatch (watches_of V (opposite (literal_in c.literals j))) c.place) → IsWatching V more
+  pub watching-more : (W V : Watches) → IsWatching W P → AddsWatches W V c.place c.literals →
+      ((j : ℕ) → j < 2 → HasWatch (watches_of V (opposite (literal_in c.literals j))) c.place) → IsWatching V more
   watching-more W V w v h = record {
     known = λ x y m. ⊎_elim
         (λ k. let (a, b) = w.known x y k in (place-more P c y.cref a, subst (λ d. y.blocking ∈ d) (sym (old-at y.cref a)) b))
         (λ (e, b). (subst (IsPlace more) (sym e) (place-last P c), subst (λ d. y.blocking ∈ d) (sym (ap (λ k. literals_at more k) e ∙ new-at)) b))
         (v.new x y m);
     watched = λ i j a b. ⊎_elim
-        (λ k. let (y, m, e) = w.watched i j k b in subst (λ d. HasWatch (watches_of V (opposite (literal_in d j))) i) (sym (old-at i k)) (y, v.old (opposite (literal_in (literals_at P i) j)) y m, e))
-        (λ e. subst (λ k. HasWatch (watches_of V (opposite (literal_in (literals_at more k) j))) k) (sym e) (subst (λ d. HasWatch (watches_of V (opposite (literal_in d j))) c.place) (sym new-at) (h j b)))
+        (λ k. let (y, m, e) = w.watched i j k b in subst (λ d. HasWatch (watches_of V (opposite (literal_in d j))) i) (sym (old-at i k))
+        (y, v.old (opposite (literal_in (literals_at P i) j)) y m, e))
+        (λ e. subst (λ k. HasWatch (watches_of V (opposite (literal_in (literals_at more k) j))) k) (sym e)
+        (subst (λ d. HasWatch (watches_of V (opposite (literal_in d j))) c.place) (sym new-at) (h j b)))
         (place-cases-more P c i a);
   }
 
   -- it is settled where each of its first two literals that is false below q has a true one beside it, at its level or a lower one
-  pub settled-more : (s : View) (q : ℕ) → s.clauses ≡ P → ((j p : ℕ) → j < 2 → p < q → literal_at s p ≡ opposite (literal_in c.literals j) → IsCovered s c.literals p) → IsSettledTo s q → IsSettledTo (record s { clauses = more }) q
+  pub settled-more : (s : View) (q : ℕ) → s.clauses ≡ P →
+      ((j p : ℕ) → j < 2 → p < q → literal_at s p ≡ opposite (literal_in c.literals j) → IsCovered s c.literals p) → IsSettledTo s q →
+      IsSettledTo (record s { clauses = more }) q
   settled-more s q f n st = λ i j p a b h e. ⊎_elim
       (λ k. let g : literals_at more i ≡ clause_at s i = old-at i k ∙ ap (λ x. literals_at x i) (sym f) in
       subst (λ d. IsCovered s d p) (sym g) (st i j p (subst (λ x. IsPlace x i) (sym f) k) b h (e ∙ ap (λ d. opposite (literal_in d j)) g)))
@@ -133,7 +139,8 @@ module _ (P : List StoredClause) (c : StoredClause) (last : (k : StoredClause) �
       (place-cases-more P c i a)
 
 -- watches of one more clause, whether the lists are on or off
-module _ (W V : Watches) (s : View) (c : StoredClause) (w : IsPropagated W s) (last : (k : StoredClause) → k ∈ s.clauses → k.place < c.place) (v : WatchesClause W V c.place c.literals) where
+module _ (W V : Watches) (s : View) (c : StoredClause) (w : IsPropagated W s) (last : (k : StoredClause) → k ∈ s.clauses → k.place < c.place)
+    (v : WatchesClause W V c.place c.literals) where
   more-watching : V.enabled ≡ true → IsWatching V (s.clauses ++ c ∷ [])
   more-watching e = let o : W.enabled ≡ true = sym v.adds.enabled ∙ e in watching-more s.clauses c last W V (w.watching o) v.adds (v.pair o)
 
@@ -165,8 +172,14 @@ module _ (W V : Watches) (s : View) (c : StoredClause) (w : IsPropagated W s) (l
         empty = more-empty;
         settled = settled-more s.clauses c last t s.queue_head refl
             (λ j p a b e.
-            let e' : literal_at s p ≡ opposite (literal_in c.literals j) = sym (get_or_append_left s.trail (l ∷ []) 0 p (let o = f.head in omega (arith, b, o))) ∙ e in
-            (length s.trail, omega (arith, m), subst (λ x. x ∈ c.literals) (sym (get_or-last s.trail l 0 ∙ first)) (∈-get_or c.literals 0 0 long), λ k d g. let o = n j p a b e' k d in absurd (omega (arith, o, g))))
+            let e' : literal_at s p ≡ opposite (literal_in c.literals j) =
+            sym (get_or_append_left s.trail (l ∷ []) 0 p (let o = f.head in omega (arith, b, o))) ∙ e in (
+              length s.trail,
+              omega (arith, m),
+              subst (λ x. x ∈ c.literals) (sym (get_or-last s.trail l 0 ∙ first))
+                  (∈-get_or c.literals 0 0 long),
+              λ k d g. let o = n j p a b e' k d in absurd (omega (arith, o, g)),
+            ))
             (settled-longer s t s.queue_head (enqueued-longer s l r) f.head w.settled);
         binary = (let o = length-set s.values (variable_of l) (Some (polarity_of l)) in let k = w.binary in omega (arith, k, o));
         implied = implied-longer s t s.queue_head (lengthens-goes-on s t (enqueued-longer s l r)) f.head w.implied;
@@ -196,7 +209,8 @@ module _ (W : Watches) (x : Literal) (w : Watch) (inside : x < length W.lists) w
     enabled = refl;
     count = length-set W.lists x ws;
     old = λ y v h. ⊎_elim
-        (λ e. subst (λ z. v ∈ watches_of pushed z) (sym e) (subst (λ z. v ∈ z) (sym own) (∈-append_left v (watches_of W x) (w ∷ []) (subst (λ z. v ∈ watches_of W z) e h))))
+        (λ e. subst (λ z. v ∈ watches_of pushed z) (sym e)
+        (subst (λ z. v ∈ z) (sym own) (∈-append_left v (watches_of W x) (w ∷ []) (subst (λ z. v ∈ watches_of W z) e h))))
         (λ n. subst (λ z. v ∈ z) (sym (get_or-set_other W.lists x y ws [] n)) h)
         (equal_or_not y x);
     new = λ y v h. ⊎_elim
@@ -228,7 +242,8 @@ watch-off W i d e = record { adds = adds-none W i d; pair = λ f. absurd cc; off
 
 -- the two watches of a clause
 pub watch-two : (W V U : Watches) (i : ℕ) (l m x y : Literal) → W.enabled ≡ true → x ≡ opposite l → y ≡ opposite m → x < length W.lists → y < length W.lists
-    → V ≡ with_watches W x (watches_of W x ++ record { cref = i; blocking = m } ∷ []) → U ≡ with_watches V y (watches_of V y ++ record { cref = i; blocking = l } ∷ [])
+    → V ≡ with_watches W x (watches_of W x ++ record { cref = i; blocking = m } ∷ []) →
+    U ≡ with_watches V y (watches_of V y ++ record { cref = i; blocking = l } ∷ [])
     → WatchesClause W U i (l ∷ m ∷ [])
 watch-two W V U i l m x y on ex ey a b ev eu =
     let c : Clause = l ∷ m ∷ [] in
@@ -243,12 +258,14 @@ watch-two W V U i l m x y on ex ey a b ev eu =
     let k : HasWatch (watches_of U y) i = subst (λ X. HasWatch (watches_of X y) i) (sym eu) (has-pushed V y z b') in
     record {
       adds = adds-trans W V U i c p q;
-      pair = λ e. two (λ j. HasWatch (watches_of U (opposite (literal_in c j))) i) (subst (λ v. HasWatch (watches_of U v) i) ex (h.0, q.old x h.0 h.1, h.2)) (subst (λ v. HasWatch (watches_of U v) i) ey k);
+      pair = λ e. two (λ j. HasWatch (watches_of U (opposite (literal_in c j))) i)
+          (subst (λ v. HasWatch (watches_of U v) i) ex (h.0, q.old x h.0 h.1, h.2)) (subst (λ v. HasWatch (watches_of U v) i) ey k);
       off = λ e. absurd cc;
     }
 
 -- the first two literals are all that a watch reads of a clause
-pub watch-whole : (W V : Watches) (i : ℕ) (l m : Literal) (c : Clause) → 2 ≤ length c → l ≡ literal_in c 0 → m ≡ literal_in c 1 → WatchesClause W V i (l ∷ m ∷ []) → WatchesClause W V i c
+pub watch-whole : (W V : Watches) (i : ℕ) (l m : Literal) (c : Clause) → 2 ≤ length c → l ≡ literal_in c 0 → m ≡ literal_in c 1 →
+    WatchesClause W V i (l ∷ m ∷ []) → WatchesClause W V i c
 watch-whole W V i l m c n el em v = record {
   adds = record {
     enabled = v.adds.enabled;
@@ -256,7 +273,9 @@ watch-whole W V i l m c n el em v = record {
     old = v.adds.old;
     new = λ x w h. ⊎_elim inl (λ (e, b). inr (e, inside w.blocking b)) (v.adds.new x w h);
   };
-  pair = λ e. two (λ j. HasWatch (watches_of V (opposite (literal_in c j))) i) (subst (λ x. HasWatch (watches_of V (opposite x)) i) el (v.pair e 0 (omega arith))) (subst (λ x. HasWatch (watches_of V (opposite x)) i) em (v.pair e 1 (omega arith)));
+  pair = λ e. two (λ j. HasWatch (watches_of V (opposite (literal_in c j))) i)
+      (subst (λ x. HasWatch (watches_of V (opposite x)) i) el (v.pair e 0 (omega arith)))
+      (subst (λ x. HasWatch (watches_of V (opposite x)) i) em (v.pair e 1 (omega arith)));
   off = v.off;
 }
   where

@@ -48,7 +48,8 @@ but-all W P e = record {
     from-places (c ∷ P) i (inr h) = let (k, a, f) = from-places P i h in (k, inr a, f)
 
 -- the clause at the first place that is left is watched too
-pub but-next : (W V : Watches) (P : List StoredClause) (k : ℕ) (left : List ℕ) → W.enabled ≡ true → WatchingBut W P (k ∷ left) → WatchesClause W V k (literals_at P k) → WatchingBut V P left
+pub but-next : (W V : Watches) (P : List StoredClause) (k : ℕ) (left : List ℕ) → W.enabled ≡ true → WatchingBut W P (k ∷ left) →
+    WatchesClause W V k (literals_at P k) → WatchingBut V P left
 but-next W V P k left on w v = record {
   known = λ x y h. ⊎_elim
       (λ m. w.known x y m)

@@ -57,11 +57,15 @@ covered-longer s t c p g (k, a, m, d) = (
 pub settled-longer : (s t : View) (q : ℕ) → Lengthens s t → q ≤ length s.trail → IsSettledTo s q → IsSettledTo t q
 settled-longer s t q g n st = λ i j p a b h e.
     let f : clause_at t i ≡ clause_at s i = ap (λ P. literals_at P i) g.clauses in
-    subst (λ c. IsCovered t c p) (sym f) (covered-longer s t (clause_at s i) p (lengthens-goes-on s t g) (st i j p (subst (λ P. IsPlace P i) g.clauses a) b h (sym (g.keeps p (omega (arith, h, n))) ∙ e ∙ ap (λ c. opposite (literal_in c j)) f)))
+    subst (λ c. IsCovered t c p) (sym f)
+    (covered-longer s t (clause_at s i) p (lengthens-goes-on s t g)
+    (st i j p (subst (λ P. IsPlace P i) g.clauses a) b h (sym (g.keeps p (omega (arith, h, n))) ∙ e ∙ ap (λ c. opposite (literal_in c j)) f)))
 
 pub implied-longer : (s t : View) (q : ℕ) → GoesOn s t → q ≤ length s.trail → IsImpliedTo s q → IsImpliedTo t q
 implied-longer s t q g n st = λ m p h i.
-    covered-longer s t (m ∷ []) p g (st m p h (subst (λ l. m ∈ implied_by s l) (g.keeps p (omega (arith, h, n))) (subst (λ (B : List (List ℕ)). m ∈ get_or B (literal_at t p) []) g.binary i)))
+    covered-longer s t (m ∷ []) p g
+    (st m p h (subst (λ l. m ∈ implied_by s l) (g.keeps p (omega (arith, h, n)))
+    (subst (λ (B : List (List ℕ)). m ∈ get_or B (literal_at t p) []) g.binary i)))
 
 pub propagates-goes-on : (s t : View) → Propagates s t → GoesOn s t
 propagates-goes-on s t p = record { binary = p.grows.binary; decisions = p.decisions; longer = grows-longer s t p.grows; keeps = literal-stays s t p.grows }
@@ -95,7 +99,8 @@ abbrev pub IsSettledBut : View → Literal → List Watch → Type 0
 IsSettledBut s l rest = (i j : ℕ) → IsPlace s.clauses i → j < 2 → l ≡ opposite (literal_in (clause_at s i) j) → HasWatch rest i ⊎ IsSatisfied s (clause_at s i)
 
 -- the next literal is settled too, where no decision stands behind it
-pub settled-next : (s : View) (q : ℕ) (l : Literal) → literal_at s q ≡ l → ((j : ℕ) → j < length s.decisions → decision_at s j ≤ q) → IsSettledTo s q → IsSettledBut s l [] → IsSettledTo s (suc q)
+pub settled-next : (s : View) (q : ℕ) (l : Literal) → literal_at s q ≡ l → ((j : ℕ) → j < length s.decisions → decision_at s j ≤ q) →
+    IsSettledTo s q → IsSettledBut s l [] → IsSettledTo s (suc q)
 settled-next s q l e d st but = λ i j p a b h f.
     ⊎_elim
     (λ g. st i j p a b g f)
@@ -139,18 +144,22 @@ settled-complete s w st = record {
     differ : (i : ℕ) → IsPlace s.clauses i → literal_in (clause_at s i) 0 ≢ literal_in (clause_at s i) 1
     differ i a = distinct-places (clause_at s i) 0 (w.distinct (clause_at s i) (kept-here s i a)) 0 1 (omega arith) (let n = long i a in omega (arith, n))
 
-    from-false : (i j : ℕ) (l : Literal) → IsPlace s.clauses i → j < 2 → LeavesOnly s.trail (clause_at s i) l → opposite (literal_in (clause_at s i) j) ∈ s.trail → l ∈ s.trail
-    from-false i j l a b u h = let (m, n, t) = beside i j a b h in ⊎_elim (λ e. subst (λ x. x ∈ s.trail) e (on-trail s w m t)) (λ z. absurd (clash m t z)) (u m n)
+    from-false : (i j : ℕ) (l : Literal) → IsPlace s.clauses i → j < 2 → LeavesOnly s.trail (clause_at s i) l →
+        opposite (literal_in (clause_at s i) j) ∈ s.trail → l ∈ s.trail
+    from-false i j l a b u h = let (m, n, t) = beside i j a b h in
+        ⊎_elim (λ e. subst (λ x. x ∈ s.trail) e (on-trail s w m t)) (λ z. absurd (clash m t z)) (u m n)
 
     closes : (i : ℕ) → IsPlace s.clauses i → (l : Literal) → LeavesOnly s.trail (clause_at s i) l → l ∈ s.trail
     closes i a l u =
         ⊎_elim
-        (λ e. ⊎_elim (λ f. absurd (differ i a (e ∙ sym f))) (from-false i 1 l a (omega arith) u) (u (literal_in (clause_at s i) 1) (first-in i 1 a (omega arith))))
+        (λ e. ⊎_elim (λ f. absurd (differ i a (e ∙ sym f))) (from-false i 1 l a (omega arith) u)
+        (u (literal_in (clause_at s i) 1) (first-in i 1 a (omega arith))))
         (from-false i 0 l a (omega arith) u)
         (u (literal_in (clause_at s i) 0) (first-in i 0 a (omega arith)))
 
 -- what the next literal implies is true
-pub implied-next : (s : View) (q : ℕ) (l : Literal) → WellFormed s → literal_at s q ≡ l → ((j : ℕ) → j < length s.decisions → decision_at s j ≤ q) → IsImpliedTo s q → ((m : Literal) → m ∈ implied_by s l → m ∈ s.trail) → IsImpliedTo s (suc q)
+pub implied-next : (s : View) (q : ℕ) (l : Literal) → WellFormed s → literal_at s q ≡ l → ((j : ℕ) → j < length s.decisions → decision_at s j ≤ q) →
+    IsImpliedTo s q → ((m : Literal) → m ∈ implied_by s l → m ∈ s.trail) → IsImpliedTo s (suc q)
 implied-next s q l w e d st new = λ m p h i.
     ⊎_elim
     (λ g. st m p g i)
@@ -222,7 +231,8 @@ module _ (s t : View) (level q : ℕ) (a : level < length s.decisions) (n : deci
   settled-back e st = subst (λ x. IsSettledTo x (decision_at s level)) (sym e) (back st)
 
   implied-cut : IsImpliedTo s q → IsImpliedTo cut (decision_at s level)
-  implied-cut st = λ v p c i. covered-cut (v ∷ []) p c (st v p (omega (arith, c, n)) (subst (λ l. v ∈ implied_by s l) (get_or-take (decision_at s level) s.trail p 0 c) i))
+  implied-cut st = λ v p c i. covered-cut (v ∷ []) p c
+      (st v p (omega (arith, c, n)) (subst (λ l. v ∈ implied_by s l) (get_or-take (decision_at s level) s.trail p 0 c) i))
 
   pub implied-back : t ≡ cut → IsImpliedTo s q → IsImpliedTo t (decision_at s level)
   implied-back e st = subst (λ x. IsImpliedTo x (decision_at s level)) (sym e) (implied-cut st)

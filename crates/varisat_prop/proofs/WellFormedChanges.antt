@@ -26,8 +26,10 @@ pub kept-here : (s : View) (i : ℕ) → IsPlace s.clauses i → clause_at s i �
 kept-here s i a = stored-kept s (clause_at s i) (kept-at s.clauses i a)
 
 -- what may be kept of other clauses and the same pairs
-may-each : (s : View) (P : List StoredClause) → WellFormed s → ((c : Clause) → c ∈ literals_of P → MayBeKept s c) → (c : Clause) → c ∈ (literals_of P ++ pairs_from 0 s.binary) → MayBeKept s c
-may-each s P w m c h = ⊎_elim (m c) (λ i. kept-may s w c (∈-append_right c (literals_of s.clauses) (pairs_from 0 s.binary) i)) (∈-append_cases c (literals_of P) (pairs_from 0 s.binary) h)
+may-each : (s : View) (P : List StoredClause) → WellFormed s → ((c : Clause) → c ∈ literals_of P → MayBeKept s c) → (c : Clause) →
+    c ∈ (literals_of P ++ pairs_from 0 s.binary) → MayBeKept s c
+may-each s P w m c h = ⊎_elim (m c) (λ i. kept-may s w c (∈-append_right c (literals_of s.clauses) (pairs_from 0 s.binary) i))
+    (∈-append_cases c (literals_of P) (pairs_from 0 s.binary) h)
 
 -- The clauses of a view may all be kept, and its queue's head is not past the end.
 pub record MayAllBeKept (s : View) : Type 0 where
@@ -39,7 +41,8 @@ pub record MayAllBeKept (s : View) : Type 0 where
   pub reasons : (k : ℕ) → k < length s.trail → IsReason s k (node_at s k).reason
 
 -- other clauses, and another place of the queue's head
-pub well-kept : (s : View) (P : List StoredClause) (B : List (List Literal)) (h : ℕ) → WellFormed s → MayAllBeKept (record s { clauses = P; binary = B; queue_head = h }) → WellFormed (record s { clauses = P; binary = B; queue_head = h })
+pub well-kept : (s : View) (P : List StoredClause) (B : List (List Literal)) (h : ℕ) → WellFormed s →
+    MayAllBeKept (record s { clauses = P; binary = B; queue_head = h }) → WellFormed (record s { clauses = P; binary = B; queue_head = h })
 well-kept s P B h w m = record {
   sound = w.sound;
   nodes_are = w.nodes_are;
@@ -62,7 +65,9 @@ well-kept s P B h w m = record {
   reason_is = m.reasons;
 }
 
-pub well-changed : (s : View) (P : List StoredClause) (h : ℕ) → WellFormed s → AreRising P → ((c : Clause) → c ∈ literals_of P → MayBeKept s c) → ((k : ℕ) → k < length s.trail → IsReason (record s { clauses = P; queue_head = h }) k (node_at s k).reason) → h ≤ length s.trail → WellFormed (record s { clauses = P; queue_head = h })
+pub well-changed : (s : View) (P : List StoredClause) (h : ℕ) → WellFormed s → AreRising P → ((c : Clause) → c ∈ literals_of P → MayBeKept s c) →
+    ((k : ℕ) → k < length s.trail → IsReason (record s { clauses = P; queue_head = h }) k (node_at s k).reason) → h ≤ length s.trail →
+    WellFormed (record s { clauses = P; queue_head = h })
 well-changed s P h w r m q l =
     well-kept s P s.binary h w
     (record {
@@ -87,15 +92,19 @@ pub record AreWellKept (s : View) (P : List StoredClause) : Type 0 where
   -- a clause that is a reason stays as it is
   pub reasons : (k p : ℕ) → k < length s.trail → (node_at s k).reason ≡ reason.Long p → IsPlace s.clauses p → IsPlace P p × (literals_at P p ≡ clause_at s p)
 
-pub well-with : (s : View) (P : List StoredClause) (head : ℕ) → WellFormed s → AreWellKept s P → head ≤ length s.trail → WellFormed (record s { clauses = P; queue_head = head })
+pub well-with : (s : View) (P : List StoredClause) (head : ℕ) → WellFormed s → AreWellKept s P → head ≤ length s.trail →
+    WellFormed (record s { clauses = P; queue_head = head })
 well-with s P head w q h =
-    well-changed s P head w q.places (λ c i. record { in_range = q.in_range c i; several = q.several c i; distinct = q.distinct c i }) (λ k b. stays k (node_at s k).reason (λ p e. q.reasons k p b e) (w.reason_is k b)) h
+    well-changed s P head w q.places (λ c i. record { in_range = q.in_range c i; several = q.several c i; distinct = q.distinct c i })
+    (λ k b. stays k (node_at s k).reason (λ p e. q.reasons k p b e) (w.reason_is k b)) h
   where
     same-implies : (k : ℕ) (c : Clause) → Implies s c k → Implies (record s { clauses = P; queue_head = head }) c k
     same-implies k [] g = g
     same-implies k (x ∷ c) g = g
 
-    stays : (k : ℕ) (r : Reason) → ((p : ℕ) → r ≡ reason.Long p → IsPlace s.clauses p → IsPlace P p × (literals_at P p ≡ clause_at s p)) → IsReason s k r → IsReason (record s { clauses = P; queue_head = head }) k r
+    stays : (k : ℕ) (r : Reason) → ((p : ℕ) → r ≡ reason.Long p → IsPlace s.clauses p → IsPlace P p × (literals_at P p ≡ clause_at s p)) →
+        IsReason s k r → IsReason (record s { clauses = P; queue_head = head }) k r
     stays k reason.Unit n g = g
     stays k (reason.Binary ms) n g = g
-    stays k (reason.Long p) n (a, g) = let (b, e) = n p refl a in (b, subst (λ c. Implies (record s { clauses = P; queue_head = head }) c k) (sym e) (same-implies k (clause_at s p) g))
+    stays k (reason.Long p) n (a, g) = let (b, e) = n p refl a in
+        (b, subst (λ c. Implies (record s { clauses = P; queue_head = head }) c k) (sym e) (same-implies k (clause_at s p) g))

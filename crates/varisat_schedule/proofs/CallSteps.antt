@@ -26,7 +26,8 @@ begins c trail i = record {
 }
 
 -- the bound holds with one step more
-pub is-short : (c : PlannedCall) (q : Plan) (trail : List Bool) (n : ℕ) → 0 < c.scale → length trail ≤ c.variables → c.variables ≤ n → HasComeTo c q trail → suc (steps_since c.begins q) < 2 ^ (2 * n + 3)
+pub is-short : (c : PlannedCall) (q : Plan) (trail : List Bool) (n : ℕ) → 0 < c.scale → length trail ≤ c.variables → c.variables ≤ n →
+    HasComeTo c q trail → suc (steps_since c.begins q) < 2 ^ (2 * n + 3)
 is-short c q trail n h l v r =
     let b = rank_bound n trail (omega (arith, l, v)) in
     let p = progress_bound (over n c) (steps_since c.begins q) (rank n trail) h b (r.progress n v) in
@@ -37,11 +38,13 @@ pub due-or-not : (q : Plan) → IsDue q ⊎ (IsDue q → ⊥)
 due-or-not q =
     ⊎_elim
     (λ (x : q.steps < q.next_restart). inr (λ e. omega (arith, e, x)))
-    (λ (x : q.next_restart ≤ q.steps). ⊎_elim (λ (y : q.next_restart < q.steps). inr (λ e. omega (arith, e, y))) (λ (y : q.steps ≤ q.next_restart). inl (omega (arith, x, y))) (cases_lt q.next_restart q.steps))
+    (λ (x : q.next_restart ≤ q.steps). ⊎_elim (λ (y : q.next_restart < q.steps). inr (λ e. omega (arith, e, y)))
+    (λ (y : q.steps ≤ q.next_restart). inl (omega (arith, x, y))) (cases_lt q.next_restart q.steps))
     (cases_lt q.steps q.next_restart)
 
 -- one more step
-module _ (c : PlannedCall) (q : Plan) (before after : List Bool) (h : 0 < c.scale) (l : q.steps < 2 ^ 64 - 1) (short : length before ≤ c.variables) (s : IsPlannedStep q before after) (r : HasComeTo c q before) where
+module _ (c : PlannedCall) (q : Plan) (before after : List Bool) (h : 0 < c.scale) (l : q.steps < 2 ^ 64 - 1) (short : length before ≤ c.variables)
+    (s : IsPlannedStep q before after) (r : HasComeTo c q before) where
   made : ℕ
   made = steps_since c.begins q
 
@@ -79,5 +82,6 @@ module _ (c : PlannedCall) (q : Plan) (before after : List Bool) (h : 0 < c.scal
     progress = λ n v. subst (λ k. CallProgress (over n c) k (rank n after)) one-more (progress-next n v);
   }
 
-pub large-budget : (n max_steps : ℕ) (p q : Plan) → steps_since p q < 2 ^ (2 * n + 3) → 2 ^ (2 * n + 3) ≤ max_steps → p.steps + 2 ^ (2 * n + 3) < 2 ^ 64 → AreSpent max_steps p q → ⊥
+pub large-budget : (n max_steps : ℕ) (p q : Plan) → steps_since p q < 2 ^ (2 * n + 3) → 2 ^ (2 * n + 3) ≤ max_steps →
+    p.steps + 2 ^ (2 * n + 3) < 2 ^ 64 → AreSpent max_steps p q → ⊥
 large-budget n max_steps p q k b l s = ⊎_elim (λ e. omega (arith, e, b, k)) (λ e. omega (arith, e, l, k)) s

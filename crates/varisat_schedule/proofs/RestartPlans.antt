@@ -23,7 +23,8 @@ abbrev pub restart_behind : ℕ → Plan → ℕ
 restart_behind scale p = saturated (p.next_restart + saturated (scale * luby p.next_term))
 
 -- the plan once a restart has begun, and its next one
-pub restarted-plan : (scale : ℕ) (p : Plan) → IsPlan p → IsDue p → p.steps < 2 ^ 64 - 1 → 0 < scale → IsPlan (record p { next_restart = restart_behind scale p; next_term = suc p.next_term }) × (p.steps < restart_behind scale p)
+pub restarted-plan : (scale : ℕ) (p : Plan) → IsPlan p → IsDue p → p.steps < 2 ^ 64 - 1 → 0 < scale →
+    IsPlan (record p { next_restart = restart_behind scale p; next_term = suc p.next_term }) × (p.steps < restart_behind scale p)
 restarted-plan scale p w e l h =
     let a = interval scale p.next_term h in
     let b = term_positive p.next_term w.positive in
@@ -39,7 +40,8 @@ restarted-plan scale p w e l h =
             (λ (c : p.next_term < 3). omega (arith, c))
             (λ (c : 3 ≤ p.next_term).
             ⊎_elim
-            (λ (d : p.next_term < 4). let three : p.next_term ≡ 3 = omega (arith, c, d) in let t = ap luby three ∙ third_term in omega (arith, a, t, few, three, e, l))
+            (λ (d : p.next_term < 4). let three : p.next_term ≡ 3 = omega (arith, c, d) in let t = ap luby three ∙ third_term in
+            omega (arith, a, t, few, three, e, l))
             (λ (d : 4 ≤ p.next_term). omega (arith, a, b, fewer, d, e, l))
             (cases_lt p.next_term 4))
             (cases_lt p.next_term 3);
@@ -61,7 +63,8 @@ module _ (s : CallSetting) (h : 0 < s.scale) where
 
   point-later : (i d : ℕ) → call_point s i ≤ call_point s (d + i)
   point-later i zero = let e : 0 + i ≡ i = omega arith in let f = ap (call_point s) e in omega (arith, f)
-  point-later i (suc d) = let e : suc d + i ≡ suc (d + i) = omega arith in let f = ap (call_point s) e in let a = point-later i d in let b = point-next (d + i) in omega (arith, f, a, b)
+  point-later i (suc d) = let e : suc d + i ≡ suc (d + i) = omega arith in let f = ap (call_point s) e in let a = point-later i d in
+      let b = point-next (d + i) in omega (arith, f, a, b)
 
 -- after k steps of the call the next restart is at its point i, and the points before that lie behind
 record IsAtPoint (c : PlannedCall) (k i : ℕ) : Type 0 where
@@ -86,7 +89,8 @@ module _ (c : PlannedCall) (h : 0 < c.scale) (w : IsPlan c.begins) where
       let a = w.ahead in
       let e : c.begins.next_restart ≡ point 0 = omega (arith, z, s) in
       record {
-        plan = same-plan c.begins.steps c.begins.next_restart c.begins.next_term (c.begins.steps + 0) (point 0) (c.begins.next_term + 0) (omega arith) e (omega arith);
+        plan = same-plan c.begins.steps c.begins.next_restart c.begins.next_term (c.begins.steps + 0) (point 0) (c.begins.next_term + 0)
+            (omega arith) e (omega arith);
         behind = λ m l. absurd (omega (arith, l));
         ahead = omega (arith, e, a);
       }
@@ -98,17 +102,22 @@ module _ (c : PlannedCall) (h : 0 < c.scale) (w : IsPlan c.begins) where
       let j : c.begins.next_term + i ≡ suc (pred c.begins.next_term) + i = omega (arith, positive) in
       let t = ap (λ x. saturated (point i + saturated (c.scale * luby x))) j in
       let r = point-rises (setting_of c) h i (omega (arith, e, l)) in
-      let go : next_plan c.scale (plan_of (c.begins.steps + k) (point i) (c.begins.next_term + i)) ≡ plan_of (suc (c.begins.steps + k)) (saturated (point i + saturated (c.scale * luby (c.begins.next_term + i)))) (suc (c.begins.next_term + i)) = rw (eq-eqb (c.begins.steps + k) (point i) e) refl in
+      let go : next_plan c.scale (plan_of (c.begins.steps + k) (point i) (c.begins.next_term + i)) ≡ plan_of (suc (c.begins.steps + k))
+      (saturated (point i + saturated (c.scale * luby (c.begins.next_term + i)))) (suc (c.begins.next_term + i)) =
+      rw (eq-eqb (c.begins.steps + k) (point i) e) refl in
       record {
-        plan = ap (next_plan c.scale) a.plan ∙ go ∙ same-plan _ _ _ (c.begins.steps + suc k) (point (suc i)) (c.begins.next_term + suc i) (omega arith) (t ∙ sym n) (omega arith);
-        behind = λ m q. ⊎_elim (λ (b : m < i). let d = a.behind m b in omega (arith, d)) (λ (b : i ≤ m). let f : m ≡ i = omega (arith, b, q) in let g = ap point f in omega (arith, g, e)) (cases_lt m i);
+        plan = ap (next_plan c.scale) a.plan ∙ go ∙ same-plan _ _ _ (c.begins.steps + suc k) (point (suc i)) (c.begins.next_term + suc i)
+            (omega arith) (t ∙ sym n) (omega arith);
+        behind = λ m q. ⊎_elim (λ (b : m < i). let d = a.behind m b in omega (arith, d))
+            (λ (b : i ≤ m). let f : m ≡ i = omega (arith, b, q) in let g = ap point f in omega (arith, g, e)) (cases_lt m i);
         ahead = omega (arith, r, e);
       }
 
   at-step : (k i : ℕ) → IsAtPoint c k i → c.begins.steps + k < point i → IsAtPoint c (suc k) i
   at-step k i a l =
       let n : c.begins.steps + k ≡ point i → ⊥ = λ e. omega (arith, e, l) in
-      let go : next_plan c.scale (plan_of (c.begins.steps + k) (point i) (c.begins.next_term + i)) ≡ plan_of (suc (c.begins.steps + k)) (point i) (c.begins.next_term + i) = rw (ne_eqb (c.begins.steps + k) (point i) n) refl in
+      let go : next_plan c.scale (plan_of (c.begins.steps + k) (point i) (c.begins.next_term + i)) ≡ plan_of (suc (c.begins.steps + k)) (point i)
+      (c.begins.next_term + i) = rw (ne_eqb (c.begins.steps + k) (point i) n) refl in
       record {
         plan = ap (next_plan c.scale) a.plan ∙ go ∙ same-plan _ _ _ (c.begins.steps + suc k) (point i) (c.begins.next_term + i) (omega arith) refl refl;
         behind = λ m q. let d = a.behind m q in omega (arith, d);
@@ -141,7 +150,8 @@ module _ (c : PlannedCall) (h : 0 < c.scale) (w : IsPlan c.begins) where
       omega (arith, g, q, d, e))
       (cases_lt m i))
 
-pub restarts-at-points : (c : PlannedCall) (k : ℕ) → 0 < c.scale → IsPlan c.begins → c.begins.steps + k < 2 ^ 64 - 1 → IsDue (plan_after c.scale c.begins k) ↔ ((i : ℕ) × (c.begins.steps + k ≡ call_point (setting_of c) i))
+pub restarts-at-points : (c : PlannedCall) (k : ℕ) → 0 < c.scale → IsPlan c.begins → c.begins.steps + k < 2 ^ 64 - 1 →
+    IsDue (plan_after c.scale c.begins k) ↔ ((i : ℕ) × (c.begins.steps + k ≡ call_point (setting_of c) i))
 restarts-at-points c k h w l = (due-point c h w k l, point-due c h w k l)
 
 first-is : IsPlan first_plan

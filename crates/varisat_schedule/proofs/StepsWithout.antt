@@ -24,7 +24,19 @@ pub length-with-units : (u : ℕ) (trail : List Bool) → length (with_units u t
 length-with-units u trail = let a = length-append (replicate u true) trail in let b = length-replicate u true in omega (arith, a, b)
 
 more-restarted : (c : CallSetting) (t top next : ℕ) → top ≤ next → HasRestarted c t top → HasRestarted c t next
-more-restarted c t top next h m = record { begun = m.begun; whole = m.whole; before = m.before; since = m.since; total = m.total; point = m.point; small = m.small; early = m.early; late = let l = m.late in omega (arith, l, h) }
+more-restarted c t top next h m =
+    record {
+      begun = m.begun;
+      whole = m.whole;
+      before = m.before;
+      since = m.since;
+      total = m.total;
+      point = m.point;
+      small = m.small;
+      early =
+          m.early;
+      late = let l = m.late in omega (arith, l, h);
+    }
 
 -- a trail of greater rank, with no step
 pub progress-lifts : (c : CallSetting) (t top next : ℕ) → top ≤ next → CallProgress c t top → CallProgress c t next
@@ -42,15 +54,19 @@ come-lifts c q trail after h r = record {
 pub begins-anywhere : (c : PlannedCall) (trail : List Bool) → IsPlan c.begins → length trail ≤ c.variables → HasComeWithout c c.begins 0 trail
 begins-anywhere c trail i h = record { come = begins c trail i; short = omega (arith, h) }
 
-pub goes-on-without : (c : PlannedCall) (q : Plan) (units : ℕ) (before after : List Bool) → 0 < c.scale → q.steps < 2 ^ 64 - 1 → IsPlannedStep q before after → units + length after ≤ c.variables → HasComeWithout c q units before → HasComeWithout c (next_plan c.scale q) units after
+pub goes-on-without : (c : PlannedCall) (q : Plan) (units : ℕ) (before after : List Bool) → 0 < c.scale → q.steps < 2 ^ 64 - 1 →
+    IsPlannedStep q before after → units + length after ≤ c.variables → HasComeWithout c q units before → HasComeWithout c (next_plan c.scale q) units after
 goes-on-without c q units before after h l s b r = record {
-  come = goes-on c q (with_units units before) (with_units units after) h l (let a = length-with-units units before in let k = r.short in omega (arith, a, k)) (step-with-units units q before after s) r.come;
+  come = goes-on c q (with_units units before) (with_units units after) h l
+      (let a = length-with-units units before in let k = r.short in omega (arith, a, k)) (step-with-units units q before after s) r.come;
   short = b;
 }
 
-pub trail-may-grow : (c : PlannedCall) (q : Plan) (units : ℕ) (trail more : List Bool) → units + length (trail ++ more) ≤ c.variables → HasComeWithout c q units trail → HasComeWithout c q units (trail ++ more)
+pub trail-may-grow : (c : PlannedCall) (q : Plan) (units : ℕ) (trail more : List Bool) → units + length (trail ++ more) ≤ c.variables →
+    HasComeWithout c q units trail → HasComeWithout c q units (trail ++ more)
 trail-may-grow c q units trail more b r = record {
-  come = subst (HasComeTo c q) (append_assoc (replicate units true) trail more) (come-lifts c q (with_units units trail) (with_units units trail ++ more) (λ n. rank_grows n (with_units units trail) more) r.come);
+  come = subst (HasComeTo c q) (append_assoc (replicate units true) trail more)
+      (come-lifts c q (with_units units trail) (with_units units trail ++ more) (λ n. rank_grows n (with_units units trail) more) r.come);
   short = b;
 }
 
@@ -63,12 +79,14 @@ left-in-front units left stay =
     same : (units left stay : ℕ) → units + (left + stay) ≡ units + left + stay
     same units left stay = omega arith
 
-pub units-may-leave : (c : PlannedCall) (q : Plan) (units left stay : ℕ) → HasComeWithout c q units (replicate (left + stay) true) → HasComeWithout c q (units + left) (replicate stay true)
+pub units-may-leave : (c : PlannedCall) (q : Plan) (units left stay : ℕ) → HasComeWithout c q units (replicate (left + stay) true) →
+    HasComeWithout c q (units + left) (replicate stay true)
 units-may-leave c q units left stay r = record {
   come = subst (HasComeTo c q) (left-in-front units left stay) r.come;
   short = let k = r.short in let a = length-replicate (left + stay) true in let b = length-replicate stay true in omega (arith, k, a, b);
 }
 
-pub is-short-without : (c : PlannedCall) (q : Plan) (units : ℕ) (trail : List Bool) (n : ℕ) → 0 < c.scale → c.variables ≤ n → HasComeWithout c q units trail → suc (steps_since c.begins q) < 2 ^ (2 * n + 3)
+pub is-short-without : (c : PlannedCall) (q : Plan) (units : ℕ) (trail : List Bool) (n : ℕ) → 0 < c.scale → c.variables ≤ n →
+    HasComeWithout c q units trail → suc (steps_since c.begins q) < 2 ^ (2 * n + 3)
 is-short-without c q units trail n h v r =
     is-short c q (with_units units trail) n h (let a = length-with-units units trail in let k = r.short in omega (arith, a, k)) v r.come

@@ -42,8 +42,11 @@ module _ (s : View) (j : StoredClause) (behind : (k : StoredClause) → k ∈ s.
   reason-kept : (k : ℕ) (q : Reason) → IsReason s k q → IsReason with_kept k q
   reason-kept k reason.Unit h = h
   reason-kept k (reason.Binary ms) h = h
-  reason-kept k (reason.Long i) (h, g) =
-      (place-more s.clauses j i h, subst (λ d. Implies with_kept d k) (sym (ap (λ x. x.literals) (stored-more s.clauses j i h))) (same-implies (clause_at s i) g))
+  reason-kept k (reason.Long i) (h, g) = (
+    place-more s.clauses j i h,
+    subst (λ d. Implies with_kept d k) (sym (ap (λ x. x.literals) (stored-more s.clauses j i h)))
+        (same-implies (clause_at s i) g),
+  )
     where
       same-implies : (d : Clause) → Implies s d k → Implies with_kept d k
       same-implies [] g = g

@@ -11,7 +11,8 @@ use Rattle.varisat_prop.proofs.TrailValues.{on-trail}
 use Rattle.varisat_search.specs.AssumptionParts.{AssumptionParts, HasAssumptions, TakesOutTrue, TakesOutImplied}
 use Rattle.varisat_analysis.proofs.WellFormedViews.{reason-kept, reason-before}
 
-module _ (s : View) (w : WellFormed s) (held : List Clause) (f : ViewFits held s) (a : Assignment) (sat : SatisfiesAll a held) (decided : (j : ℕ) → j < length s.decisions → value a (literal_at s (decision_at s j)) ≡ true) where
+module _ (s : View) (w : WellFormed s) (held : List Clause) (f : ViewFits held s) (a : Assignment) (sat : SatisfiesAll a held)
+    (decided : (j : ℕ) → j < length s.decisions → value a (literal_at s (decision_at s j)) ≡ true) where
   -- a literal with a clause as its reason, where those before it are true
   by-clause : (k : ℕ) (r : Reason) → is_clause r ≡ true → IsReason s k r → ((o : ℕ) → o < k → value a (literal_at s o) ≡ true) → value a (literal_at s k) ≡ true
   by-clause k r c h before =
@@ -47,7 +48,8 @@ module _ (s : View) (w : WellFormed s) (held : List Clause) (f : ViewFits held s
       subst (λ y. value a y ≡ true) e (true-to (suc k) k (omega arith) b)
 
 -- Where all decisions are assumptions, those that are true are implied by the others.
-pub taken-implied : (s : View) (x y : AssumptionParts) → WellFormed s → HasAssumptions s x → x.levels ≡ length s.decisions → TakesOutTrue s.values (length s.decisions) x y → TakesOutImplied s x y
+pub taken-implied : (s : View) (x y : AssumptionParts) → WellFormed s → HasAssumptions s x → x.levels ≡ length s.decisions →
+    TakesOutTrue s.values (length s.decisions) x y → TakesOutImplied s x y
 taken-implied s x y w h n t =
     let user = ap (λ (z : AssumptionParts). z.user) t.rest in
     let core = ap (λ (z : AssumptionParts). z.user_core) t.rest in

@@ -16,7 +16,8 @@ use Rattle.varisat_search.proofs.AssumedTruths.{taken-implied, takes-same}
 use Rattle.varisat_search.proofs.Backtrack.{u, at-cut, decision-cut, level-length}
 
 -- The trail and the decisions are longer, and where another literal is decided each assumption has its level.
-has-longer : (s t : View) (x : AssumptionParts) (more ds : List ℕ) → WellFormed s → t.trail ≡ s.trail ++ more → t.decisions ≡ s.decisions ++ ds → length s.values ≤ length t.values → (ds ≡ []) ⊎ (x.levels ≡ length x.working) → HasAssumptions s x → HasAssumptions t x
+has-longer : (s t : View) (x : AssumptionParts) (more ds : List ℕ) → WellFormed s → t.trail ≡ s.trail ++ more → t.decisions ≡ s.decisions ++ ds →
+    length s.values ≤ length t.values → (ds ≡ []) ⊎ (x.levels ≡ length x.working) → HasAssumptions s x → HasAssumptions t x
 has-longer s t x more ds w e f n c h =
     let l = ap (λ (xs : List ℕ). length xs) f in
     let m = length-append s.decisions ds in
@@ -27,27 +28,35 @@ has-longer s t x more ds w e f n c h =
       decided = λ j i.
           let j' : j < length s.decisions = omega (arith, i, r) in
           let d : decision_at t j ≡ decision_at s j = ap (λ xs. get_or xs j 0) f ∙ get_or_append_left s.decisions ds 0 j j' in
-          ap (literal_at t) d ∙ ap (λ xs. get_or xs (decision_at s j) 0) e ∙ get_or_append_left s.trail more 0 (decision_at s j) (w.decided j j').0 ∙ h.decided j i;
-      first = ⊎_elim (λ g. ⊎_elim (λ q. inl (q ∙ sym (l ∙ ap (λ xs. length (s.decisions ++ xs)) g ∙ ap (λ (xs : List ℕ). length xs) (append-nil s.decisions)))) inr h.first) inr c;
+          ap (literal_at t) d ∙ ap (λ xs. get_or xs (decision_at s j) 0) e ∙ get_or_append_left s.trail more 0 (decision_at s j) (w.decided j j').0
+          ∙ h.decided j i;
+      first = ⊎_elim (λ g. ⊎_elim (λ q. inl
+          (q ∙ sym (l ∙ ap (λ xs. length (s.decisions ++ xs)) g ∙ ap (λ (xs : List ℕ). length xs) (append-nil s.decisions)))) inr h.first) inr c;
       in_range = λ a i. let b = h.in_range a i in omega (arith, b, n);
     }
 
 -- no literal was decided
-pub has-same-decisions : (s t : View) (x : AssumptionParts) (more : List ℕ) → WellFormed s → t.trail ≡ s.trail ++ more → t.decisions ≡ s.decisions → length s.values ≤ length t.values → HasAssumptions s x → HasAssumptions t x
+pub has-same-decisions : (s t : View) (x : AssumptionParts) (more : List ℕ) → WellFormed s → t.trail ≡ s.trail ++ more → t.decisions ≡ s.decisions →
+    length s.values ≤ length t.values → HasAssumptions s x → HasAssumptions t x
 has-same-decisions s t x more w e f n h = has-longer s t x more [] w e (f ∙ sym (append-nil s.decisions)) n (inl refl) h
 
 -- the search went on without a decision, or each assumption has its level
-pub has-grown : (s t : View) (x : AssumptionParts) → WellFormed s → GrowsTrail s t → (t.decisions ≡ s.decisions) ⊎ (x.levels ≡ length x.working) → HasAssumptions s x → HasAssumptions t x
+pub has-grown : (s t : View) (x : AssumptionParts) → WellFormed s → GrowsTrail s t → (t.decisions ≡ s.decisions) ⊎ (x.levels ≡ length x.working) →
+    HasAssumptions s x → HasAssumptions t x
 has-grown s t x w g c h =
     let n = g.count in
-    has-longer s t x g.trail_more.0 g.decisions_more.0 w g.trail_more.1 g.decisions_more.1 (omega (arith, n)) (⊎_elim (λ e. inl (none g.decisions_more.0 (let l = ap (λ (xs : List ℕ). length xs) (sym e ∙ g.decisions_more.1) in let m = length-append s.decisions g.decisions_more.0 in omega (arith, l, m)))) inr c) h
+    has-longer s t x g.trail_more.0 g.decisions_more.0 w g.trail_more.1 g.decisions_more.1 (omega (arith, n))
+    (⊎_elim (λ e. inl (none g.decisions_more.0
+    (let l = ap (λ (xs : List ℕ). length xs) (sym e ∙ g.decisions_more.1) in let m = length-append s.decisions g.decisions_more.0 in
+    omega (arith, l, m)))) inr c) h
   where
     none : (xs : List ℕ) → length xs ≤ 0 → xs ≡ []
     none [] h = refl
     none (x ∷ xs) h = absurd (omega (arith, h))
 
 -- a search without decisions
-pub has-undecided : (t : View) (x : AssumptionParts) → t.decisions ≡ [] → x.levels ≡ 0 → ((l : Literal) → l ∈ x.working → variable_of l < length t.values) → HasAssumptions t x
+pub has-undecided : (t : View) (x : AssumptionParts) → t.decisions ≡ [] → x.levels ≡ 0 →
+    ((l : Literal) → l ∈ x.working → variable_of l < length t.values) → HasAssumptions t x
 has-undecided t x e z r =
     let n = ap (λ (xs : List ℕ). length xs) e in
     record {
@@ -60,13 +69,15 @@ has-undecided t x e z r =
 
 -- there are no assumptions
 pub has-none : (t : View) (x : AssumptionParts) → t.decisions ≡ [] → x ≡ no_assumptions → HasAssumptions t x
-has-none t x d e = has-undecided t x d (ap (λ (y : AssumptionParts). y.levels) e) (λ l h. let z : l ∈ [] = subst (λ (y : AssumptionParts). l ∈ y.working) e h in absurd z)
+has-none t x d e = has-undecided t x d (ap (λ (y : AssumptionParts). y.levels) e)
+    (λ l h. let z : l ∈ [] = subst (λ (y : AssumptionParts). l ∈ y.working) e h in absurd z)
 
 pub none-assumable : (s : View) (a : Activities) (x : AssumptionParts) → x ≡ no_assumptions → AreDecidable s a x.working
 none-assumable s a x e l h = let z : l ∈ [] = subst (λ (y : AssumptionParts). l ∈ y.working) e h in absurd z
 
 -- how many levels are left
-pub levels-left : (level : ℕ) (x : AssumptionParts) → ((level < x.levels) × ((with_levels_to level x).levels ≡ level)) ⊎ ((x.levels ≤ level) × ((with_levels_to level x).levels ≡ x.levels))
+pub levels-left : (level : ℕ) (x : AssumptionParts) → ((level < x.levels) × ((with_levels_to level x).levels ≡ level))
+    ⊎ ((x.levels ≤ level) × ((with_levels_to level x).levels ≡ x.levels))
 levels-left level x =
     ⊎_elim
     (λ (h : level < x.levels). inl (h, let e : nat_lt level x.levels ≡ true = grind arith in rw e refl))
@@ -74,12 +85,14 @@ levels-left level x =
     (cases_lt level x.levels)
 
 -- the levels above this one were undone
-pub has-cut : (s t : View) (level : ℕ) (x : AssumptionParts) → WellFormed s → level < length s.decisions → IsCut s t level → HasAssumptions s x → HasAssumptions t (with_levels_to level x)
+pub has-cut : (s t : View) (level : ℕ) (x : AssumptionParts) → WellFormed s → level < length s.decisions → IsCut s t level → HasAssumptions s x →
+    HasAssumptions t (with_levels_to level x)
 has-cut s t level x w h c a =
     let y = with_levels_to level x in
     let ds = ap (λ (z : View). length z.decisions) c.rest in
     let n = level-length s t level w h c in
-    let lower : (y.levels ≤ level) × (y.levels ≤ x.levels) = ⊎_elim (λ p. let (p', e) = p in (omega (arith, e), omega (arith, e, p'))) (λ p. let (p', e) = p in (omega (arith, e, p'), omega (arith, e))) (levels-left level x) in
+    let lower : (y.levels ≤ level) × (y.levels ≤ x.levels) = ⊎_elim (λ p. let (p', e) = p in (omega (arith, e), omega (arith, e, p')))
+    (λ p. let (p', e) = p in (omega (arith, e, p'), omega (arith, e))) (levels-left level x) in
     let low : y.levels ≤ level = lower.0 in
     let less : y.levels ≤ x.levels = lower.1 in
     let listed = a.listed in
@@ -90,7 +103,8 @@ has-cut s t level x w h c a =
           let j' : j < level = omega (arith, i, low) in
           let d = decision-cut s t level w h c j j' in
           let r = w.rising j level j' h in
-          ap (λ (z : View). literal_at z (decision_at z j)) c.rest ∙ ap (literal_at (u s t level w h c)) d ∙ at-cut s t level w h c (decision_at s j) r ∙ a.decided j (omega (arith, i, less));
+          ap (λ (z : View). literal_at z (decision_at z j)) c.rest ∙ ap (literal_at (u s t level w h c)) d
+          ∙ at-cut s t level w h c (decision_at s j) r ∙ a.decided j (omega (arith, i, less));
       first = ⊎_elim
           (λ (p, e). inl (omega (arith, ds, n, e)))
           (λ (p, e). ⊎_elim (λ q. absurd (omega (arith, p, q, h))) (λ q. inr (e ∙ q)) a.first)
@@ -160,7 +174,9 @@ module _ (s : View) (x y : AssumptionParts) (w : WellFormed s) (h : HasAssumptio
       h.first
 
 -- the next assumption was decided
-pub has-decided : (s : View) (y : AssumptionParts) (l : Literal) → WellFormed s → HasAssumptions s y → y.levels ≡ length s.decisions → length s.decisions < length y.working → l ≡ get_or y.working (length s.decisions) 0 → (n : ℕ) → n ≡ length (decided_on s l).decisions → HasAssumptions (decided_on s l) (record y { levels = n })
+pub has-decided : (s : View) (y : AssumptionParts) (l : Literal) → WellFormed s → HasAssumptions s y → y.levels ≡ length s.decisions →
+    length s.decisions < length y.working → l ≡ get_or y.working (length s.decisions) 0 → (n : ℕ) → n ≡ length (decided_on s l).decisions →
+    HasAssumptions (decided_on s l) (record y { levels = n })
 has-decided s y l w h a b e n c =
     let m = length-append s.decisions (length s.trail ∷ []) in
     let t = decided_on s l in

@@ -36,14 +36,16 @@ pub core-steps : (s : View) (x : AssumptionParts) → WellFormed s → HasFailed
 core-steps s x w (l, f, part) = core_is_found (search_of s) x.failed_core (λ held i. f.conflicts held (view_reads s held w i))
 
 -- a model
-pub keeps-model : (s t : View) (x y : AssumptionParts) → WellFormed s → WellFormed t → TakesOutImplied s x y → HasAssumptions t y → y.levels ≡ length y.working → KeepsAssumptions (search_of s) (Sat (assignment_of t)) x y
+pub keeps-model : (s t : View) (x y : AssumptionParts) → WellFormed s → WellFormed t → TakesOutImplied s x y → HasAssumptions t y →
+    y.levels ≡ length y.working → KeepsAssumptions (search_of s) (Sat (assignment_of t)) x y
 keeps-model s t x y w v k h e =
     keeps-taken s (Sat (assignment_of t)) x y w k
     (λ found f. subst (λ a. MakesTrue a y.working) (ap (found-in (assignment_of t)) f) (model-assumed t y v h e))
     (λ c f. absurd cc)
 
 -- a core of assumptions
-pub keeps-core : (s t : View) (x y : AssumptionParts) → WellFormed s → TakesOutImplied s x y → HasFailed t y → KeepsAssumptions (search_of s) (UnsatUnder y.failed_core) x y
+pub keeps-core : (s t : View) (x y : AssumptionParts) → WellFormed s → TakesOutImplied s x y → HasFailed t y →
+    KeepsAssumptions (search_of s) (UnsatUnder y.failed_core) x y
 keeps-core s t x y w k (l, f, part) =
     keeps-taken s (UnsatUnder y.failed_core) x y w k
     (λ found g. absurd cc)
@@ -53,10 +55,12 @@ keeps-core s t x y w k (l, f, part) =
     ))
 
 -- a clause was learned
-pub keeps-learned : (s t : View) (x y z : AssumptionParts) (core : List Literal) (b : SatState) → WellFormed s → TakesOutImplied s x y → IsSameList y z → (b ≡ verdict.Unknown) ⊎ (b ≡ verdict.Unsat) → KeepsAssumptions (search_of s) (outcome_of t core b) x z
+pub keeps-learned : (s t : View) (x y z : AssumptionParts) (core : List Literal) (b : SatState) → WellFormed s → TakesOutImplied s x y →
+    IsSameList y z → (b ≡ verdict.Unknown) ⊎ (b ≡ verdict.Unsat) → KeepsAssumptions (search_of s) (outcome_of t core b) x z
 keeps-learned s t x y z core b w k e o =
     let v = outcome_of t core b in
-    keeps-other-levels (search_of s) v x y z (ap (λ (a : AssumptionParts). a.working) e) (ap (λ (a : AssumptionParts). a.user) e) (ap (λ (a : AssumptionParts). a.user_core) e)
+    keeps-other-levels (search_of s) v x y z (ap (λ (a : AssumptionParts). a.working) e) (ap (λ (a : AssumptionParts). a.user) e)
+    (ap (λ (a : AssumptionParts). a.user_core) e)
     (keeps-taken s v x y w k (λ found f. absurd (no-model found o f)) (λ c f. absurd (no-core c o f)))
   where
     no-model : (found : Assignment) → (b ≡ verdict.Unknown) ⊎ (b ≡ verdict.Unsat) → outcome_of t core b ≡ Sat found → ⊥

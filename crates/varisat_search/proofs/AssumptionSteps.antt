@@ -42,7 +42,8 @@ keeps-refl s x = record {
 }
 
 -- What a search keeps of assumptions, and then the one that it leads to.
-pub keeps-joined : (s t : Search) (v w : Outcome) (x y z : AssumptionParts) → StaysSatisfied s t → KeepsAssumptions s w x y → KeepsAssumptions t v y z → KeepsAssumptions s v x z
+pub keeps-joined : (s t : Search) (v w : Outcome) (x y z : AssumptionParts) → StaysSatisfied s t → KeepsAssumptions s w x y →
+    KeepsAssumptions t v y z → KeepsAssumptions s v x z
 keeps-joined s t v w x y z l p q = record {
   user = q.user ∙ p.user;
   user_core = q.user_core ∙ p.user_core;
@@ -53,15 +54,18 @@ keeps-joined s t v w x y z l p q = record {
 }
 
 -- Steps that went on keep the assumptions together with what comes after them.
-pub keeps-after-steps : (k : ℕ) (s t : Search) (lines : List Line) (v : Outcome) (x y z : AssumptionParts) → MakesSteps k s t Unknown lines → KeepsAssumptions s Unknown x y → KeepsAssumptions t v y z → KeepsAssumptions s v x z
+pub keeps-after-steps : (k : ℕ) (s t : Search) (lines : List Line) (v : Outcome) (x y z : AssumptionParts) → MakesSteps k s t Unknown lines →
+    KeepsAssumptions s Unknown x y → KeepsAssumptions t v y z → KeepsAssumptions s v x z
 keeps-after-steps k s t lines v x y z m = keeps-joined s t v Unknown x y z (steps-lead k s t lines m)
 
 -- a part of a step before, which leaves the assumptions
-pub keeps-after-part : (n : ℕ) (s t : Search) (lines : List Line) (v : Outcome) (x y : AssumptionParts) → Proves n s t lines → KeepsAssumptions t v x y → KeepsAssumptions s v x y
+pub keeps-after-part : (n : ℕ) (s t : Search) (lines : List Line) (v : Outcome) (x y : AssumptionParts) → Proves n s t lines →
+    KeepsAssumptions t v x y → KeepsAssumptions s v x y
 keeps-after-part n s t lines v x y p = keeps-joined s t v Unknown x x y (part-leads n s t lines p) (keeps-refl s x)
 
 -- only the count of levels changes afterwards
-pub keeps-other-levels : (s : Search) (v : Outcome) (x y z : AssumptionParts) → z.working ≡ y.working → z.user ≡ y.user → z.user_core ≡ y.user_core → KeepsAssumptions s v x y → KeepsAssumptions s v x z
+pub keeps-other-levels : (s : Search) (v : Outcome) (x y z : AssumptionParts) → z.working ≡ y.working → z.user ≡ y.user →
+    z.user_core ≡ y.user_core → KeepsAssumptions s v x y → KeepsAssumptions s v x z
 keeps-other-levels s v x y z e u c p = record {
   user = u ∙ p.user;
   user_core = c ∙ p.user_core;
@@ -72,7 +76,9 @@ keeps-other-levels s v x y z e u c p = record {
 }
 
 -- What was taken out of the view's assumptions is implied over the search that a proof sees.
-pub keeps-taken : (s : View) (v : Outcome) (x y : AssumptionParts) → WellFormed s → TakesOutImplied s x y → ((found : Assignment) → v ≡ Sat found → MakesTrue found y.working) → ((c : List Literal) → v ≡ UnsatUnder c → (c ⊆ x.working) × (c ≢ [])) → KeepsAssumptions (search_of s) v x y
+pub keeps-taken : (s : View) (v : Outcome) (x y : AssumptionParts) → WellFormed s → TakesOutImplied s x y →
+    ((found : Assignment) → v ≡ Sat found → MakesTrue found y.working) → ((c : List Literal) → v ≡ UnsatUnder c → (c ⊆ x.working) × (c ≢ [])) →
+    KeepsAssumptions (search_of s) v x y
 keeps-taken s v x y w t m c = record {
   user = t.user;
   user_core = t.user_core;

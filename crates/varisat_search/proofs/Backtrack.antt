@@ -26,23 +26,38 @@ pub record Cutting (s t : View) (p k : ℕ) : Type 0 where
 pub cutting-start : (s : View) (p : ℕ) → Cutting s s p p
 cutting-start s p = record { rest = refl; count = refl; gone = λ j a b. absurd (omega (arith, a, b)); stays = λ v h. refl }
 
-pub cutting-step : (s t : View) (p k l : ℕ) → WellFormed s → p ≤ k → k < length s.trail → l ≡ literal_at s k → Cutting s t p k → Cutting s (record t { values = set t.values (variable_of l) None }) p (k + 1)
+pub cutting-step : (s t : View) (p k l : ℕ) → WellFormed s → p ≤ k → k < length s.trail → l ≡ literal_at s k → Cutting s t p k →
+    Cutting s (record t { values = set t.values (variable_of l) None }) p (k + 1)
 cutting-step s t p k l w a b e c =
     let same : variable_of l ≡ variable_of (literal_at s k) = ap variable_of e in
-    let inside : variable_of l < length t.values = let i = made-inside s.values (literal_at s k) (w.is_true k b) in let n = c.count in omega (arith, i, n, same) in
+    let inside : variable_of l < length t.values = let i = made-inside s.values (literal_at s k) (w.is_true k b) in let n = c.count in
+    omega (arith, i, n, same) in
     record {
       rest = ap (λ (x : View). record x { values = set t.values (variable_of l) None }) c.rest;
       count = length-set t.values (variable_of l) None ∙ c.count;
       gone = λ j f g. ⊎_elim
           (λ h. ap (λ v. get_or (set t.values (variable_of l) None) v None) h ∙ get_or-set_same t.values (variable_of l) None None inside)
-          (λ n. get_or-set_other t.values (variable_of l) (variable_of (literal_at s j)) None None n ∙ c.gone j f (⊎_elim (λ o. o) (λ o. let z : j ≡ k = omega (arith, o, g) in absurd (n (ap (λ x. variable_of (literal_at s x)) z ∙ sym same))) (cases_lt j k)))
+          (λ n. get_or-set_other t.values (variable_of l) (variable_of (literal_at s j)) None None n
+          ∙ c.gone j f (⊎_elim (λ o. o) (λ o. let z : j ≡ k = omega (arith, o, g) in
+          absurd (n (ap (λ x. variable_of (literal_at s x)) z ∙ sym same))) (cases_lt j k)))
           (equal_or_not (variable_of (literal_at s j)) (variable_of l));
-      stays = λ v h. get_or-set_other t.values (variable_of l) v None None (λ f. h k a (omega arith) (sym same ∙ sym f)) ∙ c.stays v (λ j f g. h j f (omega (arith, g)));
+      stays = λ v h. get_or-set_other t.values (variable_of l) v None None (λ f. h k a (omega arith) (sym same ∙ sym f))
+          ∙ c.stays v (λ j f g. h j f (omega (arith, g)));
     }
 
-pub cutting-end : (s t : View) (level k : ℕ) (tr ds : List ℕ) → k ≡ length s.trail → tr ≡ take (decision_at s level) t.trail → ds ≡ take level t.decisions → Cutting s t (decision_at s level) k → IsCut s (record t { trail = tr; queue_head = decision_at s level; decisions = ds }) level
+pub cutting-end : (s t : View) (level k : ℕ) (tr ds : List ℕ) → k ≡ length s.trail → tr ≡ take (decision_at s level) t.trail →
+    ds ≡ take level t.decisions → Cutting s t (decision_at s level) k →
+    IsCut s (record t { trail = tr; queue_head = decision_at s level; decisions = ds }) level
 cutting-end s t level k tr ds n f g c = record {
-  rest = ap (λ x. record t { trail = x; queue_head = decision_at s level; decisions = ds }) f ∙ ap (λ x. record t { trail = take (decision_at s level) t.trail; queue_head = decision_at s level; decisions = x }) g ∙ ap (λ (x : View). record x { values = t.values; trail = take (decision_at s level) x.trail; queue_head = decision_at s level; decisions = take level x.decisions }) c.rest;
+  rest = ap (λ x. record t { trail = x; queue_head = decision_at s level; decisions = ds }) f
+      ∙ ap (λ x. record t { trail = take (decision_at s level) t.trail; queue_head = decision_at s level; decisions = x }) g
+      ∙ ap (λ (x : View). record x {
+        values = t.values;
+        trail = take (decision_at s level) x.trail;
+        queue_head =
+            decision_at s level;
+        decisions = take level x.decisions;
+      }) c.rest;
   count = c.count;
   gone = λ v (j, a, b, e). subst (λ x. get_or t.values x None ≡ None) e (c.gone j a (omega (arith, b, n)));
   stays = λ v h. c.stays v (λ j a b e. h (j, a, omega (arith, b, n), e));
@@ -101,7 +116,9 @@ module _ (s t : View) (level : ℕ) (w : WellFormed s) (h : level < length s.dec
   listed-cut : (k : ℕ) → k < p → k ∈ s.decisions → k ∈ u.decisions
   listed-cut k i q =
       let (j, a, e) = place_in k s.decisions 0 q in
-      let low : j < level = ⊎_elim (λ o. o) (λ o. ⊎_elim (λ z. let y = ap (decision_at s) z in absurd (omega (arith, y, e, i))) (λ z. let r = w.rising level j (order level j o z) a in absurd (omega (arith, r, e, i))) (equal_or_not level j)) (cases_lt j level) in
+      let low : j < level = ⊎_elim (λ o. o)
+      (λ o. ⊎_elim (λ z. let y = ap (decision_at s) z in absurd (omega (arith, y, e, i)))
+      (λ z. let r = w.rising level j (order level j o z) a in absurd (omega (arith, r, e, i))) (equal_or_not level j)) (cases_lt j level) in
       let n = level-length in
       subst (λ x. x ∈ u.decisions) (decision-cut j low ∙ e) (∈-get_or u.decisions j 0 (omega (arith, low, n)))
     where
@@ -130,13 +147,21 @@ module _ (s t : View) (level : ℕ) (w : WellFormed s) (h : level < length s.dec
     stands = λ x q. let (j, i, e) = only x q in let n = cut-length in (j, omega (arith, i, n), at-cut j i ∙ e);
     head = let n = cut-length in omega (arith, n);
     depth_is = λ k i. let b = below k i in ap (λ n. n.depth) (node-cut k b.0) ∙ w.depth_is k b.1;
-    decided = λ j i. let n = level-length in let j' : j < level = omega (arith, i, n) in let e = decision-cut j j' in let r = w.rising j level j' h in let d = w.decided j (omega (arith, j', h)) in let m = cut-length in
+    decided = λ j i. let n = level-length in let j' : j < level = omega (arith, i, n) in let e = decision-cut j j' in
+        let r = w.rising j level j' h in let d = w.decided j (omega (arith, j', h)) in let m = cut-length in
         (omega (arith, e, r, m), ap (λ x. (node_at u x).reason) e ∙ ap (λ n. n.reason) (node-cut (decision_at s j) r) ∙ d.1);
-    rising = λ i j a b. let n = level-length in let j' : j < level = omega (arith, b, n) in let e = decision-cut j j' in let f = decision-cut i (omega (arith, a, j')) in let r = w.rising i j a (omega (arith, j', h)) in omega (arith, e, f, r);
-    levels_to = λ k i. let b = below k i in let n = level-length in let e = ap (λ n. n.level) (node-cut k b.0) in let d = w.levels_down k level b.1 h b.0 in omega (arith, e, d, n);
-    levels_up = λ k j i o e. let b = below k i in let n = level-length in let j' : j < level = omega (arith, o, n) in let f = ap (λ n. n.level) (node-cut k b.0) in let g = decision-cut j j' in let d = w.levels_up k j b.1 (omega (arith, j', h)) (omega (arith, e, f)) in omega (arith, d, g);
-    levels_down = λ k j i o e. let b = below k i in let n = level-length in let j' : j < level = omega (arith, o, n) in let f = ap (λ n. n.level) (node-cut k b.0) in let g = decision-cut j j' in let d = w.levels_down k j b.1 (omega (arith, j', h)) (omega (arith, e, g)) in omega (arith, d, f);
-    reason_is = λ k i. let b = below k i in subst (IsReason u k) (sym (ap (λ n. n.reason) (node-cut k b.0))) (reason-cut k (node_at s k).reason b.0 (w.reason_is k b.1));
+    rising = λ i j a b. let n = level-length in let j' : j < level = omega (arith, b, n) in let e = decision-cut j j' in
+        let f = decision-cut i (omega (arith, a, j')) in let r = w.rising i j a (omega (arith, j', h)) in omega (arith, e, f, r);
+    levels_to = λ k i. let b = below k i in let n = level-length in let e = ap (λ n. n.level) (node-cut k b.0) in
+        let d = w.levels_down k level b.1 h b.0 in omega (arith, e, d, n);
+    levels_up = λ k j i o e. let b = below k i in let n = level-length in let j' : j < level = omega (arith, o, n) in
+        let f = ap (λ n. n.level) (node-cut k b.0) in let g = decision-cut j j' in
+        let d = w.levels_up k j b.1 (omega (arith, j', h)) (omega (arith, e, f)) in omega (arith, d, g);
+    levels_down = λ k j i o e. let b = below k i in let n = level-length in let j' : j < level = omega (arith, o, n) in
+        let f = ap (λ n. n.level) (node-cut k b.0) in let g = decision-cut j j' in
+        let d = w.levels_down k j b.1 (omega (arith, j', h)) (omega (arith, e, g)) in omega (arith, d, f);
+    reason_is = λ k i. let b = below k i in subst (IsReason u k) (sym (ap (λ n. n.reason) (node-cut k b.0)))
+        (reason-cut k (node_at s k).reason b.0 (w.reason_is k b.1));
   }
 
   pub cut-well : WellFormed t
@@ -163,7 +188,8 @@ module _ (s t : View) (level : ℕ) (w : WellFormed s) (h : level < length s.dec
       let j' : j < level = omega (arith, i, n) in
       let e = decision-cut j j' in
       let r = w.rising j level j' h in
-      let g : take (decision_at u j) u.trail ≡ take (decision_at s j) s.trail = ap (λ x. take x u.trail) e ∙ take-take (decision_at s j) p s.trail (omega (arith, r)) in
+      let g : take (decision_at u j) u.trail ≡ take (decision_at s j) s.trail = ap (λ x. take x u.trail) e
+      ∙ take-take (decision_at s j) p s.trail (omega (arith, r)) in
       subst (λ x. IsComplete (kept s) x) (sym g) (v j (omega (arith, j', h))))
 
   -- propagation had come to its end where the cut is

@@ -18,7 +18,8 @@ pub record Making (s : View) (a now : Activities) (p k : ℕ) : Type 0 where
 pub making-start : (s : View) (a : Activities) (p : ℕ) → Making s a a p p
 making-start s a p = record { rest = refl; count = refl; left = λ j x y. absurd (omega (arith, x, y)); stays = λ v h. refl }
 
-pub making-step : (s : View) (a now : Activities) (p k v : ℕ) → WellFormed s → length a.available ≡ length s.values → p ≤ k → k < length s.trail → v ≡ variable_of (literal_at s k) → Making s a now p k → Making s a (with_available v true now) p (k + 1)
+pub making-step : (s : View) (a now : Activities) (p k v : ℕ) → WellFormed s → length a.available ≡ length s.values → p ≤ k → k < length s.trail →
+    v ≡ variable_of (literal_at s k) → Making s a now p k → Making s a (with_available v true now) p (k + 1)
 making-step s a now p k v w n b h e m =
     let inside : v < length now.available = let i = made-inside s.values (literal_at s k) (w.is_true k h) in let c = m.count in omega (arith, i, n, c, e) in
     record {
@@ -26,7 +27,9 @@ making-step s a now p k v w n b h e m =
       count = length-set now.available v true ∙ m.count;
       left = λ j x y. ⊎_elim
           (λ i. ap (λ u. get_or (set now.available v true) u false) i ∙ get_or-set_same now.available v true false inside)
-          (λ o. get_or-set_other now.available v (variable_of (literal_at s j)) true false o ∙ m.left j x (⊎_elim (λ z. z) (λ z. let q : j ≡ k = omega (arith, z, y) in absurd (o (ap (λ u. variable_of (literal_at s u)) q ∙ sym e))) (cases_lt j k)))
+          (λ o. get_or-set_other now.available v (variable_of (literal_at s j)) true false o
+          ∙ m.left j x (⊎_elim (λ z. z) (λ z. let q : j ≡ k = omega (arith, z, y) in
+          absurd (o (ap (λ u. variable_of (literal_at s u)) q ∙ sym e))) (cases_lt j k)))
           (equal_or_not (variable_of (literal_at s j)) v);
       stays = λ u o. get_or-set_other now.available v u true false (λ f. o k b (omega arith) (sym e ∙ sym f)) ∙ m.stays u (λ j x y. o j x (omega (arith, y)));
     }

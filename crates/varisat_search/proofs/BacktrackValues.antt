@@ -20,10 +20,13 @@ pub record Saving (s : View) (last now : List Bool) (p k : ℕ) : Type 0 where
 pub saving-start : (s : View) (last : List Bool) (p : ℕ) → Saving s last last p p
 saving-start s last p = record { count = refl; left = λ j a b. absurd (omega (arith, a, b)); stays = λ v h. refl }
 
-pub saving-step : (s t : View) (last now : List Bool) (p k l : ℕ) → WellFormed s → p ≤ k → k < length s.trail → l ≡ literal_at s k → length now ≡ length t.values → Cutting s t p k → Saving s last now p k → Saving s last (set now (variable_of l) (is_true_value (get_or t.values (variable_of l) None))) p (k + 1)
+pub saving-step : (s t : View) (last now : List Bool) (p k l : ℕ) → WellFormed s → p ≤ k → k < length s.trail → l ≡ literal_at s k →
+    length now ≡ length t.values → Cutting s t p k → Saving s last now p k →
+    Saving s last (set now (variable_of l) (is_true_value (get_or t.values (variable_of l) None))) p (k + 1)
 saving-step s t last now p k l w a b e n c d =
     let same : variable_of l ≡ variable_of (literal_at s k) = ap variable_of e in
-    let inside : variable_of l < length now = let i = made-inside s.values (literal_at s k) (w.is_true k b) in let m = c.count in omega (arith, i, m, n, same) in
+    let inside : variable_of l < length now = let i = made-inside s.values (literal_at s k) (w.is_true k b) in let m = c.count in
+    omega (arith, i, m, n, same) in
     let had : get_or s.values (variable_of l) None ≡ Some (polarity_of (literal_at s k)) = ap (λ v. get_or s.values v None) same ∙ w.is_true k b in
     let still : get_or t.values (variable_of l) None ≡ Some (polarity_of (literal_at s k)) =
     c.stays (variable_of l) (λ j f g h. let z = same-place s w j k (omega (arith, g, b)) b (h ∙ same) in omega (arith, z, g)) ∙ had in
@@ -31,10 +34,16 @@ saving-step s t last now p k l w a b e n c d =
     record {
       count = length-set now (variable_of l) (is_true_value (get_or t.values (variable_of l) None)) ∙ d.count;
       left = λ j f g. ⊎_elim
-          (λ h. ap (λ v. get_or s.values v None) h ∙ had ∙ ap Some (sym value) ∙ ap Some (sym (ap (λ v. get_or (set now (variable_of l) (is_true_value (get_or t.values (variable_of l) None))) v false) h ∙ get_or-set_same now (variable_of l) (is_true_value (get_or t.values (variable_of l) None)) false inside)))
-          (λ m. d.left j f (⊎_elim (λ o. o) (λ o. let z : j ≡ k = omega (arith, o, g) in absurd (m (ap (λ x. variable_of (literal_at s x)) z ∙ sym same))) (cases_lt j k)) ∙ ap Some (sym (get_or-set_other now (variable_of l) (variable_of (literal_at s j)) (is_true_value (get_or t.values (variable_of l) None)) false m)))
+          (λ h. ap (λ v. get_or s.values v None) h ∙ had ∙ ap Some (sym value)
+          ∙ ap Some (sym (ap (λ v. get_or (set now (variable_of l) (is_true_value (get_or t.values (variable_of l) None))) v false) h
+          ∙ get_or-set_same now (variable_of l) (is_true_value (get_or t.values (variable_of l) None)) false inside)))
+          (λ m. d.left j f (⊎_elim (λ o. o)
+          (λ o. let z : j ≡ k = omega (arith, o, g) in absurd (m (ap (λ x. variable_of (literal_at s x)) z ∙ sym same))) (cases_lt j k))
+          ∙ ap Some (sym (get_or-set_other now (variable_of l) (variable_of (literal_at s j))
+          (is_true_value (get_or t.values (variable_of l) None)) false m)))
           (equal_or_not (variable_of (literal_at s j)) (variable_of l));
-      stays = λ v h. get_or-set_other now (variable_of l) v (is_true_value (get_or t.values (variable_of l) None)) false (λ f. h k a (omega arith) (sym same ∙ sym f)) ∙ d.stays v (λ j f g. h j f (omega (arith, g)));
+      stays = λ v h. get_or-set_other now (variable_of l) v (is_true_value (get_or t.values (variable_of l) None)) false
+          (λ f. h k a (omega arith) (sym same ∙ sym f)) ∙ d.stays v (λ j f g. h j f (omega (arith, g)));
     }
 
 pub saving-end : (s : View) (level k : ℕ) (last now : List Bool) → k ≡ length s.trail → Saving s last now (decision_at s level) k → Saves s level last now

@@ -38,13 +38,15 @@ pub record MayExchange (s : View) (ks : List StoredClause) (ns : List ImplNode) 
   pub same : (k : ℕ) → k < length s.trail → SameReason s ks (node_at s k).reason (node_at (exchanged s ks ns) k).reason
 
 -- what is read of each literal of a list
-pub map-by-place : {X : Type 0} (f g : Literal → X) (xs : List Literal) → ((k : ℕ) → k < length xs → f (get_or xs k 0) ≡ g (get_or xs k 0)) → map f xs ≡ map g xs
+pub map-by-place : {X : Type 0} (f g : Literal → X) (xs : List Literal) → ((k : ℕ) → k < length xs → f (get_or xs k 0) ≡ g (get_or xs k 0)) →
+    map f xs ≡ map g xs
 map-by-place f g [] h = refl
 map-by-place f g (x ∷ xs) h = ap₂ (λ y ys. y ∷ ys) (h 0 (omega arith)) (map-by-place f g xs (λ k i. h (suc k) (omega (arith, i))))
 
 filter-by-place : (p q : Literal → Bool) (xs : List Literal) → ((k : ℕ) → k < length xs → p (get_or xs k 0) ≡ q (get_or xs k 0)) → filter p xs ≡ filter q xs
 filter-by-place p q [] h = refl
-filter-by-place p q (x ∷ xs) h = ap₂ (λ (b : Bool) (ys : List ℕ). cond b (x ∷ ys) ys) (h 0 (omega arith)) (filter-by-place p q xs (λ k i. h (suc k) (omega (arith, i))))
+filter-by-place p q (x ∷ xs) h = ap₂ (λ (b : Bool) (ys : List ℕ). cond b (x ∷ ys) ys) (h 0 (omega arith))
+    (filter-by-place p q xs (λ k i. h (suc k) (omega (arith, i))))
 
 -- a clause of the list stands at a place
 pub place-of-literals : (ks : List StoredClause) → AreRising ks → (c : Clause) → c ∈ literals_of ks → (p : ℕ) × IsPlace ks p × (literals_at ks p ≡ c)
@@ -93,7 +95,8 @@ module _ (s : View) (ks : List StoredClause) (ns : List ImplNode) (w : WellForme
     stands = w.stands;
     head = w.head;
     depth_is = λ k h. m.depth k h ∙ w.depth_is k h;
-    decided = λ j h. let d = w.decided j h in (d.0, unit-stays (node_at s (decision_at s j)).reason (node_at t (decision_at s j)).reason (m.same (decision_at s j) d.0) d.1);
+    decided = λ j h. let d = w.decided j h in
+        (d.0, unit-stays (node_at s (decision_at s j)).reason (node_at t (decision_at s j)).reason (m.same (decision_at s j) d.0) d.1);
     rising = w.rising;
     levels_to = λ k h. let a = m.level k h in let b = w.levels_to k h in omega (arith, a, b);
     levels_up = λ k j h i o. w.levels_up k j h i (let a = m.level k h in omega (arith, a, o));
@@ -119,7 +122,8 @@ module _ (s : View) (ks : List StoredClause) (ns : List ImplNode) (w : WellForme
       subst (λ d. IsCovered s d p) y (f o j p x b c (subst (λ d. literal_at s p ≡ opposite (literal_in d j)) (sym y) e))
 
   -- where the lists are switched off, propagation fills them from the other clauses
-  pub exchanged-off : (W V : Watches) → IsPropagated W s → length V.lists ≡ length W.lists → ((x : Literal) → watches_of V x ≡ []) → V.enabled ≡ false → IsPropagated V t
+  pub exchanged-off : (W V : Watches) → IsPropagated W s → length V.lists ≡ length W.lists → ((x : Literal) → watches_of V x ≡ []) →
+      V.enabled ≡ false → IsPropagated V t
   exchanged-off W V p n e o = record {
     lists = n ∙ p.lists;
     watching = λ on. absurd (let z : true ≡ false = sym on ∙ o in cc);
@@ -146,5 +150,6 @@ module _ (s : View) (ks : List StoredClause) (ns : List ImplNode) (w : WellForme
   pub exchanged-seen : search_of t ≡ record (search_of s) { kept = map kept_clause ks ++ map kept_pair (pairs_from 0 s.binary) }
   exchanged-seen =
       let fixed = filter-by-place (is_fixed t) (is_fixed s) s.trail (λ k h. ap (λ (n : ℕ). nat_eq n 0) (m.level k h)) in
-      let proved = filter-by-place (is_proved t) (is_proved s) s.trail (λ k h. ap₂ (λ (n : ℕ) (a : Bool). nat_eq n 0 && not a) (m.level k h) (clause-stays (node_at s k).reason (node_at t k).reason (m.same k h))) in
+      let proved = filter-by-place (is_proved t) (is_proved s) s.trail
+      (λ k h. ap₂ (λ (n : ℕ) (a : Bool). nat_eq n 0 && not a) (m.level k h) (clause-stays (node_at s k).reason (node_at t k).reason (m.same k h))) in
       ap₂ (λ (a b : List Literal). record { kept = map kept_clause ks ++ map kept_pair (pairs_from 0 s.binary); fixed = a; proved = b }) fixed proved

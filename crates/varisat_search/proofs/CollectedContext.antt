@@ -19,14 +19,27 @@ use Rattle.varisat_search.proofs.ReadyAfter.{keeps-values, unwatched-ready}
 new-live : (old new : Store) (d : Database) → IsCollected new d (stored_clauses old) → live_clauses new ≡ packed 0 (live_clauses old)
 new-live old new d h = ap live_of h.store.clauses ∙ packed-live 0 (live_clauses old) (λ k i. (live-∈ (stored_clauses old) k i).1)
 
-pub context-repacks : {A : Type 0} (x z : Context A) → IsReady x → IsCollected z.clause_alloc z.clause_db (stored_clauses x.clause_alloc) → (view z).nodes ≡ repointed_each (view x).values (live_clauses x.clause_alloc) (stored_clauses z.clause_alloc) (view x).nodes → view z ≡ record (view x) { sound = (view z).sound; clauses = (view z).clauses; nodes = (view z).nodes } → Repacks (view x) (view z)
+pub context-repacks : {A : Type 0} (x z : Context A) → IsReady x → IsCollected z.clause_alloc z.clause_db (stored_clauses x.clause_alloc) →
+    (view z).nodes ≡ repointed_each (view x).values (live_clauses x.clause_alloc) (stored_clauses z.clause_alloc) (view x).nodes →
+    view z ≡ record (view x) { sound = (view z).sound; clauses = (view z).clauses; nodes = (view z).nodes } → Repacks (view x) (view z)
 context-repacks x z r h e rest =
     let live = new-live x.clause_alloc z.clause_alloc z.clause_db h in
     let same : stored_clauses z.clause_alloc ≡ live_clauses z.clause_alloc = h.store.clauses ∙ sym live in
     view-repacks (view x) (view z) r.well (packed-below x.clause_alloc r.tracks.sound) live
     (e ∙ ap (λ (ks : List StoredClause). repointed_each (view x).values (live_clauses x.clause_alloc) ks (view x).nodes) same)
-    (rest ∙ ap (λ (o : Bool). record (view x) { sound = o; clauses = (view z).clauses; nodes = (view z).nodes }) (sound-is z.clause_alloc h.tracks.sound ∙ sym (sound-is x.clause_alloc r.tracks.sound)))
+    (rest ∙ ap (λ (o : Bool). record (view x) { sound = o; clauses = (view z).clauses; nodes = (view z).nodes })
+    (sound-is z.clause_alloc h.tracks.sound ∙ sym (sound-is x.clause_alloc r.tracks.sound)))
 
 -- it stays ready, with the watch lists off
-pub repacks-ready : {A : Type 0} (x z : Context A) → IsReady x → Repacks (view x) (view z) → Tracks z.clause_db z.clause_alloc → length z.watchlists.lists ≡ length x.watchlists.lists → ((l : Literal) → watches_of z.watchlists l ≡ []) → z.watchlists.enabled ≡ false → z ≡ record x { binary_clauses = z.binary_clauses; clause_activity = z.clause_activity; clause_alloc = z.clause_alloc; clause_db = z.clause_db; impl_graph = z.impl_graph; watchlists = z.watchlists } → IsReady z
+pub repacks-ready : {A : Type 0} (x z : Context A) → IsReady x → Repacks (view x) (view z) → Tracks z.clause_db z.clause_alloc →
+    length z.watchlists.lists ≡ length x.watchlists.lists → ((l : Literal) → watches_of z.watchlists l ≡ []) → z.watchlists.enabled ≡ false →
+    z ≡ record x {
+      binary_clauses = z.binary_clauses;
+      clause_activity = z.clause_activity;
+      clause_alloc = z.clause_alloc;
+      clause_db =
+          z.clause_db;
+      impl_graph = z.impl_graph;
+      watchlists = z.watchlists;
+    } → IsReady z
 repacks-ready x z r d t n e o k = unwatched-ready x z (view z).nodes r (keeps-values x z k) (repacks-may (view x) (view z) r.well d) d.rest t n e o

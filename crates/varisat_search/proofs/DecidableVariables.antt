@@ -36,11 +36,13 @@ some-value (Some b) n = (b, refl)
 pub same-refl : (s : View) (a : Activities) → SameDecidable s a s a
 same-refl s a v = ((λ h. h), (λ h. h))
 
-pub same-trans : (s : View) (a : Activities) (t : View) (b : Activities) (u : View) (c : Activities) → SameDecidable s a t b → SameDecidable t b u c → SameDecidable s a u c
+pub same-trans : (s : View) (a : Activities) (t : View) (b : Activities) (u : View) (c : Activities) → SameDecidable s a t b →
+    SameDecidable t b u c → SameDecidable s a u c
 same-trans s a t b u c g h v = ((λ d. (h v).0 ((g v).0 d)), (λ d. (g v).1 ((h v).1 d)))
 
 -- one variable becomes decidable, and each that was stays so
-pub still-decidable : (v : ℕ) (s : View) (a : Activities) (t : View) (b : Activities) → IsDecidable t b v → SameDecidableBut v s a t b → (w : ℕ) → IsDecidable s a w → IsDecidable t b w
+pub still-decidable : (v : ℕ) (s : View) (a : Activities) (t : View) (b : Activities) → IsDecidable t b v → SameDecidableBut v s a t b → (w : ℕ) →
+    IsDecidable s a w → IsDecidable t b w
 still-decidable v s a t b d o w h = ⊎_elim (λ e. subst (IsDecidable t b) (sym e) d) (λ n. (o w n).0 h) (equal_or_not w v)
 
 -- none was added yet
@@ -48,7 +50,8 @@ pub none-added : (first : ℕ) (s : View) (a : Activities) (t : View) (b : Activ
 none-added first s a t b g v = ((λ h. inl ((g v).1 h)), (λ h. ⊎_elim (λ d. (g v).0 d) (λ (x, y). absurd (omega (arith, x, y))) h))
 
 -- and one more is
-pub one-more-added : (first n : ℕ) (s : View) (a : Activities) (t : View) (b : Activities) (u : View) (c : Activities) → first ≤ n → AddsDecidable first n s a t b → IsDecidable u c n → SameDecidableBut n t b u c → AddsDecidable first (n + 1) s a u c
+pub one-more-added : (first n : ℕ) (s : View) (a : Activities) (t : View) (b : Activities) (u : View) (c : Activities) → first ≤ n →
+    AddsDecidable first n s a t b → IsDecidable u c n → SameDecidableBut n t b u c → AddsDecidable first (n + 1) s a u c
 one-more-added first n s a t b u c l g d o v = (
   λ h. ⊎_elim
       (λ e. inr (omega (arith, e, l), omega (arith, e)))
@@ -61,7 +64,8 @@ one-more-added first n s a t b u c l g d o v = (
 )
 
 -- all variables below n were decidable, and those up to m were added
-pub all-decidable : (n m : ℕ) (s : View) (a : Activities) (t : View) (b : Activities) → n ≤ m → ((v : ℕ) → IsDecidable s a v ↔ (v < n)) → AddsDecidable n m s a t b → (v : ℕ) → IsDecidable t b v ↔ (v < m)
+pub all-decidable : (n m : ℕ) (s : View) (a : Activities) (t : View) (b : Activities) → n ≤ m → ((v : ℕ) → IsDecidable s a v ↔ (v < n)) →
+    AddsDecidable n m s a t b → (v : ℕ) → IsDecidable t b v ↔ (v < m)
 all-decidable n m s a t b l g h v = (
   λ d. ⊎_elim (λ o. let k = (g v).0 o in omega (arith, k, l)) (λ (x, y). y) ((h v).0 d),
   λ k. (h v).1 (⊎_elim (λ o. inl ((g v).1 o)) (λ o. inr (o, k)) (cases_lt v n)),
@@ -75,7 +79,8 @@ same-read s a t b e f v =
     (⊎_elim (λ n. inl (λ z. n (sym x ∙ z))) (λ z. inr (y ∙ z)), ⊎_elim (λ n. inl (λ z. n (x ∙ z))) (λ z. inr (sym y ∙ z)))
 
 -- the clauses that are kept then may be decided too
-pub can-decide : (s : View) (a : Activities) (t : View) (b : Activities) → HasActivities t b → SameDecidable s a t b → ((c : Clause) → c ∈ kept t → AreDecidable s a c) → CanDecide t b
+pub can-decide : (s : View) (a : Activities) (t : View) (b : Activities) → HasActivities t b → SameDecidable s a t b →
+    ((c : Clause) → c ∈ kept t → AreDecidable s a c) → CanDecide t b
 can-decide s a t b n g h = record { entries = n; decidable = λ c i l j. (g (variable_of l)).0 (h c i l j) }
 
 -- a variable has a value where a literal of it stands on the trail
@@ -94,12 +99,15 @@ at-valued s w v k h e z =
     cc
 
 -- a literal that is made true is of a variable that was decidable
-pub enqueued-same : (s : View) (a : Activities) (l : Literal) (r : Reason) → variable_of l < length s.values → IsDecidable s a (variable_of l) → SameDecidable s a (enqueued s l r) a
+pub enqueued-same : (s : View) (a : Activities) (l : Literal) (r : Reason) → variable_of l < length s.values → IsDecidable s a (variable_of l) →
+    SameDecidable s a (enqueued s l r) a
 enqueued-same s a l r h d v =
     let x = Some (polarity_of l) in
     ⊎_elim
     (λ e. (
-      (λ g. inl (λ z. let y = get_or-set_same s.values (variable_of l) x None h in let q : get_or (set s.values (variable_of l) x) (variable_of l) None ≡ None = ap (λ w. get_or (set s.values (variable_of l) x) w None) (sym e) ∙ z in cc)),
+      (λ g. inl (λ z. let y = get_or-set_same s.values (variable_of l) x None h in
+          let q : get_or (set s.values (variable_of l) x) (variable_of l) None ≡ None =
+          ap (λ w. get_or (set s.values (variable_of l) x) w None) (sym e) ∙ z in cc)),
       (λ g. subst (IsDecidable s a) (sym e) d),
     ))
     (λ n.
@@ -137,7 +145,11 @@ module _ (s t : View) (level : ℕ) (a b : Activities) (w : WellFormed s) (c : I
   cut-same v = (⊎_elim (valued-still v) (λ e. inr (available-still v e)), ⊎_elim (λ n. inl (had-value v n)) (was-available v))
 
   pub cut-entries : HasActivities s a → HasActivities t b
-  cut-entries n = record { activity = ap (λ (x : Activities). length x.activity) m.rest ∙ n.activity ∙ sym c.count; available = m.count ∙ n.available ∙ sym c.count }
+  cut-entries n = record {
+    activity = ap (λ (x : Activities). length x.activity) m.rest ∙ n.activity ∙ sym c.count;
+    available = m.count
+        ∙ n.available ∙ sym c.count;
+  }
 
 -- what was propagated is of the kept clauses
 module _ (s t : View) (a : Activities) (w : WellFormed s) (d : CanDecide s a) (p : Propagates s t) where
@@ -154,7 +166,8 @@ module _ (s t : View) (a : Activities) (w : WellFormed s) (d : CanDecide s a) (p
   of-clause k [] i h = absurd h
   of-clause k (l ∷ c) i (e, o) = subst (λ x. IsDecidable s a (variable_of x)) e (of-literal (l ∷ c) i l (inl refl))
 
-  of-reason : (k : ℕ) (r : Reason) → length s.trail ≤ k → k < length t.trail → (node_at t k).reason ≡ r → IsReason t k r → IsDecidable s a (variable_of (literal_at t k))
+  of-reason : (k : ℕ) (r : Reason) → length s.trail ≤ k → k < length t.trail → (node_at t k).reason ≡ r → IsReason t k r →
+      IsDecidable s a (variable_of (literal_at t k))
   of-reason k reason.Unit b h e i =
       ⊎_elim
       (λ j.
@@ -190,12 +203,16 @@ module _ (s t : View) (a : Activities) (w : WellFormed s) (d : CanDecide s a) (p
 
 -- a variable was taken out and is decided, or none is left
 module _ (s : View) (a b : Activities) (d : CanDecide s a) where
-  pub decided-same : (l : Literal) → variable_of l < length s.values → TakesUnassigned s.values a b (Some (variable_of l)) → SameDecidable s a (decided_on s l) b
+  pub decided-same : (l : Literal) → variable_of l < length s.values → TakesUnassigned s.values a b (Some (variable_of l)) →
+      SameDecidable s a (decided_on s l) b
   decided-same l h k v =
       let x = Some (polarity_of l) in
       let next : IsNextDecision s.values a (variable_of l) = k.found in
-      let now : (v ≡ variable_of l) → get_or (set s.values (variable_of l) x) v None ≢ None = λ e z. let y = get_or-set_same s.values (variable_of l) x None h in let q : get_or (set s.values (variable_of l) x) (variable_of l) None ≡ None = ap (λ w. get_or (set s.values (variable_of l) x) w None) (sym e) ∙ z in cc in
-      let other : (v ≡ variable_of l → ⊥) → get_or (set s.values (variable_of l) x) v None ≡ get_or s.values v None = λ n. get_or-set_other s.values (variable_of l) v x None n in
+      let now : (v ≡ variable_of l) → get_or (set s.values (variable_of l) x) v None ≢ None = λ e z. let y =
+      get_or-set_same s.values (variable_of l) x None h in let q : get_or (set s.values (variable_of l) x) (variable_of l) None ≡ None =
+      ap (λ w. get_or (set s.values (variable_of l) x) w None) (sym e) ∙ z in cc in
+      let other : (v ≡ variable_of l → ⊥) → get_or (set s.values (variable_of l) x) v None ≡ get_or s.values v None =
+      λ n. get_or-set_other s.values (variable_of l) v x None n in
       let same = equal_or_not v (variable_of l) in (
         ⊎_elim
             (λ g. inl (⊎_elim now (λ n z. g (sym (other n) ∙ z)) same))
@@ -215,7 +232,8 @@ module _ (s : View) (a b : Activities) (d : CanDecide s a) where
   none-same k v = (⊎_elim inl (λ e. inl (k.found v e)), ⊎_elim inl (λ e. inr (k.fewer v e)))
 
   pub taken-entries : (o : Option ℕ) → TakesUnassigned s.values a b o → HasActivities s b
-  taken-entries o k = let n = d.entries in record { activity = ap (λ (x : Activities). length x.activity) k.rest ∙ n.activity; available = k.count ∙ n.available }
+  taken-entries o k = let n = d.entries in
+      record { activity = ap (λ (x : Activities). length x.activity) k.rest ∙ n.activity; available = k.count ∙ n.available }
 
   pub decided-decidable : (l : Literal) → variable_of l < length s.values → TakesUnassigned s.values a b (Some (variable_of l)) → CanDecide (decided_on s l) b
   decided-decidable l h k =
@@ -241,17 +259,22 @@ module _ (s : View) (a b : Activities) (v : ℕ) (n : HasActivities s a) (k : v 
 
   pub set-undecidable : b.available ≡ set a.available v false → get_or s.values v None ≡ None → IsDecidable s b v → ⊥
   set-undecidable e z =
-      let y : is_available b v ≡ false = ap (λ xs. get_or xs v false) e ∙ get_or-set_same a.available v false false (let m = n.available in omega (arith, k, m)) in
+      let y : is_available b v ≡ false = ap (λ xs. get_or xs v false) e
+      ∙ get_or-set_same a.available v false false (let m = n.available in omega (arith, k, m)) in
       ⊎_elim (λ o. o z) (λ h. let f = sym h ∙ y in cc)
 
   made-more : b.available ≡ set a.available v true → (w : ℕ) → IsDecidable s a w → IsDecidable s b w
-  made-more e w = ⊎_elim inl (λ h. ⊎_elim (λ i. subst (IsDecidable s b) (sym i) (made-decidable e)) (λ o. inr (ap (λ xs. get_or xs w false) e ∙ get_or-set_other a.available v w true false o ∙ h)) (equal_or_not w v))
+  made-more e w = ⊎_elim inl (λ h. ⊎_elim (λ i. subst (IsDecidable s b) (sym i) (made-decidable e))
+      (λ o. inr (ap (λ xs. get_or xs w false) e ∙ get_or-set_other a.available v w true false o ∙ h)) (equal_or_not w v))
 
   pub made-can : b.available ≡ set a.available v true → length b.activity ≡ length a.activity → CanDecide s a → CanDecide s b
   made-can e f d = record { entries = set-entries true e f; decidable = λ c i l j. made-more e (variable_of l) (d.decidable c i l j) }
 
-  pub removed-can : b.available ≡ set a.available v false → length b.activity ≡ length a.activity → CanDecide s a → ((c : Clause) → c ∈ kept s → (l : Literal) → l ∈ c → variable_of l ≢ v) → CanDecide s b
+  pub removed-can : b.available ≡ set a.available v false → length b.activity ≡ length a.activity → CanDecide s a →
+      ((c : Clause) → c ∈ kept s → (l : Literal) → l ∈ c → variable_of l ≢ v) → CanDecide s b
   removed-can e f d u = record {
     entries = set-entries false e f;
-    decidable = λ c i l j. ⊎_elim inl (λ h. inr (ap (λ xs. get_or xs (variable_of l) false) e ∙ get_or-set_other a.available v (variable_of l) false false (u c i l j) ∙ h)) (d.decidable c i l j);
+    decidable = λ c i l j. ⊎_elim inl
+        (λ h. inr (ap (λ xs. get_or xs (variable_of l) false) e ∙ get_or-set_other a.available v (variable_of l) false false (u c i l j) ∙ h))
+        (d.decidable c i l j);
   }

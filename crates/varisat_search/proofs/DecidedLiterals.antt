@@ -24,26 +24,31 @@ module _ (s t : View) (w : WellFormed s) (l : Literal) (free : IsFree s l) (e : 
   pub literal-longer : length s.trail < length t.trail
   literal-longer = (decided-longer s t l (subst WellFormed (sym e) (decided-well s l w free.0 free.1)) e).0
 
-module _ {A : Type 0} (x z : Context A) (r : IsReady x) (all : x.assumptions.levels ≡ length x.assumptions.working) (k : z ≡ record x { assignment = z.assignment; impl_graph = z.impl_graph; trail = z.trail; vsids = z.vsids }) (d : CanDecide (view z) z.vsids) (same : SameDecidable (view x) x.vsids (view z) z.vsids) where
+module _ {A : Type 0} (x z : Context A) (r : IsReady x) (all : x.assumptions.levels ≡ length x.assumptions.working)
+    (k : z ≡ record x { assignment = z.assignment; impl_graph = z.impl_graph; trail = z.trail; vsids = z.vsids }) (d : CanDecide (view z) z.vsids)
+    (same : SameDecidable (view x) x.vsids (view z) z.vsids) where
   list : z.assumptions ≡ x.assumptions
   list = ap (λ (y : Context A). y.assumptions) k
 
   -- once each assumption has its level another literal is decided
-  pub literal-ready : IsComplete (kept (view x)) x.trail.literals → x.trail.queue_head ≡ length x.trail.literals → (l : Literal) → IsFree (view x) l → view z ≡ decided_on (view x) l → IsReady z
+  pub literal-ready : IsComplete (kept (view x)) x.trail.literals → x.trail.queue_head ≡ length x.trail.literals → (l : Literal) →
+      IsFree (view x) l → view z ≡ decided_on (view x) l → IsReady z
   literal-ready q head l free e =
       let levels = has-grown (view x) (view z) x.assumptions r.well (literal-grows (view x) (view z) r.well l free e) (inr all) r.assumed in
       decided-ready x z l r q head free e
       (k ∙ ap (λ a. record x { assignment = z.assignment; assumptions = a; impl_graph = z.impl_graph; trail = z.trail; vsids = z.vsids }) (sym list))
       d
       (subst (HasAssumptions (view z)) (sym list) levels)
-      (still-assumable (view x) x.vsids (view z) z.vsids x.assumptions.working z.assumptions.working same (λ l i. subst (λ (a : AssumptionParts). l ∈ a.working) list i) r.assumable)
+      (still-assumable (view x) x.vsids (view z) z.vsids x.assumptions.working z.assumptions.working same
+      (λ l i. subst (λ (a : AssumptionParts). l ∈ a.working) list i) r.assumable)
 
   -- or none is
   pub end-ready : z ≡ record x { vsids = z.vsids } → IsReady z
   end-ready e =
       let stay = still-assumable (view x) x.vsids (view z) z.vsids x.assumptions.working x.assumptions.working same (λ l i. i) r.assumable in
       let s = ap (λ (y : Context A). view y) e in
-      subst IsReady (sym e) (ready-with x (record x { vsids = z.vsids }) r refl refl refl r.propagated (subst (λ (u : View). CanDecide u z.vsids) s d) r.assumed (subst (λ (u : View). AreDecidable u z.vsids x.assumptions.working) s stay))
+      subst IsReady (sym e) (ready-with x (record x { vsids = z.vsids }) r refl refl refl r.propagated
+      (subst (λ (u : View). CanDecide u z.vsids) s d) r.assumed (subst (λ (u : View). AreDecidable u z.vsids x.assumptions.working) s stay))
 
 -- a decision was made, or none
 pub made-or-not : (b : Bool) (P Q C : Type 0) → MatchBool b P Q → (P → C) → (Q → C) → C

@@ -46,7 +46,9 @@ split-place (j ∷ ks) r k (inl e) =
       back = ks;
       whole = ap (λ x. x ∷ ks) (sym e);
       left = ap (λ b. cond b (j ∷ filter (other_place k.place) ks) (filter (other_place k.place) ks)) gone
-          ∙ stays-all (other_place k.place) ks (λ i m. let l = r.0 i m in let f = ap (λ (x : StoredClause). x.place) e in ap not (is-other i.place k.place (λ g. absurd (omega (arith, l, f, g)))));
+          ∙ stays-all (other_place k.place) ks
+          (λ i m. let l = r.0 i m in let f = ap (λ (x : StoredClause). x.place) e in
+          ap not (is-other i.place k.place (λ g. absurd (omega (arith, l, f, g)))));
     }
 split-place (j ∷ ks) r k (inr m) =
     let d = split-place ks r.1 k m in
@@ -60,20 +62,24 @@ split-place (j ∷ ks) r k (inr m) =
     }
 
 -- what stands at another place stands there still
-still-at : (ks : List StoredClause) (p q : ℕ) → AreRising ks → IsPlace ks q → q ≢ p → IsPlace (filter (other_place p) ks) q × (stored_at (filter (other_place p) ks) q ≡ stored_at ks q)
+still-at : (ks : List StoredClause) (p q : ℕ) → AreRising ks → IsPlace ks q → q ≢ p → IsPlace (filter (other_place p) ks) q
+    × (stored_at (filter (other_place p) ks) q ≡ stored_at ks q)
 still-at ks p q r a n =
     let k = stored_at ks q in
     let e : k.place ≡ q = place-is ks q a in
     let i : k ∈ filter (other_place p) ks = filter-∈ (other_place p) ks k (stored-∈ ks q a) (ap not (is-other k.place p (λ g. n (sym e ∙ g)))) in
     ((k, i, e), ap (stored_at (filter (other_place p) ks)) (sym e) ∙ stored-found (filter (other_place p) ks) (filter-rising (other_place p) ks r) k i)
 
-lines-still : (ks : List StoredClause) (p : ℕ) (ps : List ℕ) → AreRising ks → (p ∈ ps → ⊥) → ((q : ℕ) → q ∈ ps → IsPlace ks q) → deletion_lines (filter (other_place p) ks) ps ≡ deletion_lines ks ps
+lines-still : (ks : List StoredClause) (p : ℕ) (ps : List ℕ) → AreRising ks → (p ∈ ps → ⊥) → ((q : ℕ) → q ∈ ps → IsPlace ks q) →
+    deletion_lines (filter (other_place p) ks) ps ≡ deletion_lines ks ps
 lines-still ks p [] r n a = refl
 lines-still ks p (q ∷ ps) r n a =
     ap (λ (x : StoredClause). Delete x.literals ∷ deletion_lines (filter (other_place p) ks) ps) (still-at ks p q r (a q (inl refl)) (λ e. n (inl (sym e)))).1
     ∙ ap (λ ls. Delete (literals_at ks q) ∷ ls) (lines-still ks p ps r (λ h. n (inr h)) (λ x h. a x (inr h)))
 
-pub places-go : (s : Search) (ks : List StoredClause) (back : List KeptClause) (ps : List ℕ) → AreRising ks → s.kept ≡ map kept_clause ks ++ back → IsDistinct ps → ((p : ℕ) → p ∈ ps → IsPlace ks p) → ((p : ℕ) → p ∈ ps → (kept_clause (stored_at ks p)).learned ≡ true) → Proves 0 s (record s { kept = map kept_clause (without_places ps ks) ++ back }) (deletion_lines ks ps)
+pub places-go : (s : Search) (ks : List StoredClause) (back : List KeptClause) (ps : List ℕ) → AreRising ks → s.kept ≡ map kept_clause ks ++ back →
+    IsDistinct ps → ((p : ℕ) → p ∈ ps → IsPlace ks p) → ((p : ℕ) → p ∈ ps → (kept_clause (stored_at ks p)).learned ≡ true) →
+    Proves 0 s (record s { kept = map kept_clause (without_places ps ks) ++ back }) (deletion_lines ks ps)
 places-go s ks back [] r e d a l = subst (λ (js : List KeptClause). Proves 0 s (record s { kept = js }) []) e (no_part s)
 places-go s ks back (p ∷ ps) r e d a l =
     let k = stored_at ks p in
@@ -82,31 +88,41 @@ places-go s ks back (p ∷ ps) r e d a l =
     let js = filter (other_place p) ks in
     let left : js ≡ c.front ++ c.back = ap (λ q. filter (other_place q) ks) (sym at) ∙ c.left in
     let whole : s.kept ≡ map kept_clause c.front ++ (kept_clause k ∷ (map kept_clause c.back ++ back)) =
-    e ∙ ap (λ xs. map kept_clause xs ++ back) c.whole ∙ ap (λ xs. xs ++ back) (map-append c.front (k ∷ c.back)) ∙ append_assoc (map kept_clause c.front) (kept_clause k ∷ map kept_clause c.back) back in
+    e ∙ ap (λ xs. map kept_clause xs ++ back) c.whole ∙ ap (λ xs. xs ++ back) (map-append c.front (k ∷ c.back))
+    ∙ append_assoc (map kept_clause c.front) (kept_clause k ∷ map kept_clause c.back) back in
     let rest : map kept_clause c.front ++ (map kept_clause c.back ++ back) ≡ map kept_clause js ++ back =
-    sym (append_assoc (map kept_clause c.front) (map kept_clause c.back) back) ∙ ap (λ xs. xs ++ back) (sym (map-append c.front c.back)) ∙ ap (λ xs. map kept_clause xs ++ back) (sym left) in
+    sym (append_assoc (map kept_clause c.front) (map kept_clause c.back) back) ∙ ap (λ xs. xs ++ back) (sym (map-append c.front c.back))
+    ∙ ap (λ xs. map kept_clause xs ++ back) (sym left) in
     let other : (q : ℕ) → q ∈ ps → q ≢ p = λ q h g. d.0 (subst (λ x. x ∈ ps) g h) in
     let s1 : Search = record s { kept = map kept_clause js ++ back } in
-    let first : Proves 0 s s1 (Delete k.literals ∷ []) = subst (λ (xs : List KeptClause). Proves 0 s (record s { kept = xs }) (Delete k.literals ∷ [])) rest (learned_is_deleted s (map kept_clause c.front) (map kept_clause c.back ++ back) (kept_clause k) k.literals whole (same-self k.literals) (l p (inl refl))) in
+    let first : Proves 0 s s1 (Delete k.literals ∷ []) =
+    subst (λ (xs : List KeptClause). Proves 0 s (record s { kept = xs }) (Delete k.literals ∷ [])) rest
+    (learned_is_deleted s (map kept_clause c.front) (map kept_clause c.back ++ back) (kept_clause k) k.literals whole (same-self k.literals)
+    (l p (inl refl))) in
     let more =
     places-go s1 js back ps (filter-rising (other_place p) ks r) refl d.1 (λ q h. (still-at ks p q r (a q (inr h)) (other q h)).0)
     (λ q h. ap (λ (x : StoredClause). (kept_clause x).learned) (still-at ks p q r (a q (inr h)) (other q h)).1 ∙ l q (inr h)) in
-    subst (λ ls. Proves 0 s (record s { kept = map kept_clause (without_places ps js) ++ back }) (Delete k.literals ∷ ls)) (lines-still ks p ps r d.0 (λ q h. a q (inr h)))
+    subst (λ ls. Proves 0 s (record s { kept = map kept_clause (without_places ps js) ++ back }) (Delete k.literals ∷ ls))
+    (lines-still ks p ps r d.0 (λ q h. a q (inr h)))
     (parts_join 0 0 s s1 (record s { kept = map kept_clause (without_places ps js) ++ back }) (Delete k.literals ∷ []) (deletion_lines js ps) first more)
 
 -- a second filter that passes what the first one does changes nothing
-filter-twice : (p q : StoredClause → Bool) (ks : List StoredClause) → ((k : StoredClause) → k ∈ ks → q k ≡ false → p k ≡ false) → filter p (filter q ks) ≡ filter p ks
+filter-twice : (p q : StoredClause → Bool) (ks : List StoredClause) → ((k : StoredClause) → k ∈ ks → q k ≡ false → p k ≡ false) →
+    filter p (filter q ks) ≡ filter p ks
 filter-twice p q [] h = refl
 filter-twice p q (k ∷ ks) h = go (q k) refl (filter-twice p q ks (λ j i. h j (inr i)))
   where
-    go : (b : Bool) → q k ≡ b → filter p (filter q ks) ≡ filter p ks → filter p (cond b (k ∷ filter q ks) (filter q ks)) ≡ cond (p k) (k ∷ filter p ks) (filter p ks)
+    go : (b : Bool) → q k ≡ b → filter p (filter q ks) ≡ filter p ks →
+        filter p (cond b (k ∷ filter q ks) (filter q ks)) ≡ cond (p k) (k ∷ filter p ks) (filter p ks)
     go true e f = ap (λ xs. cond (p k) (k ∷ xs) xs) f
     go false e f = f ∙ sym (ap (λ b. cond b (k ∷ filter p ks) (filter p ks)) (h k (inl refl) e))
 
 equal-of : (a b : ℕ) → not (nat_eq a b) ≡ false → a ≡ b
 equal-of a b e = grind (arith, e)
 
-pub without-is : (ps : List ℕ) (ks : List StoredClause) (gone : StoredClause → Bool) → ((k : StoredClause) → k ∈ ks → gone k ≡ true → k.place ∈ ps) → ((k : StoredClause) → k ∈ ks → k.place ∈ ps → gone k ≡ true) → without_places ps ks ≡ filter (λ k. not (gone k)) ks
+pub without-is : (ps : List ℕ) (ks : List StoredClause) (gone : StoredClause → Bool) →
+    ((k : StoredClause) → k ∈ ks → gone k ≡ true → k.place ∈ ps) → ((k : StoredClause) → k ∈ ks → k.place ∈ ps → gone k ≡ true) →
+    without_places ps ks ≡ filter (λ k. not (gone k)) ks
 without-is [] ks gone f t = sym (stays-all (λ k. not (gone k)) ks (λ k h. ⊎_elim (λ e. absurd (f k h e)) (λ e. ap not e) (true-or-false (gone k))))
 without-is (p ∷ ps) ks gone f t =
     without-is ps (filter (other_place p) ks) gone

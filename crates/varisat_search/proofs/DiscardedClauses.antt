@@ -36,7 +36,8 @@ module _ (s t : View) (w : WellFormed s) (d : Discards s t) where
   left-rising = filter-rising (λ k. not (d.gone k)) s.clauses w.places
 
   -- a reason is not gone
-  reason-left : (k p : ℕ) → k < length s.trail → (node_at s k).reason ≡ reason.Long p → IsPlace s.clauses p → IsPlace t.clauses p × (literals_at t.clauses p ≡ clause_at s p)
+  reason-left : (k p : ℕ) → k < length s.trail → (node_at s k).reason ≡ reason.Long p → IsPlace s.clauses p → IsPlace t.clauses p
+      × (literals_at t.clauses p ≡ clause_at s p)
   reason-left k p h e a =
       let x = stored_at s.clauses p in
       let i = stored-∈ s.clauses p a in
@@ -44,7 +45,8 @@ module _ (s t : View) (w : WellFormed s) (d : Discards s t) where
       let stays : not (d.gone x) ≡ true = ⊎_elim (λ g. absurd (d.unused x i g k h (e ∙ ap reason.Long (sym f)))) (λ g. ap not g) (true-or-false (d.gone x)) in
       let j : x ∈ left = filter-∈ (λ k. not (d.gone k)) s.clauses x i stays in (
         headers-place left t.clauses p d.clauses (x, j, f),
-        headers-at left t.clauses d.clauses p ∙ ap (λ (q : ℕ). literals_at left q) (sym f) ∙ ap (λ (y : StoredClause). y.literals) (stored-found left left-rising x j),
+        headers-at left t.clauses d.clauses p ∙ ap (λ (q : ℕ). literals_at left q) (sym f)
+            ∙ ap (λ (y : StoredClause). y.literals) (stored-found left left-rising x j),
       )
 
   same-left : (k : ℕ) → k < length s.trail → (r : Reason) → (node_at s k).reason ≡ r → IsReason s k r → SameReason s t.clauses r r
@@ -65,7 +67,8 @@ module _ (s t : View) (w : WellFormed s) (d : Discards s t) where
   }
 
 -- What a reduction takes out is learned, and no reason.
-module _ (s : View) (old marked new : Store) (w : WellFormed s) (ok : IsSound old) (are : s.clauses ≡ live_clauses old) (m : HoldsClauses marked (length old.words) (reasons_marked s.values s.nodes (stored_clauses old))) (r : ReducesLocals marked new) where
+module _ (s : View) (old marked new : Store) (w : WellFormed s) (ok : IsSound old) (are : s.clauses ≡ live_clauses old)
+    (m : HoldsClauses marked (length old.words) (reasons_marked s.values s.nodes (stored_clauses old))) (r : ReducesLocals marked new) where
   abbrev f : StoredClause → StoredClause
   f = reason_marked s.values s.nodes
 
@@ -133,13 +136,16 @@ module _ (s : View) (old marked new : Store) (w : WellFormed s) (ok : IsSound ol
   gone-unmarked : (k : StoredClause) → k ∈ s.clauses → gone k.place ≡ true → is_reason s.values s.nodes k ≡ false
   gone-unmarked k h e =
       let (i, live, o) = gone-out k h e in
-      sym (ap (λ (x : StoredClause). x.header.mark) (marked-∈ k i ∙ mark-live s.values s.nodes k live)) ∙ (unmarked-∈ (stored_clauses marked) (length r.order / 2) r.order k.place o).1
+      sym (ap (λ (x : StoredClause). x.header.mark) (marked-∈ k i ∙ mark-live s.values s.nodes k live))
+      ∙ (unmarked-∈ (stored_clauses marked) (length r.order / 2) r.order k.place o).1
 
   is-used : (k : StoredClause) → k ∈ s.clauses → (i : ℕ) → i < length s.trail → (node_at s i).reason ≡ reason.Long k.place → is_reason s.values s.nodes k ≡ true
   is-used k h i l e =
       let q = reason-first s w k i h l e in
-      let v : is_some (get_or s.values (variable_of (literal_in k.literals 0)) None) ≡ true = ap (λ (x : Literal). is_some (get_or s.values (variable_of x) None)) q ∙ ap (λ o. is_some o) (w.is_true i l) in
-      let n : is_clause_at (node_of s (literal_in k.literals 0)).reason k.place ≡ true = ap (λ (x : Literal). is_clause_at (node_of s x).reason k.place) q ∙ ap (λ x. is_clause_at x k.place) e ∙ is-same k.place k.place refl in
+      let v : is_some (get_or s.values (variable_of (literal_in k.literals 0)) None) ≡ true =
+      ap (λ (x : Literal). is_some (get_or s.values (variable_of x) None)) q ∙ ap (λ o. is_some o) (w.is_true i l) in
+      let n : is_clause_at (node_of s (literal_in k.literals 0)).reason k.place ≡ true =
+      ap (λ (x : Literal). is_clause_at (node_of s x).reason k.place) q ∙ ap (λ x. is_clause_at x k.place) e ∙ is-same k.place k.place refl in
       ap (λ b. b && is_clause_at (node_of s (literal_in k.literals 0)).reason k.place) v ∙ n
 
   pub reduces-discards : (t : View) → t.clauses ≡ live_clauses new → t ≡ record s { clauses = t.clauses } → Discards s t
@@ -148,12 +154,14 @@ module _ (s : View) (old marked new : Store) (w : WellFormed s) (ok : IsSound ol
     clauses =
         subst (λ xs. SameButHeaders (filter (λ k. not (gone k.place)) xs) t.clauses) (sym are)
         (subst (SameButHeaders (filter (λ k. not (gone k.place)) (live_of ks))) (sym e)
-        (live-filter gone ks (stored_clauses new) headers (λ j i. sym (ap (λ (x : StoredClause). x.header.deleted) (stored-found (stored_clauses new) (are-rising new r.deleted.sound) j i))) stays-deleted));
+        (live-filter gone ks (stored_clauses new) headers
+        (λ j i. sym (ap (λ (x : StoredClause). x.header.deleted) (stored-found (stored_clauses new) (are-rising new r.deleted.sound) j i))) stays-deleted));
     learned = gone-local;
     unused = λ k h g i l q. let z : true ≡ false = sym (is-used k h i l q) ∙ gone-unmarked k h g in absurd cc;
     rest = rest;
   }
 
-  pub reduces-gone : (t : View) (e : t.clauses ≡ live_clauses new) (rest : t ≡ record s { clauses = t.clauses }) (k : StoredClause) → (reduces-discards t e rest).gone k ≡ (header_at (stored_clauses new) k.place).deleted
+  pub reduces-gone : (t : View) (e : t.clauses ≡ live_clauses new) (rest : t ≡ record s { clauses = t.clauses }) (k : StoredClause) →
+      (reduces-discards t e rest).gone k ≡ (header_at (stored_clauses new) k.place).deleted
   unfolding reduces-discards
   reduces-gone t e rest k = refl

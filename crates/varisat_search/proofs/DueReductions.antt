@@ -29,7 +29,8 @@ none-proved : (s t : View) → search_of t ≡ search_of s → Proves 0 (search_
 none-proved s t e = subst (λ x. Proves 0 (search_of s) x []) (sym e) (no_part (search_of s))
 
 module _ {A : Type 0} (x y : Context A) (ready : IsReady y) (activities : y.vsids ≡ x.vsids) where
-  with-assigned : (P : List Line → Type 0) → KeepsAssignment (view x) (view y) → (lines : List Line) × Proves 0 (search_of (view x)) (search_of (view y)) lines × P lines → KeepsSearch P x y
+  with-assigned : (P : List Line → Type 0) → KeepsAssignment (view x) (view y) → (lines : List Line)
+      × Proves 0 (search_of (view x)) (search_of (view y)) lines × P lines → KeepsSearch P x y
   with-assigned P a p = record {
     ready = ready;
     assigned = a;
@@ -37,18 +38,23 @@ module _ {A : Type 0} (x y : Context A) (ready : IsReady y) (activities : y.vsid
     decidable = same-read (view x) x.vsids (view y) y.vsids (ap (λ (s : View). s.values) a.rest) (ap (λ (b : Activities). b.available) activities);
   }
 
-  pub discards-keep : (P : List Line → Type 0) → Discards (view x) (view y) → (lines : List Line) × Proves 0 (search_of (view x)) (search_of (view y)) lines × P lines → KeepsSearch P x y
+  pub discards-keep : (P : List Line → Type 0) → Discards (view x) (view y) → (lines : List Line)
+      × Proves 0 (search_of (view x)) (search_of (view y)) lines × P lines → KeepsSearch P x y
   discards-keep P d p = with-assigned P (clauses-only (view x) (view y) d.rest) p
 
   pub headers-keep : IsReady x → ChangesHeaders (view x) (view y) → KeepsSearch (λ lines. lines ≡ []) x y
-  headers-keep r d = with-assigned (λ lines. lines ≡ []) (clauses-only (view x) (view y) d.rest) ([], none-proved (view x) (view y) (header-seen (view x) (view y) r.well d), refl)
+  headers-keep r d = with-assigned (λ lines. lines ≡ []) (clauses-only (view x) (view y) d.rest)
+      ([], none-proved (view x) (view y) (header-seen (view x) (view y) r.well d), refl)
 
   pub repacks-keep : IsReady x → Repacks (view x) (view y) → KeepsSearch (λ lines. lines ≡ []) x y
-  repacks-keep r d = with-assigned (λ lines. lines ≡ []) (record { rest = d.rest; kinds_stay = repacks-kinds (view x) (view y) r.well d }) ([], none-proved (view x) (view y) (repacks-seen (view x) (view y) r.well d), refl)
+  repacks-keep r d = with-assigned (λ lines. lines ≡ []) (record { rest = d.rest; kinds_stay = repacks-kinds (view x) (view y) r.well d })
+      ([], none-proved (view x) (view y) (repacks-seen (view x) (view y) r.well d), refl)
 
 -- more holds for its lines, of which it is known what they lead to
-pub keeps-are : {A : Type 0} {x y : Context A} {P : List Line → Type 0} (Q : List Line → Type 0) → ((lines : List Line) → Proves 0 (search_of (view x)) (search_of (view y)) lines → P lines → Q lines) → KeepsSearch P x y → KeepsSearch Q x y
-keeps-are Q are k = let (lines, p, i) = k.proves in record { ready = k.ready; assigned = k.assigned; proves = (lines, p, are lines p i); decidable = k.decidable }
+pub keeps-are : {A : Type 0} {x y : Context A} {P : List Line → Type 0} (Q : List Line → Type 0) →
+    ((lines : List Line) → Proves 0 (search_of (view x)) (search_of (view y)) lines → P lines → Q lines) → KeepsSearch P x y → KeepsSearch Q x y
+keeps-are Q are k = let (lines, p, i) = k.proves in
+    record { ready = k.ready; assigned = k.assigned; proves = (lines, p, are lines p i); decidable = k.decidable }
 
 pub keeps-refl : {A : Type 0} (x : Context A) → IsReady x → KeepsSearch (λ lines. lines ≡ []) x x
 keeps-refl x r = record {
@@ -63,9 +69,11 @@ keeps-same x y r e = subst (KeepsSearch (λ lines. lines ≡ []) x) (sym e) (kee
 
 -- a search that is kept without lines is so with lines that may be none
 pub keeps-none : {A : Type 0} (x y : Context A) (P : List Line → Type 0) → P [] → KeepsSearch (λ lines. lines ≡ []) x y → KeepsSearch P x y
-keeps-none x y P none a = let (lines, p, e) = a.proves in record { ready = a.ready; assigned = a.assigned; proves = (lines, p, subst P (sym e) none); decidable = a.decidable }
+keeps-none x y P none a = let (lines, p, e) = a.proves in
+    record { ready = a.ready; assigned = a.assigned; proves = (lines, p, subst P (sym e) none); decidable = a.decidable }
 
-pub keeps-trans : {A : Type 0} (x y z : Context A) (P Q R : List Line → Type 0) → ((first more : List Line) → P first → Q more → R (first ++ more)) → KeepsSearch P x y → KeepsSearch Q y z → KeepsSearch R x z
+pub keeps-trans : {A : Type 0} (x y z : Context A) (P Q R : List Line → Type 0) →
+    ((first more : List Line) → P first → Q more → R (first ++ more)) → KeepsSearch P x y → KeepsSearch Q y z → KeepsSearch R x z
 keeps-trans x y z P Q R join a b =
     let (first, p, i) = a.proves in
     let (more, q, j) = b.proves in
@@ -80,7 +88,8 @@ keeps-trans x y z P Q R join a b =
     }
 
 -- what raises the rank afterwards raises it from here
-pub rises-over : (s t u : View) → KeepsAssignment s t → ((n : ℕ) → length t.trail ≤ n → rank n (kinds t) < rank n (kinds u)) → (n : ℕ) → length s.trail ≤ n → rank n (kinds s) < rank n (kinds u)
+pub rises-over : (s t u : View) → KeepsAssignment s t → ((n : ℕ) → length t.trail ≤ n → rank n (kinds t) < rank n (kinds u)) → (n : ℕ) →
+    length s.trail ≤ n → rank n (kinds s) < rank n (kinds u)
 rises-over s t u a h n l =
     let e = ap (λ (v : View). length v.trail) a.rest in
     subst (λ bs. rank n bs < rank n (kinds u)) a.kinds_stay (h n (omega (arith, e, l)))

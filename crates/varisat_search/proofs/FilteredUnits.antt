@@ -24,7 +24,8 @@ module _ (values : List (Option Bool)) (d c : Clause) (is : d ≡ c) where
   satisfied-read (l, i, h) = true-there values c l (subst (λ x. l ∈ x) is i) h
 
   pub unsatisfied-read : (HasTrue values d → ⊥) → has_true values c ≡ false
-  unsatisfied-read n = ⊎_elim (λ e. let (l, i, h) = some-true values c e in absurd (n (l, subst (λ x. l ∈ x) (sym is) i, h))) (λ e. e) (true-false (has_true values c))
+  unsatisfied-read n = ⊎_elim (λ e. let (l, i, h) = some-true values c e in absurd (n (l, subst (λ x. l ∈ x) (sym is) i, h))) (λ e. e)
+      (true-false (has_true values c))
 
 -- a filter that leaves as many elements leaves all
 pub filter-full : (p : ℕ → Bool) (xs : List ℕ) → length xs ≤ length (filter p xs) → filter p xs ≡ xs
@@ -39,7 +40,8 @@ filter-full p (x ∷ xs) h = go (p x) h (filter-full p xs) (filter-short xs)
         go2 true r = omega (arith, r)
         go2 false r = omega (arith, r)
 
-    go : (b : Bool) → suc (length xs) ≤ length (cond b (x ∷ filter p xs) (filter p xs)) → (length xs ≤ length (filter p xs) → filter p xs ≡ xs) → length (filter p xs) ≤ length xs → cond b (x ∷ filter p xs) (filter p xs) ≡ x ∷ xs
+    go : (b : Bool) → suc (length xs) ≤ length (cond b (x ∷ filter p xs) (filter p xs)) → (length xs ≤ length (filter p xs) → filter p xs ≡ xs) →
+        length (filter p xs) ≤ length xs → cond b (x ∷ filter p xs) (filter p xs) ≡ x ∷ xs
     go true h r n = ap (λ ys. x ∷ ys) (r (omega (arith, h)))
     go false h r n = absurd (omega (arith, h, n))
 
@@ -54,7 +56,8 @@ module _ (values : List (Option Bool)) (k : StoredClause) (before : List Clause)
   long-if : (b : Bool) → stays_long values k.literals ≡ b → left_long values (k ∷ []) ≡ cond b (shortened_to (unassigned values k.literals) k ∷ []) []
   long-if b e = go (stays_long values k.literals) e
     where
-      go : (a : Bool) → a ≡ b → map (λ (k : StoredClause). shortened_to (unassigned values k.literals) k) (cond a (k ∷ []) []) ≡ cond b (shortened_to (unassigned values k.literals) k ∷ []) []
+      go : (a : Bool) → a ≡ b → map (λ (k : StoredClause). shortened_to (unassigned values k.literals) k) (cond a (k ∷ []) []) ≡ cond b
+          (shortened_to (unassigned values k.literals) k ∷ []) []
       go true e = ap (λ (x : Bool). cond x (shortened_to (unassigned values k.literals) k ∷ []) []) e
       go false e = ap (λ (x : Bool). cond x (shortened_to (unassigned values k.literals) k ∷ []) []) e
 
@@ -69,18 +72,21 @@ module _ (values : List (Option Bool)) (k : StoredClause) (before : List Clause)
   pub leaves-none : (j : StoredClause) → has_true values k.literals ≡ true → LeavesOpen values k (left_if false j) before before
   leaves-none j e = record {
     long = sym (long-if false (ap (λ b. not b && nat_le 3 (length (unassigned values k.literals))) e));
-    pairs = sym (append-nil before) ∙ ap (λ cs. before ++ cs) (sym (pairs-if false (ap (λ b. not b && not (nat_le 3 (length (unassigned values k.literals)))) e)));
+    pairs = sym (append-nil before)
+        ∙ ap (λ cs. before ++ cs) (sym (pairs-if false (ap (λ b. not b && not (nat_le 3 (length (unassigned values k.literals)))) e)));
   }
 
   -- two literals are left
-  pub leaves-pair : (j : StoredClause) (after : List Clause) → has_true values k.literals ≡ false → length (unassigned values k.literals) ≡ 2 → after ≡ before ++ unassigned values k.literals ∷ [] → LeavesOpen values k (left_if false j) before after
+  pub leaves-pair : (j : StoredClause) (after : List Clause) → has_true values k.literals ≡ false → length (unassigned values k.literals) ≡ 2 →
+      after ≡ before ++ unassigned values k.literals ∷ [] → LeavesOpen values k (left_if false j) before after
   leaves-pair j after e n a = record {
     long = sym (long-if false (ap₂ (λ (b d : Bool). not b && d) e (ap (λ (m : ℕ). nat_le 3 m) n)));
     pairs = a ∙ ap (λ cs. before ++ cs) (sym (pairs-if true (ap₂ (λ (b d : Bool). not b && not d) e (ap (λ (m : ℕ). nat_le 3 m) n))));
   }
 
   -- three or more are left
-  pub leaves-long : (j : StoredClause) → has_true values k.literals ≡ false → 3 ≤ length (unassigned values k.literals) → k.header.deleted ≡ false → j ≡ shortened_to (unassigned values k.literals) k → LeavesOpen values k (left_if true j) before before
+  pub leaves-long : (j : StoredClause) → has_true values k.literals ≡ false → 3 ≤ length (unassigned values k.literals) → k.header.deleted ≡ false →
+      j ≡ shortened_to (unassigned values k.literals) k → LeavesOpen values k (left_if true j) before before
   leaves-long j e n live is =
       let t = at-least 3 (length (unassigned values k.literals)) n in
       let u = unassigned values k.literals in
@@ -110,19 +116,24 @@ module _ (values : List (Option Bool)) where
   long-first : (k : StoredClause) (ks : List StoredClause) → left_long values (k ∷ ks) ≡ left_long values (k ∷ []) ++ left_long values ks
   long-first k ks = go (stays_long values k.literals)
     where
-      go : (b : Bool) → map (λ (k : StoredClause). shortened_to (unassigned values k.literals) k) (cond b (k ∷ filter (λ k. stays_long values k.literals) ks) (filter (λ k. stays_long values k.literals) ks)) ≡ map (λ (k : StoredClause). shortened_to (unassigned values k.literals) k) (cond b (k ∷ []) []) ++ left_long values ks
+      go : (b : Bool) → map (λ (k : StoredClause). shortened_to (unassigned values k.literals) k)
+          (cond b (k ∷ filter (λ k. stays_long values k.literals) ks) (filter (λ k. stays_long values k.literals) ks)) ≡ map
+          (λ (k : StoredClause). shortened_to (unassigned values k.literals) k) (cond b (k ∷ []) []) ++ left_long values ks
       go true = refl
       go false = refl
 
   pairs-first : (k : StoredClause) (ks : List StoredClause) → left_pairs values (k ∷ ks) ≡ left_pairs values (k ∷ []) ++ left_pairs values ks
   pairs-first k ks = go (becomes_pair values k.literals)
     where
-      go : (b : Bool) → map (λ (k : StoredClause). unassigned values k.literals) (cond b (k ∷ filter (λ k. becomes_pair values k.literals) ks) (filter (λ k. becomes_pair values k.literals) ks)) ≡ map (λ (k : StoredClause). unassigned values k.literals) (cond b (k ∷ []) []) ++ left_pairs values ks
+      go : (b : Bool) → map (λ (k : StoredClause). unassigned values k.literals)
+          (cond b (k ∷ filter (λ k. becomes_pair values k.literals) ks) (filter (λ k. becomes_pair values k.literals) ks)) ≡ map
+          (λ (k : StoredClause). unassigned values k.literals) (cond b (k ∷ []) []) ++ left_pairs values ks
       go true = refl
       go false = refl
 
 -- What a filter that keeps the values leaves of all clauses.
-module _ {F : Type 0} (values : F → List (Option Bool)) (pairs : F → List Clause) (Leaves : F → StoredClause → StoredClause → F → Type 0) (each : (f : F) (k j : StoredClause) (g : F) → Leaves f k j g → (values g ≡ values f) × LeavesOpen (values f) k j (pairs f) (pairs g)) where
+module _ {F : Type 0} (values : F → List (Option Bool)) (pairs : F → List Clause) (Leaves : F → StoredClause → StoredClause → F → Type 0)
+    (each : (f : F) (k j : StoredClause) (g : F) → Leaves f k j g → (values g ≡ values f) × LeavesOpen (values f) k j (pairs f) (pairs g)) where
   abbrev pub HasLeft : F → F → List StoredClause → List StoredClause → Type 0
   HasLeft f g ks js = (live_of js ≡ left_long (values f) (live_of ks)) × (pairs g ≡ pairs f ++ left_pairs (values f) (live_of ks))
 
@@ -136,7 +147,8 @@ module _ {F : Type 0} (values : F → List (Option Bool)) (pairs : F → List Cl
       go (PassesOver dead e q) r =
           let (a, b) = subst (λ x. HasLeft x g ks js) q r in
           let gone : live_of (k ∷ ks) ≡ live_of ks = ap (λ (o : Bool). cond o (live_of ks) (k ∷ live_of ks)) dead in
-          let also : live_of (j ∷ js) ≡ live_of js = ap (λ (x : StoredClause). live_of (x ∷ js)) e ∙ ap (λ (o : Bool). cond o (live_of js) (k ∷ live_of js)) dead in
+          let also : live_of (j ∷ js) ≡ live_of js = ap (λ (x : StoredClause). live_of (x ∷ js)) e
+          ∙ ap (λ (o : Bool). cond o (live_of js) (k ∷ live_of js)) dead in
           (also ∙ a ∙ ap (left_long (values f)) (sym gone), b ∙ ap (λ xs. pairs f ++ left_pairs (values f) xs) (sym gone))
       go (ComesTo live p t l) (a, b) =
           let (v, o) = each f k j m l in
@@ -145,5 +157,6 @@ module _ {F : Type 0} (values : F → List (Option Bool)) (pairs : F → List Cl
           let c : live_of js ≡ left_long vs (live_of ks) = a ∙ ap (λ ws. left_long ws (live_of ks)) v in
           let d : pairs g ≡ pairs m ++ left_pairs vs (live_of ks) = b ∙ ap (λ ws. pairs m ++ left_pairs ws (live_of ks)) v in (
             live-first j js ∙ ap₂ (λ (xs ys : List StoredClause). xs ++ ys) o.long c ∙ sym (long-first vs k (live_of ks)) ∙ ap (left_long vs) (sym here),
-            d ∙ ap (λ cs. cs ++ left_pairs vs (live_of ks)) o.pairs ∙ append_assoc (pairs f) (left_pairs vs (k ∷ [])) (left_pairs vs (live_of ks)) ∙ ap (λ cs. pairs f ++ cs) (sym (pairs-first vs k (live_of ks))) ∙ ap (λ xs. pairs f ++ left_pairs vs xs) (sym here),
+            d ∙ ap (λ cs. cs ++ left_pairs vs (live_of ks)) o.pairs ∙ append_assoc (pairs f) (left_pairs vs (k ∷ [])) (left_pairs vs (live_of ks))
+                ∙ ap (λ cs. pairs f ++ cs) (sym (pairs-first vs k (live_of ks))) ∙ ap (λ xs. pairs f ++ left_pairs vs xs) (sym here),
           )

@@ -32,12 +32,14 @@ use Rattle.varisat_search.proofs.StepWithoutLines.{proved_back, clause_or_none}
 use Rattle.varisat_search.proofs.ViewSearch.{kept_same}
 
 -- 1. The first decision stays where it is.
-before-more : (ds more : List ℕ) (ls tail : List Literal) → 0 < length ds → get_or ds 0 0 ≤ length ls → before_decisions (ds ++ more) (ls ++ tail) ≡ before_decisions ds ls
+before-more : (ds more : List ℕ) (ls tail : List Literal) → 0 < length ds → get_or ds 0 0 ≤ length ls →
+    before_decisions (ds ++ more) (ls ++ tail) ≡ before_decisions ds ls
 before-more [] more ls tail h i = absurd (omega (arith, h))
 before-more (p ∷ ds) more ls tail h i = take-append-le p ls tail i
 
 -- a decision is made
-before-decided : (ds : List ℕ) (ls : List Literal) (l : Literal) → (0 < length ds → get_or ds 0 0 ≤ length ls) → before_decisions (ds ++ length ls ∷ []) (ls ++ l ∷ []) ≡ before_decisions ds ls
+before-decided : (ds : List ℕ) (ls : List Literal) (l : Literal) → (0 < length ds → get_or ds 0 0 ≤ length ls) →
+    before_decisions (ds ++ length ls ∷ []) (ls ++ l ∷ []) ≡ before_decisions ds ls
 before-decided [] ls l h = take-whole ls (l ∷ [])
 before-decided (p ∷ ds) ls l h = take-append-le p ls (l ∷ []) (h (omega arith))
 
@@ -52,7 +54,10 @@ pub fixed-still : (s : View) → s.queue_head ≡ length s.trail → FixesNone s
 fixed-still s e = (refl, λ u. let h = u.1 in absurd (omega (arith, h, e)))
 
 -- decisions above the level are undone, and a literal becomes true
-before-cut : (ds : List ℕ) (ls : List Literal) (level : ℕ) (l : Literal) → level < length ds → get_or ds level 0 < length ls → (0 < level → get_or ds 0 0 < get_or ds level 0) → (before_decisions (take level ds) (take (get_or ds level 0) ls ++ l ∷ []) ≡ before_decisions ds ls) ⊎ ((take level ds ≡ []) × (get_or ds level 0 < length (take (get_or ds level 0) ls ++ l ∷ [])))
+before-cut : (ds : List ℕ) (ls : List Literal) (level : ℕ) (l : Literal) → level < length ds → get_or ds level 0 < length ls →
+    (0 < level → get_or ds 0 0 < get_or ds level 0) →
+    (before_decisions (take level ds) (take (get_or ds level 0) ls ++ l ∷ []) ≡ before_decisions ds ls)
+    ⊎ ((take level ds ≡ []) × (get_or ds level 0 < length (take (get_or ds level 0) ls ++ l ∷ [])))
 before-cut [] ls level l h i o = absurd (omega (arith, h))
 before-cut (p ∷ ds) ls zero l h i o =
     let n = length-append (take p ls) (l ∷ []) in
@@ -64,7 +69,8 @@ before-cut (p ∷ ds) ls (suc j) l h i o =
     let a = o (omega arith) in
     inl (take-append-le p (take q ls) (l ∷ []) (omega (arith, a, m)) ∙ take-take p q ls (omega (arith, a)))
 
-pub fixed-learned : (s t z : View) (level : ℕ) (l : Literal) → WellFormed s → level < length s.decisions → IsCut s t level → z.trail ≡ t.trail ++ l ∷ [] → z.decisions ≡ t.decisions → z.queue_head ≡ t.queue_head → KeepsFixed s z
+pub fixed-learned : (s t z : View) (level : ℕ) (l : Literal) → WellFormed s → level < length s.decisions → IsCut s t level →
+    z.trail ≡ t.trail ++ l ∷ [] → z.decisions ≡ t.decisions → z.queue_head ≡ t.queue_head → KeepsFixed s z
 fixed-learned s t z level l w h c a b d =
     let trail : z.trail ≡ take (decision_at s level) s.trail ++ l ∷ [] = a ∙ ap (λ (x : View). x.trail ++ l ∷ []) c.rest in
     let decisions : z.decisions ≡ take level s.decisions = b ∙ ap (λ (x : View). x.decisions) c.rest in
@@ -75,7 +81,8 @@ fixed-learned s t z level l w h c a b d =
     (before-cut s.decisions s.trail level l h (w.decided level h).0 (λ o. w.rising 0 level o h))
 
 -- decisions above the level are undone
-before-undone : (ds : List ℕ) (ls : List Literal) (level : ℕ) → level < length ds → (0 < level → get_or ds 0 0 < get_or ds level 0) → before_decisions (take level ds) (take (get_or ds level 0) ls) ≡ before_decisions ds ls
+before-undone : (ds : List ℕ) (ls : List Literal) (level : ℕ) → level < length ds → (0 < level → get_or ds 0 0 < get_or ds level 0) →
+    before_decisions (take level ds) (take (get_or ds level 0) ls) ≡ before_decisions ds ls
 before-undone [] ls level h o = absurd (omega (arith, h))
 before-undone (p ∷ ds) ls zero h o = refl
 before-undone (p ∷ ds) ls (suc j) h o = let a = o (omega arith) in take-take p (get_or ds j 0) ls (omega (arith, a))
@@ -84,14 +91,16 @@ fixed-undone : (s t : View) (level : ℕ) → WellFormed s → level < length s.
 fixed-undone s t level w h c = ap fixed_literals c.rest ∙ before-undone s.decisions s.trail level h (λ o. w.rising 0 level o h)
 
 -- so do a restart, and reductions, which leave the trail as it is
-pub begun-fixed : {A : Type 0} {are : List Line → Type 0} (x z : Context A) → IsReady x → BeginsStep are x z → (fixed_literals (view z) ≡ fixed_literals (view x)) × (IsUnsettled (view x) → IsUnsettled (view z))
+pub begun-fixed : {A : Type 0} {are : List Line → Type 0} (x z : Context A) → IsReady x → BeginsStep are x z →
+    (fixed_literals (view z) ≡ fixed_literals (view x)) × (IsUnsettled (view x) → IsUnsettled (view z))
 begun-fixed x z r b =
     let s = view x in
     let t = view b.begun in
     let level = x.assumptions.levels in
     let restarted : fixed_literals t ≡ fixed_literals s =
     ⊎_elim
-    (λ d. ⊎_elim (λ h. fixed-undone s t level r.well h (b.restarts.undone d h)) (λ h. ap fixed_literals (b.restarts.undecided h)) (cases_lt level (length s.decisions)))
+    (λ d. ⊎_elim (λ h. fixed-undone s t level r.well h (b.restarts.undone d h)) (λ h. ap fixed_literals (b.restarts.undecided h))
+    (cases_lt level (length s.decisions)))
     (λ n. ap fixed_literals (b.restarts.stays n))
     (due-or-not x.schedule) in
     let rest = b.reduces.assigned.rest in (
@@ -109,7 +118,8 @@ fixed-undecided s e = ap (λ (ds : List ℕ). before_decisions ds s.trail) e
 pub ready-complete : {A : Type 0} {x : Context A} → IsReady x → x.trail.queue_head ≡ length x.trail.literals → IsComplete (kept (view x)) x.trail.literals
 ready-complete {x = x} r e =
     let s = view x in
-    complete-both (literals_of s.clauses) (pairs_from 0 s.binary) s.trail (settled-complete s r.well (subst (IsSettledTo s) e r.propagated.settled)) (pairs-complete s r.well (subst (IsImpliedTo s) e r.propagated.implied))
+    complete-both (literals_of s.clauses) (pairs_from 0 s.binary) s.trail (settled-complete s r.well (subst (IsSettledTo s) e r.propagated.settled))
+    (pairs-complete s r.well (subst (IsImpliedTo s) e r.propagated.implied))
 
 -- no clause is false
 pub none-conflicting : (s : View) → WellFormed s → IsComplete (kept s) s.trail → (f : Conflict) → IsConflicting s f → ⊥
@@ -131,10 +141,13 @@ module _ (s t : View) (w : WellFormed s) (p : Propagates s t) (none : s.decision
   before x (j, a, e) = subst (λ y. y ∈ s.trail) (sym (literal-stays s t p.grows j a) ∙ e) (∈-get_or s.trail j 0 a)
 
   -- the other literals of a reason are false before
-  others : (r : Reason) → IsReason t (length s.trail) r → (m : Literal) → m ∈ implying_clause t (literal_at t (length s.trail)) r → (m ≡ literal_at t (length s.trail)) ⊎ (opposite m ∈ s.trail)
+  others : (r : Reason) → IsReason t (length s.trail) r → (m : Literal) → m ∈ implying_clause t (literal_at t (length s.trail)) r →
+      (m ≡ literal_at t (length s.trail)) ⊎ (opposite m ∈ s.trail)
   others reason.Unit h m i = absurd i
   others (reason.Binary ms) (n, e, a, b) m (inl i) = inl i
-  others (reason.Binary ms) (n, e, a, b) m (inr i) = inr (subst (λ ks. m ∈ ks → opposite m ∈ s.trail) (sym e) (λ j. ⊎_elim (λ o. before (opposite m) (subst (λ y. StandsBefore t (length s.trail) (opposite y)) (sym o) b)) (λ o. absurd o) j) i)
+  others (reason.Binary ms) (n, e, a, b) m (inr i) =
+      inr (subst (λ ks. m ∈ ks → opposite m ∈ s.trail) (sym e)
+      (λ j. ⊎_elim (λ o. before (opposite m) (subst (λ y. StandsBefore t (length s.trail) (opposite y)) (sym o) b)) (λ o. absurd o) j) i)
   others (reason.Long n) (place, implies) m i = by (clause_at t n) implies i
     where
       by : (c : Clause) → Implies t c (length s.trail) → m ∈ c → (m ≡ literal_at t (length s.trail)) ⊎ (opposite m ∈ s.trail)
@@ -197,7 +210,8 @@ fixed-propagated x t r p calm = by x.trail.decisions refl
 
     by : (ds : List ℕ) → ds ≡ x.trail.decisions → FixesNone s t
     by [] e =
-        let head : x.trail.queue_head ≡ length x.trail.literals = ⊎_elim (λ h. absurd (calm (sym e, h))) (λ h. let a = r.well.head in omega (arith, a, h)) (cases_lt x.trail.queue_head (length x.trail.literals)) in
+        let head : x.trail.queue_head ≡ length x.trail.literals = ⊎_elim (λ h. absurd (calm (sym e, h)))
+        (λ h. let a = r.well.head in omega (arith, a, h)) (cases_lt x.trail.queue_head (length x.trail.literals)) in
         let trail = still-propagated s t r.well p (sym e) (ready-complete r head) in
         let n = ap (λ (xs : List Literal). length xs) trail in
         let up = p.grows.head in (
@@ -208,7 +222,8 @@ fixed-propagated x t r p calm = by x.trail.decisions refl
         let (more, is) = p.grows.trail_more in
         let n = ap (λ (xs : List ℕ). length xs) e in
         let first = (r.well.decided 0 (omega (arith, n))).0 in (
-          ap₂ before_decisions (p.decisions ∙ sym (append-nil s.decisions)) is ∙ before-more s.decisions [] s.trail more (omega (arith, n)) (omega (arith, first)),
+          ap₂ before_decisions (p.decisions ∙ sym (append-nil s.decisions)) is
+              ∙ before-more s.decisions [] s.trail more (omega (arith, n)) (omega (arith, first)),
           λ u. let m = ap (λ (xs : List ℕ). length xs) (sym p.decisions ∙ u.0) in absurd (omega (arith, n, m)),
         )
 

@@ -42,7 +42,8 @@ module _ (f : Clause → Bool) (same : (c d : Clause) → SameSet c d → f c �
   same-filtered (c ∷ P) Q (R, t, s) =
       ⊎_elim
       (λ e. subst (λ X. SameClauses X (filter f Q)) (sym (at-true c P e)) (filter f R, takes-kept Q c R e t, same-filtered P R s))
-      (λ e. subst (λ X. SameClauses X (filter f Q)) (sym (at-false c P e)) (subst (SameClauses (filter f P)) (sym (takes-left Q c R e t)) (same-filtered P R s)))
+      (λ e. subst (λ X. SameClauses X (filter f Q)) (sym (at-false c P e))
+      (subst (SameClauses (filter f P)) (sym (takes-left Q c R e t)) (same-filtered P R s)))
       (true-or-false (f c))
 
   pub all-stay : (P : List Clause) → ((c : Clause) → c ∈ P → f c ≡ true) → filter f P ≡ P
@@ -77,7 +78,8 @@ module _ (gone : List Bool) where
   names-same : (c d : Clause) → SameSet c d → names c ≡ names d
   names-same c d s =
       ⊎_elim
-      (λ e. ⊎_elim (λ g. e ∙ sym g) (λ g. let z = none-named c (λ l h. names-none d g l (s.0 l h)) in absurd (let x : true ≡ false = sym e ∙ z in cc)) (true-or-false (names d)))
+      (λ e. ⊎_elim (λ g. e ∙ sym g) (λ g. let z = none-named c (λ l h. names-none d g l (s.0 l h)) in
+      absurd (let x : true ≡ false = sym e ∙ z in cc)) (true-or-false (names d)))
       (λ e. e ∙ sym (none-named d (λ l h. names-none c e l (s.1 l h))))
       (true-or-false (names c))
 

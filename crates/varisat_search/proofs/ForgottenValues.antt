@@ -24,30 +24,36 @@ cleared-none [] x ys = refl
 cleared-none (g ∷ gone) x ys = refl
 
 pub values-none : (a : Values) (gone : List Bool) → a ≡ forgotten_values (take 0 gone) a
-values-none a gone = ap₂ (λ (x : List (Option Bool)) (y : List Bool). record { current = x; last = y }) (cleared-none gone None a.current) (cleared-none gone false a.last)
+values-none a gone = ap₂ (λ (x : List (Option Bool)) (y : List Bool). record { current = x; last = y }) (cleared-none gone None a.current)
+    (cleared-none gone false a.last)
 
-pub values-on : (a b : Values) (gone : List Bool) (k : ℕ) → leaves gone k ≡ true → b ≡ forgotten_values (take k gone) a → record { current = set b.current k None; last = set b.last k false } ≡ forgotten_values (take (k + 1) gone) a
+pub values-on : (a b : Values) (gone : List Bool) (k : ℕ) → leaves gone k ≡ true → b ≡ forgotten_values (take k gone) a →
+    record { current = set b.current k None; last = set b.last k false } ≡ forgotten_values (take (k + 1) gone) a
 values-on a b gone k h e =
     ap (λ (x : Values). record { current = set x.current k None; last = set x.last k false }) e
     ∙ ap₂ (λ (x : List (Option Bool)) (y : List Bool). record { current = x; last = y })
     (cleared-on gone None a.current k h ∙ cleared-next gone None a.current k) (cleared-on gone false a.last k h ∙ cleared-next gone false a.last k)
 
-pub values-off : (a b : Values) (gone : List Bool) (k : ℕ) → leaves gone k ≡ false → b ≡ forgotten_values (take k gone) a → b ≡ forgotten_values (take (k + 1) gone) a
+pub values-off : (a b : Values) (gone : List Bool) (k : ℕ) → leaves gone k ≡ false → b ≡ forgotten_values (take k gone) a →
+    b ≡ forgotten_values (take (k + 1) gone) a
 values-off a b gone k h e =
     e ∙ ap₂ (λ (x : List (Option Bool)) (y : List Bool). record { current = x; last = y })
     (cleared-off gone None a.current k h ∙ cleared-next gone None a.current k) (cleared-off gone false a.last k h ∙ cleared-next gone false a.last k)
 
 -- their activities
 pub activities-none : (a : Activities) (gone : List Bool) → a ≡ forgotten_activities (take 0 gone) a
-activities-none a gone = ap₂ (λ (x : List ℕ) (y : List Bool). record a { activity = x; available = y }) (cleared-none gone 0 a.activity) (cleared-none gone false a.available)
+activities-none a gone = ap₂ (λ (x : List ℕ) (y : List Bool). record a { activity = x; available = y }) (cleared-none gone 0 a.activity)
+    (cleared-none gone false a.available)
 
-pub activities-on : (a b : Activities) (gone : List Bool) (k : ℕ) → leaves gone k ≡ true → b ≡ forgotten_activities (take k gone) a → record b { activity = set b.activity k 0; available = set b.available k false } ≡ forgotten_activities (take (k + 1) gone) a
+pub activities-on : (a b : Activities) (gone : List Bool) (k : ℕ) → leaves gone k ≡ true → b ≡ forgotten_activities (take k gone) a →
+    record b { activity = set b.activity k 0; available = set b.available k false } ≡ forgotten_activities (take (k + 1) gone) a
 activities-on a b gone k h e =
     ap (λ (x : Activities). record x { activity = set x.activity k 0; available = set x.available k false }) e
     ∙ ap₂ (λ (x : List ℕ) (y : List Bool). record a { activity = x; available = y })
     (cleared-on gone 0 a.activity k h ∙ cleared-next gone 0 a.activity k) (cleared-on gone false a.available k h ∙ cleared-next gone false a.available k)
 
-pub activities-off : (a b : Activities) (gone : List Bool) (k : ℕ) → leaves gone k ≡ false → b ≡ forgotten_activities (take k gone) a → b ≡ forgotten_activities (take (k + 1) gone) a
+pub activities-off : (a b : Activities) (gone : List Bool) (k : ℕ) → leaves gone k ≡ false → b ≡ forgotten_activities (take k gone) a →
+    b ≡ forgotten_activities (take (k + 1) gone) a
 activities-off a b gone k h e =
     e ∙ ap₂ (λ (x : List ℕ) (y : List Bool). record a { activity = x; available = y })
     (cleared-off gone 0 a.activity k h ∙ cleared-next gone 0 a.activity k) (cleared-off gone false a.available k h ∙ cleared-next gone false a.available k)

@@ -42,12 +42,14 @@ pub record NumberedTo (ls : List Literal) (k : ℕ) (old new : List ImplNode) : 
 pub numbered-none : (ls : List Literal) (ns : List ImplNode) → NumberedTo ls 0 ns ns
 numbered-none ls ns = record { count = refl; depths = λ j h. absurd (omega (arith, h)); rest = λ v. refl }
 
-other-variable : (ls : List Literal) → IsDistinct (map variable_of ls) → (j k : ℕ) → j < k → k < length ls → variable_of (get_or ls j 0) ≢ variable_of (get_or ls k 0)
+other-variable : (ls : List Literal) → IsDistinct (map variable_of ls) → (j k : ℕ) → j < k → k < length ls →
+    variable_of (get_or ls j 0) ≢ variable_of (get_or ls k 0)
 other-variable ls d j k a b e =
     distinct-places (map variable_of ls) 0 d j k a (let n = length-map ls variable_of in omega (arith, b, n))
     (get_or-map variable_of ls j 0 0 (omega (arith, a, b)) ∙ e ∙ sym (get_or-map variable_of ls k 0 0 b))
 
-module _ (ls : List Literal) (k v : ℕ) (old new : List ImplNode) (b : k < length ls) (e : v ≡ variable_of (get_or ls k 0)) (inside : v < length old) (d : IsDistinct (map variable_of ls)) (n : NumberedTo ls k old new) where
+module _ (ls : List Literal) (k v : ℕ) (old new : List ImplNode) (b : k < length ls) (e : v ≡ variable_of (get_or ls k 0)) (inside : v < length old)
+    (d : IsDistinct (map variable_of ls)) (n : NumberedTo ls k old new) where
   abbrev next : List ImplNode
   next = set new v (record (get_or new v no_node) { depth = k + 1 })
 
@@ -92,7 +94,8 @@ mapped-less : (p : Literal → Bool) (ls : List Literal) (x : ℕ) → x ∈ map
 mapped-less p [] x h = h
 mapped-less p (l ∷ ls) x h = go (p l) h (mapped-less p ls x)
   where
-    go : (b : Bool) → x ∈ map variable_of (cond b (l ∷ filter p ls) (filter p ls)) → (x ∈ map variable_of (filter p ls) → x ∈ map variable_of ls) → x ∈ map variable_of (l ∷ ls)
+    go : (b : Bool) → x ∈ map variable_of (cond b (l ∷ filter p ls) (filter p ls)) → (x ∈ map variable_of (filter p ls) → x ∈ map variable_of ls) →
+        x ∈ map variable_of (l ∷ ls)
     go true (inl e) f = inl e
     go true (inr i) f = inr (f i)
     go false i f = inr (f i)
@@ -143,8 +146,10 @@ module _ (gone : List Bool) (s t : View) (a : Activities) (e : t.values ≡ clea
   pub without-can : CanDecide s a → kept t ≡ kept s → ((c : Clause) → c ∈ kept s → AreStaying gone c) → CanDecide t (forgotten_activities gone a)
   without-can d k u = record {
     entries = record {
-      activity = cleared-length gone 0 a.activity ∙ d.entries.activity ∙ sym (ap (λ (xs : List (Option Bool)). length xs) e ∙ cleared-length gone None s.values);
-      available = cleared-length gone false a.available ∙ d.entries.available ∙ sym (ap (λ (xs : List (Option Bool)). length xs) e ∙ cleared-length gone None s.values);
+      activity = cleared-length gone 0 a.activity ∙ d.entries.activity
+          ∙ sym (ap (λ (xs : List (Option Bool)). length xs) e ∙ cleared-length gone None s.values);
+      available = cleared-length gone false a.available ∙ d.entries.available
+          ∙ sym (ap (λ (xs : List (Option Bool)). length xs) e ∙ cleared-length gone None s.values);
     };
     decidable = λ c i l j. let h = subst (λ cs. c ∈ cs) k i in stays-decidable (variable_of l) (d.decidable c h l j) (u c h l j);
   }
@@ -160,7 +165,8 @@ module _ (gone : List Bool) (s t : View) (w : WellFormed s) (d : IsSettledDown s
   node-rest : (l : Literal) → node_of u l ≡ record (node_of s l) { depth = (node_of u l).depth }
   node-rest l = p.nodes.rest (variable_of l)
 
-  was-at : (k : ℕ) → k < length u.trail → (j : ℕ) × (j < length s.trail) × (literal_at s j ≡ literal_at u k) × (leaves gone (variable_of (literal_at u k)) ≡ false)
+  was-at : (k : ℕ) → k < length u.trail → (j : ℕ) × (j < length s.trail) × (literal_at s j ≡ literal_at u k)
+      × (leaves gone (variable_of (literal_at u k)) ≡ false)
   was-at k h =
       let (i, e) = staying-was gone s.trail (literal_at u k) (∈-get_or u.trail k 0 h) in
       let (j, a, f) = place_in (literal_at u k) s.trail 0 i in
@@ -267,7 +273,8 @@ module _ (gone : List Bool) (s t : View) (w : WellFormed s) (d : IsSettledDown s
   same-filter f g h [] = refl
   same-filter f g h (l ∷ ls) = ap₂ (λ b xs. cond b (l ∷ xs) xs) (h l) (same-filter f g h ls)
 
-  moved-in : (f : Literal → Bool) (b : Bool) (l : Literal) (ls : List Literal) → filter f (cond b (l ∷ ls) ls) ≡ cond b (cond (f l) (l ∷ filter f ls) (filter f ls)) (filter f ls)
+  moved-in : (f : Literal → Bool) (b : Bool) (l : Literal) (ls : List Literal) →
+      filter f (cond b (l ∷ ls) ls) ≡ cond b (cond (f l) (l ∷ filter f ls) (filter f ls)) (filter f ls)
   moved-in f true l ls = refl
   moved-in f false l ls = refl
 
@@ -297,17 +304,29 @@ module _ (gone : List Bool) (s t : View) (w : WellFormed s) (d : IsSettledDown s
   pub without-seen : search_of t ≡ search_without gone (search_of s)
   without-seen =
       ap search_of p.rest
-      ∙ ap₂ (λ xs ys. record (search_of s) { fixed = xs; proved = ys }) (staying-same (is_fixed u) (is_fixed s) fixed-same) (staying-same (is_proved u) (is_proved s) proved-same)
+      ∙ ap₂ (λ xs ys. record (search_of s) { fixed = xs; proved = ys }) (staying-same (is_fixed u) (is_fixed s) fixed-same)
+      (staying-same (is_proved u) (is_proved s) proved-same)
 
 -- 5. The search is ready again.
-pub without-view : {A : Type 0} (x z : Context A) (gone : List Bool) (ls : List Literal) (removed : ℕ) → z.trail ≡ record x.trail { literals = staying gone x.trail.literals; queue_head = length (staying gone x.trail.literals); units_removed = removed } → z.assignment ≡ forgotten_values gone x.assignment → ls ≡ z.trail.literals → AreRenumbered ls x.impl_graph.nodes.items z.impl_graph.nodes.items → z ≡ record x { assignment = z.assignment; impl_graph = z.impl_graph; trail = z.trail; vsids = z.vsids } → IsWithout gone (view x) (view z)
+pub without-view : {A : Type 0} (x z : Context A) (gone : List Bool) (ls : List Literal) (removed : ℕ) →
+    z.trail ≡ record x.trail {
+      literals = staying gone x.trail.literals;
+      queue_head = length (staying gone x.trail.literals);
+      units_removed =
+          removed;
+    } → z.assignment ≡ forgotten_values gone x.assignment → ls ≡ z.trail.literals →
+    AreRenumbered ls x.impl_graph.nodes.items z.impl_graph.nodes.items →
+    z ≡ record x { assignment = z.assignment; impl_graph = z.impl_graph; trail = z.trail; vsids = z.vsids } → IsWithout gone (view x) (view z)
 without-view {A} x z gone ls removed f e l n k = record {
   nodes = subst (λ ms. AreRenumbered ms x.impl_graph.nodes.items z.impl_graph.nodes.items) (l ∙ ap (λ (t : TrailParts). t.literals) f) n;
   rest = ap (λ (y : Context A). view y) k
-      ∙ ap₂ (λ (a : Values) (t : TrailParts). record (view x) { values = a.current; trail = t.literals; queue_head = t.queue_head; decisions = t.decisions; nodes = z.impl_graph.nodes.items }) e f;
+      ∙ ap₂ (λ (a : Values) (t : TrailParts). record (view x)
+      { values = a.current; trail = t.literals; queue_head = t.queue_head; decisions = t.decisions; nodes = z.impl_graph.nodes.items }) e f;
 }
 
-pub without-ready : {A : Type 0} (x z : Context A) (gone : List Bool) → IsReady x → IsSettledDown (view x) → IsWithout gone (view x) (view z) → ((c : Clause) → c ∈ kept (view x) → AreStaying gone c) → AreStaying gone x.assumptions.working → z.vsids ≡ forgotten_activities gone x.vsids → z ≡ record x { assignment = z.assignment; impl_graph = z.impl_graph; trail = z.trail; vsids = z.vsids } → IsReady z
+pub without-ready : {A : Type 0} (x z : Context A) (gone : List Bool) → IsReady x → IsSettledDown (view x) → IsWithout gone (view x) (view z) →
+    ((c : Clause) → c ∈ kept (view x) → AreStaying gone c) → AreStaying gone x.assumptions.working → z.vsids ≡ forgotten_activities gone x.vsids →
+    z ≡ record x { assignment = z.assignment; impl_graph = z.impl_graph; trail = z.trail; vsids = z.vsids } → IsReady z
 without-ready {A} x z gone r d p unmentioned unassumed v k =
     let s = view x in
     let t = view z in
@@ -317,11 +336,14 @@ without-ready {A} x z gone r d p unmentioned unassumed v k =
     record {
       well = without-well gone s t r.well d p;
       settled = without-settled gone s t r.well d p;
-      propagated = subst (λ W. IsPropagated W t) (sym (ap (λ (y : Context A). y.watchlists) k)) (without-propagated gone s t r.well d p x.watchlists r.propagated);
+      propagated = subst (λ W. IsPropagated W t) (sym (ap (λ (y : Context A). y.watchlists) k))
+          (without-propagated gone s t r.well d p x.watchlists r.propagated);
       tracks = subst (λ (y : Context A). Tracks y.clause_db y.clause_alloc) (sym k) r.tracks;
       analysis = ap (λ (y : Context A). y.analyze_conflict.var_count) k ∙ r.analysis ∙ sym count;
       flags = ap (λ (y : Context A). y.tmp_flags.flags.items) k ∙ r.flags ∙ ap (λ n. replicate (2 * n) false) (sym count);
       decidable = subst (CanDecide t) (sym v) (without-can gone s t x.vsids values r.decidable (ap kept p.rest) unmentioned);
       assumed = subst (HasAssumptions t) (sym same) (without-assumed gone s t r.well d p x.assumptions r.assumed);
-      assumable = subst (λ (q : AssumptionParts). AreDecidable t z.vsids q.working) (sym same) (subst (λ b. AreDecidable t b x.assumptions.working) (sym v) (λ l i. stays-decidable gone s t x.vsids values (variable_of l) (r.assumable l i) (unassumed l i)));
+      assumable = subst (λ (q : AssumptionParts). AreDecidable t z.vsids q.working) (sym same)
+          (subst (λ b. AreDecidable t b x.assumptions.working) (sym v)
+          (λ l i. stays-decidable gone s t x.vsids values (variable_of l) (r.assumable l i) (unassumed l i)));
     }

@@ -53,7 +53,8 @@ module _ (s t : View) (w : WellFormed s) (d : ChangesHeaders s t) where
     empty = p.empty;
     settled = λ i j q a b c e.
         let f = headers-at s.clauses js d.clauses i in
-        subst (λ x. IsCovered s x q) (sym f) (p.settled i j q (headers-place js s.clauses i (sym d.clauses) a) b c (subst (λ x. literal_at s q ≡ opposite (literal_in x j)) f e));
+        subst (λ x. IsCovered s x q) (sym f)
+        (p.settled i j q (headers-place js s.clauses i (sym d.clauses) a) b c (subst (λ x. literal_at s q ≡ opposite (literal_in x j)) f e));
     binary = p.binary;
     implied = p.implied;
     queue = p.queue;
@@ -61,7 +62,8 @@ module _ (s t : View) (w : WellFormed s) (d : ChangesHeaders s t) where
 
   -- a proof sees nothing of it
   pub header-seen : search_of t ≡ search_of s
-  header-seen = ap search_of d.rest ∙ ap (λ ks. record (search_of s) { kept = ks ++ map kept_pair (pairs_from 0 s.binary) }) (headers-kept s.clauses js d.clauses)
+  header-seen = ap search_of d.rest ∙ ap (λ ks. record (search_of s) { kept = ks ++ map kept_pair (pairs_from 0 s.binary) })
+      (headers-kept s.clauses js d.clauses)
 
   pub header-kinds : kinds t ≡ kinds s
   header-kinds = ap kinds d.rest

@@ -33,7 +33,8 @@ keeps-then old mid new a b = record {
 pub given-keeps : (old new : Tables) (u x : ℕ) → at old.users.forward u ≡ None → IsGiven old new u x → KeepsNames old new
 given-keeps old new u x free g = record {
   solvers = g.solvers;
-  named = λ v y h. g.users.forward.at_each v ∙ updated-other (at old.users.forward) u (Some x) v (λ q. let z : None ≡ Some y = sym free ∙ ap (at old.users.forward) (sym q) ∙ h in cc) ∙ h;
+  named = λ v y h. g.users.forward.at_each v ∙ updated-other (at old.users.forward) u (Some x) v
+      (λ q. let z : None ≡ Some y = sym free ∙ ap (at old.users.forward) (sym q) ∙ h in cc) ∙ h;
   back = λ y v h d. g.users.backward.at_each y ∙ updated-other (at old.users.backward) x (Some u) y (apart y d) ∙ h;
   live = λ y d. g.kept.at_each y ∙ updated-other (kept_at old.kept) x fresh y (apart y d);
 }
@@ -44,7 +45,8 @@ given-keeps old new u x free g = record {
 pub next-keeps : (k : ℕ) (old new : Tables) → AreNextGiven k old new → KeepsNames old new
 next-keeps zero old new e = keeps-none old new e
 next-keeps (suc k) old new (mid, x, g, rest) =
-    keeps-then old mid new (given-keeps old mid (length old.users.forward) x (at-past old.users.forward (length old.users.forward) (omega arith)) g) (next-keeps k mid new rest)
+    keeps-then old mid new (given-keeps old mid (length old.users.forward) x (at-past old.users.forward (length old.users.forward) (omega arith)) g)
+    (next-keeps k mid new rest)
 
 pub one-keeps : (u : ℕ) (old new : Tables) → IsNamed u old new → KeepsNames old new
 one-keeps u old new (InUse x e same) = keeps-none old new same

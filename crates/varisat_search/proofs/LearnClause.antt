@@ -65,11 +65,14 @@ map-get f (x ∷ xs) zero e h = refl
 map-get f (x ∷ xs) (suc i) e h = map-get f xs i e (omega (arith, h))
 
 -- the level of a second literal is below the present one, and the highest of the others
-pub second-level : (s : View) (others : Clause) (level d : ℕ) → IsLevelOf s others level → ((m : Literal) → m ∈ others → level_of s m < d) → 0 < d → (level < d) × ((m : Literal) → m ∈ others → level_of s m ≤ level)
+pub second-level : (s : View) (others : Clause) (level d : ℕ) → IsLevelOf s others level → ((m : Literal) → m ∈ others → level_of s m < d) → 0 < d →
+    (level < d) × ((m : Literal) → m ∈ others → level_of s m ≤ level)
 second-level s [] level d e l h = (omega (arith, e, h), λ m i. absurd i)
-second-level s (m ∷ others) level d (e, f) l h = (let a = l m (inl refl) in omega (arith, e, a), λ n i. ⊎_elim (λ g. let b = ap (level_of s) g in omega (arith, b, e)) (f n) i)
+second-level s (m ∷ others) level d (e, f) l h =
+    (let a = l m (inl refl) in omega (arith, e, a), λ n i. ⊎_elim (λ g. let b = ap (level_of s) g in omega (arith, b, e)) (f n) i)
 
-module _ (s t : View) (i : Conflict) (level : ℕ) (c : Clause) (w : WellFormed s) (v : LevelsSettled s) (l : IsAsserting s i c level) (deep : 0 < length s.decisions) (ct : IsCut s t level) where
+module _ (s t : View) (i : Conflict) (level : ℕ) (c : Clause) (w : WellFormed s) (v : LevelsSettled s) (l : IsAsserting s i c level)
+    (deep : 0 < length s.decisions) (ct : IsCut s t level) where
   abbrev first : Literal
   first = l.first
 
@@ -106,7 +109,8 @@ module _ (s t : View) (i : Conflict) (level : ℕ) (c : Clause) (w : WellFormed 
   first-free = ct.gone (variable_of first) first-leaves
 
   pub first-inside : variable_of first < length t.values
-  first-inside = let a = made-inside s.values (opposite first) (false-in first (inl refl)) in let e = variable-opposite first in let n = ct.count in omega (arith, a, e, n)
+  first-inside = let a = made-inside s.values (opposite first) (false-in first (inl refl)) in let e = variable-opposite first in let n = ct.count in
+      omega (arith, a, e, n)
 
   -- the others stay false
   other-place : (m : Literal) → m ∈ l.others → (k : ℕ) × (k < end) × (k < length s.trail) × (literal_at s k ≡ opposite m)
@@ -118,13 +122,16 @@ module _ (s t : View) (i : Conflict) (level : ℕ) (c : Clause) (w : WellFormed 
       (k, w.levels_up k level a level-below (omega (arith, g, d, f)), a, e)
 
   pub other-false : (m : Literal) → m ∈ l.others → IsTrueIn t (opposite m)
-  other-false m h = let (k, a, b, e) = other-place m h in subst (λ (x : View). IsTrueIn x (opposite m)) (sym ct.rest) (subst (λ x. IsTrueIn (record s { values = t.values; trail = take end s.trail; queue_head = end; decisions = take level s.decisions }) x) e (still s t level w level-below ct k a))
+  other-false m h = let (k, a, b, e) = other-place m h in subst (λ (x : View). IsTrueIn x (opposite m)) (sym ct.rest)
+      (subst (λ x. IsTrueIn (record s { values = t.values; trail = take end s.trail; queue_head = end; decisions = take level s.decisions }) x) e
+      (still s t level w level-below ct k a))
 
   -- no held clause is a part of it
   pub no-part : (held : List Clause) → ViewFits held s → (d : Clause) → d ∈ held → d ⊆ c → ⊥
   no-part held f d h k =
       let part : (e : Clause) → e ∈ kept s → e ⊆ (first ∷ l.others) → ⊥ = learned_is_new (kept s) (take end s.trail) first l.others (v level level-below)
-      (λ q. let (j, a, b, e) = place_in_take first s.trail end 0 q in made-clash s.values first (subst (IsTrueIn s) e (w.is_true j b)) (false-in first (inl refl)))
+      (λ q. let (j, a, b, e) = place_in_take first s.trail end 0 q in
+      made-clash s.values first (subst (IsTrueIn s) e (w.is_true j b)) (false-in first (inl refl)))
       (λ m q. let (j, a, b, e) = other-place m q in subst (λ x. x ∈ take end s.trail) e (take-∈ end s.trail j a b)) in
       let k' : d ⊆ (first ∷ l.others) = λ m q. subst (λ x. m ∈ x) l.split (k m q) in
       ⊎_elim
@@ -167,13 +174,17 @@ module _ (s t : View) (i : Conflict) (level : ℕ) (c : Clause) (w : WellFormed 
       omega (arith, r, left, right)
 
 -- one more flag for one more literal
-pub kinds-enqueued : (t : View) (l : Literal) (r : Reason) (w : WellFormed t) → variable_of l < length t.values → get_or t.values (variable_of l) None ≡ None → kinds (enqueued t l r) ≡ kinds t ++ is_implied (record { reason = r; level = length t.decisions; depth = suc (length t.trail) }) ∷ []
+pub kinds-enqueued : (t : View) (l : Literal) (r : Reason) (w : WellFormed t) → variable_of l < length t.values →
+    get_or t.values (variable_of l) None ≡ None → kinds (enqueued t l r) ≡ kinds t ++ is_implied
+    (record { reason = r; level = length t.decisions; depth = suc (length t.trail) }) ∷ []
 kinds-enqueued t l r w inside free =
     let z = enqueued t l r in
     let f : ℕ → Bool = λ x. is_implied (node_of z x) in
     let g : ℕ → Bool = λ x. is_implied (node_of t x) in
-    let same : map f t.trail ≡ map g t.trail = map-equal f g t.trail (λ k h. ap is_implied (ap (node_of z) (sym (literal-old t l r t.decisions w inside free k h)) ∙ node-old t l r t.decisions w inside free k h)) in
-    let new : f l ≡ is_implied (record { reason = r; level = length t.decisions; depth = suc (length t.trail) }) = ap is_implied (ap (node_of z) (sym (literal-new t l r t.decisions w inside free)) ∙ node-new t l r t.decisions w inside free) in
+    let same : map f t.trail ≡ map g t.trail = map-equal f g t.trail
+    (λ k h. ap is_implied (ap (node_of z) (sym (literal-old t l r t.decisions w inside free k h)) ∙ node-old t l r t.decisions w inside free k h)) in
+    let new : f l ≡ is_implied (record { reason = r; level = length t.decisions; depth = suc (length t.trail) }) =
+    ap is_implied (ap (node_of z) (sym (literal-new t l r t.decisions w inside free)) ∙ node-new t l r t.decisions w inside free) in
     map-append f t.trail (l ∷ []) ∙ ap (λ y. y ++ f l ∷ []) same ∙ ap (λ y. map g t.trail ++ y ∷ []) new
   where
     map-equal : (f g : ℕ → Bool) (xs : List ℕ) → ((k : ℕ) → k < length xs → f (get_or xs k 0) ≡ g (get_or xs k 0)) → map f xs ≡ map g xs
@@ -181,7 +192,9 @@ kinds-enqueued t l r w inside free =
     map-equal f g (x ∷ xs) h = let e = h zero (omega arith) in let d = map-equal f g xs (λ k l. h (suc k) (omega (arith, l))) in cc
 
 -- a clause of three literals or more joins the store as Local
-pub stored-learned : (s n : Store) (B : List (List Literal)) (c : Clause) (p : ℕ) (h : Header) → 3 ≤ length c → is_tier h.tier tier.Irred ≡ false → h.deleted ≡ false → AddsStored s n (learned_at p h c) → IsKeptAsReason (record { clauses = live_clauses s; binary = B }) (record { clauses = live_clauses n; binary = B }) c (reason.Long p)
+pub stored-learned : (s n : Store) (B : List (List Literal)) (c : Clause) (p : ℕ) (h : Header) → 3 ≤ length c → is_tier h.tier tier.Irred ≡ false →
+    h.deleted ≡ false → AddsStored s n (learned_at p h c) → IsKeptAsReason (record { clauses = live_clauses s; binary = B })
+    (record { clauses = live_clauses n; binary = B }) c (reason.Long p)
 stored-learned s n B [] p h l e d a = absurd (omega (arith, l))
 stored-learned s n B (x ∷ []) p h l e d a = absurd (omega (arith, l))
 stored-learned s n B (x ∷ y ∷ []) p h l e d a = absurd (omega (arith, l))
@@ -208,7 +221,8 @@ pub record Joins (t : View) (k : Keeping) (c : Clause) (l : Literal) (r : Reason
 
 -- completeness reads clauses as sets
 pub complete-same : (P Q : List Clause) (known : List Literal) → SameClauses P Q → IsComplete P known → IsComplete Q known
-complete-same P Q known a = complete_shorter P Q known (λ d h. let (c, i, e) = same_clauses_find Q P (same_clauses-back P Q a) d h in (c, i, e.1, λ m k. inl (e.0 m k)))
+complete-same P Q known a = complete_shorter P Q known
+    (λ d h. let (c, i, e) = same_clauses_find Q P (same_clauses-back P Q a) d h in (c, i, e.1, λ m k. inl (e.0 m k)))
 
 pub record Result (s z : View) : Type 0 where
   pub well : WellFormed z
@@ -216,7 +230,8 @@ pub record Result (s z : View) : Type 0 where
   pub rises : (n : ℕ) → length s.trail ≤ n → rank n (kinds s) < rank n (kinds z)
   pub count : length z.values ≡ length s.values
 
-module _ (s t : View) (i : Conflict) (level : ℕ) (c : Clause) (w : WellFormed s) (v : LevelsSettled s) (l : IsAsserting s i c level) (deep : 0 < length s.decisions) (ct : IsCut s t level) where
+module _ (s t : View) (i : Conflict) (level : ℕ) (c : Clause) (w : WellFormed s) (v : LevelsSettled s) (l : IsAsserting s i c level)
+    (deep : 0 < length s.decisions) (ct : IsCut s t level) where
   below : level < length s.decisions
   below = level-below s t i level c w v l deep ct
 
@@ -241,7 +256,8 @@ module _ (s t : View) (i : Conflict) (level : ℕ) (c : Clause) (w : WellFormed 
       let zero-level : level ≡ 0 = subst (λ o. IsLevelOf s o level) e l.second in
       let none : t.decisions ≡ [] = ap (λ (x : View). x.decisions) ct.rest ∙ ap (λ n. take n s.decisions) zero-level in
       let z = enqueued t l.first reason.Unit in
-      let implied : kinds z ≡ kinds t ++ true ∷ [] = kinds-enqueued t l.first reason.Unit wt inside free ∙ ap (λ (xs : List ℕ). kinds t ++ nat_eq (length xs) 0 ∷ []) none in
+      let implied : kinds z ≡ kinds t ++ true ∷ [] = kinds-enqueued t l.first reason.Unit wt inside free
+      ∙ ap (λ (xs : List ℕ). kinds t ++ nat_eq (length xs) 0 ∷ []) none in
       record {
         well = enqueued-well t l.first reason.Unit wt inside free none;
         settled = λ j h. let n = ap (λ (x : List ℕ). length x) none in absurd (omega (arith, h, n));
@@ -263,7 +279,8 @@ module _ (s t : View) (i : Conflict) (level : ℕ) (c : Clause) (w : WellFormed 
   other-unknown m j e h q =
       let (k, a, b, f) = place_in_take (opposite m) t.trail (decision_at t j) 0 q in
       let r = wt.levels_down k j b h a in
-      let same : level_of t (opposite m) ≡ level_of s m = ap (λ (x : View). level_of x (opposite m)) ct.rest ∙ ap (λ x. (get_or s.nodes x (record { reason = reason.Unit; level = 0; depth = 0 })).level) (variable-opposite m) in
+      let same : level_of t (opposite m) ≡ level_of s m = ap (λ (x : View). level_of x (opposite m)) ct.rest
+      ∙ ap (λ x. (get_or s.nodes x (record { reason = reason.Unit; level = 0; depth = 0 })).level) (variable-opposite m) in
       let g = ap (level_of t) f in
       let d = ap (λ (x : View). length x.decisions) ct.rest in
       let n = level-length s t level w below ct in
@@ -271,12 +288,15 @@ module _ (s t : View) (i : Conflict) (level : ℕ) (c : Clause) (w : WellFormed 
 
   -- its second literal was propagated at no level below the present one, and its first one not at all
   first-late : (p : ℕ) → p < t.queue_head → literal_at t p ≢ opposite l.first
-  first-late p q e = let o = wt.head in none-made t.values l.first (opposite l.first) free (variable-opposite l.first) (subst (IsTrueIn t) e (wt.is_true p (omega (arith, q, o))))
+  first-late p q e = let o = wt.head in none-made t.values l.first (opposite l.first) free (variable-opposite l.first)
+      (subst (IsTrueIn t) e (wt.is_true p (omega (arith, q, o))))
 
-  second-late : (m : Literal) → level_of s m ≡ level → (p : ℕ) → p < t.queue_head → literal_at t p ≡ opposite m → (k : ℕ) → k < length t.decisions → decision_at t k ≤ p
+  second-late : (m : Literal) → level_of s m ≡ level → (p : ℕ) → p < t.queue_head → literal_at t p ≡ opposite m → (k : ℕ) → k < length t.decisions →
+      decision_at t k ≤ p
   second-late m second p q e k h =
       let o = wt.head in
-      let same : level_of t (opposite m) ≡ level_of s m = ap (λ (x : View). level_of x (opposite m)) ct.rest ∙ ap (λ x. (get_or s.nodes x (record { reason = reason.Unit; level = 0; depth = 0 })).level) (variable-opposite m) in
+      let same : level_of t (opposite m) ≡ level_of s m = ap (λ (x : View). level_of x (opposite m)) ct.rest
+      ∙ ap (λ x. (get_or s.nodes x (record { reason = reason.Unit; level = 0; depth = 0 })).level) (variable-opposite m) in
       let g = ap (level_of t) e in
       let d = ap (λ (x : View). length x.decisions) ct.rest in
       let n = level-length s t level w below ct in
@@ -330,23 +350,31 @@ module _ (s t : View) (i : Conflict) (level : ℕ) (c : Clause) (w : WellFormed 
                 well = well-pair t l.first m first-listed second-listed apart wt inside (in-whole m (inr (inl refl)));
                 implies = (m, refl, (adds-pair t.binary l.first m first-listed second-listed).second, second-false);
                 clause = refl;
-                same = pair-same t (record t { binary = with_pair t.binary l.first m }) l.first m (learned d) first-listed second-listed apart (two f) refl refl;
-                seen = pair-seen t (record t { binary = with_pair t.binary l.first m }) l.first m (learned d) first-listed second-listed apart (two f) refl refl;
+                same = pair-same t (record t { binary = with_pair t.binary l.first m }) l.first m (learned d) first-listed second-listed apart
+                    (two f) refl refl;
+                seen = pair-seen t (record t { binary = with_pair t.binary l.first m }) l.first m (learned d) first-listed second-listed apart
+                    (two f) refl refl;
               }))
           go (n ∷ ns) f K r (b, (q, header, redundant, k, h)) =
               let j = learned_at q header d in
               let k' : K.clauses ≡ t.clauses ++ j ∷ [] = k.0 ∙ ap (λ o. t.clauses ++ learned_at q header (l.first ∷ m ∷ o) ∷ []) (sym f) in
               let long : record K { clauses = K.clauses } ≡ record K { clauses = t.clauses ++ j ∷ [] } = ap (λ ks. record K { clauses = ks }) k' in
-              let is : K ≡ record { clauses = t.clauses ++ j ∷ []; binary = t.binary } = long ∙ ap (λ B. record { clauses = t.clauses ++ j ∷ []; binary = B }) b in
+              let is : K ≡ record { clauses = t.clauses ++ j ∷ []; binary = t.binary } = long
+              ∙ ap (λ B. record { clauses = t.clauses ++ j ∷ []; binary = B }) b in
               subst (λ X. Joins t X d l.first r) (sym is)
               (subst (Joins t (record { clauses = t.clauses ++ j ∷ []; binary = t.binary }) d l.first) (sym h)
               (record {
                 well = kept-well t j k.1 wt in-whole (omega arith) distinct;
-                implies = (place-last t.clauses j, (m ∷ ms, kept-last t j k.1 wt, λ x i'. other-false s t i level c w v l deep ct x (subst (λ o. x ∈ o) (sym e) i')));
+                implies = (
+                  place-last t.clauses j,
+                  (m ∷ ms, kept-last t j k.1 wt, λ x i'. other-false s t i level c w v l deep ct x (subst (λ o. x ∈ o) (sym e) i')),
+                );
                 clause = refl;
                 same = long-same t (record t { clauses = t.clauses ++ j ∷ [] }) j refl refl;
-                seen = subst (λ (x : KeptClause). (i : KeptClause) → i ∈ ((search_of t).kept ++ x ∷ []) → i.learned ≡ false → StandsIn (search_of (record t { clauses = t.clauses ++ j ∷ [] })).kept i)
-                    (ap (λ (u : Bool). record { clause = d; learned = not u }) redundant) (long-seen t (record t { clauses = t.clauses ++ j ∷ [] }) j refl refl);
+                seen = subst (λ (x : KeptClause). (i : KeptClause) → i ∈ ((search_of t).kept ++ x ∷ []) → i.learned ≡ false →
+                    StandsIn (search_of (record t { clauses = t.clauses ++ j ∷ [] })).kept i)
+                    (ap (λ (u : Bool). record { clause = d; learned = not u }) redundant)
+                    (long-seen t (record t { clauses = t.clauses ++ j ∷ [] }) j refl refl);
               }))
 
       pub kept-result : (K : Keeping) (r : Reason) → IsKeptAsReason (keeping_of t) K d r → Result s (enqueued (keeping t K) l.first r)
@@ -361,15 +389,18 @@ module _ (s t : View) (i : Conflict) (level : ℕ) (c : Clause) (w : WellFormed 
                 subst (λ x. IsComplete (kept t') x) (sym (take-append-le (decision_at t j') t.trail (l.first ∷ []) le))
                 (complete-same (kept t ++ d ∷ []) (kept t') (take (decision_at t j') t.trail) j.same
                 (complete_added (kept t) (take (decision_at t j') t.trail) d l.first m (inl refl) (inr (inl refl)) apart
-                (λ q. let (x, y, o, f) = place_in_take (opposite l.first) t.trail (decision_at t j') 0 q in none-made t.values l.first (opposite l.first) free (variable-opposite l.first) (subst (IsTrueIn t) f (wt.is_true x o)))
+                (λ q. let (x, y, o, f) = place_in_take (opposite l.first) t.trail (decision_at t j') 0 q in
+                none-made t.values l.first (opposite l.first) free (variable-opposite l.first) (subst (IsTrueIn t) f (wt.is_true x o)))
                 (other-unknown m j' second h)
                 (vt j' h)));
-            rises = rises s t i level c w v l deep ct z (kinds-enqueued t' l.first r j.well inside free ∙ ap (λ b. kinds t ++ (b || nat_eq (length t.decisions) 0) ∷ []) j.clause);
+            rises = rises s t i level c w v l deep ct z
+                (kinds-enqueued t' l.first r j.well inside free ∙ ap (λ b. kinds t ++ (b || nat_eq (length t.decisions) 0) ∷ []) j.clause);
             count = length-set t.values (variable_of l.first) (Some (polarity_of l.first)) ∙ ct.count;
           }
 
       -- and it is watched, or listed where it has two literals
-      pub kept-propagated : (V : Watches) (K : Keeping) (r : Reason) → IsKeptAsReason (keeping_of t) K d r → IsWatchedAsReason W V d r → IsPropagated V (enqueued (keeping t K) l.first r)
+      pub kept-propagated : (V : Watches) (K : Keeping) (r : Reason) → IsKeptAsReason (keeping_of t) K d r → IsWatchedAsReason W V d r →
+          IsPropagated V (enqueued (keeping t K) l.first r)
       kept-propagated V = go ms refl
         where
           -- its first two literals are false at no level below the present one
@@ -378,7 +409,8 @@ module _ (s t : View) (i : Conflict) (level : ℕ) (c : Clause) (w : WellFormed 
           late (suc zero) q a f g k h = second-late m second q f g k h
           late (suc (suc j)) q a f g k h = absurd (omega (arith, a))
 
-          go : (os : Clause) → ms ≡ os → (K : Keeping) (r : Reason) → IsKeptAsReason (keeping_of t) K (l.first ∷ m ∷ os) r → IsWatchedAsReason W V d r → IsPropagated V (enqueued (keeping t K) l.first r)
+          go : (os : Clause) → ms ≡ os → (K : Keeping) (r : Reason) → IsKeptAsReason (keeping_of t) K (l.first ∷ m ∷ os) r →
+              IsWatchedAsReason W V d r → IsPropagated V (enqueued (keeping t K) l.first r)
           go [] f K r (g, h) y =
               let same : V ≡ W = subst (IsWatchedAsReason W V d) h y in
               subst (λ X. IsPropagated V (enqueued (keeping t X) l.first r)) (sym g)
@@ -388,6 +420,7 @@ module _ (s t : View) (i : Conflict) (level : ℕ) (c : Clause) (w : WellFormed 
               let j = learned_at q header d in
               let k' : K.clauses ≡ t.clauses ++ j ∷ [] = k.0 ∙ ap (λ o. t.clauses ++ learned_at q header (l.first ∷ m ∷ o) ∷ []) (sym f) in
               let long : record K { clauses = K.clauses } ≡ record K { clauses = t.clauses ++ j ∷ [] } = ap (λ ks. record K { clauses = ks }) k' in
-              let is : K ≡ record { clauses = t.clauses ++ j ∷ []; binary = t.binary } = long ∙ ap (λ B. record { clauses = t.clauses ++ j ∷ []; binary = B }) b in
+              let is : K ≡ record { clauses = t.clauses ++ j ∷ []; binary = t.binary } = long
+              ∙ ap (λ B. record { clauses = t.clauses ++ j ∷ []; binary = B }) b in
               subst (λ X. IsPropagated V (enqueued (keeping t X) l.first r)) (sym is)
               (propagated-learned W V t j (pt W p) k.1 (subst (IsWatchedAsReason W V d) h y) l.first r wt refl (omega arith) late)

@@ -66,7 +66,8 @@ same-others l m c d e = cc
 pub is-above : (s : View) (i : Conflict) (level : ℕ) (l : Literal) (others : Clause) → IsLearned s i (l ∷ others) level → 0 < length s.decisions
 is-above s i level l others d = ⊎_elim (λ h. h) (λ h. let e = (d.at_zero (omega (arith, h))).0 in absurd cc) (cases_lt 0 (length s.decisions))
 
-module _ (s t : View) (i : Conflict) (level : ℕ) (l : Literal) (others : Clause) (w : WellFormed s) (v : LevelsSettled s) (d : IsLearned s i (l ∷ others) level) (cut : level < length s.decisions → IsCut s t level) where
+module _ (s t : View) (i : Conflict) (level : ℕ) (l : Literal) (others : Clause) (w : WellFormed s) (v : LevelsSettled s)
+    (d : IsLearned s i (l ∷ others) level) (cut : level < length s.decisions → IsCut s t level) where
   deep : 0 < length s.decisions
   deep = is-above s i level l others d
 
@@ -84,7 +85,8 @@ module _ (s t : View) (i : Conflict) (level : ℕ) (l : Literal) (others : Claus
 
   -- the first literal may be made true once the levels are undone
   pub learned-free : IsFree t l
-  learned-free = subst (IsFree t) (sym first-is) (first-inside s t i level (l ∷ others) w v asserting deep (cut below), first-free s t i level (l ∷ others) w v asserting deep (cut below))
+  learned-free = subst (IsFree t) (sym first-is)
+      (first-inside s t i level (l ∷ others) w v asserting deep (cut below), first-free s t i level (l ∷ others) w v asserting deep (cut below))
 
   pub learned-node : variable_of l < length t.nodes
   learned-node =
@@ -98,7 +100,8 @@ module _ (s t : View) (i : Conflict) (level : ℕ) (l : Literal) (others : Claus
   here : (K : Keeping) (r : Reason) (o : Clause) → IsKeptAsReason (keeping_of t) K (l ∷ o) r → IsKeptAsReason (keeping_of t) K (asserting.first ∷ o) r
   here K r o = subst (λ x. IsKeptAsReason (keeping_of t) K (x ∷ o) r) first-is
 
-  unit-is : (z : View) (K : Keeping) (r : Reason) → K ≡ keeping_of t → r ≡ reason.Unit → z ≡ enqueued (keeping t K) l r → z ≡ enqueued t asserting.first reason.Unit
+  unit-is : (z : View) (K : Keeping) (r : Reason) → K ≡ keeping_of t → r ≡ reason.Unit → z ≡ enqueued (keeping t K) l r →
+      z ≡ enqueued t asserting.first reason.Unit
   unit-is z K r f g h = h ∙ ap (λ x. enqueued (keeping t x) l r) f ∙ ap (λ x. enqueued t l x) g ∙ ap (λ x. enqueued t x reason.Unit) first-is
 
   first-here : (z : View) (K : Keeping) (r : Reason) → z ≡ enqueued (keeping t K) l r → z ≡ enqueued (keeping t K) asserting.first r
@@ -106,36 +109,46 @@ module _ (s t : View) (i : Conflict) (level : ℕ) (l : Literal) (others : Claus
 
   module _ (W : Watches) (p : IsPropagated W s) where
     -- what is made of the learned clause
-    pub learned-result : (z : View) (K : Keeping) (r : Reason) (o : Clause) → others ≡ o → IsKeptAsReason (keeping_of t) K (l ∷ o) r → z ≡ enqueued (keeping t K) l r → Result s z
+    pub learned-result : (z : View) (K : Keeping) (r : Reason) (o : Clause) → others ≡ o → IsKeptAsReason (keeping_of t) K (l ∷ o) r →
+        z ≡ enqueued (keeping t K) l r → Result s z
     learned-result z K r [] e (f, g) h =
         subst (Result s) (sym (unit-is z K r f g h)) (unit-result s t i level (l ∷ others) w v asserting deep (cut below) (sym others-are ∙ e))
     learned-result z K r (m ∷ ms) e k h =
-        subst (Result s) (sym (first-here z K r h)) (kept-result s t i level (l ∷ others) w v asserting deep (cut below) m ms (sym others-are ∙ e) W p K r (here K r (m ∷ ms) k))
+        subst (Result s) (sym (first-here z K r h))
+        (kept-result s t i level (l ∷ others) w v asserting deep (cut below) m ms (sym others-are ∙ e) W p K r (here K r (m ∷ ms) k))
 
     -- the clause is watched
-    pub learned-propagated : (V : Watches) (z : View) (K : Keeping) (r : Reason) (o : Clause) → others ≡ o → IsKeptAsReason (keeping_of t) K (l ∷ o) r → IsWatchedAsReason W V (l ∷ o) r → z ≡ enqueued (keeping t K) l r → IsPropagated V z
+    pub learned-propagated : (V : Watches) (z : View) (K : Keeping) (r : Reason) (o : Clause) → others ≡ o →
+        IsKeptAsReason (keeping_of t) K (l ∷ o) r → IsWatchedAsReason W V (l ∷ o) r → z ≡ enqueued (keeping t K) l r → IsPropagated V z
     learned-propagated V z K r [] e (f, g) q h =
         let same : V ≡ W = subst (IsWatchedAsReason W V (l ∷ [])) g q in
-        subst (λ X. IsPropagated X z) (sym same) (subst (IsPropagated W) (sym (unit-is z K r f g h)) (unit-propagated s t i level (l ∷ others) w v asserting deep (cut below) W p))
+        subst (λ X. IsPropagated X z) (sym same)
+        (subst (IsPropagated W) (sym (unit-is z K r f g h)) (unit-propagated s t i level (l ∷ others) w v asserting deep (cut below) W p))
     learned-propagated V z K r (m ∷ ms) e k q h =
         let watched : IsWatchedAsReason W V (asserting.first ∷ m ∷ ms) r = subst (λ x. IsWatchedAsReason W V (x ∷ m ∷ ms) r) first-is q in
-        subst (IsPropagated V) (sym (first-here z K r h)) (kept-propagated s t i level (l ∷ others) w v asserting deep (cut below) m ms (sym others-are ∙ e) W p V K r (here K r (m ∷ ms) k) watched)
+        subst (IsPropagated V) (sym (first-here z K r h))
+        (kept-propagated s t i level (l ∷ others) w v asserting deep (cut below) m ms (sym others-are ∙ e) W p V K r (here K r (m ∷ ms) k) watched)
 
     -- the line that is written
-    pub learned-steps : (z : View) (K : Keeping) (r : Reason) (o : Clause) → others ≡ o → IsKeptAsReason (keeping_of t) K (l ∷ o) r → z ≡ enqueued (keeping t K) l r → Steps (search_of s) (search_of z) Unknown (Add (l ∷ others) ∷ [])
+    pub learned-steps : (z : View) (K : Keeping) (r : Reason) (o : Clause) → others ≡ o → IsKeptAsReason (keeping_of t) K (l ∷ o) r →
+        z ≡ enqueued (keeping t K) l r → Steps (search_of s) (search_of z) Unknown (Add (l ∷ others) ∷ [])
     learned-steps z K r [] e (f, g) h =
-        subst (λ y. Steps (search_of s) (search_of y) Unknown (Add (l ∷ others) ∷ [])) (sym (unit-is z K r f g h)) (steps_unit s t i level (l ∷ others) w v asserting deep (cut below) d.follows d.of_kept (sym others-are ∙ e))
+        subst (λ y. Steps (search_of s) (search_of y) Unknown (Add (l ∷ others) ∷ [])) (sym (unit-is z K r f g h))
+        (steps_unit s t i level (l ∷ others) w v asserting deep (cut below) d.follows d.of_kept (sym others-are ∙ e))
     learned-steps z K r (m ∷ ms) e k h =
-        subst (λ y. Steps (search_of s) (search_of y) Unknown (Add (l ∷ others) ∷ [])) (sym (first-here z K r h)) (steps_kept s t i level (l ∷ others) w v asserting deep (cut below) d.follows d.of_kept W p m ms (sym others-are ∙ e) K r (here K r (m ∷ ms) k))
+        subst (λ y. Steps (search_of s) (search_of y) Unknown (Add (l ∷ others) ∷ [])) (sym (first-here z K r h))
+        (steps_kept s t i level (l ∷ others) w v asserting deep (cut below) d.follows d.of_kept W p m ms (sym others-are ∙ e) K r (here K r (m ∷ ms) k))
 
     -- a clause that is kept was so before, as a set, or is the learned one
-    pub kept-or-learned : (z : View) (K : Keeping) (r : Reason) (o : Clause) → others ≡ o → IsKeptAsReason (keeping_of t) K (l ∷ o) r → z ≡ enqueued (keeping t K) l r → (c : Clause) → c ∈ kept z → (x : Clause) × ((x ∈ kept t) ⊎ (x ≡ l ∷ others)) × (c ⊆ x)
+    pub kept-or-learned : (z : View) (K : Keeping) (r : Reason) (o : Clause) → others ≡ o → IsKeptAsReason (keeping_of t) K (l ∷ o) r →
+        z ≡ enqueued (keeping t K) l r → (c : Clause) → c ∈ kept z → (x : Clause) × ((x ∈ kept t) ⊎ (x ≡ l ∷ others)) × (c ⊆ x)
     kept-or-learned z K r [] e (f, g) h c q = (c, inl (subst (λ ks. c ∈ ks) (ap kept (unit-is z K r f g h)) q), λ y j. j)
     kept-or-learned z K r (m ∷ ms) e k h c q =
         let j = joins s t i level (l ∷ others) w v asserting deep (cut below) m ms (sym others-are ∙ e) W p K r (here K r (m ∷ ms) k) in
         let clause : Clause = asserting.first ∷ m ∷ ms in
         let is : clause ≡ l ∷ others = ap (λ x. x ∷ m ∷ ms) (sym first-is) ∙ ap (λ o. l ∷ o) (sym e) in
-        let (x, a, u) = same_clauses_find (kept (keeping t K)) (kept t ++ clause ∷ []) (same_clauses-back (kept t ++ clause ∷ []) (kept (keeping t K)) j.same) c (subst (λ ks. c ∈ ks) (ap kept h) q) in
+        let (x, a, u) = same_clauses_find (kept (keeping t K)) (kept t ++ clause ∷ [])
+        (same_clauses-back (kept t ++ clause ∷ []) (kept (keeping t K)) j.same) c (subst (λ ks. c ∈ ks) (ap kept h) q) in
         (x, ⊎_elim inl (λ y. inr (y ∙ is)) (last-one (kept t) clause x a), u.1)
 
 -- The contexts before and after analysis and bumps.
@@ -158,13 +171,16 @@ pub record Analysing {A : Type 0} (x0 x : Context A) (i : Conflict) (level : ℕ
   pub room : x.analyze_conflict.var_count ≡ x0.analyze_conflict.var_count
   pub learned : IsLearned (view x0) i x.analyze_conflict.clause level
 
-pub analyzed-bumped : {A : Type 0} {x0 x x1 : Context A} {i : Conflict} {level : ℕ} → Analysing x0 x i level → x1 ≡ record x { tmp_flags = x1.tmp_flags; vsids = x1.vsids } → x1.tmp_flags.flags.items ≡ x.tmp_flags.flags.items → x1.vsids.available ≡ x.vsids.available → x1.vsids.decay ≡ x.vsids.decay → HasActivities (view x1) x1.vsids → Analyzed x0 x1 i level
+pub analyzed-bumped : {A : Type 0} {x0 x x1 : Context A} {i : Conflict} {level : ℕ} → Analysing x0 x i level →
+    x1 ≡ record x { tmp_flags = x1.tmp_flags; vsids = x1.vsids } → x1.tmp_flags.flags.items ≡ x.tmp_flags.flags.items →
+    x1.vsids.available ≡ x.vsids.available → x1.vsids.decay ≡ x.vsids.decay → HasActivities (view x1) x1.vsids → Analyzed x0 x1 i level
 analyzed-bumped {A} {x0} {x} {x1} {i} {level} d k f a q e =
     let analysis : x1.analyze_conflict ≡ x.analyze_conflict = ap (λ (y : Context A). y.analyze_conflict) k in
     record {
       ready = d.ready;
       unknown = d.unknown;
-      analyzed = k ∙ ap (λ (y : Context A). record y { tmp_flags = x1.tmp_flags; vsids = x1.vsids }) d.kept ∙ ap (λ y. record x0 { analyze_conflict = y; tmp_flags = x1.tmp_flags; vsids = x1.vsids }) (sym analysis);
+      analyzed = k ∙ ap (λ (y : Context A). record y { tmp_flags = x1.tmp_flags; vsids = x1.vsids }) d.kept
+          ∙ ap (λ y. record x0 { analyze_conflict = y; tmp_flags = x1.tmp_flags; vsids = x1.vsids }) (sym analysis);
       flags = f ∙ ap (λ (y : Context A). y.tmp_flags.flags.items) d.kept;
       available = a ∙ ap (λ (y : Context A). y.vsids.available) d.kept;
       decay = q ∙ ap (λ (y : Context A). y.vsids.decay) d.kept;
@@ -174,10 +190,13 @@ analyzed-bumped {A} {x0} {x} {x1} {i} {level} d k f a q e =
     }
 
 -- analysis writes what it found alone
-pub analysis-ready : {A : Type 0} {x0 x : Context A} → x ≡ record x0 { analyze_conflict = x.analyze_conflict } → IsReady x0 → x.analyze_conflict.var_count ≡ x0.analyze_conflict.var_count → IsReady x
-analysis-ready {x0 = x0} {x = x} k r n = subst IsReady (sym k) (ready-with x0 (record x0 { analyze_conflict = x.analyze_conflict }) r refl n refl r.propagated r.decidable r.assumed r.assumable)
+pub analysis-ready : {A : Type 0} {x0 x : Context A} → x ≡ record x0 { analyze_conflict = x.analyze_conflict } → IsReady x0 →
+    x.analyze_conflict.var_count ≡ x0.analyze_conflict.var_count → IsReady x
+analysis-ready {x0 = x0} {x = x} k r n = subst IsReady (sym k)
+    (ready-with x0 (record x0 { analyze_conflict = x.analyze_conflict }) r refl n refl r.propagated r.decidable r.assumed r.assumable)
 
-pub involved-named : {A : Type 0} (x0 x : Context A) (i : Conflict) → x ≡ record x0 { analyze_conflict = x.analyze_conflict } → AreInvolved (view x0) i x.analyze_conflict.involved → (f : Conflict) → f ∈ x.analyze_conflict.involved → NamesKeptClause (view x) f
+pub involved-named : {A : Type 0} (x0 x : Context A) (i : Conflict) → x ≡ record x0 { analyze_conflict = x.analyze_conflict } →
+    AreInvolved (view x0) i x.analyze_conflict.involved → (f : Conflict) → f ∈ x.analyze_conflict.involved → NamesKeptClause (view x) f
 involved-named {A} x0 x i k a f h =
     subst (λ (y : Context A). NamesKeptClause (view y) f) (sym k)
     (⊎_elim (λ o. (a.above o).named f h) (λ z. none-there (a.at_zero (omega (arith, z))) h) (cases_lt 0 (length (view x0).decisions)))
@@ -185,7 +204,9 @@ involved-named {A} x0 x i k a f h =
     none-there : {X : Type 0} {fs : List Conflict} → fs ≡ [] → f ∈ fs → X
     none-there e j = absurd (subst (λ qs. f ∈ qs) e j)
 
-pub bumps-learned : {A : Type 0} (x0 x x1 z : Context A) → x ≡ record x0 { analyze_conflict = x.analyze_conflict } → (0 < length x.trail.decisions → BumpsInvolved (view x) x.analyze_conflict.involved x.vsids x1.vsids) → z.analyze_conflict ≡ x.analyze_conflict → 0 < length x0.trail.decisions → BumpsInvolved (view x0) z.analyze_conflict.involved x0.vsids x1.vsids
+pub bumps-learned : {A : Type 0} (x0 x x1 z : Context A) → x ≡ record x0 { analyze_conflict = x.analyze_conflict } →
+    (0 < length x.trail.decisions → BumpsInvolved (view x) x.analyze_conflict.involved x.vsids x1.vsids) → z.analyze_conflict ≡ x.analyze_conflict →
+    0 < length x0.trail.decisions → BumpsInvolved (view x0) z.analyze_conflict.involved x0.vsids x1.vsids
 bumps-learned {A} x0 x x1 z k b e h =
     let n = ap (λ (y : Context A). length y.trail.decisions) k in
     subst (λ s. BumpsInvolved s z.analyze_conflict.involved x0.vsids x1.vsids) (ap (λ (y : Context A). view y) k)
@@ -193,7 +214,8 @@ bumps-learned {A} x0 x x1 z k b e h =
     (subst (λ ps. BumpsInvolved (view x) ps x.vsids x1.vsids) (sym (ap (λ (y : Analysis). y.involved) e)) (b (omega (arith, h, n)))))
 
 -- backtracking changes no activity
-pub cut-activities : {A : Type 0} (x1 x2 : Context A) (level : ℕ) → (length x1.trail.decisions ≤ level → x2 ≡ x1) → (level < length x1.trail.decisions → MakesAvailable (view x1) level x1.vsids x2.vsids) → x2.vsids ≡ record x1.vsids { available = x2.vsids.available }
+pub cut-activities : {A : Type 0} (x1 x2 : Context A) (level : ℕ) → (length x1.trail.decisions ≤ level → x2 ≡ x1) →
+    (level < length x1.trail.decisions → MakesAvailable (view x1) level x1.vsids x2.vsids) → x2.vsids ≡ record x1.vsids { available = x2.vsids.available }
 cut-activities {A} x1 x2 level same cut =
     ⊎_elim
     (λ h. (cut h).rest)
@@ -232,7 +254,8 @@ module _ {A : Type 0} {x0 x1 : Context A} {i : Conflict} {level : ℕ} (d : Anal
 
     pub analyzed-assigned : (l : Literal) → l ∈ literals_among (live_clauses x1.clause_alloc) x1.analyze_conflict.involved → IsAssigned (view x1) l
     analyzed-assigned =
-        subst (λ (x : Context A). (l : Literal) → l ∈ literals_among (live_clauses x.clause_alloc) x1.analyze_conflict.involved → IsAssigned (view x) l) (sym d.analyzed)
+        subst (λ (x : Context A). (l : Literal) → l ∈ literals_among (live_clauses x.clause_alloc) x1.analyze_conflict.involved →
+        IsAssigned (view x) l) (sym d.analyzed)
         (λ l h. involved-assigned (view x0) d.ready.well i x1.analyze_conflict.involved l f a h)
 
 -- the same with the clauses of the other context
@@ -240,14 +263,17 @@ abbrev pub with_store : {A : Type 0} → Context A → Context A → Context A
 with_store x y = record x { clause_activity = y.clause_activity; clause_alloc = y.clause_alloc; clause_db = y.clause_db }
 
 -- Clauses were bumped, so that it is as if their headers had been other ones before.
-module _ {A : Type 0} {x0 x1 : Context A} {i : Conflict} {level : ℕ} (y : Context A) (d : Analyzed x0 x1 i level) (t : Tracks y.clause_db y.clause_alloc) (h : SameButHeaders (live_clauses x1.clause_alloc) (live_clauses y.clause_alloc)) where
+module _ {A : Type 0} {x0 x1 : Context A} {i : Conflict} {level : ℕ} (y : Context A) (d : Analyzed x0 x1 i level)
+    (t : Tracks y.clause_db y.clause_alloc) (h : SameButHeaders (live_clauses x1.clause_alloc) (live_clauses y.clause_alloc)) where
   changes : ChangesHeaders (view x0) (view (with_store x0 y))
   changes = record {
     clauses = subst (λ (s : Store). SameButHeaders (live_clauses s) (live_clauses y.clause_alloc)) (ap (λ (x : Context A). x.clause_alloc) d.analyzed) h;
     rest = store-view x0 (with_store x0 y) d.ready.tracks.sound t.sound refl;
   }
 
-  pub analyzed-noted : y ≡ record x1 { clause_activity = y.clause_activity; clause_alloc = y.clause_alloc; clause_db = y.clause_db; tmp_flags = y.tmp_flags } → y.tmp_flags.flags.items ≡ x1.tmp_flags.flags.items → Analyzed (with_store x0 y) y i level
+  pub analyzed-noted : y ≡ record x1
+      { clause_activity = y.clause_activity; clause_alloc = y.clause_alloc; clause_db = y.clause_db; tmp_flags = y.tmp_flags } →
+      y.tmp_flags.flags.items ≡ x1.tmp_flags.flags.items → Analyzed (with_store x0 y) y i level
   analyzed-noted k f =
       let analysis : (x : Context A) → Analysis = λ x. x.analyze_conflict in
       let activities : (x : Context A) → Activities = λ x. x.vsids in
@@ -256,9 +282,11 @@ module _ {A : Type 0} {x0 x1 : Context A} {i : Conflict} {level : ℕ} (y : Cont
         unknown = d.unknown;
         analyzed =
             k
-            ∙ ap (λ (x : Context A). record x { clause_activity = y.clause_activity; clause_alloc = y.clause_alloc; clause_db = y.clause_db; tmp_flags = y.tmp_flags }) d.analyzed
+            ∙ ap (λ (x : Context A). record x
+            { clause_activity = y.clause_activity; clause_alloc = y.clause_alloc; clause_db = y.clause_db; tmp_flags = y.tmp_flags }) d.analyzed
             ∙ ap (λ (a : Analysis). record (with_store x0 y) { analyze_conflict = a; tmp_flags = y.tmp_flags; vsids = x1.vsids }) (sym (ap analysis k))
-            ∙ ap (λ (v : Activities). record (with_store x0 y) { analyze_conflict = y.analyze_conflict; tmp_flags = y.tmp_flags; vsids = v }) (sym (ap activities k));
+            ∙ ap (λ (v : Activities). record (with_store x0 y) { analyze_conflict = y.analyze_conflict; tmp_flags = y.tmp_flags; vsids = v })
+            (sym (ap activities k));
         flags = f ∙ d.flags;
         available = ap (λ (x : Context A). x.vsids.available) k ∙ d.available;
         decay = ap (λ (x : Context A). x.vsids.decay) k ∙ d.decay;
@@ -269,7 +297,8 @@ module _ {A : Type 0} {x0 x1 : Context A} {i : Conflict} {level : ℕ} (y : Cont
               available = ap (λ (x : Context A). length x.vsids.available) k ∙ d.entries.available ∙ sym count;
             };
         room = ap (λ (x : Context A). x.analyze_conflict.var_count) k ∙ d.room;
-        learned = subst (λ (a : Analysis). IsLearned (view (with_store x0 y)) i a.clause level) (sym (ap analysis k)) (learned-there (view x0) (view (with_store x0 y)) i x1.analyze_conflict.clause level d.ready.well changes d.learned);
+        learned = subst (λ (a : Analysis). IsLearned (view (with_store x0 y)) i a.clause level) (sym (ap analysis k))
+            (learned-there (view x0) (view (with_store x0 y)) i x1.analyze_conflict.clause level d.ready.well changes d.learned);
       }
 
   -- a step from there is one from before
@@ -277,8 +306,12 @@ module _ {A : Type 0} {x0 x1 : Context A} {i : Conflict} {level : ℕ} (y : Cont
   noted-further z P p = record {
     ready = p.ready;
     steps =
-        let (lines, q, j) = p.steps in
-        (lines, subst (λ u. Steps u (search_of (view z)) (outcome_of (view z) z.assumptions.failed_core z.solver_state.sat_state) lines) (header-seen (view x0) (view (with_store x0 y)) d.ready.well changes) q, j);
+        let (lines, q, j) = p.steps in (
+          lines,
+          subst (λ u. Steps u (search_of (view z)) (outcome_of (view z) z.assumptions.failed_core z.solver_state.sat_state) lines)
+              (header-seen (view x0) (view (with_store x0 y)) d.ready.well changes) q,
+          j,
+        );
     known = p.known;
     assumptions = p.assumptions;
     rises = p.rises;
@@ -294,14 +327,20 @@ module _ {A : Type 0} {x0 x1 : Context A} {i : Conflict} {level : ℕ} (y : Cont
   noted-saves old new (inr (n, h, v)) = inr (n, h, record { count = v.count; left = v.left; stays = v.stays })
 
   -- the clauses that were bumped are those that took part
-  pub noted-bumps : (names : List Conflict) (b : ActivityScale) → names ≡ x1.analyze_conflict.involved → b ≡ y.clause_activity → (0 < length x1.trail.decisions → BumpsClauses x1.impl_graph.nodes.items x1.analyze_conflict.involved x1.clause_alloc y.clause_alloc x1.clause_activity y.clause_activity) → 0 < length x0.trail.decisions → BumpsClauses x0.impl_graph.nodes.items names x0.clause_alloc y.clause_alloc x0.clause_activity b
+  pub noted-bumps : (names : List Conflict) (b : ActivityScale) → names ≡ x1.analyze_conflict.involved → b ≡ y.clause_activity →
+      (0 < length x1.trail.decisions → BumpsClauses x1.impl_graph.nodes.items x1.analyze_conflict.involved x1.clause_alloc y.clause_alloc
+      x1.clause_activity y.clause_activity) → 0 < length x0.trail.decisions →
+      BumpsClauses x0.impl_graph.nodes.items names x0.clause_alloc y.clause_alloc x0.clause_activity b
   noted-bumps names b e g q o =
       subst (λ (fs : List Conflict). BumpsClauses x0.impl_graph.nodes.items fs x0.clause_alloc y.clause_alloc x0.clause_activity b) (sym e)
-      (subst (λ (a : ActivityScale). BumpsClauses x0.impl_graph.nodes.items x1.analyze_conflict.involved x0.clause_alloc y.clause_alloc x0.clause_activity a) (sym g)
-      (subst (λ (x : Context A). 0 < length x.trail.decisions → BumpsClauses x.impl_graph.nodes.items x1.analyze_conflict.involved x.clause_alloc y.clause_alloc x.clause_activity y.clause_activity) d.analyzed q o))
+      (subst (λ (a : ActivityScale). BumpsClauses x0.impl_graph.nodes.items x1.analyze_conflict.involved x0.clause_alloc y.clause_alloc
+      x0.clause_activity a) (sym g)
+      (subst (λ (x : Context A). 0 < length x.trail.decisions → BumpsClauses x.impl_graph.nodes.items x1.analyze_conflict.involved x.clause_alloc
+      y.clause_alloc x.clause_activity y.clause_activity) d.analyzed q o))
 
 -- flags were used and cleared
-pub analyzed-flags : {A : Type 0} {x0 x1 y : Context A} {i : Conflict} {level : ℕ} → Analyzed x0 x1 i level → y ≡ record x1 { tmp_flags = y.tmp_flags } → y.tmp_flags.flags.items ≡ x1.tmp_flags.flags.items → Analyzed x0 y i level
+pub analyzed-flags : {A : Type 0} {x0 x1 y : Context A} {i : Conflict} {level : ℕ} → Analyzed x0 x1 i level →
+    y ≡ record x1 { tmp_flags = y.tmp_flags } → y.tmp_flags.flags.items ≡ x1.tmp_flags.flags.items → Analyzed x0 y i level
 analyzed-flags {A} {x0} {x1} {y} {i} {level} d k f =
     let analysis : (x : Context A) → Analysis = λ x. x.analyze_conflict in
     let activities : (x : Context A) → Activities = λ x. x.vsids in
@@ -361,7 +400,8 @@ module _ {A : Type 0} {x0 x1 x2 : Context A} {i : Conflict} {level : ℕ} (d : B
 
   -- the database still fits the store
   pub learned-tracks : Tracks x2.clause_db x2.clause_alloc
-  learned-tracks = subst (λ (x : Context A). Tracks x.clause_db x.clause_alloc) (sym d.back) (subst (λ (x : Context A). Tracks x.clause_db x.clause_alloc) (sym d.begun.analyzed) d.begun.ready.tracks)
+  learned-tracks = subst (λ (x : Context A). Tracks x.clause_db x.clause_alloc) (sym d.back)
+      (subst (λ (x : Context A). Tracks x.clause_db x.clause_alloc) (sym d.begun.analyzed) d.begun.ready.tracks)
 
   watches-are : x2.watchlists ≡ x0.watchlists
   watches-are = ap (λ (x : Context A). x.watchlists) d.back ∙ ap (λ (x : Context A). x.watchlists) d.begun.analyzed
@@ -374,7 +414,13 @@ module _ {A : Type 0} {x0 x1 x2 : Context A} {i : Conflict} {level : ℕ} (d : B
   saves-some =
       let l : x1.assignment.last ≡ x0.assignment.last = ap (λ (x : Context A). x.assignment.last) d.begun.analyzed in
       ⊎_elim
-      (λ h. inr (level, subst (λ (y : View). level < length y.decisions) same-view h, subst (λ (y : View). Saves y level x0.assignment.last x2.assignment.last) same-view (subst (λ xs. Saves (view x1) level xs x2.assignment.last) l (d.saved h))))
+      (λ h. inr (
+        level,
+        subst (λ (y : View). level < length y.decisions) same-view h,
+        subst
+            (λ (y : View). Saves y level x0.assignment.last x2.assignment.last) same-view
+            (subst (λ xs. Saves (view x1) level xs x2.assignment.last) l (d.saved h)),
+      ))
       (λ h. inl (ap (λ (x : Context A). x.assignment.last) (d.same h) ∙ l))
       (cases_lt level (length x1.trail.decisions))
 
@@ -385,7 +431,8 @@ module _ {A : Type 0} {x0 x1 x2 : Context A} {i : Conflict} {level : ℕ} (d : B
   cut-is h = subst (λ s. IsCut s (view x2) level) same-view (d.cut (subst (λ (s : View). level < length s.decisions) (sym same-view) h))
 
   -- the learned clause has no more literals than there are variables
-  pub learned-length : (l : Literal) (others : Clause) → x2.analyze_conflict.clause ≡ l ∷ others → length x2.analyze_conflict.clause ≤ length x2.assignment.current
+  pub learned-length : (l : Literal) (others : Clause) → x2.analyze_conflict.clause ≡ l ∷ others →
+      length x2.analyze_conflict.clause ≤ length x2.assignment.current
   learned-length l others e =
       let f = clause-is (l ∷ others) e in
       let s = view x0 in
@@ -402,7 +449,8 @@ module _ {A : Type 0} {x0 x1 x2 : Context A} {i : Conflict} {level : ℕ} (d : B
 
   -- the same variables are decidable once the levels are undone
   still-decidable : SameDecidable (view x0) x0.vsids (view x2) x2.vsids
-  still-decidable = same-trans (view x0) x0.vsids (view x1) x1.vsids (view x2) x2.vsids (same-read (view x0) x0.vsids (view x1) x1.vsids (ap (λ (x : View). x.values) same-view) d.begun.available) d.decidable
+  still-decidable = same-trans (view x0) x0.vsids (view x1) x1.vsids (view x2) x2.vsids
+      (same-read (view x0) x0.vsids (view x1) x1.vsids (ap (λ (x : View). x.values) same-view) d.begun.available) d.decidable
 
   -- of the assumptions as many have a level as there are levels left
   assumed-first : HasAssumptions (view x1) x1.assumptions
@@ -425,7 +473,8 @@ module _ {A : Type 0} {x0 x1 x2 : Context A} {i : Conflict} {level : ℕ} (d : B
       (cases_lt level (length x1.trail.decisions))
 
   -- each of its literals has a watch list, and a list of what it implies
-  literal-listed : (l : Literal) (others : Clause) → x2.analyze_conflict.clause ≡ l ∷ others → (m : Literal) → m ∈ x2.analyze_conflict.clause → opposite m < 2 * length (view x0).values
+  literal-listed : (l : Literal) (others : Clause) → x2.analyze_conflict.clause ≡ l ∷ others → (m : Literal) → m ∈ x2.analyze_conflict.clause →
+      opposite m < 2 * length (view x0).values
   literal-listed l others e m h =
       let s = view x0 in
       let learned = clause-is (l ∷ others) e in
@@ -434,14 +483,16 @@ module _ {A : Type 0} {x0 x1 x2 : Context A} {i : Conflict} {level : ℕ} (d : B
       let v = variable-opposite m in
       listed m (length s.values) (omega (arith, a, v))
 
-  pub learned-listed : (l : Literal) (others : Clause) → x2.analyze_conflict.clause ≡ l ∷ others → (m : Literal) → m ∈ x2.analyze_conflict.clause → opposite m < length x2.watchlists.lists
+  pub learned-listed : (l : Literal) (others : Clause) → x2.analyze_conflict.clause ≡ l ∷ others → (m : Literal) → m ∈ x2.analyze_conflict.clause →
+      opposite m < length x2.watchlists.lists
   learned-listed l others e m h =
       let b = literal-listed l others e m h in
       let n = d.begun.ready.propagated.lists in
       let o = ap (λ (X : Watches). length X.lists) watches-are in
       omega (arith, b, n, o)
 
-  pub learned-paired : (l : Literal) (others : Clause) → x2.analyze_conflict.clause ≡ l ∷ others → (m : Literal) → m ∈ x2.analyze_conflict.clause → opposite m < length (view x2).binary
+  pub learned-paired : (l : Literal) (others : Clause) → x2.analyze_conflict.clause ≡ l ∷ others → (m : Literal) → m ∈ x2.analyze_conflict.clause →
+      opposite m < length (view x2).binary
   learned-paired l others e m h =
       let b = literal-listed l others e m h in
       let n = d.begun.ready.propagated.binary in
@@ -457,7 +508,8 @@ pub record Learning {A : Type 0} (x0 x1 x2 x3 : Context A) (i : Conflict) (level
   pub kept : IsKeptAsReason (keeping_of (view x2)) (keeping_of (view x3)) x2.analyze_conflict.clause r
   pub watched : IsWatchedAsReason x2.watchlists x3.watchlists x2.analyze_conflict.clause r
 
-module _ {A : Type 0} {x0 x1 x2 x3 : Context A} {i : Conflict} {level : ℕ} {l : Literal} {others : Clause} {r : Reason} (d : Learning x0 x1 x2 x3 i level l others r) where
+module _ {A : Type 0} {x0 x1 x2 x3 : Context A} {i : Conflict} {level : ℕ} {l : Literal} {others : Clause} {r : Reason}
+    (d : Learning x0 x1 x2 x3 i level l others r) where
   abbrev b : Backtracked x0 x1 x2 i level
   b = d.before
 
@@ -467,19 +519,31 @@ module _ {A : Type 0} {x0 x1 x2 x3 : Context A} {i : Conflict} {level : ℕ} {l 
   stored-view : view x3 ≡ keeping (view x2) (keeping_of (view x3))
   stored-view =
       ap (λ (x : Context A). view x) d.stored
-      ∙ ap (λ (y : Bool). record (view x3) { sound = y; values = (view x2).values; trail = (view x2).trail; queue_head = (view x2).queue_head; decisions = (view x2).decisions; nodes = (view x2).nodes }) (sound-is x3.clause_alloc d.tracks.sound ∙ sym (sound-is x2.clause_alloc (learned-tracks b).sound))
+      ∙ ap (λ (y : Bool). record (view x3) {
+        sound = y;
+        values = (view x2).values;
+        trail = (view x2).trail;
+        queue_head = (view x2).queue_head;
+        decisions =
+            (view x2).decisions;
+        nodes = (view x2).nodes;
+      })
+      (sound-is x3.clause_alloc d.tracks.sound ∙ sym (sound-is x2.clause_alloc (learned-tracks b).sound))
 
   kept-is : IsKeptAsReason (keeping_of (view x2)) (keeping_of (view x3)) (l ∷ others) r
   kept-is = subst (λ c. IsKeptAsReason (keeping_of (view x2)) (keeping_of (view x3)) c r) d.split d.kept
 
   watched-is : IsWatchedAsReason x0.watchlists x3.watchlists (l ∷ others) r
-  watched-is = subst (λ W. IsWatchedAsReason W x3.watchlists (l ∷ others) r) (watches-are b) (subst (λ c. IsWatchedAsReason x2.watchlists x3.watchlists c r) d.split d.watched)
+  watched-is = subst (λ W. IsWatchedAsReason W x3.watchlists (l ∷ others) r) (watches-are b)
+      (subst (λ c. IsWatchedAsReason x2.watchlists x3.watchlists c r) d.split d.watched)
 
   pub learning-free : IsFree (view x3) l
-  learning-free = subst (λ (s : View). IsFree s l) (sym stored-view) (learned-free (view x0) (view x2) i level l others b.begun.ready.well b.begun.ready.settled learned-is (cut-is b))
+  learning-free = subst (λ (s : View). IsFree s l) (sym stored-view)
+      (learned-free (view x0) (view x2) i level l others b.begun.ready.well b.begun.ready.settled learned-is (cut-is b))
 
   pub learning-node : variable_of l < length (view x3).nodes
-  learning-node = subst (λ (s : View). variable_of l < length s.nodes) (sym stored-view) (learned-node (view x0) (view x2) i level l others b.begun.ready.well b.begun.ready.settled learned-is (cut-is b))
+  learning-node = subst (λ (s : View). variable_of l < length s.nodes) (sym stored-view)
+      (learned-node (view x0) (view x2) i level l others b.begun.ready.well b.begun.ready.settled learned-is (cut-is b))
 
   -- the learned clause was false
   learned-decidable : AreDecidable (view x0) x0.vsids (l ∷ others)
@@ -489,7 +553,8 @@ module _ {A : Type 0} {x0 x1 x2 x3 : Context A} {i : Conflict} {level : ℕ} {l 
       inl (at-valued (view x0) b.begun.ready.well (variable_of m) k a (ap variable_of e ∙ variable-opposite m))
 
   -- once the first literal is made true
-  module _ (z : Context A) (made : z ≡ record x3 { assignment = z.assignment; impl_graph = z.impl_graph; trail = z.trail }) (e : view z ≡ enqueued (view x3) l r) where
+  module _ (z : Context A) (made : z ≡ record x3 { assignment = z.assignment; impl_graph = z.impl_graph; trail = z.trail })
+      (e : view z ≡ enqueued (view x3) l r) where
     last-view : view z ≡ enqueued (keeping (view x2) (keeping_of (view x3))) l r
     last-view = e ∙ ap (λ s. enqueued s l r) stored-view
 
@@ -515,20 +580,27 @@ module _ {A : Type 0} {x0 x1 x2 x3 : Context A} {i : Conflict} {level : ℕ} {l 
     last-entries : HasActivities (view z) z.vsids
     last-entries =
         let n = last-count in
-        record { activity = ap (λ (a : Activities). length a.activity) vsids-is ∙ b.entries.activity ∙ sym n; available = ap (λ (a : Activities). length a.available) vsids-is ∙ b.entries.available ∙ sym n }
+        record {
+          activity = ap (λ (a : Activities). length a.activity) vsids-is ∙ b.entries.activity
+              ∙ sym n;
+          available = ap (λ (a : Activities). length a.available) vsids-is ∙ b.entries.available ∙ sym n;
+        }
 
     last-same : SameDecidable (view x0) x0.vsids (view z) z.vsids
     last-same =
         let t : View = keeping (view x2) (keeping_of (view x3)) in
         let free : variable_of l < length t.values = (subst (λ (s : View). IsFree s l) stored-view learning-free).0 in
-        let here : SameDecidable t x2.vsids (enqueued t l r) x2.vsids = enqueued-same t x2.vsids l r free ((still-decidable b (variable_of l)).0 (learned-decidable l (inl refl))) in
+        let here : SameDecidable t x2.vsids (enqueued t l r) x2.vsids =
+        enqueued-same t x2.vsids l r free ((still-decidable b (variable_of l)).0 (learned-decidable l (inl refl))) in
         same-trans (view x0) x0.vsids (view x2) x2.vsids (view z) z.vsids (still-decidable b)
         (same-trans (view x2) x2.vsids t x2.vsids (view z) z.vsids (same-read (view x2) x2.vsids t x2.vsids refl refl)
-        (same-trans t x2.vsids (enqueued t l r) x2.vsids (view z) z.vsids here (same-read (enqueued t l r) x2.vsids (view z) z.vsids (ap (λ (x : View). x.values) last-view) (ap (λ (a : Activities). a.available) vsids-is))))
+        (same-trans t x2.vsids (enqueued t l r) x2.vsids (view z) z.vsids here
+        (same-read (enqueued t l r) x2.vsids (view z) z.vsids (ap (λ (x : View). x.values) last-view) (ap (λ (a : Activities). a.available) vsids-is))))
 
     last-decidable : (c : Clause) → c ∈ kept (view z) → AreDecidable (view x0) x0.vsids c
     last-decidable c h =
-        let (x, o, u) = kept-or-learned (view x0) (view x2) i level l others b.begun.ready.well b.begun.ready.settled learned-is (cut-is b) x0.watchlists b.begun.ready.propagated (view z) (keeping_of (view x3)) r others refl kept-is last-view c h in
+        let (x, o, u) = kept-or-learned (view x0) (view x2) i level l others b.begun.ready.well b.begun.ready.settled learned-is
+        (cut-is b) x0.watchlists b.begun.ready.propagated (view z) (keeping_of (view x3)) r others refl kept-is last-view c h in
         let decidable : AreDecidable (view x0) x0.vsids x =
         ⊎_elim
         (λ k. b.begun.ready.decidable.decidable x (subst (λ ks. x ∈ ks) (kept-before b) k))
@@ -538,9 +610,12 @@ module _ {A : Type 0} {x0 x1 x2 x3 : Context A} {i : Conflict} {level : ℕ} {l 
 
     pub learning-further : (P : List Line → Type 0) → P (Add (l ∷ others) ∷ []) → z.trail.units_removed ≡ x3.trail.units_removed → IsStepFurther P x0 z
     learning-further P handed u =
-        let q = learned-result (view x0) (view x2) i level l others b.begun.ready.well b.begun.ready.settled learned-is (cut-is b) x0.watchlists b.begun.ready.propagated (view z) (keeping_of (view x3)) r others refl kept-is last-view in
-        let lines = learned-steps (view x0) (view x2) i level l others b.begun.ready.well b.begun.ready.settled learned-is (cut-is b) x0.watchlists b.begun.ready.propagated (view z) (keeping_of (view x3)) r others refl kept-is last-view in
-        let watched = learned-propagated (view x0) (view x2) i level l others b.begun.ready.well b.begun.ready.settled learned-is (cut-is b) x0.watchlists b.begun.ready.propagated x3.watchlists (view z) (keeping_of (view x3)) r others refl kept-is watched-is last-view in
+        let q = learned-result (view x0) (view x2) i level l others b.begun.ready.well b.begun.ready.settled learned-is
+        (cut-is b) x0.watchlists b.begun.ready.propagated (view z) (keeping_of (view x3)) r others refl kept-is last-view in
+        let lines = learned-steps (view x0) (view x2) i level l others b.begun.ready.well b.begun.ready.settled learned-is
+        (cut-is b) x0.watchlists b.begun.ready.propagated (view z) (keeping_of (view x3)) r others refl kept-is last-view in
+        let watched = learned-propagated (view x0) (view x2) i level l others b.begun.ready.well b.begun.ready.settled learned-is
+        (cut-is b) x0.watchlists b.begun.ready.propagated x3.watchlists (view z) (keeping_of (view x3)) r others refl kept-is watched-is last-view in
         let room : (x : Context A) → ℕ = λ x. x.analyze_conflict.var_count in
         let flags : (x : Context A) → List Bool = λ x. x.tmp_flags.flags.items in
         let state : (x : Context A) → SolverState = λ x. x.solver_state in
@@ -557,10 +632,19 @@ module _ {A : Type 0} {x0 x1 x2 x3 : Context A} {i : Conflict} {level : ℕ} {l 
             analysis = ap room made ∙ ap room d.stored ∙ room-is b ∙ sym q.count;
             flags = ap flags made ∙ ap flags d.stored ∙ flags-are b ∙ ap (λ n. replicate (2 * n) false) (sym q.count);
             decidable = can-decide (view x0) x0.vsids (view z) z.vsids last-entries last-same last-decidable;
-            assumed = subst (HasAssumptions (view z)) (sym list) (has-same-decisions (view x2) (view z) x2.assumptions (l ∷ []) (backtracked-well b) (ap (λ (x : View). x.trail) last-view) (ap (λ (x : View). x.decisions) last-view) (let n = last-count in omega (arith, n)) (cut-assumptions b));
-            assumable = still-assumable (view x0) x0.vsids (view z) z.vsids x0.assumptions.working z.assumptions.working last-same (same-working x0.assumptions z.assumptions same-list) b.begun.ready.assumable;
+            assumed = subst (HasAssumptions (view z)) (sym list)
+                (has-same-decisions (view x2) (view z) x2.assumptions (l ∷ []) (backtracked-well b) (ap (λ (x : View). x.trail) last-view)
+                (ap (λ (x : View). x.decisions) last-view) (let n = last-count in omega (arith, n)) (cut-assumptions b));
+            assumable = still-assumable (view x0) x0.vsids (view z) z.vsids x0.assumptions.working z.assumptions.working last-same
+                (same-working x0.assumptions z.assumptions same-list) b.begun.ready.assumable;
           };
-          steps = (Add (l ∷ others) ∷ [], subst (λ v. Steps (search_of (view x0)) (search_of (view z)) (outcome_of (view z) z.assumptions.failed_core v) (Add (l ∷ others) ∷ [])) (sym still) lines, handed);
+          steps = (
+            Add (l ∷ others) ∷ [],
+            subst
+                (λ v. Steps (search_of (view x0)) (search_of (view z)) (outcome_of (view z) z.assumptions.failed_core v) (Add (l ∷ others) ∷ []))
+                (sym still) lines,
+            handed,
+          );
           known = inl still;
           assumptions = same-list;
           rises = λ f. q.rises;
@@ -580,7 +664,8 @@ module _ {A : Type 0} {x0 x1 x2 : Context A} {i : Conflict} {level : ℕ} (d : B
   none-learned = clause-is d [] empty
 
   pub refuted-undecided : length (view x0).decisions ≤ 0
-  refuted-undecided = ⊎_elim (λ h. empty-split [] (none-learned.above h).first (none-learned.above h).others refl (none-learned.above h).split) (λ h. h) (cases_lt 0 (length (view x0).decisions))
+  refuted-undecided = ⊎_elim (λ h. empty-split [] (none-learned.above h).first (none-learned.above h).others refl (none-learned.above h).split)
+      (λ h. h) (cases_lt 0 (length (view x0).decisions))
 
   -- nothing was undone
   refuted-stays : x2 ≡ x1
@@ -597,7 +682,8 @@ module _ {A : Type 0} {x0 x1 x2 : Context A} {i : Conflict} {level : ℕ} (d : B
   refuted-steps t =
       (contradiction_is_found (search_of (view x0)) (search_of t) (λ held f. none-learned.follows held (view_reads (view x0) held d.begun.ready.well f))).1
 
-  pub refuted-further : (P : List Line → Type 0) → P (Add [] ∷ []) → IsStepFurther P x0 (record x2 { solver_state = record x2.solver_state { sat_state = verdict.Unsat } })
+  pub refuted-further : (P : List Line → Type 0) → P (Add [] ∷ []) →
+      IsStepFurther P x0 (record x2 { solver_state = record x2.solver_state { sat_state = verdict.Unsat } })
   refuted-further P handed =
       let count = ap (λ (s : View). length s.values) refuted-same in
       let ready = d.begun.ready in
@@ -609,9 +695,11 @@ module _ {A : Type 0} {x0 x1 x2 : Context A} {i : Conflict} {level : ℕ} (d : B
           tracks = learned-tracks d;
           analysis = room-is d ∙ sym count;
           flags = flags-are d ∙ ap (λ n. replicate (2 * n) false) (sym count);
-          decidable = can-decide (view x0) x0.vsids (view x2) x2.vsids d.entries (still-decidable d) (λ c h. ready.decidable.decidable c (subst (λ (x : View). c ∈ kept x) refuted-same h));
+          decidable = can-decide (view x0) x0.vsids (view x2) x2.vsids d.entries (still-decidable d)
+              (λ c h. ready.decidable.decidable c (subst (λ (x : View). c ∈ kept x) refuted-same h));
           assumed = cut-assumptions d;
-          assumable = still-assumable (view x0) x0.vsids (view x2) x2.vsids x0.assumptions.working x2.assumptions.working (still-decidable d) (same-working x0.assumptions x2.assumptions (cut-list d)) ready.assumable;
+          assumable = still-assumable (view x0) x0.vsids (view x2) x2.vsids x0.assumptions.working x2.assumptions.working (still-decidable d)
+              (same-working x0.assumptions x2.assumptions (cut-list d)) ready.assumable;
         };
         steps = (Add [] ∷ [], refuted-steps (view x2), handed);
         known = inr refl;

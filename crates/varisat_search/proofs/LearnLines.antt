@@ -62,11 +62,15 @@ cut_moves s t level w h c =
     (λ l f. inl (fixed_to s w l (fixed_before_cut s t level l w h c f)))
 
 -- one more literal on the trail
-module _ (u : View) (l : Literal) (r : Reason) (w : WellFormed u) (inside : variable_of l < length u.values) (free : get_or u.values (variable_of l) None ≡ None) where
+module _ (u : View) (l : Literal) (r : Reason) (w : WellFormed u) (inside : variable_of l < length u.values)
+    (free : get_or u.values (variable_of l) None ≡ None) where
   fixed_stays : (x : Literal) → IsFixed u x → IsFixed (enqueued u l r) x
   fixed_stays x (t, z) =
-      let (k, h, p) = w.stands x t in
-      (true-old u l r u.decisions w inside free x t, ap (λ n. n.level) (node-other u l r u.decisions w inside free x (λ q. fresh u l r u.decisions w inside free k h (ap variable_of p ∙ q))) ∙ z)
+      let (k, h, p) = w.stands x t in (
+        true-old u l r u.decisions w inside free x t,
+        ap (λ n. n.level)
+            (node-other u l r u.decisions w inside free x (λ q. fresh u l r u.decisions w inside free k h (ap variable_of p ∙ q))) ∙ z,
+      )
 
   node_last : node_of (enqueued u l r) l ≡ record { reason = r; level = length u.decisions; depth = suc (length u.trail) }
   node_last = ap (node_of (enqueued u l r)) (sym (literal-new u l r u.decisions w inside free)) ∙ node-new u l r u.decisions w inside free
@@ -92,10 +96,17 @@ module _ (u : View) (l : Literal) (r : Reason) (w : WellFormed u) (inside : vari
       (∈-append_cases x u.trail (l ∷ []) (on-trail (enqueued u l r) v x q))
 
 -- a unit that is enqueued where there is no decision
-pub unit_moves : (t : View) (l : Literal) (w : WellFormed t) (inside : variable_of l < length t.values) (free : get_or t.values (variable_of l) None ≡ None) → t.decisions ≡ [] → WellFormed (enqueued t l reason.Unit) → Proves 0 (record (search_of t) { fixed = (search_of t).fixed ++ l ∷ []; proved = (search_of t).proved ++ l ∷ [] }) (search_of (enqueued t l reason.Unit)) []
+pub unit_moves : (t : View) (l : Literal) (w : WellFormed t) (inside : variable_of l < length t.values)
+    (free : get_or t.values (variable_of l) None ≡ None) → t.decisions ≡ [] → WellFormed (enqueued t l reason.Unit) →
+    Proves 0 (record (search_of t) { fixed = (search_of t).fixed ++ l ∷ []; proved = (search_of t).proved ++ l ∷ [] })
+    (search_of (enqueued t l reason.Unit)) []
 unit_moves t l w inside free none wz =
     let z = enqueued t l reason.Unit in
-    let fixed : IsFixed z l = (true-new t l reason.Unit t.decisions w inside free, ap (λ n. n.level) (node_last t l reason.Unit w inside free) ∙ ap (λ (x : List ℕ). length x) none) in
+    let fixed : IsFixed z l = (
+      true-new t l reason.Unit t.decisions w inside free,
+      ap (λ n. n.level) (node_last t l reason.Unit w inside free)
+          ∙ ap (λ (x : List ℕ). length x) none,
+    ) in
     let S1 : Search = record (search_of t) { fixed = (search_of t).fixed ++ l ∷ []; proved = (search_of t).proved ++ l ∷ [] } in
     moves_prove S1 (search_of z)
     (same_equal (clauses_of S1.kept) (clauses_of (search_of t).kept) refl)
@@ -116,7 +127,9 @@ unit_moves t l w inside free none wz =
     (λ q. inl (∈-append_right x (search_of t).fixed (l ∷ []) (inl q)))
     (fixed_old t l reason.Unit w inside free x wz (fixed_from z wz x h)))
 
-module _ (s t : View) (i : Conflict) (level : ℕ) (c : Clause) (w : WellFormed s) (v : LevelsSettled s) (a : IsAsserting s i c level) (deep : 0 < length s.decisions) (ct : IsCut s t level) (follows : (held : List Clause) → ViewFits held s → Follows held c) (of_kept : (m : Literal) → m ∈ c → IsOfKept s m) where
+module _ (s t : View) (i : Conflict) (level : ℕ) (c : Clause) (w : WellFormed s) (v : LevelsSettled s) (a : IsAsserting s i c level)
+    (deep : 0 < length s.decisions) (ct : IsCut s t level) (follows : (held : List Clause) → ViewFits held s → Follows held c)
+    (of_kept : (m : Literal) → m ∈ c → IsOfKept s m) where
   S : Search
   S = search_of s
 
@@ -145,7 +158,8 @@ module _ (s t : View) (i : Conflict) (level : ℕ) (c : Clause) (w : WellFormed 
   kept_still : (search_of t).kept ≡ (search_of s).kept
   kept_still = ap (λ (x : View). (search_of x).kept) ct.rest
 
-  pub steps_kept : (W : Watches) → IsPropagated W s → (m : Literal) (ms : Clause) → a.others ≡ m ∷ ms → (K : Keeping) (r : Reason) → IsKeptAsReason (keeping_of t) K (a.first ∷ m ∷ ms) r → Steps (search_of s) (search_of (enqueued (keeping t K) a.first r)) Unknown (Add c ∷ [])
+  pub steps_kept : (W : Watches) → IsPropagated W s → (m : Literal) (ms : Clause) → a.others ≡ m ∷ ms → (K : Keeping) (r : Reason) →
+      IsKeptAsReason (keeping_of t) K (a.first ∷ m ∷ ms) r → Steps (search_of s) (search_of (enqueued (keeping t K) a.first r)) Unknown (Add c ∷ [])
   steps_kept W p m ms e K r h =
       let z = enqueued (keeping t K) a.first r in
       let wz : WellFormed z = (kept-result s t i level c w v a deep ct m ms e W p K r h).well in
@@ -153,7 +167,8 @@ module _ (s t : View) (i : Conflict) (level : ℕ) (c : Clause) (w : WellFormed 
       let k = learned c in
       let S1 : Search = record (search_of s) { kept = (search_of s).kept ++ k ∷ [] } in
       let whole : c ≡ a.first ∷ m ∷ ms = a.split ∙ ap (λ o. a.first ∷ o) e in
-      let same : SameClauses (kept s ++ c ∷ []) (kept z) = subst (λ P. SameClauses (P ++ c ∷ []) (kept z)) (ap kept ct.rest) (subst (λ x. SameClauses (kept t ++ x ∷ []) (kept z)) (sym whole) j.same) in
+      let same : SameClauses (kept s ++ c ∷ []) (kept z) = subst (λ P. SameClauses (P ++ c ∷ []) (kept z)) (ap kept ct.rest)
+      (subst (λ x. SameClauses (kept t ++ x ∷ []) (kept z)) (sym whole) j.same) in
       step_part (search_of s) S1 (search_of z) (Add c ∷ []) []
       (learned_kept (search_of s) c k (same_set-self c) follows_from new_to literals_of_search)
       (moves_prove S1 (search_of z)
@@ -180,7 +195,11 @@ module _ (s t : View) (i : Conflict) (level : ℕ) (c : Clause) (w : WellFormed 
       let unit : IsUnit l c = subst (IsUnit l) (sym whole) (inl refl, λ m h. ⊎_elim (λ g. g) (λ g. absurd g) h) in
       let zero_level : level ≡ 0 = subst (λ o. IsLevelOf s o level) e a.second in
       let none : t.decisions ≡ [] = ap (λ (x : View). x.decisions) ct.rest ∙ ap (λ n. take n s.decisions) zero_level in
-      let fixed : IsFixed z l = (true-new t l reason.Unit t.decisions wt inside free, ap (λ n. n.level) (node_last t l reason.Unit wt inside free) ∙ ap (λ (x : List ℕ). length x) none) in
+      let fixed : IsFixed z l = (
+        true-new t l reason.Unit t.decisions wt inside free,
+        ap (λ n. n.level) (node_last t l reason.Unit wt inside free)
+            ∙ ap (λ (x : List ℕ). length x) none,
+      ) in
       let S1 : Search = record (search_of s) { fixed = (search_of s).fixed ++ l ∷ []; proved = (search_of s).proved ++ l ∷ [] } in
       step_part (search_of s) S1 (search_of z) (Add c ∷ []) []
       (learned_unit (search_of s) c l unit follows_from new_to literals_of_search)

@@ -16,7 +16,8 @@ use Rattle.varisat_analysis.proofs.SameButHeaders.{headers-at}
 use Rattle.varisat_search.proofs.HeaderChanges.{header-kept, header-well, header-fits}
 
 -- from more literals more are reached
-reached-more : (c d : Clause) (r q : Literal → Clause) (R : Literal → Type 0) → c ⊆ d → ((m : Literal) → r m ⊆ q m) → (l : Literal) → Reached c r R l → Reached d q R l
+reached-more : (c d : Clause) (r q : Literal → Clause) (R : Literal → Type 0) → c ⊆ d → ((m : Literal) → r m ⊆ q m) → (l : Literal) →
+    Reached c r R l → Reached d q R l
 reached-more c d r q R f g l (AtStart i) = AtStart (f (opposite l) i)
 reached-more c d r q R f g l (InReason m h b i n) = InReason m (reached-more c d r q R f g m h) b (g m (opposite l) i) n
 
@@ -45,20 +46,23 @@ module _ (s : View) (ks js : List StoredClause) (e : SameButHeaders ks js) where
   level-there [] level h = h
   level-there (m ∷ c) level h = h
 
-point-there : (s : View) (ks js : List StoredClause) → SameButHeaders ks js → (f : Conflict) (k : ℕ) → IsImplicationPoint (record s { clauses = ks }) f k → IsImplicationPoint (record s { clauses = js }) f k
+point-there : (s : View) (ks js : List StoredClause) → SameButHeaders ks js → (f : Conflict) (k : ℕ) →
+    IsImplicationPoint (record s { clauses = ks }) f k → IsImplicationPoint (record s { clauses = js }) f k
 point-there s ks js e f k p = record {
   current = p.current;
   reached = reached-there s ks js e f k _ p.reached;
   alone = λ j h c r. p.alone j h c (reached-there s js ks (sym e) f k _ r);
 }
 
-first-there : (s : View) (ks js : List StoredClause) → SameButHeaders ks js → (f : Conflict) (k : ℕ) → IsFirstPoint (record s { clauses = ks }) f k → IsFirstPoint (record s { clauses = js }) f k
+first-there : (s : View) (ks js : List StoredClause) → SameButHeaders ks js → (f : Conflict) (k : ℕ) →
+    IsFirstPoint (record s { clauses = ks }) f k → IsFirstPoint (record s { clauses = js }) f k
 first-there s ks js e f k p = record {
   point = point-there s ks js e f k p.point;
   latest = λ j h q. p.latest j h (point-there s js ks (sym e) f j q);
 }
 
-asserting-there : (s : View) (ks js : List StoredClause) → SameButHeaders ks js → (f : Conflict) (c : Clause) (level : ℕ) → IsAsserting (record s { clauses = ks }) f c level → IsAsserting (record s { clauses = js }) f c level
+asserting-there : (s : View) (ks js : List StoredClause) → SameButHeaders ks js → (f : Conflict) (c : Clause) (level : ℕ) →
+    IsAsserting (record s { clauses = ks }) f c level → IsAsserting (record s { clauses = js }) f c level
 asserting-there s ks js e f c level d = record {
   false_now = d.false_now;
   distinct = d.distinct;

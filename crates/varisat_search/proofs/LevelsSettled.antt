@@ -16,8 +16,10 @@ use Rattle.varisat_prop.proofs.TrailExtend.{get_or-last}
 use Rattle.varisat_search.specs.Steps.{assignment_of}
 use Rattle.varisat_analysis.proofs.WellFormedViews.{kept-reordered}
 
-pub complete-reordered : (s t : View) (known : List Literal) → AreReordered s.clauses t.clauses → t.binary ≡ s.binary → IsComplete (kept s) known → IsComplete (kept t) known
-complete-reordered s t known a b = complete_shorter (kept s) (kept t) known (λ d h. let (c, i, e) = kept-reordered s t a b d h in (c, i, e.0, λ m k. inl (e.1 m k)))
+pub complete-reordered : (s t : View) (known : List Literal) → AreReordered s.clauses t.clauses → t.binary ≡ s.binary → IsComplete (kept s) known →
+    IsComplete (kept t) known
+complete-reordered s t known a b = complete_shorter (kept s) (kept t) known
+    (λ d h. let (c, i, e) = kept-reordered s t a b d h in (c, i, e.0, λ m k. inl (e.1 m k)))
 
 pub settled-grows : (s t : View) → WellFormed s → GrowsTrail s t → t.decisions ≡ s.decisions → LevelsSettled s → LevelsSettled t
 settled-grows s t w g e q j h =
@@ -42,10 +44,12 @@ settled-decided s l w q v j h =
     let d = (w.decided j p).0 in
     let le : decision_at s j ≤ length s.trail = omega (arith, d) in
     let e = get_or_append_left s.decisions (length s.trail ∷ []) 0 j p in
-    subst (λ x. IsComplete (kept s) (take x (s.trail ++ l ∷ []))) (sym e) (subst (λ x. IsComplete (kept s) x) (sym (take-append-le (decision_at s j) s.trail (l ∷ []) le)) (v j p)))
+    subst (λ x. IsComplete (kept s) (take x (s.trail ++ l ∷ []))) (sym e)
+    (subst (λ x. IsComplete (kept s) x) (sym (take-append-le (decision_at s j) s.trail (l ∷ []) le)) (v j p)))
     (λ (p : length s.decisions ≤ j).
     let z : j ≡ length s.decisions = omega (arith, n, h, p) in
-    let e : get_or (s.decisions ++ length s.trail ∷ []) j 0 ≡ length s.trail = ap (λ x. get_or (s.decisions ++ length s.trail ∷ []) x 0) z ∙ get_or-last s.decisions (length s.trail) 0 in
+    let e : get_or (s.decisions ++ length s.trail ∷ []) j 0 ≡ length s.trail = ap (λ x. get_or (s.decisions ++ length s.trail ∷ []) x 0) z
+    ∙ get_or-last s.decisions (length s.trail) 0 in
     subst (λ x. IsComplete (kept s) (take x (s.trail ++ l ∷ []))) (sym e) (subst (λ x. IsComplete (kept s) x) (sym (take-whole s.trail (l ∷ []))) q))
     (cases_lt j (length s.decisions))
 
@@ -66,7 +70,8 @@ makes-true s l t =
 
 -- a variable with a value makes the literal or its opposite true
 pub one-true : (s : View) (l : Literal) → get_or s.values (variable_of l) None ≢ None → IsTrueIn s l ⊎ IsTrueIn s (opposite l)
-one-true s l n = go (get_or s.values (variable_of l) None) (polarity_of l) n (λ e. e) (λ e. ap (λ v. get_or s.values v None) (variable-opposite l) ∙ e ∙ ap Some (sym (polarity-opposite l)))
+one-true s l n = go (get_or s.values (variable_of l) None) (polarity_of l) n (λ e. e)
+    (λ e. ap (λ v. get_or s.values v None) (variable-opposite l) ∙ e ∙ ap Some (sym (polarity-opposite l)))
   where
     go : {A B : Type 0} (o : Option Bool) (p : Bool) → o ≢ None → (o ≡ Some p → A) → (o ≡ Some (not p) → B) → A ⊎ B
     go None p n a b = absurd (n refl)

@@ -64,7 +64,8 @@ pub record Loading {A : Type 0} (x0 x1 : Context A) (c lits : Clause) : Type 0 w
 -- What loading gives where the verdict was not Unsat.
 pub record Loaded {A : Type 0} (ordered : Clause → Type 0) (are : List Line → Type 0) (x0 z : Context A) (c : Clause) : Type 0 where
   pub ready : IsReady z
-  pub lines : x0.solver_state.sat_state ≢ verdict.Unsat → LoadsClause ordered are (search_of (view x0)) (search_of (view z)) c (loaded_outcome z.solver_state.sat_state)
+  pub lines : x0.solver_state.sat_state ≢ verdict.Unsat → LoadsClause ordered are (search_of (view x0)) (search_of (view z)) c
+      (loaded_outcome z.solver_state.sat_state)
   pub kept_verdict : (z.solver_state.sat_state ≡ reopened_state x0.solver_state.sat_state) ⊎ (z.solver_state.sat_state ≡ verdict.Unsat)
   pub assumptions : z.assumptions ≡ record x0.assumptions { levels = 0 }
   pub last : SavesAll (view x0) x0.assignment.last z.assignment.last
@@ -77,7 +78,8 @@ pub record Loaded {A : Type 0} (ordered : Clause → Type 0) (are : List Line �
   pub decay : z.vsids.decay ≡ x0.vsids.decay
 
 -- The order of the literals that were copied, and where they stand, matter to nothing else.
-pub loading-other : {A : Type 0} {x0 x1 : Context A} {c lits : Clause} (other : TmpData A) → Loading x0 x1 c lits → Loading x0 (record x1 { tmp_data = other }) c lits
+pub loading-other : {A : Type 0} {x0 x1 : Context A} {c lits : Clause} (other : TmpData A) → Loading x0 x1 c lits →
+    Loading x0 (record x1 { tmp_data = other }) c lits
 loading-other other d = record {
   ready = d.ready;
   in_range = d.in_range;
@@ -106,7 +108,8 @@ module _ {A : Type 0} {x0 x1 : Context A} {c lits : Clause} (d : Loading x0 x1 c
   loading-restarted = restarted (view x0) (view x1) d.ready.well d.same d.cut
 
   pub loading-propagated : IsPropagated x1.watchlists (view x1)
-  loading-propagated = subst (λ W. IsPropagated W (view x1)) (sym d.watches) (restarted-propagated x0.watchlists (view x0) (view x1) d.ready.well d.ready.propagated d.same d.cut)
+  loading-propagated = subst (λ W. IsPropagated W (view x1)) (sym d.watches)
+      (restarted-propagated x0.watchlists (view x0) (view x1) d.ready.well d.ready.propagated d.same d.cut)
 
   pub loading-inside : IsInRange x1.assignment.current lits
   loading-inside l h = let a = d.in_range l (d.literals.0 l h) in let n = loading-restarted.count in omega (arith, a, n)
@@ -131,7 +134,9 @@ module _ {A : Type 0} {x0 x1 : Context A} {c lits : Clause} (d : Loading x0 x1 c
   literals-decidable l h = (d.stay_decidable (variable_of l)).0 (d.decidable l (d.literals.0 l h))
 
   -- the clause is not kept, since it has a literal and its opposite or is true
-  settled : (ordered : Clause → Type 0) (are : List Line → Type 0) → (x0.solver_state.sat_state ≢ verdict.Unsat → LoadsClause ordered are (search_of (view x0)) (search_of (view x1)) c (loaded_outcome x1.solver_state.sat_state)) → Loaded ordered are x0 x1 c
+  settled : (ordered : Clause → Type 0) (are : List Line → Type 0) →
+      (x0.solver_state.sat_state ≢ verdict.Unsat → LoadsClause ordered are (search_of (view x0)) (search_of (view x1)) c
+      (loaded_outcome x1.solver_state.sat_state)) → Loaded ordered are x0 x1 c
   settled ordered are p =
       let r = loading-restarted in
       record {
@@ -144,7 +149,8 @@ module _ {A : Type 0} {x0 x1 : Context A} {c lits : Clause} (d : Loading x0 x1 c
           flags = d.flags ∙ d.ready.flags ∙ ap (λ n. replicate (2 * n) false) (sym r.count);
           decidable = can-decide (view x0) x0.vsids (view x1) x1.vsids d.entries d.stay_decidable still-decidable;
           assumed = d.assumed;
-          assumable = still-assumable (view x0) x0.vsids (view x1) x1.vsids x0.assumptions.working x1.assumptions.working d.stay_decidable (same-working x0.assumptions x1.assumptions d.same_list) d.ready.assumable;
+          assumable = still-assumable (view x0) x0.vsids (view x1) x1.vsids x0.assumptions.working x1.assumptions.working d.stay_decidable
+              (same-working x0.assumptions x1.assumptions d.same_list) d.ready.assumable;
         };
         lines = p;
         kept_verdict = inl verdict-is;
@@ -165,44 +171,75 @@ module _ {A : Type 0} {x0 x1 : Context A} {c lits : Clause} (d : Loading x0 x1 c
   pub loaded-tautology : (ordered : Clause → Type 0) (are : List Line → Type 0) → are [] → IsTautology lits → Loaded ordered are x0 x1 c
   loaded-tautology ordered are none t =
       settled ordered are (λ n.
-      loads-tautology ordered are (view x0) (view x1) c lits d.ready.well loading-restarted d.distinct d.literals (view x1) (loaded_outcome x1.solver_state.sat_state) t
+      loads-tautology ordered are (view x0) (view x1) c lits d.ready.well loading-restarted d.distinct d.literals (view x1)
+      (loaded_outcome x1.solver_state.sat_state) t
       (lines-tautology (view x0) (view x1) c lits d.ready.well loading-restarted moves d.distinct d.literals x1.solver_state.sat_state (still-open n) t) none)
 
   -- a unit that is true
-  pub loaded-satisfied : (ordered : Clause → Type 0) (are : List Line → Type 0) → are [] → (l : Literal) → l ∈ lits → IsTrueIn (view x1) l → length lits < 2 → Loaded ordered are x0 x1 c
+  pub loaded-satisfied : (ordered : Clause → Type 0) (are : List Line → Type 0) → are [] → (l : Literal) → l ∈ lits → IsTrueIn (view x1) l →
+      length lits < 2 → Loaded ordered are x0 x1 c
   loaded-satisfied ordered are none l i t short =
       settled ordered are (λ n.
-      loads-unit ordered are (view x0) (view x1) c lits d.ready.well loading-restarted d.distinct d.literals (view x1) (loaded_outcome x1.solver_state.sat_state) l i short
-      (lines-satisfied (view x0) (view x1) c lits d.ready.well loading-restarted moves d.distinct d.literals x1.solver_state.sat_state (still-open n) l i t) none)
+      loads-unit ordered are (view x0) (view x1) c lits d.ready.well loading-restarted d.distinct d.literals (view x1)
+      (loaded_outcome x1.solver_state.sat_state) l i short
+      (lines-satisfied (view x0) (view x1) c lits d.ready.well loading-restarted moves d.distinct d.literals x1.solver_state.sat_state
+      (still-open n) l i t) none)
 
   -- a longer clause with a true literal
-  pub loaded-deleted : (ordered : Clause → Type 0) (are : List Line → Type 0) (l : Literal) → l ∈ lits → IsTrueIn (view x1) l → (IsTautology lits → ⊥) → 2 ≤ length lits → (e : Clause) → IsPermutation lits e → ordered e → are (Delete e ∷ []) → Loaded ordered are x0 x1 c
+  pub loaded-deleted : (ordered : Clause → Type 0) (are : List Line → Type 0) (l : Literal) → l ∈ lits → IsTrueIn (view x1) l →
+      (IsTautology lits → ⊥) → 2 ≤ length lits → (e : Clause) → IsPermutation lits e → ordered e → are (Delete e ∷ []) → Loaded ordered are x0 x1 c
   loaded-deleted ordered are l i t open_clause long e m o one =
       settled ordered are (λ n.
-      loads-true ordered are (view x0) (view x1) c lits d.ready.well loading-restarted d.distinct d.literals (view x1) (loaded_outcome x1.solver_state.sat_state) l i t open_clause long e m o
-      (lines-deleted (view x0) (view x1) c lits d.ready.well loading-restarted moves d.distinct d.literals x1.solver_state.sat_state (still-open n) l i t e (permuted-set lits e c m d.literals)) one)
+      loads-true ordered are (view x0) (view x1) c lits d.ready.well loading-restarted d.distinct d.literals (view x1)
+      (loaded_outcome x1.solver_state.sat_state) l i t open_clause long e m o
+      (lines-deleted (view x0) (view x1) c lits d.ready.well loading-restarted moves d.distinct d.literals x1.solver_state.sat_state
+      (still-open n) l i t e (permuted-set lits e c m d.literals)) one)
 
-  added-stay : (z : Context A) → z.vsids ≡ x1.vsids → IsAdded (view x1) (view z) lits x1.solver_state.sat_state z.solver_state.sat_state → SameDecidable (view x0) x0.vsids (view z) z.vsids
+  added-stay : (z : Context A) → z.vsids ≡ x1.vsids → IsAdded (view x1) (view z) lits x1.solver_state.sat_state z.solver_state.sat_state →
+      SameDecidable (view x0) x0.vsids (view z) z.vsids
   added-stay z e a =
       same-trans (view x0) x0.vsids (view x1) x1.vsids (view z) z.vsids d.stay_decidable
-      (subst (λ b. SameDecidable (view x1) x1.vsids (view z) b) (sym e) (added-same (view x1) (view z) x1.vsids lits x1.solver_state.sat_state z.solver_state.sat_state a literals-decidable))
+      (subst (λ b. SameDecidable (view x1) x1.vsids (view z) b) (sym e)
+      (added-same (view x1) (view z) x1.vsids lits x1.solver_state.sat_state z.solver_state.sat_state a literals-decidable))
 
-  added-decidable : MayBeAdded (view x1) lits → (z : Context A) → z.vsids ≡ x1.vsids → IsAdded (view x1) (view z) lits x1.solver_state.sat_state z.solver_state.sat_state → length z.assignment.current ≡ length x1.assignment.current → CanDecide (view z) z.vsids
+  added-decidable : MayBeAdded (view x1) lits → (z : Context A) → z.vsids ≡ x1.vsids →
+      IsAdded (view x1) (view z) lits x1.solver_state.sat_state z.solver_state.sat_state →
+      length z.assignment.current ≡ length x1.assignment.current → CanDecide (view z) z.vsids
   added-decidable may z e a n =
       can-decide (view x0) x0.vsids (view z) z.vsids
-      (record { activity = ap (λ (b : Activities). length b.activity) e ∙ d.entries.activity ∙ sym n; available = ap (λ (b : Activities). length b.available) e ∙ d.entries.available ∙ sym n })
+      (record {
+        activity = ap (λ (b : Activities). length b.activity) e ∙ d.entries.activity
+            ∙ sym n;
+        available = ap (λ (b : Activities). length b.available) e ∙ d.entries.available ∙ sym n;
+      })
       (added-stay z e a)
-      (λ c h. ⊎_elim (still-decidable c) (λ f l i. d.decidable l (d.literals.0 l (f l i))) (added-kept (view x1) (view z) lits x1.solver_state.sat_state z.solver_state.sat_state loading-restarted.well d.distinct may.paired a c h))
+      (λ c h. ⊎_elim (still-decidable c) (λ f l i. d.decidable l (d.literals.0 l (f l i)))
+      (added-kept (view x1) (view z) lits x1.solver_state.sat_state z.solver_state.sat_state loading-restarted.well d.distinct may.paired a c h))
 
   -- the clause was added
-  pub loaded-added : (ordered : Clause → Type 0) (are : List Line → Type 0) → are [] → ((l : Literal) → l ∈ lits → IsTrueIn (view x1) l → ⊥) → (z : Context A) → z ≡ record x1 { assignment = z.assignment; binary_clauses = z.binary_clauses; clause_alloc = z.clause_alloc; clause_db = z.clause_db; impl_graph = z.impl_graph; solver_state = z.solver_state; trail = z.trail; watchlists = z.watchlists } → IsPropagated z.watchlists (view z) → Tracks z.clause_db z.clause_alloc → z.solver_state ≡ record x1.solver_state { sat_state = z.solver_state.sat_state } → z.trail.units_removed ≡ x1.trail.units_removed → z.assignment.last ≡ x1.assignment.last → IsAdded (view x1) (view z) lits x1.solver_state.sat_state z.solver_state.sat_state → Loaded ordered are x0 z c
+  pub loaded-added : (ordered : Clause → Type 0) (are : List Line → Type 0) → are [] → ((l : Literal) → l ∈ lits → IsTrueIn (view x1) l → ⊥) →
+      (z : Context A) → z ≡ record x1 {
+        assignment = z.assignment;
+        binary_clauses = z.binary_clauses;
+        clause_alloc = z.clause_alloc;
+        clause_db = z.clause_db;
+        impl_graph =
+            z.impl_graph;
+        solver_state = z.solver_state;
+        trail = z.trail;
+        watchlists = z.watchlists;
+      } → IsPropagated z.watchlists (view z) →
+      Tracks z.clause_db z.clause_alloc → z.solver_state ≡ record x1.solver_state { sat_state = z.solver_state.sat_state } →
+      z.trail.units_removed ≡ x1.trail.units_removed → z.assignment.last ≡ x1.assignment.last →
+      IsAdded (view x1) (view z) lits x1.solver_state.sat_state z.solver_state.sat_state → Loaded ordered are x0 z c
   loaded-added ordered are empty untrue z k p t s u l a =
       let r = loading-restarted in
       let may = loading-may in
       let vsids : z.vsids ≡ x1.vsids = ap (λ (x : Context A). x.vsids) k in
       let list : z.assumptions ≡ x1.assumptions = ap (λ (x : Context A). x.assumptions) k in
       let none = none-reached (view x1) x0.assumptions x1.assumptions d.same_list r.undecided d.assumed in
-      let b : IsAdded (view x1) (view z) lits (reopened_state x0.solver_state.sat_state) z.solver_state.sat_state = subst (λ b. IsAdded (view x1) (view z) lits b z.solver_state.sat_state) verdict-is a in
+      let b : IsAdded (view x1) (view z) lits (reopened_state x0.solver_state.sat_state) z.solver_state.sat_state =
+      subst (λ b. IsAdded (view x1) (view z) lits b z.solver_state.sat_state) verdict-is a in
       let q = added-well (view x0) (view x1) lits r may (view z) lits (reopened_state x0.solver_state.sat_state) z.solver_state.sat_state refl b in
       record {
         ready = record {
@@ -213,12 +250,16 @@ module _ {A : Type 0} {x0 x1 : Context A} {c lits : Clause} (d : Loading x0 x1 c
           analysis = ap (λ (x : Context A). x.analyze_conflict.var_count) k ∙ d.analysis ∙ d.ready.analysis ∙ sym q.2;
           flags = ap (λ (x : Context A). x.tmp_flags.flags.items) k ∙ d.flags ∙ d.ready.flags ∙ ap (λ n. replicate (2 * n) false) (sym q.2);
           decidable = added-decidable may z vsids a (q.2 ∙ sym r.count);
-          assumed = subst (HasAssumptions (view z)) (sym (list ∙ none)) (has-undecided (view z) (record x0.assumptions { levels = 0 }) q.1 refl (λ l h. let i = d.ready.assumed.in_range l h in let n = q.2 in omega (arith, i, n)));
-          assumable = still-assumable (view x0) x0.vsids (view z) z.vsids x0.assumptions.working z.assumptions.working (added-stay z vsids a) (λ l h. subst (λ (x : AssumptionParts). l ∈ x.working) (list ∙ none) h) d.ready.assumable;
+          assumed = subst (HasAssumptions (view z)) (sym (list ∙ none))
+              (has-undecided (view z) (record x0.assumptions { levels = 0 }) q.1 refl
+              (λ l h. let i = d.ready.assumed.in_range l h in let n = q.2 in omega (arith, i, n)));
+          assumable = still-assumable (view x0) x0.vsids (view z) z.vsids x0.assumptions.working z.assumptions.working (added-stay z vsids a)
+              (λ l h. subst (λ (x : AssumptionParts). l ∈ x.working) (list ∙ none) h) d.ready.assumable;
         };
         lines = λ n.
             loads-open ordered are (view x0) (view x1) c lits d.ready.well r d.distinct d.literals (view z) (loaded_outcome z.solver_state.sat_state) untrue
-            (lines-added (view x0) (view x1) c lits d.ready.well r moves d.distinct d.literals may (view z) lits (reopened_state x0.solver_state.sat_state) z.solver_state.sat_state (opened x0.solver_state.sat_state n) refl b)
+            (lines-added (view x0) (view x1) c lits d.ready.well r moves d.distinct d.literals may (view z) lits
+            (reopened_state x0.solver_state.sat_state) z.solver_state.sat_state (opened x0.solver_state.sat_state n) refl b)
             empty;
         kept_verdict = added-verdict (view x1) (view z) lits (reopened_state x0.solver_state.sat_state) z.solver_state.sat_state b;
         assumptions = list ∙ none;
@@ -227,7 +268,11 @@ module _ {A : Type 0} {x0 x1 : Context A} {c lits : Clause} (d : Loading x0 x1 c
         count = q.2;
         units = u ∙ d.units;
         undecided = q.1;
-        schedule = record { schedule = ap (λ (x : Context A). x.schedule) k ∙ d.schedule.schedule; solver_config = ap (λ (x : Context A). x.solver_config) k ∙ d.schedule.solver_config };
+        schedule = record {
+          schedule = ap (λ (x : Context A). x.schedule) k
+              ∙ d.schedule.schedule;
+          solver_config = ap (λ (x : Context A). x.solver_config) k ∙ d.schedule.solver_config;
+        };
         decidable = added-stay z vsids a;
         decay = ap (λ (b : Activities). b.decay) vsids ∙ d.decay;
       }

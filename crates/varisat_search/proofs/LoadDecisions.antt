@@ -19,7 +19,8 @@ added-same s t a (l ∷ m ∷ []) before after (h, e, f) d = same-read s a t a (
 added-same s t a (l ∷ m ∷ n ∷ c) before after (p, k, h, e, f) d = same-read s a t a (ap (λ (u : View). u.values) e) refl
 
 -- what is kept then was so before, or has literals of the clause alone
-pub added-kept : (s t : View) (c : Clause) (before after : SatState) → WellFormed s → IsDistinct c → ((l : Literal) → l ∈ c → opposite l < length s.binary) → IsAdded s t c before after → (e : Clause) → e ∈ kept t → (e ∈ kept s) ⊎ (e ⊆ c)
+pub added-kept : (s t : View) (c : Clause) (before after : SatState) → WellFormed s → IsDistinct c →
+    ((l : Literal) → l ∈ c → opposite l < length s.binary) → IsAdded s t c before after → (e : Clause) → e ∈ kept t → (e ∈ kept s) ⊎ (e ⊆ c)
 added-kept s t [] before after w d i (q, f) e h = inl (subst (λ (u : View). e ∈ kept u) q h)
 added-kept s t (l ∷ []) before after w d i (inl (o, q, f)) e h = inl (subst (λ (u : View). e ∈ kept u) q h)
 added-kept s t (l ∷ []) before after w d i (inr (o, q, f)) e h = inl (subst (λ (u : View). e ∈ kept u) q h)
@@ -27,4 +28,5 @@ added-kept s t (l ∷ m ∷ []) before after w d i (u, q, f) e h =
     ⊎_elim inl (λ o. inr o.0) (pair-cases s l m (i l (inl refl)) (i m (inr (inl refl))) (λ g. d.0 (inl g)) e (subst (λ (u : View). e ∈ kept u) q h))
 added-kept s t (l ∷ m ∷ n ∷ c) before after w d i (p, k, u, q, f) e h =
     ⊎_elim inl (λ o. inr (λ x j. subst (λ y. x ∈ y) o j))
-    (kept-cases s (loaded_at p (l ∷ m ∷ n ∷ c)) k.1 w e (subst (λ (u : View). e ∈ kept u) (q ∙ ap (λ ks. record s { clauses = ks; queue_head = t.queue_head }) k.0) h))
+    (kept-cases s (loaded_at p (l ∷ m ∷ n ∷ c)) k.1 w e
+    (subst (λ (u : View). e ∈ kept u) (q ∙ ap (λ ks. record s { clauses = ks; queue_head = t.queue_head }) k.0) h))

@@ -46,7 +46,8 @@ opened verdict.Sat n = refl
 opened verdict.Unsat n = absurd (n refl)
 opened verdict.UnsatUnderAssumptions n = refl
 
-module _ (s t : View) (c lits : Clause) (w : WellFormed s) (r : Restarted s t) (p : Proves 0 (search_of s) (search_of t) []) (d : IsDistinct lits) (same : SameSet lits c) where
+module _ (s t : View) (c lits : Clause) (w : WellFormed s) (r : Restarted s t) (p : Proves 0 (search_of s) (search_of t) []) (d : IsDistinct lits)
+    (same : SameSet lits c) where
   now : (x : Literal) → IsTrueIn t x → x ∈ (search_of t).fixed
   now x h = fixed_to t r.well x (h, no-decision t r.well r.undecided x h)
 
@@ -86,7 +87,8 @@ module _ (s t : View) (c lits : Clause) (w : WellFormed s) (r : Restarted s t) (
   lines-satisfied b e x i h =
       open-verdict b t e (before t Unknown (loaded_is_settled (search_of t) c (inr (x, same.0 x i, now x h)) (true-open x i h)))
 
-  pub lines-deleted : (b : SatState) → loaded_outcome b ≡ Unknown → (x : Literal) → x ∈ lits → IsTrueIn t x → (d : Clause) → SameSet d c → Loads (search_of s) (search_of t) c (loaded_outcome b) (Delete d ∷ [])
+  pub lines-deleted : (b : SatState) → loaded_outcome b ≡ Unknown → (x : Literal) → x ∈ lits → IsTrueIn t x → (d : Clause) → SameSet d c →
+      Loads (search_of s) (search_of t) c (loaded_outcome b) (Delete d ∷ [])
   lines-deleted b e x i h d m =
       subst (λ v. Loads (search_of s) (search_of t) c v (Delete d ∷ [])) (sym e)
       (before-lines t Unknown (Delete d ∷ []) (loaded_is_deleted (search_of t) c d (inr (x, same.0 x i, now x h)) (true-open x i h) m))
@@ -103,7 +105,8 @@ module _ (s t : View) (c lits : Clause) (w : WellFormed s) (r : Restarted s t) (
       subst (LoadsAlone s z c) (sym e) (before z Unsat (loaded_is_contradicted (search_of t) (search_of z) c (view_is_grounded t r.well) k))
 
   -- a clause of two literals or more is the last that is kept
-  kept-first : (l m : Literal) (ms : Clause) → lits ≡ l ∷ m ∷ ms → Loads (search_of t) (with_clause (search_of t) (record { clause = lits; learned = false })) c Unknown []
+  kept-first : (l m : Literal) (ms : Clause) → lits ≡ l ∷ m ∷ ms →
+      Loads (search_of t) (with_clause (search_of t) (record { clause = lits; learned = false })) c Unknown []
   kept-first l m ms e =
       let in-c : (x : Literal) → x ∈ (l ∷ m ∷ ms) → x ∈ c = λ x h. same.0 x (subst (λ y. x ∈ y) (sym e) h) in
       loaded_is_kept (search_of t) c (record { clause = lits; learned = false }) same refl (λ n.
@@ -113,12 +116,15 @@ module _ (s t : View) (c lits : Clause) (w : WellFormed s) (r : Restarted s t) (
       n)
 
   -- and then stands among the others
-  kept-lines : (z y : View) (l m : Literal) (ms : Clause) (after : SatState) → lits ≡ l ∷ m ∷ ms → z ≡ y → loaded_outcome after ≡ Unknown → Proves 0 (with_clause (search_of t) (record { clause = lits; learned = false })) (search_of y) [] → LoadsAlone s z c after
+  kept-lines : (z y : View) (l m : Literal) (ms : Clause) (after : SatState) → lits ≡ l ∷ m ∷ ms → z ≡ y → loaded_outcome after ≡ Unknown →
+      Proves 0 (with_clause (search_of t) (record { clause = lits; learned = false })) (search_of y) [] → LoadsAlone s z c after
   kept-lines z y l m ms after e f g moved =
-      let whole = load_part (search_of t) (with_clause (search_of t) (record { clause = lits; learned = false })) (search_of y) c [] [] (kept-first l m ms e) moved in
+      let whole = load_part (search_of t) (with_clause (search_of t) (record { clause = lits; learned = false })) (search_of y) c [] []
+      (kept-first l m ms e) moved in
       open-verdict after z g (subst (λ x. Loads (search_of s) (search_of x) c Unknown []) (sym f) (before y Unknown whole))
 
-  pub lines-added : MayBeAdded t lits → (z : View) (o : Clause) (b after : SatState) → loaded_outcome b ≡ Unknown → lits ≡ o → IsAdded t z o b after → LoadsAlone s z c after
+  pub lines-added : MayBeAdded t lits → (z : View) (o : Clause) (b after : SatState) → loaded_outcome b ≡ Unknown → lits ≡ o →
+      IsAdded t z o b after → LoadsAlone s z c after
   lines-added a z [] b after u e (f, g) = false-now z after g (inl (empty-set e))
   lines-added a z (l ∷ []) b after u e q =
       let unit : IsUnit l c = (same.0 l (subst (λ y. l ∈ y) (sym e) (inl refl)), λ m h. ⊎_elim (λ g. g) (λ g. absurd g) (subst (λ y. m ∈ y) e (same.1 m h))) in
@@ -127,8 +133,10 @@ module _ (s t : View) (c lits : Clause) (w : WellFormed s) (r : Restarted s t) (
       (λ (free, f, g).
       let z' = enqueued t l reason.Unit in
       let S1 : Search = record (search_of t) { fixed = (search_of t).fixed ++ l ∷ []; proved = (search_of t).proved ++ l ∷ [] } in
-      let first : Loads (search_of t) S1 c Unknown [] = loaded_is_unit (search_of t) c l unit (λ x. none-made t.values l (opposite l) free.1 (variable-opposite l) (from-now (opposite l) x)) in
-      let whole = load_part (search_of t) S1 (search_of z') c [] [] first (unit_moves t l r.well free.0 free.1 r.undecided (enqueued-well t l reason.Unit r.well free.0 free.1 r.undecided)) in
+      let first : Loads (search_of t) S1 c Unknown [] = loaded_is_unit (search_of t) c l unit
+      (λ x. none-made t.values l (opposite l) free.1 (variable-opposite l) (from-now (opposite l) x)) in
+      let whole = load_part (search_of t) S1 (search_of z') c [] [] first
+      (unit_moves t l r.well free.0 free.1 r.undecided (enqueued-well t l reason.Unit r.well free.0 free.1 r.undecided)) in
       open-verdict after z (ap loaded_outcome g ∙ u) (subst (λ y. Loads (search_of s) (search_of y) c Unknown []) (sym f) (before z' Unknown whole)))
       q
   lines-added a z (l ∷ m ∷ []) b after u e (h, f, g) =
@@ -140,5 +148,6 @@ module _ (s t : View) (c lits : Clause) (w : WellFormed s) (r : Restarted s t) (
       (pair-moves t y l m k (q.paired l (inl refl)) (q.paired m (inr (inl refl))) (first-other t l m [] q) is refl refl (λ x h. h) (λ x h. h) (λ x h. h))
   lines-added a z (l ∷ m ∷ n ∷ ms) b after u e (p, i, h, f, g) =
       let y = record t { clauses = t.clauses ++ loaded_at p lits ∷ []; queue_head = z.queue_head } in
-      let f' : z ≡ y = f ∙ ap (λ x. record t { clauses = x; queue_head = z.queue_head }) i.0 ∙ ap (λ x. record t { clauses = t.clauses ++ loaded_at p x ∷ []; queue_head = z.queue_head }) (sym e) in
+      let f' : z ≡ y = f ∙ ap (λ x. record t { clauses = x; queue_head = z.queue_head }) i.0
+      ∙ ap (λ x. record t { clauses = t.clauses ++ loaded_at p x ∷ []; queue_head = z.queue_head }) (sym e) in
       kept-lines z y l m (n ∷ ms) after e f' (ap loaded_outcome g ∙ u) (long-moves t y (loaded_at p lits) refl refl (λ x h. h) (λ x h. h) (λ x h. h))

@@ -41,7 +41,16 @@ no-decision s w e x t =
     omega (arith, n, l, g)
 
 pub restarted-same : (s : View) → WellFormed s → s.decisions ≡ [] → Restarted s s
-restarted-same s w e = record { well = w; undecided = e; count = refl; clauses = refl; binary = refl; fixed_to = λ x f. f.0; fixed_from = λ x t. (t, no-decision s w e x t) }
+restarted-same s w e = record {
+  well = w;
+  undecided = e;
+  count = refl;
+  clauses = refl;
+  binary = refl;
+  fixed_to = λ x f. f.0;
+  fixed_from =
+      λ x t. (t, no-decision s w e x t);
+}
 
 pub restarted-cut : (s t : View) → WellFormed s → 0 < length s.decisions → IsCut s t 0 → Restarted s t
 restarted-cut s t w h c =
@@ -54,7 +63,11 @@ restarted-cut s t w h c =
       clauses = ap (λ (x : View). x.clauses) c.rest;
       binary = ap (λ (x : View). x.binary) c.rest;
       fixed_to = λ x f. subst (λ (y : View). IsTrueIn y x) (sym c.rest) (fixed-cut s t 0 w h c x f).0;
-      fixed_from = λ x q. (was-true s t 0 w h c x (subst (λ (y : View). IsTrueIn y x) c.rest q), sym (ap (λ (y : View). level_of y x) c.rest) ∙ no-decision t w' none x q);
+      fixed_from = λ x q. (
+        was-true s t 0 w h c x (subst (λ (y : View). IsTrueIn y x) c.rest q),
+        sym (ap (λ (y : View). level_of y x) c.rest)
+            ∙ no-decision t w' none x q,
+      );
     }
 
 no-length : (xs : List ℕ) → length xs ≤ 0 → xs ≡ []
@@ -72,7 +85,8 @@ pub restarted-kept : (s t : View) → Restarted s t → kept t ≡ kept s
 restarted-kept s t r = ap₂ (λ (ks : List StoredClause) (B : List (List Literal)). literals_of ks ++ pairs_from 0 B) r.clauses r.binary
 
 -- and propagation is still at its end up to the queue's head
-pub restarted-propagated : (W : Watches) (s t : View) → WellFormed s → IsPropagated W s → (s.decisions ≡ [] → t ≡ s) → (0 < length s.decisions → IsCut s t 0) → IsPropagated W t
+pub restarted-propagated : (W : Watches) (s t : View) → WellFormed s → IsPropagated W s → (s.decisions ≡ [] → t ≡ s) →
+    (0 < length s.decisions → IsCut s t 0) → IsPropagated W t
 restarted-propagated W s t w p same cut =
     ⊎_elim
     (λ h. cut-propagated s t 0 w h (cut h) W p)
@@ -90,22 +104,35 @@ pub first-other : (t : View) (l m : Literal) (c : Clause) → MayBeAdded t (l �
 first-other t l m c a e = a.distinct.0 (inl e)
 
 -- a clause of two literals is added
-pub added-pair : (s t : View) (c : Clause) (before after : SatState) (l m : Literal) → c ≡ l ∷ m ∷ [] → IsHeadAfter s.values c s.queue_head t.queue_head → t ≡ record s { binary = with_pair s.binary l m; queue_head = t.queue_head } → after ≡ before → IsAdded s t c before after
-added-pair s t c before after l m e h f g = subst (λ x. IsAdded s t x before after) (sym e) (subst (λ x. IsHeadAfter s.values x s.queue_head t.queue_head) e h, f, g)
+pub added-pair : (s t : View) (c : Clause) (before after : SatState) (l m : Literal) → c ≡ l ∷ m ∷ [] →
+    IsHeadAfter s.values c s.queue_head t.queue_head → t ≡ record s { binary = with_pair s.binary l m; queue_head = t.queue_head } →
+    after ≡ before → IsAdded s t c before after
+added-pair s t c before after l m e h f g = subst (λ x. IsAdded s t x before after) (sym e)
+    (subst (λ x. IsHeadAfter s.values x s.queue_head t.queue_head) e h, f, g)
 
 -- and a longer one
-pub added-long : (s t : View) (c : Clause) (before after : SatState) (j : StoredClause) → 3 ≤ length c → j.literals ≡ c → j.header ≡ record no_header { len = length j.literals } → AppendsClause s.clauses t.clauses j → IsHeadAfter s.values c s.queue_head t.queue_head → t ≡ record s { clauses = t.clauses; queue_head = t.queue_head } → after ≡ before → IsAdded s t c before after
+pub added-long : (s t : View) (c : Clause) (before after : SatState) (j : StoredClause) → 3 ≤ length c → j.literals ≡ c →
+    j.header ≡ record no_header { len = length j.literals } → AppendsClause s.clauses t.clauses j →
+    IsHeadAfter s.values c s.queue_head t.queue_head → t ≡ record s { clauses = t.clauses; queue_head = t.queue_head } → after ≡ before →
+    IsAdded s t c before after
 added-long s t [] before after j n e h k q f g = absurd (omega (arith, n))
 added-long s t (l ∷ []) before after j n e h k q f g = absurd (omega (arith, n))
 added-long s t (l ∷ m ∷ []) before after j n e h k q f g = absurd (omega (arith, n))
-added-long s t (l ∷ m ∷ o ∷ c) before after j n e h k q f g =
-    (j.place, subst (AppendsClause s.clauses t.clauses) (ap (λ (x : Header). record { place = j.place; header = x; literals = j.literals }) h ∙ ap (loaded_at j.place) e) k, q, f, g)
+added-long s t (l ∷ m ∷ o ∷ c) before after j n e h k q f g = (
+  j.place,
+  subst (AppendsClause s.clauses t.clauses)
+      (ap (λ (x : Header). record { place = j.place; header = x; literals = j.literals }) h ∙ ap (loaded_at j.place) e) k,
+  q,
+  f,
+  g,
+)
 
 module _ (s t : View) (lits : Clause) (r : Restarted s t) (a : MayBeAdded t lits) where
   abbrev pub IsLoadedWell : View → Type 0
   IsLoadedWell y = WellFormed y × (y.decisions ≡ []) × (length y.values ≡ length s.values)
 
-  pair-well : (l m : Literal) (h : ℕ) → h ≤ t.queue_head → MayBeAdded t (l ∷ m ∷ []) → IsLoadedWell (record t { binary = with_pair t.binary l m; queue_head = h })
+  pair-well : (l m : Literal) (h : ℕ) → h ≤ t.queue_head → MayBeAdded t (l ∷ m ∷ []) →
+      IsLoadedWell (record t { binary = with_pair t.binary l m; queue_head = h })
   pair-well l m h b q =
       let n = first-other t l m [] q in
       let first = q.paired l (inl refl) in
@@ -119,20 +146,27 @@ module _ (s t : View) (lits : Clause) (r : Restarted s t) (a : MayBeAdded t lits
   added-well z (l ∷ []) b after e q =
       ⊎_elim
       (λ (h, f, g). subst IsLoadedWell (sym f) (r.well, r.undecided, r.count))
-      (λ (free, f, g). subst IsLoadedWell (sym f) (enqueued-well t l reason.Unit r.well free.0 free.1 r.undecided, r.undecided, length-set t.values (variable_of l) (Some (polarity_of l)) ∙ r.count))
+      (λ (free, f, g). subst IsLoadedWell (sym f)
+      (enqueued-well t l reason.Unit r.well free.0 free.1 r.undecided, r.undecided, length-set t.values (variable_of l) (Some (polarity_of l)) ∙ r.count))
       q
-  added-well z (l ∷ m ∷ []) b after e (h, f, g) = subst IsLoadedWell (sym f) (pair-well l m z.queue_head (head-after t.values (l ∷ m ∷ []) t.queue_head z.queue_head h) (subst (MayBeAdded t) e a))
+  added-well z (l ∷ m ∷ []) b after e (h, f, g) = subst IsLoadedWell (sym f)
+      (pair-well l m z.queue_head (head-after t.values (l ∷ m ∷ []) t.queue_head z.queue_head h) (subst (MayBeAdded t) e a))
   added-well z (l ∷ m ∷ o ∷ ms) b after e (p, k, q, f, g) =
-      let f' : z ≡ record t { clauses = t.clauses ++ loaded_at p lits ∷ []; queue_head = z.queue_head } = f ∙ ap (λ y. record t { clauses = y; queue_head = z.queue_head }) k.0 ∙ ap (λ y. record t { clauses = t.clauses ++ loaded_at p y ∷ []; queue_head = z.queue_head }) (sym e) in
+      let f' : z ≡ record t { clauses = t.clauses ++ loaded_at p lits ∷ []; queue_head = z.queue_head } = f
+      ∙ ap (λ y. record t { clauses = y; queue_head = z.queue_head }) k.0
+      ∙ ap (λ y. record t { clauses = t.clauses ++ loaded_at p y ∷ []; queue_head = z.queue_head }) (sym e) in
       let n = ap (λ (x : Clause). length x) e in
       let i = head-after t.values (l ∷ m ∷ o ∷ ms) t.queue_head z.queue_head q in
-      subst IsLoadedWell (sym f') (let v = well-moved (with_kept t (loaded_at p lits) k.1 r.well) z.queue_head (kept-well t (loaded_at p lits) k.1 r.well a.inside (omega (arith, n)) a.distinct) (let u = r.well.head in omega (arith, i, u)) in (v, r.undecided, r.count))
+      subst IsLoadedWell (sym f') (let v = well-moved (with_kept t (loaded_at p lits) k.1 r.well) z.queue_head
+      (kept-well t (loaded_at p lits) k.1 r.well a.inside (omega (arith, n)) a.distinct) (let u = r.well.head in omega (arith, i, u)) in
+      (v, r.undecided, r.count))
 
 pub undecided-settled : (z : View) → z.decisions ≡ [] → LevelsSettled z
 undecided-settled z e j h = let n = ap (λ (x : List ℕ). length x) e in absurd (omega (arith, h, n))
 
 -- no clauses, no variables and no lists
-pub first-propagated : (W : Watches) (s : View) → W ≡ no_watches → s.values ≡ [] → s.clauses ≡ [] → s.binary ≡ [] → s.decisions ≡ [] → s.queue_head ≡ 0 → IsPropagated W s
+pub first-propagated : (W : Watches) (s : View) → W ≡ no_watches → s.values ≡ [] → s.clauses ≡ [] → s.binary ≡ [] → s.decisions ≡ [] →
+    s.queue_head ≡ 0 → IsPropagated W s
 first-propagated W s e v k o d q = record {
   lists = let a = ap (λ (x : Watches). length x.lists) e in let b = ap (λ (x : List (Option Bool)). length x) v in omega (arith, a, b);
   watching = λ h. subst (IsWatching W) (sym k) (watching-none W none);

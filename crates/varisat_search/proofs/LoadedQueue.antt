@@ -22,7 +22,8 @@ module _ (s : View) (f : WellFormed s) (none : s.decisions ≡ []) where
   not-false c l p n i h e = n (l, i, subst (λ x. IsTrueIn s x) e (f.is_true p (let o = f.head in omega (arith, h, o))))
 
   -- a clause of the store
-  module _ (W V : Watches) (c : StoredClause) (w : IsPropagated W s) (last : (k : StoredClause) → k ∈ s.clauses → k.place < c.place) (v : WatchesClause W V c.place c.literals) where
+  module _ (W V : Watches) (c : StoredClause) (w : IsPropagated W s) (last : (k : StoredClause) → k ∈ s.clauses → k.place < c.place)
+      (v : WatchesClause W V c.place c.literals) where
     unmoved : 2 ≤ length c.literals → (HasFalseLiteral s.values c.literals → ⊥) → IsPropagated V (record s { clauses = s.clauses ++ c ∷ [] })
     unmoved long n =
         let g = propagated-loaded W V s c w last v none in
@@ -30,20 +31,23 @@ module _ (s : View) (f : WellFormed s) (none : s.decisions ≡ []) where
           lists = g.lists;
           watching = g.watching;
           empty = g.empty;
-          settled = settled-more s.clauses c last s s.queue_head refl (λ j p a b e. absurd (not-false c.literals (literal_in c.literals j) p n (∈-get_or c.literals j 0 (omega (arith, a, long))) b e)) w.settled;
+          settled = settled-more s.clauses c last s s.queue_head refl
+              (λ j p a b e. absurd (not-false c.literals (literal_in c.literals j) p n (∈-get_or c.literals j 0 (omega (arith, a, long))) b e)) w.settled;
           binary = w.binary;
           implied = w.implied;
           queue = w.queue;
         }
 
-    pub propagated-kept : (h : ℕ) → 2 ≤ length c.literals → IsHeadAfter s.values c.literals s.queue_head h → IsPropagated V (record s { clauses = s.clauses ++ c ∷ []; queue_head = h })
+    pub propagated-kept : (h : ℕ) → 2 ≤ length c.literals → IsHeadAfter s.values c.literals s.queue_head h →
+        IsPropagated V (record s { clauses = s.clauses ++ c ∷ []; queue_head = h })
     propagated-kept h long a = ⊎_elim
         (λ (x, e). subst (λ q. IsPropagated V (record s { clauses = s.clauses ++ c ∷ []; queue_head = q })) (sym e) (propagated-loaded W V s c w last v none))
         (λ (n, e). subst (λ q. IsPropagated V (record s { clauses = s.clauses ++ c ∷ []; queue_head = q })) (sym e) (unmoved long n))
         a
 
   -- a clause of two literals
-  module _ (W : Watches) (l m : Literal) (first : opposite l < length s.binary) (second : opposite m < length s.binary) (other : l ≢ m) (w : IsPropagated W s) where
+  module _ (W : Watches) (l m : Literal) (first : opposite l < length s.binary) (second : opposite m < length s.binary) (other : l ≢ m)
+      (w : IsPropagated W s) where
     unmoved-pair : (HasFalseLiteral s.values (l ∷ m ∷ []) → ⊥) → IsPropagated W (record s { binary = with_pair s.binary l m })
     unmoved-pair n =
         let g = propagated-loaded-pair s l m first second other W w none in
@@ -60,8 +64,10 @@ module _ (s : View) (f : WellFormed s) (none : s.decisions ≡ []) where
           queue = w.queue;
         }
 
-    pub propagated-kept-pair : (h : ℕ) → IsHeadAfter s.values (l ∷ m ∷ []) s.queue_head h → IsPropagated W (record s { binary = with_pair s.binary l m; queue_head = h })
+    pub propagated-kept-pair : (h : ℕ) → IsHeadAfter s.values (l ∷ m ∷ []) s.queue_head h →
+        IsPropagated W (record s { binary = with_pair s.binary l m; queue_head = h })
     propagated-kept-pair h a = ⊎_elim
-        (λ (x, e). subst (λ q. IsPropagated W (record s { binary = with_pair s.binary l m; queue_head = q })) (sym e) (propagated-loaded-pair s l m first second other W w none))
+        (λ (x, e). subst (λ q. IsPropagated W (record s { binary = with_pair s.binary l m; queue_head = q })) (sym e)
+        (propagated-loaded-pair s l m first second other W w none))
         (λ (n, e). subst (λ q. IsPropagated W (record s { binary = with_pair s.binary l m; queue_head = q })) (sym e) (unmoved-pair n))
         a

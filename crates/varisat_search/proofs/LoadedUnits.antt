@@ -18,12 +18,14 @@ one-is : (c : Clause) (l m : Literal) → SameSet (m ∷ c) (l ∷ []) → m ≡
 one-is c l m e = ⊎_elim (λ f. f) (λ z. absurd z) (e.0 m (inl refl))
 
 -- a literal that is added on its own
-pub unit-added : (s t : View) (c : Clause) (l : Literal) (before after : SatState) → IsDistinct c → SameSet c (l ∷ []) → IsAdded s t c before after → LoadsUnit s t l
+pub unit-added : (s t : View) (c : Clause) (l : Literal) (before after : SatState) → IsDistinct c → SameSet c (l ∷ []) →
+    IsAdded s t c before after → LoadsUnit s t l
 unit-added s t [] l before after d e (f, v) = subst (λ z. LoadsUnit s z l) (sym f) (unit-same s l)
 unit-added s t (m ∷ []) l before after d e a =
     ⊎_elim
     (λ (o, f, v). subst (λ z. LoadsUnit s z l) (sym f) (unit-same s l))
-    (λ (o, f, v). subst (λ z. LoadsUnit s z l) (sym f) record { clauses = refl; head = λ n. refl; trail = λ n. inr (ap (λ x. s.trail ++ x ∷ []) (one-is [] l m e)) })
+    (λ (o, f, v). subst (λ z. LoadsUnit s z l)
+    (sym f) record { clauses = refl; head = λ n. refl; trail = λ n. inr (ap (λ x. s.trail ++ x ∷ []) (one-is [] l m e)) })
     a
 unit-added s t (m ∷ k ∷ c) l before after d e a =
     absurd (d.0 (inl (one-is (k ∷ c) l m e ∙ sym (⊎_elim (λ f. f) (λ z. absurd z) (e.0 k (inr (inl refl)))))))
@@ -44,5 +46,6 @@ module _ {A : Type 0} {x0 x1 : Context A} {c lits : Clause} (d : Loading x0 x1 c
       record {
         clauses = u.clauses ∙ restarted-kept (view x0) (view x1) r;
         head = λ n. u.head r.undecided ∙ ap (λ (v : View). v.queue_head) (d.same n);
-        trail = λ n. subst (λ (xs : List Literal). (z.trail.literals ≡ xs) ⊎ (z.trail.literals ≡ xs ++ l ∷ [])) (ap (λ (v : View). v.trail) (d.same n)) (u.trail r.undecided);
+        trail = λ n. subst (λ (xs : List Literal). (z.trail.literals ≡ xs) ⊎ (z.trail.literals ≡ xs ++ l ∷ []))
+            (ap (λ (v : View). v.trail) (d.same n)) (u.trail r.undecided);
       }

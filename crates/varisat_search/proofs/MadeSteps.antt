@@ -43,7 +43,8 @@ made-are x y P Q are m = record {
 }
 
 -- what its lines lead to is a part of how they are
-pub made-with : {A : Type 0} (x y : Context A) (P : List Line → Type 0) → MakesStep P x y → MakesStep (λ lines. Steps (search_of (view x)) (search_of (view y)) (outcome_at y) lines × P lines) x y
+pub made-with : {A : Type 0} (x y : Context A) (P : List Line → Type 0) → MakesStep P x y →
+    MakesStep (λ lines. Steps (search_of (view x)) (search_of (view y)) (outcome_at y) lines × P lines) x y
 made-with x y P m = record {
   ready = m.ready;
   steps = let (lines, p, i) = m.steps in (lines, p, (p, i));
@@ -94,7 +95,9 @@ module _ {A : Type 0} (x y : Context A) (r : IsReady x) (f : Finds x y) where
   abbrev ended : SatState → Context A
   ended b = record y { solver_state = record y.solver_state { sat_state = b } }
 
-  pub made-ended : (b : SatState) (P : List Line → Type 0) → P [] → (b ≡ verdict.Unknown → ⊥) → Steps (search_of (view y)) (search_of (view y)) (outcome_of (view y) y.assumptions.failed_core b) [] → KeepsAssumptions (search_of (view x)) (outcome_of (view y) y.assumptions.failed_core b) x.assumptions y.assumptions → MakesStep P x (ended b)
+  pub made-ended : (b : SatState) (P : List Line → Type 0) → P [] → (b ≡ verdict.Unknown → ⊥) →
+      Steps (search_of (view y)) (search_of (view y)) (outcome_of (view y) y.assumptions.failed_core b) [] →
+      KeepsAssumptions (search_of (view x)) (outcome_of (view y) y.assumptions.failed_core b) x.assumptions y.assumptions → MakesStep P x (ended b)
   made-ended b P none known steps assumes = record {
     ready = ready-with y (ended b) f.ready refl refl refl f.ready.propagated f.ready.decidable f.ready.assumed f.ready.assumable;
     steps = ([], steps-after (view x) (view y) (view y) (outcome_of (view y) y.assumptions.failed_core b) [] r.well f.ready.well f.grows steps, none);
@@ -115,23 +118,37 @@ module _ {A : Type 0} (x y : Context A) (r : IsReady x) (f : Finds x y) where
       record {
         ready = e.ready;
         steps = (lines, steps-after (view x) (view y) (view z) (outcome_at z) lines r.well f.ready.well f.grows p, i);
-        assumes = keeps-learned (view x) (view z) x.assumptions y.assumptions z.assumptions z.assumptions.failed_core z.solver_state.sat_state r.well f.taken e.assumptions e.known;
+        assumes = keeps-learned (view x) (view z) x.assumptions y.assumptions z.assumptions z.assumptions.failed_core z.solver_state.sat_state
+            r.well f.taken e.assumptions e.known;
         rises = λ u. rises-after (view x) (view y) (view z) r.well f.ready.well e.ready.well f.grows e.count (e.rises u);
         decidable = same-trans (view x) x.vsids (view y) y.vsids (view z) z.vsids f.decidable e.decidable;
         decay = e.decay ∙ ap (λ (a : Activities). a.decay) f.activities;
-        last = remembers-grown (view x) (view y) x.assignment.last z.assignment.last f.ready.well f.grows (subst (λ xs. SavesSome (view y) xs z.assignment.last) f.last saves);
+        last = remembers-grown (view x) (view y) x.assignment.last z.assignment.last f.ready.well f.grows
+            (subst (λ xs. SavesSome (view y) xs z.assignment.last) f.last saves);
         count = e.count ∙ f.grows.count;
         units = e.units ∙ f.units;
         state = e.state ∙ ap (λ (a : SolverState). record a { sat_state = z.solver_state.sat_state }) f.state;
       }
 
 -- a clause is learned at once
-pub made-at-once : {A : Type 0} (y z : Context A) (P : List Line → Type 0) → IsReady y → IsStepFurther P y z → SavesSome (view y) y.assignment.last z.assignment.last → MakesStep P y z
+pub made-at-once : {A : Type 0} (y z : Context A) (P : List Line → Type 0) → IsReady y → IsStepFurther P y z →
+    SavesSome (view y) y.assignment.last z.assignment.last → MakesStep P y z
 made-at-once y z P r e saves = made-learned y y r (finds-refl y r) z P e saves
 
 -- 2. Units that are settled, from x to y.
 
-pub made-settled : {A : Type 0} (x y z : Context A) (P Q R : List Line → Type 0) → ((first more : List Line) → P first → Q more → R (first ++ more)) → IsReady x → GoesOnByLines P x y → y ≡ record x { assignment = y.assignment; binary_clauses = y.binary_clauses; clause_alloc = y.clause_alloc; clause_db = y.clause_db; impl_graph = y.impl_graph; trail = y.trail; watchlists = y.watchlists } → MakesStep Q y z → MakesStep R x z
+pub made-settled : {A : Type 0} (x y z : Context A) (P Q R : List Line → Type 0) →
+    ((first more : List Line) → P first → Q more → R (first ++ more)) → IsReady x → GoesOnByLines P x y →
+    y ≡ record x {
+      assignment = y.assignment;
+      binary_clauses = y.binary_clauses;
+      clause_alloc = y.clause_alloc;
+      clause_db =
+          y.clause_db;
+      impl_graph = y.impl_graph;
+      trail = y.trail;
+      watchlists = y.watchlists;
+    } → MakesStep Q y z → MakesStep R x z
 made-settled {A} x y z P Q R join r a k m =
     let v = outcome_at z in
     let (lines, p, i) = m.steps in

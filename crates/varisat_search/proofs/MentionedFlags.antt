@@ -31,7 +31,8 @@ clause-none flags = record {
   flagged = λ v. (inl, λ o. ⊎_elim (λ a. a) (λ (c, i, l, h, q). absurd (⊎_elim (λ e. subst (λ d. l ∈ d) e h) (λ z. z) i)) o);
 }
 
-pub clause-more : (ls : List Literal) (l i : ℕ) (old new : List Bool) → i ≡ variable_of l → i < length new → FlagsAlso (ls ∷ []) old new → FlagsAlso ((ls ++ l ∷ []) ∷ []) old (set new i true)
+pub clause-more : (ls : List Literal) (l i : ℕ) (old new : List Bool) → i ≡ variable_of l → i < length new → FlagsAlso (ls ∷ []) old new →
+    FlagsAlso ((ls ++ l ∷ []) ∷ []) old (set new i true)
 clause-more ls l i old new e h f = record {
   count = length-set new i true ∙ f.count;
   flagged = λ v. (
@@ -72,10 +73,13 @@ but-all P flags = record {
 }
 
 -- those of the clause at the first place that is left were set, too
-pub but-next : (P : List StoredClause) (p : ℕ) (left : List ℕ) (old mid new : List Bool) → FlagsBut P (p ∷ left) old mid → FlagsAlso (literals_at P p ∷ []) mid new → FlagsBut P left old new
+pub but-next : (P : List StoredClause) (p : ℕ) (left : List ℕ) (old mid new : List Bool) → FlagsBut P (p ∷ left) old mid →
+    FlagsAlso (literals_at P p ∷ []) mid new → FlagsBut P left old new
 but-next P p left old mid new b f = record {
   count = f.count ∙ b.count;
-  only = λ v a. ⊎_elim (b.only v) (λ (c, i, l, h, q). inr (literals_at P p, kept-at P p (b.places p (inl refl)), l, ⊎_elim (λ e. subst (λ d. l ∈ d) e h) (λ z. absurd z) i, q)) ((f.flagged v).0 a);
+  only = λ v a. ⊎_elim (b.only v)
+      (λ (c, i, l, h, q). inr (literals_at P p, kept-at P p (b.places p (inl refl)), l, ⊎_elim (λ e. subst (λ d. l ∈ d) e h) (λ z. absurd z) i, q))
+      ((f.flagged v).0 a);
   old = λ v a. (f.flagged v).1 (inl (b.old v a));
   done = λ q l h i. ⊎_elim
       (λ j. ⊎_elim
@@ -113,7 +117,8 @@ pub below-none : (B : List (List Literal)) (flags : List Bool) → ImplyingBelow
 below-none B flags = record { count = refl; flagged = λ v. (inl, λ o. ⊎_elim (λ a. a) (λ (l, m, b, h, q). absurd (omega (arith, b))) o) }
 
 -- the next literal implies none
-pub below-empty : (size : ℕ) (B : List (List Literal)) (old new : List Bool) → get_or B size [] ≡ [] → ImplyingBelow size B old new → ImplyingBelow (size + 1) B old new
+pub below-empty : (size : ℕ) (B : List (List Literal)) (old new : List Bool) → get_or B size [] ≡ [] → ImplyingBelow size B old new →
+    ImplyingBelow (size + 1) B old new
 below-empty size B old new e f = record {
   count = f.count;
   flagged = λ v. (
@@ -129,7 +134,8 @@ below-empty size B old new e f = record {
 }
 
 -- the next literal implies some
-pub below-more : (size i : ℕ) (B : List (List Literal)) (old new : List Bool) → get_or B size [] ≢ [] → i ≡ variable_of size → i < length new → ImplyingBelow size B old new → ImplyingBelow (size + 1) B old (set new i true)
+pub below-more : (size i : ℕ) (B : List (List Literal)) (old new : List Bool) → get_or B size [] ≢ [] → i ≡ variable_of size → i < length new →
+    ImplyingBelow size B old new → ImplyingBelow (size + 1) B old (set new i true)
 below-more size i B old new e same h f = record {
   count = length-set new i true ∙ f.count;
   flagged = λ v. (
@@ -172,7 +178,8 @@ none-flagged zero v e = let z : false ≡ true = e in cc
 none-flagged (suc n) zero e = let z : false ≡ true = e in cc
 none-flagged (suc n) (suc v) e = none-flagged n v e
 
-pub all-flagged : (s : View) (none mid new : List Bool) → WellFormed s → none ≡ replicate (length s.values) false → FlagsAlso (literals_of s.clauses) none mid → FlagsImplying s.binary mid new → FlagsMentioned s new
+pub all-flagged : (s : View) (none mid new : List Bool) → WellFormed s → none ≡ replicate (length s.values) false →
+    FlagsAlso (literals_of s.clauses) none mid → FlagsImplying s.binary mid new → FlagsMentioned s new
 all-flagged s none mid new w start f g = record {
   count = g.count ∙ f.count ∙ ap length start ∙ length-replicate (length s.values) false;
   flagged = λ v. (
@@ -215,7 +222,8 @@ none_flags = []
 
 -- a list that was empty was made longer
 pub made-anew : (n m : ℕ) (old : List Bool) → old ≡ [] → m ≡ 0 → take n old ++ replicate (n - m) false ≡ replicate n false
-made-anew n m old e z = ap (λ xs. take n xs ++ replicate (n - m) false) e ∙ ap (λ xs. xs ++ replicate (n - m) false) (none n) ∙ ap (λ k. replicate k false) (omega (arith, z))
+made-anew n m old e z = ap (λ xs. take n xs ++ replicate (n - m) false) e ∙ ap (λ xs. xs ++ replicate (n - m) false) (none n)
+    ∙ ap (λ k. replicate k false) (omega (arith, z))
   where
     none : (n : ℕ) → take n [] ≡ none_flags
     none zero = refl

@@ -30,7 +30,8 @@ unmapped-same map u v a b =
     (λ h. ⊎_elim (λ i. absurd (a.1 v i b.0)) (λ i. let z : u ≡ v = omega (arith, h, i) in z) (cases_lt v u))
     (cases_lt u v)
 
-pub shown-more : (us : List ℕ) (old mid new : Tables) (x u : ℕ) → AreShownInTurn us old mid → (kept_at mid.kept x).deleted ≡ false → at mid.users.backward x ≡ None → IsShown mid new x sampling.Witness u → AreShownInTurn (us ++ u ∷ []) old new
+pub shown-more : (us : List ℕ) (old mid new : Tables) (x u : ℕ) → AreShownInTurn us old mid → (kept_at mid.kept x).deleted ≡ false →
+    at mid.users.backward x ≡ None → IsShown mid new x sampling.Witness u → AreShownInTurn (us ++ u ∷ []) old new
 shown-more [] old mid new x u e live unnamed n =
     subst (λ t. AreShownInTurn (u ∷ []) t new) e (new, x, live, unnamed, n, refl)
 shown-more (v ∷ us) old mid new x u (t, y, a, b, s, rest) live unnamed n = (t, y, a, b, s, shown-more us t mid new x u rest live unnamed n)
@@ -40,7 +41,8 @@ shown-then [] vs old mid new e b = subst (λ t. AreShownInTurn vs t new) e b
 shown-then (u ∷ us) vs old mid new (t, y, live, unnamed, s, rest) b = (t, y, live, unnamed, s, shown-then us vs t mid new rest b)
 
 -- some came back, and then one more may be back
-pub shown-refused : {T E : Type 0} (r : Result T E) (us : List ℕ) (old mid new : Tables) → AreShownInTurn us old mid → (vs : List ℕ) × AreShownInTurn vs mid new → OnErr r ((ws : List ℕ) × AreShownInTurn ws old new)
+pub shown-refused : {T E : Type 0} (r : Result T E) (us : List ℕ) (old mid new : Tables) → AreShownInTurn us old mid → (vs : List ℕ)
+    × AreShownInTurn vs mid new → OnErr r ((ws : List ℕ) × AreShownInTurn ws old new)
 shown-refused (Ok x) us old mid new a b = tt
 shown-refused (Err e) us old mid new a (vs, b) = (us ++ vs, shown-then us vs old mid new a b)
 
@@ -59,7 +61,8 @@ one-more-below x us vs old mid new s (Passed r same e) =
     let near = s.near in
     subst (λ t. ShowsBelow (x + 1) vs old t) (sym same) (subst (λ ws. ShowsBelow (x + 1) ws old mid) (sym e) (record {
       in_turn = s.in_turn;
-      rest = λ y h. ⊎_elim (λ q. subst (λ z. at mid.users.backward z ≡ None → (kept_at mid.kept z).deleted ≡ true) (sym q) r) (λ n. s.rest y (omega (arith, h, n))) (equal_or_not y x);
+      rest = λ y h. ⊎_elim (λ q. subst (λ z. at mid.users.backward z ≡ None → (kept_at mid.kept z).deleted ≡ true) (sym q) r)
+          (λ n. s.rest y (omega (arith, h, n))) (equal_or_not y x);
       count = s.count;
       near = omega (arith, near);
     }))
@@ -74,8 +77,10 @@ one-more-below x us vs old mid new s (Shown u live unnamed n e) =
     subst (λ ws. ShowsBelow (x + 1) ws old new) (sym e) (record {
       in_turn = shown-more us old mid new x u s.in_turn live unnamed n;
       rest = λ y h f. ⊎_elim
-          (λ q. let z : None ≡ Some u = sym f ∙ ap (at new.users.backward) q ∙ n.users.backward.at_each x ∙ updated-at (at mid.users.backward) x (Some u) in absurd cc)
-          (λ m. ap (λ d. d.deleted) (n.kept.at_each y ∙ updated-other (kept_at mid.kept) x d y m) ∙ s.rest y (omega (arith, h, m)) (sym (n.users.backward.at_each y ∙ updated-other (at mid.users.backward) x (Some u) y m) ∙ f))
+          (λ q. let z : None ≡ Some u = sym f ∙ ap (at new.users.backward) q ∙ n.users.backward.at_each x
+          ∙ updated-at (at mid.users.backward) x (Some u) in absurd cc)
+          (λ m. ap (λ d. d.deleted) (n.kept.at_each y ∙ updated-other (kept_at mid.kept) x d y m)
+          ∙ s.rest y (omega (arith, h, m)) (sym (n.users.backward.at_each y ∙ updated-other (at mid.users.backward) x (Some u) y m) ∙ f))
           (equal_or_not y x);
       count = omega (arith, c, inside, count);
       near = omega (arith, w, least, near);

@@ -25,7 +25,8 @@ use Rattle.varisat_search.proofs.LevelsSettled.{makes-true}
 use Rattle.varisat_search.proofs.ReadyAfter.{ready-with, decided-ready}
 
 -- a core of the assumption that failed is one of assumptions, where all decisions are such
-pub core-assumed : (s : View) (y : AssumptionParts) (l : Literal) (core : List Literal) → HasAssumptions s y → y.levels ≡ length s.decisions → l ∈ y.working → ListsFailedCore s l core → core ⊆ y.working
+pub core-assumed : (s : View) (y : AssumptionParts) (l : Literal) (core : List Literal) → HasAssumptions s y → y.levels ≡ length s.decisions →
+    l ∈ y.working → ListsFailedCore s l core → core ⊆ y.working
 core-assumed s y l core h e i f x m =
     ⊎_elim
     (λ q. subst (λ z. z ∈ y.working) (sym q) i)
@@ -44,7 +45,8 @@ model-assumed s x w h e l i =
     let d = (w.decided j (omega (arith, j', r))).0 in
     makes-true s l (subst (IsTrueIn s) (h.decided j j' ∙ q) (w.is_true (decision_at s j) d))
 
-module _ {A : Type 0} (x : Context A) (y : AssumptionParts) (r : IsReady x) (t : TakesOutTrue x.assignment.current (length x.trail.decisions) x.assumptions y) where
+module _ {A : Type 0} (x : Context A) (y : AssumptionParts) (r : IsReady x)
+    (t : TakesOutTrue x.assignment.current (length x.trail.decisions) x.assumptions y) where
   left-levels : HasAssumptions (view x) y
   left-levels = has-taken (view x) x.assumptions y r.well r.assumed t
 
@@ -73,10 +75,12 @@ module _ {A : Type 0} (x : Context A) (y : AssumptionParts) (r : IsReady x) (t :
     pub failed-levels : (core : List Literal) → HasAssumptions (view x) (record y { failed_core = core })
     failed-levels core = let h = left-levels in record { reached = h.reached; listed = h.listed; decided = h.decided; first = h.first; in_range = h.in_range }
 
-    pub failed-ready : (z : Context A) (core : List Literal) → z ≡ record x { assumptions = record y { failed_core = core }; tmp_flags = z.tmp_flags } → z.tmp_flags.flags.items ≡ x.tmp_flags.flags.items → IsReady z
+    pub failed-ready : (z : Context A) (core : List Literal) → z ≡ record x
+        { assumptions = record y { failed_core = core }; tmp_flags = z.tmp_flags } → z.tmp_flags.flags.items ≡ x.tmp_flags.flags.items → IsReady z
     failed-ready z core k f =
         subst IsReady (sym k)
-        (ready-with x (record x { assumptions = record y { failed_core = core }; tmp_flags = z.tmp_flags }) r refl refl f r.propagated r.decidable (failed-levels core) left-decidable)
+        (ready-with x (record x { assumptions = record y { failed_core = core }; tmp_flags = z.tmp_flags }) r refl refl f r.propagated r.decidable
+        (failed-levels core) left-decidable)
 
     pub has-failed : (core : List Literal) → ListsFailedCore (view x) l core → HasFailed (view x) (record y { failed_core = core })
     has-failed core f = (l, f, core-assumed (view x) y l core left-levels (all-assumed (view x) x.assumptions y r.well r.assumed t n) next-in f)
@@ -89,23 +93,35 @@ module _ {A : Type 0} (x : Context A) (y : AssumptionParts) (r : IsReady x) (t :
     next-same z free d k =
         let s = record (view x) { decisions = (view x).decisions ++ length (view x).trail ∷ [] } in
         subst (λ u. SameDecidable (view x) x.vsids u z.vsids) (sym d)
-        (subst (SameDecidable (view x) x.vsids (decided_on (view x) l)) (sym k) (enqueued-same s x.vsids l reason.Unit free.0 (r.assumable l (t.part l next-in))))
+        (subst (SameDecidable (view x) x.vsids (decided_on (view x) l)) (sym k)
+        (enqueued-same s x.vsids l reason.Unit free.0 (r.assumable l (t.part l next-in))))
 
-    pub next-ready : (z : Context A) (m : ℕ) → IsComplete (kept (view x)) x.trail.literals → x.trail.queue_head ≡ length x.trail.literals → IsFree (view x) l → view z ≡ decided_on (view x) l → m ≡ length z.trail.decisions → z ≡ record x { assignment = z.assignment; assumptions = record y { levels = m }; impl_graph = z.impl_graph; trail = z.trail } → IsReady z
+    pub next-ready : (z : Context A) (m : ℕ) → IsComplete (kept (view x)) x.trail.literals → x.trail.queue_head ≡ length x.trail.literals →
+        IsFree (view x) l → view z ≡ decided_on (view x) l → m ≡ length z.trail.decisions →
+        z ≡ record x { assignment = z.assignment; assumptions = record y { levels = m }; impl_graph = z.impl_graph; trail = z.trail } → IsReady z
     next-ready z m q head free d c k =
         let vsids = ap (λ (u : Context A). u.vsids) k in
         let list = ap (λ (u : Context A). u.assumptions) k in
         let same = next-same z free d vsids in
         let count : length (view z).values ≡ length (view x).values = ap (λ (u : View). length u.values) d ∙ length-set (view x).values (variable_of l) _ in
         let entries = r.decidable.entries in
-        let levels = has-decided (view x) y l r.well left-levels (all-assumed (view x) x.assumptions y r.well r.assumed t n) n e m (c ∙ ap (λ (u : View). length u.decisions) d) in
+        let levels = has-decided (view x) y l r.well left-levels (all-assumed (view x) x.assumptions y r.well r.assumed t n) n e m
+        (c ∙ ap (λ (u : View). length u.decisions) d) in
         decided-ready x z l r q head free d (k ∙ other-names z m vsids list)
         (can-decide (view x) x.vsids (view z) z.vsids
-        (record { activity = ap (λ (a : Activities). length a.activity) vsids ∙ entries.activity ∙ sym count; available = ap (λ (a : Activities). length a.available) vsids ∙ entries.available ∙ sym count })
+        (record {
+          activity = ap (λ (a : Activities). length a.activity) vsids ∙ entries.activity
+              ∙ sym count;
+          available = ap (λ (a : Activities). length a.available) vsids ∙ entries.available ∙ sym count;
+        })
         same
         (λ f i. r.decidable.decidable f (subst (λ ks. f ∈ ks) (ap kept d) i)))
         (subst (λ a. HasAssumptions (view z) a) (sym list) (subst (λ u. HasAssumptions u (record y { levels = m })) (sym d) levels))
-        (still-assumable (view x) x.vsids (view z) z.vsids x.assumptions.working z.assumptions.working same (λ p i. t.part p (subst (λ (a : AssumptionParts). p ∈ a.working) list i)) r.assumable)
+        (still-assumable (view x) x.vsids (view z) z.vsids x.assumptions.working z.assumptions.working same
+        (λ p i. t.part p (subst (λ (a : AssumptionParts). p ∈ a.working) list i)) r.assumable)
       where
-        other-names : (z : Context A) (m : ℕ) → z.vsids ≡ x.vsids → z.assumptions ≡ record y { levels = m } → record x { assignment = z.assignment; assumptions = record y { levels = m }; impl_graph = z.impl_graph; trail = z.trail } ≡ record x { assignment = z.assignment; assumptions = z.assumptions; impl_graph = z.impl_graph; trail = z.trail; vsids = z.vsids }
-        other-names z m v a = ap (λ b. record x { assignment = z.assignment; assumptions = b; impl_graph = z.impl_graph; trail = z.trail }) (sym a) ∙ ap (λ b. record x { assignment = z.assignment; assumptions = z.assumptions; impl_graph = z.impl_graph; trail = z.trail; vsids = b }) (sym v)
+        other-names : (z : Context A) (m : ℕ) → z.vsids ≡ x.vsids → z.assumptions ≡ record y { levels = m } →
+            record x { assignment = z.assignment; assumptions = record y { levels = m }; impl_graph = z.impl_graph; trail = z.trail } ≡ record x
+            { assignment = z.assignment; assumptions = z.assumptions; impl_graph = z.impl_graph; trail = z.trail; vsids = z.vsids }
+        other-names z m v a = ap (λ b. record x { assignment = z.assignment; assumptions = b; impl_graph = z.impl_graph; trail = z.trail }) (sym a)
+            ∙ ap (λ b. record x { assignment = z.assignment; assumptions = z.assumptions; impl_graph = z.impl_graph; trail = z.trail; vsids = b }) (sym v)

@@ -38,30 +38,40 @@ pub packed-live : (q : ℕ) (ks : List StoredClause) → ((k : StoredClause) →
 packed-live q [] h = refl
 packed-live q (k ∷ ks) h =
     let j : StoredClause = packed_at q k in
-    ap (λ b. cond b (live_of (packed (q + size_of k) ks)) (j ∷ live_of (packed (q + size_of k) ks))) (h k (inl refl)) ∙ ap (λ xs. j ∷ xs) (packed-live (q + size_of k) ks (λ x i. h x (inr i)))
+    ap (λ b. cond b (live_of (packed (q + size_of k) ks)) (j ∷ live_of (packed (q + size_of k) ks))) (h k (inl refl))
+    ∙ ap (λ xs. j ∷ xs) (packed-live (q + size_of k) ks (λ x i. h x (inr i)))
 
 -- a clause by its new place
-pub packed-place : (q : ℕ) (ks : List StoredClause) (p : ℕ) → IsPlace ks p → IsPlace (packed q ks) (new_place ks (packed q ks) p) × (literals_at (packed q ks) (new_place ks (packed q ks) p) ≡ literals_at ks p)
+pub packed-place : (q : ℕ) (ks : List StoredClause) (p : ℕ) → IsPlace ks p → IsPlace (packed q ks) (new_place ks (packed q ks) p)
+    × (literals_at (packed q ks) (new_place ks (packed q ks) p) ≡ literals_at ks p)
 packed-place q [] p (x, h, e) = absurd h
 packed-place q (k ∷ ks) p h = ⊎_elim here (later (packed-place (q + size_of k) ks p)) (equal_or_not k.place p)
   where
-    here : k.place ≡ p → IsPlace (packed q (k ∷ ks)) (new_place (k ∷ ks) (packed q (k ∷ ks)) p) × (literals_at (packed q (k ∷ ks)) (new_place (k ∷ ks) (packed q (k ∷ ks)) p) ≡ literals_at (k ∷ ks) p)
+    here : k.place ≡ p → IsPlace (packed q (k ∷ ks)) (new_place (k ∷ ks) (packed q (k ∷ ks)) p)
+        × (literals_at (packed q (k ∷ ks)) (new_place (k ∷ ks) (packed q (k ∷ ks)) p) ≡ literals_at (k ∷ ks) p)
     here e =
         let f : new_place (k ∷ ks) (packed q (k ∷ ks)) p ≡ q = ap (λ b. cond b q (new_place ks (packed (q + size_of k) ks) p)) (is-same k.place p e) in
         subst (λ (x : ℕ). IsPlace (packed q (k ∷ ks)) x × (literals_at (packed q (k ∷ ks)) x ≡ literals_at (k ∷ ks) p)) (sym f) (
           (packed_at q k, inl refl, refl),
-          ap (λ (x : StoredClause). x.literals) (stored-here (packed_at q k) (packed (q + size_of k) ks) q refl) ∙ sym (ap (λ (x : StoredClause). x.literals) (stored-here k ks p e)),
+          ap (λ (x : StoredClause). x.literals) (stored-here (packed_at q k) (packed (q + size_of k) ks) q refl)
+              ∙ sym (ap (λ (x : StoredClause). x.literals) (stored-here k ks p e)),
         )
 
-    later : (IsPlace ks p → IsPlace (packed (q + size_of k) ks) (new_place ks (packed (q + size_of k) ks) p) × (literals_at (packed (q + size_of k) ks) (new_place ks (packed (q + size_of k) ks) p) ≡ literals_at ks p)) → (k.place ≡ p → ⊥) → IsPlace (packed q (k ∷ ks)) (new_place (k ∷ ks) (packed q (k ∷ ks)) p) × (literals_at (packed q (k ∷ ks)) (new_place (k ∷ ks) (packed q (k ∷ ks)) p) ≡ literals_at (k ∷ ks) p)
+    later : (IsPlace ks p → IsPlace (packed (q + size_of k) ks) (new_place ks (packed (q + size_of k) ks) p)
+        × (literals_at (packed (q + size_of k) ks) (new_place ks (packed (q + size_of k) ks) p) ≡ literals_at ks p)) → (k.place ≡ p → ⊥) →
+        IsPlace (packed q (k ∷ ks)) (new_place (k ∷ ks) (packed q (k ∷ ks)) p)
+        × (literals_at (packed q (k ∷ ks)) (new_place (k ∷ ks) (packed q (k ∷ ks)) p) ≡ literals_at (k ∷ ks) p)
     later o n =
-        let f : new_place (k ∷ ks) (packed q (k ∷ ks)) p ≡ new_place ks (packed (q + size_of k) ks) p = ap (λ b. cond b q (new_place ks (packed (q + size_of k) ks) p)) (is-other k.place p n) in
+        let f : new_place (k ∷ ks) (packed q (k ∷ ks)) p ≡ new_place ks (packed (q + size_of k) ks) p =
+        ap (λ b. cond b q (new_place ks (packed (q + size_of k) ks) p)) (is-other k.place p n) in
         let ((x, i, e), r) = o (place-later k ks p h n) in
         let low = packed-low (q + size_of k) ks x i in
         let apart : q ≢ new_place ks (packed (q + size_of k) ks) p = λ z. absurd (omega (arith, low, e, z)) in
         subst (λ (y : ℕ). IsPlace (packed q (k ∷ ks)) y × (literals_at (packed q (k ∷ ks)) y ≡ literals_at (k ∷ ks) p)) (sym f) (
           (x, inr i, e),
-          ap (λ (y : StoredClause). y.literals) (stored-later (packed_at q k) (packed (q + size_of k) ks) (new_place ks (packed (q + size_of k) ks) p) apart) ∙ r ∙ sym (ap (λ (y : StoredClause). y.literals) (stored-later k ks p n)),
+          ap (λ (y : StoredClause). y.literals)
+              (stored-later (packed_at q k) (packed (q + size_of k) ks) (new_place ks (packed (q + size_of k) ks) p) apart) ∙ r
+              ∙ sym (ap (λ (y : StoredClause). y.literals) (stored-later k ks p n)),
         )
 
 -- each clause of the second list stands at a place that is no higher than that of its clause in the first
@@ -70,18 +80,23 @@ AreBelow [] js = Unit {0}
 AreBelow (k ∷ ks) [] = ⊥
 AreBelow (k ∷ ks) (j ∷ js) = (j.place ≤ k.place) × AreBelow ks js
 
-below-from : (ws : List ℕ) (low high : ℕ) (ps : List ℕ) (q : ℕ) → FitsWords ws low high ps → q ≤ low → AreBelow (live_of (map (clause_in ws) ps)) (packed q (live_of (map (clause_in ws) ps)))
+below-from : (ws : List ℕ) (low high : ℕ) (ps : List ℕ) (q : ℕ) → FitsWords ws low high ps → q ≤ low →
+    AreBelow (live_of (map (clause_in ws) ps)) (packed q (live_of (map (clause_in ws) ps)))
 below-from ws low high [] q f h = tt
 below-from ws low high (p ∷ ps) q f h =
     let k : StoredClause = clause_in ws p in
     let b = f.0.begins in
     let n : length k.literals ≤ len_at ws p = short (len_at ws p) (drop (p + 3) ws) in
-    go k.header.deleted (omega (arith, h, b)) (below-from ws (p + 3 + len_at ws p) high ps q f.1 (omega (arith, h, b))) (below-from ws (p + 3 + len_at ws p) high ps (q + size_of k) f.1 (omega (arith, h, b, n)))
+    go k.header.deleted (omega (arith, h, b)) (below-from ws (p + 3 + len_at ws p) high ps q f.1 (omega (arith, h, b)))
+    (below-from ws (p + 3 + len_at ws p) high ps (q + size_of k) f.1 (omega (arith, h, b, n)))
   where
     short : (n : ℕ) (xs : List ℕ) → length (take n xs) ≤ n
     short n xs = let e = length-take n xs in omega (arith, e)
 
-    go : (d : Bool) → q ≤ p → AreBelow (live_of (map (clause_in ws) ps)) (packed q (live_of (map (clause_in ws) ps))) → AreBelow (live_of (map (clause_in ws) ps)) (packed (q + size_of (clause_in ws p)) (live_of (map (clause_in ws) ps))) → AreBelow (cond d (live_of (map (clause_in ws) ps)) (clause_in ws p ∷ live_of (map (clause_in ws) ps))) (packed q (cond d (live_of (map (clause_in ws) ps)) (clause_in ws p ∷ live_of (map (clause_in ws) ps))))
+    go : (d : Bool) → q ≤ p → AreBelow (live_of (map (clause_in ws) ps)) (packed q (live_of (map (clause_in ws) ps))) →
+        AreBelow (live_of (map (clause_in ws) ps)) (packed (q + size_of (clause_in ws p)) (live_of (map (clause_in ws) ps))) →
+        AreBelow (cond d (live_of (map (clause_in ws) ps)) (clause_in ws p ∷ live_of (map (clause_in ws) ps)))
+        (packed q (cond d (live_of (map (clause_in ws) ps)) (clause_in ws p ∷ live_of (map (clause_in ws) ps))))
     go true l dead live = dead
     go false l dead live = (l, live)
 

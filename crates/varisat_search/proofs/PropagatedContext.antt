@@ -16,15 +16,26 @@ use Rattle.varisat_search.proofs.DecidableVariables.{propagated-same, propagated
 use Rattle.varisat_search.proofs.StepOutcome.{finding-begins, finding-ready, finding-propagated}
 
 -- Propagation only reorders literals, so that the database still fits the store.
-pub propagated-ready : {A : Type 0} (x m : Context A) → IsReady x → Propagates (view x) (view m) → IsPropagated m.watchlists (view m) → KeepsShapes x.clause_alloc m.clause_alloc → m ≡ record x { assignment = m.assignment; clause_alloc = m.clause_alloc; impl_graph = m.impl_graph; trail = m.trail; watchlists = m.watchlists } → IsReady m
+pub propagated-ready : {A : Type 0} (x m : Context A) → IsReady x → Propagates (view x) (view m) → IsPropagated m.watchlists (view m) →
+    KeepsShapes x.clause_alloc m.clause_alloc →
+    m ≡ record x {
+      assignment = m.assignment;
+      clause_alloc = m.clause_alloc;
+      impl_graph = m.impl_graph;
+      trail = m.trail;
+      watchlists =
+          m.watchlists;
+    } → IsReady m
 propagated-ready {A} x m r p q h k =
     let s = view x in
     let t = view m in
     let same = propagated-same s t x.vsids r.well r.decidable p in
     finding-ready r (finding-propagated s s t (finding-begins r) p) q
-    (subst (λ d. Tracks d m.clause_alloc) (sym (ap (λ (y : Context A). y.clause_db) k)) (tracks-shapes x.clause_db x.clause_alloc m.clause_alloc r.tracks (is-sound m.clause_alloc p.well.sound) h))
+    (subst (λ d. Tracks d m.clause_alloc) (sym (ap (λ (y : Context A). y.clause_db) k))
+    (tracks-shapes x.clause_db x.clause_alloc m.clause_alloc r.tracks (is-sound m.clause_alloc p.well.sound) h))
     (ap (λ (y : Context A). y.analyze_conflict.var_count) k) (ap (λ (y : Context A). y.tmp_flags.flags.items) k)
     (subst (CanDecide t) (sym (ap (λ (y : Context A). y.vsids) k)) (propagated-decidable s t x.vsids r.well r.decidable p))
     (subst (HasAssumptions t) (sym (ap (λ (y : Context A). y.assumptions) k)) (has-grown s t x.assumptions r.well p.grows (inl p.decisions) r.assumed))
     (subst (λ a. AreDecidable t a m.assumptions.working) (sym (ap (λ (y : Context A). y.vsids) k))
-    (subst (λ a. AreDecidable t x.vsids a) (sym (ap (λ (y : Context A). y.assumptions.working) k)) (still-assumable s x.vsids t x.vsids x.assumptions.working x.assumptions.working same (λ l i. i) r.assumable)))
+    (subst (λ a. AreDecidable t x.vsids a) (sym (ap (λ (y : Context A). y.assumptions.working) k))
+    (still-assumable s x.vsids t x.vsids x.assumptions.working x.assumptions.working same (λ l i. i) r.assumable)))

@@ -42,13 +42,21 @@ split-filter p (x ∷ xs) front back l e = go (p x) refl front e (λ f. split-fi
     picks : (b : Bool) → p x ≡ b → (ys : List ℕ) → filter p (x ∷ ys) ≡ cond b (x ∷ filter p ys) (filter p ys)
     picks b f ys = ap (λ (c : Bool). cond c (x ∷ filter p ys) (filter p ys)) f
 
-    go : (b : Bool) → p x ≡ b → (front : List ℕ) → cond b (x ∷ filter p xs) (filter p xs) ≡ front ++ (l ∷ back) → ((f : List ℕ) → filter p xs ≡ f ++ (l ∷ back) → IsSplitAt p xs f l) → IsSplitAt p (x ∷ xs) front l
+    go : (b : Bool) → p x ≡ b → (front : List ℕ) → cond b (x ∷ filter p xs) (filter p xs) ≡ front ++ (l ∷ back) →
+        ((f : List ℕ) → filter p xs ≡ f ++ (l ∷ back) → IsSplitAt p xs f l) → IsSplitAt p (x ∷ xs) front l
     go true f [] g r = let h : x ≡ l = cc in record { before = []; behind = xs; whole = ap (λ y. y ∷ xs) h; part = refl; picked = ap p (sym h) ∙ f }
     go true f (y ∷ front) g r =
         let h : x ≡ y = cc in
         let t : filter p xs ≡ front ++ (l ∷ back) = cc in
         let d = r front t in
-        record { before = x ∷ d.before; behind = d.behind; whole = ap (λ ys. x ∷ ys) d.whole; part = picks true f d.before ∙ ap (λ ys. x ∷ ys) d.part ∙ ap (λ z. z ∷ front) h; picked = d.picked }
+        record {
+          before = x ∷ d.before;
+          behind = d.behind;
+          whole = ap (λ ys. x ∷ ys) d.whole;
+          part = picks true f d.before
+              ∙ ap (λ ys. x ∷ ys) d.part ∙ ap (λ z. z ∷ front) h;
+          picked = d.picked;
+        }
     go false f front g r =
         let d = r front g in
         record { before = x ∷ d.before; behind = d.behind; whole = ap (λ ys. x ∷ ys) d.whole; part = picks false f d.before ∙ d.part; picked = d.picked }
@@ -102,7 +110,8 @@ module _ (s : View) (w : WellFormed s) (none : s.decisions ≡ []) where
 
     proved-before : (m : Literal) → StandsBefore s place m → m ∈ (S.proved ++ front)
     proved-before m (j, h, q) =
-        let i : m ∈ split.before = subst (λ x. x ∈ split.before) (sym (ap (λ (xs : List ℕ). get_or xs j 0) split.whole) ∙ q) (before-split split.before (l ∷ split.behind) j h) in
+        let i : m ∈ split.before = subst (λ x. x ∈ split.before) (sym (ap (λ (xs : List ℕ). get_or xs j 0) split.whole) ∙ q)
+        (before-split split.before (l ∷ split.behind) j h) in
         ⊎_elim
         (λ c. ∈-append_right m S.proved front (subst (λ xs. m ∈ xs) split.part (filter-∈ implied split.before m i c)))
         (λ c. ∈-append_left m S.proved front (proved-already m (subst (λ xs. m ∈ xs) (sym split.whole) (∈-append_left m split.before (l ∷ split.behind) i)) c))
@@ -139,7 +148,8 @@ module _ (s t : View) (w : WellFormed s) (none : s.decisions ≡ []) (d : Proves
       let f = fixed_from s w l h in
       let v = units-well s t w none d in
       let (k, a, e) = w.stands l f.0 in
-      let z : level_of t l ≡ 0 = ap (λ (y : View). level_of y l) d.rest ∙ sym (ap (λ x. level_of (record s { nodes = t.nodes }) x) e) ∙ ap (λ n. n.level) (unit-node s t w none d k a) ∙ zero-level s t w none d k a in
+      let z : level_of t l ≡ 0 = ap (λ (y : View). level_of y l) d.rest ∙ sym (ap (λ x. level_of (record s { nodes = t.nodes }) x) e)
+      ∙ ap (λ n. n.level) (unit-node s t w none d k a) ∙ zero-level s t w none d k a in
       fixed_to t v l (subst (λ (y : View). IsTrueIn y l) (sym d.rest) f.0, z)
 
   fixed-back : (l : Literal) → l ∈ (search_of t).fixed → l ∈ (search_of s).fixed

@@ -54,7 +54,8 @@ module _ (ls : List Literal) (l : Literal) (old new : List ImplNode) (inside : v
       units = λ m h.
           ⊎_elim
           (λ e. at-own (variable_of m) e)
-          (λ n. at-other (variable_of m) n ∙ d.given.units m (⊎_elim (λ i. i) (λ i. absurd (⊎_elim (λ e. n (ap variable_of e)) (λ z. z) i)) (∈-append_cases m ls (l ∷ []) h)))
+          (λ n. at-other (variable_of m) n
+          ∙ d.given.units m (⊎_elim (λ i. i) (λ i. absurd (⊎_elim (λ e. n (ap variable_of e)) (λ z. z) i)) (∈-append_cases m ls (l ∷ []) h)))
           (equal_or_not (variable_of m) v);
       others = λ x h. at-other x (λ e. h l (∈-append_right l ls (l ∷ []) (inl refl)) (sym e)) ∙ d.given.others x (λ m i. h m (∈-append_left m ls (l ∷ []) i));
     };
@@ -124,7 +125,8 @@ module _ (s t : View) (w : WellFormed s) (none : s.decisions ≡ []) (p : Proves
 
   pub units-propagated : (W : Watches) → IsPropagated W s → IsPropagated W t
   units-propagated W q =
-      subst (IsPropagated W) (sym p.rest) record { lists = q.lists; watching = q.watching; empty = q.empty; settled = q.settled; binary = q.binary; implied = q.implied; queue = q.queue }
+      subst (IsPropagated W) (sym p.rest)
+      record { lists = q.lists; watching = q.watching; empty = q.empty; settled = q.settled; binary = q.binary; implied = q.implied; queue = q.queue }
 
   pub units-decide : (a : Activities) → CanDecide s a → CanDecide t a
   units-decide a d =
@@ -144,10 +146,21 @@ module _ (s t : View) (w : WellFormed s) (none : s.decisions ≡ []) (p : Proves
   pub units-kinds : kinds t ≡ kinds s
   units-kinds =
       ap (λ (y : View). kinds y) p.rest
-      ∙ map-by-place (λ l. is_implied (node_of u l)) (λ l. is_implied (node_of s l)) s.trail (λ k h. at-zero (node_at u k) (level-stays k h ∙ zero-level k h) ∙ sym (at-zero (node_at s k) (zero-level k h)))
+      ∙ map-by-place (λ l. is_implied (node_of u l)) (λ l. is_implied (node_of s l)) s.trail
+      (λ k h. at-zero (node_at u k) (level-stays k h ∙ zero-level k h) ∙ sym (at-zero (node_at s k) (zero-level k h)))
 
 -- the search stays ready
-pub units-ready : {A : Type 0} (x z : Context A) → IsReady x → x.trail.decisions ≡ [] → ProvesUnits (view x) (view z) → z.watchlists ≡ x.watchlists → Tracks z.clause_db z.clause_alloc → z ≡ record x { binary_clauses = z.binary_clauses; clause_activity = z.clause_activity; clause_alloc = z.clause_alloc; clause_db = z.clause_db; impl_graph = z.impl_graph; watchlists = z.watchlists } → IsReady z
+pub units-ready : {A : Type 0} (x z : Context A) → IsReady x → x.trail.decisions ≡ [] → ProvesUnits (view x) (view z) →
+    z.watchlists ≡ x.watchlists → Tracks z.clause_db z.clause_alloc →
+    z ≡ record x {
+      binary_clauses = z.binary_clauses;
+      clause_activity = z.clause_activity;
+      clause_alloc = z.clause_alloc;
+      clause_db =
+          z.clause_db;
+      impl_graph = z.impl_graph;
+      watchlists = z.watchlists;
+    } → IsReady z
 units-ready x z r none p e t k =
     exchanged-ready x z r (keeps-values x z k) (units-well (view x) (view z) r.well none p) (units-settled (view x) (view z) r.well none p r.settled)
     (subst (λ W. IsPropagated W (view z)) (sym e) (units-propagated (view x) (view z) r.well none p x.watchlists r.propagated))

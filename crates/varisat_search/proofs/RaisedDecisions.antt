@@ -16,7 +16,8 @@ module _ (s t : View) (a : Activities) (count : ℕ) where
       let y : is_available b v ≡ is_available a v = ap (λ (z : Activities). is_available z v) f ∙ is_available-raised_to a count v in
       (⊎_elim (λ n. inl (λ z. n (sym x ∙ z))) (λ z. inr (y ∙ z)), ⊎_elim (λ n. inl (λ z. n (x ∙ z))) (λ z. inr (sym y ∙ z)))
 
-  pub raised-decidable : {b : Activities} → CanDecide s a → length s.values ≤ count → t.values ≡ s.values ++ replicate (count - length s.values) None → b ≡ raised_to count a → kept t ≡ kept s → CanDecide t b
+  pub raised-decidable : {b : Activities} → CanDecide s a → length s.values ≤ count →
+      t.values ≡ s.values ++ replicate (count - length s.values) None → b ≡ raised_to count a → kept t ≡ kept s → CanDecide t b
   raised-decidable {b} d h e f k =
       let n = d.entries.activity in
       let long = length-raised_to a count (d.entries.available ∙ sym n) (omega (arith, n, h)) in
@@ -25,6 +26,10 @@ module _ (s t : View) (a : Activities) (count : ℕ) where
       let o = length-replicate {A = Option Bool} (count - length s.values) None in
       let values : length t.values ≡ count = omega (arith, q, p, o, h) in
       can-decide s a t b
-      (record { activity = ap (λ (z : Activities). length z.activity) f ∙ long.0 ∙ sym values; available = ap (λ (z : Activities). length z.available) f ∙ long.1 ∙ sym values })
+      (record {
+        activity = ap (λ (z : Activities). length z.activity) f ∙ long.0
+            ∙ sym values;
+        available = ap (λ (z : Activities). length z.available) f ∙ long.1 ∙ sym values;
+      })
       (raised-same e f)
       (λ c i. d.decidable c (subst (λ P. c ∈ P) k i))

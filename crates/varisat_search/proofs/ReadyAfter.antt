@@ -32,20 +32,47 @@ backtracked-ready {A} level old new r b =
     record {
       well = cut-well (view old) (view new) level r.well h c;
       settled = cut-settled (view old) (view new) level r.well h c r.settled;
-      propagated = subst (λ W. IsPropagated W (view new)) (sym (ap (λ (x : Context A). x.watchlists) b.kept)) (cut-propagated (view old) (view new) level r.well h c old.watchlists r.propagated);
+      propagated = subst (λ W. IsPropagated W (view new)) (sym (ap (λ (x : Context A). x.watchlists) b.kept))
+          (cut-propagated (view old) (view new) level r.well h c old.watchlists r.propagated);
       tracks = subst (λ (x : Context A). Tracks x.clause_db x.clause_alloc) (sym b.kept) r.tracks;
       analysis = ap (λ (x : Context A). x.analyze_conflict.var_count) b.kept ∙ r.analysis ∙ sym c.count;
       flags = ap (λ (x : Context A). x.tmp_flags.flags.items) b.kept ∙ r.flags ∙ ap (λ n. replicate (2 * n) false) (sym c.count);
       decidable = can-decide (view old) old.vsids (view new) new.vsids b.entries b.decidable (λ d i. r.decidable.decidable d (subst (λ ks. d ∈ ks) same i));
       assumed = cut-assumed level old new b.same b.assumptions r.well b.cut r.assumed;
-      assumable = still-assumable (view old) old.vsids (view new) new.vsids old.assumptions.working new.assumptions.working b.decidable (same-working old.assumptions new.assumptions (cut-same-list level old new b.same b.assumptions)) r.assumable;
+      assumable = still-assumable (view old) old.vsids (view new) new.vsids old.assumptions.working new.assumptions.working b.decidable
+          (same-working old.assumptions new.assumptions (cut-same-list level old new b.same b.assumptions)) r.assumable;
     })
     (λ (h : length old.trail.decisions ≤ level). subst IsReady (sym (b.same h)) r)
     (cases_lt level (length old.trail.decisions))
 
 -- Parts that neither the clauses nor the literals' values stand in are others.
-pub ready-with : {A : Type 0} (x y : Context A) → IsReady x → (y ≡ record x { analyze_conflict = y.analyze_conflict; assumptions = y.assumptions; schedule = y.schedule; solver_state = y.solver_state; tmp_flags = y.tmp_flags; vsids = y.vsids; watchlists = y.watchlists }) → y.analyze_conflict.var_count ≡ x.analyze_conflict.var_count → y.tmp_flags.flags.items ≡ x.tmp_flags.flags.items → IsPropagated y.watchlists (view x) → CanDecide (view x) y.vsids → HasAssumptions (view x) y.assumptions → AreDecidable (view x) y.vsids y.assumptions.working → IsReady y
-ready-with x y r e n f w d h k = subst IsReady (sym e) record { well = r.well; settled = r.settled; propagated = w; tracks = r.tracks; analysis = n ∙ r.analysis; flags = f ∙ r.flags; decidable = d; assumed = h; assumable = k }
+pub ready-with : {A : Type 0} (x y : Context A) → IsReady x →
+    (y ≡ record x {
+      analyze_conflict = y.analyze_conflict;
+      assumptions = y.assumptions;
+      schedule = y.schedule;
+      solver_state =
+          y.solver_state;
+      tmp_flags = y.tmp_flags;
+      vsids = y.vsids;
+      watchlists = y.watchlists;
+    }) →
+    y.analyze_conflict.var_count ≡ x.analyze_conflict.var_count → y.tmp_flags.flags.items ≡ x.tmp_flags.flags.items →
+    IsPropagated y.watchlists (view x) → CanDecide (view x) y.vsids → HasAssumptions (view x) y.assumptions →
+    AreDecidable (view x) y.vsids y.assumptions.working → IsReady y
+ready-with x y r e n f w d h k =
+    subst IsReady (sym e) record {
+      well = r.well;
+      settled = r.settled;
+      propagated = w;
+      tracks = r.tracks;
+      analysis = n ∙ r.analysis;
+      flags = f
+          ∙ r.flags;
+      decidable = d;
+      assumed = h;
+      assumable = k;
+    }
 
 -- What stays of a search whose clauses, reasons and watches are others.
 pub record KeepsValues {A : Type 0} (x z : Context A) : Type 0 where
@@ -57,7 +84,15 @@ pub record KeepsValues {A : Type 0} (x z : Context A) : Type 0 where
   pub vsids : z.vsids ≡ x.vsids
   pub assumptions : z.assumptions ≡ x.assumptions
 
-pub keeps-values : {A : Type 0} (x z : Context A) → z ≡ record x { binary_clauses = z.binary_clauses; clause_activity = z.clause_activity; clause_alloc = z.clause_alloc; clause_db = z.clause_db; impl_graph = z.impl_graph; watchlists = z.watchlists } → KeepsValues x z
+pub keeps-values : {A : Type 0} (x z : Context A) → z ≡ record x {
+  binary_clauses = z.binary_clauses;
+  clause_activity = z.clause_activity;
+  clause_alloc = z.clause_alloc;
+  clause_db = z.clause_db;
+  impl_graph =
+      z.impl_graph;
+  watchlists = z.watchlists;
+} → KeepsValues x z
 keeps-values {A} x z e = record {
   values = ap (λ (y : Context A). y.assignment.current) e;
   trail = ap (λ (y : Context A). y.trail.literals) e;
@@ -69,7 +104,8 @@ keeps-values {A} x z e = record {
 }
 
 -- Such a search is ready where the clauses, the reasons and the watches are right.
-pub exchanged-ready : {A : Type 0} (x z : Context A) → IsReady x → KeepsValues x z → WellFormed (view z) → LevelsSettled (view z) → IsPropagated z.watchlists (view z) → Tracks z.clause_db z.clause_alloc → CanDecide (view z) x.vsids → IsReady z
+pub exchanged-ready : {A : Type 0} (x z : Context A) → IsReady x → KeepsValues x z → WellFormed (view z) → LevelsSettled (view z) →
+    IsPropagated z.watchlists (view z) → Tracks z.clause_db z.clause_alloc → CanDecide (view z) x.vsids → IsReady z
 exchanged-ready x z r k well settled propagated tracks decidable =
     let c = ap (λ (vs : List (Option Bool)). length vs) k.values in
     record {
@@ -85,7 +121,9 @@ exchanged-ready x z r k well settled propagated tracks decidable =
     }
 
 -- They are, once clauses and reasons are exchanged for such that may stand for them, and the watch lists are off.
-pub unwatched-ready : {A : Type 0} (x z : Context A) (ns : List ImplNode) → IsReady x → KeepsValues x z → MayExchange (view x) (view z).clauses ns → view z ≡ record (view x) { clauses = (view z).clauses; nodes = ns } → Tracks z.clause_db z.clause_alloc → length z.watchlists.lists ≡ length x.watchlists.lists → ((l : Literal) → watches_of z.watchlists l ≡ []) → z.watchlists.enabled ≡ false → IsReady z
+pub unwatched-ready : {A : Type 0} (x z : Context A) (ns : List ImplNode) → IsReady x → KeepsValues x z → MayExchange (view x) (view z).clauses ns →
+    view z ≡ record (view x) { clauses = (view z).clauses; nodes = ns } → Tracks z.clause_db z.clause_alloc →
+    length z.watchlists.lists ≡ length x.watchlists.lists → ((l : Literal) → watches_of z.watchlists l ≡ []) → z.watchlists.enabled ≡ false → IsReady z
 unwatched-ready x z ns r k m e tracks n none off =
     let s = view x in
     let ks = (view z).clauses in
@@ -97,7 +135,10 @@ unwatched-ready x z ns r k m e tracks n none off =
     (subst (λ (t : View). CanDecide t x.vsids) (sym e) (exchanged-decide s ks ns r.well m x.vsids r.decidable))
 
 -- A literal is decided, once propagation has come to its end.
-pub decided-ready : {A : Type 0} (x z : Context A) (l : Literal) → IsReady x → IsComplete (kept (view x)) x.trail.literals → x.trail.queue_head ≡ length x.trail.literals → IsFree (view x) l → view z ≡ decided_on (view x) l → z ≡ record x { assignment = z.assignment; assumptions = z.assumptions; impl_graph = z.impl_graph; trail = z.trail; vsids = z.vsids } → CanDecide (view z) z.vsids → HasAssumptions (view z) z.assumptions → AreDecidable (view z) z.vsids z.assumptions.working → IsReady z
+pub decided-ready : {A : Type 0} (x z : Context A) (l : Literal) → IsReady x → IsComplete (kept (view x)) x.trail.literals →
+    x.trail.queue_head ≡ length x.trail.literals → IsFree (view x) l → view z ≡ decided_on (view x) l →
+    z ≡ record x { assignment = z.assignment; assumptions = z.assumptions; impl_graph = z.impl_graph; trail = z.trail; vsids = z.vsids } →
+    CanDecide (view z) z.vsids → HasAssumptions (view z) z.assumptions → AreDecidable (view z) z.vsids z.assumptions.working → IsReady z
 decided-ready {A} x z l r q head free e k d h a =
     let f = finding-decided (view x) (view x) (view z) l (finding-begins r) q free e in
     let p = subst (IsPropagated x.watchlists) (sym e) (propagated-decided x.watchlists (view x) l r.well head r.propagated) in

@@ -19,14 +19,20 @@ second false b e = absurd (let z : false ≡ true = e in cc)
 
 -- a Mid clause is learned, and stays so
 mid-learned : (k : StoredClause) → is_live_in tier.Mid k ≡ true → is_tier k.header.tier tier.Irred ≡ false
-mid-learned k e = ap (λ (t : Tier). is_tier t tier.Irred) (sym (same-tier tier.Mid k.header.tier (second (not k.header.deleted) (is_tier tier.Mid k.header.tier) e)))
+mid-learned k e = ap (λ (t : Tier). is_tier t tier.Irred)
+    (sym (same-tier tier.Mid k.header.tier (second (not k.header.deleted) (is_tier tier.Mid k.header.tier) e)))
 
 mid-held : (k : StoredClause) → held_clause (mid_reduced k) ≡ held_clause k
 mid-held k =
     ⊎_elim
     (λ e. ⊎_elim
     (λ f. ap held_clause (mid-active k e f))
-    (λ f. ap held_clause (mid-moved k e f) ∙ ap (λ (b : Bool). record { placed = record { place = k.place; kept = record { clause = k.literals; learned = not b } }; deleted = k.header.deleted }) (sym (mid-learned k e)))
+    (λ f. ap held_clause (mid-moved k e f)
+    ∙ ap (λ (b : Bool). record {
+      placed = record { place = k.place; kept = record { clause = k.literals; learned = not b } };
+      deleted =
+          k.header.deleted;
+    }) (sym (mid-learned k e)))
     (true-or-false k.header.active))
     (λ e. ap held_clause (mid-other k e))
     (true-or-false (is_live_in tier.Mid k))

@@ -34,12 +34,17 @@ ToMove ks js [] bs = Unit {0}
 ToMove ks js (a ∷ left) [] = ⊥
 ToMove ks js (a ∷ left) (b ∷ bs) = (new_place ks js a.place ≡ b.place) × (b.place ≤ a.place) × ToMove ks js left bs
 
-to-move-later : (k j : StoredClause) (ks js left bs : List StoredClause) → ((a : StoredClause) → a ∈ left → k.place < a.place) → ToMove ks js left bs → ToMove (k ∷ ks) (j ∷ js) left bs
+to-move-later : (k j : StoredClause) (ks js left bs : List StoredClause) → ((a : StoredClause) → a ∈ left → k.place < a.place) →
+    ToMove ks js left bs → ToMove (k ∷ ks) (j ∷ js) left bs
 to-move-later k j ks js [] bs h g = tt
 to-move-later k j ks js (a ∷ left) [] h g = absurd g
 to-move-later k j ks js (a ∷ left) (b ∷ bs) h g =
-    let l = h a (inl refl) in
-    (ap (λ o. cond o j.place (new_place ks js a.place)) (is-other k.place a.place (λ e. absurd (omega (arith, e, l)))) ∙ g.0, g.1, to-move-later k j ks js left bs (λ x i. h x (inr i)) g.2)
+    let l = h a (inl refl) in (
+      ap (λ o. cond o j.place (new_place ks js a.place)) (is-other k.place a.place (λ e. absurd (omega (arith, e, l))))
+          ∙ g.0,
+      g.1,
+      to-move-later k j ks js left bs (λ x i. h x (inr i)) g.2,
+    )
 
 pub to-move : (ks js : List StoredClause) → AreRising ks → AreBelow ks js → ToMove ks js ks js
 to-move [] js r b = tt
@@ -67,17 +72,23 @@ module _ (s : View) (w : WellFormed s) (js : List StoredClause) where
     other : (k : StoredClause) → k ∈ left → is_clause_at (node_in ns i).reason k.place ≡ false
 
   -- a clause that is a reason is seen to be one
-  seen-reason : (ns : List ImplNode) (k : StoredClause) (i : ℕ) → k ∈ s.clauses → i < length s.trail → node_in ns i ≡ node_at s i → (node_at s i).reason ≡ reason.Long k.place → is_reason s.values ns k ≡ true
+  seen-reason : (ns : List ImplNode) (k : StoredClause) (i : ℕ) → k ∈ s.clauses → i < length s.trail → node_in ns i ≡ node_at s i →
+      (node_at s i).reason ≡ reason.Long k.place → is_reason s.values ns k ≡ true
   seen-reason ns k i m h e q =
       let f = reason-first s w k i m h q in
-      let v : is_some (get_or s.values (variable_of (literal_in k.literals 0)) None) ≡ true = ap (λ (x : Literal). is_some (get_or s.values (variable_of x) None)) f ∙ ap (λ o. is_some o) (w.is_true i h) in
-      let n : is_clause_at (get_or ns (variable_of (literal_in k.literals 0)) no_node).reason k.place ≡ true = ap (λ (x : Literal). is_clause_at (get_or ns (variable_of x) no_node).reason k.place) f ∙ ap (λ (x : ImplNode). is_clause_at x.reason k.place) e ∙ ap (λ x. is_clause_at x k.place) q ∙ is-same k.place k.place refl in
+      let v : is_some (get_or s.values (variable_of (literal_in k.literals 0)) None) ≡ true =
+      ap (λ (x : Literal). is_some (get_or s.values (variable_of x) None)) f ∙ ap (λ o. is_some o) (w.is_true i h) in
+      let n : is_clause_at (get_or ns (variable_of (literal_in k.literals 0)) no_node).reason k.place ≡ true =
+      ap (λ (x : Literal). is_clause_at (get_or ns (variable_of x) no_node).reason k.place) f
+      ∙ ap (λ (x : ImplNode). is_clause_at x.reason k.place) e ∙ ap (λ x. is_clause_at x k.place) q ∙ is-same k.place k.place refl in
       ap (λ b. b && is_clause_at (get_or ns (variable_of (literal_in k.literals 0)) no_node).reason k.place) v ∙ n
 
   same-clause : (r : Reason) (p q : ℕ) → r ≡ reason.Long p → is_clause_at r q ≡ true → p ≡ q
   same-clause r p q e t = ⊎_elim (λ f. f) (λ n. absurd (let z : true ≡ false = sym t ∙ ap (λ x. is_clause_at x q) e ∙ is-other p q n in cc)) (equal_or_not p q)
 
-  module _ (k : StoredClause) (left : List StoredClause) (b : ℕ) (ns : List ImplNode) (m : k ∈ s.clauses) (goes : new_place s.clauses js k.place ≡ b) (low : b ≤ k.place) (above : (y : StoredClause) → y ∈ left → k.place < y.place) (size : length ns ≡ length s.values) where
+  module _ (k : StoredClause) (left : List StoredClause) (b : ℕ) (ns : List ImplNode) (m : k ∈ s.clauses)
+      (goes : new_place s.clauses js k.place ≡ b) (low : b ≤ k.place) (above : (y : StoredClause) → y ∈ left → k.place < y.place)
+      (size : length ns ≡ length s.values) where
     abbrev v : ℕ
     v = variable_of (literal_in k.literals 0)
 
@@ -87,9 +98,11 @@ module _ (s : View) (w : WellFormed s) (js : List StoredClause) where
       names = both (is_some (get_or s.values v None)) (is_clause_at (get_or ns v no_node).reason k.place) is
 
       elsewhere : (i : ℕ) → variable_of (literal_at s i) ≢ v → node_in (repointed s.values ns k b) i ≡ node_in ns i
-      elsewhere i n = ap (λ (xs : List ImplNode). node_in xs i) (repoint-is s.values ns k b is) ∙ get_or-set_other ns v (variable_of (literal_at s i)) (record (get_or ns v no_node) { reason = reason.Long b }) no_node n
+      elsewhere i n = ap (λ (xs : List ImplNode). node_in xs i) (repoint-is s.values ns k b is)
+          ∙ get_or-set_other ns v (variable_of (literal_at s i)) (record (get_or ns v no_node) { reason = reason.Long b }) no_node n
 
-      waiting-moves : (i : ℕ) → i < length s.trail → IsWaiting ns (k ∷ left) i → IsWaiting (repointed s.values ns k b) left i ⊎ IsMoved (repointed s.values ns k b) left i
+      waiting-moves : (i : ℕ) → i < length s.trail → IsWaiting ns (k ∷ left) i → IsWaiting (repointed s.values ns k b) left i
+          ⊎ IsMoved (repointed s.values ns k b) left i
       waiting-moves i h d = ⊎_elim here other (equal_or_not (variable_of (literal_at s i)) v)
         where
           here : variable_of (literal_at s i) ≡ v → IsWaiting (repointed s.values ns k b) left i ⊎ IsMoved (repointed s.values ns k b) left i
@@ -99,10 +112,15 @@ module _ (s : View) (w : WellFormed s) (js : List StoredClause) where
               let p : d.place ≡ k.place = same-clause (get_or ns v no_node).reason d.place k.place (ap (λ (y : ImplNode). y.reason) at-v ∙ d.reason_is) names in
               let inside = made-inside s.values (literal_at s i) (w.is_true i h) in
               let new : node_in (repointed s.values ns k b) i ≡ record (node_at s i) { reason = reason.Long b } =
-              ap (λ (xs : List ImplNode). node_in xs i) (repoint-is s.values ns k b is) ∙ ap (λ (y : ℕ). get_or (set ns v (record (get_or ns v no_node) { reason = reason.Long b })) y no_node) e ∙ get_or-set_same ns v (record (get_or ns v no_node) { reason = reason.Long b }) no_node (omega (arith, inside, size, e)) ∙ ap (λ (y : ImplNode). record y { reason = reason.Long b }) at-v in
+              ap (λ (xs : List ImplNode). node_in xs i) (repoint-is s.values ns k b is)
+              ∙ ap (λ (y : ℕ). get_or (set ns v (record (get_or ns v no_node) { reason = reason.Long b })) y no_node) e
+              ∙ get_or-set_same ns v (record (get_or ns v no_node) { reason = reason.Long b }) no_node (omega (arith, inside, size, e))
+              ∙ ap (λ (y : ImplNode). record y { reason = reason.Long b }) at-v in
               inr record {
-                node = new ∙ ap (λ r. record (node_at s i) { reason = r }) (ap reason.Long (sym goes ∙ ap (new_place s.clauses js) (sym p)) ∙ sym (ap (moved_reason s.clauses js) d.reason_is));
-                other = λ y j. ap (λ (z : ImplNode). is_clause_at z.reason y.place) new ∙ is-other b y.place (λ z. let a = above y j in absurd (omega (arith, a, z, low)));
+                node = new ∙ ap (λ r. record (node_at s i) { reason = r })
+                    (ap reason.Long (sym goes ∙ ap (new_place s.clauses js) (sym p)) ∙ sym (ap (moved_reason s.clauses js) d.reason_is));
+                other = λ y j. ap (λ (z : ImplNode). is_clause_at z.reason y.place) new
+                    ∙ is-other b y.place (λ z. let a = above y j in absurd (omega (arith, a, z, low)));
               }
 
           other : (variable_of (literal_at s i) ≡ v → ⊥) → IsWaiting (repointed s.values ns k b) left i ⊎ IsMoved (repointed s.values ns k b) left i
@@ -111,12 +129,15 @@ module _ (s : View) (w : WellFormed s) (js : List StoredClause) where
                 node = elsewhere i n ∙ d.node;
                 place = d.place;
                 reason_is = d.reason_is;
-                left_is = place-later k left d.place d.left_is (λ e. n (sym (ap variable_of (reason-first s w k i m h (d.reason_is ∙ ap reason.Long (sym e))))));
+                left_is = place-later k left d.place d.left_is
+                    (λ e. n (sym (ap variable_of (reason-first s w k i m h (d.reason_is ∙ ap reason.Long (sym e))))));
               }
 
       moved-stays : (i : ℕ) → IsMoved ns (k ∷ left) i → IsMoved (repointed s.values ns k b) left i
       moved-stays i d =
-          let n : variable_of (literal_at s i) ≢ v = λ e. absurd (let z : true ≡ false = sym names ∙ ap (λ (y : ℕ). is_clause_at (get_or ns y no_node).reason k.place) (sym e) ∙ d.other k (inl refl) in cc) in
+          let n : variable_of (literal_at s i) ≢ v =
+          λ e. absurd (let z : true ≡ false = sym names ∙ ap (λ (y : ℕ). is_clause_at (get_or ns y no_node).reason k.place) (sym e)
+          ∙ d.other k (inl refl) in cc) in
           let e = elsewhere i n in
           record { node = e ∙ d.node; other = λ y j. ap (λ (z : ImplNode). is_clause_at z.reason y.place) e ∙ d.other y (inr j) }
 
@@ -131,32 +152,47 @@ module _ (s : View) (w : WellFormed s) (js : List StoredClause) where
             node = d.node;
             place = d.place;
             reason_is = d.reason_is;
-            left_is = place-later k left d.place d.left_is (λ e. absurd (let z : true ≡ false = sym (seen-reason ns k i m h d.node (d.reason_is ∙ ap reason.Long (sym e))) ∙ is in cc));
+            left_is = place-later k left d.place d.left_is
+                (λ e. absurd (let z : true ≡ false = sym (seen-reason ns k i m h d.node (d.reason_is ∙ ap reason.Long (sym e))) ∙ is in cc));
           }
 
       moved-too : (i : ℕ) → IsMoved ns (k ∷ left) i → IsMoved (repointed s.values ns k b) left i
       moved-too i d = subst (λ (xs : List ImplNode). IsMoved xs left i) (sym same) record { node = d.node; other = λ y j. d.other y (inr j) }
 
-    one-moved : (i : ℕ) → i < length s.trail → IsWaiting ns (k ∷ left) i ⊎ IsMoved ns (k ∷ left) i → IsWaiting (repointed s.values ns k b) left i ⊎ IsMoved (repointed s.values ns k b) left i
+    one-moved : (i : ℕ) → i < length s.trail → IsWaiting ns (k ∷ left) i ⊎ IsMoved ns (k ∷ left) i → IsWaiting (repointed s.values ns k b) left i
+        ⊎ IsMoved (repointed s.values ns k b) left i
     one-moved i h d =
         ⊎_elim
         (λ e. ⊎_elim (waiting-moves e i h) (λ x. inr (moved-stays e i x)) d)
         (λ e. ⊎_elim (λ x. inl (waiting-stays e i h x)) (λ x. inr (moved-too e i x)) d)
         (true-or-false (is_reason s.values ns k))
 
-  all-moved : (left bs : List StoredClause) (ns : List ImplNode) → ToMove s.clauses js left bs → AreRising left → ((k : StoredClause) → k ∈ left → k ∈ s.clauses) → length ns ≡ length s.values → ((i : ℕ) → i < length s.trail → IsWaiting ns left i ⊎ IsMoved ns left i) → (i : ℕ) → i < length s.trail → node_in (repointed_each s.values left bs ns) i ≡ moved_node i
+  all-moved : (left bs : List StoredClause) (ns : List ImplNode) → ToMove s.clauses js left bs → AreRising left →
+      ((k : StoredClause) → k ∈ left → k ∈ s.clauses) → length ns ≡ length s.values →
+      ((i : ℕ) → i < length s.trail → IsWaiting ns left i ⊎ IsMoved ns left i) → (i : ℕ) → i < length s.trail →
+      node_in (repointed_each s.values left bs ns) i ≡ moved_node i
   all-moved [] bs ns g r m n d i h = ⊎_elim (λ x. absurd x.left_is.1) (λ x. x.node) (d i h)
   all-moved (k ∷ left) [] ns g r m n d i h = absurd g
   all-moved (k ∷ left) (b ∷ bs) ns g r m n d i h =
-      all-moved left bs (repointed s.values ns k b.place) g.2 r.1 (λ x j. m x (inr j)) (repoint-length s.values ns k b.place ∙ n) (λ x j. one-moved k left b.place ns (m k (inl refl)) g.0 g.1 r.0 n x j (d x j)) i h
+      all-moved left bs (repointed s.values ns k b.place) g.2 r.1 (λ x j. m x (inr j)) (repoint-length s.values ns k b.place ∙ n)
+      (λ x j. one-moved k left b.place ns (m k (inl refl)) g.0 g.1 r.0 n x j (d x j)) i h
 
   -- at first each clause is still to be moved
   waiting-all : (i : ℕ) → i < length s.trail → IsWaiting s.nodes s.clauses i ⊎ IsMoved s.nodes s.clauses i
   waiting-all i h = go (node_at s i).reason refl (w.reason_is i h)
     where
       go : (r : Reason) → (node_at s i).reason ≡ r → IsReason s i r → IsWaiting s.nodes s.clauses i ⊎ IsMoved s.nodes s.clauses i
-      go reason.Unit e g = inr record { node = ap (λ x. record (node_at s i) { reason = x }) (e ∙ sym (ap (moved_reason s.clauses js) e)); other = λ k j. ap (λ x. is_clause_at x k.place) e }
-      go (reason.Binary ms) e g = inr record { node = ap (λ x. record (node_at s i) { reason = x }) (e ∙ sym (ap (moved_reason s.clauses js) e)); other = λ k j. ap (λ x. is_clause_at x k.place) e }
+      go reason.Unit e g = inr record {
+        node = ap (λ x. record (node_at s i) { reason = x }) (e ∙ sym (ap (moved_reason s.clauses js) e));
+        other =
+            λ k j. ap (λ x. is_clause_at x k.place) e;
+      }
+      go (reason.Binary ms) e g = inr
+          record {
+            node = ap (λ x. record (node_at s i) { reason = x }) (e ∙ sym (ap (moved_reason s.clauses js) e));
+            other =
+                λ k j. ap (λ x. is_clause_at x k.place) e;
+          }
       go (reason.Long p) e g = inl record { node = refl; place = p; reason_is = e; left_is = g.0 }
 
   pub reasons-moved : ToMove s.clauses js s.clauses js → (i : ℕ) → i < length s.trail → node_in (repointed_each s.values s.clauses js s.nodes) i ≡ moved_node i
@@ -167,7 +203,8 @@ repointed-length values [] js ns = refl
 repointed-length values (k ∷ ks) [] ns = refl
 repointed-length values (k ∷ ks) (j ∷ js) ns = repointed-length values ks js (repointed values ns k j.place) ∙ repoint-length values ns k j.place
 
-pub view-repacks : (s t : View) → WellFormed s → AreBelow s.clauses (packed 0 s.clauses) → t.clauses ≡ packed 0 s.clauses → t.nodes ≡ repointed_each s.values s.clauses t.clauses s.nodes → t ≡ record s { clauses = t.clauses; nodes = t.nodes } → Repacks s t
+pub view-repacks : (s t : View) → WellFormed s → AreBelow s.clauses (packed 0 s.clauses) → t.clauses ≡ packed 0 s.clauses →
+    t.nodes ≡ repointed_each s.values s.clauses t.clauses s.nodes → t ≡ record s { clauses = t.clauses; nodes = t.nodes } → Repacks s t
 view-repacks s t w b e f rest = record {
   clauses = e;
   count = ap length f ∙ repointed-length s.values s.clauses t.clauses s.nodes;
@@ -179,10 +216,13 @@ view-repacks s t w b e f rest = record {
 
 -- The packed clauses may stand in place of the others.
 module _ (s t : View) (w : WellFormed s) (d : Repacks s t) where
-  at-packed : (p : ℕ) → IsPlace s.clauses p → IsPlace t.clauses (new_place s.clauses t.clauses p) × (literals_at t.clauses (new_place s.clauses t.clauses p) ≡ clause_at s p)
-  at-packed p h = subst (λ (ks : List StoredClause). IsPlace ks (new_place s.clauses ks p) × (literals_at ks (new_place s.clauses ks p) ≡ clause_at s p)) (sym d.clauses) (packed-place 0 s.clauses p h)
+  at-packed : (p : ℕ) → IsPlace s.clauses p → IsPlace t.clauses (new_place s.clauses t.clauses p)
+      × (literals_at t.clauses (new_place s.clauses t.clauses p) ≡ clause_at s p)
+  at-packed p h = subst (λ (ks : List StoredClause). IsPlace ks (new_place s.clauses ks p)
+      × (literals_at ks (new_place s.clauses ks p) ≡ clause_at s p)) (sym d.clauses) (packed-place 0 s.clauses p h)
 
-  node-is : (k : ℕ) → k < length s.trail → node_at (record s { clauses = t.clauses; nodes = t.nodes }) k ≡ record (node_at s k) { reason = moved_reason s.clauses t.clauses (node_at s k).reason }
+  node-is : (k : ℕ) → k < length s.trail → node_at (record s { clauses = t.clauses; nodes = t.nodes }) k ≡ record (node_at s k)
+      { reason = moved_reason s.clauses t.clauses (node_at s k).reason }
   node-is k h = sym (ap (λ (u : View). node_at u k) d.rest) ∙ d.nodes k h
 
   same-moved : (k : ℕ) (r : Reason) → IsReason s k r → SameReason s t.clauses r (moved_reason s.clauses t.clauses r)
@@ -197,7 +237,8 @@ module _ (s t : View) (w : WellFormed s) (d : Repacks s t) where
     count = d.count;
     level = λ k h. ap (λ (n : ImplNode). n.level) (node-is k h);
     depth = λ k h. ap (λ (n : ImplNode). n.depth) (node-is k h);
-    same = λ k h. subst (SameReason s t.clauses (node_at s k).reason) (sym (ap (λ (n : ImplNode). n.reason) (node-is k h))) (same-moved k (node_at s k).reason (w.reason_is k h));
+    same = λ k h. subst (SameReason s t.clauses (node_at s k).reason) (sym (ap (λ (n : ImplNode). n.reason) (node-is k h)))
+        (same-moved k (node_at s k).reason (w.reason_is k h));
   }
 
   -- a proof sees nothing of it

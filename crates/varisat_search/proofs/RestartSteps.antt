@@ -34,7 +34,14 @@ begun-cut s t level w v h c =
     let n = ap (λ (x : View). length x.trail) c.rest in
     let m = cut-length s t level w h c in
     let e = end-inside s t level w h c in
-    record { well = cut-well s t level w h c; settled = cut-settled s t level w h c v; count = c.count; shorter = omega (arith, n, m, e); proves = cut_moves s t level w h c }
+    record {
+      well = cut-well s t level w h c;
+      settled = cut-settled s t level w h c v;
+      count = c.count;
+      shorter = omega (arith, n, m, e);
+      proves =
+          cut_moves s t level w h c;
+    }
 
 module _ (q : Plan) (level : ℕ) (s t : View) (w : WellFormed s) (v : LevelsSettled s) (r : RestartsIfDue q level s t) where
   unchanged : t ≡ s → Begun s t

@@ -20,7 +20,8 @@ use Rattle.varisat_search.specs.Steps.{reopened_state}
 use Rattle.varisat_search.proofs.SkippedHead.{with_next_head}
 
 -- a unit clause is contradicted just by its literal's opposite
-module _ (s t : Search) (l : Literal) (b v : SatState) (free : opposite l ∈ s.fixed → ⊥) (p : Loads s t (l ∷ []) (loaded_outcome v) []) (is : (v ≡ b) ⊎ (v ≡ verdict.Unsat)) where
+module _ (s t : Search) (l : Literal) (b v : SatState) (free : opposite l ∈ s.fixed → ⊥) (p : Loads s t (l ∷ []) (loaded_outcome v) [])
+    (is : (v ≡ b) ⊎ (v ≡ verdict.Unsat)) where
   unit-open : loaded_outcome v ≡ Unknown
   unit-open =
       ⊎_elim
@@ -72,7 +73,8 @@ module _ (xs ys : List ℕ) (p q l : ℕ) (more : (ys ≡ xs) ⊎ (ys ≡ xs ++ 
       (λ e. let n = ap length e in omega (arith, n, same, all))
       (λ e. absurd (h (subst (λ zs. slice_get zs q ≡ Some l) (sym e)
       (let m = length-append xs (l ∷ []) in
-      slice_get_read (xs ++ l ∷ []) (length (xs ++ l ∷ [])) q l refl (omega (arith, m, same, all)) (sym (subst (λ k. get_or (xs ++ l ∷ []) k l ≡ l) (sym (same ∙ all)) (get_or-last xs l l)))))))
+      slice_get_read (xs ++ l ∷ []) (length (xs ++ l ∷ [])) q l refl (omega (arith, m, same, all))
+      (sym (subst (λ k. get_or (xs ++ l ∷ []) k l ≡ l) (sym (same ∙ all)) (get_or-last xs l l)))))))
       more
 
 -- the test for the literal

@@ -26,5 +26,8 @@ module _ (s t : View) (w : WellFormed s) (h : 0 < length s.decisions) (c : IsCut
   pub seen-cut : search_of t ≡ search_of s
   seen-cut =
       ap search_of c.rest
-      ∙ ap (λ ls. record (search_of s) { fixed = ls; proved = filter (is_proved s) (take (decision_at s 0) s.trail) }) (filter-take (is_fixed s) (decision_at s 0) s.trail late)
-      ∙ ap (λ ls. record (search_of s) { proved = ls }) (filter-take (is_proved s) (decision_at s 0) s.trail (λ k a b. ap (λ (f : Bool). f && not (is_clause (node_of s (get_or s.trail k 0)).reason)) (late k a b)))
+      ∙ ap (λ ls. record (search_of s) { fixed = ls; proved = filter (is_proved s) (take (decision_at s 0) s.trail) })
+      (filter-take (is_fixed s) (decision_at s 0) s.trail late)
+      ∙ ap (λ ls. record (search_of s) { proved = ls })
+      (filter-take (is_proved s) (decision_at s 0) s.trail
+      (λ k a b. ap (λ (f : Bool). f && not (is_clause (node_of s (get_or s.trail k 0)).reason)) (late k a b)))

@@ -95,8 +95,10 @@ module _ (s : View) (m n o : ℕ) (w : WellFormed s) where
   pub grown-seen : search_of grown ≡ search_of s
   grown-seen =
       let fixed = filter-same (is_fixed grown) (is_fixed s) s.trail (λ l. ap (λ (x : ImplNode). nat_eq x.level 0) (node-same l)) in
-      let proved = filter-same (is_proved grown) (is_proved s) s.trail (λ l. ap (λ (x : ImplNode). nat_eq x.level 0 && not (is_clause x.reason)) (node-same l)) in
-      ap (λ ps. record (search_of grown) { kept = map kept_clause s.clauses ++ map kept_pair ps }) (pairs-raised s.binary 0 o) ∙ ap₂ (λ (a b : List Literal). record (search_of s) { fixed = a; proved = b }) fixed proved
+      let proved = filter-same (is_proved grown) (is_proved s) s.trail
+      (λ l. ap (λ (x : ImplNode). nat_eq x.level 0 && not (is_clause x.reason)) (node-same l)) in
+      ap (λ ps. record (search_of grown) { kept = map kept_clause s.clauses ++ map kept_pair ps }) (pairs-raised s.binary 0 o)
+      ∙ ap₂ (λ (a b : List Literal). record (search_of s) { fixed = a; proved = b }) fixed proved
 
   pub grown-settled : LevelsSettled s → LevelsSettled grown
   grown-settled v j h = subst (λ P. IsComplete P (take (decision_at s j) s.trail)) (sym grown-kept) (v j h)
@@ -107,22 +109,28 @@ replicate-join x (suc a) b zero e = absurd (omega (arith, e))
 replicate-join x (suc a) b (suc n) e = ap (λ ys. x ∷ ys) (replicate-join x a b n (omega (arith, e)))
 
 -- the flags stay false
-pub grown-flags : (flags : List Bool) (n count : ℕ) → flags ≡ replicate (2 * n) false → n ≤ count → flags ++ replicate (2 * count - length flags) false ≡ replicate (2 * count) false
+pub grown-flags : (flags : List Bool) (n count : ℕ) → flags ≡ replicate (2 * n) false → n ≤ count →
+    flags ++ replicate (2 * count - length flags) false ≡ replicate (2 * count) false
 grown-flags flags n count e h =
     let l : length flags ≡ 2 * n = ap (λ (xs : List Bool). length xs) e ∙ length-replicate (2 * n) false in
     ap (λ xs. xs ++ replicate (2 * count - length flags) false) e ∙ replicate-join false (2 * n) (2 * count - length flags) (2 * count) (omega (arith, l, h))
 
 -- there are lists for more variables, and no watch is lost
-pub grown-propagated : (W V : Watches) (s : View) (B : List (List Literal)) (vs : List (Option Bool)) (ns : List ImplNode) (count : ℕ) → B ≡ s.binary ++ replicate (2 * count - length s.binary) [] → length vs ≡ count → length s.values ≤ count → V ≡ with_more W (2 * count - length W.lists) → IsPropagated W s → IsPropagated V (record s { binary = B; values = vs; nodes = ns })
+pub grown-propagated : (W V : Watches) (s : View) (B : List (List Literal)) (vs : List (Option Bool)) (ns : List ImplNode) (count : ℕ) →
+    B ≡ s.binary ++ replicate (2 * count - length s.binary) [] → length vs ≡ count → length s.values ≤ count →
+    V ≡ with_more W (2 * count - length W.lists) → IsPropagated W s → IsPropagated V (record s { binary = B; values = vs; nodes = ns })
 grown-propagated W V s B vs ns count e n h f p =
     let k = 2 * count - length W.lists in
     let o = 2 * count - length s.binary in
-    subst (λ X. IsPropagated X (record s { binary = B; values = vs; nodes = ns })) (sym f) (subst (λ Y. IsPropagated (with_more W k) (record s { binary = Y; values = vs; nodes = ns })) (sym e) record {
-      lists = (let a = length-append W.lists (replicate k []) in let b = length-replicate {A = List Watch} k [] in let c = p.lists in omega (arith, a, b, c, n, h));
+    subst (λ X. IsPropagated X (record s { binary = B; values = vs; nodes = ns })) (sym f)
+    (subst (λ Y. IsPropagated (with_more W k) (record s { binary = Y; values = vs; nodes = ns })) (sym e) record {
+      lists = (let a = length-append W.lists (replicate k []) in let b = length-replicate {A = List Watch} k [] in let c = p.lists in
+          omega (arith, a, b, c, n, h));
       watching = λ o. watching-variables W k s.clauses (p.watching o);
       empty = λ o x. more-lists W.lists k x ∙ p.empty o x;
       settled = p.settled;
-      binary = (let a = length-append s.binary (replicate o []) in let b = length-replicate {A = List Literal} o [] in let c = p.binary in omega (arith, a, b, c, n, h));
+      binary = (let a = length-append s.binary (replicate o []) in let b = length-replicate {A = List Literal} o [] in let c = p.binary in
+          omega (arith, a, b, c, n, h));
       implied = λ m q l i. p.implied m q l (subst (λ xs. m ∈ xs) (implied-raised s.binary o (literal_at s q)) i);
       queue = p.queue;
     })
@@ -135,7 +143,10 @@ pub record Grown (s u : View) (n : ℕ) : Type 0 where
   pub seen : search_of u ≡ search_of s
   pub same_kept : kept u ≡ kept s
 
-pub grown-result : (s : View) (B : List (List Literal)) (vs : List (Option Bool)) (ns : List ImplNode) (count : ℕ) → WellFormed s → LevelsSettled s → length s.values ≤ count → count ≤ 2 ^ 28 → B ≡ s.binary ++ replicate (2 * count - length s.binary) [] → vs ≡ s.values ++ replicate (count - length s.values) None → ns ≡ s.nodes ++ replicate (count - length s.nodes) no_node → Grown s (record s { binary = B; values = vs; nodes = ns }) count
+pub grown-result : (s : View) (B : List (List Literal)) (vs : List (Option Bool)) (ns : List ImplNode) (count : ℕ) → WellFormed s →
+    LevelsSettled s → length s.values ≤ count → count ≤ 2 ^ 28 → B ≡ s.binary ++ replicate (2 * count - length s.binary) [] →
+    vs ≡ s.values ++ replicate (count - length s.values) None → ns ≡ s.nodes ++ replicate (count - length s.nodes) no_node →
+    Grown s (record s { binary = B; values = vs; nodes = ns }) count
 grown-result s B vs ns count w v h b e f g =
     let m = count - length s.values in
     let n = count - length s.nodes in
@@ -148,5 +159,14 @@ grown-result s B vs ns count w v h b e f g =
     let l : length (s.values ++ replicate m None) ≡ count = omega (arith, a, y, h) in
     let k : length (s.nodes ++ replicate n no_node) ≡ count = omega (arith, x, z, d, h) in
     let whole : record s { binary = B; values = vs; nodes = ns } ≡ grown s m n o w =
-    ap (λ (Y : List (List Literal)). record s { binary = Y; values = vs; nodes = ns }) e ∙ ap₂ (λ (p : List (Option Bool)) (q : List ImplNode). record s { binary = s.binary ++ replicate o []; values = p; nodes = q }) f g in
-    subst (λ (q : View). Grown s q count) (sym whole) (record { well = grown-well s m n o w (k ∙ sym l) (omega (arith, l, b)); settled = grown-settled s m n o w v; count = l; seen = grown-seen s m n o w; same_kept = grown-kept s m n o w })
+    ap (λ (Y : List (List Literal)). record s { binary = Y; values = vs; nodes = ns }) e
+    ∙ ap₂ (λ (p : List (Option Bool)) (q : List ImplNode). record s { binary = s.binary ++ replicate o []; values = p; nodes = q }) f g in
+    subst (λ (q : View). Grown s q count) (sym whole)
+    (record {
+      well = grown-well s m n o w (k ∙ sym l) (omega (arith, l, b));
+      settled = grown-settled s m n o w v;
+      count = l;
+      seen =
+          grown-seen s m n o w;
+      same_kept = grown-kept s m n o w;
+    })

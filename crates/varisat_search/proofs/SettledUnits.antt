@@ -54,7 +54,8 @@ goes-are x y P Q are a = record {
 }
 
 -- one after the other
-pub goes-trans : {A : Type 0} (x y z : Context A) (P Q R : List Line → Type 0) → ((first more : List Line) → P first → Q more → R (first ++ more)) → GoesOnByLines P x y → GoesOnByLines Q y z → GoesOnByLines R x z
+pub goes-trans : {A : Type 0} (x y z : Context A) (P Q R : List Line → Type 0) → ((first more : List Line) → P first → Q more → R (first ++ more)) →
+    GoesOnByLines P x y → GoesOnByLines Q y z → GoesOnByLines R x z
 goes-trans {A} x y z P Q R join a b =
     let (first, p, i) = a.proves in
     let (more, q, j) = b.proves in
@@ -71,7 +72,16 @@ goes-trans {A} x y z P Q R join a b =
     }
 
 -- propagation
-pub goes-propagated : {A : Type 0} (x m : Context A) → IsReady x → IsReady m → Propagates (view x) (view m) → m.assignment.last ≡ x.assignment.last → m.trail.units_removed ≡ x.trail.units_removed → m ≡ record x { assignment = m.assignment; clause_alloc = m.clause_alloc; impl_graph = m.impl_graph; trail = m.trail; watchlists = m.watchlists } → GoesOnByLines (λ lines. lines ≡ []) x m
+pub goes-propagated : {A : Type 0} (x m : Context A) → IsReady x → IsReady m → Propagates (view x) (view m) →
+    m.assignment.last ≡ x.assignment.last → m.trail.units_removed ≡ x.trail.units_removed →
+    m ≡ record x {
+      assignment = m.assignment;
+      clause_alloc = m.clause_alloc;
+      impl_graph = m.impl_graph;
+      trail = m.trail;
+      watchlists =
+          m.watchlists;
+    } → GoesOnByLines (λ lines. lines ≡ []) x m
 goes-propagated {A} x m r q p l u k =
     let s = view x in
     let t = view m in
@@ -86,11 +96,14 @@ goes-propagated {A} x m r q p l u k =
     }
 
 -- the units are proved
-pub goes-proved : {A : Type 0} (x z : Context A) (P : List Line → Type 0) → IsReady x → IsReady z → x.trail.decisions ≡ [] → ProvesUnits (view x) (view z) → (lines : List Line) → Proves 0 (search_of (view x)) (search_of (view z)) lines → P lines → z ≡ record x { impl_graph = z.impl_graph } → GoesOnByLines P x z
+pub goes-proved : {A : Type 0} (x z : Context A) (P : List Line → Type 0) → IsReady x → IsReady z → x.trail.decisions ≡ [] →
+    ProvesUnits (view x) (view z) → (lines : List Line) → Proves 0 (search_of (view x)) (search_of (view z)) lines → P lines →
+    z ≡ record x { impl_graph = z.impl_graph } → GoesOnByLines P x z
 goes-proved {A} x z P r q none p lines h i k = record {
   ready = q;
   proves = (lines, h, i);
-  extends = extends-same (view x) (view z) q.well (ap (λ (y : View). y.values) p.rest) (ap (λ (y : View). y.trail) p.rest) (ap (λ (y : View). y.decisions) p.rest);
+  extends = extends-same (view x) (view z) q.well (ap (λ (y : View). y.values) p.rest) (ap (λ (y : View). y.trail) p.rest)
+      (ap (λ (y : View). y.decisions) p.rest);
   kinds_more = ([], units-kinds (view x) (view z) r.well none p ∙ sym (append-nil (kinds (view x))));
   decidable = same-read (view x) x.vsids (view z) z.vsids (ap (λ (y : View). y.values) p.rest) (ap (λ (y : Context A). y.vsids.available) k);
   last = ap (λ (y : Context A). y.assignment.last) k;
@@ -98,11 +111,15 @@ goes-proved {A} x z P r q none p lines h i k = record {
 }
 
 -- the clauses are simplified
-pub goes-simplified : {A : Type 0} (x z : Context A) (P : List Line → Type 0) → IsReady z → (lines : List Line) → Proves 0 (search_of (view x)) (search_of (view z)) lines → P lines → SameDecidable (view x) x.vsids (view z) z.vsids → z ≡ record x { binary_clauses = z.binary_clauses; clause_alloc = z.clause_alloc; clause_db = z.clause_db; watchlists = z.watchlists } → GoesOnByLines P x z
+pub goes-simplified : {A : Type 0} (x z : Context A) (P : List Line → Type 0) → IsReady z → (lines : List Line) →
+    Proves 0 (search_of (view x)) (search_of (view z)) lines → P lines → SameDecidable (view x) x.vsids (view z) z.vsids →
+    z ≡ record x { binary_clauses = z.binary_clauses; clause_alloc = z.clause_alloc; clause_db = z.clause_db; watchlists = z.watchlists } →
+    GoesOnByLines P x z
 goes-simplified {A} x z P q lines h i d k = record {
   ready = q;
   proves = (lines, h, i);
-  extends = extends-same (view x) (view z) q.well (ap (λ (y : Context A). (view y).values) k) (ap (λ (y : Context A). (view y).trail) k) (ap (λ (y : Context A). (view y).decisions) k);
+  extends = extends-same (view x) (view z) q.well (ap (λ (y : Context A). (view y).values) k) (ap (λ (y : Context A). (view y).trail) k)
+      (ap (λ (y : Context A). (view y).decisions) k);
   kinds_more = ([], ap (λ (y : Context A). kinds (view y)) k ∙ sym (append-nil (kinds (view x))));
   decidable = d;
   last = ap (λ (y : Context A). y.assignment.last) k;
@@ -130,7 +147,10 @@ module _ {A : Type 0} (x m p : Context A) (d : ProvedAfter x m p) where
       (goes-propagated x m d.ready d.mid_ready d.propagates d.last d.units d.kept)
       (goes-proved m p P d.mid_ready d.end_ready d.none d.proved (unit_lines (implied_units (view m))) d.proves i d.end_kept)
 
-  pub settles-to-units : (lines : List Line) (t : View) (end : Result (Unit {0}) Conflict) → MatchResult end (λ _. IsSimplified (view p) t × (lines ≡ unit_lines (implied_units (view m)) ++ (pair_lines (view p) ++ clause_lines (view p)))) (λ f. (t ≡ view p) × IsConflicting t f × (lines ≡ unit_lines (implied_units (view m)))) → SettlesUnits lines (view x) t end
+  pub settles-to-units : (lines : List Line) (t : View) (end : Result (Unit {0}) Conflict) →
+      MatchResult end (λ _. IsSimplified (view p) t
+      × (lines ≡ unit_lines (implied_units (view m)) ++ (pair_lines (view p) ++ clause_lines (view p))))
+      (λ f. (t ≡ view p) × IsConflicting t f × (lines ≡ unit_lines (implied_units (view m)))) → SettlesUnits lines (view x) t end
   settles-to-units lines t end e = record {
     propagated = view m;
     proved = view p;
@@ -153,15 +173,21 @@ settled-down s t d q h p = subst IsSettledDown (sym p.rest) record { undecided =
 
 -- What comes after the units were settled.
 module _ {A : Type 0} (x y : Context A) (P : List Line → Type 0) (a : GoesOnByLines P x y) where
-  pub steps-settled : (t : View) (v : Outcome) (lines : List Line) (Q R : List Line → Type 0) → ((first more : List Line) → P first → Q more → R (first ++ more)) → Steps (search_of (view y)) (search_of t) v lines → Q lines → (all : List Line) × Steps (search_of (view x)) (search_of t) v all × R all
-  steps-settled t v lines Q R join p j = let (first, q, i) = a.proves in (first ++ lines, part_step (search_of (view x)) (search_of (view y)) (search_of t) v first lines q p, join first lines i j)
+  pub steps-settled : (t : View) (v : Outcome) (lines : List Line) (Q R : List Line → Type 0) →
+      ((first more : List Line) → P first → Q more → R (first ++ more)) → Steps (search_of (view y)) (search_of t) v lines → Q lines →
+      (all : List Line) × Steps (search_of (view x)) (search_of t) v all × R all
+  steps-settled t v lines Q R join p j = let (first, q, i) = a.proves in
+      (first ++ lines, part_step (search_of (view x)) (search_of (view y)) (search_of t) v first lines q p, join first lines i j)
 
-  pub assumes-settled : (v : Outcome) (b : AssumptionParts) → y.assumptions ≡ x.assumptions → KeepsAssumptions (search_of (view y)) v y.assumptions b → KeepsAssumptions (search_of (view x)) v x.assumptions b
+  pub assumes-settled : (v : Outcome) (b : AssumptionParts) → y.assumptions ≡ x.assumptions →
+      KeepsAssumptions (search_of (view y)) v y.assumptions b → KeepsAssumptions (search_of (view x)) v x.assumptions b
   assumes-settled v b e k =
       let (lines, q, i) = a.proves in
       keeps-after-part 0 (search_of (view x)) (search_of (view y)) lines v x.assumptions b q (subst (λ c. KeepsAssumptions (search_of (view y)) v c b) e k)
 
-  pub rises-settled : (t : View) → IsReady x → WellFormed t → length t.values ≡ length (view y).values → ((n : ℕ) → length (view y).trail ≤ n → rank n (kinds (view y)) < rank n (kinds t)) → (n : ℕ) → length (view x).trail ≤ n → rank n (kinds (view x)) < rank n (kinds t)
+  pub rises-settled : (t : View) → IsReady x → WellFormed t → length t.values ≡ length (view y).values →
+      ((n : ℕ) → length (view y).trail ≤ n → rank n (kinds (view y)) < rank n (kinds t)) → (n : ℕ) → length (view x).trail ≤ n →
+      rank n (kinds (view x)) < rank n (kinds t)
   rises-settled t r w c h = let (more, e) = a.kinds_more in rises-longer (view x) (view y) t more r.well a.ready.well w e a.extends.count c h
 
   pub remembers-settled : (new : List Bool) → Remembers (view y) y.assignment.last new → Remembers (view x) x.assignment.last new

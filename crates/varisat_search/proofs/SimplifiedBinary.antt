@@ -31,7 +31,8 @@ filter-again : {X : Type 0} (p : X → Bool) (xs : List X) → filter p (filter 
 filter-again p [] = refl
 filter-again {X = X} p (x ∷ xs) = go (p x) refl (filter-again p xs)
   where
-    go : (b : Bool) → p x ≡ b → filter p (filter p xs) ≡ filter p xs → filter p (cond b (x ∷ filter p xs) (filter p xs)) ≡ cond b (x ∷ filter p xs) (filter p xs)
+    go : (b : Bool) → p x ≡ b → filter p (filter p xs) ≡ filter p xs →
+        filter p (cond b (x ∷ filter p xs) (filter p xs)) ≡ cond b (x ∷ filter p xs) (filter p xs)
     go true e r = ap (λ (c : Bool). cond c (x ∷ filter p (filter p xs)) (filter p (filter p xs))) e ∙ ap (λ (ys : List X). x ∷ ys) r
     go false e r = r
 
@@ -44,14 +45,16 @@ filter-none {X = X} p (x ∷ xs) = go (p x) refl (filter-none p xs)
     go true e r = ap (λ (c : Bool). cond (not c) (x ∷ filter (λ x. not (p x)) (filter p xs)) (filter (λ x. not (p x)) (filter p xs))) e ∙ r
     go false e r = r
 
-implied-again : (values : List (Option Bool)) (l : Literal) (ms : List Literal) → unassigned_implied values l (unassigned_implied values l ms) ≡ unassigned_implied values l ms
+implied-again : (values : List (Option Bool)) (l : Literal) (ms : List Literal) →
+    unassigned_implied values l (unassigned_implied values l ms) ≡ unassigned_implied values l ms
 implied-again values l ms = go (is_unassigned values l)
   where
     go : (b : Bool) → cond b (filter (is_unassigned values) (cond b (filter (is_unassigned values) ms) [])) [] ≡ cond b (filter (is_unassigned values) ms) []
     go true = filter-again (is_unassigned values) ms
     go false = refl
 
-from-again : (values : List (Option Bool)) (k : ℕ) (B : List (List Literal)) → unassigned_from values k (unassigned_from values k B) ≡ unassigned_from values k B
+from-again : (values : List (Option Bool)) (k : ℕ) (B : List (List Literal)) →
+    unassigned_from values k (unassigned_from values k B) ≡ unassigned_from values k B
 from-again values k [] = refl
 from-again values k (ms ∷ B) = let a = implied-again values k ms in let b = from-again values (suc k) B in cc
 
@@ -61,16 +64,28 @@ left-again values B = from-again values 0 B
 -- where nothing goes there is no line
 pub no-pair-lines : (values : List (Option Bool)) (B : List (List Literal)) → without_assigned values B ≡ B → lines_of_pairs values (pairs_from 0 B) ≡ []
 no-pair-lines values B e =
-    ap (λ (cs : List Clause). map Delete (filter (λ c. not (are_unassigned values c)) cs)) (ap (λ (D : List (List Literal)). pairs_from 0 D) (sym e) ∙ pairs-left values B)
+    ap (λ (cs : List Clause). map Delete (filter (λ c. not (are_unassigned values c)) cs))
+    (ap (λ (D : List (List Literal)). pairs_from 0 D) (sym e) ∙ pairs-left values B)
     ∙ ap (λ (cs : List Clause). map Delete cs) (filter-none (are_unassigned values) (pairs_from 0 B))
 
 module _ (s : View) (left_already : without_assigned s.values s.binary ≡ s.binary) where
   -- the clauses of the store alone
-  pub stored-prove : (u : IsAtUnits s) → Proves 0 (search_of s) (record (search_of s) { kept = map kept_clause (left_long s.values s.clauses) ++ map kept_pair (pairs_from 0 (with_pairs (without_assigned s.values s.binary) (left_pairs s.values s.clauses))) }) (clause_lines s)
-  stored-prove u = subst (λ (ls : List Line). Proves 0 (search_of s) (record (search_of s) { kept = map kept_clause (left_long s.values s.clauses) ++ map kept_pair (pairs_from 0 (with_pairs (without_assigned s.values s.binary) (left_pairs s.values s.clauses))) }) (ls ++ clause_lines s)) (no-pair-lines s.values s.binary left_already) (simplify-proves s u)
+  pub stored-prove : (u : IsAtUnits s) → Proves 0 (search_of s)
+      (record (search_of s) {
+        kept = map kept_clause (left_long s.values s.clauses) ++ map kept_pair
+            (pairs_from 0 (with_pairs (without_assigned s.values s.binary) (left_pairs s.values s.clauses)));
+      }) (clause_lines s)
+  stored-prove u = subst (λ (ls : List Line). Proves 0 (search_of s)
+      (record (search_of s) {
+        kept = map kept_clause (left_long s.values s.clauses) ++ map kept_pair
+            (pairs_from 0 (with_pairs (without_assigned s.values s.binary) (left_pairs s.values s.clauses)));
+      }) (ls ++ clause_lines s))
+      (no-pair-lines s.values s.binary left_already) (simplify-proves s u)
 
-  pub without-pair-lines : (t : View) → Proves 0 (search_of s) (search_of t) (pair_lines s ++ clause_lines s) → Proves 0 (search_of s) (search_of t) (clause_lines s)
-  without-pair-lines t p = subst (λ (ls : List Line). Proves 0 (search_of s) (search_of t) (ls ++ clause_lines s)) (no-pair-lines s.values s.binary left_already) p
+  pub without-pair-lines : (t : View) → Proves 0 (search_of s) (search_of t) (pair_lines s ++ clause_lines s) →
+      Proves 0 (search_of s) (search_of t) (clause_lines s)
+  without-pair-lines t p = subst (λ (ls : List Line). Proves 0 (search_of s) (search_of t) (ls ++ clause_lines s))
+      (no-pair-lines s.values s.binary left_already) p
 
 -- 2. The view with the clauses of two literals that are left.
 module _ (s : View) (w : WellFormed s) (none : s.decisions ≡ []) (units : HasUnits s) where
@@ -84,7 +99,8 @@ module _ (s : View) (w : WellFormed s) (none : s.decisions ≡ []) (units : HasU
   left-fewer c h =
       ⊎_elim
       (λ i. ∈-append_left c (literals_of s.clauses) (pairs_from 0 s.binary) i)
-      (λ i. ∈-append_right c (literals_of s.clauses) (pairs_from 0 s.binary) (∈-filter (are_unassigned s.values) (pairs_from 0 s.binary) c (subst (λ x. c ∈ x) (pairs-left s.values s.binary) i)).0)
+      (λ i. ∈-append_right c (literals_of s.clauses) (pairs_from 0 s.binary)
+      (∈-filter (are_unassigned s.values) (pairs_from 0 s.binary) c (subst (λ x. c ∈ x) (pairs-left s.values s.binary) i)).0)
       (∈-append_cases c (literals_of s.clauses) (pairs_from 0 B) h)
 
   pub left-well : WellFormed left
@@ -144,7 +160,9 @@ module _ {A : Type 0} {x z : Context A} (d : SimplifiesBinary x z) where
       exchanged-ready x z d.can.ready (subst (KeepsValues x) (sym d.rest) (keeps-values x (record x { binary_clauses = z.binary_clauses }) refl))
       (subst WellFormed (sym binary-view) (left-well s d.can.ready.well d.can.undecided d.can.proved))
       (subst LevelsSettled (sym binary-view) (settled-undecided t d.can.undecided))
-      (subst (λ (y : View). IsPropagated z.watchlists y) (sym binary-view) (subst (λ W. IsPropagated W t) (sym (ap (λ (y : Context A). y.watchlists) d.rest)) (left-propagated s d.can.ready.well d.can.undecided d.can.proved x.watchlists d.can.ready.propagated)))
+      (subst (λ (y : View). IsPropagated z.watchlists y) (sym binary-view)
+      (subst (λ W. IsPropagated W t) (sym (ap (λ (y : Context A). y.watchlists) d.rest))
+      (left-propagated s d.can.ready.well d.can.undecided d.can.proved x.watchlists d.can.ready.propagated)))
       (subst (λ (y : Context A). Tracks y.clause_db y.clause_alloc) (sym d.rest) d.can.ready.tracks)
       (subst (λ (y : View). CanDecide y x.vsids) (sym binary-view) can-decide)
 
@@ -155,7 +173,8 @@ module _ {A : Type 0} {x z : Context A} (d : SimplifiesBinary x z) where
   binary-can = record {
     ready = binary-ready;
     undecided = ap (λ (y : Context A). y.trail.decisions) d.rest ∙ d.can.undecided;
-    complete = subst (λ (y : View). IsComplete (kept y) y.trail) (sym binary-view) (left-complete s d.can.ready.well d.can.undecided d.can.proved d.can.complete);
+    complete = subst (λ (y : View). IsComplete (kept y) y.trail) (sym binary-view)
+        (left-complete s d.can.ready.well d.can.undecided d.can.proved d.can.complete);
     proved = subst HasUnits (sym binary-view) d.can.proved;
   }
 

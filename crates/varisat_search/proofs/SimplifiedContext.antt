@@ -39,7 +39,8 @@ module _ {A : Type 0} (x : Context A) (u : IsAtUnits (view x)) where
   pub live-open : (k : StoredClause) → k ∈ stored_clauses x.clause_alloc → is_live k ≡ true → IsLeftOpen x.assignment.current k.literals
   live-open k h e = stored-open (view x) u k (∈-live (stored_clauses x.clause_alloc) k h (is-false k.header.deleted e))
 
-  pub joining : (B : List (List Literal)) (ps : List Clause) → B ≡ without_assigned x.assignment.current x.binary_clauses → ps ≡ [] ++ left_pairs x.assignment.current (live_clauses x.clause_alloc) → (c : Clause) → c ∈ ps → IsPairIn B c
+  pub joining : (B : List (List Literal)) (ps : List Clause) → B ≡ without_assigned x.assignment.current x.binary_clauses →
+      ps ≡ [] ++ left_pairs x.assignment.current (live_clauses x.clause_alloc) → (c : Clause) → c ∈ ps → IsPairIn B c
   joining B ps e f c h = subst (λ D. IsPairIn D c) (sym e) (pairs-in (view x) u c (subst (λ cs. c ∈ cs) f h))
 
 -- What it did, from x to z.
@@ -48,7 +49,8 @@ pub record Simplifies {A : Type 0} (x z : Context A) : Type 0 where
   pub units : IsAtUnits (view x)
   pub tracks : Tracks z.clause_db z.clause_alloc
   pub clauses : live_clauses z.clause_alloc ≡ left_long x.assignment.current (live_clauses x.clause_alloc)
-  pub binary : z.binary_clauses ≡ with_pairs (without_assigned x.assignment.current x.binary_clauses) (left_pairs x.assignment.current (live_clauses x.clause_alloc))
+  pub binary : z.binary_clauses ≡ with_pairs (without_assigned x.assignment.current x.binary_clauses)
+      (left_pairs x.assignment.current (live_clauses x.clause_alloc))
   pub rest : z ≡ record x { binary_clauses = z.binary_clauses; clause_alloc = z.clause_alloc; clause_db = z.clause_db; watchlists = z.watchlists }
 
 -- after it
@@ -62,7 +64,8 @@ module _ {A : Type 0} {x z : Context A} (d : Simplifies x z) where
   is-view : view z ≡ t
   is-view =
       ap (λ (y : Context A). view y) d.rest
-      ∙ ap (λ (o : Bool). record s { sound = o; clauses = live_clauses z.clause_alloc; binary = z.binary_clauses }) (sound-is z.clause_alloc d.tracks.sound ∙ sym (sound-is x.clause_alloc d.ready.tracks.sound))
+      ∙ ap (λ (o : Bool). record s { sound = o; clauses = live_clauses z.clause_alloc; binary = z.binary_clauses })
+      (sound-is z.clause_alloc d.tracks.sound ∙ sym (sound-is x.clause_alloc d.ready.tracks.sound))
       ∙ ap₂ (λ (ks : List StoredClause) (B : List (List Literal)). record s { clauses = ks; binary = B }) d.clauses d.binary
 
   pub is-simplified : IsSimplified (view x) (view z)
@@ -87,11 +90,21 @@ module _ {A : Type 0} {x z : Context A} (d : Simplifies x z) where
     decidable = λ c h l i. let (k, j, o) = literal-kept s d.units c h l i in d.ready.decidable.decidable k j l o;
   }
 
-  pub simplified-ready : ((l : Literal) → watches_of z.watchlists l ≡ []) → z.watchlists.enabled ≡ false → length z.watchlists.lists ≡ length x.watchlists.lists → IsReady z
+  pub simplified-ready : ((l : Literal) → watches_of z.watchlists l ≡ []) → z.watchlists.enabled ≡ false →
+      length z.watchlists.lists ≡ length x.watchlists.lists → IsReady z
   simplified-ready e o n =
-      exchanged-ready x z d.ready (subst (KeepsValues x) (sym d.rest) (keeps-values x (record x { binary_clauses = z.binary_clauses; clause_alloc = z.clause_alloc; clause_db = z.clause_db; watchlists = z.watchlists }) refl))
+      exchanged-ready x z d.ready (subst (KeepsValues x) (sym d.rest)
+      (keeps-values x (record x {
+        binary_clauses = z.binary_clauses;
+        clause_alloc = z.clause_alloc;
+        clause_db = z.clause_db;
+        watchlists =
+            z.watchlists;
+      }) refl))
       (subst WellFormed (sym is-view) (still-well s d.units))
       (subst LevelsSettled (sym is-view) (settled-undecided t d.units.undecided))
-      (subst (IsPropagated z.watchlists) (sym is-view) (propagated-unassigned t (still-well s d.units) (still-free s d.units) z.watchlists (n ∙ d.ready.propagated.lists) o e (C-count s d.units ∙ d.units.lists) d.units.undecided))
+      (subst (IsPropagated z.watchlists) (sym is-view)
+      (propagated-unassigned t (still-well s d.units) (still-free s d.units) z.watchlists (n ∙ d.ready.propagated.lists) o e
+      (C-count s d.units ∙ d.units.lists) d.units.undecided))
       d.tracks
       (subst (λ (y : View). CanDecide y x.vsids) (sym is-view) can-decide)

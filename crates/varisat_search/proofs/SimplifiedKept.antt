@@ -31,25 +31,30 @@ longer-pair B C c e q = record { is = q.is; first = let h = q.first in omega (ar
 pub joined-count : (B : List (List Literal)) (c : Clause) → IsPairIn B c → length (with_pair B (literal_in c 0) (literal_in c 1)) ≡ length B
 joined-count B c q = (adds-pair B (literal_in c 0) (literal_in c 1) q.first q.second).count
 
-pub pairs-same : (B : List (List Literal)) (cs : List Clause) → ((c : Clause) → c ∈ cs → IsPairIn B c) → SameClauses (cs ++ pairs_from 0 B) (pairs_from 0 (with_pairs B cs))
+pub pairs-same : (B : List (List Literal)) (cs : List Clause) → ((c : Clause) → c ∈ cs → IsPairIn B c) →
+    SameClauses (cs ++ pairs_from 0 B) (pairs_from 0 (with_pairs B cs))
 pairs-same B [] f = same_clauses-self (pairs_from 0 B)
 pairs-same B (c ∷ cs) f =
     let q = f c (inl refl) in
     let C = with_pair B (literal_in c 0) (literal_in c 1) in
     let (p, i, same, is) = inserts-pair B (literal_in c 0) (literal_in c 1) q.first q.second q.other in
     let here : SameSet c p = subst (λ d. SameSet d p) (sym q.is) (same_set-back p (literal_in c 0 ∷ literal_in c 1 ∷ []) same) in
-    let one : SameClauses (c ∷ (cs ++ (i.front ++ i.back))) ((cs ++ i.front) ++ p ∷ i.back) = same_insert [] (cs ++ (i.front ++ i.back)) (cs ++ i.front) i.back c p here (same_equal (cs ++ (i.front ++ i.back)) ((cs ++ i.front) ++ i.back) (sym (append_assoc cs i.front i.back))) in
+    let one : SameClauses (c ∷ (cs ++ (i.front ++ i.back))) ((cs ++ i.front) ++ p ∷ i.back) =
+    same_insert [] (cs ++ (i.front ++ i.back)) (cs ++ i.front) i.back c p here
+    (same_equal (cs ++ (i.front ++ i.back)) ((cs ++ i.front) ++ i.back) (sym (append_assoc cs i.front i.back))) in
     let two : SameClauses (c ∷ (cs ++ pairs_from 0 B)) (cs ++ pairs_from 0 C) =
     subst (λ x. SameClauses (c ∷ (cs ++ x)) (cs ++ pairs_from 0 C)) (sym i.old)
     (subst (SameClauses (c ∷ (cs ++ (i.front ++ i.back)))) (append_assoc cs i.front (p ∷ i.back) ∙ ap (λ x. cs ++ x) (sym i.new)) one) in
     same_clauses-through (c ∷ (cs ++ pairs_from 0 B)) (cs ++ pairs_from 0 C) (pairs_from 0 (with_pairs C cs)) two
     (pairs-same C cs (λ d j. longer-pair B C d (joined-count B c q) (f d (inr j))))
 
-with-pairs-more : (B : List (List Literal)) (cs : List Clause) (c : Clause) → with_pairs B (cs ++ c ∷ []) ≡ with_pair (with_pairs B cs) (literal_in c 0) (literal_in c 1)
+with-pairs-more : (B : List (List Literal)) (cs : List Clause) (c : Clause) →
+    with_pairs B (cs ++ c ∷ []) ≡ with_pair (with_pairs B cs) (literal_in c 0) (literal_in c 1)
 with-pairs-more B [] c = refl
 with-pairs-more B (d ∷ cs) c = with-pairs-more (with_pair B (literal_in d 0) (literal_in d 1)) cs c
 
-pub joined-on : (B C : List (List Literal)) (cs : List Clause) (c : Clause) → C ≡ with_pairs B cs → with_pair C (literal_in c 0) (literal_in c 1) ≡ with_pairs B (cs ++ c ∷ [])
+pub joined-on : (B C : List (List Literal)) (cs : List Clause) (c : Clause) → C ≡ with_pairs B cs →
+    with_pair C (literal_in c 0) (literal_in c 1) ≡ with_pairs B (cs ++ c ∷ [])
 joined-on B C cs c e = ap (λ D. with_pair D (literal_in c 0) (literal_in c 1)) e ∙ sym (with-pairs-more B cs c)
 
 -- one more element of a list that is read
@@ -61,8 +66,11 @@ module _ (values : List (Option Bool)) where
   -- a clause is satisfied, stays in the store, or becomes one of two literals
   abbrev Sorted : StoredClause → List StoredClause → Type 0
   Sorted k ks = ((left_of values k ≡ []) × (left_long values (k ∷ ks) ≡ left_long values ks) × (left_pairs values (k ∷ ks) ≡ left_pairs values ks))
-      ⊎ (((left_of values k ≡ kept_clause (shortened_to (unassigned values k.literals) k) ∷ []) × (left_long values (k ∷ ks) ≡ shortened_to (unassigned values k.literals) k ∷ left_long values ks) × (left_pairs values (k ∷ ks) ≡ left_pairs values ks))
-      ⊎ ((left_of values k ≡ kept_pair (unassigned values k.literals) ∷ []) × (left_long values (k ∷ ks) ≡ left_long values ks) × (left_pairs values (k ∷ ks) ≡ unassigned values k.literals ∷ left_pairs values ks)))
+      ⊎ (((left_of values k ≡ kept_clause (shortened_to (unassigned values k.literals) k) ∷ [])
+      × (left_long values (k ∷ ks) ≡ shortened_to (unassigned values k.literals) k ∷ left_long values ks)
+      × (left_pairs values (k ∷ ks) ≡ left_pairs values ks))
+      ⊎ ((left_of values k ≡ kept_pair (unassigned values k.literals) ∷ []) × (left_long values (k ∷ ks) ≡ left_long values ks)
+      × (left_pairs values (k ∷ ks) ≡ unassigned values k.literals ∷ left_pairs values ks)))
 
   module _ (k : StoredClause) (ks : List StoredClause) where
     abbrev cut : StoredClause → StoredClause
@@ -86,7 +94,9 @@ module _ (values : List (Option Bool)) where
     abbrev second : Bool → Bool → List Clause
     second b d = map open-literals (cond (not b && not d) (k ∷ pairs) pairs)
 
-    sorted-if : (b d : Bool) → ((here b d ≡ []) × (first b d ≡ map cut longs) × (second b d ≡ map open-literals pairs)) ⊎ (((here b d ≡ kept_clause (cut k) ∷ []) × (first b d ≡ cut k ∷ map cut longs) × (second b d ≡ map open-literals pairs)) ⊎ ((here b d ≡ kept_pair (open-literals k) ∷ []) × (first b d ≡ map cut longs) × (second b d ≡ open-literals k ∷ map open-literals pairs)))
+    sorted-if : (b d : Bool) → ((here b d ≡ []) × (first b d ≡ map cut longs) × (second b d ≡ map open-literals pairs))
+        ⊎ (((here b d ≡ kept_clause (cut k) ∷ []) × (first b d ≡ cut k ∷ map cut longs) × (second b d ≡ map open-literals pairs))
+        ⊎ ((here b d ≡ kept_pair (open-literals k) ∷ []) × (first b d ≡ map cut longs) × (second b d ≡ open-literals k ∷ map open-literals pairs)))
     sorted-if true d = inl (refl, refl, refl)
     sorted-if false true = inr (inl (refl, refl, refl))
     sorted-if false false = inr (inr (refl, refl, refl))
@@ -101,20 +111,25 @@ module _ (values : List (Option Bool)) where
   each-same [] = refl
   each-same (k ∷ ks) = go (sorted k ks) (each-same ks)
     where
-      put : (h : List KeptClause) (a : List StoredClause) (b : List Clause) → left_of values k ≡ h → left_long values (k ∷ ks) ≡ a → left_pairs values (k ∷ ks) ≡ b → SameClauses (clauses_of (h ++ left_each values ks)) (literals_of a ++ b) → SameClauses (clauses_of (left_of values k ++ left_each values ks)) (sides (k ∷ ks))
+      put : (h : List KeptClause) (a : List StoredClause) (b : List Clause) → left_of values k ≡ h → left_long values (k ∷ ks) ≡ a →
+          left_pairs values (k ∷ ks) ≡ b → SameClauses (clauses_of (h ++ left_each values ks)) (literals_of a ++ b) →
+          SameClauses (clauses_of (left_of values k ++ left_each values ks)) (sides (k ∷ ks))
       put h a b e f g r =
           subst (λ x. SameClauses (clauses_of (x ++ left_each values ks)) (sides (k ∷ ks))) (sym e)
           (subst (λ x. SameClauses (clauses_of (h ++ left_each values ks)) (literals_of x ++ left_pairs values (k ∷ ks))) (sym f)
           (subst (λ x. SameClauses (clauses_of (h ++ left_each values ks)) (literals_of a ++ x)) (sym g) r))
 
-      go : Sorted k ks → SameClauses (clauses_of (left_each values ks)) (sides ks) → SameClauses (clauses_of (left_of values k ++ left_each values ks)) (sides (k ∷ ks))
+      go : Sorted k ks → SameClauses (clauses_of (left_each values ks)) (sides ks) →
+          SameClauses (clauses_of (left_of values k ++ left_each values ks)) (sides (k ∷ ks))
       go (inl (e, f, g)) r = put [] (left_long values ks) (left_pairs values ks) e f g r
       go (inr (inl (e, f, g))) r =
-          put (kept_clause (shortened_to (unassigned values k.literals) k) ∷ []) (shortened_to (unassigned values k.literals) k ∷ left_long values ks) (left_pairs values ks) e f g
+          put (kept_clause (shortened_to (unassigned values k.literals) k) ∷ [])
+          (shortened_to (unassigned values k.literals) k ∷ left_long values ks) (left_pairs values ks) e f g
           (sides ks, ([], unassigned values k.literals, sides ks, refl, same_set-self (unassigned values k.literals), refl), r)
       go (inr (inr (e, f, g))) r =
           put (kept_pair (unassigned values k.literals) ∷ []) (left_long values ks) (unassigned values k.literals ∷ left_pairs values ks) e f g
-          (same_insert [] (clauses_of (left_each values ks)) (literals_of (left_long values ks)) (left_pairs values ks) (unassigned values k.literals) (unassigned values k.literals) (same_set-self (unassigned values k.literals)) r)
+          (same_insert [] (clauses_of (left_each values ks)) (literals_of (left_long values ks)) (left_pairs values ks)
+          (unassigned values k.literals) (unassigned values k.literals) (same_set-self (unassigned values k.literals)) r)
 
   abbrev Known : List StoredClause → KeptClause → Type 0
   Known ks j = (j ∈ map kept_clause (left_long values ks)) ⊎ ((c : Clause) × (c ∈ left_pairs values ks) × (j ≡ kept_pair c))
@@ -123,7 +138,8 @@ module _ (values : List (Option Bool)) where
   each-from [] j h = absurd h
   each-from (k ∷ ks) j h = go (sorted k ks) (each-from ks j) (∈-append_cases j (left_of values k) (left_each values ks) h)
     where
-      later : (j ∈ left_each values ks → Known ks j) → (a : List StoredClause) (b : List Clause) → left_long values (k ∷ ks) ≡ a → left_pairs values (k ∷ ks) ≡ b → left_long values ks ⊆ a → left_pairs values ks ⊆ b → j ∈ left_each values ks → Known (k ∷ ks) j
+      later : (j ∈ left_each values ks → Known ks j) → (a : List StoredClause) (b : List Clause) → left_long values (k ∷ ks) ≡ a →
+          left_pairs values (k ∷ ks) ≡ b → left_long values ks ⊆ a → left_pairs values ks ⊆ b → j ∈ left_each values ks → Known (k ∷ ks) j
       later r a b f g u v i =
           ⊎_elim
           (λ o. inl (subst (λ x. j ∈ map kept_clause x) (sym f) (map-⊆ (left_long values ks) a u o)))
@@ -144,8 +160,15 @@ module _ (values : List (Option Bool)) where
       go (inl (e, f, g)) r (inl i) = absurd (subst (λ x. j ∈ x) e i)
       go (inl (e, f, g)) r (inr i) = later r (left_long values ks) (left_pairs values ks) f g (λ x o. o) (λ x o. o) i
       go (inr (inl (e, f, g))) r (inl i) = inl (subst (λ x. j ∈ map kept_clause x) (sym f) (⊎_elim (λ q. inl q) (λ z. absurd z) (subst (λ x. j ∈ x) e i)))
-      go (inr (inl (e, f, g))) r (inr i) = later r (shortened_to (unassigned values k.literals) k ∷ left_long values ks) (left_pairs values ks) f g (λ x o. inr o) (λ x o. o) i
-      go (inr (inr (e, f, g))) r (inl i) = inr (unassigned values k.literals, subst (λ x. unassigned values k.literals ∈ x) (sym g) (inl refl), ⊎_elim (λ q. q) (λ z. absurd z) (subst (λ x. j ∈ x) e i))
+      go (inr (inl (e, f, g))) r (inr i) = later r (shortened_to (unassigned values k.literals) k ∷ left_long values ks) (left_pairs values ks) f g
+          (λ x o. inr o) (λ x o. o) i
+      go (inr (inr (e, f, g))) r (inl i) =
+          inr (
+            unassigned values k.literals,
+            subst (λ x. unassigned values k.literals ∈ x) (sym g) (inl refl),
+            ⊎_elim (λ q. q) (λ z. absurd z)
+                (subst (λ x. j ∈ x) e i),
+          )
       go (inr (inr (e, f, g))) r (inr i) = later r (left_long values ks) (unassigned values k.literals ∷ left_pairs values ks) f g (λ x o. o) (λ x o. inr o) i
 
 -- 3. The search that the lines lead to is the one that is seen then.
@@ -182,9 +205,12 @@ module _ (values : List (Option Bool)) (ks : List StoredClause) (B : List (List 
       let L = literals_of (left_long values ks) in
       let P = left_pairs values ks in
       let Q = pairs_from 0 B in
-      let a : clauses_of mixed ≡ clauses_of (left_each values ks) ++ Q = clauses-append (left_each values ks) (map kept_pair Q) ∙ ap (λ x. clauses_of (left_each values ks) ++ x) (seen_pairs Q) in
-      let b : clauses_of apart ≡ L ++ pairs_from 0 C = clauses-append (map kept_clause (left_long values ks)) (map kept_pair (pairs_from 0 C)) ∙ ap₂ (λ (x y : List Clause). x ++ y) (seen-stored (left_long values ks)) (seen_pairs (pairs_from 0 C)) in
-      let c : SameClauses (clauses_of (left_each values ks) ++ Q) ((L ++ P) ++ Q) = same_front (clauses_of (left_each values ks)) (L ++ P) Q (each-same values ks) in
+      let a : clauses_of mixed ≡ clauses_of (left_each values ks) ++ Q = clauses-append (left_each values ks) (map kept_pair Q)
+      ∙ ap (λ x. clauses_of (left_each values ks) ++ x) (seen_pairs Q) in
+      let b : clauses_of apart ≡ L ++ pairs_from 0 C = clauses-append (map kept_clause (left_long values ks)) (map kept_pair (pairs_from 0 C))
+      ∙ ap₂ (λ (x y : List Clause). x ++ y) (seen-stored (left_long values ks)) (seen_pairs (pairs_from 0 C)) in
+      let c : SameClauses (clauses_of (left_each values ks) ++ Q) ((L ++ P) ++ Q) =
+      same_front (clauses_of (left_each values ks)) (L ++ P) Q (each-same values ks) in
       let d : SameClauses (L ++ (P ++ Q)) (L ++ pairs_from 0 C) = behind L (P ++ Q) (pairs_from 0 C) (pairs-same B P pairs) in
       subst (λ x. SameClauses x (clauses_of apart)) (sym a)
       (subst (SameClauses (clauses_of (left_each values ks) ++ Q)) (sym b)
@@ -199,7 +225,8 @@ module _ (values : List (Option Bool)) (ks : List StoredClause) (B : List (List 
   mixed-seen k h e =
       let M = map kept_clause (left_long values ks) in
       let N = map kept_pair (pairs_from 0 C) in
-      let pair : (c : Clause) → c ∈ (left_pairs values ks ++ pairs_from 0 B) → k ≡ kept_pair c → (j : KeptClause) × (j ∈ apart) × (j.learned ≡ false) × (j.clause ⊆ k.clause) = λ c i q.
+      let pair : (c : Clause) → c ∈ (left_pairs values ks ++ pairs_from 0 B) → k ≡ kept_pair c → (j : KeptClause) × (j ∈ apart)
+      × (j.learned ≡ false) × (j.clause ⊆ k.clause) = λ c i q.
       let (d, o, s) = same_clauses_find (left_pairs values ks ++ pairs_from 0 B) (pairs_from 0 C) (pairs-same B (left_pairs values ks) pairs) c i in
       (kept_pair d, ∈-append_right (kept_pair d) M N (pair-there (pairs_from 0 C) d o), refl, λ l x. subst (λ z. l ∈ z.clause) (sym q) (s.0 l x)) in
       ⊎_elim

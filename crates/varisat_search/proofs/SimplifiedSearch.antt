@@ -50,12 +50,16 @@ from-map f (k ∷ ks) x (inr h) = let (j, i, e) = from-map f ks x h in (j, inr i
 
 map-rising : (f : StoredClause → StoredClause) → ((k : StoredClause) → (f k).place ≡ k.place) → (ks : List StoredClause) → AreRising ks → AreRising (map f ks)
 map-rising f same [] r = tt
-map-rising f same (k ∷ ks) r =
-    ((λ j h. let (x, i, e) = from-map f ks j h in let a = r.0 x i in let b = same k in let c = ap (λ (y : StoredClause). y.place) e ∙ same x in omega (arith, a, b, c)), map-rising f same ks r.1)
+map-rising f same (k ∷ ks) r = (
+  (λ j h. let (x, i, e) = from-map f ks j h in let a = r.0 x i in let b = same k in let c = ap (λ (y : StoredClause). y.place) e ∙ same x in
+      omega (arith, a, b, c)),
+  map-rising f same ks r.1,
+)
 
 -- 1. The clauses that are left.
 module _ (values : List (Option Bool)) (ks : List StoredClause) where
-  long-origin : (c : Clause) → c ∈ literals_of (left_long values ks) → (k : StoredClause) × (k ∈ ks) × (c ≡ unassigned values k.literals) × (3 ≤ length (unassigned values k.literals))
+  long-origin : (c : Clause) → c ∈ literals_of (left_long values ks) → (k : StoredClause) × (k ∈ ks) × (c ≡ unassigned values k.literals)
+      × (3 ≤ length (unassigned values k.literals))
   long-origin c h =
       let (j, i, e) = from-literals (left_long values ks) c h in
       let (k, o, q) = from-map (λ k. shortened_to (unassigned values k.literals) k) (filter (λ k. stays_long values k.literals) ks) j i in
@@ -63,15 +67,24 @@ module _ (values : List (Option Bool)) (ks : List StoredClause) where
       let (x, y) = both (not (has_true values k.literals)) (nat_le 3 (length (unassigned values k.literals))) b in
       (k, a, sym e ∙ ap (λ (z : StoredClause). z.literals) q, not-below 3 (length (unassigned values k.literals)) y)
 
-  pair-origin : (c : Clause) → c ∈ left_pairs values ks → (k : StoredClause) × (k ∈ ks) × (c ≡ unassigned values k.literals) × (has_true values k.literals ≡ false) × (length (unassigned values k.literals) < 3)
+  pair-origin : (c : Clause) → c ∈ left_pairs values ks → (k : StoredClause) × (k ∈ ks) × (c ≡ unassigned values k.literals)
+      × (has_true values k.literals ≡ false) × (length (unassigned values k.literals) < 3)
   pair-origin c h =
       let (k, o, q) = from-map (λ k. unassigned values k.literals) (filter (λ k. becomes_pair values k.literals) ks) c h in
       let (a, b) = ∈-filter (λ k. becomes_pair values k.literals) ks k o in
-      let (x, y) = both (not (has_true values k.literals)) (not (nat_le 3 (length (unassigned values k.literals)))) b in
-      (k, a, q, is-false (has_true values k.literals) x, below 3 (length (unassigned values k.literals)) (is-false (nat_le 3 (length (unassigned values k.literals))) y))
+      let (x, y) = both (not (has_true values k.literals)) (not (nat_le 3 (length (unassigned values k.literals)))) b in (
+        k,
+        a,
+        q,
+        is-false (has_true values k.literals) x,
+        below 3 (length (unassigned values k.literals))
+            (is-false (nat_le 3 (length (unassigned values k.literals))) y),
+      )
 
 -- pairs without a value join such
-all-joined : (values : List (Option Bool)) (C : List (List Literal)) (cs : List Clause) → ((c : Clause) → c ∈ cs → IsPairIn C c) → ((c : Clause) → c ∈ cs → (l : Literal) → l ∈ c → (variable_of l < length values) × (is_unassigned values l ≡ true)) → UnassignedPairs values C → UnassignedPairs values (with_pairs C cs)
+all-joined : (values : List (Option Bool)) (C : List (List Literal)) (cs : List Clause) → ((c : Clause) → c ∈ cs → IsPairIn C c) →
+    ((c : Clause) → c ∈ cs → (l : Literal) → l ∈ c → (variable_of l < length values) × (is_unassigned values l ≡ true)) → UnassignedPairs values C →
+    UnassignedPairs values (with_pairs C cs)
 all-joined values C [] f g u = u
 all-joined values C (c ∷ cs) f g u =
     let q = f c (inl refl) in
@@ -127,12 +140,14 @@ module _ (s : View) (u : IsAtUnits s) where
       let o = (stored-open k i).two n in
       let two = two-elements (unassigned values k.literals) (omega (arith, o, m)) in
       let d = filter-distinct (is_unassigned values) k.literals (u.well.distinct k.literals (stored-kept s k.literals (literals-∈ s.clauses k i))) in
-      subst (IsPairIn B) (sym e) (pair-of (unassigned values k.literals) two d (λ l j. u.well.in_range k.literals (stored-kept s k.literals (literals-∈ s.clauses k i)) l (left-part values k.literals l j)))
+      subst (IsPairIn B) (sym e) (pair-of (unassigned values k.literals) two d
+      (λ l j. u.well.in_range k.literals (stored-kept s k.literals (literals-∈ s.clauses k i)) l (left-part values k.literals l j)))
     where
       inside : (l : Literal) → variable_of l < length s.values → opposite l < length B
       inside l h = let i = listed l (length s.values) h in let a = B-count in let b = u.lists in omega (arith, i, a, b)
 
-      pair-of : (c : Clause) → (literal_in c 0 ∷ literal_in c 1 ∷ []) ≡ c → IsDistinct c → ((l : Literal) → l ∈ c → variable_of l < length s.values) → IsPairIn B c
+      pair-of : (c : Clause) → (literal_in c 0 ∷ literal_in c 1 ∷ []) ≡ c → IsDistinct c →
+          ((l : Literal) → l ∈ c → variable_of l < length s.values) → IsPairIn B c
       pair-of c e d r = record {
         is = sym e;
         first = inside (literal_in c 0) (r (literal_in c 0) (subst (λ x. literal_in c 0 ∈ x) e (inl refl)));
@@ -143,8 +158,11 @@ module _ (s : View) (u : IsAtUnits s) where
   pairs-open : (c : Clause) → c ∈ ps → (l : Literal) → l ∈ c → (variable_of l < length values) × (is_unassigned values l ≡ true)
   pairs-open c h l i =
       let (k, o, e, n, m) = pair-origin values s.clauses c h in
-      let j = subst (λ x. l ∈ x) e i in
-      (u.well.in_range k.literals (stored-kept s k.literals (literals-∈ s.clauses k o)) l (left-part values k.literals l j), left-unassigned values k.literals l j)
+      let j = subst (λ x. l ∈ x) e i in (
+        u.well.in_range k.literals (stored-kept s k.literals (literals-∈ s.clauses k o)) l
+            (left-part values k.literals l j),
+        left-unassigned values k.literals l j,
+      )
 
   long-may : (c : Clause) → c ∈ literals_of P → MayBeKept s c
   long-may c h =
@@ -158,9 +176,11 @@ module _ (s : View) (u : IsAtUnits s) where
 
   pub are-unassigned : AreUnassigned s P C
   are-unassigned = record {
-    places = map-rising (λ k. shortened_to (unassigned values k.literals) k) (λ k. refl) (filter (λ k. stays_long values k.literals) s.clauses) (filter-rising (λ k. stays_long values k.literals) s.clauses u.well.places);
+    places = map-rising (λ k. shortened_to (unassigned values k.literals) k) (λ k. refl) (filter (λ k. stays_long values k.literals) s.clauses)
+        (filter-rising (λ k. stays_long values k.literals) s.clauses u.well.places);
     clauses = long-may;
-    unassigned = λ c h. let (k, i, e, n) = long-origin values s.clauses c h in each-unassigned values c (λ l j. left-unassigned values k.literals l (subst (λ x. l ∈ x) e j));
+    unassigned = λ c h. let (k, i, e, n) = long-origin values s.clauses c h in
+        each-unassigned values c (λ l j. left-unassigned values k.literals l (subst (λ x. l ∈ x) e j));
     pairs = all-joined values B ps pairs-in pairs-open (pairs-unassigned s u.well);
   }
 
@@ -178,7 +198,8 @@ module _ (s : View) (u : IsAtUnits s) where
       all-count D [] f = refl
       all-count D (c ∷ cs) f =
           let n = joined-count D c (f c (inl refl)) in
-          all-count (with_pair D (literal_in c 0) (literal_in c 1)) cs (λ x h. longer-pair D (with_pair D (literal_in c 0) (literal_in c 1)) x n (f x (inr h))) ∙ n
+          all-count (with_pair D (literal_in c 0) (literal_in c 1)) cs
+          (λ x h. longer-pair D (with_pair D (literal_in c 0) (literal_in c 1)) x n (f x (inr h))) ∙ n
 
   -- 3. The lines.
   true-proved : (l : Literal) → IsTrueIn s l → IsProved s l
@@ -205,17 +226,23 @@ module _ (s : View) (u : IsAtUnits s) where
       (l, j, has-proved.fixed l (trail-true s u.well l t)))
 
   pub pairs-prove : Proves 0 (search_of s) (record (search_of s) { kept = map kept_clause s.clauses ++ map kept_pair (pairs_from 0 B) }) (pair_lines s)
-  pairs-prove = subst (λ (cs : List Clause). Proves 0 S (record S { kept = map kept_clause s.clauses ++ map kept_pair cs }) (pair_lines s)) (sym (pairs-left s.values s.binary)) pairs-first
+  pairs-prove = subst (λ (cs : List Clause). Proves 0 S (record S { kept = map kept_clause s.clauses ++ map kept_pair cs }) (pair_lines s))
+      (sym (pairs-left s.values s.binary)) pairs-first
 
-  pub simplify-proves : Proves 0 (search_of s) (record (search_of s) { kept = map kept_clause P ++ map kept_pair (pairs_from 0 C) }) (pair_lines s ++ clause_lines s)
+  pub simplify-proves : Proves 0 (search_of s) (record (search_of s) { kept = map kept_clause P ++ map kept_pair (pairs_from 0 C) })
+      (pair_lines s ++ clause_lines s)
   simplify-proves =
       let S1 = record S { kept = map kept_clause s.clauses ++ map kept_pair Q } in
       let S2 = record S { kept = left_each s.values s.clauses ++ map kept_pair Q } in
       let S3 = record S { kept = map kept_clause P ++ map kept_pair (pairs_from 0 C) } in
       let first : Proves 0 S S1 (pair_lines s) = pairs-first in
-      let second : Proves 0 S1 S2 (clause_lines s) = each-left s.values S1 [] s.clauses (map kept_pair Q) refl (record { fixed = has-proved.fixed; proved = has-proved.proved }) u.long in
-      let third : Proves 0 S2 S3 [] = subst (λ (cs : List Clause). Proves 0 (record S { kept = left_each s.values s.clauses ++ map kept_pair cs }) S3 []) (pairs-left s.values s.binary) (mixed-prove s.values s.clauses B pairs-in S) in
-      let all : Proves 0 S S3 (pair_lines s ++ (clause_lines s ++ [])) = parts_join 0 0 S S1 S3 (pair_lines s) (clause_lines s ++ []) first (parts_join 0 0 S1 S2 S3 (clause_lines s) [] second third) in
+      let second : Proves 0 S1 S2 (clause_lines s) = each-left s.values S1 [] s.clauses (map kept_pair Q) refl
+      (record { fixed = has-proved.fixed; proved = has-proved.proved }) u.long in
+      let third : Proves 0 S2 S3 [] =
+      subst (λ (cs : List Clause). Proves 0 (record S { kept = left_each s.values s.clauses ++ map kept_pair cs }) S3 [])
+      (pairs-left s.values s.binary) (mixed-prove s.values s.clauses B pairs-in S) in
+      let all : Proves 0 S S3 (pair_lines s ++ (clause_lines s ++ [])) =
+      parts_join 0 0 S S1 S3 (pair_lines s) (clause_lines s ++ []) first (parts_join 0 0 S1 S2 S3 (clause_lines s) [] second third) in
       subst (λ ls. Proves 0 S S3 (pair_lines s ++ ls)) (append-nil (clause_lines s)) all
 
   -- each literal that is kept was kept before
@@ -226,9 +253,16 @@ module _ (s : View) (u : IsAtUnits s) where
       let (k, o, e, n) = long-origin values s.clauses c j in
       (k.literals, stored-kept s k.literals (literals-∈ s.clauses k o), left-part values k.literals l (subst (λ x. l ∈ x) e i)))
       (λ j.
-      let (d, o, q) = same_clauses_find (pairs_from 0 C) (ps ++ pairs_from 0 B) (same_clauses-back (ps ++ pairs_from 0 B) (pairs_from 0 C) (pairs-same B ps pairs-in)) c j in
+      let (d, o, q) = same_clauses_find (pairs_from 0 C) (ps ++ pairs_from 0 B)
+      (same_clauses-back (ps ++ pairs_from 0 B) (pairs_from 0 C) (pairs-same B ps pairs-in)) c j in
       ⊎_elim
-      (λ a. let (k, b, e, n, m) = pair-origin values s.clauses d a in (k.literals, stored-kept s k.literals (literals-∈ s.clauses k b), left-part values k.literals l (subst (λ x. l ∈ x) e (q.1 l i))))
-      (λ a. (d, ∈-append_right d (literals_of s.clauses) (pairs_from 0 s.binary) (∈-filter (are_unassigned s.values) (pairs_from 0 s.binary) d (subst (λ x. d ∈ x) (pairs-left s.values s.binary) a)).0, q.1 l i))
+      (λ a. let (k, b, e, n, m) = pair-origin values s.clauses d a in
+      (k.literals, stored-kept s k.literals (literals-∈ s.clauses k b), left-part values k.literals l (subst (λ x. l ∈ x) e (q.1 l i))))
+      (λ a. (
+        d,
+        ∈-append_right d (literals_of s.clauses) (pairs_from 0 s.binary)
+            (∈-filter (are_unassigned s.values) (pairs_from 0 s.binary) d (subst (λ x. d ∈ x) (pairs-left s.values s.binary) a)).0,
+        q.1 l i,
+      ))
       (∈-append_cases d ps (pairs_from 0 B) o))
       (∈-append_cases c (literals_of P) (pairs_from 0 C) h)

@@ -15,7 +15,8 @@ use Rattle.varisat_search.specs.declared.context.Context.{Context}
 use Rattle.varisat_search.specs.Contexts.{view, IsReady}
 use Rattle.varisat_search.proofs.LoadView.{undecided-settled}
 
-module _ (s : View) (l : Literal) (w : WellFormed s) (here : slice_get s.trail s.queue_head ≡ Some l) (unmentioned : (c : Clause) → c ∈ kept s → (m : Literal) → m ∈ c → variable_of m ≢ variable_of l) where
+module _ (s : View) (l : Literal) (w : WellFormed s) (here : slice_get s.trail s.queue_head ≡ Some l)
+    (unmentioned : (c : Clause) → c ∈ kept s → (m : Literal) → m ∈ c → variable_of m ≢ variable_of l) where
   abbrev pub skipped : View
   skipped = record s { queue_head = s.queue_head + 1 }
 
@@ -30,7 +31,8 @@ module _ (s : View) (l : Literal) (w : WellFormed s) (here : slice_get s.trail s
       let c = clause_at s i in
       let k = kept-here s i a in
       let long = w.several c k in
-      absurd (unmentioned c k (literal_in c j) (∈-get_or c j 0 (omega (arith, b, long))) (sym (variable-opposite (literal_in c j)) ∙ ap variable_of (sym e ∙ at-head p h g))))
+      absurd (unmentioned c k (literal_in c j) (∈-get_or c j 0 (omega (arith, b, long)))
+      (sym (variable-opposite (literal_in c j)) ∙ ap variable_of (sym e ∙ at-head p h g))))
       (cases_lt p s.queue_head)
 
   skipped-implied : IsImpliedTo s s.queue_head → IsImpliedTo skipped (s.queue_head + 1)
@@ -60,7 +62,9 @@ module _ (s : View) (l : Literal) (w : WellFormed s) (here : slice_get s.trail s
 abbrev pub with_next_head : {A : Type 0} → Context A → Context A
 with_next_head x = record x { trail = record x.trail { queue_head = x.trail.queue_head + 1 } }
 
-pub skipped-ready : {A : Type 0} (x : Context A) (l : Literal) → IsReady x → x.trail.decisions ≡ [] → slice_get x.trail.literals x.trail.queue_head ≡ Some l → ((c : Clause) → c ∈ kept (view x) → (m : Literal) → m ∈ c → variable_of m ≢ variable_of l) → IsReady (with_next_head x)
+pub skipped-ready : {A : Type 0} (x : Context A) (l : Literal) → IsReady x → x.trail.decisions ≡ [] →
+    slice_get x.trail.literals x.trail.queue_head ≡ Some l →
+    ((c : Clause) → c ∈ kept (view x) → (m : Literal) → m ∈ c → variable_of m ≢ variable_of l) → IsReady (with_next_head x)
 skipped-ready x l r none here u = record {
   well = skipped-well (view x) l r.well here u;
   settled = undecided-settled (view (with_next_head x)) none;
@@ -68,7 +72,18 @@ skipped-ready x l r none here u = record {
   tracks = r.tracks;
   analysis = r.analysis;
   flags = r.flags;
-  decidable = record { entries = record { activity = r.decidable.entries.activity; available = r.decidable.entries.available }; decidable = r.decidable.decidable };
-  assumed = record { reached = r.assumed.reached; listed = r.assumed.listed; decided = r.assumed.decided; first = r.assumed.first; in_range = r.assumed.in_range };
+  decidable = record {
+    entries = record { activity = r.decidable.entries.activity; available = r.decidable.entries.available };
+    decidable =
+        r.decidable.decidable;
+  };
+  assumed = record {
+    reached = r.assumed.reached;
+    listed = r.assumed.listed;
+    decided = r.assumed.decided;
+    first = r.assumed.first;
+    in_range =
+        r.assumed.in_range;
+  };
   assumable = r.assumable;
 }

@@ -47,7 +47,10 @@ is-there None h = absurd (let z : false ≡ true = h in cc)
 is-there (Some v) h = (v, refl)
 
 -- the solver variable that was taken may be decided, as those before
-pub taken-decidable : (m n : Tables) (x v c : ℕ) (s : View) (a : Activities) (t : View) (b : Activities) (u : View) (e : Activities) → IsTaken m n x v → ((w : ℕ) → IsDecidable s a w ↔ IsSome (at m.solvers.backward w)) → c ≡ length m.solvers.backward → AddsDecidable c (length n.solvers.backward) s a t b → IsDecidable u e v → SameDecidableBut v t b u e → (w : ℕ) → IsDecidable u e w ↔ IsSome (at n.solvers.backward w)
+pub taken-decidable : (m n : Tables) (x v c : ℕ) (s : View) (a : Activities) (t : View) (b : Activities) (u : View) (e : Activities) →
+    IsTaken m n x v → ((w : ℕ) → IsDecidable s a w ↔ IsSome (at m.solvers.backward w)) → c ≡ length m.solvers.backward →
+    AddsDecidable c (length n.solvers.backward) s a t b → IsDecidable u e v → SameDecidableBut v t b u e → (w : ℕ) →
+    IsDecidable u e w ↔ IsSome (at n.solvers.backward w)
 taken-decidable m n x v c s a t b u e k before same adds made others o = (
   λ h. ⊎_elim
       (λ q. some-is (at n.solvers.backward o) x (ap (at n.solvers.backward) q ∙ taken-there m n x v k))
@@ -59,12 +62,15 @@ taken-decidable m n x v c s a t b u e k before same adds made others o = (
   λ h. ⊎_elim
       (λ q. subst (IsDecidable u e) (sym q) made)
       (λ q. let (y, f) = is-there (at n.solvers.backward o) h in
-      (others o q).0 ((adds o).1 (inl ((before o).1 (some-is (at m.solvers.backward o) y (sym (updated-other (at m.solvers.backward) v (Some x) o q) ∙ sym (k.solvers.backward.at_each o) ∙ f))))))
+      (others o q).0 ((adds o).1 (inl
+      ((before o).1 (some-is (at m.solvers.backward o) y
+      (sym (updated-other (at m.solvers.backward) v (Some x) o q) ∙ sym (k.solvers.backward.at_each o) ∙ f))))))
       (equal_or_not o v),
 )
 
 -- no solver variable is past the limit
-pub taken-small : (m n : Tables) (x v : ℕ) → AreLinked n → HasRoom m → length m.solvers.backward ≤ variable_limit → IsTaken m n x v → length n.solvers.backward ≤ variable_limit
+pub taken-small : (m n : Tables) (x v : ℕ) → AreLinked n → HasRoom m → length m.solvers.backward ≤ variable_limit → IsTaken m n x v →
+    length n.solvers.backward ≤ variable_limit
 taken-small m n x v joined room small t =
     let g = ap length t.kept in
     let k = room.1 in
@@ -79,7 +85,8 @@ taken-room m n x v room t =
     (omega (arith, u, j), omega (arith, g, k))
 
 -- a name came into use
-pub has-named : {A : Type 0} (u : ℕ) (m n : Tables) (c : Context A) → HasVariables {A = A} (record { tables = m; context = c }) → IsNamed u m n → HasRoom n → HasVariables {A = A} (record { tables = n; context = c })
+pub has-named : {A : Type 0} (u : ℕ) (m n : Tables) (c : Context A) → HasVariables {A = A} (record { tables = m; context = c }) → IsNamed u m n →
+    HasRoom n → HasVariables {A = A} (record { tables = n; context = c })
 has-named u m n c k named room =
     let same = (one-keeps u m n named).solvers in
     let length-same = ap (λ (b : BiMap). length b.backward) same in
@@ -92,7 +99,8 @@ has-named u m n c k named room =
     }
 
 -- what is said of a search is over variables in use
-pub in-use-all : (m : Tables) (s : View) (a : Activities) → ((v : ℕ) → IsDecidable s a v ↔ IsSome (at m.solvers.backward v)) → CanDecide s a → WellFormed s → (l : Literal) → IsLiteralOf (search_of s) l → (x : ℕ) × (at m.solvers.backward (variable_of l) ≡ Some x)
+pub in-use-all : (m : Tables) (s : View) (a : Activities) → ((v : ℕ) → IsDecidable s a v ↔ IsSome (at m.solvers.backward v)) → CanDecide s a →
+    WellFormed s → (l : Literal) → IsLiteralOf (search_of s) l → (x : ℕ) × (at m.solvers.backward (variable_of l) ≡ Some x)
 in-use-all m s a d c w l h =
     is-there (at m.solvers.backward (variable_of l)) ((d (variable_of l)).0 (⊎_elim
     (λ i. inl (λ e. let z : None ≡ Some (polarity_of l) = sym e ∙ (fixed_from s w l i).0 in cc))
@@ -100,7 +108,8 @@ in-use-all m s a d c w l h =
     h))
 
 -- Which variables may be decided says nothing of a unit that is held again.
-pub unit-over : {A : Type 0} (old mid new : Context A) (a : Activities) (l : Literal) → mid ≡ record old { vsids = a } → HasUnitAgain l mid new → HasUnitAgain l old new
+pub unit-over : {A : Type 0} (old mid new : Context A) (a : Activities) (l : Literal) → mid ≡ record old { vsids = a } → HasUnitAgain l mid new →
+    HasUnitAgain l old new
 unit-over {A} old mid new a l e h = go (subst (λ (x : Context A). HasUnitAgain l x new) e h)
   where
     go : HasUnitAgain l (record old { vsids = a }) new → HasUnitAgain l old new
@@ -112,14 +121,19 @@ unit-over {A} old mid new a l e h = go (subst (λ (x : Context A). HasUnitAgain 
     }
 
 -- A solver variable was taken and initialized.
-pub solver-case : {A : Type 0} (x v : ℕ) (m n : Tables) (c mid d : Context A) (unit : Option Bool) → at m.solvers.forward x ≡ None → IsTaken m n x v → (kept_at m.kept x).unit ≡ unit → KeepsSeen c mid → MatchOption unit (KeepsSeen mid d) (λ b. HasUnitAgain (literal_of v b) mid d) → HasSolverVariable {A = A} x (record { tables = m; context = c }) (record { tables = n; context = d }) v
-solver-case x v m n c mid d None left t e k r = TookOne left t e (record { seen = r.seen ∙ k.seen; state = r.state ∙ k.state; assumptions = r.assumptions ∙ k.assumptions })
+pub solver-case : {A : Type 0} (x v : ℕ) (m n : Tables) (c mid d : Context A) (unit : Option Bool) → at m.solvers.forward x ≡ None →
+    IsTaken m n x v → (kept_at m.kept x).unit ≡ unit → KeepsSeen c mid →
+    MatchOption unit (KeepsSeen mid d) (λ b. HasUnitAgain (literal_of v b) mid d) →
+    HasSolverVariable {A = A} x (record { tables = m; context = c }) (record { tables = n; context = d }) v
+solver-case x v m n c mid d None left t e k r = TookOne left t e
+    (record { seen = r.seen ∙ k.seen; state = r.state ∙ k.state; assumptions = r.assumptions ∙ k.assumptions })
 solver-case x v m n c mid d (Some b) left t e k r =
     let sat = ap (λ (s : SolverState). s.sat_state) k.state in
     CameBack b left t e (record {
       unsat = λ u. let q = r.unsat (sat ∙ u) in record { seen = q.seen ∙ k.seen; state = q.state ∙ k.state; assumptions = q.assumptions ∙ k.assumptions };
       lines = λ u. subst (λ s. Loads s (search_of (view d)) (literal_of v b ∷ []) outcome.Unknown []) k.seen (r.lines (λ q. u (sym sat ∙ q)));
-      state = λ u. r.state (λ q. u (sym sat ∙ q)) ∙ ap (λ (s : SolverState). record s { sat_state = reopened_state s.sat_state; formula_is_empty = false }) k.state;
+      state = λ u. r.state (λ q. u (sym sat ∙ q))
+          ∙ ap (λ (s : SolverState). record s { sat_state = reopened_state s.sat_state; formula_is_empty = false }) k.state;
       assumptions = λ u. r.assumptions (λ q. u (sym sat ∙ q)) ∙ ap (λ (a : AssumptionParts). record a { levels = 0 }) k.assumptions;
     })
 
@@ -145,9 +159,11 @@ module _ {A : Type 0} (u : ℕ) (old new : Searched A) (v : ℕ) (h : NameHasSol
   pub solver-here : chain (at new.tables.users.forward) (at new.tables.solvers.forward) u ≡ Some v
   solver-here =
       let users = (case-same h.global (record old { tables = h.mid }) new v h.solver).0 in
-      chain-some (at new.tables.users.forward) (at new.tables.solvers.forward) u h.global (ap (λ (b : BiMap). at b.forward u) users ∙ h.leads) ∙ case-here h.global (record old { tables = h.mid }) new v h.solver
+      chain-some (at new.tables.users.forward) (at new.tables.solvers.forward) u h.global (ap (λ (b : BiMap). at b.forward u) users ∙ h.leads)
+      ∙ case-here h.global (record old { tables = h.mid }) new v h.solver
 
-  pub solver-stays : (w s : ℕ) → chain (at old.tables.users.forward) (at old.tables.solvers.forward) w ≡ Some s → chain (at new.tables.users.forward) (at new.tables.solvers.forward) w ≡ Some s
+  pub solver-stays : (w s : ℕ) → chain (at old.tables.users.forward) (at old.tables.solvers.forward) w ≡ Some s →
+      chain (at new.tables.users.forward) (at new.tables.solvers.forward) w ≡ Some s
   solver-stays w s e =
       let (y, a, b) = chain-through (at old.tables.users.forward) (at old.tables.solvers.forward) w s e in
       let keeps = one-keeps u old.tables h.mid h.named in
@@ -162,7 +178,8 @@ module _ {A : Type 0} (u : ℕ) (old new : Searched A) (v : ℕ) (h : NameHasSol
       (room.1 h.mid new.tables (subst (λ w. IsNamed w old.tables h.mid) (sym e) h.named) users kept).1
 
 -- one more literal's name has a solver variable
-pub in-turn-push : {A : Type 0} (d : List Literal) (old mid new : Searched A) (l : Literal) (v : ℕ) → HaveSolversInTurn d old mid → NameHasSolver (variable_of l) mid new v → HaveSolversInTurn (d ++ l ∷ []) old new
+pub in-turn-push : {A : Type 0} (d : List Literal) (old mid new : Searched A) (l : Literal) (v : ℕ) → HaveSolversInTurn d old mid →
+    NameHasSolver (variable_of l) mid new v → HaveSolversInTurn (d ++ l ∷ []) old new
 in-turn-push [] old mid new l v e h = (new, v, subst (λ s. NameHasSolver (variable_of l) s new v) e h, refl)
 in-turn-push (m ∷ d) old mid new l v (s, w, g, rest) h = (s, w, g, in-turn-push d s mid new l v rest h)
 
@@ -174,9 +191,11 @@ over-more f g more [] ms e = e
 over-more f g more (l ∷ ls) ms (v, rest, e, q, r) = (v, rest, more (variable_of l) v e, q, over-more f g more ls rest r)
 
 -- one more literal
-pub over-push : (f : ℕ → Option ℕ) (ls ms : List Literal) (l : Literal) (v : ℕ) → AreOver f ls ms → f (variable_of l) ≡ Some v → AreOver f (ls ++ l ∷ []) (ms ++ literal_of v (polarity_of l) ∷ [])
+pub over-push : (f : ℕ → Option ℕ) (ls ms : List Literal) (l : Literal) (v : ℕ) → AreOver f ls ms → f (variable_of l) ≡ Some v →
+    AreOver f (ls ++ l ∷ []) (ms ++ literal_of v (polarity_of l) ∷ [])
 over-push f [] ms l v e h = (v, [], h, ap (λ xs. xs ++ literal_of v (polarity_of l) ∷ []) e, refl)
-over-push f (k ∷ ls) ms l v (w, rest, e, q, r) h = (w, rest ++ literal_of v (polarity_of l) ∷ [], e, ap (λ xs. xs ++ literal_of v (polarity_of l) ∷ []) q, over-push f ls rest l v r h)
+over-push f (k ∷ ls) ms l v (w, rest, e, q, r) h =
+    (w, rest ++ literal_of v (polarity_of l) ∷ [], e, ap (λ xs. xs ++ literal_of v (polarity_of l) ∷ []) q, over-push f ls rest l v r h)
 
 -- the sign of a literal
 pub sign-is : (b : Bool) (l : Literal) → IsTrue b ↔ (l % 2 ≡ 0) → b ≡ polarity_of l

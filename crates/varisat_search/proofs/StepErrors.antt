@@ -23,7 +23,8 @@ store-full : (s : StoreError) → step_error_of_store s ≡ step.Full → s ≡ 
 store-full store.Full e = refl
 store-full store.Memory e = absurd (let z : step.Memory ≡ step.Full = e in cc)
 
-pub full-told : {A X : Type 0} (r : Result X StepError) (s : StoreError) (z : Context A) → IsErr r × IsErrAnd r (λ e. e ≡ step_error_of_store s) → (s ≡ store.Full → HasNoRoom z) → IfErr r (λ e. e ≡ step.Full → HasNoRoom z)
+pub full-told : {A X : Type 0} (r : Result X StepError) (s : StoreError) (z : Context A) → IsErr r × IsErrAnd r (λ e. e ≡ step_error_of_store s) →
+    (s ≡ store.Full → HasNoRoom z) → IfErr r (λ e. e ≡ step.Full → HasNoRoom z)
 full-told r s z h f = told-by r (λ e. e ≡ step_error_of_store s) (λ e. e ≡ step.Full → HasNoRoom z) h (λ e p q. f (store-full s (sym p ∙ q)))
 
 -- An error tells as many faults as the tracer's that it comes from, and one of the store tells none.
@@ -54,5 +55,6 @@ module _ {Q X : Type 0} (breaks : Q → List Entry → ℕ → Q → Type 0) (x 
   pub memory-broken : IsErr r × IsErrAnd r (λ z. z ≡ step.Memory) → BreaksOff breaks x 0 y → IfErr r (λ z. BreaksOff breaks x (step_faults z) y)
   memory-broken h b = passed-on r step.Memory (λ z. BreaksOff breaks x (step_faults z) y) h b
 
-  pub step-passed : (e : StepError) → IsErr r × IsErrAnd r (λ z. z ≡ e) → BreaksOff breaks x (step_faults e) y → IfErr r (λ z. BreaksOff breaks x (step_faults z) y)
+  pub step-passed : (e : StepError) → IsErr r × IsErrAnd r (λ z. z ≡ e) → BreaksOff breaks x (step_faults e) y →
+      IfErr r (λ z. BreaksOff breaks x (step_faults z) y)
   step-passed e h b = passed-on r e (λ z. BreaksOff breaks x (step_faults z) y) h b

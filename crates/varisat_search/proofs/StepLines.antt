@@ -29,5 +29,6 @@ model-steps s w q o =
     (λ l h. makes-true s l (trail-true s w l h))
 
 -- the search went on before
-pub steps-after : (s u t : View) (v : Outcome) (lines : List Line) → WellFormed s → WellFormed u → GrowsTrail s u → Steps (search_of u) (search_of t) v lines → Steps (search_of s) (search_of t) v lines
+pub steps-after : (s u t : View) (v : Outcome) (lines : List Line) → WellFormed s → WellFormed u → GrowsTrail s u →
+    Steps (search_of u) (search_of t) v lines → Steps (search_of s) (search_of t) v lines
 steps-after s u t v lines w x g p = part_step (search_of s) (search_of u) (search_of t) v [] lines (grows_prove s u w x g) p

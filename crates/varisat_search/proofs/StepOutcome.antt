@@ -29,7 +29,10 @@ pub finding-begins : {A : Type 0} {x : Context A} → IsReady x → Finding (vie
 finding-begins {x = x} r = record { well = r.well; settled = r.settled; grows = grows-refl (view x) }
 
 -- it stays ready, since no variable is added
-pub finding-ready : {A : Type 0} {x y : Context A} → IsReady x → Finding (view x) (view y) → IsPropagated y.watchlists (view y) → Tracks y.clause_db y.clause_alloc → y.analyze_conflict.var_count ≡ x.analyze_conflict.var_count → y.tmp_flags.flags.items ≡ x.tmp_flags.flags.items → CanDecide (view y) y.vsids → HasAssumptions (view y) y.assumptions → AreDecidable (view y) y.vsids y.assumptions.working → IsReady y
+pub finding-ready : {A : Type 0} {x y : Context A} → IsReady x → Finding (view x) (view y) → IsPropagated y.watchlists (view y) →
+    Tracks y.clause_db y.clause_alloc → y.analyze_conflict.var_count ≡ x.analyze_conflict.var_count →
+    y.tmp_flags.flags.items ≡ x.tmp_flags.flags.items → CanDecide (view y) y.vsids → HasAssumptions (view y) y.assumptions →
+    AreDecidable (view y) y.vsids y.assumptions.working → IsReady y
 finding-ready r f p t a b d h k = record {
   well = f.well;
   settled = f.settled;
@@ -43,7 +46,12 @@ finding-ready r f p t a b d h k = record {
 }
 
 pub finding-propagated : (s t u : View) → Finding s t → Propagates t u → Finding s u
-finding-propagated s t u f p = record { well = p.well; settled = settled-grows t u f.well p.grows p.decisions f.settled; grows = grows-trans s t u f.grows p.grows }
+finding-propagated s t u f p = record {
+  well = p.well;
+  settled = settled-grows t u f.well p.grows p.decisions f.settled;
+  grows =
+      grows-trans s t u f.grows p.grows;
+}
 
 pub finding-decided : (s t u : View) (l : Literal) → Finding s t → IsComplete (kept t) t.trail → IsFree t l → u ≡ decided_on t l → Finding s u
 finding-decided s t u l f q r e =

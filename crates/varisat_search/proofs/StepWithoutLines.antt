@@ -51,8 +51,11 @@ module _ (s t : View) (w : WellFormed s) (v : WellFormed t) (g : GrowsTrail s t)
     stored = λ c h. (c, ∈-append_left c (kept s) (unit_clauses (search_of s).proved) h, ((λ x i. i), (λ x i. i)));
     units = λ k h a b.
         let l = literal_at s k in
-        let i = proved_to s w l (∈-get_or s.trail k 0 h, a, b) in
-        (l ∷ [], ∈-append_right (l ∷ []) (kept s) (unit_clauses (search_of s).proved) (in_units (search_of s).proved l i), (inl refl, λ m j. ⊎_elim (λ e. e) (λ z. absurd z) j));
+        let i = proved_to s w l (∈-get_or s.trail k 0 h, a, b) in (
+          l ∷ [],
+          ∈-append_right (l ∷ []) (kept s) (unit_clauses (search_of s).proved) (in_units (search_of s).proved l i),
+          (inl refl, λ m j. ⊎_elim (λ e. e) (λ z. absurd z) j),
+        );
     covered = λ c h.
         ⊎_elim
         (λ i. inl (c, i, λ x j. j))
@@ -93,7 +96,12 @@ module _ (s t : View) (w : WellFormed s) (v : WellFormed t) (g : GrowsTrail s t)
       (λ c.
       let (d, i, same) = reason-kept t v k (node_at t k).reason c (v.reason_is k a) in
       let (f, j, more) = kept-reordered s t g.clauses g.binary d i in
-      of_search s x (f, j, more.0 x (same.1 x (subst (λ y. y ∈ implying_clause t (literal_at t k) (node_at t k).reason) e (reason-first t v k (node_at t k).reason c (v.reason_is k a))))))
+      of_search s x (
+        f,
+        j,
+        more.0 x (same.1 x
+            (subst (λ y. y ∈ implying_clause t (literal_at t k) (node_at t k).reason) e (reason-first t v k (node_at t k).reason c (v.reason_is k a)))),
+      ))
       (λ r. inl (fixed_to s w x (proved_fixed (proved_back x (on-trail t v x q, z, sym (ap (λ y. (node_of t y).reason) e) ∙ r)))))
       (clause_or_none (node_at t k).reason)
     where

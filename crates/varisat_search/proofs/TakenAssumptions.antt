@@ -35,7 +35,8 @@ module _ (xs : List ℕ) (i : ℕ) (h : i < length xs) where
       let (j, a, b, e) = place_in_take x (set xs i last) (length xs - 1) 0 m in
       let n = length-set xs i last in
       ⊎_elim
-      (λ q. subst (λ y. y ∈ xs) (sym (ap (λ k. get_or (set xs i last) k 0) q ∙ get_or-set_same xs i last 0 h) ∙ e) (∈-get_or xs (length xs - 1) 0 (omega (arith, h))))
+      (λ q. subst (λ y. y ∈ xs) (sym (ap (λ k. get_or (set xs i last) k 0) q ∙ get_or-set_same xs i last 0 h) ∙ e)
+      (∈-get_or xs (length xs - 1) 0 (omega (arith, h))))
       (λ q. subst (λ y. y ∈ xs) (sym (get_or-set_other xs i j last 0 q) ∙ e) (∈-get_or xs j 0 (omega (arith, b, n))))
       (equal_or_not j i)
 
@@ -51,7 +52,8 @@ module _ (xs : List ℕ) (i : ℕ) (h : i < length xs) where
       (λ (b : length xs - 1 ≤ j).
       let z : j ≡ length xs - 1 = omega (arith, a, b) in
       let c : i < length xs - 1 = order i (length xs) j h a z q in
-      inl (subst (λ y. y ∈ left) (get_or-take (length xs - 1) (set xs i last) i 0 c ∙ get_or-set_same xs i last 0 h ∙ sym (ap (λ k. get_or xs k 0) z) ∙ e) (∈-get_or left i 0 (omega (arith, c, n)))))
+      inl (subst (λ y. y ∈ left) (get_or-take (length xs - 1) (set xs i last) i 0 c ∙ get_or-set_same xs i last 0 h
+      ∙ sym (ap (λ k. get_or xs k 0) z) ∙ e) (∈-get_or left i 0 (omega (arith, c, n)))))
       (cases_lt j (length xs - 1)))
       (equal_or_not j i)
     where
@@ -62,7 +64,8 @@ pub takes-none : (values : List (Option Bool)) (level : ℕ) (x : AssumptionPart
 takes-none values level x = record { rest = refl; part = λ l h. h; gone = λ l h. inl h; before = λ j h. refl; long = λ h. h; none = λ h. refl }
 
 -- one more that is true
-pub takes-one : (values : List (Option Bool)) (level : ℕ) (x y : AssumptionParts) → TakesOutTrue values level x y → level < length y.working → IsMadeTrue values (get_or y.working level 0) → TakesOutTrue values level x (record y { working = swap_remove y.working level 0 })
+pub takes-one : (values : List (Option Bool)) (level : ℕ) (x y : AssumptionParts) → TakesOutTrue values level x y → level < length y.working →
+    IsMadeTrue values (get_or y.working level 0) → TakesOutTrue values level x (record y { working = swap_remove y.working level 0 })
 takes-one values level x y t h made =
     let n = left-length y.working level h in
     record {

@@ -11,7 +11,8 @@ use Rattle.varisat_search.specs.TakenOut.{AreImpliedBefore}
 use Rattle.varisat_search.proofs.AssumedTruths.{trail-is-true}
 
 -- Where a level is decided for each assumption before the place, what is true on the trail is true wherever these are.
-pub implied-before : (s : View) (x y : AssumptionParts) → WellFormed s → HasAssumptions s x → TakesOutTrue s.values (length s.decisions) x y → AreImpliedBefore s x y
+pub implied-before : (s : View) (x y : AssumptionParts) → WellFormed s → HasAssumptions s x → TakesOutTrue s.values (length s.decisions) x y →
+    AreImpliedBefore s x y
 implied-before s x y w h t held f a sat made l i =
     ⊎_elim
     (λ n. ⊎_elim

@@ -28,10 +28,12 @@ images-∈ f zero i h = absurd h
 images-∈ f (suc n) i (inl e) = (n, omega arith, e)
 images-∈ f (suc n) i (inr h) = let (x, b, e) = images-∈ f n i h in (x, omega (arith, b), e)
 
-pub few : (f : ℕ → Option ℕ) (C : List ℕ) → ((x y i : ℕ) → f x ≡ Some i → f y ≡ Some i → y ≡ x) → (n : ℕ) → ((x : ℕ) → x < n → (i : ℕ) × (f x ≡ Some i) × (i ∈ C)) → n ≤ length C
+pub few : (f : ℕ → Option ℕ) (C : List ℕ) → ((x y i : ℕ) → f x ≡ Some i → f y ≡ Some i → y ≡ x) → (n : ℕ) →
+    ((x : ℕ) → x < n → (i : ℕ) × (f x ≡ Some i) × (i ∈ C)) → n ≤ length C
 unfolding images
 few f C one n h =
-    let d = length-distinct (images f n) C (distinct n h) (λ i m. let (x, b, e) = images-∈ f n i m in let (j, q, c) = h x b in subst (λ z. z ∈ C) (sym (e ∙ ap number_or_zero q)) c) in
+    let d = length-distinct (images f n) C (distinct n h)
+    (λ i m. let (x, b, e) = images-∈ f n i m in let (j, q, c) = h x b in subst (λ z. z ∈ C) (sym (e ∙ ap number_or_zero q)) c) in
     let e = images-count f n in
     omega (arith, d, e)
   where
@@ -69,7 +71,8 @@ module _ (old new : Tables) (x v : ℕ) (t : IsTaken old new x v) where
   -- one in use stays that of its variable
   pub taken-stays : (w y : ℕ) → at old.solvers.backward w ≡ Some y → at new.solvers.backward w ≡ Some y
   taken-stays w y h =
-      t.solvers.backward.at_each w ∙ updated-other (at old.solvers.backward) v (Some x) w (λ q. let z : None ≡ Some y = sym t.least.0 ∙ ap (at old.solvers.backward) (sym q) ∙ h in cc) ∙ h
+      t.solvers.backward.at_each w ∙ updated-other (at old.solvers.backward) v (Some x) w
+      (λ q. let z : None ≡ Some y = sym t.least.0 ∙ ap (at old.solvers.backward) (sym q) ∙ h in cc) ∙ h
 
   pub taken-there : at new.solvers.backward v ≡ Some x
   taken-there = t.solvers.backward.at_each v ∙ updated-at (at old.solvers.backward) v (Some x)
@@ -80,7 +83,8 @@ module _ (old new : Tables) (x v : ℕ) (t : IsTaken old new x v) where
   -- and so does the one of another variable
   pub taken-other : at old.solvers.forward x ≡ None → (y w : ℕ) → at old.solvers.forward y ≡ Some w → at new.solvers.forward y ≡ Some w
   taken-other left y w h =
-      t.solvers.forward.at_each y ∙ updated-other (at old.solvers.forward) x (Some v) y (λ q. let z : None ≡ Some w = sym left ∙ ap (at old.solvers.forward) (sym q) ∙ h in cc) ∙ h
+      t.solvers.forward.at_each y ∙ updated-other (at old.solvers.forward) x (Some v) y
+      (λ q. let z : None ≡ Some w = sym left ∙ ap (at old.solvers.forward) (sym q) ∙ h in cc) ∙ h
 
   pub taken-grow : length old.solvers.backward ≤ length new.solvers.backward
   taken-grow = let b = t.solvers.backward.watermark in omega (arith, b)
@@ -111,7 +115,9 @@ module _ (old new : Tables) (x v : ℕ) (t : IsTaken old new x v) where
 -- where all solver variables below the watermark are in use, there are no more than global variables
 pub solvers-within : (t : Tables) → AreLinked t → IsFull t.solvers.backward → length t.solvers.backward ≤ length t.kept
 solvers-within t l n =
-    let d = few (at t.solvers.backward) (below (length t.kept)) (λ v u x a b. let q : Some u ≡ Some v = sym (l.solvers.back x u b) ∙ l.solvers.back x v a in cc) (length t.solvers.backward)
-    (λ v h. ⊎_elim (λ e. absurd (n v h e)) (λ (x, e). (x, e, ∈-below (length t.kept) x (live-inside t.kept x (l.taken x v (l.solvers.back x v e))))) (is-some (at t.solvers.backward v))) in
+    let d = few (at t.solvers.backward) (below (length t.kept))
+    (λ v u x a b. let q : Some u ≡ Some v = sym (l.solvers.back x u b) ∙ l.solvers.back x v a in cc) (length t.solvers.backward)
+    (λ v h. ⊎_elim (λ e. absurd (n v h e)) (λ (x, e). (x, e, ∈-below (length t.kept) x (live-inside t.kept x (l.taken x v (l.solvers.back x v e)))))
+    (is-some (at t.solvers.backward v))) in
     let e = below-count (length t.kept) in
     omega (arith, d, e)

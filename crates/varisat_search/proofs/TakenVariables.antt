@@ -66,7 +66,8 @@ module _ (values : List (Option Bool)) (a now : Activities) (v : ℕ) (t : Takin
         };
       }
 
-pub taking-none : (values : List (Option Bool)) (a now : Activities) → Taking values a now → ((v : ℕ) → is_available now v ≡ false) → TakesUnassigned values a now None
+pub taking-none : (values : List (Option Bool)) (a now : Activities) → Taking values a now → ((v : ℕ) → is_available now v ≡ false) →
+    TakesUnassigned values a now None
 taking-none values a now t n = record {
   rest = t.rest;
   count = t.count;

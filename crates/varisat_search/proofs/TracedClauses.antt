@@ -27,7 +27,8 @@ filter-all-of : (p : ℕ → Bool) (xs : List ℕ) → length xs ≤ length (fil
 filter-all-of p [] h = refl
 filter-all-of p (x ∷ xs) h = go (p x) h (filter-all-of p xs) (filter-short p xs)
   where
-    go : (b : Bool) → length (x ∷ xs) ≤ length (cond b (x ∷ filter p xs) (filter p xs)) → (length xs ≤ length (filter p xs) → list_all p xs ≡ true) → length (filter p xs) ≤ length xs → (b && list_all p xs) ≡ true
+    go : (b : Bool) → length (x ∷ xs) ≤ length (cond b (x ∷ filter p xs) (filter p xs)) →
+        (length xs ≤ length (filter p xs) → list_all p xs ≡ true) → length (filter p xs) ≤ length xs → (b && list_all p xs) ≡ true
     go true h r s = r (omega (arith, h))
     go false h r s = absurd (omega (arith, h, s))
 
@@ -60,7 +61,8 @@ pub each-clause : (values : List (Option Bool)) (ks : List StoredClause) → lin
 each-clause values [] = refl
 each-clause values (k ∷ ks) = go k.header.deleted (each-clause values ks)
   where
-    go : (b : Bool) → lines_of_clauses values (live_of ks) ≡ flat_map (stored_lines values) ks → lines_of_clauses values (cond b (live_of ks) (k ∷ live_of ks)) ≡ cond b [] (lines_of_clause values k.literals) ++ flat_map (stored_lines values) ks
+    go : (b : Bool) → lines_of_clauses values (live_of ks) ≡ flat_map (stored_lines values) ks →
+        lines_of_clauses values (cond b (live_of ks) (k ∷ live_of ks)) ≡ cond b [] (lines_of_clause values k.literals) ++ flat_map (stored_lines values) ks
     go true e = e
     go false e = ap (λ ls. lines_of_clause values k.literals ++ ls) e
 
@@ -80,14 +82,19 @@ module _ (values : List (Option Bool)) where
   each-pair x [] = refl
   each-pair x (m ∷ ms) = go (nat_lt x m) (each-pair x ms)
     where
-      inner : (a : Bool) → (d : Bool) → a ≡ d → lines_of_pairs values (pairs_with x ms) ≡ flat_map (pair_line x) ms → map Delete (cond (not a) ((x ∷ m ∷ []) ∷ filter (λ c. not (are_unassigned values c)) (pairs_with x ms)) (filter (λ c. not (are_unassigned values c)) (pairs_with x ms))) ≡ cond (not d) (Delete (x ∷ m ∷ []) ∷ []) [] ++ flat_map (pair_line x) ms
+      inner : (a : Bool) → (d : Bool) → a ≡ d → lines_of_pairs values (pairs_with x ms) ≡ flat_map (pair_line x) ms →
+          map Delete (cond (not a) ((x ∷ m ∷ []) ∷ filter (λ c. not (are_unassigned values c)) (pairs_with x ms))
+          (filter (λ c. not (are_unassigned values c)) (pairs_with x ms))) ≡ cond (not d) (Delete (x ∷ m ∷ []) ∷ []) [] ++ flat_map (pair_line x) ms
       inner true true f e = e
       inner false false f e = ap (λ ls. Delete (x ∷ m ∷ []) ∷ ls) e
       inner true false f e = absurd cc
       inner false true f e = absurd cc
 
-      go : (b : Bool) → lines_of_pairs values (pairs_with x ms) ≡ flat_map (pair_line x) ms → lines_of_pairs values (cond b ((x ∷ m ∷ []) ∷ pairs_with x ms) (pairs_with x ms)) ≡ cond (b && not (is_unassigned values x && is_unassigned values m)) (Delete (x ∷ m ∷ []) ∷ []) [] ++ flat_map (pair_line x) ms
-      go true e = inner (are_unassigned values (x ∷ m ∷ [])) (is_unassigned values x && is_unassigned values m) (and-true (is_unassigned values x) (is_unassigned values m)) e
+      go : (b : Bool) → lines_of_pairs values (pairs_with x ms) ≡ flat_map (pair_line x) ms →
+          lines_of_pairs values (cond b ((x ∷ m ∷ []) ∷ pairs_with x ms) (pairs_with x ms)) ≡ cond
+          (b && not (is_unassigned values x && is_unassigned values m)) (Delete (x ∷ m ∷ []) ∷ []) [] ++ flat_map (pair_line x) ms
+      go true e = inner (are_unassigned values (x ∷ m ∷ [])) (is_unassigned values x && is_unassigned values m)
+          (and-true (is_unassigned values x) (is_unassigned values m)) e
       go false e = e
 
   -- the lines of those that a literal implies
@@ -103,13 +110,18 @@ module _ (values : List (Option Bool)) where
   lines-append [] ds = refl
   lines-append (c ∷ cs) ds = go (are_unassigned values c) (lines-append cs ds)
     where
-      go : (a : Bool) → lines_of_pairs values (cs ++ ds) ≡ lines_of_pairs values cs ++ lines_of_pairs values ds → map Delete (cond (not a) (c ∷ filter (λ d. not (are_unassigned values d)) (cs ++ ds)) (filter (λ d. not (are_unassigned values d)) (cs ++ ds))) ≡ map Delete (cond (not a) (c ∷ filter (λ d. not (are_unassigned values d)) cs) (filter (λ d. not (are_unassigned values d)) cs)) ++ lines_of_pairs values ds
+      go : (a : Bool) → lines_of_pairs values (cs ++ ds) ≡ lines_of_pairs values cs ++ lines_of_pairs values ds →
+          map Delete (cond (not a) (c ∷ filter (λ d. not (are_unassigned values d)) (cs ++ ds))
+          (filter (λ d. not (are_unassigned values d)) (cs ++ ds))) ≡ map Delete
+          (cond (not a) (c ∷ filter (λ d. not (are_unassigned values d)) cs)
+          (filter (λ d. not (are_unassigned values d)) cs)) ++ lines_of_pairs values ds
       go true e = e
       go false e = ap (λ ls. Delete c ∷ ls) e
 
   pub each-list : (l : Literal) (B : List (List Literal)) → lines_of_pairs values (pairs_from l B) ≡ flat_map list_lines (numbered l B)
   each-list l [] = refl
-  each-list l (ms ∷ B) = lines-append (pairs_with (opposite l) ms) (pairs_from (suc l) B) ∙ ap (λ ls. lines_of_pairs values (pairs_with (opposite l) ms) ++ ls) (each-list (suc l) B)
+  each-list l (ms ∷ B) = lines-append (pairs_with (opposite l) ms) (pairs_from (suc l) B)
+      ∙ ap (λ ls. lines_of_pairs values (pairs_with (opposite l) ms) ++ ls) (each-list (suc l) B)
 
   pub numbered-count : (l : Literal) (B : List (List Literal)) → length (numbered l B) ≡ length B
   numbered-count l [] = refl

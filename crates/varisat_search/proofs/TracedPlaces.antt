@@ -13,7 +13,8 @@ any-default (x ∷ xs) zero d e h = refl
 any-default (x ∷ xs) (suc i) d e h = any-default xs i d e (omega (arith, h))
 
 -- the clause at the place of an index is that of the index
-pub place-read : (s : Store) (i p : ℕ) → i < length s.places → p ≡ get_or s.places i 0 → (i < length (stored_clauses s)) × (stored_at (stored_clauses s) p ≡ get_or (stored_clauses s) i (stored_at (stored_clauses s) p))
+pub place-read : (s : Store) (i p : ℕ) → i < length s.places → p ≡ get_or s.places i 0 → (i < length (stored_clauses s))
+    × (stored_at (stored_clauses s) p ≡ get_or (stored_clauses s) i (stored_at (stored_clauses s) p))
 place-read s i p h e =
     let n = length-places s.words s.places in
     let a : i < length (stored_clauses s) = omega (arith, n, h) in
@@ -21,7 +22,8 @@ place-read s i p h e =
 
 pub live-there : (ks : List StoredClause) (k : StoredClause) → k ∈ ks → k.header.deleted ≡ false → k ∈ live_of ks
 live-there [] k h e = absurd h
-live-there (j ∷ ks) k (inl q) e = subst (λ (xs : List StoredClause). k ∈ xs) (sym (ap (λ b. cond b (live_of ks) (j ∷ live_of ks)) (sym (ap (λ (x : StoredClause). x.header.deleted) q) ∙ e))) (inl q)
+live-there (j ∷ ks) k (inl q) e = subst (λ (xs : List StoredClause). k ∈ xs)
+    (sym (ap (λ b. cond b (live_of ks) (j ∷ live_of ks)) (sym (ap (λ (x : StoredClause). x.header.deleted) q) ∙ e))) (inl q)
 live-there (j ∷ ks) k (inr m) e = go j.header.deleted (live-there ks k m e)
   where
     go : (b : Bool) → k ∈ live_of ks → k ∈ cond b (live_of ks) (j ∷ live_of ks)

@@ -19,7 +19,8 @@ any-found : {X : Type 0} (p : X → Bool) (xs : List X) → list_any p xs ≡ tr
 any-found p [] e = absurd (let z : false ≡ true = e in cc)
 any-found {X} p (y ∷ ys) e = go (p y) refl e (any-found p ys)
   where
-    go : (b : Bool) → p y ≡ b → (b || list_any p ys) ≡ true → (list_any p ys ≡ true → (x : X) × (x ∈ ys) × (p x ≡ true)) → (x : X) × (x ∈ (y ∷ ys)) × (p x ≡ true)
+    go : (b : Bool) → p y ≡ b → (b || list_any p ys) ≡ true → (list_any p ys ≡ true → (x : X) × (x ∈ ys) × (p x ≡ true)) → (x : X) × (x ∈ (y ∷ ys))
+        × (p x ≡ true)
     go true q e f = (y, inl refl, q)
     go false q e f = let (x, i, r) = f e in (x, inr i, r)
 

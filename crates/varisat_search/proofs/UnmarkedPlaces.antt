@@ -16,7 +16,8 @@ passed : (ks : List StoredClause) (left p : ℕ) (ps : List ℕ) → (header_at 
 passed ks zero p ps e = sym (none ks ps)
 passed ks (suc n) p ps e = ap (λ b. cond b (unmarked_places ks (suc n) ps) (p ∷ unmarked_places ks n ps)) e
 
-one : (ks : List StoredClause) (left p : ℕ) (ps : List ℕ) → left ≢ 0 → (header_at ks p).mark ≡ false → unmarked_places ks left (p ∷ ps) ≡ p ∷ unmarked_places ks (left - 1) ps
+one : (ks : List StoredClause) (left p : ℕ) (ps : List ℕ) → left ≢ 0 → (header_at ks p).mark ≡ false →
+    unmarked_places ks left (p ∷ ps) ≡ p ∷ unmarked_places ks (left - 1) ps
 one ks zero p ps n e = absurd (n refl)
 one ks (suc m) p ps n e =
     let less : m ≡ suc m - 1 = omega arith in

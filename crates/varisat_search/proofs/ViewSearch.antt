@@ -116,11 +116,17 @@ reordered_same (p ∷ P) [] a = absurd a
 reordered_same (p ∷ P) (q ∷ Q) a =
     (literals_of Q, ([], q.literals, literals_of Q, refl, a.2, refl), reordered_same P Q a.3)
 
-reordered_seen : (P Q : List StoredClause) → AreReordered P Q → (k : KeptClause) → k ∈ map kept_clause P → k.learned ≡ false → (j : KeptClause) × (j ∈ map kept_clause Q) × (j.learned ≡ false) × (j.clause ⊆ k.clause)
+reordered_seen : (P Q : List StoredClause) → AreReordered P Q → (k : KeptClause) → k ∈ map kept_clause P → k.learned ≡ false → (j : KeptClause)
+    × (j ∈ map kept_clause Q) × (j.learned ≡ false) × (j.clause ⊆ k.clause)
 reordered_seen [] Q a k h e = absurd h
 reordered_seen (p ∷ P) [] a k h e = absurd a
-reordered_seen (p ∷ P) (q ∷ Q) a k (inl g) e =
-    (kept_clause q, inl refl, ap (λ (h : Header). not (is_tier h.tier tier.Irred)) a.1 ∙ sym (ap (λ z. z.learned) g) ∙ e, λ x i. subst (λ z. x ∈ z.clause) (sym g) (a.2.0 x i))
+reordered_seen (p ∷ P) (q ∷ Q) a k (inl g) e = (
+  kept_clause q,
+  inl refl,
+  ap (λ (h : Header). not (is_tier h.tier tier.Irred)) a.1 ∙ sym (ap (λ z. z.learned) g)
+      ∙ e,
+  λ x i. subst (λ z. x ∈ z.clause) (sym g) (a.2.0 x i),
+)
 reordered_seen (p ∷ P) (q ∷ Q) a k (inr h) e =
     let (j, i, f, u) = reordered_seen P Q a.3 k h e in (j, inr i, f, u)
 
@@ -130,17 +136,28 @@ kept_same s t a b =
     subst (λ B. SameClauses (kept s) (literals_of t.clauses ++ pairs_from 0 B)) (sym b)
     (same_front (literals_of s.clauses) (literals_of t.clauses) (pairs_from 0 s.binary) (reordered_same s.clauses t.clauses a))
 
-pub kept_seen : (s t : View) → AreReordered s.clauses t.clauses → t.binary ≡ s.binary → (k : KeptClause) → k ∈ (search_of s).kept → k.learned ≡ false → (j : KeptClause) × (j ∈ (search_of t).kept) × (j.learned ≡ false) × (j.clause ⊆ k.clause)
+pub kept_seen : (s t : View) → AreReordered s.clauses t.clauses → t.binary ≡ s.binary → (k : KeptClause) → k ∈ (search_of s).kept →
+    k.learned ≡ false → (j : KeptClause) × (j ∈ (search_of t).kept) × (j.learned ≡ false) × (j.clause ⊆ k.clause)
 kept_seen s t a b k h e =
     ⊎_elim
-    (λ i. let (j, o, f, u) = reordered_seen s.clauses t.clauses a k i e in (j, ∈-append_left j (map kept_clause t.clauses) (map kept_pair (pairs_from 0 t.binary)) o, f, u))
-    (λ i. (k, ∈-append_right k (map kept_clause t.clauses) (map kept_pair (pairs_from 0 t.binary)) (subst (λ B. k ∈ map kept_pair (pairs_from 0 B)) (sym b) i), e, λ l o. o))
+    (λ i. let (j, o, f, u) = reordered_seen s.clauses t.clauses a k i e in
+    (j, ∈-append_left j (map kept_clause t.clauses) (map kept_pair (pairs_from 0 t.binary)) o, f, u))
+    (λ i. (
+      k,
+      ∈-append_right k (map kept_clause t.clauses) (map kept_pair (pairs_from 0 t.binary))
+          (subst (λ B. k ∈ map kept_pair (pairs_from 0 B)) (sym b) i),
+      e,
+      λ l o. o,
+    ))
     (∈-append_cases k (map kept_clause s.clauses) (map kept_pair (pairs_from 0 s.binary)) h)
 
-pub view_moves : (s t : View) → WellFormed s → WellFormed t → AreReordered s.clauses t.clauses → t.binary ≡ s.binary → ((l : Literal) → IsFixed s l → IsFixed t l) → ((l : Literal) → IsProved t l → IsProved s l) → ((l : Literal) → IsFixed t l → IsLiteralOf (search_of s) l) → Proves 0 (search_of s) (search_of t) []
+pub view_moves : (s t : View) → WellFormed s → WellFormed t → AreReordered s.clauses t.clauses → t.binary ≡ s.binary →
+    ((l : Literal) → IsFixed s l → IsFixed t l) → ((l : Literal) → IsProved t l → IsProved s l) →
+    ((l : Literal) → IsFixed t l → IsLiteralOf (search_of s) l) → Proves 0 (search_of s) (search_of t) []
 view_moves s t w v a b x p y =
     moves_prove (search_of s) (search_of t)
-    (subst (λ P. SameClauses P (clauses_of (search_of t).kept)) (sym (seen_clauses s)) (subst (SameClauses (kept s)) (sym (seen_clauses t)) (kept_same s t a b)))
+    (subst (λ P. SameClauses P (clauses_of (search_of t).kept)) (sym (seen_clauses s))
+    (subst (SameClauses (kept s)) (sym (seen_clauses t)) (kept_same s t a b)))
     (kept_seen s t a b)
     (λ l h. fixed_to t v l (x l (fixed_from s w l h)))
     (λ l h. proved_to s w l (p l (proved_from t v l h)))

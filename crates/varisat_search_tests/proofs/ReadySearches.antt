@@ -21,7 +21,8 @@ use Rattle.varisat_search.specs.Decisions.{AreDecidable, CanDecide}
 use Rattle.varisat_search.proofs.HeaderContexts.{store-view, headers-ready}
 use Rattle.varisat_search.proofs.ReadyAfter.{ready-with}
 
-pub activities-ready : {A : Type 0} {x : Context A} (a : Activities) → length a.activity ≡ length x.vsids.activity → a.available ≡ x.vsids.available → IsReady x → IsReady (record x { vsids = a })
+pub activities-ready : {A : Type 0} {x : Context A} (a : Activities) → length a.activity ≡ length x.vsids.activity →
+    a.available ≡ x.vsids.available → IsReady x → IsReady (record x { vsids = a })
 activities-ready {A} {x} a n e r =
     ready-with x (record x { vsids = a }) r refl refl refl r.propagated
     (record {
@@ -45,7 +46,8 @@ values-ready {A} {x} a e r =
       assumable = subst (λ (s : View). AreDecidable s x.vsids x.assumptions.working) (sym v) r.assumable;
     }
 
-pub rebuilt-ready : {A : Type 0} {x : Context A} (W : Watches) → length W.lists ≡ length x.watchlists.lists → W.enabled ≡ true → IsWatching W (live_clauses x.clause_alloc) → IsReady x → IsReady (record x { watchlists = W })
+pub rebuilt-ready : {A : Type 0} {x : Context A} (W : Watches) → length W.lists ≡ length x.watchlists.lists → W.enabled ≡ true →
+    IsWatching W (live_clauses x.clause_alloc) → IsReady x → IsReady (record x { watchlists = W })
 rebuilt-ready {A} {x} W n on w r =
     ready-with x (record x { watchlists = W }) r refl refl refl
     (record {
@@ -60,13 +62,16 @@ rebuilt-ready {A} {x} W n on w r =
     r.decidable r.assumed r.assumable
 
 -- the header of a stored clause changes but for its tier and whether it is deleted
-pub header-ready : {A : Type 0} (x : Context A) (n : Store) (p : ℕ) (h : Header) → IsReady x → IsPlace (stored_clauses x.clause_alloc) p → h.tier ≡ (header_at (stored_clauses x.clause_alloc) p).tier → h.deleted ≡ (header_at (stored_clauses x.clause_alloc) p).deleted → HoldsClauses n (length x.clause_alloc.words) (with_header (stored_clauses x.clause_alloc) p h) → IsReady (record x { clause_alloc = n })
+pub header-ready : {A : Type 0} (x : Context A) (n : Store) (p : ℕ) (h : Header) → IsReady x → IsPlace (stored_clauses x.clause_alloc) p →
+    h.tier ≡ (header_at (stored_clauses x.clause_alloc) p).tier → h.deleted ≡ (header_at (stored_clauses x.clause_alloc) p).deleted →
+    HoldsClauses n (length x.clause_alloc.words) (with_header (stored_clauses x.clause_alloc) p h) → IsReady (record x { clause_alloc = n })
 header-ready {A} x n p h r known t d o =
     let ks = stored_clauses x.clause_alloc in
     let tracks = tracks-header x.clause_db x.clause_alloc n p h r.tracks known t d o in
     headers-ready x (record x { clause_alloc = n }) r
     (record {
-      clauses = subst (λ js. SameButHeaders (live_clauses x.clause_alloc) (live_of js)) (sym o.clauses) (live-header ks p h d (ap (λ k. is_tier k tier.Irred) t));
+      clauses = subst (λ js. SameButHeaders (live_clauses x.clause_alloc) (live_of js)) (sym o.clauses)
+          (live-header ks p h d (ap (λ k. is_tier k tier.Irred) t));
       rest = store-view x (record x { clause_alloc = n }) r.tracks.sound tracks.sound refl;
     })
     tracks refl refl

@@ -7,16 +7,19 @@ use Rattle.varisat_theory.proofs.Members.{∈-append_cases, ∈-append_left}
 use Rattle.varisat_theory.proofs.Values.{not_both, true_or_opposite}
 
 -- a known literal of the clause, or the clause is false
-true_literal : (known : List Literal) (c : Clause) → ((l : Literal) → l ∈ c → (l ∈ known) ⊎ (opposite l ∈ known)) → ((l : Literal) × (l ∈ c) × (l ∈ known)) ⊎ IsFalse known c
+true_literal : (known : List Literal) (c : Clause) → ((l : Literal) → l ∈ c → (l ∈ known) ⊎ (opposite l ∈ known)) →
+    ((l : Literal) × (l ∈ c) × (l ∈ known)) ⊎ IsFalse known c
 true_literal known [] f = inr (λ m h. absurd h)
 true_literal known (x ∷ c) f =
     ⊎_elim
     (λ k. inl (x, inl refl, k))
-    (λ k. ⊎_elim (λ w. inl (w.0, inr w.1, w.2)) (λ w. inr (λ m h. ⊎_elim (λ e. subst (λ y. opposite y ∈ known) (sym e) k) (w m) h)) (true_literal known c (λ l h. f l (inr h))))
+    (λ k. ⊎_elim (λ w. inl (w.0, inr w.1, w.2)) (λ w. inr (λ m h. ⊎_elim (λ e. subst (λ y. opposite y ∈ known) (sym e) k) (w m) h))
+    (true_literal known c (λ l h. f l (inr h))))
     (f x (inl refl))
 
 -- where each literal of the clauses is assigned and no clause is false, the assignment satisfies them
-pub assigned_satisfies : (P : List Clause) (known : List Literal) (a : Assignment) → MakesTrue a known → (HasFalse P known → ⊥) → ((c : Clause) → c ∈ P → (l : Literal) → l ∈ c → (l ∈ known) ⊎ (opposite l ∈ known)) → SatisfiesAll a P
+pub assigned_satisfies : (P : List Clause) (known : List Literal) (a : Assignment) → MakesTrue a known → (HasFalse P known → ⊥) →
+    ((c : Clause) → c ∈ P → (l : Literal) → l ∈ c → (l ∈ known) ⊎ (opposite l ∈ known)) → SatisfiesAll a P
 assigned_satisfies P known a t n f c h =
     ⊎_elim (λ w. (w.0, w.1, t w.0 w.2)) (λ w. absurd (n (c, h, w))) (true_literal known c (f c h))
 

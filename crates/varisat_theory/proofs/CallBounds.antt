@@ -18,7 +18,9 @@ term_in_sum f a u q h =
     omega (arith, s, t)
 
 -- the sum up to a later point
-sums : (scale j begun whole q i : ℕ) → i ≡ begun + whole + q → scale * sum_from luby (suc j) i ≡ scale * sum_from luby (suc j) begun + scale * sum_from luby (suc (j + begun)) whole + scale * sum_from luby (suc (j + begun) + whole) q
+sums : (scale j begun whole q i : ℕ) → i ≡ begun + whole + q →
+    scale * sum_from luby (suc j) i ≡ scale * sum_from luby (suc j) begun + scale * sum_from luby (suc (j + begun)) whole + scale * sum_from luby
+    (suc (j + begun) + whole) q
 sums scale j begun whole q i h =
     let a : i ≡ begun + (whole + q) = omega arith in
     let b = ap (sum_from luby (suc j)) a in
@@ -26,12 +28,14 @@ sums scale j begun whole q i h =
     let d : suc j + begun ≡ suc (j + begun) = omega arith in
     let e = ap (λ x. sum_from luby x (whole + q)) d in
     let f = sum_from-split luby (suc (j + begun)) whole q in
-    let g : sum_from luby (suc j) i ≡ sum_from luby (suc j) begun + sum_from luby (suc (j + begun)) whole + sum_from luby (suc (j + begun) + whole) q = omega (arith, b, c, e, f) in
+    let g : sum_from luby (suc j) i ≡ sum_from luby (suc j) begun + sum_from luby (suc (j + begun)) whole + sum_from luby
+    (suc (j + begun) + whole) q = omega (arith, b, c, e, f) in
     let z = ap (λ x. scale * x) g in
     omega (arith, z)
 
 -- a restart before any whole interval
-made_first : (c : CallSetting) (t top i : ℕ) → c.start + t ≡ c.first + c.scale * sum_from luby (suc c.term) i → t < 2 ^ suc c.variables → 0 < top → HasRestarted c (suc t) top
+made_first : (c : CallSetting) (t top i : ℕ) → c.start + t ≡ c.first + c.scale * sum_from luby (suc c.term) i → t < 2 ^ suc c.variables → 0 < top →
+    HasRestarted c (suc t) top
 made_first c t top i e b p = record {
   begun = i;
   whole = 0;
@@ -45,7 +49,8 @@ made_first c t top i e b p = record {
 }
 
 -- a restart at a later point
-made_later : (c : CallSetting) (t top next i : ℕ) → c.start + t ≡ c.first + c.scale * sum_from luby (suc c.term) i → top < 2 ^ suc c.variables → 0 < next → HasRestarted c t top → HasRestarted c (suc t) next
+made_later : (c : CallSetting) (t top next i : ℕ) → c.start + t ≡ c.first + c.scale * sum_from luby (suc c.term) i → top < 2 ^ suc c.variables →
+    0 < next → HasRestarted c t top → HasRestarted c (suc t) next
 made_later c t top next i e b p m =
     ⊎_elim
     (λ (h : i < m.begun + m.whole). behind h)
@@ -70,7 +75,8 @@ made_later c t top next i e b p m =
           late = omega arith;
         }
       where
-        new : (u : ℕ) → u < m.whole + q → m.whole ≤ u → m.since ≡ c.scale * sum_from luby (suc (c.term + m.begun) + m.whole) q → c.scale * luby (suc (c.term + m.begun) + u) < 2 ^ suc c.variables
+        new : (u : ℕ) → u < m.whole + q → m.whole ≤ u → m.since ≡ c.scale * sum_from luby (suc (c.term + m.begun) + m.whole) q →
+            c.scale * luby (suc (c.term + m.begun) + u) < 2 ^ suc c.variables
         new u l k since_is =
             let v = u - m.whole in
             let lv : v < q = omega arith in
@@ -135,14 +141,16 @@ progress_rises c t top next h (BeforeRestart l) = BeforeRestart (omega arith)
 progress_rises c t top next h (AfterRestart m) = AfterRestart (made_more c t top next h m)
 
 -- a step that begins at a restart point
-pub progress_restarts : (c : CallSetting) (t top next i : ℕ) → c.start + t ≡ call_point c i → c.start + t < 2 ^ 64 - 1 → top < 2 ^ suc c.variables → 0 < next → CallProgress c t top → CallProgress c (suc t) next
+pub progress_restarts : (c : CallSetting) (t top next i : ℕ) → c.start + t ≡ call_point c i → c.start + t < 2 ^ 64 - 1 → top < 2 ^ suc c.variables →
+    0 < next → CallProgress c t top → CallProgress c (suc t) next
 progress_restarts c t top next i e h b p (BeforeRestart l) =
     AfterRestart (made_first c t next i (unsaturated (c.first + c.scale * sum_from luby (suc c.term) i) (c.start + t) e h) (omega arith) p)
 progress_restarts c t top next i e h b p (AfterRestart m) =
     AfterRestart (made_later c t top next i (unsaturated (c.first + c.scale * sum_from luby (suc c.term) i) (c.start + t) e h) b p m)
 
 -- so with one step more the bound still holds
-pub progress_bound : (c : CallSetting) (t top : ℕ) → 0 < c.scale → top + 2 ≤ 2 ^ suc c.variables → CallProgress c t top → suc t < (c.variables + 2) * 2 ^ (c.variables + 2)
+pub progress_bound : (c : CallSetting) (t top : ℕ) → 0 < c.scale → top + 2 ≤ 2 ^ suc c.variables → CallProgress c t top →
+    suc t < (c.variables + 2) * 2 ^ (c.variables + 2)
 progress_bound c t top h b (BeforeRestart l) = small_call c.variables (suc t) (omega arith)
 progress_bound c t top h b (AfterRestart m) =
     let late : suc m.since < 2 ^ suc c.variables = omega (arith, b, m.late) in
@@ -158,7 +166,8 @@ module _ (c : CallSetting) (steps : ℕ) (trail : ℕ → List Bool) (w : IsCall
   top_bound t h = rank_bound c.variables (trail t) (w.fits t h)
 
   -- one step on
-  moved : (t : ℕ) → suc t < steps → CallProgress c t (rank_after t) → IsCallStep c (c.start + t) (trail t) (trail (suc t)) → CallProgress c (suc t) (rank_after (suc t))
+  moved : (t : ℕ) → suc t < steps → CallProgress c t (rank_after t) → IsCallStep c (c.start + t) (trail t) (trail (suc t)) →
+      CallProgress c (suc t) (rank_after (suc t))
   unfolding rank_after
   moved t h p (Rises l) = progress_rises c t (rank_after t) (rank_after (suc t)) l p
   moved t h p (Restarts i e l) =

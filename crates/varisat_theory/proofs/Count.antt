@@ -19,4 +19,5 @@ length-distinct {X = X} (x ∷ xs) ys d s =
     omega (arith, ih, ap length r.2, length-append front (x ∷ back), length-append front back)
   where
     keep : (z : X) (front back : List X) → z ∈ (front ++ (x ∷ back)) → (z ≡ x → ⊥) → z ∈ (front ++ back)
-    keep z front back h n = ⊎_elim (λ k. ∈-append_left z front back k) (λ k. ⊎_elim (λ e. absurd (n e)) (λ j. ∈-append_right z front back j) k) (∈-append_cases z front (x ∷ back) h)
+    keep z front back h n = ⊎_elim (λ k. ∈-append_left z front back k) (λ k. ⊎_elim (λ e. absurd (n e)) (λ j. ∈-append_right z front back j) k)
+        (∈-append_cases z front (x ∷ back) h)

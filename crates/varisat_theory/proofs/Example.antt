@@ -88,7 +88,8 @@ pub conflict_held : small_conflict ∈ small_clauses
 conflict_held = inr (inr (inr (inl refl)))
 
 pub learned_there : Follows small_clauses small_learned
-learned_there = learned_follows small_clauses small_conflict small_reason (λ k. small_resolved k ≡ true) (λ l. l) small_learned learned_earlier learned_ends conflict_held
+learned_there = learned_follows small_clauses small_conflict small_reason (λ k. small_resolved k ≡ true)
+    (λ l. l) small_learned learned_earlier learned_ends conflict_held
 
 pub core_earlier : HasEarlierReasons small_clauses small_reason (λ k. nat_eq k 6 ≡ true) (λ l. l)
 core_earlier k h = subst IsEarlier (sym (eqb-true k 6 h)) at_four
@@ -108,4 +109,5 @@ core_ends l (InReason k r s o n) = in_four (subst (λ y. opposite l ∈ small_re
     in_four (inr (inr z)) d = absurd z
 
 pub core_there : Conflicts small_clauses small_core
-core_there = core_conflicts small_clauses (small_assumption ∷ []) small_reason (λ k. nat_eq k 6 ≡ true) (λ l. l) small_core small_assumption refl (inl refl) core_earlier core_ends
+core_there = core_conflicts small_clauses (small_assumption ∷ []) small_reason (λ k. nat_eq k 6 ≡ true) (λ l. l) small_core small_assumption refl
+    (inl refl) core_earlier core_ends

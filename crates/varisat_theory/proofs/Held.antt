@@ -83,7 +83,8 @@ pub takes_out_same : (Q : List Clause) (c d : Clause) (R : List Clause) → Same
 takes_out_same Q c d R s t = takes_out Q d R (takes_same Q c d R s (takes_steps Q c R t))
 
 -- two clauses are taken out in either order
-takes_swap : (Q : List Clause) (p : Clause) (R : List Clause) (c : Clause) (S : List Clause) → Takes Q p R → Takes R c S → (T : List Clause) × Takes Q c T × Takes T p S
+takes_swap : (Q : List Clause) (p : Clause) (R : List Clause) (c : Clause) (S : List Clause) → Takes Q p R → Takes R c S → (T : List Clause)
+    × Takes Q c T × Takes T p S
 takes_swap [] p R c S h k = absurd h
 takes_swap (q ∷ Q) p R c S (inl (s, e)) k =
     (q ∷ S, inr (S, refl, subst (λ x. Takes x c S) e k), inl (s, refl))
@@ -93,7 +94,8 @@ takes_swap (q ∷ Q) p R c S (inr (R', e, h)) k =
     first : SameSet q c × (S ≡ R') → (T : List Clause) × Takes (q ∷ Q) c T × Takes T p S
     first w = (Q, inl (w.0, refl), subst (λ x. Takes Q p x) (sym w.1) h)
 
-    later : ((S' : List Clause) → Takes R' c S' → (T : List Clause) × Takes Q c T × Takes T p S') → ((S' : List Clause) × (S ≡ q ∷ S') × Takes R' c S') → (T : List Clause) × Takes (q ∷ Q) c T × Takes T p S
+    later : ((S' : List Clause) → Takes R' c S' → (T : List Clause) × Takes Q c T × Takes T p S') →
+        ((S' : List Clause) × (S ≡ q ∷ S') × Takes R' c S') → (T : List Clause) × Takes (q ∷ Q) c T × Takes T p S
     later rec w = let t = rec w.0 w.2 in (q ∷ t.0, inr (t.0, refl, t.1), inr (w.0, w.1, t.2))
 
 deleted : (P Q : List Clause) (c : Clause) (P' : List Clause) → SameClauses P Q → Takes P c P' → (Q' : List Clause) × Takes Q c Q' × SameClauses P' Q'
@@ -106,7 +108,8 @@ deleted (p ∷ P) Q c P' (R, t, s) (inr (S, f, h)) =
     (T, a, subst (λ x. SameClauses x T) (sym f) (R', takes_out T p R' b, u))
 
 -- a clause is taken out of both of two lists that hold the same ones
-pub same_delete : (P Q : List Clause) (c : Clause) (P' : List Clause) → SameClauses P Q → TakesOut P c P' → (Q' : List Clause) × TakesOut Q c Q' × SameClauses P' Q'
+pub same_delete : (P Q : List Clause) (c : Clause) (P' : List Clause) → SameClauses P Q → TakesOut P c P' → (Q' : List Clause) × TakesOut Q c Q'
+    × SameClauses P' Q'
 same_delete P Q c P' s t =
     let (Q', h, u) = deleted P Q c P' s (takes_steps P c P' t) in
     (Q', takes_out Q c Q' h, u)
@@ -120,8 +123,19 @@ pub same_add : (P Q : List Clause) (c d : Clause) → SameClauses P Q → SameSe
 same_add [] Q c d s t =
     let e = ap (λ l. l ++ (d ∷ [])) s in
     ([], ([], d, [], e, same_set-back c d t, refl), refl)
-same_add (p ∷ P) Q c d (R, (front, x, back, e, u, f), s) t =
-    (R ++ (d ∷ []), (front, x, back ++ (d ∷ []), ap (λ l. l ++ (d ∷ [])) e ∙ append_assoc front (x ∷ back) (d ∷ []), u, ap (λ l. l ++ (d ∷ [])) f ∙ append_assoc front back (d ∷ [])), same_add P R c d s t)
+same_add (p ∷ P) Q c d (R, (front, x, back, e, u, f), s) t = (
+  R ++ (d ∷ []),
+  (
+    front,
+    x,
+    back ++ (d ∷ []),
+    ap (λ l. l ++ (d ∷ [])) e ∙ append_assoc front (x ∷ back) (d ∷ []),
+    u,
+    ap (λ l. l ++ (d ∷ [])) f
+        ∙ append_assoc front back (d ∷ []),
+  ),
+  same_add P R c d s t,
+)
 
 -- one clause more on the left, anywhere
 pub put_back : (front back P : List Clause) (d p : Clause) → SameSet d p → SameClauses (front ++ back) P → SameClauses (front ++ (d ∷ back)) (p ∷ P)
@@ -149,7 +163,8 @@ same_clauses-through (p ∷ P) Q R (Q', h, s) t =
 
 first : (q : Clause) (Q : List Clause) (c : Clause) (R S : List Clause) → SameSet q c → R ≡ Q → (S' : List Clause) → S ≡ q ∷ S' → Takes Q c S' → SameClauses S R
 first q Q c R S s e S' f k =
-    subst (λ l. SameClauses S l) (sym e) (subst (λ l. SameClauses l Q) (sym f) (S', takes_out_same Q c q S' (same_set-back q c s) (takes_out Q c S' k), same_clauses-self S'))
+    subst (λ l. SameClauses S l) (sym e)
+    (subst (λ l. SameClauses l Q) (sym f) (S', takes_out_same Q c q S' (same_set-back q c s) (takes_out Q c S' k), same_clauses-self S'))
 
 unique : (Q : List Clause) (c : Clause) (R S : List Clause) → Takes Q c R → Takes Q c S → SameClauses R S
 unique [] c R S h k = absurd h

@@ -65,13 +65,21 @@ takes_dropped v Q c R e (front, d, back, q, s, r) =
     ap (without v) q ∙ cut_dropped v front d back (mentions_same v d c s ∙ e) ∙ ap (without v) (sym r)
 
 takes_kept : (v : ℕ) (Q : List Clause) (c : Clause) (R : List Clause) → mentions v c ≡ false → TakesOut Q c R → TakesOut (without v Q) c (without v R)
-takes_kept v Q c R e (front, d, back, q, s, r) =
-    (without v front, d, without v back, ap (without v) q ∙ cut_kept v front d back (mentions_same v d c s ∙ e), s, ap (without v) r ∙ without_append v front back)
+takes_kept v Q c R e (front, d, back, q, s, r) = (
+  without v front,
+  d,
+  without v back,
+  ap (without v) q ∙ cut_kept v front d back (mentions_same v d c s ∙ e),
+  s,
+  ap (without v) r
+      ∙ without_append v front back,
+)
 
 pub same_without : (v : ℕ) (P Q : List Clause) → SameClauses P Q → SameClauses (without v P) (without v Q)
 same_without v [] Q s = ap (without v) s
 same_without v (c ∷ P) Q (R, t, s) = go (mentions v c) refl (same_without v P R s)
   where
     go : (b : Bool) → mentions v c ≡ b → SameClauses (without v P) (without v R) → SameClauses (unless (mentions v c) c (without v P)) (without v Q)
-    go true e k = subst (λ x. SameClauses (unless x c (without v P)) (without v Q)) (sym e) (subst (SameClauses (without v P)) (sym (takes_dropped v Q c R e t)) k)
+    go true e k = subst (λ x. SameClauses (unless x c (without v P)) (without v Q)) (sym e)
+        (subst (SameClauses (without v P)) (sym (takes_dropped v Q c R e t)) k)
     go false e k = subst (λ x. SameClauses (unless x c (without v P)) (without v Q)) (sym e) (without v R, takes_kept v Q c R e t, k)

@@ -12,7 +12,8 @@ least : (scale bound m : ℕ) → bound ≤ scale * 2 ^ m → (k : ℕ) × (k �
 least scale bound zero h = (0, omega arith, (h, inl refl))
 least scale bound (suc m) h =
     ⊎_elim
-    (λ (a : scale * 2 ^ m < bound). let e = ap (λ x. scale * x) (pow-suc 2 m) in let l : scale * 2 ^ suc m < 2 * bound = omega (arith, e) in (suc m, omega arith, (h, inr l)))
+    (λ (a : scale * 2 ^ m < bound). let e = ap (λ x. scale * x) (pow-suc 2 m) in let l : scale * 2 ^ suc m < 2 * bound = omega (arith, e) in
+    (suc m, omega arith, (h, inr l)))
     (λ (a : bound ≤ scale * 2 ^ m). let r = least scale bound m a in (r.0, omega (arith, r.1), r.2))
     (cases_lt (scale * 2 ^ m) bound)
 
@@ -32,7 +33,8 @@ sum_bound scale s k n b h l (inr u) =
     omega (arith, m, p)
 
 -- Terms whose intervals are all shorter than 2^(n+1) have intervals of at most (n+1) * 2^(n+2) together.
-pub restart_sum : (n scale j r : ℕ) → 0 < scale → ((t : ℕ) → t < r → scale * luby (suc j + t) < 2 ^ suc n) → scale * sum_from luby (suc j) r ≤ suc n * (2 * 2 ^ suc n)
+pub restart_sum : (n scale j r : ℕ) → 0 < scale → ((t : ℕ) → t < r → scale * luby (suc j + t) < 2 ^ suc n) →
+    scale * sum_from luby (suc j) r ≤ suc n * (2 * 2 ^ suc n)
 restart_sum n scale j r h f =
     let one : 1 ≤ scale = h in
     let top = mul-le-mul_right (2 ^ suc n) one in
@@ -56,7 +58,8 @@ total_bound n =
     omega (arith, a, b, c)
 
 -- A call's steps: those before its first restart, those of whole intervals, and those after its last restart.
-pub intervals_bound : (n scale j r first last : ℕ) → 0 < scale → first < 2 ^ suc n → last < 2 ^ suc n → ((t : ℕ) → t < r → scale * luby (suc j + t) < 2 ^ suc n) → first + scale * sum_from luby (suc j) r + last < (n + 2) * 2 ^ (n + 2)
+pub intervals_bound : (n scale j r first last : ℕ) → 0 < scale → first < 2 ^ suc n → last < 2 ^ suc n →
+    ((t : ℕ) → t < r → scale * luby (suc j + t) < 2 ^ suc n) → first + scale * sum_from luby (suc j) r + last < (n + 2) * 2 ^ (n + 2)
 intervals_bound n scale j r first last h a b f =
     let s = restart_sum n scale j r h f in
     let p : n + 2 ≡ suc (suc n) = omega arith in

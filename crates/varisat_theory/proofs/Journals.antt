@@ -19,7 +19,8 @@ use Rattle.varisat_theory.proofs.Renaming.{∈-map, map-∈, map-⊆, takes_out_
 
 -- 1. Entries in turn.
 
-pub leads_append : (P : List Clause) (es : List Entry) (Q : List Clause) (fs : List Entry) (R : List Clause) → Leads P es Q → Leads Q fs R → Leads P (es ++ fs) R
+pub leads_append : (P : List Clause) (es : List Entry) (Q : List Clause) (fs : List Entry) (R : List Clause) → Leads P es Q → Leads Q fs R →
+    Leads P (es ++ fs) R
 leads_append P [] Q fs R d e = subst (λ S. Leads S fs R) (sym d) e
 leads_append P (x ∷ es) Q fs R (S, n, d) e = (S, n, leads_append S es Q fs R d e)
 
@@ -38,7 +39,8 @@ by_grows m k P [] Q d = d
 by_grows m k P (e ∷ es) Q (R, f, inl (i, d)) = (R, f, inl (i, by_grows m k R es Q d))
 by_grows m k P (e ∷ es) Q (R, f, inr (j, q, d)) = (R, f, inr (k + j, omega (arith, q), by_grows j k R es Q d))
 
-pub by_leads_append : (n m : ℕ) (P : List Clause) (es : List Entry) (Q : List Clause) (fs : List Entry) (R : List Clause) → LeadsBy n P es Q → LeadsBy m Q fs R → LeadsBy (n + m) P (es ++ fs) R
+pub by_leads_append : (n m : ℕ) (P : List Clause) (es : List Entry) (Q : List Clause) (fs : List Entry) (R : List Clause) → LeadsBy n P es Q →
+    LeadsBy m Q fs R → LeadsBy (n + m) P (es ++ fs) R
 by_leads_append n m P [] Q fs R d e = let f = subst (λ S. LeadsBy m S fs R) (sym d) e in by_grows m n P fs R f
 by_leads_append n m P (x ∷ es) Q fs R (S, f, inl (i, d)) e = (S, f, inl (i, by_leads_append n m S es Q fs R d e))
 by_leads_append n m P (x ∷ es) Q fs R (S, f, inr (j, q, d)) e = (S, f, inr (j + m, omega (arith, q), by_leads_append j m S es Q fs R d e))
@@ -47,13 +49,19 @@ by_leads_append n m P (x ∷ es) Q fs R (S, f, inr (j, q, d)) e = (S, f, inr (j 
 
 pub follow_same : (P P' : List Clause) (e : Entry) (Q : List Clause) → SameClauses P P' → Follow P e Q → (Q' : List Clause) × Follow P' e Q' × SameClauses Q Q'
 follow_same P P' (Accepts c) Q s q = (P' ++ c ∷ [], refl, subst (λ x. SameClauses x (P' ++ c ∷ [])) (sym q) (same_add P P' c c s (same_set-self c)))
-follow_same P P' (Writes (Add c)) Q s (f, q) = (P' ++ c ∷ [], (follows_same P P' c c s (same_set-self c) f, refl), subst (λ x. SameClauses x (P' ++ c ∷ [])) (sym q) (same_add P P' c c s (same_set-self c)))
+follow_same P P' (Writes (Add c)) Q s (f, q) = (
+  P' ++ c ∷ [],
+  (follows_same P P' c c s (same_set-self c) f, refl),
+  subst (λ x. SameClauses x (P' ++ c ∷ [])) (sym q)
+      (same_add P P' c c s (same_set-self c)),
+)
 follow_same P P' (Writes (Delete c)) Q s t = same_delete P P' c Q s t
 follow_same P P' (Assumes a) Q s q = (P', refl, subst (λ x. SameClauses x P') (sym q) s)
 follow_same P P' (Fails core) Q s (k, q) = (P', (conflicts_same P P' core s k, refl), subst (λ x. SameClauses x P') (sym q) s)
 follow_same P P' (Leaves v) Q s q = (without v P', refl, subst (λ x. SameClauses x (without v P')) (sym q) (same_without v P P' s))
 
-pub leads_same : (P P' : List Clause) (es : List Entry) (Q : List Clause) → SameClauses P P' → Leads P es Q → (Q' : List Clause) × Leads P' es Q' × SameClauses Q Q'
+pub leads_same : (P P' : List Clause) (es : List Entry) (Q : List Clause) → SameClauses P P' → Leads P es Q → (Q' : List Clause) × Leads P' es Q'
+    × SameClauses Q Q'
 leads_same P P' [] Q s d = (P', refl, subst (λ x. SameClauses x P') d s)
 leads_same P P' (e ∷ es) Q s (R, f, d) =
     let (R', g, t) = follow_same P P' e R s f in
@@ -68,7 +76,8 @@ minor_entry_same P P' (Assumes a) s i = tt
 minor_entry_same P P' (Fails core) s i = tt
 minor_entry_same P P' (Leaves v) s i = tt
 
-pub by_leads_same : (n : ℕ) (P P' : List Clause) (es : List Entry) (Q : List Clause) → SameClauses P P' → LeadsBy n P es Q → (Q' : List Clause) × LeadsBy n P' es Q' × SameClauses Q Q'
+pub by_leads_same : (n : ℕ) (P P' : List Clause) (es : List Entry) (Q : List Clause) → SameClauses P P' → LeadsBy n P es Q → (Q' : List Clause)
+    × LeadsBy n P' es Q' × SameClauses Q Q'
 by_leads_same n P P' [] Q s d = (P', refl, subst (λ x. SameClauses x P') d s)
 by_leads_same n P P' (e ∷ es) Q s (R, f, inl (i, d)) =
     let (R', g, t) = follow_same P P' e R s f in
@@ -96,13 +105,16 @@ after_all (c ∷ R) P Q s = (R ++ Q, ([], c, R ++ Q, refl, same_set-self c, refl
 
 later_in_front : (P Q : List Clause) (c : Clause) → SameClauses ((P ++ c ∷ []) ++ Q) ((P ++ Q) ++ c ∷ [])
 later_in_front P Q c =
-    subst (λ x. SameClauses x ((P ++ Q) ++ c ∷ [])) (sym (append_assoc P (c ∷ []) Q)) (subst (SameClauses (P ++ (c ∷ Q))) (sym (append_assoc P Q (c ∷ []))) (after_all P (c ∷ Q) (Q ++ c ∷ []) (Q, (Q, c, [], refl, same_set-self c, sym (append-nil Q)), same_clauses-self Q)))
+    subst (λ x. SameClauses x ((P ++ Q) ++ c ∷ [])) (sym (append_assoc P (c ∷ []) Q))
+    (subst (SameClauses (P ++ (c ∷ Q))) (sym (append_assoc P Q (c ∷ [])))
+    (after_all P (c ∷ Q) (Q ++ c ∷ []) (Q, (Q, c, [], refl, same_set-self c, sym (append-nil Q)), same_clauses-self Q)))
 
 takes_out_before : (P : List Clause) (c : Clause) (R S : List Clause) → TakesOut P c R → TakesOut (P ++ S) c (R ++ S)
 takes_out_before P c R S (front, d, back, e, s, f) =
     (front, d, back ++ S, ap (λ l. l ++ S) e ∙ append_assoc front (d ∷ back) S, s, ap (λ l. l ++ S) f ∙ append_assoc front back S)
 
-pub leads_derives : (P : List Clause) (es : List Entry) (Q : List Clause) → NoneLeaves es → Leads P es Q → (Q' : List Clause) × Derives (P ++ accepted_of es) (lines_of es) Q' × SameClauses Q' Q
+pub leads_derives : (P : List Clause) (es : List Entry) (Q : List Clause) → NoneLeaves es → Leads P es Q → (Q' : List Clause)
+    × Derives (P ++ accepted_of es) (lines_of es) Q' × SameClauses Q' Q
 leads_derives P [] Q n d = (P ++ [], refl, subst (λ x. SameClauses x Q) (sym (append-nil P)) (subst (SameClauses P) d (same_clauses-self P)))
 leads_derives P (Accepts c ∷ es) Q n (R, q, d) =
     let r = leads_derives (P ++ c ∷ []) es Q n (subst (λ x. Leads x es Q) q d) in
@@ -110,8 +122,13 @@ leads_derives P (Accepts c ∷ es) Q n (R, q, d) =
 leads_derives P (Writes (Add c) ∷ es) Q n (R, (f, q), d) =
     let (S, e, s) = leads_derives (P ++ c ∷ []) es Q n (subst (λ x. Leads x es Q) q d) in
     let all = P ++ accepted_of es in
-    let (S', e', t) = derives_same ((P ++ c ∷ []) ++ accepted_of es) (all ++ c ∷ []) (lines_of es) (lines_of es) S (later_in_front P (accepted_of es) c) (same_lines-self (lines_of es)) e in
-    (S', (follows_more P all c c (covered_by_more P all (λ x h. ∈-append_left x P (accepted_of es) h)) (λ x h. h) f, e'), same_clauses-through S' S Q (same_clauses-back S S' t) s)
+    let (S', e', t) = derives_same ((P ++ c ∷ []) ++ accepted_of es) (all ++ c ∷ []) (lines_of es) (lines_of es) S
+    (later_in_front P (accepted_of es) c) (same_lines-self (lines_of es)) e in (
+      S',
+      (follows_more P all c c (covered_by_more P all (λ x h. ∈-append_left x P (accepted_of es) h)) (λ x h. h) f, e'),
+      same_clauses-through S' S
+          Q (same_clauses-back S S' t) s,
+    )
 leads_derives P (Writes (Delete c) ∷ es) Q n (R, t, d) =
     let (S, e, s) = leads_derives R es Q n d in
     (S, (R ++ accepted_of es, takes_out_before P c R (accepted_of es) t, e), s)
@@ -119,7 +136,8 @@ leads_derives P (Assumes a ∷ es) Q n (R, q, d) = leads_derives P es Q n (subst
 leads_derives P (Fails core ∷ es) Q n (R, (k, q), d) = leads_derives P es Q n (subst (λ x. Leads x es Q) q d)
 leads_derives P (Leaves v ∷ es) Q n d = absurd n
 
-pub leads_refutes : (P : List Clause) (es : List Entry) (Q : List Clause) → NoneLeaves es → Leads P es Q → Conflicts Q [] → Refutes (P ++ accepted_of es) (lines_of es)
+pub leads_refutes : (P : List Clause) (es : List Entry) (Q : List Clause) → NoneLeaves es → Leads P es Q → Conflicts Q [] →
+    Refutes (P ++ accepted_of es) (lines_of es)
 leads_refutes P es Q n d k =
     let (S, e, s) = leads_derives P es Q n d in
     refutes_from (P ++ accepted_of es) (lines_of es) (lines_of es, [], S, sym (append-nil (lines_of es)), e, conflicts_same Q S [] (same_clauses-back S Q s) k)
@@ -132,9 +150,11 @@ satisfies_both a [] c Q m n d (inr h) = absurd h
 satisfies_both a (p ∷ P) c Q m n d (inl e) = m d (inl e)
 satisfies_both a (p ∷ P) c Q m n d (inr h) = satisfies_both a P c Q (λ x i. m x (inr i)) n d h
 
-pub leads_sound : (P : List Clause) (es : List Entry) (Q : List Clause) (a : Assignment) → Leads P es Q → SatisfiesAll a P → SatisfiesAll a (accepted_of es) → SatisfiesAll a Q
+pub leads_sound : (P : List Clause) (es : List Entry) (Q : List Clause) (a : Assignment) → Leads P es Q → SatisfiesAll a P →
+    SatisfiesAll a (accepted_of es) → SatisfiesAll a Q
 leads_sound P [] Q a d m n = subst (SatisfiesAll a) d m
-leads_sound P (Accepts c ∷ es) Q a (R, q, d) m n = leads_sound R es Q a d (subst (SatisfiesAll a) (sym q) (satisfies_both a P c (accepted_of es) m n)) (λ x i. n x (inr i))
+leads_sound P (Accepts c ∷ es) Q a (R, q, d) m n = leads_sound R es Q a d
+    (subst (SatisfiesAll a) (sym q) (satisfies_both a P c (accepted_of es) m n)) (λ x i. n x (inr i))
 leads_sound P (Writes (Add c) ∷ es) Q a (R, (f, q), d) m n = leads_sound R es Q a d (derives_sound P (Add c ∷ []) R a (f, sym q) m) n
 leads_sound P (Writes (Delete c) ∷ es) Q a (R, t, d) m n = leads_sound R es Q a d (derives_sound P (Delete c ∷ []) R a (R, t, refl) m) n
 leads_sound P (Assumes b ∷ es) Q a (R, q, d) m n = leads_sound R es Q a d (subst (SatisfiesAll a) (sym q) m) n
@@ -144,8 +164,10 @@ leads_sound P (Leaves v ∷ es) Q a (R, q, d) m n = leads_sound R es Q a d (subs
 -- 6. What is held is determined, but for order and spelling.
 
 follow_unique : (P P' : List Clause) (e : Entry) (Q Q' : List Clause) → SameClauses P P' → Follow P e Q → Follow P' e Q' → SameClauses Q Q'
-follow_unique P P' (Accepts c) Q Q' s f g = subst (λ x. SameClauses x Q') (sym f) (subst (SameClauses (P ++ c ∷ [])) (sym g) (same_add P P' c c s (same_set-self c)))
-follow_unique P P' (Writes (Add c)) Q Q' s f g = subst (λ x. SameClauses x Q') (sym f.1) (subst (SameClauses (P ++ c ∷ [])) (sym g.1) (same_add P P' c c s (same_set-self c)))
+follow_unique P P' (Accepts c) Q Q' s f g = subst (λ x. SameClauses x Q') (sym f)
+    (subst (SameClauses (P ++ c ∷ [])) (sym g) (same_add P P' c c s (same_set-self c)))
+follow_unique P P' (Writes (Add c)) Q Q' s f g = subst (λ x. SameClauses x Q') (sym f.1)
+    (subst (SameClauses (P ++ c ∷ [])) (sym g.1) (same_add P P' c c s (same_set-self c)))
 follow_unique P P' (Writes (Delete c)) Q Q' s f g = takes_out_unique P P' c Q Q' s f g
 follow_unique P P' (Assumes a) Q Q' s f g = subst (λ x. SameClauses x Q') (sym f) (subst (SameClauses P) (sym g) s)
 follow_unique P P' (Fails core) Q Q' s f g = subst (λ x. SameClauses x Q') (sym f.1) (subst (SameClauses P) (sym g.1) s)
@@ -177,10 +199,22 @@ minor_renamed : (f : Literal → Literal) (P : List Clause) (c : Clause) → IsM
 minor_renamed f P c (inl (l, u)) = inl (f l, unit_renamed f l c u)
 minor_renamed f P c (inr (d, h, i)) = inr (map f d, ∈-map (map f) d P h, map-⊆ f c d i)
 
-pub by_renamed : (f : Literal → Literal) → KeepsOpposites f → (n : ℕ) (P : List Clause) (lines : List Line) (Q : List Clause) → DerivesBy n P lines Q → DerivesBy n (rename f P) (map (rename_line f) lines) (rename f Q)
+pub by_renamed : (f : Literal → Literal) → KeepsOpposites f → (n : ℕ) (P : List Clause) (lines : List Line) (Q : List Clause) →
+    DerivesBy n P lines Q → DerivesBy n (rename f P) (map (rename_line f) lines) (rename f Q)
 by_renamed f w n P [] Q d = ap (rename f) d
-by_renamed f w n P (Add c ∷ lines) Q (k, inl (i, d)) = (follows_renamed f w P c k, inl (minor_renamed f P c i, subst (λ S. DerivesBy n S (map (rename_line f) lines) (rename f Q)) (map-append (map f) P (c ∷ [])) (by_renamed f w n (P ++ c ∷ []) lines Q d)))
-by_renamed f w n P (Add c ∷ lines) Q (k, inr (m, e, d)) = (follows_renamed f w P c k, inr (m, e, subst (λ S. DerivesBy m S (map (rename_line f) lines) (rename f Q)) (map-append (map f) P (c ∷ [])) (by_renamed f w m (P ++ c ∷ []) lines Q d)))
+by_renamed f w n P (Add c ∷ lines) Q (k, inl (i, d)) = (
+  follows_renamed f w P c k,
+  inl (
+    minor_renamed f P c i,
+    subst (λ S. DerivesBy n S (map (rename_line f) lines) (rename f Q)) (map-append (map f) P (c ∷ []))
+        (by_renamed f w n (P ++ c ∷ []) lines Q d),
+  ),
+)
+by_renamed f w n P (Add c ∷ lines) Q (k, inr (m, e, d)) = (
+  follows_renamed f w P c k,
+  inr
+      (m, e, subst (λ S. DerivesBy m S (map (rename_line f) lines) (rename f Q)) (map-append (map f) P (c ∷ [])) (by_renamed f w m (P ++ c ∷ []) lines Q d)),
+)
 by_renamed f w n P (Delete c ∷ lines) Q (R, t, d) = (rename f R, takes_out_renamed f P c R t, by_renamed f w n R lines Q d)
 
 minor_more : (more P : List Clause) (c : Clause) → IsMinor P c → IsMinor (more ++ P) c
@@ -190,12 +224,32 @@ minor_more more P c (inr (d, h, i)) = inr (d, ∈-append_right d more P h, i)
 follows_beside : (more P : List Clause) (c : Clause) → Follows P c → Follows (more ++ P) c
 follows_beside more P c f = follows_more P (more ++ P) c c (covered_by_more P (more ++ P) (λ x i. ∈-append_right x more P i)) (λ x i. i) f
 
-pub by_beside : (more : List Clause) (n : ℕ) (P : List Clause) (lines : List Line) (Q : List Clause) → DerivesBy n P lines Q → DerivesBy n (more ++ P) lines (more ++ Q)
+pub by_beside : (more : List Clause) (n : ℕ) (P : List Clause) (lines : List Line) (Q : List Clause) → DerivesBy n P lines Q →
+    DerivesBy n (more ++ P) lines (more ++ Q)
 by_beside more n P [] Q d = ap (λ l. more ++ l) d
-by_beside more n P (Add c ∷ ls) Q (f, inl (i, d)) = (follows_beside more P c f, inl (minor_more more P c i, subst (λ l. DerivesBy n l ls (more ++ Q)) (sym (append_assoc more P (c ∷ []))) (by_beside more n (P ++ (c ∷ [])) ls Q d)))
-by_beside more n P (Add c ∷ ls) Q (f, inr (m, e, d)) = (follows_beside more P c f, inr (m, e, subst (λ l. DerivesBy m l ls (more ++ Q)) (sym (append_assoc more P (c ∷ []))) (by_beside more m (P ++ (c ∷ [])) ls Q d)))
-by_beside more n P (Delete c ∷ ls) Q (R, (front, x, back, e, s, f), d) =
-    (more ++ R, (more ++ front, x, back, ap (λ l. more ++ l) e ∙ sym (append_assoc more front (x ∷ back)), s, ap (λ l. more ++ l) f ∙ sym (append_assoc more front back)), by_beside more n R ls Q d)
+by_beside more n P (Add c ∷ ls) Q (f, inl (i, d)) = (
+  follows_beside more P c f,
+  inl
+      (minor_more more P c i, subst (λ l. DerivesBy n l ls (more ++ Q)) (sym (append_assoc more P (c ∷ []))) (by_beside more n (P ++ (c ∷ [])) ls Q d)),
+)
+by_beside more n P (Add c ∷ ls) Q (f, inr (m, e, d)) = (
+  follows_beside more P c f,
+  inr
+      (m, e, subst (λ l. DerivesBy m l ls (more ++ Q)) (sym (append_assoc more P (c ∷ []))) (by_beside more m (P ++ (c ∷ [])) ls Q d)),
+)
+by_beside more n P (Delete c ∷ ls) Q (R, (front, x, back, e, s, f), d) = (
+  more ++ R,
+  (
+    more ++ front,
+    x,
+    back,
+    ap (λ l. more ++ l) e ∙ sym (append_assoc more front (x ∷ back)),
+    s,
+    ap (λ l. more ++ l) f
+        ∙ sym (append_assoc more front back),
+  ),
+  by_beside more n R ls Q d,
+)
 
 -- 8. Parts of a journal.
 

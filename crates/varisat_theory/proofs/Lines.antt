@@ -9,23 +9,27 @@ use Rattle.varisat_theory.proofs.Growth.{conflicts_more, follows_more, covered_b
 use Rattle.varisat_theory.proofs.Sound.{conflicts_sound, derives_sound}
 use Rattle.varisat_theory.proofs.Held.{same_set-self, same_clauses-self, takes_out_unique, same_add, same_delete, takes_out_same, conflicts_same, follows_same}
 
-pub derives_append : (P : List Clause) (lines : List Line) (Q : List Clause) (more : List Line) (R : List Clause) → Derives P lines Q → Derives Q more R → Derives P (lines ++ more) R
+pub derives_append : (P : List Clause) (lines : List Line) (Q : List Clause) (more : List Line) (R : List Clause) → Derives P lines Q →
+    Derives Q more R → Derives P (lines ++ more) R
 derives_append P [] Q more R d e = subst (λ S. Derives S more R) (sym d) e
 derives_append P (Add c ∷ lines) Q more R d e = (d.0, derives_append (P ++ (c ∷ [])) lines Q more R d.1 e)
 derives_append P (Delete c ∷ lines) Q more R d e = (d.0, d.1, derives_append d.0 lines Q more R d.2 e)
 
 -- a derivation is cut where its lines are
-pub derives_cut : (P : List Clause) (lines more : List Line) (R : List Clause) → Derives P (lines ++ more) R → (Q : List Clause) × Derives P lines Q × Derives Q more R
+pub derives_cut : (P : List Clause) (lines more : List Line) (R : List Clause) → Derives P (lines ++ more) R → (Q : List Clause) × Derives P lines Q
+    × Derives Q more R
 derives_cut P [] more R d = (P, refl, d)
 derives_cut P (Add c ∷ lines) more R d = let r = derives_cut (P ++ (c ∷ [])) lines more R d.1 in (r.0, (d.0, r.1), r.2)
 derives_cut P (Delete c ∷ lines) more R d = let r = derives_cut d.0 lines more R d.2 in (r.0, (d.0, d.1, r.1), r.2)
 
 -- one more line that adds a clause that follows
-pub derives_add : (P : List Clause) (lines : List Line) (Q : List Clause) (c : Clause) → Derives P lines Q → Follows Q c → Derives P (lines ++ (Add c ∷ [])) (Q ++ (c ∷ []))
+pub derives_add : (P : List Clause) (lines : List Line) (Q : List Clause) (c : Clause) → Derives P lines Q → Follows Q c →
+    Derives P (lines ++ (Add c ∷ [])) (Q ++ (c ∷ []))
 derives_add P lines Q c d f = derives_append P lines Q (Add c ∷ []) (Q ++ (c ∷ [])) d (f, refl)
 
 -- one more line that deletes a present clause
-pub derives_delete : (P : List Clause) (lines : List Line) (Q : List Clause) (c : Clause) (R : List Clause) → Derives P lines Q → TakesOut Q c R → Derives P (lines ++ (Delete c ∷ [])) R
+pub derives_delete : (P : List Clause) (lines : List Line) (Q : List Clause) (c : Clause) (R : List Clause) → Derives P lines Q → TakesOut Q c R →
+    Derives P (lines ++ (Delete c ∷ [])) R
 derives_delete P lines Q c R d t = derives_append P lines Q (Delete c ∷ []) R d (R, t, refl)
 
 pub same_line-self : (l : Line) → SameLine l l
@@ -37,7 +41,8 @@ same_lines-self [] = tt
 same_lines-self (l ∷ ls) = (same_line-self l, same_lines-self ls)
 
 -- what is present is determined but for order and spelling
-pub present_unique : (P P' : List Clause) (lines : List Line) (Q Q' : List Clause) → SameClauses P P' → IsPresentAfter P lines Q → IsPresentAfter P' lines Q' → SameClauses Q Q'
+pub present_unique : (P P' : List Clause) (lines : List Line) (Q Q' : List Clause) → SameClauses P P' → IsPresentAfter P lines Q →
+    IsPresentAfter P' lines Q' → SameClauses Q Q'
 present_unique P P' [] Q Q' s d e = subst (λ l. SameClauses l Q') d (subst (λ l. SameClauses P l) e s)
 present_unique P P' (Add c ∷ ls) Q Q' s d e = present_unique (P ++ (c ∷ [])) (P' ++ (c ∷ [])) ls Q Q' (same_add P P' c c s (same_set-self c)) d e
 present_unique P P' (Delete c ∷ ls) Q Q' s d e =
@@ -55,7 +60,8 @@ derives_adds P lines Q d front back c R e p =
 
 pub derives_whole : (P : List Clause) (lines : List Line) (Q : List Clause) → IsPresentAfter P lines Q → AddsWhatFollows P lines → Derives P lines Q
 derives_whole P [] Q p a = p
-derives_whole P (Add c ∷ ls) Q p a = (a [] ls c P refl refl, derives_whole (P ++ (c ∷ [])) ls Q p (λ front back d R e q. a (Add c ∷ front) back d R (ap (λ l. Add c ∷ l) e) q))
+derives_whole P (Add c ∷ ls) Q p a =
+    (a [] ls c P refl refl, derives_whole (P ++ (c ∷ [])) ls Q p (λ front back d R e q. a (Add c ∷ front) back d R (ap (λ l. Add c ∷ l) e) q))
 derives_whole P (Delete c ∷ ls) Q p a =
     (p.0, p.1, derives_whole p.0 ls Q p.2 (λ front back d R e q. a (Delete c ∷ front) back d R (ap (λ l. Delete c ∷ l) e) (p.0, p.1, q)))
 
@@ -75,7 +81,8 @@ refutes_at P lines (front, back, Q, e, d, p, k) = (front, back, Q, e, derives_wh
 pub refutes_from : (P : List Clause) (lines : List Line) → RefutesAt P lines → Refutes P lines
 refutes_from P lines (front, back, Q, e, d, k) = (front, back, Q, e, derives_derivation P front Q d, derives_present P front Q d, k)
 
-pub derivations_join : (P : List Clause) (lines : List Line) (Q : List Clause) (more : List Line) → IsDerivation P lines → IsPresentAfter P lines Q → IsDerivation Q more → IsDerivation P (lines ++ more)
+pub derivations_join : (P : List Clause) (lines : List Line) (Q : List Clause) (more : List Line) → IsDerivation P lines →
+    IsPresentAfter P lines Q → IsDerivation Q more → IsDerivation P (lines ++ more)
 derivations_join P lines Q more d p e =
     let r = derivation_derives Q more e in
     derives_derivation P (lines ++ more) r.0 (derives_append P lines Q more r.0 (derives_whole P lines Q p d.1) r.1)
@@ -96,7 +103,8 @@ refutes_sound P lines r w =
     conflicts_sound Q [] w.0 (derives_sound P front Q w.0 d w.1) (λ l h. absurd h) k
 
 -- the same lines from the same clauses
-pub derives_same : (P P' : List Clause) (lines lines' : List Line) (Q : List Clause) → SameClauses P P' → SameLines lines lines' → Derives P lines Q → (Q' : List Clause) × Derives P' lines' Q' × SameClauses Q Q'
+pub derives_same : (P P' : List Clause) (lines lines' : List Line) (Q : List Clause) → SameClauses P P' → SameLines lines lines' →
+    Derives P lines Q → (Q' : List Clause) × Derives P' lines' Q' × SameClauses Q Q'
 derives_same P P' [] [] Q s t d = (P', refl, subst (λ l. SameClauses l P') d s)
 derives_same P P' [] (m ∷ ms) Q s t d = absurd t
 derives_same P P' (l ∷ ls) [] Q s t d = absurd t
@@ -110,7 +118,8 @@ derives_same P P' (Delete c ∷ ls) (Delete e ∷ ms) Q s t d =
     let (Q', p, v) = derives_same d.0 R' ls ms Q u t.1 d.2 in
     (Q', (R', takes_out_same P' c e R' t.0 k, p), v)
 
-same_lines-cut : (front back lines' : List Line) → SameLines (front ++ back) lines' → (front' back' : List Line) × (lines' ≡ front' ++ back') × SameLines front front'
+same_lines-cut : (front back lines' : List Line) → SameLines (front ++ back) lines' → (front' back' : List Line) × (lines' ≡ front' ++ back')
+    × SameLines front front'
 same_lines-cut [] back lines' s = ([], lines', refl, tt)
 same_lines-cut (l ∷ front) back [] s = absurd s
 same_lines-cut (l ∷ front) back (m ∷ ms) s =
@@ -127,12 +136,34 @@ refutes_same P P' lines lines' s t r =
 -- more clauses before those that are present
 pub derives_beside : (more P : List Clause) (lines : List Line) (Q : List Clause) → Derives P lines Q → Derives (more ++ P) lines (more ++ Q)
 derives_beside more P [] Q d = ap (λ l. more ++ l) d
-derives_beside more P (Add c ∷ ls) Q d =
-    (follows_more P (more ++ P) c c (covered_by_more P (more ++ P) (λ x i. ∈-append_right x more P i)) (λ x i. i) d.0, subst (λ l. Derives l ls (more ++ Q)) (sym (append_assoc more P (c ∷ []))) (derives_beside more (P ++ (c ∷ [])) ls Q d.1))
-derives_beside more P (Delete c ∷ ls) Q (R, (front, x, back, e, s, f), d) =
-    (more ++ R, (more ++ front, x, back, ap (λ l. more ++ l) e ∙ sym (append_assoc more front (x ∷ back)), s, ap (λ l. more ++ l) f ∙ sym (append_assoc more front back)), derives_beside more R ls Q d)
+derives_beside more P (Add c ∷ ls) Q d = (
+  follows_more P (more ++ P) c c (covered_by_more P (more ++ P) (λ x i. ∈-append_right x more P i)) (λ x i. i) d.0,
+  subst
+      (λ l. Derives l ls (more ++ Q)) (sym (append_assoc more P (c ∷ []))) (derives_beside more (P ++ (c ∷ [])) ls Q d.1),
+)
+derives_beside more P (Delete c ∷ ls) Q (R, (front, x, back, e, s, f), d) = (
+  more ++ R,
+  (
+    more ++ front,
+    x,
+    back,
+    ap (λ l. more ++ l) e ∙ sym (append_assoc more front (x ∷ back)),
+    s,
+    ap (λ l. more ++ l) f
+        ∙ sym (append_assoc more front back),
+  ),
+  derives_beside more R ls Q d,
+)
 
 pub refutes_beside : (more P : List Clause) (lines : List Line) → Refutes P lines → Refutes (more ++ P) lines
 refutes_beside more P lines r =
     let (front, back, Q, e, d, k) = refutes_at P lines r in
-    refutes_from (more ++ P) lines (front, back, more ++ Q, e, derives_beside more P front Q d, conflicts_more Q (more ++ Q) [] [] (covered_by_more Q (more ++ Q) (λ x i. ∈-append_right x more Q i)) (λ x i. i) k)
+    refutes_from (more ++ P) lines (
+      front,
+      back,
+      more ++ Q,
+      e,
+      derives_beside more P front Q d,
+      conflicts_more Q (more ++ Q) [] []
+          (covered_by_more Q (more ++ Q) (λ x i. ∈-append_right x more Q i)) (λ x i. i) k,
+    )

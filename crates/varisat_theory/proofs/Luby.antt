@@ -60,7 +60,8 @@ luby-second k i h l =
     luby-below (suc k) i a ∙ below_second k i h l ∙ sym (luby-below k (i - 2 ^ k + 1) b)
 
 pub sum_from-split : (f : ℕ → ℕ) (i r q : ℕ) → sum_from f i (r + q) ≡ sum_from f i r + sum_from f (i + r) q
-sum_from-split f i zero q = let e : 0 + q ≡ q = omega arith in let e' : i ≡ i + 0 = omega arith in ap (sum_from f i) e ∙ ap (λ j. sum_from f j q) e' ∙ sym (zero-add _)
+sum_from-split f i zero q = let e : 0 + q ≡ q = omega arith in let e' : i ≡ i + 0 = omega arith in ap (sum_from f i) e ∙ ap (λ j. sum_from f j q) e'
+    ∙ sym (zero-add _)
 sum_from-split f i (suc r) q =
     let e : suc r + q ≡ suc (r + q) = omega arith in
     let e' : suc i + r ≡ i + suc r = omega arith in
@@ -72,7 +73,8 @@ pub sum_from-same : (f : ℕ → ℕ) (i j r : ℕ) → ((t : ℕ) → t < r →
 sum_from-same f i j zero h = refl
 sum_from-same f i j (suc r) h =
     let a : f i ≡ f j = ap f (sym (add-zero i)) ∙ h 0 (omega arith) ∙ ap f (add-zero j) in
-    let b = sum_from-same f (suc i) (suc j) r (λ t l. let x : suc i + t ≡ i + suc t = omega arith in let y : j + suc t ≡ suc j + t = omega arith in ap f x ∙ h (suc t) (omega arith) ∙ ap f y) in
+    let b = sum_from-same f (suc i) (suc j) r
+    (λ t l. let x : suc i + t ≡ i + suc t = omega arith in let y : j + suc t ≡ suc j + t = omega arith in ap f x ∙ h (suc t) (omega arith) ∙ ap f y) in
     omega arith
 
 sub_run : (f : ℕ → ℕ) (j r n : ℕ) → j + r ≤ n → sum_from f (suc j) r ≤ sum_from f 1 n
@@ -89,7 +91,9 @@ sub_run f j r n h =
 -- the second half of a block is the first
 second_shift : (m i r : ℕ) → 2 ^ m ≤ i → i + r ≤ 2 ^ suc m - 1 → sum_from luby i r ≡ sum_from luby (i - 2 ^ m + 1) r
 second_shift m i r h l =
-    sum_from-same luby i (i - 2 ^ m + 1) r (λ t u. let a : 2 ^ m ≤ i + t = omega arith in let b : i + t < 2 ^ suc m - 1 = omega arith in let e : i + t - 2 ^ m + 1 ≡ i - 2 ^ m + 1 + t = omega arith in luby-second m (i + t) a b ∙ ap luby e)
+    sum_from-same luby i (i - 2 ^ m + 1) r
+    (λ t u. let a : 2 ^ m ≤ i + t = omega arith in let b : i + t < 2 ^ suc m - 1 = omega arith in
+    let e : i + t - 2 ^ m + 1 ≡ i - 2 ^ m + 1 + t = omega arith in luby-second m (i + t) a b ∙ ap luby e)
 
 two_blocks : (m : ℕ) → sum_from luby 1 ((2 ^ m - 1) + (2 ^ m - 1)) ≡ sum_from luby 1 (2 ^ m - 1) + sum_from luby 1 (2 ^ m - 1)
 two_blocks m =
@@ -177,7 +181,8 @@ in_halves k m j r ih h l f =
     let e : suc j - 2 ^ m + 1 ≡ suc i = omega arith in
     let s = second_shift m (suc j) r x y ∙ ap (λ w. sum_from luby w r) e in
     let g : i + r < 2 ^ m = omega arith in
-    let b = ih i r g (λ t u. let c = f t u in let v : 2 ^ m ≤ suc j + t = omega arith in let w : suc j + t < 2 ^ suc m - 1 = omega arith in let d : suc j + t - 2 ^ m + 1 ≡ suc i + t = omega arith in let o = luby-second m (suc j + t) v w ∙ ap luby d in omega (arith, c, o)) in
+    let b = ih i r g (λ t u. let c = f t u in let v : 2 ^ m ≤ suc j + t = omega arith in let w : suc j + t < 2 ^ suc m - 1 = omega arith in
+    let d : suc j + t - 2 ^ m + 1 ≡ suc i + t = omega arith in let o = luby-second m (suc j + t) v w ∙ ap luby d in omega (arith, c, o)) in
     omega (arith, s, b))
     (cases_lt j (2 ^ m - 1))
 

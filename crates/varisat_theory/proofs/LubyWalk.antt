@@ -91,7 +91,8 @@ gives_twice k q s first again =
           (λ (d : 2 ^ suc (suc k) ≤ t + 2).
           let e : s + t ≡ suc (i + half) = omega arith in
           let f : suc t ≡ 2 ^ suc (suc k) - 1 = omega arith in
-          power_at (s + t) (suc (i + half)) e ∙ power_of (walk_at (suc (i + half))) (at (suc q * 2 ^ suc k) (suc k)) last ∙ sym (luby-last (suc k)) ∙ ap luby (sym f))
+          power_at (s + t) (suc (i + half)) e ∙ power_of (walk_at (suc (i + half))) (at (suc q * 2 ^ suc k) (suc k)) last ∙ sym (luby-last (suc k))
+          ∙ ap luby (sym f))
           (cases_lt (t + 2) (2 ^ suc (suc k))))
           (cases_lt (t + 2) (suc (2 ^ suc k)));
       end = λ t l. let e : s + t ≡ suc (i + half) = omega arith in ap walk_at e ∙ last;

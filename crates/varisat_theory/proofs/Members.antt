@@ -1,6 +1,6 @@
 -- Lists read as sets.
 use Rattle.std.proofs.Common.{◌≡◌, ℕ, ◌<◌, List, [], ◌∷◌, ◌++◌, ◌⊎◌, inl, inr, ⊎_elim, refl, arith}
-use Rattle.varisat_theory.specs.Membership.{◌∈◌, ◌⊆◌}
+use Rattle.varisat_theory.specs.Membership.{◌∈◌, ◌⊆◌, IsDistinct}
 
 pub ∈-self : {X : Type 0} (x : X) (xs : List X) → x ∈ (x ∷ xs)
 ∈-self x xs = inl refl
@@ -18,6 +18,14 @@ pub ∈-append_cases : {X : Type 0} (x : X) (xs ys : List X) → x ∈ (xs ++ ys
 ∈-append_cases x [] ys h = inr h
 ∈-append_cases x (y ∷ xs) ys (inl e) = inl (inl e)
 ∈-append_cases x (y ∷ xs) ys (inr h) = ⊎_elim (λ k. inl (inr k)) inr (∈-append_cases x xs ys h)
+
+-- two lists with no element in common, in neither of which one stands twice, make up such a list
+pub distinct_append : {X : Type 0} (xs ys : List X) → IsDistinct xs → IsDistinct ys → ((x : X) → x ∈ xs → x ∈ ys → ⊥) → IsDistinct (xs ++ ys)
+distinct_append [] ys d e n = e
+distinct_append (x ∷ xs) ys (h, d) e n = (
+  λ i. ⊎_elim h (n x (inl refl)) (∈-append_cases x xs ys i),
+  distinct_append xs ys d e (λ y i j. n y (inr i) j),
+)
 
 pub ⊆-cons : {X : Type 0} (x : X) (xs ys : List X) → xs ⊆ ys → (x ∷ xs) ⊆ (x ∷ ys)
 ⊆-cons x xs ys s y (inl e) = inl e

@@ -31,7 +31,8 @@ pub leads_adding : (P : List Clause) (es : List Entry) (Q : List Clause) → Lea
 leads_adding P [] Q d = (refl, d)
 leads_adding P (e ∷ es) Q (R, f, d) = (R, f, inl (leads_adding R es Q d))
 
-pub adding_append : (k m : ℕ) (P : List Clause) (es : List Entry) (Q : List Clause) (fs : List Entry) (R : List Clause) → LeadsAdding k P es Q → LeadsAdding m Q fs R → LeadsAdding (k + m) P (es ++ fs) R
+pub adding_append : (k m : ℕ) (P : List Clause) (es : List Entry) (Q : List Clause) (fs : List Entry) (R : List Clause) → LeadsAdding k P es Q →
+    LeadsAdding m Q fs R → LeadsAdding (k + m) P (es ++ fs) R
 adding_append k m P [] Q fs R (z, d) e =
     let sum : m ≡ k + m = omega (arith, z) in
     subst (λ j. LeadsAdding j P fs R) sum (subst (λ S. LeadsAdding m S fs R) (sym d) e)
@@ -46,7 +47,8 @@ new_to_same P P' (Assumes a) s n = absurd n
 new_to_same P P' (Fails core) s n = absurd n
 new_to_same P P' (Leaves v) s n = absurd n
 
-pub adding_same : (k : ℕ) (P P' : List Clause) (es : List Entry) (Q : List Clause) → SameClauses P P' → LeadsAdding k P es Q → (Q' : List Clause) × LeadsAdding k P' es Q' × SameClauses Q Q'
+pub adding_same : (k : ℕ) (P P' : List Clause) (es : List Entry) (Q : List Clause) → SameClauses P P' → LeadsAdding k P es Q → (Q' : List Clause)
+    × LeadsAdding k P' es Q' × SameClauses Q Q'
 adding_same k P P' [] Q s (z, d) = (P', (z, refl), subst (λ x. SameClauses x P') d s)
 adding_same k P P' (e ∷ es) Q s (R, f, inl d) =
     let (R', g, t) = follow_same P P' e R s f in
@@ -102,11 +104,13 @@ fits_more s held [] g f = f
 fits_more s held (c ∷ C) g f =
     let all = C ++ held in
     let first : SameClauses (c ∷ all) (all ++ c ∷ []) = (all, (all, c, [], refl, same_set-self c, sym (append-nil all)), same_clauses-self all) in
-    fits_same (all ++ c ∷ []) (c ∷ all) s (same_clauses-back (c ∷ all) (all ++ c ∷ []) first) (fits_settled s all c (g c (inl refl)) (fits_more s held C (λ d h. g d (inr h)) f))
+    fits_same (all ++ c ∷ []) (c ∷ all) s (same_clauses-back (c ∷ all) (all ++ c ∷ []) first)
+    (fits_settled s all c (g c (inl refl)) (fits_more s held C (λ d h. g d (inr h)) f))
 
 -- 4. Lines that add new clauses, under other names and beside other clauses.
 
-by_cut : (n : ℕ) (P : List Clause) (lines more : List Line) (R : List Clause) → DerivesBy n P (lines ++ more) R → (Q : List Clause) × (k m : ℕ) × DerivesBy k P lines Q × DerivesBy m Q more R
+by_cut : (n : ℕ) (P : List Clause) (lines more : List Line) (R : List Clause) → DerivesBy n P (lines ++ more) R → (Q : List Clause) × (k m : ℕ)
+    × DerivesBy k P lines Q × DerivesBy m Q more R
 by_cut n P [] more R d = (P, 0, n, refl, d)
 by_cut n P (Add c ∷ lines) more R (f, inl (i, d)) = let (Q, k, m, a, b) = by_cut n (P ++ c ∷ []) lines more R d in (Q, k, m, (f, inl (i, a)), b)
 by_cut n P (Add c ∷ lines) more R (f, inr (j, e, d)) = let (Q, k, m, a, b) = by_cut j (P ++ c ∷ []) lines more R d in (Q, suc k, m, (f, inr (k, refl, a)), b)
@@ -115,17 +119,20 @@ by_cut n P (Delete c ∷ lines) more R (S, t, d) = let (Q, k, m, a, b) = by_cut 
 -- what is left stood there before
 pub taken_less : (P : List Clause) (d : Clause) (R : List Clause) → TakesOut P d R → R ⊆ P
 taken_less P d R (front, x, back, e, s, f) c h =
-    subst (λ y. c ∈ y) (sym e) (⊎_elim (λ a. ∈-append_left c front (x ∷ back) a) (λ b. ∈-append_right c front (x ∷ back) (inr b)) (∈-append_cases c front back (subst (λ y. c ∈ y) f h)))
+    subst (λ y. c ∈ y) (sym e) (⊎_elim (λ a. ∈-append_left c front (x ∷ back) a) (λ b. ∈-append_right c front (x ∷ back) (inr b))
+    (∈-append_cases c front back (subst (λ y. c ∈ y) f h)))
 
 -- `are` holds of each literal of the clauses
 abbrev pub AreOver : (Literal → Type 0) → List Clause → Type 0
 AreOver are P = (c : Clause) (l : Literal) → c ∈ P → l ∈ c → are l
 
 -- The clauses after lines have literals of those before and of the lines alone.
-pub over_after : (n : ℕ) (are : Literal → Type 0) (P : List Clause) (lines : List Line) (Q : List Clause) → DerivesBy n P lines Q → AreOver are P → SpeakOf are lines → AreOver are Q
+pub over_after : (n : ℕ) (are : Literal → Type 0) (P : List Clause) (lines : List Line) (Q : List Clause) → DerivesBy n P lines Q → AreOver are P →
+    SpeakOf are lines → AreOver are Q
 over_after n are P [] Q e f w = subst (AreOver are) e f
 over_after n are P (Add c ∷ lines) Q (g, d) f (a, w) =
-    let more : AreOver are (P ++ c ∷ []) = λ x l h i. ⊎_elim (λ z. f x l z i) (λ z. ⊎_elim (λ q. a l (subst (λ y. l ∈ y) q i)) (λ o. absurd o) z) (∈-append_cases x P (c ∷ []) h) in
+    let more : AreOver are (P ++ c ∷ []) = λ x l h i. ⊎_elim (λ z. f x l z i) (λ z. ⊎_elim (λ q. a l (subst (λ y. l ∈ y) q i)) (λ o. absurd o) z)
+    (∈-append_cases x P (c ∷ []) h) in
     ⊎_elim
     (λ (m, y). over_after n are (P ++ c ∷ []) lines Q y more w)
     (λ (m, o, y). over_after m are (P ++ c ∷ []) lines Q y more w)
@@ -140,7 +147,8 @@ spoken_cut are (Delete c ∷ first) second (f, p) = let (a, b) = spoken_cut are 
 -- The names are one-to-one on some literals. Of each clause of `more` that is a part of a clause over these, by its names, a part
 -- stands among the copies.
 module _ (f : Literal → Literal) (keeps : KeepsOpposites f) (are : Literal → Type 0) (one : (l m : Literal) → are l → are m → f l ≡ f m → l ≡ m)
-    (more copies : List Clause) (copied : (d c : Clause) → d ∈ more → ((l : Literal) → l ∈ c → are l) → d ⊆ map f c → (e : Clause) × (e ∈ copies) × (e ⊆ c)) where
+    (more copies : List Clause) (copied : (d c : Clause) → d ∈ more → ((l : Literal) → l ∈ c → are l) → d ⊆ map f c → (e : Clause) × (e ∈ copies)
+    × (e ⊆ c)) where
   -- what is new beside the copies is so, by its names, beside the others
   new_renamed : (P : List Clause) (c : Clause) → AreOver are P → ((l : Literal) → l ∈ c → are l) → IsNew (copies ++ P) c → IsNew (more ++ rename f P) (map f c)
   new_renamed P c over of n d h i =
@@ -152,8 +160,10 @@ module _ (f : Literal → Literal) (keeps : KeepsOpposites f) (are : Literal →
       back : (x : Clause) → x ∈ P → map f x ⊆ map f c → x ⊆ c
       back x j w l b = let (m, o, e) = map-∈ f (f l) c (w (f l) (∈-map f l x b)) in subst (λ y. y ∈ c) (sym (one l m (over x l j b) (of m o) e)) o
 
-  beside : (n : ℕ) (P : List Clause) (lines : List Line) (Q : List Clause) → DerivesBy n P lines Q → LeadsBy n (more ++ rename f P) (written (map (rename_line f) lines)) (more ++ rename f Q)
-  beside n P lines Q d = written_by n (more ++ rename f P) (map (rename_line f) lines) (more ++ rename f Q) (by_beside more n (rename f P) (map (rename_line f) lines) (rename f Q) (by_renamed f keeps n P lines Q d))
+  beside : (n : ℕ) (P : List Clause) (lines : List Line) (Q : List Clause) → DerivesBy n P lines Q →
+      LeadsBy n (more ++ rename f P) (written (map (rename_line f) lines)) (more ++ rename f Q)
+  beside n P lines Q d = written_by n (more ++ rename f P) (map (rename_line f) lines) (more ++ rename f Q)
+      (by_beside more n (rename f P) (map (rename_line f) lines) (rename f Q) (by_renamed f keeps n P lines Q d))
 
   -- a line adds a new clause, behind others
   behind : (k n : ℕ) (P : List Clause) (front : List Line) (c : Clause) (back : List Line) (Q present : List Clause) →
@@ -162,25 +172,33 @@ module _ (f : Literal → Literal) (keeps : KeepsOpposites f) (are : Literal →
       DerivesBy n P (front ++ (Add c ∷ back)) Q →
       IsPresentAfter (copies ++ P) front present →
       IsNew present c →
-      ((m : ℕ) (mid : List Clause) → DerivesBy m P front mid → LeadsAdding k (more ++ rename f P) (written (map (rename_line f) front)) (more ++ rename f mid)) →
+      ((m : ℕ) (mid : List Clause) → DerivesBy m P front mid → LeadsAdding k (more ++ rename f P) (written (map (rename_line f) front))
+      (more ++ rename f mid)) →
       LeadsAdding (suc k) (more ++ rename f P) (written (map (rename_line f) (front ++ (Add c ∷ back)))) (more ++ rename f Q)
   behind k n P front c back Q present over speak d before new first =
       let r = rename_line f in
       let (mid, m, j, a, b) = by_cut n P front (Add c ∷ back) Q d in
       let (s, (t, u)) = spoken_cut are front (Add c ∷ back) speak in
-      let same = present_unique (copies ++ P) (copies ++ P) front present (copies ++ mid) (same_clauses-self (copies ++ P)) before (derives_present (copies ++ P) front (copies ++ mid) (by_derives m (copies ++ P) front (copies ++ mid) (by_beside copies m P front mid a))) in
+      let same = present_unique (copies ++ P) (copies ++ P) front present (copies ++ mid) (same_clauses-self (copies ++ P)) before
+      (derives_present (copies ++ P) front (copies ++ mid) (by_derives m (copies ++ P) front (copies ++ mid) (by_beside copies m P front mid a))) in
       let (R, g, rest) = by_leads j (more ++ rename f mid) (written (map r (Add c ∷ back))) (more ++ rename f Q) (beside j mid (Add c ∷ back) Q b) in
       let is_new = new_renamed mid c (over_after m are P front mid a over s) t (new_same present (copies ++ mid) c same new) in
-      let last : LeadsAdding 1 (more ++ rename f mid) (written (map r (Add c ∷ back))) (more ++ rename f Q) = (R, g, inr (0, refl, is_new, leads_adding R (written (map r back)) (more ++ rename f Q) rest)) in
-      let all = adding_append k 1 (more ++ rename f P) (written (map r front)) (more ++ rename f mid) (written (map r (Add c ∷ back))) (more ++ rename f Q) (first m mid a) last in
-      let names : written (map r front) ++ written (map r (Add c ∷ back)) ≡ written (map r (front ++ (Add c ∷ back))) = sym (ap written (map-append r front (Add c ∷ back)) ∙ map-append Writes (map r front) (map r (Add c ∷ back))) in
+      let last : LeadsAdding 1 (more ++ rename f mid) (written (map r (Add c ∷ back))) (more ++ rename f Q) =
+      (R, g, inr (0, refl, is_new, leads_adding R (written (map r back)) (more ++ rename f Q) rest)) in
+      let all = adding_append k 1 (more ++ rename f P) (written (map r front)) (more ++ rename f mid) (written (map r (Add c ∷ back)))
+      (more ++ rename f Q) (first m mid a) last in
+      let names : written (map r front) ++ written (map r (Add c ∷ back)) ≡ written (map r (front ++ (Add c ∷ back))) =
+      sym (ap written (map-append r front (Add c ∷ back)) ∙ map-append Writes (map r front) (map r (Add c ∷ back))) in
       let sum : k + 1 ≡ suc k = omega arith in
-      subst (λ i. LeadsAdding i (more ++ rename f P) (written (map r (front ++ (Add c ∷ back)))) (more ++ rename f Q)) sum (subst (λ es. LeadsAdding (k + 1) (more ++ rename f P) es (more ++ rename f Q)) names all)
+      subst (λ i. LeadsAdding i (more ++ rename f P) (written (map r (front ++ (Add c ∷ back)))) (more ++ rename f Q)) sum
+      (subst (λ es. LeadsAdding (k + 1) (more ++ rename f P) es (more ++ rename f Q)) names all)
 
-  pub lines_add_new : (k n : ℕ) (P : List Clause) (lines : List Line) (Q : List Clause) → AreOver are P → SpeakOf are lines → DerivesBy n P lines Q → AddsManyNew k (copies ++ P) lines → LeadsAdding k (more ++ rename f P) (written (map (rename_line f) lines)) (more ++ rename f Q)
+  pub lines_add_new : (k n : ℕ) (P : List Clause) (lines : List Line) (Q : List Clause) → AreOver are P → SpeakOf are lines →
+      DerivesBy n P lines Q → AddsManyNew k (copies ++ P) lines → LeadsAdding k (more ++ rename f P) (written (map (rename_line f) lines)) (more ++ rename f Q)
   lines_add_new zero n P lines Q over speak d a = leads_adding _ _ _ (by_leads n _ _ _ (beside n P lines Q d))
   lines_add_new (suc k) n P lines Q over speak d (front, a, rest) =
       let w = subst (λ ls. DerivesBy n P ls Q) a.split d in
       let p = subst (SpeakOf are) a.split speak in
       subst (λ ls. LeadsAdding (suc k) (more ++ rename f P) (written (map (rename_line f) ls)) (more ++ rename f Q)) (sym a.split)
-      (behind k n P front a.clause a.back Q a.present over p w a.is_present a.is_new (λ m mid b. lines_add_new k m P front mid over (spoken_cut are front (Add a.clause ∷ a.back) p).0 b rest))
+      (behind k n P front a.clause a.back Q a.present over p w a.is_present a.is_new
+      (λ m mid b. lines_add_new k m P front mid over (spoken_cut are front (Add a.clause ∷ a.back) p).0 b rest))

@@ -1,6 +1,6 @@
 -- A trail's rank is bounded, and rises where an implied literal takes a decision's place.
 use Rattle.std.proofs.Common.{◌≡◌, pred, ap, ℕ, zero, suc, ◌+◌, ◌^◌, ◌<◌, ◌≤◌, Bool, true, false, List, [], ◌∷◌, ◌++◌, length, arith, pow-suc, pow_pos}
-use Rattle.varisat_theory.specs.Rank.{rank}
+use Rattle.varisat_theory.specs.Rank.{rank, with_units}
 
 pub rank_bound : (n : ℕ) (t : List Bool) → length t ≤ n → rank n t + 2 ≤ 2 ^ suc n
 rank_bound n [] h = let a = pow_pos n in let b = pow-suc 2 n in omega arith
@@ -43,8 +43,15 @@ rank_grows n [] u = omega arith
 rank_grows n (true ∷ t) u = let a = rank_grows (pred n) t u in omega arith
 rank_grows n (false ∷ t) u = let a = rank_grows (pred n) t u in omega arith
 
+-- units in front of both trails change nothing in which is the greater
+pub rank_behind_units : (u n : ℕ) (a b : List Bool) → ((m : ℕ) → length a ≤ m → rank m a < rank m b) → u + length a ≤ n →
+    rank n (with_units u a) < rank n (with_units u b)
+rank_behind_units zero n a b r h = r n (omega (arith, h))
+rank_behind_units (suc u) n a b r h = let i = rank_behind_units u (pred n) a b r (omega (arith, h)) in omega (arith, i)
+
 -- a conflict step: the trail is lengthened, and then an implied literal takes a decision's place
-pub rank_step : (n : ℕ) (trail more front old new : List Bool) → trail ++ more ≡ front ++ (false ∷ old) → length (front ++ (false ∷ old)) ≤ n → rank n trail < rank n (front ++ (true ∷ new))
+pub rank_step : (n : ℕ) (trail more front old new : List Bool) → trail ++ more ≡ front ++ (false ∷ old) → length (front ++ (false ∷ old)) ≤ n →
+    rank n trail < rank n (front ++ (true ∷ new))
 rank_step n trail more front old new e h =
     let a = rank_grows n trail more in
     let b = rank_raised n front old new h in

@@ -40,7 +40,8 @@ joins : (ls : List Literal) (P : List Clause) (c d : Clause) → ((x : Clause) �
 joins ls P c d h k i = ⊎_elim (h d) (λ j. ⊎_elim (λ e. subst (IsWithin ls) (sym e) k) (λ z. absurd z) j) (∈-append_cases d P (c ∷ []) i)
 
 -- where renamed clauses are cut, the clauses are
-split_back : (f : Literal → Literal) (P front : List Clause) (d : Clause) (back : List Clause) → rename f P ≡ front ++ (d ∷ back) → (A : List Clause) × (x : Clause) × (B : List Clause) × (P ≡ A ++ (x ∷ B)) × (rename f A ≡ front) × (map f x ≡ d) × (rename f B ≡ back)
+split_back : (f : Literal → Literal) (P front : List Clause) (d : Clause) (back : List Clause) → rename f P ≡ front ++ (d ∷ back) →
+    (A : List Clause) × (x : Clause) × (B : List Clause) × (P ≡ A ++ (x ∷ B)) × (rename f A ≡ front) × (map f x ≡ d) × (rename f B ≡ back)
 split_back f [] [] d back e = absurd cc
 split_back f [] (y ∷ front) d back e = absurd cc
 split_back f (p ∷ P) [] d back e =
@@ -74,7 +75,8 @@ module _ (f : Literal → Literal) (w : KeepsOpposites f) (ls : List Literal) (o
   mentions_renamed v c k h = go (mentions v c) (mentions (f (2 * v) / 2) (map f c)) refl refl
     where
       go : (a b : Bool) → mentions v c ≡ a → mentions (f (2 * v) / 2) (map f c) ≡ b → mentions (f (2 * v) / 2) (map f c) ≡ mentions v c
-      go true b e g = let (l, i, q) = mentioned_literal v c e in literal_mentioned (f (2 * v) / 2) (map f c) (f l) (∈-map f l c i) (renamed_literal v l q) ∙ sym e
+      go true b e g = let (l, i, q) = mentioned_literal v c e in literal_mentioned (f (2 * v) / 2) (map f c) (f l) (∈-map f l c i)
+          (renamed_literal v l q) ∙ sym e
       go false true e g =
           let (m, i, q) = mentioned_literal (f (2 * v) / 2) (map f c) g in
           let (l, j, o) = map-∈ f m c i in
@@ -82,7 +84,8 @@ module _ (f : Literal → Literal) (w : KeepsOpposites f) (ls : List Literal) (o
           absurd cc
       go false false e g = g ∙ sym e
 
-  without_renamed : (v : ℕ) (P : List Clause) → IsWithin ls (2 * v ∷ []) → ((c : Clause) → c ∈ P → IsWithin ls c) → without (f (2 * v) / 2) (rename f P) ≡ rename f (without v P)
+  without_renamed : (v : ℕ) (P : List Clause) → IsWithin ls (2 * v ∷ []) → ((c : Clause) → c ∈ P → IsWithin ls c) →
+      without (f (2 * v) / 2) (rename f P) ≡ rename f (without v P)
   without_renamed v [] k h = refl
   without_renamed v (c ∷ P) k h =
       ap (λ b. unless b (map f c) (without (f (2 * v) / 2) (rename f P))) (mentions_renamed v c k (h c (inl refl)))
@@ -94,7 +97,8 @@ module _ (f : Literal → Literal) (w : KeepsOpposites f) (ls : List Literal) (o
       out false = refl
 
   -- one entry
-  follow_renamed : (P : List Clause) (e : Entry) (Q : List Clause) → ((c : Clause) → c ∈ P → IsWithin ls c) → IsEntryWithin ls e → Follow P e Q → Follow (rename f P) (rename_entry f e) (rename f Q)
+  follow_renamed : (P : List Clause) (e : Entry) (Q : List Clause) → ((c : Clause) → c ∈ P → IsWithin ls c) → IsEntryWithin ls e → Follow P e Q →
+      Follow (rename f P) (rename_entry f e) (rename f Q)
   follow_renamed P (Accepts c) Q h k q = ap (rename f) q ∙ map-append (map f) P (c ∷ [])
   follow_renamed P (Writes (Add c)) Q h k (d, q) = (follows_renamed f w P c d, ap (rename f) q ∙ map-append (map f) P (c ∷ []))
   follow_renamed P (Writes (Delete c)) Q h k t = takes_out_renamed f P c Q t
@@ -103,7 +107,8 @@ module _ (f : Literal → Literal) (w : KeepsOpposites f) (ls : List Literal) (o
   follow_renamed P (Leaves v) Q h k q = ap (rename f) q ∙ sym (without_renamed v P k h)
 
   -- what is held after it is within the list too
-  held_within : (P : List Clause) (e : Entry) (Q : List Clause) → ((c : Clause) → c ∈ P → IsWithin ls c) → IsEntryWithin ls e → Follow P e Q → (c : Clause) → c ∈ Q → IsWithin ls c
+  held_within : (P : List Clause) (e : Entry) (Q : List Clause) → ((c : Clause) → c ∈ P → IsWithin ls c) → IsEntryWithin ls e → Follow P e Q →
+      (c : Clause) → c ∈ Q → IsWithin ls c
   held_within P (Accepts c) Q h k q d i = joins ls P c d h k (subst (λ x. d ∈ x) q i)
   held_within P (Writes (Add c)) Q h k (_, q) d i = joins ls P c d h k (subst (λ x. d ∈ x) q i)
   held_within P (Writes (Delete c)) Q h k t d i = h d (takes_less P c Q t d i)
@@ -111,7 +116,8 @@ module _ (f : Literal → Literal) (w : KeepsOpposites f) (ls : List Literal) (o
   held_within P (Fails core) Q h k (_, q) d i = h d (subst (λ x. d ∈ x) q i)
   held_within P (Leaves v) Q h k q d i = h d (without_less v P d (subst (λ x. d ∈ x) q i))
 
-  pub leads_renamed : (P : List Clause) (es : List Entry) (Q : List Clause) → ((c : Clause) → c ∈ P → IsWithin ls c) → AreWithin ls es → Leads P es Q → Leads (rename f P) (map (rename_entry f) es) (rename f Q)
+  pub leads_renamed : (P : List Clause) (es : List Entry) (Q : List Clause) → ((c : Clause) → c ∈ P → IsWithin ls c) → AreWithin ls es →
+      Leads P es Q → Leads (rename f P) (map (rename_entry f) es) (rename f Q)
   leads_renamed P [] Q h k d = ap (rename f) d
   leads_renamed P (e ∷ es) Q h (k, ks) (R, g, d) = (rename f R, follow_renamed P e R h k g, leads_renamed R es Q (held_within P e R h k g) ks d)
 
@@ -127,7 +133,8 @@ module _ (f : Literal → Literal) (w : KeepsOpposites f) (ls : List Literal) (o
       let (m, j, e) = map-∈ f (f l) d (s (f l) (∈-map f l c i)) in
       subst (λ x. x ∈ d) (sym (one l m (h l i).0 (k m j).0 e)) j
 
-  follow_back : (P : List Clause) (e : Entry) (Q : List Clause) → ((c : Clause) → c ∈ P → IsWithin ls c) → IsEntryWithin ls e → Follow (rename f P) (rename_entry f e) Q → (R : List Clause) × Follow P e R × (Q ≡ rename f R)
+  follow_back : (P : List Clause) (e : Entry) (Q : List Clause) → ((c : Clause) → c ∈ P → IsWithin ls c) → IsEntryWithin ls e →
+      Follow (rename f P) (rename_entry f e) Q → (R : List Clause) × Follow P e R × (Q ≡ rename f R)
   follow_back P (Accepts c) Q h k q = (P ++ c ∷ [], refl, q ∙ sym (map-append (map f) P (c ∷ [])))
   follow_back P (Writes (Add c)) Q h k (d, q) =
       let base = subst (λ b. Conflicts (rename f P) b) (sym (map_opposites f w c)) d in
@@ -135,13 +142,18 @@ module _ (f : Literal → Literal) (w : KeepsOpposites f) (ls : List Literal) (o
   follow_back P (Writes (Delete c)) Q h k (front, d, back, e, s, q) =
       let (A, x, B, a, b, y, z) = split_back f P front d back e in
       let in_P : x ∈ P = subst (λ L. x ∈ L) (sym a) (∈-append_right x A (x ∷ B) (inl refl)) in
-      let set : SameSet (map f x) (map f c) = subst (λ u. SameSet u (map f c)) (sym y) s in
-      (A ++ B, (A, x, B, a, (part_back x c (h x in_P) k set.0, part_back c x k (h x in_P) set.1), refl), q ∙ ap (λ u. u ++ back) (sym b) ∙ ap (λ u. rename f A ++ u) (sym z) ∙ sym (map-append (map f) A B))
+      let set : SameSet (map f x) (map f c) = subst (λ u. SameSet u (map f c)) (sym y) s in (
+        A ++ B,
+        (A, x, B, a, (part_back x c (h x in_P) k set.0, part_back c x k (h x in_P) set.1), refl),
+        q ∙ ap (λ u. u ++ back) (sym b)
+            ∙ ap (λ u. rename f A ++ u) (sym z) ∙ sym (map-append (map f) A B),
+      )
   follow_back P (Assumes a) Q h k q = (P, refl, q)
   follow_back P (Fails core) Q h k (d, q) = (P, (conflicts_unrenamed f w ls one P core h k d, refl), q)
   follow_back P (Leaves v) Q h k q = (without v P, refl, q ∙ without_renamed v P k h)
 
-  pub leads_unrenamed : (P : List Clause) (es : List Entry) (Q : List Clause) → ((c : Clause) → c ∈ P → IsWithin ls c) → AreWithin ls es → Leads (rename f P) (map (rename_entry f) es) Q → (R : List Clause) × Leads P es R × (Q ≡ rename f R)
+  pub leads_unrenamed : (P : List Clause) (es : List Entry) (Q : List Clause) → ((c : Clause) → c ∈ P → IsWithin ls c) → AreWithin ls es →
+      Leads (rename f P) (map (rename_entry f) es) Q → (R : List Clause) × Leads P es R × (Q ≡ rename f R)
   leads_unrenamed P [] Q h k d = (P, refl, sym d)
   leads_unrenamed P (e ∷ es) Q h (k, ks) (R, g, d) =
       let (S, a, b) = follow_back P e R h k g in

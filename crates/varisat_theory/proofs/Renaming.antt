@@ -42,7 +42,9 @@ pub value_renamed : (f : Literal → Literal) → KeepsOpposites f → (a : Assi
 value_renamed f k a l =
     ⊎_elim
     (λ e. subst (λ m. value (named_back f a) m ≡ value a (f m)) (sym e) (value_twice (named_back f a) (l / 2)))
-    (λ e. subst (λ m. value (named_back f a) m ≡ value a (f m)) (sym e) (value-opposite (named_back f a) (2 * (l / 2)) ∙ ap not (value_twice (named_back f a) (l / 2)) ∙ sym (value-opposite a (f (2 * (l / 2)))) ∙ ap (value a) (sym (k (2 * (l / 2))))))
+    (λ e. subst (λ m. value (named_back f a) m ≡ value a (f m)) (sym e)
+    (value-opposite (named_back f a) (2 * (l / 2)) ∙ ap not (value_twice (named_back f a) (l / 2)) ∙ sym (value-opposite a (f (2 * (l / 2))))
+    ∙ ap (value a) (sym (k (2 * (l / 2))))))
     (even_or_odd l)
 
 pub satisfies_renamed : (f : Literal → Literal) → KeepsOpposites f → (a : Assignment) (c : Clause) → Satisfies a (map f c) → Satisfies (named_back f a) c
@@ -56,12 +58,15 @@ renamed_satisfies f k a c s = (f s.0, ∈-map f s.0 c s.1, sym (value_renamed f 
 opposite_known : (f : Literal → Literal) → KeepsOpposites f → (known : List Literal) (m n : Literal) → n ≡ f m → opposite m ∈ known → opposite n ∈ map f known
 opposite_known f k known m n e h = subst (λ z. z ∈ map f known) (k m ∙ ap opposite (sym e)) (∈-map f (opposite m) known h)
 
-pub conflicts_renamed : (f : Literal → Literal) → KeepsOpposites f → (P : List Clause) (known : List Literal) → Conflicts P known → Conflicts (rename f P) (map f known)
+pub conflicts_renamed : (f : Literal → Literal) → KeepsOpposites f → (P : List Clause) (known : List Literal) → Conflicts P known →
+    Conflicts (rename f P) (map f known)
 conflicts_renamed f w P known (Clash l h k) = Clash (f l) (∈-map f l known h) (opposite_known f w known l (f l) refl k)
 conflicts_renamed f w P known (FalseClause c h u) =
     FalseClause (map f c) (∈-map (map f) c P h) (λ m i. let r = map-∈ f m c i in opposite_known f w known r.0 m r.2 (u r.0 r.1))
 conflicts_renamed f w P known (Propagate c l h i u k) =
-    Propagate (map f c) (f l) (∈-map (map f) c P h) (∈-map f l c i) (λ m j. let r = map-∈ f m c j in ⊎_elim (λ e. inl (r.2 ∙ ap f e)) (λ o. inr (opposite_known f w known r.0 m r.2 o)) (u r.0 r.1)) (conflicts_renamed f w P (l ∷ known) k)
+    Propagate (map f c) (f l) (∈-map (map f) c P h) (∈-map f l c i)
+    (λ m j. let r = map-∈ f m c j in ⊎_elim (λ e. inl (r.2 ∙ ap f e)) (λ o. inr (opposite_known f w known r.0 m r.2 o)) (u r.0 r.1))
+    (conflicts_renamed f w P (l ∷ known) k)
 
 pub map_opposites : (f : Literal → Literal) → KeepsOpposites f → (c : Clause) → map f (opposites c) ≡ opposites (map f c)
 map_opposites f w [] = refl
@@ -71,17 +76,28 @@ pub follows_renamed : (f : Literal → Literal) → KeepsOpposites f → (P : Li
 follows_renamed f w P c k = subst (λ b. Conflicts (rename f P) b) (map_opposites f w c) (conflicts_renamed f w P (opposites c) k)
 
 pub takes_out_renamed : (f : Literal → Literal) (P : List Clause) (c : Clause) (Q : List Clause) → TakesOut P c Q → TakesOut (rename f P) (map f c) (rename f Q)
-takes_out_renamed f P c Q (front, d, back, e, s, e') =
-    (rename f front, map f d, rename f back, ap (rename f) e ∙ map-append (map f) front (d ∷ back), (map-⊆ f d c s.0, map-⊆ f c d s.1), ap (rename f) e' ∙ map-append (map f) front back)
+takes_out_renamed f P c Q (front, d, back, e, s, e') = (
+  rename f front,
+  map f d,
+  rename f back,
+  ap (rename f) e ∙ map-append (map f) front (d ∷ back),
+  (map-⊆ f d c s.0, map-⊆ f c d s.1),
+  ap
+      (rename f) e' ∙ map-append (map f) front back,
+)
 
 pub same_clauses_renamed : (f : Literal → Literal) (P Q : List Clause) → SameClauses P Q → SameClauses (rename f P) (rename f Q)
 same_clauses_renamed f [] Q s = ap (rename f) s
 same_clauses_renamed f (c ∷ P) Q (R, t, s) = (rename f R, takes_out_renamed f Q c R t, same_clauses_renamed f P R s)
 
-pub derives_renamed : (f : Literal → Literal) → KeepsOpposites f → (P : List Clause) (lines : List Line) (Q : List Clause) → Derives P lines Q → Derives (rename f P) (map (rename_line f) lines) (rename f Q)
+pub derives_renamed : (f : Literal → Literal) → KeepsOpposites f → (P : List Clause) (lines : List Line) (Q : List Clause) → Derives P lines Q →
+    Derives (rename f P) (map (rename_line f) lines) (rename f Q)
 derives_renamed f w P [] Q d = ap (rename f) d
-derives_renamed f w P (Add c ∷ lines) Q d =
-    (follows_renamed f w P c d.0, subst (λ S. Derives S (map (rename_line f) lines) (rename f Q)) (map-append (map f) P (c ∷ [])) (derives_renamed f w (P ++ (c ∷ [])) lines Q d.1))
+derives_renamed f w P (Add c ∷ lines) Q d = (
+  follows_renamed f w P c d.0,
+  subst (λ S. Derives S (map (rename_line f) lines) (rename f Q)) (map-append (map f) P (c ∷ []))
+      (derives_renamed f w (P ++ (c ∷ [])) lines Q d.1),
+)
 derives_renamed f w P (Delete c ∷ lines) Q d =
     (rename f d.0, takes_out_renamed f P c d.0 d.1, derives_renamed f w d.0 lines Q d.2)
 
@@ -93,28 +109,42 @@ module _ (f : Literal → Literal) (w : KeepsOpposites f) (ls : List Literal) (o
   opposite_back : (known : List Literal) → known ⊆ ls → (m : Literal) → opposite m ∈ ls → opposite (f m) ∈ map f known → opposite m ∈ known
   opposite_back known s m h i = known_back known s (opposite m) h (subst (λ y. y ∈ map f known) (sym (w m)) i)
 
-  conflicts_back : (P Q : List Clause) → Q ≡ rename f P → ((c : Clause) → c ∈ P → IsWithin ls c) → (known now : List Literal) → known ⊆ ls → ((m : Literal) → m ∈ known → opposite m ∈ ls) → now ⊆ map f known → Conflicts Q now → Conflicts P known
+  conflicts_back : (P Q : List Clause) → Q ≡ rename f P → ((c : Clause) → c ∈ P → IsWithin ls c) → (known now : List Literal) → known ⊆ ls →
+      ((m : Literal) → m ∈ known → opposite m ∈ ls) → now ⊆ map f known → Conflicts Q now → Conflicts P known
   conflicts_back P Q e within known now s o t (Clash l h k) =
       let r = map-∈ f l known (t l h) in
       let k' : opposite (f r.0) ∈ map f known = subst (λ y. opposite y ∈ map f known) r.2 (t (opposite l) k) in
       Clash r.0 r.1 (opposite_back known s r.0 (o r.0 r.1) k')
   conflicts_back P Q e within known now s o t (FalseClause c h u) =
       let r = map-∈ (map f) c P (subst (λ x. c ∈ x) e h) in
-      FalseClause r.0 r.1 (λ m i. opposite_back known s m (within r.0 r.1 m i).1 (t (opposite (f m)) (u (f m) (subst (λ x. f m ∈ x) (sym r.2) (∈-map f m r.0 i)))))
+      FalseClause r.0 r.1 (λ m i. opposite_back known s m (within r.0 r.1 m i).1
+      (t (opposite (f m)) (u (f m) (subst (λ x. f m ∈ x) (sym r.2) (∈-map f m r.0 i)))))
   conflicts_back P Q e within known now s o t (Propagate c l h i u k) =
       let r = map-∈ (map f) c P (subst (λ x. c ∈ x) e h) in
       let m = map-∈ f l r.0 (subst (λ x. l ∈ x) r.2 i) in
       let in_list = within r.0 r.1 m.0 m.1 in
       Propagate r.0 m.0 r.1 m.1
-      (λ x j. ⊎_elim (λ q. inl (one x m.0 (within r.0 r.1 x j).0 in_list.0 (q ∙ m.2))) (λ q. inr (opposite_back known s x (within r.0 r.1 x j).1 (t (opposite (f x)) q))) (u (f x) (subst (λ y. f x ∈ y) (sym r.2) (∈-map f x r.0 j))))
-      (conflicts_back P Q e within (m.0 ∷ known) (l ∷ now) (λ x. elim [ inl q ↦ subst (λ y. y ∈ ls) (sym q) in_list.0 | inr j ↦ s x j ]) (λ x. elim [ inl q ↦ subst (λ y. opposite y ∈ ls) (sym q) in_list.1 | inr j ↦ o x j ]) (λ x. elim [ inl q ↦ inl (q ∙ m.2) | inr j ↦ inr (t x j) ]) k)
+      (λ x j. ⊎_elim (λ q. inl (one x m.0 (within r.0 r.1 x j).0 in_list.0 (q ∙ m.2)))
+      (λ q. inr (opposite_back known s x (within r.0 r.1 x j).1 (t (opposite (f x)) q))) (u (f x) (subst (λ y. f x ∈ y) (sym r.2) (∈-map f x r.0 j))))
+      (conflicts_back P Q e within (m.0 ∷ known) (l ∷ now) (λ x. elim [ inl q ↦ subst (λ y. y ∈ ls) (sym q) in_list.0 | inr j ↦ s x j ])
+      (λ x. elim [ inl q ↦ subst (λ y. opposite y ∈ ls) (sym q) in_list.1 | inr j ↦ o x j ]) (λ x. elim [ inl q ↦ inl (q ∙ m.2) | inr j ↦ inr (t x j) ]) k)
 
 -- under a one-to-one map a conflict of the renamed clauses was there before
-pub conflicts_unrenamed : (f : Literal → Literal) → KeepsOpposites f → (ls : List Literal) → IsOneToOneOn f ls → (P : List Clause) (base : List Literal) → ((c : Clause) → c ∈ P → IsWithin ls c) → IsWithin ls base → Conflicts (rename f P) (map f base) → Conflicts P base
+pub conflicts_unrenamed : (f : Literal → Literal) → KeepsOpposites f → (ls : List Literal) → IsOneToOneOn f ls →
+    (P : List Clause) (base : List Literal) → ((c : Clause) → c ∈ P → IsWithin ls c) → IsWithin ls base → Conflicts (rename f P) (map f base) → Conflicts P base
 conflicts_unrenamed f w ls one P base p b k =
     conflicts_back f w ls one P (rename f P) refl p base (map f base) (λ x h. (b x h).0) (λ x h. (b x h).1) (λ x h. h) k
 
-pub refutes_renamed : (f : Literal → Literal) → KeepsOpposites f → (P : List Clause) (lines : List Line) → Refutes P lines → Refutes (rename f P) (map (rename_line f) lines)
+pub refutes_renamed : (f : Literal → Literal) → KeepsOpposites f → (P : List Clause) (lines : List Line) → Refutes P lines →
+    Refutes (rename f P) (map (rename_line f) lines)
 refutes_renamed f w P lines r =
     let (front, back, Q, e, d, k) = refutes_at P lines r in
-    refutes_from (rename f P) (map (rename_line f) lines) (map (rename_line f) front, map (rename_line f) back, rename f Q, ap (map (rename_line f)) e ∙ map-append (rename_line f) front back, derives_renamed f w P front Q d, conflicts_renamed f w Q [] k)
+    refutes_from (rename f P) (map (rename_line f) lines) (
+      map (rename_line f) front,
+      map (rename_line f) back,
+      rename f Q,
+      ap (map (rename_line f)) e
+          ∙ map-append (rename_line f) front back,
+      derives_renamed f w P front Q d,
+      conflicts_renamed f w Q [] k,
+    )

@@ -32,7 +32,8 @@ one_more i = omega arith
 
 pub point_next : (scale i : ℕ) → restart_point scale (suc i) ≡ saturated (restart_point scale i + saturated (scale * luby (suc i)))
 point_next scale i =
-    ap saturated (scaled_next scale 1 i) ∙ saturated_sum (scale * sum_from luby 1 i) (scale * luby (1 + i)) ∙ ap (λ t. saturated (restart_point scale i + saturated (scale * luby t))) (one_more i)
+    ap saturated (scaled_next scale 1 i) ∙ saturated_sum (scale * sum_from luby 1 i) (scale * luby (1 + i))
+    ∙ ap (λ t. saturated (restart_point scale i + saturated (scale * luby t))) (one_more i)
 
 pub point_rises : (scale i : ℕ) → 0 < scale → restart_point scale i < 2 ^ 64 - 1 → restart_point scale i < restart_point scale (suc i)
 point_rises scale i h l =
@@ -48,7 +49,8 @@ call_point_zero c = let e : c.first + c.scale * 0 ≡ c.first = omega arith in a
 pub call_point_next : (c : CallSetting) (i : ℕ) → call_point c (suc i) ≡ saturated (call_point c i + saturated (c.scale * luby (suc c.term + i)))
 call_point_next c i =
     let a = scaled_next c.scale (suc c.term) i in
-    let b : c.first + c.scale * sum_from luby (suc c.term) (suc i) ≡ (c.first + c.scale * sum_from luby (suc c.term) i) + c.scale * luby (suc c.term + i) = omega (arith, a) in
+    let b : c.first + c.scale * sum_from luby (suc c.term) (suc i) ≡ (c.first + c.scale * sum_from luby (suc c.term) i) + c.scale * luby
+    (suc c.term + i) = omega (arith, a) in
     ap saturated b ∙ saturated_sum (c.first + c.scale * sum_from luby (suc c.term) i) (c.scale * luby (suc c.term + i))
 
 pub call_point_first : (c : CallSetting) (i : ℕ) → c.first ≡ 0 → c.term ≡ 0 → call_point c i ≡ restart_point c.scale i
@@ -70,7 +72,8 @@ length_with_units u trail = let a = length-append (replicate u true) trail in le
 pub units_below : (n u : ℕ) (trail : List Bool) → u + length trail ≤ n → rank n (with_units u trail) < 2 ^ suc n
 units_below n u trail h = rank_below n (with_units u trail) (let e = length_with_units u trail in omega (arith, e))
 
-pub units_raised : (n u : ℕ) (front old new : List Bool) → u + length (front ++ (false ∷ old)) ≤ n → rank n (with_units u (front ++ (false ∷ old))) < rank n (with_units u (front ++ (true ∷ new)))
+pub units_raised : (n u : ℕ) (front old new : List Bool) → u + length (front ++ (false ∷ old)) ≤ n →
+    rank n (with_units u (front ++ (false ∷ old))) < rank n (with_units u (front ++ (true ∷ new)))
 units_raised n u front old new h =
     let a = append_assoc (replicate u true) front (false ∷ old) in
     let b = append_assoc (replicate u true) front (true ∷ new) in

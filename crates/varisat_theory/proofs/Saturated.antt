@@ -14,7 +14,8 @@ saturated_no_conflict P base known w s (Propagate c l h i u k) =
     saturated_no_conflict P (l ∷ base) known w (λ x. elim [ inl e ↦ subst (λ y. y ∈ known) (sym e) new | inr j ↦ s x j ]) k
 
 -- A clause that has one literal unassigned after complete propagation, with the others false, has no held clause as a part.
-pub learned_is_new : (P : List Clause) (known : List Literal) (l : Literal) (rest : Clause) → IsComplete P known → (l ∈ known → ⊥) → IsFalse known rest → (c : Clause) → c ∈ P → c ⊆ (l ∷ rest) → ⊥
+pub learned_is_new : (P : List Clause) (known : List Literal) (l : Literal) (rest : Clause) → IsComplete P known → (l ∈ known → ⊥) →
+    IsFalse known rest → (c : Clause) → c ∈ P → c ⊆ (l ∷ rest) → ⊥
 learned_is_new P known l rest w n f c h s =
     ⊎_elim
     (λ i. n (w.closed c l h i (λ m j. ⊎_elim inl (λ k. inr (f m k)) (s m j))))
@@ -29,9 +30,11 @@ complete_fewer P Q known s w = record {
 }
 
 -- and for one more clause with two literals that are not false
-pub complete_added : (P : List Clause) (known : List Literal) (c : Clause) (x y : Literal) → x ∈ c → y ∈ c → x ≢ y → (opposite x ∈ known → ⊥) → (opposite y ∈ known → ⊥) → IsComplete P known → IsComplete (P ++ (c ∷ [])) known
+pub complete_added : (P : List Clause) (known : List Literal) (c : Clause) (x y : Literal) → x ∈ c → y ∈ c → x ≢ y → (opposite x ∈ known → ⊥) →
+    (opposite y ∈ known → ⊥) → IsComplete P known → IsComplete (P ++ (c ∷ [])) known
 complete_added P known c x y i j d a b w = record {
-  no_false = λ f. ⊎_elim (λ h. w.no_false (f.0, h, f.2)) (λ h. ⊎_elim (λ e. a (f.2 x (subst (λ z. x ∈ z) (sym e) i))) (λ z. absurd z) h) (∈-append_cases f.0 P (c ∷ []) f.1);
+  no_false = λ f. ⊎_elim (λ h. w.no_false (f.0, h, f.2)) (λ h. ⊎_elim (λ e. a (f.2 x (subst (λ z. x ∈ z) (sym e) i))) (λ z. absurd z) h)
+      (∈-append_cases f.0 P (c ∷ []) f.1);
   closed = λ e l h k u. ⊎_elim (λ m. w.closed e l m k u) (λ m. ⊎_elim (λ q. absurd (two e l q u)) (λ z. absurd z) m) (∈-append_cases e P (c ∷ []) h);
 }
   where
@@ -40,7 +43,9 @@ complete_added P known c x y i j d a b w = record {
         ⊎_elim (λ f. ⊎_elim (λ g. d (f ∙ sym g)) b (u y (subst (λ z. y ∈ z) (sym q) j))) a (u x (subst (λ z. x ∈ z) (sym q) i))
 
 -- and where clauses lost literals that are false
-pub complete_shorter : (P Q : List Clause) (known : List Literal) → ((d : Clause) → d ∈ Q → (c : Clause) × (c ∈ P) × (d ⊆ c) × ((m : Literal) → m ∈ c → (m ∈ d) ⊎ (opposite m ∈ known))) → IsComplete P known → IsComplete Q known
+pub complete_shorter : (P Q : List Clause) (known : List Literal) →
+    ((d : Clause) → d ∈ Q → (c : Clause) × (c ∈ P) × (d ⊆ c) × ((m : Literal) → m ∈ c → (m ∈ d) ⊎ (opposite m ∈ known))) → IsComplete P known →
+    IsComplete Q known
 complete_shorter P Q known f w = record {
   no_false = λ z. let r = f z.0 z.1 in w.no_false (r.0, r.1, λ m i. ⊎_elim (λ j. z.2 m j) (λ o. o) (r.3 m i));
   closed = λ d l h i u. let r = f d h in w.closed r.0 l r.1 (r.2 l i) (λ m j. ⊎_elim (λ k. u m k) inr (r.3 m j));

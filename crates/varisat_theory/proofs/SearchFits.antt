@@ -14,9 +14,11 @@ use Rattle.varisat_theory.specs.Searches.{KeptClause, Search, clauses_of, Fits}
 use Rattle.varisat_theory.proofs.StepCounts.{by_same}
 
 -- one clause more in both, anywhere
-pub same_insert : (front back front' back' : List Clause) (d p : Clause) → SameSet d p → SameClauses (front ++ back) (front' ++ back') → SameClauses (front ++ (d ∷ back)) (front' ++ (p ∷ back'))
+pub same_insert : (front back front' back' : List Clause) (d p : Clause) → SameSet d p → SameClauses (front ++ back) (front' ++ back') →
+    SameClauses (front ++ (d ∷ back)) (front' ++ (p ∷ back'))
 same_insert front back front' back' d p s h =
-    same_clauses-through (front ++ (d ∷ back)) (p ∷ (front' ++ back')) (front' ++ (p ∷ back')) (put_back front back (front' ++ back') d p s h) (front' ++ back', (front', p, back', refl, same_set-self p, refl), same_clauses-self (front' ++ back'))
+    same_clauses-through (front ++ (d ∷ back)) (p ∷ (front' ++ back')) (front' ++ (p ∷ back')) (put_back front back (front' ++ back') d p s h)
+    (front' ++ back', (front', p, back', refl, same_set-self p, refl), same_clauses-self (front' ++ back'))
 
 -- more clauses behind both
 pub same_front : (K J O : List Clause) → SameClauses K J → SameClauses (K ++ O) (J ++ O)
@@ -30,11 +32,13 @@ same_equal P Q e = subst (SameClauses P) e (same_clauses-self P)
 -- the last clause goes between the two parts
 pub same_between : (K O : List Clause) (c d : Clause) → SameSet c d → SameClauses ((K ++ O) ++ c ∷ []) ((K ++ d ∷ []) ++ O)
 same_between K O c d s =
-    subst (SameClauses ((K ++ O) ++ c ∷ [])) (sym (append_assoc K (d ∷ []) O)) (same_insert (K ++ O) [] K O c d s (same_equal ((K ++ O) ++ []) (K ++ O) (append-nil (K ++ O))))
+    subst (SameClauses ((K ++ O) ++ c ∷ [])) (sym (append_assoc K (d ∷ []) O))
+    (same_insert (K ++ O) [] K O c d s (same_equal ((K ++ O) ++ []) (K ++ O) (append-nil (K ++ O))))
 
 -- 2. The kept clauses at a place.
 
-pub clauses_at : (front back : List KeptClause) (k : KeptClause) (O : List Clause) → clauses_of (front ++ (k ∷ back)) ++ O ≡ clauses_of front ++ (k.clause ∷ (clauses_of back ++ O))
+pub clauses_at : (front back : List KeptClause) (k : KeptClause) (O : List Clause) →
+    clauses_of (front ++ (k ∷ back)) ++ O ≡ clauses_of front ++ (k.clause ∷ (clauses_of back ++ O))
 clauses_at [] back k O = refl
 clauses_at (j ∷ front) back k O = ap (λ l. j.clause ∷ l) (clauses_at front back k O)
 
@@ -72,7 +76,8 @@ abbrev pub plain : (held : List Clause) (s : Search) → Fits held s → List Cl
 plain held s f = clauses_of s.kept ++ f.others
 
 -- it is enough to follow the lines from there
-pub carried : (n : ℕ) (P L : List Clause) (lines : List Line) (t : Search) → SameClauses P L → ((Q : List Clause) × DerivesBy n L lines Q × Fits Q t) → (Q : List Clause) × DerivesBy n P lines Q × Fits Q t
+pub carried : (n : ℕ) (P L : List Clause) (lines : List Line) (t : Search) → SameClauses P L →
+    ((Q : List Clause) × DerivesBy n L lines Q × Fits Q t) → (Q : List Clause) × DerivesBy n P lines Q × Fits Q t
 carried n P L lines t q (Q, d, f) =
     let (R, e, u) = by_same n L P lines Q (same_clauses-back P L q) d in
     (R, e, fits_same Q R t u f)
@@ -80,7 +85,8 @@ carried n P L lines t q (Q, d, f) =
 -- a kept clause is held
 pub kept_held : (held : List Clause) (s : Search) (k : KeptClause) → Fits held s → k ∈ s.kept → (d : Clause) × (d ∈ held) × SameSet d k.clause
 kept_held held s k f h =
-    same_clauses_find (clauses_of s.kept ++ f.others) held (same_clauses-back held (clauses_of s.kept ++ f.others) f.same) k.clause (∈-append_left k.clause (clauses_of s.kept) f.others (clause_in s.kept k h))
+    same_clauses_find (clauses_of s.kept ++ f.others) held (same_clauses-back held (clauses_of s.kept ++ f.others) f.same) k.clause
+    (∈-append_left k.clause (clauses_of s.kept) f.others (clause_in s.kept k h))
 
 -- a proved literal is implied
 pub proved_implied : (held : List Clause) (s : Search) (l : Literal) (f : Fits held s) → l ∈ s.proved → Implied (clauses_of s.kept ++ f.others) [] l

@@ -25,7 +25,8 @@ satisfied_or_not a [] = inr (λ s. s.1)
 satisfied_or_not a (l ∷ c) =
     ⊎_elim
     (λ t. inl (l, inl refl, t))
-    (λ f. ⊎_elim (λ s. inl (s.0, inr s.1, s.2)) (λ n. inr (λ s. ⊎_elim (λ e. not_both a l (subst (λ y. value a y ≡ true) e s.2) f) (λ m. n (s.0, m, s.2)) s.1)) (satisfied_or_not a c))
+    (λ f. ⊎_elim (λ s. inl (s.0, inr s.1, s.2))
+    (λ n. inr (λ s. ⊎_elim (λ e. not_both a l (subst (λ y. value a y ≡ true) e s.2) f) (λ m. n (s.0, m, s.2)) s.1)) (satisfied_or_not a c))
     (true_or_opposite a l)
 
 pub follows_entails : (P : List Clause) (c : Clause) → Follows P c → Entails P c
@@ -35,7 +36,8 @@ follows_entails P c f a s =
 -- what is left was there
 pub takes_less : (Q : List Clause) (c : Clause) (R : List Clause) → TakesOut Q c R → R ⊆ Q
 takes_less Q c R (front, d, back, e, _, e') x m =
-    subst (λ l. x ∈ l) (sym e) (⊎_elim (λ k. ∈-append_left x front (d ∷ back) k) (λ k. ∈-append_right x front (d ∷ back) (inr k)) (∈-append_cases x front back (subst (λ l. x ∈ l) e' m)))
+    subst (λ l. x ∈ l) (sym e) (⊎_elim (λ k. ∈-append_left x front (d ∷ back) k) (λ k. ∈-append_right x front (d ∷ back) (inr k))
+    (∈-append_cases x front back (subst (λ l. x ∈ l) e' m)))
 
 -- what satisfies the clauses at the start satisfies those at the end
 pub derives_sound : (P : List Clause) (lines : List Line) (Q : List Clause) (a : Assignment) → Derives P lines Q → SatisfiesAll a P → SatisfiesAll a Q

@@ -13,7 +13,8 @@ by_derives n P (Add c ∷ lines) Q (f, inl (m, d)) = (f, by_derives n (P ++ c �
 by_derives n P (Add c ∷ lines) Q (f, inr (m, e, d)) = (f, by_derives m (P ++ c ∷ []) lines Q d)
 by_derives n P (Delete c ∷ lines) Q (R, t, d) = (R, t, by_derives n R lines Q d)
 
-pub by_append : (n m : ℕ) (P : List Clause) (lines : List Line) (Q : List Clause) (more : List Line) (R : List Clause) → DerivesBy n P lines Q → DerivesBy m Q more R → DerivesBy (n + m) P (lines ++ more) R
+pub by_append : (n m : ℕ) (P : List Clause) (lines : List Line) (Q : List Clause) (more : List Line) (R : List Clause) → DerivesBy n P lines Q →
+    DerivesBy m Q more R → DerivesBy (n + m) P (lines ++ more) R
 by_append n m P [] Q more R d e = let f = subst (λ S. DerivesBy m S more R) (sym d) e in by_more m n P more R f
   where
     by_more : (m k : ℕ) (P : List Clause) (lines : List Line) (Q : List Clause) → DerivesBy m P lines Q → DerivesBy (k + m) P lines Q
@@ -33,7 +34,8 @@ pub new_same : (P Q : List Clause) (c : Clause) → SameClauses P Q → IsNew P 
 new_same P Q c s n d h i = let (e, j, t) = same_clauses_find Q P (same_clauses-back P Q s) d h in n e j (λ x k. i x (t.0 x k))
 
 -- the same lines from the same clauses
-pub by_same : (n : ℕ) (P P' : List Clause) (lines : List Line) (Q : List Clause) → SameClauses P P' → DerivesBy n P lines Q → (Q' : List Clause) × DerivesBy n P' lines Q' × SameClauses Q Q'
+pub by_same : (n : ℕ) (P P' : List Clause) (lines : List Line) (Q : List Clause) → SameClauses P P' → DerivesBy n P lines Q → (Q' : List Clause)
+    × DerivesBy n P' lines Q' × SameClauses Q Q'
 by_same n P P' [] Q s d = (P', refl, subst (λ l. SameClauses l P') d s)
 by_same n P P' (Add c ∷ lines) Q s (f, inl (i, d)) =
     let (Q', p, v) = by_same n (P ++ c ∷ []) (P' ++ c ∷ []) lines Q (same_add P P' c c s (same_set-self c)) d in
@@ -46,7 +48,8 @@ by_same n P P' (Delete c ∷ lines) Q s (R, t, d) =
     let (Q', p, v) = by_same n R R' lines Q u d in
     (Q', (R', k, p), v)
 
-pub present_append : (P : List Clause) (lines : List Line) (Q : List Clause) (more : List Line) (R : List Clause) → Derives P lines Q → IsPresentAfter Q more R → IsPresentAfter P (lines ++ more) R
+pub present_append : (P : List Clause) (lines : List Line) (Q : List Clause) (more : List Line) (R : List Clause) → Derives P lines Q →
+    IsPresentAfter Q more R → IsPresentAfter P (lines ++ more) R
 present_append P [] Q more R d e = subst (λ S. IsPresentAfter S more R) (sym d) e
 present_append P (Add c ∷ lines) Q more R d e = present_append (P ++ c ∷ []) lines Q more R d.1 e
 present_append P (Delete c ∷ lines) Q more R d e = (d.0, d.1, present_append d.0 lines Q more R d.2 e)

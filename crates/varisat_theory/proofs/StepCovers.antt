@@ -20,7 +20,8 @@ module _ (t : Search) (to : Literal → Literal) (known : Literal → Bool) (kee
   covered_named c d w (inr (k, i, e, x)) = Kept k i e (λ l j. w l (x l j))
 
   -- where the search goes on to cover what it covers, so it does under other names
-  pub still_covered : (s : Search) → ((d : Clause) → IsCoveredIn s d → IsCoveredIn t d) → (c : Clause) → IsCoveredBySearch to known s c → IsCoveredBySearch to known t c
+  pub still_covered : (s : Search) → ((d : Clause) → IsCoveredIn s d → IsCoveredIn t d) → (c : Clause) → IsCoveredBySearch to known s c →
+      IsCoveredBySearch to known t c
   still_covered s g c (Tautology a) = Tautology a
   still_covered s g c (KnownTrue l i e) = KnownTrue l i e
   still_covered s g c (FixedTrue l i j) =
@@ -32,20 +33,29 @@ covers_one : (s : Search) (d : Clause) → IsCoveredIn s d → Covers (d ∷ [])
 covers_one s d h x (inl e) = subst (IsCoveredIn s) (sym e) h
 covers_one s d h x (inr z) = absurd z
 
-pub names_are_covered : (n : ℕ) (s t : Search) (lines : List Line) (to : Literal → Literal) (known : Literal → Bool) (P : List Clause) → KeepsOpposites to → Proves n s t lines → CoversBy to known P s → CoversBy to known P t
+pub names_are_covered : (n : ℕ) (s t : Search) (lines : List Line) (to : Literal → Literal) (known : Literal → Bool) (P : List Clause) →
+    KeepsOpposites to → Proves n s t lines → CoversBy to known P s → CoversBy to known P t
 names_are_covered n s t lines to known P keeps p v c h = still_covered t to known keeps s (λ d g. p.covers (d ∷ []) (covers_one s d g) d (inl refl)) c (v c h)
 
-pub names_stay_covered : (k : ℕ) (s t : Search) (lines : List Line) (to : Literal → Literal) (known : Literal → Bool) (P : List Clause) → KeepsOpposites to → MakesSteps k s t Unknown lines → CoversBy to known P s → CoversBy to known P t
+pub names_stay_covered : (k : ℕ) (s t : Search) (lines : List Line) (to : Literal → Literal) (known : Literal → Bool) (P : List Clause) →
+    KeepsOpposites to → MakesSteps k s t Unknown lines → CoversBy to known P s → CoversBy to known P t
 names_stay_covered k s t lines to known P keeps p v c h = still_covered t to known keeps s (λ d g. p.answers (d ∷ []) (covers_one s d g) d (inl refl)) c (v c h)
 
-pub names_are_loaded : (s t : Search) (c d : Clause) (lines : List Line) (to : Literal → Literal) (known : Literal → Bool) (P : List Clause) → KeepsOpposites to → Loads s t c Unknown lines → ((l : Literal) → l ∈ c → to l ∈ d) → CoversBy to known P s → CoversBy to known (P ++ d ∷ []) t
+pub names_are_loaded : (s t : Search) (c d : Clause) (lines : List Line) (to : Literal → Literal) (known : Literal → Bool) (P : List Clause) →
+    KeepsOpposites to → Loads s t c Unknown lines → ((l : Literal) → l ∈ c → to l ∈ d) → CoversBy to known P s → CoversBy to known (P ++ d ∷ []) t
 names_are_loaded s t c d lines to known P keeps p w v e h =
     ⊎_elim
     (λ i. still_covered t to known keeps s (λ x g. p.answers (x ∷ []) (covers_one s x g) x (inl refl)) e (v e i))
-    (elim [ inl y ↦ subst (IsCoveredBySearch to known t) (sym y) (covered_named t to known keeps d c w (p.answers [] (λ x z. absurd z) c (inl refl))) | inr z ↦ absurd z ])
+    (elim [
+      | inl y ↦ subst (IsCoveredBySearch to known t) (sym y)
+          (covered_named t to known keeps d c w (p.answers [] (λ x z. absurd z) c (inl refl)))
+      | inr z ↦ absurd z
+    ])
     (∈-append_cases e P (d ∷ []) h)
 
-pub dropped_are_covered : (s t : Search) (to : Literal → Literal) (known more : Literal → Bool) (P : List Clause) → t.kept ≡ s.kept → ((l : Literal) → l ∈ s.fixed → (l ∈ t.fixed) ⊎ (more (to l) ≡ true)) → ((l : Literal) → known l ≡ true → more l ≡ true) → CoversBy to known P s → CoversBy to more P t
+pub dropped_are_covered : (s t : Search) (to : Literal → Literal) (known more : Literal → Bool) (P : List Clause) → t.kept ≡ s.kept →
+    ((l : Literal) → l ∈ s.fixed → (l ∈ t.fixed) ⊎ (more (to l) ≡ true)) → ((l : Literal) → known l ≡ true → more l ≡ true) →
+    CoversBy to known P s → CoversBy to more P t
 dropped_are_covered s t to known more P e x m v c h = go (v c h)
   where
     go : IsCoveredBySearch to known s c → IsCoveredBySearch to more t c

@@ -17,7 +17,10 @@ none : (P : List Literal) → P ++ [] ≡ P
 none [] = refl
 none (x ∷ P) = ap (λ l. x ∷ l) (none P)
 
-pub units_are_proved : (s : Search) (ls : List Literal) → ((front back : List Literal) (l : Literal) → ls ≡ front ++ (l ∷ back) → (l ∈ s.fixed) × ((k : KeptClause) × (k ∈ s.kept) × (l ∈ k.clause) × LeavesOnly (s.proved ++ front) k.clause l)) → Proves 0 s (record s { proved = s.proved ++ ls }) (unit_lines ls)
+pub units_are_proved : (s : Search) (ls : List Literal) →
+    ((front back : List Literal) (l : Literal) → ls ≡ front ++ (l ∷ back) → (l ∈ s.fixed)
+    × ((k : KeptClause) × (k ∈ s.kept) × (l ∈ k.clause) × LeavesOnly (s.proved ++ front) k.clause l)) →
+    Proves 0 s (record s { proved = s.proved ++ ls }) (unit_lines ls)
 units_are_proved s [] f =
     subst (λ x. Proves 0 s (record s { proved = x }) []) (sym (none s.proved)) (no_part s)
 units_are_proved s (l ∷ ls) f =
@@ -32,7 +35,8 @@ units_are_proved s (l ∷ ls) f =
 
 mentioned : (v : ℕ) (c : Clause) (l : Literal) → l ∈ c → mentions v c ≡ false → variable_of l ≢ v
 mentioned v [] l h e = absurd h
-mentioned v (x ∷ c) l (inl q) e = λ g. let z : nat_eq (x / 2) v ≡ true = equal (x / 2) v (ap (λ y. y / 2) (sym q) ∙ g) in no_or (nat_eq (x / 2) v) (mentions v c) z e
+mentioned v (x ∷ c) l (inl q) e = λ g. let z : nat_eq (x / 2) v ≡ true = equal (x / 2) v (ap (λ y. y / 2) (sym q) ∙ g) in
+    no_or (nat_eq (x / 2) v) (mentions v c) z e
   where
     equal : (a b : ℕ) → a ≡ b → nat_eq a b ≡ true
     equal a b e = grind arith
@@ -69,15 +73,19 @@ without_free v (d ∷ P) c h = go (mentions v d) refl h (without_free v P c)
     go false e (inr i) f = f i
 
 -- kept clauses that don't mention the variable all stay
-kept_stay : (v : ℕ) (ks : List KeptClause) (O : List Clause) → ((k : KeptClause) → k ∈ ks → mentions v k.clause ≡ false) → without v (clauses_of ks ++ O) ≡ clauses_of ks ++ without v O
+kept_stay : (v : ℕ) (ks : List KeptClause) (O : List Clause) → ((k : KeptClause) → k ∈ ks → mentions v k.clause ≡ false) →
+    without v (clauses_of ks ++ O) ≡ clauses_of ks ++ without v O
 kept_stay v [] O f = refl
 kept_stay v (k ∷ ks) O f =
     ap (λ b. unless b k.clause (without v (clauses_of ks ++ O))) (f k (inl refl)) ∙ ap (λ l. k.clause ∷ l) (kept_stay v ks O (λ j h. f j (inr h)))
 
-pub variable_is_dropped : (s t : Search) (v : ℕ) (held : List Clause) → t.kept ≡ s.kept → ((k : KeptClause) → k ∈ s.kept → mentions v k.clause ≡ false) → ((l : Literal) → l ∈ s.fixed → variable_of l ≢ v → l ∈ t.fixed) → ((l : Literal) → l ∈ t.proved → (l ∈ s.proved) × (variable_of l ≢ v)) → Fits held s → Fits (without v held) t
+pub variable_is_dropped : (s t : Search) (v : ℕ) (held : List Clause) → t.kept ≡ s.kept →
+    ((k : KeptClause) → k ∈ s.kept → mentions v k.clause ≡ false) → ((l : Literal) → l ∈ s.fixed → variable_of l ≢ v → l ∈ t.fixed) →
+    ((l : Literal) → l ∈ t.proved → (l ∈ s.proved) × (variable_of l ≢ v)) → Fits held s → Fits (without v held) t
 variable_is_dropped s t v held e g x p f = record {
   others = without v f.others;
-  same = subst (λ ks. SameClauses (without v held) (clauses_of ks ++ without v f.others)) (sym e) (subst (SameClauses (without v held)) (kept_stay v s.kept f.others g) (same_without v held (clauses_of s.kept ++ f.others) f.same));
+  same = subst (λ ks. SameClauses (without v held) (clauses_of ks ++ without v f.others)) (sym e)
+      (subst (SameClauses (without v held)) (kept_stay v s.kept f.others g) (same_without v held (clauses_of s.kept ++ f.others) f.same));
   settled = λ c h. stays c (without_free v f.others c h) (f.settled c (without_less v f.others c h));
   units = λ l h.
       let (i, n) = p l h in

@@ -30,12 +30,14 @@ fresh_is_new s c n held f d h w =
     (∈-append_cases e (clauses_of s.kept) f.others i)
 
 -- a clause is kept in addition
-pub fits_kept : (s : Search) (held : List Clause) (c : Clause) (k : KeptClause) → SameSet k.clause c → Fits held s → Fits (held ++ c ∷ []) (record s { kept = s.kept ++ k ∷ [] })
+pub fits_kept : (s : Search) (held : List Clause) (c : Clause) (k : KeptClause) → SameSet k.clause c → Fits held s →
+    Fits (held ++ c ∷ []) (record s { kept = s.kept ++ k ∷ [] })
 fits_kept s held c k q f = record {
   others = f.others;
   same = same_clauses-through (held ++ c ∷ []) (plain held s f ++ c ∷ []) (clauses_of (s.kept ++ k ∷ []) ++ f.others)
       (same_add held (plain held s f) c c f.same (same_set-self c))
-      (subst (λ x. SameClauses (plain held s f ++ c ∷ []) (x ++ f.others)) (sym (clauses_last s.kept k)) (same_between (clauses_of s.kept) f.others c k.clause (same_set-back k.clause c q)));
+      (subst (λ x. SameClauses (plain held s f ++ c ∷ []) (x ++ f.others)) (sym (clauses_last s.kept k))
+      (same_between (clauses_of s.kept) f.others c k.clause (same_set-back k.clause c q)));
   settled = f.settled;
   units = f.units;
 }
@@ -47,7 +49,8 @@ covers_kept s k P v d h = ⊎_elim (λ a. inl a) (λ (j, i, e, w). inr (j, ∈-a
 pub fits_settled : (s : Search) (held : List Clause) (c : Clause) → IsSettled s c → Fits held s → Fits (held ++ c ∷ []) s
 fits_settled s held c a f = record {
   others = f.others ++ c ∷ [];
-  same = subst (SameClauses (held ++ c ∷ [])) (append_assoc (clauses_of s.kept) f.others (c ∷ [])) (same_add held (plain held s f) c c f.same (same_set-self c));
+  same = subst (SameClauses (held ++ c ∷ [])) (append_assoc (clauses_of s.kept) f.others (c ∷ []))
+      (same_add held (plain held s f) c c f.same (same_set-self c));
   settled = more_settled s f.others c f.settled a;
   units = λ l h. let (d, i, u) = f.units l h in (d, ∈-append_left d f.others (c ∷ []) i, u);
 }
@@ -61,8 +64,10 @@ fits_unit s held c l u f =
     let more : s.fixed ⊆ (s.fixed ++ l ∷ []) = λ x h. ∈-append_left x s.fixed (l ∷ []) h in
     record {
       others = f.others ++ c ∷ [];
-      same = subst (SameClauses (held ++ c ∷ [])) (append_assoc (clauses_of s.kept) f.others (c ∷ [])) (same_add held (plain held s f) c c f.same (same_set-self c));
-      settled = more_settled (with_unit s l) f.others c (λ d h. settled_more s (with_unit s l) d more (f.settled d h)) (inr (l, u.0, ∈-append_right l s.fixed (l ∷ []) (inl refl)));
+      same = subst (SameClauses (held ++ c ∷ [])) (append_assoc (clauses_of s.kept) f.others (c ∷ []))
+          (same_add held (plain held s f) c c f.same (same_set-self c));
+      settled = more_settled (with_unit s l) f.others c (λ d h. settled_more s (with_unit s l) d more (f.settled d h))
+          (inr (l, u.0, ∈-append_right l s.fixed (l ∷ []) (inl refl)));
       units = more_units s (with_unit s l) f.others c l u refl f.units;
     }
 
@@ -73,7 +78,8 @@ covers_unit s l P v d h =
 new_line : (held : List Clause) (c : Clause) → IsNew held c → AddsNew held (Add c ∷ [])
 new_line held c n = ([], record { clause = c; back = []; present = held; split = refl; is_present = refl; is_new = n })
 
-pub learned_kept : (s : Search) (c : Clause) (k : KeptClause) → SameSet k.clause c → FollowsFrom s c → IsNewTo s c → ((l : Literal) → l ∈ c → IsLiteralOf s l) → Steps s (record s { kept = s.kept ++ k ∷ [] }) Unknown (Add c ∷ [])
+pub learned_kept : (s : Search) (c : Clause) (k : KeptClause) → SameSet k.clause c → FollowsFrom s c → IsNewTo s c →
+    ((l : Literal) → l ∈ c → IsLiteralOf s l) → Steps s (record s { kept = s.kept ++ k ∷ [] }) Unknown (Add c ∷ [])
 learned_kept s c k q g n w = record {
   holds = λ held f.
       (held ++ c ∷ [], (g held f, inr (0, refl, refl)), fits_kept s held c k q f, λ e. new_line held c (n held f));
@@ -82,7 +88,8 @@ learned_kept s c k q g n w = record {
   within = λ u. kept_within s (IsLiteralOf s) k (λ l h. h) (λ l h. w l (q.0 l h));
 }
 
-pub learned_unit : (s : Search) (c : Clause) (l : Literal) → IsUnit l c → FollowsFrom s c → IsNewTo s c → ((m : Literal) → m ∈ c → IsLiteralOf s m) → Steps s (record s { fixed = s.fixed ++ l ∷ []; proved = s.proved ++ l ∷ [] }) Unknown (Add c ∷ [])
+pub learned_unit : (s : Search) (c : Clause) (l : Literal) → IsUnit l c → FollowsFrom s c → IsNewTo s c →
+    ((m : Literal) → m ∈ c → IsLiteralOf s m) → Steps s (record s { fixed = s.fixed ++ l ∷ []; proved = s.proved ++ l ∷ [] }) Unknown (Add c ∷ [])
 learned_unit s c l u g n w = record {
   holds = λ held f.
       (held ++ c ∷ [], (g held f, inl (inl (l, u), refl)), fits_unit s held c l u f, λ e. new_line held c (n held f));
@@ -94,8 +101,14 @@ learned_unit s c l u g n w = record {
 pub empty_is_added : (s t : Search) (k : KeptClause) → k ∈ s.kept → IsFalse s.proved k.clause → Steps s t Unsat (Add [] ∷ [])
 empty_is_added s t k h z = record {
   holds = λ held f.
-      let now : Conflicts held [] = conflicts_same (plain held s f) held [] (same_clauses-back held (plain held s f) f.same) (implied_false (plain held s f) [] k.clause (in_plain s held f k h) (λ m i. proved_implied held s (opposite m) f (z m i))) in
-      (held ++ [] ∷ [], (now, inr (0, refl, refl)), FalseClause [] (∈-append_right [] held ([] ∷ []) (inl refl)) (λ m i. absurd i), λ e. absurd (let y : Unsat ≡ Unknown = e in cc));
+      let now : Conflicts held [] = conflicts_same (plain held s f) held [] (same_clauses-back held (plain held s f) f.same)
+      (implied_false (plain held s f) [] k.clause (in_plain s held f k h) (λ m i. proved_implied held s (opposite m) f (z m i))) in (
+        held ++ [] ∷ [],
+        (now, inr (0, refl, refl)),
+        FalseClause [] (∈-append_right [] held ([] ∷ []) (inl refl))
+            (λ m i. absurd i),
+        λ e. absurd (let y : Unsat ≡ Unknown = e in cc),
+      );
   answers = λ P v. tt;
   speaks = (λ l h. absurd h, tt);
   within = λ u. absurd (u refl);
@@ -104,16 +117,29 @@ empty_is_added s t k h z = record {
 -- the empty clause follows, and is added or not
 pub contradiction_is_found : (s t : Search) → FollowsFrom s [] → Steps s t Unsat [] × Steps s t Unsat (Add [] ∷ [])
 contradiction_is_found s t g = (
-  record { holds = λ held f. (held, refl, g held f, λ e. absurd (let y : Unsat ≡ Unknown = e in cc)); answers = λ P v. tt; speaks = tt; within = λ u. absurd (u refl) },
   record {
-    holds = λ held f. (held ++ [] ∷ [], (g held f, inr (0, refl, refl)), FalseClause [] (∈-append_right [] held ([] ∷ []) (inl refl)) (λ m i. absurd i), λ e. absurd (let y : Unsat ≡ Unknown = e in cc));
+    holds = λ held f. (held, refl, g held f, λ e. absurd (let y : Unsat ≡ Unknown = e in cc));
+    answers = λ P v. tt;
+    speaks = tt;
+    within =
+        λ u. absurd (u refl);
+  },
+  record {
+    holds = λ held f. (
+      held ++ [] ∷ [],
+      (g held f, inr (0, refl, refl)),
+      FalseClause [] (∈-append_right [] held ([] ∷ []) (inl refl))
+          (λ m i. absurd i),
+      λ e. absurd (let y : Unsat ≡ Unknown = e in cc),
+    );
     answers = λ P v. tt;
     speaks = (λ l h. absurd h, tt);
     within = λ u. absurd (u refl);
   },
 )
 
-pub model_satisfies : (s : Search) (known : List Literal) (a : Assignment) (P : List Clause) → IsSolution s known → MakesTrue a known → Covers P s → SatisfiesAll a P
+pub model_satisfies : (s : Search) (known : List Literal) (a : Assignment) (P : List Clause) → IsSolution s known → MakesTrue a known → Covers P s →
+    SatisfiesAll a P
 model_satisfies s known a P (x, n, y) m v c h =
     ⊎_elim
     (λ w. ⊎_elim (λ (l, i, j). tautology_satisfied a c l i j) (λ (l, i, j). (l, i, m l (x l j))) w)

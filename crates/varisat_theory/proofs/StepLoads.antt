@@ -17,11 +17,14 @@ use Rattle.varisat_theory.proofs.StepStands.{unknown_is_open}
 use Rattle.varisat_theory.proofs.StepEnds.{fits_kept, covers_kept, fits_settled, with_unit, fits_unit, covers_unit}
 
 -- one more clause is covered
-one_more : (s : Search) (P : List Clause) (c : Clause) → Covers P s → IsSettled s c ⊎ ((k : KeptClause) × (k ∈ s.kept) × (k.learned ≡ false) × (k.clause ⊆ c)) → Covers (P ++ c ∷ []) s
+one_more : (s : Search) (P : List Clause) (c : Clause) → Covers P s → IsSettled s c
+    ⊎ ((k : KeptClause) × (k ∈ s.kept) × (k.learned ≡ false) × (k.clause ⊆ c)) → Covers (P ++ c ∷ []) s
 one_more s P c v w d h =
-    ⊎_elim (v d) (λ i. ⊎_elim (λ e. subst (λ x. IsSettled s x ⊎ ((k : KeptClause) × (k ∈ s.kept) × (k.learned ≡ false) × (k.clause ⊆ x))) (sym e) w) (λ z. absurd z) i) (∈-append_cases d P (c ∷ []) h)
+    ⊎_elim (v d) (λ i. ⊎_elim (λ e. subst (λ x. IsSettled s x ⊎ ((k : KeptClause) × (k ∈ s.kept) × (k.learned ≡ false) × (k.clause ⊆ x))) (sym e) w)
+    (λ z. absurd z) i) (∈-append_cases d P (c ∷ []) h)
 
-pub loaded_is_kept : (s : Search) (c : Clause) (k : KeptClause) → SameSet k.clause c → k.learned ≡ false → (IsContradicted s c → ⊥) → Loads s (record s { kept = s.kept ++ k ∷ [] }) c Unknown []
+pub loaded_is_kept : (s : Search) (c : Clause) (k : KeptClause) → SameSet k.clause c → k.learned ≡ false → (IsContradicted s c → ⊥) →
+    Loads s (record s { kept = s.kept ++ k ∷ [] }) c Unknown []
 loaded_is_kept s c k q e n = record {
   holds = λ held f. (held ++ c ∷ [], refl, fits_kept s held c k q f);
   answers = λ P v.
@@ -32,11 +35,16 @@ loaded_is_kept s c k q e n = record {
   within = λ y. kept_within s (IsLiteralOfEither s c) k (λ l h. inl h) (λ l h. inr (q.0 l h));
 }
 
-pub loaded_is_unit : (s : Search) (c : Clause) (l : Literal) → IsUnit l c → (opposite l ∈ s.fixed → ⊥) → Loads s (record s { fixed = s.fixed ++ l ∷ []; proved = s.proved ++ l ∷ [] }) c Unknown []
+pub loaded_is_unit : (s : Search) (c : Clause) (l : Literal) → IsUnit l c → (opposite l ∈ s.fixed → ⊥) →
+    Loads s (record s { fixed = s.fixed ++ l ∷ []; proved = s.proved ++ l ∷ [] }) c Unknown []
 loaded_is_unit s c l u n = record {
   holds = λ held f. (held ++ c ∷ [], refl, fits_unit s held c l u f);
   answers = λ P v. one_more (with_unit s l) P c (covers_unit s l P v) (inl (inr (l, u.0, ∈-append_right l s.fixed (l ∷ []) (inl refl))));
-  verdict = inr (λ w. ⊎_elim (λ e. let z : l ∈ [] = subst (λ x. l ∈ x) e u.0 in absurd z) (λ (m, v, o). n (subst (λ x. opposite x ∈ s.fixed) (u.1 m v.0) o)) w, refl);
+  verdict = inr (
+    λ w. ⊎_elim (λ e. let z : l ∈ [] = subst (λ x. l ∈ x) e u.0 in absurd z)
+        (λ (m, v, o). n (subst (λ x. opposite x ∈ s.fixed) (u.1 m v.0) o)) w,
+    refl,
+  );
   speaks = tt;
   within = λ y. unit_within s (IsLiteralOfEither s c) l (λ m h. inl h) (inr u.0);
 }
@@ -66,7 +74,8 @@ loaded_is_deleted s c d a n q = record {
 pub loaded_is_contradicted : (s t : Search) (c : Clause) → IsGrounded s → IsContradicted s c → Loads s t c Unsat []
 loaded_is_contradicted s t c r w = record {
   holds = λ held f.
-      let fixed : (l : Literal) → l ∈ s.fixed → Implied (held ++ c ∷ []) [] l = λ l h. implied_more held (held ++ c ∷ []) [] [] l (λ x i. ∈-append_left x held (c ∷ []) i) (λ x i. i) (r held f l h) in
+      let fixed : (l : Literal) → l ∈ s.fixed → Implied (held ++ c ∷ []) [] l =
+      λ l h. implied_more held (held ++ c ∷ []) [] [] l (λ x i. ∈-append_left x held (c ∷ []) i) (λ x i. i) (r held f l h) in
       (held ++ c ∷ [], refl, implied_false (held ++ c ∷ []) [] c (∈-append_right c held (c ∷ []) (inl refl)) (λ m i. fixed (opposite m) (opposed m i w)));
   answers = λ P v. tt;
   verdict = inl (w, refl);
@@ -79,7 +88,8 @@ loaded_is_contradicted s t c r w = record {
     opposed m i (inr (l, u, o)) = subst (λ x. opposite x ∈ s.fixed) (sym (u.1 m i)) o
 
 -- what moves without a line may do so before and after
-pub part_load : (s t u : Search) (c : Clause) (v : Outcome) (lines : List Line) → Proves 0 s t [] → s.fixed ⊆ t.fixed → t.fixed ⊆ s.fixed → Loads t u c v lines → Loads s u c v lines
+pub part_load : (s t u : Search) (c : Clause) (v : Outcome) (lines : List Line) → Proves 0 s t [] → s.fixed ⊆ t.fixed → t.fixed ⊆ s.fixed →
+    Loads t u c v lines → Loads s u c v lines
 part_load s t u c v lines p x y q = record {
   holds = λ held f.
       let (mid, e, g) = p.holds held f in

@@ -16,8 +16,13 @@ pub part_step : (s t u : Search) (v : Outcome) (first second : List Line) → Pr
 part_step s t u v first second p q = record {
   holds = λ held f.
       let (mid, d, g) = p.holds held f in
-      let (after, e, h, n) = q.holds mid g in
-      (after, by_append 0 1 held first mid second after d e, h, λ y. let (front, m) = n y in (first ++ front, new_after held first mid front second (by_derives 0 held first mid d) m));
+      let (after, e, h, n) = q.holds mid g in (
+        after,
+        by_append 0 1 held first mid second after d e,
+        h,
+        λ y. let (front, m) = n y in
+            (first ++ front, new_after held first mid front second (by_derives 0 held first mid d) m),
+      );
   answers = λ P c. q.answers P (p.covers P c);
   speaks = spoken_after (IsLiteralOf t) (IsLiteralOf s) first second p.within p.speaks q.speaks;
   within = λ n l h. p.within l (q.within n l h);
@@ -71,19 +76,22 @@ pub step_adds : (s t : Search) (lines : List Line) (held : List Clause) → Step
 step_adds s t lines held p f = adds_one held lines ((p.holds held f).3 refl)
 
 -- what lines lead to stands for the same accepted clauses
-pub stands_after : (n : ℕ) (P held after : List Clause) (s t : Search) (v : Outcome) (lines : List Line) → Stands P held s Unknown → DerivesBy n held lines after → Holds after t v → Answers P t v → Stands P after t v
+pub stands_after : (n : ℕ) (P held after : List Clause) (s t : Search) (v : Outcome) (lines : List Line) → Stands P held s Unknown →
+    DerivesBy n held lines after → Holds after t v → Answers P t v → Stands P after t v
 stands_after n P held after s t v lines w d h a = record {
   implied = λ x m. derives_sound held lines after x (by_derives n held lines after d) (w.implied x m);
   holds = h;
   answers = a;
 }
 
-pub step_stands : (P held : List Clause) (s t : Search) (v : Outcome) (lines : List Line) → Stands P held s Unknown → Steps s t v lines → (after : List Clause) × DerivesBy 1 held lines after × Stands P after t v × (v ≡ Unknown → 1 ≤ added lines)
+pub step_stands : (P held : List Clause) (s t : Search) (v : Outcome) (lines : List Line) → Stands P held s Unknown → Steps s t v lines →
+    (after : List Clause) × DerivesBy 1 held lines after × Stands P after t v × (v ≡ Unknown → 1 ≤ added lines)
 step_stands P held s t v lines w p =
     let (after, d, h, n) = p.holds held w.holds in
     (after, d, stands_after 1 P held after s t v lines w d h (p.answers P w.answers), λ e. adds_one held lines (n e))
 
-pub part_stands : (n : ℕ) (P held : List Clause) (s t : Search) (lines : List Line) → Stands P held s Unknown → Proves n s t lines → (after : List Clause) × DerivesBy n held lines after × Stands P after t Unknown
+pub part_stands : (n : ℕ) (P held : List Clause) (s t : Search) (lines : List Line) → Stands P held s Unknown → Proves n s t lines →
+    (after : List Clause) × DerivesBy n held lines after × Stands P after t Unknown
 part_stands n P held s t lines w p =
     let (after, d, h) = p.holds held w.holds in
     (after, d, stands_after n P held after s t Unknown lines w d h (p.covers P w.answers))
@@ -100,11 +108,13 @@ open_covers P s (Sat a) n h = h.0
 open_covers P s Unsat n h = absurd (n refl)
 open_covers P s (UnsatUnder core) n h = h
 
-implied_more : (P held : List Clause) (c : Clause) → ((a : Assignment) → SatisfiesAll a P → SatisfiesAll a held) → (a : Assignment) → SatisfiesAll a (P ++ c ∷ []) → SatisfiesAll a (held ++ c ∷ [])
+implied_more : (P held : List Clause) (c : Clause) → ((a : Assignment) → SatisfiesAll a P → SatisfiesAll a held) → (a : Assignment) →
+    SatisfiesAll a (P ++ c ∷ []) → SatisfiesAll a (held ++ c ∷ [])
 implied_more P held c g a m =
     satisfies_more a held c (g a (satisfies_fewer a P (c ∷ []) m)) (m c (∈-append_right c P (c ∷ []) (inl refl)))
 
-pub load_stands : (P held : List Clause) (s t : Search) (c : Clause) (v w : Outcome) (lines : List Line) → Stands P held s v → v ≢ Unsat → Loads s t c w lines → (after : List Clause) × DerivesBy 0 (held ++ c ∷ []) lines after × Stands (P ++ c ∷ []) after t w
+pub load_stands : (P held : List Clause) (s t : Search) (c : Clause) (v w : Outcome) (lines : List Line) → Stands P held s v → v ≢ Unsat →
+    Loads s t c w lines → (after : List Clause) × DerivesBy 0 (held ++ c ∷ []) lines after × Stands (P ++ c ∷ []) after t w
 load_stands P held s t c v w lines x n p =
     let (after, d, h) = p.holds held (open_fits held s v n x.holds) in (
       after,
@@ -116,7 +126,10 @@ load_stands P held s t c v w lines x n p =
       },
     )
 
-pub verdicts_are_right : ((P held : List Clause) (s : Search) (a : Assignment) → Stands P held s (Sat a) → SatisfiesAll a P) × ((P held : List Clause) (s : Search) → Stands P held s Unsat → IsSatisfiable P → ⊥) × ((P held : List Clause) (s : Search) (core : List Literal) → Stands P held s (UnsatUnder core) → IsSatisfiableWith P core → ⊥) × ((P held : List Clause) (s : Search) (c : Clause) → Stands P held s Unsat → Stands (P ++ c ∷ []) (held ++ c ∷ []) s Unsat)
+pub verdicts_are_right : ((P held : List Clause) (s : Search) (a : Assignment) → Stands P held s (Sat a) → SatisfiesAll a P)
+    × ((P held : List Clause) (s : Search) → Stands P held s Unsat → IsSatisfiable P → ⊥)
+    × ((P held : List Clause) (s : Search) (core : List Literal) → Stands P held s (UnsatUnder core) → IsSatisfiableWith P core → ⊥)
+    × ((P held : List Clause) (s : Search) (c : Clause) → Stands P held s Unsat → Stands (P ++ c ∷ []) (held ++ c ∷ []) s Unsat)
 verdicts_are_right = (
   λ P held s a w. w.answers.1,
   λ P held s w (a, m). conflicts_sound held [] a (w.implied a m) (λ l h. absurd h) w.holds,

@@ -40,7 +40,8 @@ many_and_one k P lines Q more d m (front, n) =
 pub none_made : (s : Search) → MakesSteps 0 s s Unknown []
 none_made s = record { holds = λ held f. (held, refl, f); answers = λ P c. c; adds = λ held f e. tt; speaks = tt; within = λ n l h. h }
 
-pub one_more_made : (k : ℕ) (s t u : Search) (v : Outcome) (first second : List Line) → MakesSteps k s t Unknown first → Steps t u v second → MakesSteps (suc k) s u v (first ++ second)
+pub one_more_made : (k : ℕ) (s t u : Search) (v : Outcome) (first second : List Line) → MakesSteps k s t Unknown first → Steps t u v second →
+    MakesSteps (suc k) s u v (first ++ second)
 one_more_made k s t u v first second p q = record {
   holds = λ held f.
       let (mid, d, g) = p.holds held f in
@@ -56,12 +57,14 @@ one_more_made k s t u v first second p q = record {
   within = λ n l h. p.within unknown_is_open l (q.within n l h);
 }
 
-pub steps_of_call : (k : ℕ) (s : ℕ → Search) (lines : ℕ → List Line) → ((i : ℕ) → i < k → Steps (s i) (s (suc i)) Unknown (lines i)) → MakesSteps k (s 0) (s k) Unknown (joined k lines)
+pub steps_of_call : (k : ℕ) (s : ℕ → Search) (lines : ℕ → List Line) → ((i : ℕ) → i < k → Steps (s i) (s (suc i)) Unknown (lines i)) →
+    MakesSteps k (s 0) (s k) Unknown (joined k lines)
 steps_of_call zero s lines g = none_made (s 0)
 steps_of_call (suc k) s lines g =
     one_more_made k (s 0) (s k) (s (suc k)) Unknown (joined k lines) (lines k) (steps_of_call k s lines (λ i h. g i (omega (arith, h)))) (g k (omega arith))
 
-pub part_before_made : (k : ℕ) (s t u : Search) (v : Outcome) (first second : List Line) → Proves 0 s t first → MakesSteps k t u v second → MakesSteps k s u v (first ++ second)
+pub part_before_made : (k : ℕ) (s t u : Search) (v : Outcome) (first second : List Line) → Proves 0 s t first → MakesSteps k t u v second →
+    MakesSteps k s u v (first ++ second)
 part_before_made k s t u v first second p q = record {
   holds = λ held f.
       let (mid, d, g) = p.holds held f in
@@ -77,13 +80,16 @@ part_before_made k s t u v first second p q = record {
 }
 
 -- the lines of a part after lines that may leave a search behind
-after_made : (k : ℕ) (held : List Clause) (t u : Search) (first second : List Line) → ((mid : List Clause) × DerivesBy k held first mid × Fits mid t) → Proves 0 t u second → (after : List Clause) × DerivesBy k held (first ++ second) after × Fits after u
+after_made : (k : ℕ) (held : List Clause) (t u : Search) (first second : List Line) →
+    ((mid : List Clause) × DerivesBy k held first mid × Fits mid t) → Proves 0 t u second → (after : List Clause)
+    × DerivesBy k held (first ++ second) after × Fits after u
 after_made k held t u first second (mid, d, g) q =
     let (after, e, h) = q.holds mid g in
     let sum : k + 0 ≡ k = omega arith in
     (after, subst (λ m. DerivesBy m held (first ++ second) after) sum (by_append k 0 held first mid second after d e), h)
 
-pub part_after_made : (k : ℕ) (s t u : Search) (first second : List Line) → MakesSteps k s t Unknown first → Proves 0 t u second → MakesSteps k s u Unknown (first ++ second)
+pub part_after_made : (k : ℕ) (s t u : Search) (first second : List Line) → MakesSteps k s t Unknown first → Proves 0 t u second →
+    MakesSteps k s u Unknown (first ++ second)
 part_after_made k s t u first second p q = record {
   holds = λ held f. after_made k held t u first second (p.holds held f) q;
   answers = λ P c. q.covers P (p.answers P c);
@@ -104,7 +110,8 @@ not_unknown found e = subst IsFound e tt
 found_is_open : (found : Assignment) → Sat found ≡ Unsat → ⊥
 found_is_open found e = absurd (let y : Sat found ≡ Unsat = e in cc)
 
-pub part_after_found : (k : ℕ) (s t u : Search) (found : Assignment) (first second : List Line) → MakesSteps k s t (Sat found) first → Proves 0 t u second → MakesSteps k s u (Sat found) (first ++ second)
+pub part_after_found : (k : ℕ) (s t u : Search) (found : Assignment) (first second : List Line) → MakesSteps k s t (Sat found) first →
+    Proves 0 t u second → MakesSteps k s u (Sat found) (first ++ second)
 part_after_found k s t u found first second p q = record {
   holds = λ held f. after_made k held t u first second (p.holds held f) q;
   answers = λ P c. let (a, m) = p.answers P c in (q.covers P a, m);
@@ -113,7 +120,8 @@ part_after_found k s t u found first second p q = record {
   within = λ n l h. p.within (found_is_open found) l (q.within l h);
 }
 
-pub steps_stand : (k : ℕ) (P held : List Clause) (s t : Search) (v : Outcome) (lines : List Line) → Stands P held s Unknown → MakesSteps k s t v lines → (after : List Clause) × DerivesBy k held lines after × Stands P after t v × (v ≡ Unknown → AddsManyNew k held lines)
+pub steps_stand : (k : ℕ) (P held : List Clause) (s t : Search) (v : Outcome) (lines : List Line) → Stands P held s Unknown →
+    MakesSteps k s t v lines → (after : List Clause) × DerivesBy k held lines after × Stands P after t v × (v ≡ Unknown → AddsManyNew k held lines)
 steps_stand k P held s t v lines w p =
     let (after, d, h) = p.holds held w.holds in
     (after, d, stands_after k P held after s t v lines w d h (p.answers P w.answers), p.adds held w.holds)
@@ -124,10 +132,12 @@ steps_refute k held s t lines f p =
     refutes_from held lines (lines, [], after, sym (append-nil lines), by_derives k held lines after d, h)
 
 -- a clause that names one which the assignment satisfies is satisfied under the other names
-module _ (s : Search) (found a : Assignment) (to : Literal → Literal) (satisfied : (P : List Clause) → Covers P s → SatisfiesAll found P) (agrees : (l : Literal) → IsLiteralOf s l → value a (to l) ≡ value found l) where
+module _ (s : Search) (found a : Assignment) (to : Literal → Literal) (satisfied : (P : List Clause) → Covers P s → SatisfiesAll found P)
+    (agrees : (l : Literal) → IsLiteralOf s l → value a (to l) ≡ value found l) where
   fixed_named : (c : Clause) (l : Literal) → l ∈ s.fixed → to l ∈ c → Satisfies a c
   fixed_named c l i j =
-      let (m, e, y) = satisfied ((l ∷ []) ∷ []) (λ d. elim [ inl e ↦ inl (inr (l, subst (λ x. l ∈ x) (sym e) (inl refl), i)) | inr z ↦ absurd z ]) (l ∷ []) (inl refl) in
+      let (m, e, y) = satisfied ((l ∷ []) ∷ []) (λ d. elim [ inl e ↦ inl (inr (l, subst (λ x. l ∈ x) (sym e) (inl refl), i)) | inr z ↦ absurd z ])
+      (l ∷ []) (inl refl) in
       (to l, j, agrees l (inl i) ∙ ap (value found) (only m e) ∙ y)
     where
       only : (m : Literal) → m ∈ (l ∷ []) → l ≡ m
@@ -136,7 +146,8 @@ module _ (s : Search) (found a : Assignment) (to : Literal → Literal) (satisfi
 
   kept_named : (c : Clause) (k : KeptClause) → k ∈ s.kept → k.learned ≡ false → ((l : Literal) → l ∈ k.clause → to l ∈ c) → Satisfies a c
   kept_named c k i n w =
-      let (m, j, y) = satisfied (k.clause ∷ []) (λ d. elim [ inl e ↦ inr (k, i, n, λ x h. subst (λ y. x ∈ y) (sym e) h) | inr z ↦ absurd z ]) k.clause (inl refl) in
+      let (m, j, y) = satisfied (k.clause ∷ []) (λ d. elim [ inl e ↦ inr (k, i, n, λ x h. subst (λ y. x ∈ y) (sym e) h) | inr z ↦ absurd z ])
+      k.clause (inl refl) in
       (to m, w m j, agrees m (inr (k, i, j)) ∙ y)
 
   named : (known : Literal → Bool) → ((l : Literal) → known l ≡ true → value a l ≡ true) → (c : Clause) → IsCoveredBySearch to known s c → Satisfies a c
@@ -145,6 +156,8 @@ module _ (s : Search) (found a : Assignment) (to : Literal → Literal) (satisfi
   named known r c (FixedTrue l i j) = fixed_named c l i j
   named known r c (Kept k i n w) = kept_named c k i n w
 
-pub names_satisfied : (k : ℕ) (s t : Search) (found a : Assignment) (lines : List Line) (to : Literal → Literal) (known : Literal → Bool) (P : List Clause) → MakesSteps k s t (Sat found) lines → CoversBy to known P s → ((l : Literal) → IsLiteralOf s l → value a (to l) ≡ value found l) → ((l : Literal) → known l ≡ true → value a l ≡ true) → SatisfiesAll a P
+pub names_satisfied : (k : ℕ) (s t : Search) (found a : Assignment) (lines : List Line) (to : Literal → Literal) (known : Literal → Bool)
+    (P : List Clause) → MakesSteps k s t (Sat found) lines → CoversBy to known P s →
+    ((l : Literal) → IsLiteralOf s l → value a (to l) ≡ value found l) → ((l : Literal) → known l ≡ true → value a l ≡ true) → SatisfiesAll a P
 names_satisfied k s t found a lines to known P p v agrees r c h =
     named s found a to (λ Q w. (p.answers Q w).1) agrees known r c (v c h)

@@ -41,6 +41,7 @@ module _ {Q : Type 0} (breaks : Q → List Entry → ℕ → Q → Type 0) where
   pub breaks-not : ((x : Q) → breaks x [] 0 x) → (x : Q) → BreaksOff breaks x 0 x
   breaks-not none x = ([], none x)
 
-  pub error-broken : {X : Type 0} (x y : Q) (r : Result X TraceError) (e : TraceError) → IsErr r × IsErrAnd r (λ z. z ≡ e) → BreaksOff breaks x (faults_of e) y →
+  pub error-broken : {X : Type 0} (x y : Q) (r : Result X TraceError) (e : TraceError) → IsErr r × IsErrAnd r (λ z. z ≡ e) →
+      BreaksOff breaks x (faults_of e) y →
       IfErr r (λ z. BreaksOff breaks x (faults_of z) y)
   error-broken x y r e h b = passed-on r e (λ z. BreaksOff breaks x (faults_of z) y) h b

@@ -8,7 +8,8 @@ units-append : (ls ms : List ℕ) → unit_lines (ls ++ ms) ≡ unit_lines ls ++
 units-append [] ms = refl
 units-append (l ∷ ls) ms = ap (λ xs. Add (l ∷ []) ∷ xs) (units-append ls ms)
 
-pub units-next : (x y z : List Line) (ls : List ℕ) (k l : ℕ) → k < length ls → l ≡ get_or ls k l → y ≡ x ++ unit_lines (take k ls) → z ≡ y ++ Add (l ∷ []) ∷ [] → z ≡ x ++ unit_lines (take (k + 1) ls)
+pub units-next : (x y z : List Line) (ls : List ℕ) (k l : ℕ) → k < length ls → l ≡ get_or ls k l → y ≡ x ++ unit_lines (take k ls) →
+    z ≡ y ++ Add (l ∷ []) ∷ [] → z ≡ x ++ unit_lines (take (k + 1) ls)
 units-next x y z ls k l h i e f =
     f ∙ ap (λ u. u ++ Add (l ∷ []) ∷ []) e ∙ append_assoc x (unit_lines (take k ls)) (Add (l ∷ []) ∷ [])
     ∙ ap (λ u. x ++ u) (sym (units-append (take k ls) (l ∷ [])) ∙ ap unit_lines (sym (taken-one ls k l h i)))

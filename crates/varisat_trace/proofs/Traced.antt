@@ -23,16 +23,21 @@ lines-lead P (Add c ∷ lines) Q (f, d) = (P ++ c ∷ [], (f, refl), lines-lead 
 lines-lead P (Delete c ∷ lines) Q (R, t, d) = (R, t, lines-lead R lines Q d)
 
 -- lines are taken in turn
-pub lines-more : {Q : Type 0} (takes : Q → List Entry → Q → Type 0) (takes_more : (x y z : Q) (first second : List Entry) → takes x first y → takes y second z → takes x (first ++ second) z) (x y z : Q) (first second : List Line) → TakesLines takes x first y → TakesLines takes y second z → TakesLines takes x (first ++ second) z
+pub lines-more : {Q : Type 0} (takes : Q → List Entry → Q → Type 0)
+    (takes_more : (x y z : Q) (first second : List Entry) → takes x first y → takes y second z → takes x (first ++ second) z) (x y z : Q)
+    (first second : List Line) → TakesLines takes x first y → TakesLines takes y second z → TakesLines takes x (first ++ second) z
 lines-more takes takes_more x y z first second h k =
     subst (λ es. takes x es z) (sym (entries-append first second)) (takes_more x y z (written first) (written second) h k)
 
 -- a step without a core
-pub step-lines : {Q : Type 0} (takes : Q → List Entry → Q → Type 0) (x y : Q) (lines : List Line) (v : Outcome) → verdict_entries v ≡ [] → TakesLines takes x lines y → TakesStep takes x lines v y
+pub step-lines : {Q : Type 0} (takes : Q → List Entry → Q → Type 0) (x y : Q) (lines : List Line) (v : Outcome) → verdict_entries v ≡ [] →
+    TakesLines takes x lines y → TakesStep takes x lines v y
 step-lines takes x y lines v e h = subst (λ es. takes x es y) (sym (ap (λ es. written lines ++ es) e ∙ append-nil (written lines))) h
 
 -- lines, and then those of a step
-pub step-more : {Q : Type 0} (takes : Q → List Entry → Q → Type 0) (takes_more : (x y z : Q) (first second : List Entry) → takes x first y → takes y second z → takes x (first ++ second) z) (x y z : Q) (first second : List Line) (v : Outcome) → TakesLines takes x first y → TakesStep takes y second v z → TakesStep takes x (first ++ second) v z
+pub step-more : {Q : Type 0} (takes : Q → List Entry → Q → Type 0)
+    (takes_more : (x y z : Q) (first second : List Entry) → takes x first y → takes y second z → takes x (first ++ second) z) (x y z : Q)
+    (first second : List Line) (v : Outcome) → TakesLines takes x first y → TakesStep takes y second v z → TakesStep takes x (first ++ second) v z
 step-more takes takes_more x y z first second v h k =
     subst (λ es. takes x es z)
     (sym (ap (λ es. es ++ verdict_entries v) (entries-append first second) ∙ append_assoc (written first) (written second) (verdict_entries v)))
@@ -49,13 +54,17 @@ pub holds_still : (H : List Clause → Type 0) (n : ℕ) (s t : Search) → Hold
 holds_still H n s t (held, h, f) p = let (after, d, g) = p.holds held f in (held, h, subst (λ P. Fits P t) (sym d) g)
 
 -- Where a tracer has the laws of a trait.
-module _ {Q : Type 0} (holds : Q → List Clause → Type 0) (takes : Q → List Entry → Q → Type 0) (holds_after : (x y : Q) (entries : List Entry) (held after : List Clause) → takes x entries y → holds x held → Leads held entries after → holds y after) where
+module _ {Q : Type 0} (holds : Q → List Clause → Type 0) (takes : Q → List Entry → Q → Type 0)
+    (holds_after : (x y : Q) (entries : List Entry) (held after : List Clause) → takes x entries y → holds x held → Leads held entries after →
+    holds y after) where
   -- after lines it may hold what is present then
-  pub holds_lines : (x y : Q) (lines : List Line) (held after : List Clause) → TakesLines takes x lines y → holds x held → Derives held lines after → holds y after
+  pub holds_lines : (x y : Q) (lines : List Line) (held after : List Clause) → TakesLines takes x lines y → holds x held →
+      Derives held lines after → holds y after
   holds_lines x y lines held after k h d = holds_after x y (written lines) held after k h (lines-lead held lines after d)
 
   -- after a part of a step it may hold what fits the search then
-  pub holds_on : (x y : Q) (n : ℕ) (s t : Search) (lines : List Line) → HoldsFor (holds x) s → Proves n s t lines → TakesLines takes x lines y → HoldsFor (holds y) t
+  pub holds_on : (x y : Q) (n : ℕ) (s t : Search) (lines : List Line) → HoldsFor (holds x) s → Proves n s t lines → TakesLines takes x lines y →
+      HoldsFor (holds y) t
   holds_on x y n s t lines (held, h, f) p k =
       let (after, d, g) = p.holds held f in
       (after, holds_lines x y lines held after k h (by_derives n held lines after d), g)

@@ -124,7 +124,8 @@ begun-told : (p q : ProofParts) (entries : List Entry) (e : TraceError) → Tell
 begun-told p q entries Memory h = ⊎_elim (λ b. b.0) (λ w. all-begun p.opened q.opened (told entries) w.0) h
 begun-told p q entries (Target cause) h = h.0
 
-pub breaks-told : (x y : TracerState) (entries others : List Entry) (e : TraceError) → y.tables ≡ x.tables → others ≡ told_as (global_literal x.tables) entries →
+pub breaks-told : (x y : TracerState) (entries others : List Entry) (e : TraceError) → y.tables ≡ x.tables →
+    others ≡ told_as (global_literal x.tables) entries →
     Tells x.proof others (Err e) y.proof → BreaksGlobally x entries (faults_of e) y
 breaks-told x y entries others e t o h = record {
   tables = t;
@@ -135,5 +136,6 @@ pub breaks-before : (x : TracerState) (entries : List Entry) → BreaksGlobally 
 breaks-before x entries = record { tables = refl; begun = nothing-begun x.proof.opened (told (told_as (global_literal x.tables) entries)) }
 
 -- as an accepted clause or list is told
-pub breaks-told-globally : (x y : TracerState) (entries : List Entry) (e : TraceError) → TellsGlobally x entries (Err e) y → BreaksGlobally x entries (faults_of e) y
+pub breaks-told-globally : (x y : TracerState) (entries : List Entry) (e : TraceError) → TellsGlobally x entries (Err e) y →
+    BreaksGlobally x entries (faults_of e) y
 breaks-told-globally x y entries e (t, h) = breaks-told x y entries (told_as (global_literal x.tables) entries) e t refl h

@@ -37,7 +37,8 @@ pub unopened-unbroken : (p q : ProofParts) (faults : ℕ) → p.opened ≡ None 
 unopened-unbroken p q faults e (entries, b) = (subst (λ o. IsBegunIf o (told entries) faults q.opened) e b).1
 
 -- what may be relied on depends on the solver variables alone
-pub relies-alike : (t u : Tables) (p : ProofParts) (held : List Clause) → u.solvers ≡ t.solvers → Relies (record { tables = t; proof = p }) held → Relies (record { tables = u; proof = p }) held
+pub relies-alike : (t u : Tables) (p : ProofParts) (held : List Clause) → u.solvers ≡ t.solvers → Relies (record { tables = t; proof = p }) held →
+    Relies (record { tables = u; proof = p }) held
 relies-alike t u p held e r = record {
   room = r.room;
   usable = r.usable;

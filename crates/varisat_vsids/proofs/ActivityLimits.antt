@@ -33,14 +33,16 @@ rescaled_is : (full : Bool) (activity : List ℕ) (available : List Bool) (i d :
 rescaled_is full activity available i d r = ap (λ (b : Bool). activities_with (shifted b activity) available (shifted_increment b i) d) (sym r)
 
 -- what one activity that was set reaches decides
-pub set_is : (full : Bool) (activity : List ℕ) (available : List Bool) (v i d x : ℕ) → AreWithinLimits activity i d → v < length activity → nat_le activity_limit x ≡ full
+pub set_is : (full : Bool) (activity : List ℕ) (available : List Bool) (v i d x : ℕ) → AreWithinLimits activity i d → v < length activity →
+    nat_le activity_limit x ≡ full
     → activities_with (shifted full (set activity v x)) available (shifted_increment full i) d ≡ rescaled (activities_with (set activity v x) available i d)
 set_is full activity available v i d x w h f =
     let r : reaches_limit (i ∷ set activity v x) ≡ full = rw (under i w.small) (one_reaches activity v x w.below h ∙ f) in
     rescaled_is full (set activity v x) available i d r
 
 -- what the increment reaches decides
-pub decayed_is : (full : Bool) (activity : List ℕ) (available : List Bool) (i d : ℕ) → AreWithinLimits activity i d → nat_le activity_limit (i * 1000 / d) ≡ full
+pub decayed_is : (full : Bool) (activity : List ℕ) (available : List Bool) (i d : ℕ) → AreWithinLimits activity i d →
+    nat_le activity_limit (i * 1000 / d) ≡ full
     → activities_with (shifted full activity) available (shifted_increment full (i * 1000 / d)) d ≡ decayed (activities_with activity available i d)
 decayed_is full activity available i d w f =
     rescaled_is full activity available (i * 1000 / d) d (rw (none_reach activity w.below) (or-false (nat_le activity_limit (i * 1000 / d)) ∙ f))
@@ -56,7 +58,8 @@ shifted_heap activity heap position n h = record {
       (λ j jn. get_or-map (λ x. x / 2 ^ 40) activity (get_or heap j 0) 0);
 }
 
-pub shifted_limits : (activity : List ℕ) (i d : ℕ) → ((v : ℕ) → get_or activity v 0 < 2 ^ 61) → i < 2 ^ 90 → d ≤ 999 → 500 ≤ d → AreWithinLimits (map (λ x. x / 2 ^ 40) activity) (max least_increment (i / 2 ^ 40)) d
+pub shifted_limits : (activity : List ℕ) (i d : ℕ) → ((v : ℕ) → get_or activity v 0 < 2 ^ 61) → i < 2 ^ 90 → d ≤ 999 → 500 ≤ d →
+    AreWithinLimits (map (λ x. x / 2 ^ 40) activity) (max least_increment (i / 2 ^ 40)) d
 shifted_limits activity i d below few slow fast = record {
   below = λ v. let b : get_or activity v 0 < 2 ^ 61 = below v in rw (get_or-map (λ x. x / 2 ^ 40) activity v 0) (omega (arith, b));
   least = omega arith;
@@ -65,7 +68,8 @@ shifted_limits activity i d below few slow fast = record {
   fast = fast;
 }
 
-pub raised_below : (activity : List ℕ) (v i d x : ℕ) → AreWithinLimits activity i d → v < length activity → x < 2 ^ 61 → (w : ℕ) → get_or (set activity v x) w 0 < 2 ^ 61
+pub raised_below : (activity : List ℕ) (v i d x : ℕ) → AreWithinLimits activity i d → v < length activity → x < 2 ^ 61 → (w : ℕ) →
+    get_or (set activity v x) w 0 < 2 ^ 61
 raised_below activity v i d x l h e w =
     elim (eqb_tells w v) [
       | inl t ↦ rw (t.1, get_or-set_same activity v x 0 h) e

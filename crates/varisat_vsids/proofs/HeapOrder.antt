@@ -69,7 +69,8 @@ down key new n k c o g at_k at_c others =
     }
 
 -- each key by a map that keeps the order
-pub IsOrdered-map : (key new : ℕ → ℕ) (n : ℕ) (f : ℕ → ℕ) → IsOrdered key n → ((x y : ℕ) → x ≤ y → f x ≤ f y) → ((j : ℕ) → j < n → new j ≡ f (key j)) → IsOrdered new n
+pub IsOrdered-map : (key new : ℕ → ℕ) (n : ℕ) (f : ℕ → ℕ) → IsOrdered key n → ((x y : ℕ) → x ≤ y → f x ≤ f y) →
+    ((j : ℕ) → j < n → new j ≡ f (key j)) → IsOrdered new n
 IsOrdered-map key new n f o keeps same = λ j j0 jn. rw (same j jn, same (parent j) (omega arith)) (keeps (key j) (key (parent j)) (o j j0 jn))
 
 greatest_by : (f : ℕ) (key : ℕ → ℕ) (n : ℕ) → IsOrdered key n → (k : ℕ) → k < n → k ≤ f → key k ≤ key 0

@@ -22,7 +22,8 @@ moved_second : (heap position : List ℕ) (i j : ℕ) → IsLinked heap position
 moved_second heap position i j l hj =
     get_or-set_same (set position (get_or heap i 0) j) (get_or heap j 0) i 0 (rw length-set (omega (arith, l.known j hj, l.count)))
 
-moved_first : (heap position : List ℕ) (i j : ℕ) → IsLinked heap position → i < length heap → j < length heap → get_or (moved heap position i j) (get_or heap i 0) 0 ≡ j
+moved_first : (heap position : List ℕ) (i j : ℕ) → IsLinked heap position → i < length heap → j < length heap →
+    get_or (moved heap position i j) (get_or heap i 0) 0 ≡ j
 moved_first heap position i j l hi hj =
     let a : ℕ = get_or heap i 0 in
     let b : ℕ = get_or heap j 0 in
@@ -55,7 +56,8 @@ exchanged heap new position i j l hi hj long at_i at_j others =
     let pb = moved_second heap position i j l hj in
     let a : ℕ = get_or heap i 0 in
     let b : ℕ = get_or heap j 0 in
-    let away : (k m : ℕ) → k < length heap → m < length heap → k ≢ m → get_or heap k 0 ≢ get_or heap m 0 = λ k m hk hm d e. d (one_place heap position k m l hk hm e) in
+    let away : (k m : ℕ) → k < length heap → m < length heap → k ≢ m →
+    get_or heap k 0 ≢ get_or heap m 0 = λ k m hk hm d e. d (one_place heap position k m l hk hm e) in
     record {
       count = length-moved heap position i j ∙ l.count ∙ sym long;
       small = rw long l.small;
@@ -114,7 +116,8 @@ with_one m n old new a b long at_a others =
     ])
 
 -- what holds of each place where a variable but that at i is, and was, once the variables at i and n are exchanged
-moved_cases : (heap position : List ℕ) (i n v : ℕ) (holds : ℕ → ℕ → Type 0) → IsLinked heap position → n < length heap → v < length position → v ≢ get_or heap i 0
+moved_cases : (heap position : List ℕ) (i n v : ℕ) (holds : ℕ → ℕ → Type 0) → IsLinked heap position → n < length heap → v < length position →
+    v ≢ get_or heap i 0
     → (i ≢ n → holds i n) → ((p : ℕ) → p ≢ n → holds p p) → holds (get_or (moved heap position i n) v 0) (get_or position v 0)
 moved_cases heap position i n v holds l hn h va last other =
     elim (eqb_tells v (get_or heap n 0)) [
@@ -143,4 +146,5 @@ put_into heap position i n l ni hi =
     let hn : n < length heap = omega arith in
     with_one (n + 1) n position (moved heap position i n) (get_or heap i 0) true (length-moved heap position i n)
     (rw (moved_first heap position i n l hi hn) (grind (arith, nat_tests)))
-    (λ v h va. moved_cases heap position i n v (λ q p. nat_lt q (n + 1) ≡ nat_lt p n) l hn h va (λ apart. grind (arith, nat_tests)) (λ p np. grind (arith, nat_tests)))
+    (λ v h va. moved_cases heap position i n v (λ q p. nat_lt q (n + 1) ≡ nat_lt p n) l hn h va (λ apart. grind (arith, nat_tests))
+    (λ p np. grind (arith, nat_tests)))

@@ -48,7 +48,8 @@ root_is_greatest activity heap position n v i d h some e =
     }
 
 -- nothing changes where the variable is or is not available as it should be
-pub availability-set_same : (n : ℕ) (position : List ℕ) (v : ℕ) (b : Bool) → v < length position → nat_lt (get_or position v 0) n ≡ b → set (availability n position) v b ≡ availability n position
+pub availability-set_same : (n : ℕ) (position : List ℕ) (v : ℕ) (b : Bool) → v < length position → nat_lt (get_or position v 0) n ≡ b →
+    set (availability n position) v b ≡ availability n position
 availability-set_same n position v b h e =
     let at : get_or (availability n position) v b ≡ b = get_or-map (λ p. nat_lt p n) position v 0 b h ∙ e in
     ap (λ (x : Bool). set (availability n position) v x) (sym at) ∙ set-get_or (availability n position) v b
@@ -58,18 +59,23 @@ pub read_at : (xs : List ℕ) (w v x : ℕ) → v < length xs → w ≡ v → x 
 read_at xs w v x h e r = rw e at r ∙ get_or_default_zero xs v x h
 
 -- the variable at index w is or is not available as it should be already
-availability_is : (n : ℕ) (heap position : List ℕ) (w v x : ℕ) (b : Bool) → IsLinked heap position → v < length heap → w ≡ v → x ≡ get_or position w x → nat_lt x n ≡ b → availability n position ≡ set (availability n position) v b
+availability_is : (n : ℕ) (heap position : List ℕ) (w v x : ℕ) (b : Bool) → IsLinked heap position → v < length heap → w ≡ v →
+    x ≡ get_or position w x → nat_lt x n ≡ b → availability n position ≡ set (availability n position) v b
 availability_is n heap position w v x b l h e r t =
     let known : v < length position = omega (arith, h, l.count) in
     sym (availability-set_same n position v b known (rw (read_at position w v x known e r) at t))
 
-pub stays_as : (a heap position : List ℕ) (n i d w v x : ℕ) (b : Bool) → IsLinked heap position → v < length heap → w ≡ v → x ≡ get_or position w x → nat_lt x n ≡ b
+pub stays_as : (a heap position : List ℕ) (n i d w v x : ℕ) (b : Bool) → IsLinked heap position → v < length heap → w ≡ v →
+    x ≡ get_or position w x → nat_lt x n ≡ b
     → activities_with a (availability n position) i d ≡ activities_with a (set (availability n position) v b) i d
-stays_as a heap position n i d w v x b l h e r t = ap (λ (available : List Bool). activities_with a available i d) (availability_is n heap position w v x b l h e r t)
+stays_as a heap position n i d w v x b l h e r t = ap (λ (available : List Bool). activities_with a available i d)
+    (availability_is n heap position w v x b l h e r t)
 
 -- the variable at place p is v
-pub of_variable : (n m : ℕ) (heap position heap' position' new : List ℕ) (p w v : ℕ) (b : Bool) → IsLinked heap position → heap' ≡ heap → position' ≡ position → v < length heap
-    → w ≡ v → p ≡ get_or position w p → availability m new ≡ set (availability n position') (get_or heap' p 0) b → availability m new ≡ set (availability n position) v b
+pub of_variable : (n m : ℕ) (heap position heap' position' new : List ℕ) (p w v : ℕ) (b : Bool) → IsLinked heap position → heap' ≡ heap →
+    position' ≡ position → v < length heap
+    → w ≡ v → p ≡ get_or position w p → availability m new ≡ set (availability n position') (get_or heap' p 0) b →
+    availability m new ≡ set (availability n position) v b
 of_variable n m heap position heap' position' new p w v b l eh ep hv ew e same =
     let at : p ≡ get_or position v 0 = read_at position w v p (omega (arith, l.count)) ew e in
     let s : get_or heap p 0 ≡ v = rw at (l.stands v hv) in

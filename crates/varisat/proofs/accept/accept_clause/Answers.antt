@@ -53,9 +53,13 @@ pub solver_from_user_lits-requires-clause-room : goal.solver_from_user_lits-requ
 solver_from_user_lits-requires-clause-room g c = can-have-room c.args.clause.now c.args.tracer.now.variables c.requires.names
 
 -- the names have solver variables
-have : (g : Over) (c : In_ok-solver_from_user_lits g) → HaveSolvers {A = g.row.A.Denot} c.args.clause.now (record { tables = c.args.tracer.now.variables; context = record c.args.ctx.now { solver_state = c.reopen.new.self } }) (record { tables = c.solver_from_user_lits.new.variables; context = c.solver_from_user_lits.new.ctx })
+have : (g : Over) (c : In_ok-solver_from_user_lits g) → HaveSolvers {A = g.row.A.Denot} c.args.clause.now
+    (record { tables = c.args.tracer.now.variables; context = record c.args.ctx.now { solver_state = c.reopen.new.self } })
+    (record { tables = c.solver_from_user_lits.new.variables; context = c.solver_from_user_lits.new.ctx })
 have g c =
-    have-solvers-then c.args.clause.now c.args.tracer.now.variables c.args.ctx.now c.reopen.new.self (record { tables = c.solver_from_user_lits.new.variables; context = c.solver_from_user_lits.new.ctx }) (λ e. no-model-reopened c.args.ctx.now.solver_state.sat_state (ap (λ (x : SolverState). x.sat_state) (sym c.reopen.ensures) ∙ e))
+    have-solvers-then c.args.clause.now c.args.tracer.now.variables c.args.ctx.now c.reopen.new.self
+    (record { tables = c.solver_from_user_lits.new.variables; context = c.solver_from_user_lits.new.ctx })
+    (λ e. no-model-reopened c.args.ctx.now.solver_state.sat_state (ap (λ (x : SolverState). x.sat_state) (sym c.reopen.ensures) ∙ e))
     c.prove_linked.ensures c.requires.kept (c.in_ok-solver_from_user_lits.ensures {u = tt}).in_turn
 
 pub mark_joined-requires : goal.mark_joined-requires
@@ -66,16 +70,19 @@ mark_joined-requires g c =
 pub load_clause-requires-clause-in_range : goal.load_clause-requires-clause-in_range
 load_clause-requires-clause-in_range g c l h =
     let here = (goal.at.load_clause-requires-clause-in_range g c).In_ok-solver_from_user_lits in
-    literals-within c.args.clause.now c.solver_from_user_lits.new.solver_lits.items (have g here).kept (c.in_ok-solver_from_user_lits.ensures {u = tt}).literals c.prove_linked-2.ensures l (subst (λ ls. l ∈ ls) c.as_slice-lits.ensures.value h)
+    literals-within c.args.clause.now c.solver_from_user_lits.new.solver_lits.items (have g here).kept
+    (c.in_ok-solver_from_user_lits.ensures {u = tt}).literals c.prove_linked-2.ensures l (subst (λ ls. l ∈ ls) c.as_slice-lits.ensures.value h)
 
 pub load_clause-requires-clause-decidable : goal.load_clause-requires-clause-decidable
 load_clause-requires-clause-decidable g c l h =
     let here = (goal.at.load_clause-requires-clause-decidable g c).In_ok-solver_from_user_lits in
-    literals-decidable c.args.clause.now c.solver_from_user_lits.new.solver_lits.items (have g here).kept (c.in_ok-solver_from_user_lits.ensures {u = tt}).literals c.prove_linked-2.ensures l (subst (λ ls. l ∈ ls) c.as_slice-lits.ensures.value h)
+    literals-decidable c.args.clause.now c.solver_from_user_lits.new.solver_lits.items (have g here).kept
+    (c.in_ok-solver_from_user_lits.ensures {u = tt}).literals c.prove_linked-2.ensures l (subst (λ ls. l ∈ ls) c.as_slice-lits.ensures.value h)
 
 -- the proof can be told of the search once the clause was
 can-tell : (g : Over) (c : In_ok-tell_clause g) → CanTell c.tell_clause.new.tracer.proof
-can-tell g c = tells-on (record { tables = c.mark_joined.new.variables; proof = c.args.tracer.now.proof }) (parts_of c.tell_clause.new.tracer) _ (c.in_ok-tell_clause.ensures {u = tt}).told c.requires.tells
+can-tell g c = tells-on (record { tables = c.mark_joined.new.variables; proof = c.args.tracer.now.proof }) (parts_of c.tell_clause.new.tracer) _
+    (c.in_ok-tell_clause.ensures {u = tt}).told c.requires.tells
 
 -- the verdict is not Unsat when the clause is loaded
 opened : (g : Over) (c : In_ok-solver_from_user_lits g) → c.solver_from_user_lits.new.ctx.solver_state.sat_state ≢ verdict.Unsat
@@ -84,13 +91,26 @@ opened g c e =
     (ap (λ (x : SolverState). x.sat_state) (sym c.reopen.ensures) ∙ ap (λ (x : SolverState). x.sat_state) (sym (have g c).verdict.state) ∙ e)
 
 -- the solver stands for the state once the names have solver variables
-all-named-in : (g : Over) (c : In_ok-solver_from_user_lits g) (s : State) → SpacesFit (spaces_with c.args.tracer.now.variables c.args.tracer.now.proof.checker c.args.ctx.now) s →
-    SpacesFit (spaces_with c.solver_from_user_lits.new.variables c.args.tracer.now.proof.checker c.solver_from_user_lits.new.ctx) (with_names c.args.clause.now (with_verdict (reopened_verdict s.verdict) s))
+all-named-in : (g : Over) (c : In_ok-solver_from_user_lits g) (s : State) →
+    SpacesFit (spaces_with c.args.tracer.now.variables c.args.tracer.now.proof.checker c.args.ctx.now) s →
+    SpacesFit (spaces_with c.solver_from_user_lits.new.variables c.args.tracer.now.proof.checker c.solver_from_user_lits.new.ctx)
+    (with_names c.args.clause.now (with_verdict (reopened_verdict s.verdict) s))
 all-named-in g c s f =
     let old = c.args.ctx.now in
     let checker = c.args.tracer.now.proof.checker in
-    let first : Summary = record { tables = c.args.tracer.now.variables; opened = None; checker = checker; search = view old; assumed = old.assumptions; sat_state = old.solver_state.sat_state; words = 0; ledger = s.ledger } in
-    let begins = subst (λ y. SpacesFit (spaces_of c.args.tracer.now.variables checker (view old) old.assumptions y) (with_verdict (reopened_verdict s.verdict) s)) (sym (ap (λ (x : SolverState). x.sat_state) c.reopen.ensures)) (reopened-spaces first s f) in
+    let first : Summary = record {
+      tables = c.args.tracer.now.variables;
+      opened = None;
+      checker = checker;
+      search = view old;
+      assumed =
+          old.assumptions;
+      sat_state = old.solver_state.sat_state;
+      words = 0;
+      ledger = s.ledger;
+    } in
+    let begins = subst (λ y. SpacesFit (spaces_of c.args.tracer.now.variables checker (view old) old.assumptions y)
+    (with_verdict (reopened_verdict s.verdict) s)) (sym (ap (λ (x : SolverState). x.sat_state) c.reopen.ensures)) (reopened-spaces first s f) in
     (have g c).stands checker (with_verdict (reopened_verdict s.verdict) s) begins
 
 -- what was accepted before and the clause that was told may be held then
@@ -102,10 +122,13 @@ load_clause-requires-clause-holds g c n =
     let p = c.args.tracer.now.proof in
     let lits = c.as_slice-lits.result.now in
     let (s, f) = c.requires.stands in
-    let (held, relies, fits) = relied-open m p (view mid) mid.assumptions mid.solver_state.sat_state (opened g here) c.requires.tells (_, all-named-in g here s f) in
+    let (held, relies, fits) = relied-open m p (view mid) mid.assumptions mid.solver_state.sat_state (opened g here) c.requires.tells
+    (_, all-named-in g here s f) in
     let before : TracerState = record { tables = c.mark_joined.new.variables; proof = p } in (
       held,
-      relies-after before (parts_of c.tell_clause.new.tracer) (Accepts lits ∷ []) held (held ++ lits ∷ []) (c.in_ok-tell_clause.ensures {u = tt}).told (relies-alike m c.mark_joined.new.variables p held c.mark_joined.ensures.solvers relies) (held ++ lits ∷ [], refl, refl),
+      relies-after before (parts_of c.tell_clause.new.tracer) (Accepts lits ∷ []) held (held ++ lits ∷ [])
+          (c.in_ok-tell_clause.ensures {u = tt}).told (relies-alike m c.mark_joined.new.variables p held c.mark_joined.ensures.solvers relies)
+          (held ++ lits ∷ [], refl, refl),
       fits,
     )
 
@@ -120,7 +143,9 @@ returns-clause-state g c =
     let here = (goal.at.returns-clause-state g c).In_ok-solver_from_user_lits in
     let sat = c.load_clause.new.ctx.solver_state.sat_state in
     (c.in_ok-load_clause.ensures {u = tt}).state (opened g here)
-    ∙ ap (λ (x : SolverState). record x { sat_state = sat; formula_is_empty = false }) ((have g here).verdict.state ∙ ap (λ (x : SolverState). record x { formula_is_empty = c.solver_from_user_lits.new.ctx.solver_state.formula_is_empty }) c.reopen.ensures)
+    ∙ ap (λ (x : SolverState). record x { sat_state = sat; formula_is_empty = false })
+    ((have g here).verdict.state ∙ ap
+    (λ (x : SolverState). record x { formula_is_empty = c.solver_from_user_lits.new.ctx.solver_state.formula_is_empty }) c.reopen.ensures)
 
 pub returns-clause-kept : goal.returns-clause-kept
 returns-clause-kept g c =
@@ -140,16 +165,20 @@ returns-clause-kept g c =
       bounded = marks-bounded taken joined k.bounded marks;
       ready = r.ready;
       count = r.count ∙ k.count ∙ sym long;
-      decidable = tables-in-use taken joined (view new) new.vsids mark.solvers (same-in-use taken (view mid) mid.vsids (view new) new.vsids k.decidable r.decidable);
+      decidable = tables-in-use taken joined (view new) new.vsids mark.solvers
+          (same-in-use taken (view mid) mid.vsids (view new) new.vsids k.decidable r.decidable);
       assumed = λ l h. subst (λ (m : BiMap). IsSome (at m.forward (variable_of l))) (sym mark.users) (k.assumed l (subst (λ ls. l ∈ ls) user h));
-      marked = λ l z h f. ap (λ (d : VarData). d.assumed) (mark.rest z) ∙ k.marked l z (subst (λ ls. l ∈ ls) user h) (ap (λ (m : BiMap). at m.forward (variable_of l)) (sym mark.users) ∙ f);
-      working = λ l h. assumed-joined c.args.clause.now taken joined (variable_of l) mark (k.working l (subst (λ ls. l ∈ ls) (ap (λ (x : AssumptionParts). x.working) parts) h));
+      marked = λ l z h f. ap (λ (d : VarData). d.assumed) (mark.rest z)
+          ∙ k.marked l z (subst (λ ls. l ∈ ls) user h) (ap (λ (m : BiMap). at m.forward (variable_of l)) (sym mark.users) ∙ f);
+      working = λ l h. assumed-joined c.args.clause.now taken joined (variable_of l) mark
+          (k.working l (subst (λ ls. l ∈ ls) (ap (λ (x : AssumptionParts). x.working) parts) h));
     })
 
 pub returns-clause-tells : goal.returns-clause-tells
 returns-clause-tells g c =
     let here = goal.at.returns-clause-tells g c in
-    tells-on (parts_of c.tell_clause.new.tracer) (parts_of c.load_clause.new.proof) _ ((c.in_ok-load_clause.ensures {u = tt}).lines (opened g here.In_ok-solver_from_user_lits)).written (can-tell g here.In_ok-tell_clause)
+    tells-on (parts_of c.tell_clause.new.tracer) (parts_of c.load_clause.new.proof) _
+    ((c.in_ok-load_clause.ensures {u = tt}).lines (opened g here.In_ok-solver_from_user_lits)).written (can-tell g here.In_ok-tell_clause)
 
 pub returns-clause-told : goal.returns-clause-told
 returns-clause-told g c =
@@ -170,15 +199,29 @@ returns-clause-accepted g c s f =
     let joined = c.mark_joined.new.variables in
     let list = c.args.clause.now in
     let to = chain (at m.users.forward) (at m.solvers.forward) in
-    let carried = ap₂ (λ (x y : BiMap). map (carry (chain (at x.forward) (at y.forward))) list) (sym c.mark_joined.ensures.users) (sym c.mark_joined.ensures.solvers) in
+    let carried = ap₂ (λ (x y : BiMap). map (carry (chain (at x.forward) (at y.forward))) list) (sym c.mark_joined.ensures.users)
+    (sym c.mark_joined.ensures.solvers) in
     let items = c.as_slice-lits.ensures.value ∙ over-carried to list c.solver_from_user_lits.new.solver_lits.items over ∙ carried in
     let n = with_naming (name_all list s.naming) s in
     let lines = (r.lines (opened g here)).lines in
     let before : TracerState = record { tables = joined; proof = c.args.tracer.now.proof } in
     let after = parts_of c.load_clause.new.proof in
-    let taken = takes-more before (parts_of c.tell_clause.new.tracer) after (Accepts c.as_slice-lits.result.now ∷ []) (written lines) (c.in_ok-tell_clause.ensures {u = tt}).told (r.lines (opened g here)).written in
+    let taken = takes-more before (parts_of c.tell_clause.new.tracer) after (Accepts c.as_slice-lits.result.now ∷ []) (written lines)
+    (c.in_ok-tell_clause.ensures {u = tt}).told (r.lines (opened g here)).written in
     let n2 = with_verdict (reopened_verdict s.verdict) n in
-    let (x, told, v, more, plain, k) = clause-accepted (record { tables = m; opened = None; checker = c.args.tracer.now.proof.checker; search = view mid; assumed = mid.assumptions; sat_state = mid.solver_state.sat_state; words = 0; ledger = s.ledger }) n2 list joined (view new) new.assumptions new.solver_state.sat_state after.proof.checker
+    let (x, told, v, more, plain, k) =
+    clause-accepted (record {
+      tables = m;
+      opened = None;
+      checker = c.args.tracer.now.proof.checker;
+      search = view mid;
+      assumed =
+          mid.assumptions;
+      sat_state = mid.solver_state.sat_state;
+      words = 0;
+      ledger = s.ledger;
+    }) n2 list joined
+    (view new) new.assumptions new.solver_state.sat_state after.proof.checker
     (record {
       not_unsat = opened g here;
       all = over-leads to list c.solver_from_user_lits.new.solver_lits.items over;
@@ -186,17 +229,32 @@ returns-clause-accepted g c s f =
       same_count = r.count;
       well_before = all.kept.ready.well;
       well_new = r.ready.well;
-      in_use = in-use-all m (view new) new.vsids (same-in-use m (view mid) mid.vsids (view new) new.vsids all.kept.decidable r.decidable) r.ready.decidable r.ready.well;
+      in_use = in-use-all m (view new) new.vsids (same-in-use m (view mid) mid.vsids (view new) new.vsids all.kept.decidable r.decidable)
+          r.ready.decidable r.ready.well;
       lines = (r.lines (opened g here)).lines;
-      loads = subst (λ xs. Loads (search_of (view mid)) (search_of (view new)) xs (loaded_outcome new.solver_state.sat_state) (r.lines (opened g here)).lines) items (r.lines (opened g here)).loads;
+      loads = subst (λ xs. Loads (search_of (view mid)) (search_of (view new)) xs (loaded_outcome new.solver_state.sat_state)
+          (r.lines (opened g here)).lines) items (r.lines (opened g here)).loads;
       verdict = r.verdict;
       parts_stay = r.assumptions (opened g here);
     })
     (subst (λ es. IsCheckedIf before.proof.checker es after.proof.checker)
-    (ap (λ (b : BiMap). told_as (global.carry (at b.backward)) (Accepts c.as_slice-lits.result.now ∷ written lines)) c.mark_joined.ensures.solvers ∙ ap (λ (ls : List Literal). told_as (global_literal m) (Accepts ls ∷ written lines)) items)
+    (ap (λ (b : BiMap). told_as (global.carry (at b.backward)) (Accepts c.as_slice-lits.result.now ∷ written lines)) c.mark_joined.ensures.solvers
+    ∙ ap (λ (ls : List Literal). told_as (global_literal m) (Accepts ls ∷ written lines)) items)
     taken.told.checked)
-    (all-named-in g here s f) in
-    (x, told, verdict-after s.clauses (map (through_names n.naming) list) s.verdict x v, more, proof-told before after (Accepts c.as_slice-lits.result.now ∷ written lines) s.ever_hidden s.told told taken (λ e. plain e ∙ ap (λ (ls : List Literal). s.told ++ told_as (global_literal m) (Accepts ls ∷ written lines)) (sym items) ∙ ap (λ (b : BiMap). s.told ++ told_as (global.carry (at b.backward)) (Accepts c.as_slice-lits.result.now ∷ written lines)) (sym c.mark_joined.ensures.solvers)), subst (λ (t : Tables). SpacesFit (spaces_of t after.proof.checker (view new) new.assumptions new.solver_state.sat_state) (retold told (append_clause (map (through_names n.naming) list) x n))) (sym (same-tables g c)) k)
+    (all-named-in g here s f) in (
+      x,
+      told,
+      verdict-after s.clauses (map (through_names n.naming) list) s.verdict x v,
+      more,
+      proof-told before after
+          (Accepts c.as_slice-lits.result.now ∷ written lines) s.ever_hidden s.told told taken
+          (λ e. plain e ∙ ap (λ (ls : List Literal). s.told ++ told_as (global_literal m) (Accepts ls ∷ written lines)) (sym items)
+          ∙ ap (λ (b : BiMap). s.told ++ told_as (global.carry (at b.backward)) (Accepts c.as_slice-lits.result.now ∷ written lines))
+          (sym c.mark_joined.ensures.solvers)),
+      subst
+          (λ (t : Tables). SpacesFit (spaces_of t after.proof.checker (view new) new.assumptions new.solver_state.sat_state)
+          (retold told (append_clause (map (through_names n.naming) list) x n))) (sym (same-tables g c)) k,
+    )
 
 pub returns-in_err-solver_from_user_lits-clause-broken : goal.returns-in_err-solver_from_user_lits-clause-broken
 returns-in_err-solver_from_user_lits-clause-broken g c =
@@ -206,7 +264,8 @@ returns-in_err-solver_from_user_lits-clause-broken g c =
 
 pub returns-in_err-tell_clause-clause-broken : goal.returns-in_err-tell_clause-clause-broken
 returns-in_err-tell_clause-clause-broken g c =
-    passed-on c.from_residual-in_err-tell_clause.result c.in_err-tell_clause.field-0.0 (λ z. BreaksProof c.args.tracer.now.proof (step_faults z) c.tell_clause.new.tracer.proof)
+    passed-on c.from_residual-in_err-tell_clause.result c.in_err-tell_clause.field-0.0
+    (λ z. BreaksProof c.args.tracer.now.proof (step_faults z) c.tell_clause.new.tracer.proof)
     c.from_residual-in_err-tell_clause.ensures (c.in_err-tell_clause.ensures {u = tt}).broken
 
 pub returns-in_err-load_clause-clause-broken : goal.returns-in_err-load_clause-clause-broken

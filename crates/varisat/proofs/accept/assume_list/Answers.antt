@@ -31,9 +31,13 @@ pub solver_from_user_lits-requires-clause-room : goal.solver_from_user_lits-requ
 solver_from_user_lits-requires-clause-room g c = can-have-room c.args.list.now c.args.variables.now c.requires.names
 
 -- the names have solver variables
-have : (g : Over) (c : In_ok-solver_from_user_lits g) → HaveSolvers {A = g.row.A.Denot} c.args.list.now (record { tables = c.args.variables.now; context = record c.args.ctx.now { solver_state = c.assume.new.self } }) (record { tables = c.solver_from_user_lits.new.variables; context = c.solver_from_user_lits.new.ctx })
+have : (g : Over) (c : In_ok-solver_from_user_lits g) → HaveSolvers {A = g.row.A.Denot} c.args.list.now
+    (record { tables = c.args.variables.now; context = record c.args.ctx.now { solver_state = c.assume.new.self } })
+    (record { tables = c.solver_from_user_lits.new.variables; context = c.solver_from_user_lits.new.ctx })
 have g c =
-    have-solvers-then c.args.list.now c.args.variables.now c.args.ctx.now c.assume.new.self (record { tables = c.solver_from_user_lits.new.variables; context = c.solver_from_user_lits.new.ctx }) (λ e. no-model-assumed c.args.ctx.now.solver_state.sat_state (ap (λ (x : SolverState). x.sat_state) (sym c.assume.ensures) ∙ e))
+    have-solvers-then c.args.list.now c.args.variables.now c.args.ctx.now c.assume.new.self
+    (record { tables = c.solver_from_user_lits.new.variables; context = c.solver_from_user_lits.new.ctx })
+    (λ e. no-model-assumed c.args.ctx.now.solver_state.sat_state (ap (λ (x : SolverState). x.sat_state) (sym c.assume.ensures) ∙ e))
     c.prove_linked.ensures c.requires.kept (c.in_ok-solver_from_user_lits.ensures {u = tt}).in_turn
 
 pub mark_assumed-requires : goal.mark_assumed-requires
@@ -55,20 +59,29 @@ mark_assumed-requires-2 g c =
 pub set_assumptions-requires-clause-in_range : goal.set_assumptions-requires-clause-in_range
 set_assumptions-requires-clause-in_range g c l h =
     let here = (goal.at.set_assumptions-requires-clause-in_range g c).In_ok-solver_from_user_lits in
-    literals-within c.args.list.now c.solver_from_user_lits.new.solver_lits.items (have g here).kept (c.in_ok-solver_from_user_lits.ensures {u = tt}).literals c.prove_linked-2.ensures l (subst (λ ls. l ∈ ls) c.deref.ensures.value h)
+    literals-within c.args.list.now c.solver_from_user_lits.new.solver_lits.items (have g here).kept
+    (c.in_ok-solver_from_user_lits.ensures {u = tt}).literals c.prove_linked-2.ensures l (subst (λ ls. l ∈ ls) c.deref.ensures.value h)
 
 pub set_assumptions-requires-clause-decidable : goal.set_assumptions-requires-clause-decidable
 set_assumptions-requires-clause-decidable g c l h =
     let here = (goal.at.set_assumptions-requires-clause-decidable g c).In_ok-solver_from_user_lits in
-    literals-decidable c.args.list.now c.solver_from_user_lits.new.solver_lits.items (have g here).kept (c.in_ok-solver_from_user_lits.ensures {u = tt}).literals c.prove_linked-2.ensures l (subst (λ ls. l ∈ ls) c.deref.ensures.value h)
+    literals-decidable c.args.list.now c.solver_from_user_lits.new.solver_lits.items (have g here).kept
+    (c.in_ok-solver_from_user_lits.ensures {u = tt}).literals c.prove_linked-2.ensures l (subst (λ ls. l ∈ ls) c.deref.ensures.value h)
 
 pub returns-clause-state : goal.returns-clause-state
 returns-clause-state g c =
     let here = (goal.at.returns-clause-state g c).In_ok-solver_from_user_lits in
     let new = c.set_assumptions.new.ctx.solver_state in
     (c.in_ok-set_assumptions.ensures {u = tt}).state
-    ∙ ap (λ (x : SolverState). record x { sat_state = assumed_state x.sat_state }) ((have g here).verdict.state ∙ ap (λ (x : SolverState). record x { formula_is_empty = c.solver_from_user_lits.new.ctx.solver_state.formula_is_empty }) c.assume.ensures)
-    ∙ ap₂ (λ a b. record c.args.ctx.now.solver_state { sat_state = a; formula_is_empty = b }) (let e = ap (λ (x : SolverState). assumed_state x.sat_state) ((have g here).verdict.state ∙ ap (λ (x : SolverState). record x { formula_is_empty = c.solver_from_user_lits.new.ctx.solver_state.formula_is_empty }) c.assume.ensures) in sym e ∙ sym (ap (λ (x : SolverState). x.sat_state) (c.in_ok-set_assumptions.ensures {u = tt}).state)) (sym (ap (λ (x : SolverState). x.formula_is_empty) (c.in_ok-set_assumptions.ensures {u = tt}).state))
+    ∙ ap (λ (x : SolverState). record x { sat_state = assumed_state x.sat_state })
+    ((have g here).verdict.state ∙ ap
+    (λ (x : SolverState). record x { formula_is_empty = c.solver_from_user_lits.new.ctx.solver_state.formula_is_empty }) c.assume.ensures)
+    ∙ ap₂ (λ a b. record c.args.ctx.now.solver_state { sat_state = a; formula_is_empty = b })
+    (let e = ap (λ (x : SolverState). assumed_state x.sat_state)
+    ((have g here).verdict.state ∙ ap
+    (λ (x : SolverState). record x { formula_is_empty = c.solver_from_user_lits.new.ctx.solver_state.formula_is_empty })
+    c.assume.ensures) in sym e ∙ sym (ap (λ (x : SolverState). x.sat_state) (c.in_ok-set_assumptions.ensures {u = tt}).state))
+    (sym (ap (λ (x : SolverState). x.formula_is_empty) (c.in_ok-set_assumptions.ensures {u = tt}).state))
 
 pub returns-clause-kept : goal.returns-clause-kept
 returns-clause-kept g c =
@@ -91,10 +104,14 @@ returns-clause-kept g c =
       bounded = y.bounded;
       ready = r.ready;
       count = r.count ∙ k.count ∙ sym long;
-      decidable = tables-in-use taken marked (view new) new.vsids (c.mark_assumed-2.ensures.solvers ∙ c.mark_assumed.ensures.solvers) (same-in-use taken (view mid) mid.vsids (view new) new.vsids k.decidable r.decidable);
+      decidable = tables-in-use taken marked (view new) new.vsids (c.mark_assumed-2.ensures.solvers ∙ c.mark_assumed.ensures.solvers)
+          (same-in-use taken (view mid) mid.vsids (view new) new.vsids k.decidable r.decidable);
       assumed = λ l h. y.named l (subst (λ ls. l ∈ ls) (ap (λ (z : AssumptionParts). z.user) r.assumed) h);
-      marked = λ l z h f. c.mark_assumed-2.ensures.marked l z (subst (λ ls. l ∈ ls) (ap (λ (z : AssumptionParts). z.user) r.assumed) h) (ap (λ (m : BiMap). at m.forward (variable_of l)) (sym c.mark_assumed-2.ensures.users) ∙ f);
-      working = λ l h. assumed-listed list taken cleared marked c.user_assumptions.result.now c.prove_linked-2.ensures (over-leads to list c.solver_from_user_lits.new.solver_lits.items over) c.mark_assumed.ensures c.mark_assumed-2.ensures l (subst (λ ls. l ∈ ls) (ap (λ (z : AssumptionParts). z.working) r.assumed ∙ literals) h);
+      marked = λ l z h f. c.mark_assumed-2.ensures.marked l z (subst (λ ls. l ∈ ls) (ap (λ (z : AssumptionParts). z.user) r.assumed) h)
+          (ap (λ (m : BiMap). at m.forward (variable_of l)) (sym c.mark_assumed-2.ensures.users) ∙ f);
+      working = λ l h. assumed-listed list taken cleared marked c.user_assumptions.result.now c.prove_linked-2.ensures
+          (over-leads to list c.solver_from_user_lits.new.solver_lits.items over) c.mark_assumed.ensures c.mark_assumed-2.ensures l
+          (subst (λ ls. l ∈ ls) (ap (λ (z : AssumptionParts). z.working) r.assumed ∙ literals) h);
     }
 
 pub returns-clause-assumed : goal.returns-clause-assumed
@@ -109,20 +126,46 @@ returns-clause-assumed g c s checker f =
     let m = c.solver_from_user_lits.new.variables in
     let list = c.args.list.now in
     let to = chain (at m.users.forward) (at m.solvers.forward) in
-    let first : Summary = record { tables = c.args.variables.now; opened = None; checker = checker; search = view old; assumed = old.assumptions; sat_state = old.solver_state.sat_state; words = 0; ledger = s.ledger } in
+    let first : Summary = record {
+      tables = c.args.variables.now;
+      opened = None;
+      checker = checker;
+      search = view old;
+      assumed =
+          old.assumptions;
+      sat_state = old.solver_state.sat_state;
+      words = 0;
+      ledger = s.ledger;
+    } in
     let (w, k) = f in
-    let begins = subst (λ y. SpacesFit (spaces_of c.args.variables.now checker (view old) old.assumptions y) (with_verdict (assumed_verdict s.verdict) s)) (sym (ap (λ (x : SolverState). x.sat_state) c.assume.ensures)) (w, forgets w first s old.solver_state.sat_state s.verdict k) in
+    let begins = subst (λ y. SpacesFit (spaces_of c.args.variables.now checker (view old) old.assumptions y)
+    (with_verdict (assumed_verdict s.verdict) s)) (sym (ap (λ (x : SolverState). x.sat_state) c.assume.ensures))
+    (w, forgets w first s old.solver_state.sat_state s.verdict k) in
     let n = with_naming (name_all list s.naming) s in
     let n2 = with_verdict (assumed_verdict s.verdict) n in
-    subst (λ v. SpacesFit (spaces_of c.mark_assumed-2.new.variables checker (view new) new.assumptions new.solver_state.sat_state) (with_verdict v (retold (s.told ++ Assumes (map (through_names n.naming) list) ∷ []) (with_assumptions (map (through_names n.naming) list) n)))) (assumed-again s.verdict)
-    (list-assumed (record { tables = m; opened = None; checker = checker; search = view mid; assumed = mid.assumptions; sat_state = mid.solver_state.sat_state; words = 0; ledger = s.ledger }) n2 list c.mark_assumed.new.variables c.mark_assumed-2.new.variables (view new) new.assumptions new.solver_state.sat_state
+    subst (λ v. SpacesFit (spaces_of c.mark_assumed-2.new.variables checker (view new) new.assumptions new.solver_state.sat_state)
+    (with_verdict v (retold (s.told ++ Assumes (map (through_names n.naming) list) ∷ [])
+    (with_assumptions (map (through_names n.naming) list) n)))) (assumed-again s.verdict)
+    (list-assumed (record {
+      tables = m;
+      opened = None;
+      checker = checker;
+      search = view mid;
+      assumed = mid.assumptions;
+      sat_state =
+          mid.solver_state.sat_state;
+      words = 0;
+      ledger = s.ledger;
+    }) n2 list c.mark_assumed.new.variables c.mark_assumed-2.new.variables
+    (view new) new.assumptions new.solver_state.sat_state
     (record {
       all = over-leads to list c.solver_from_user_lits.new.solver_lits.items over;
       are_cleared = subst (λ ls. AreMarked ls false m c.mark_assumed.new.variables) c.user_assumptions.ensures c.mark_assumed.ensures;
       are_marked = c.mark_assumed-2.ensures;
       seen = r.seen;
       same_count = r.count;
-      parts_are = r.assumed ∙ ap (λ ls. newly_assumed list ls) (c.deref.ensures.value ∙ over-carried to list c.solver_from_user_lits.new.solver_lits.items over);
+      parts_are = r.assumed ∙ ap (λ ls. newly_assumed list ls)
+          (c.deref.ensures.value ∙ over-carried to list c.solver_from_user_lits.new.solver_lits.items over);
       verdict = ap (λ (x : SolverState). x.sat_state) r.state;
     })
     (all.stands checker (with_verdict (assumed_verdict s.verdict) s) begins))

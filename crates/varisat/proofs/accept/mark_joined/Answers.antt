@@ -16,4 +16,7 @@ global_of-global-requires g c =
 pub loop-lit-preserved : goal.loop-lit-preserved
 loop-lit-preserved g c =
     let t = take-item c.args.clause.now c.loop-lit.lit-index c.lit-item.result c.loop-lit-test.true c.lit-item.is in
-    subst (λ ls. AreOpened ls c.args.variables.now c.set_isolated.new.self) (sym t) (opened-more (take c.loop-lit.lit-index c.args.clause.now) c.args.variables.now c.loop-lit.variables c.set_isolated.new.self c.lit-item.result c.global_of-global.result c.loop-lit.invariant c.global_of-global.ensures.found c.global_of-global.ensures.live c.set_isolated.ensures)
+    subst (λ ls. AreOpened ls c.args.variables.now c.set_isolated.new.self) (sym t)
+    (opened-more (take c.loop-lit.lit-index c.args.clause.now) c.args.variables.now c.loop-lit.variables c.set_isolated.new.self
+    c.lit-item.result c.global_of-global.result c.loop-lit.invariant c.global_of-global.ensures.found c.global_of-global.ensures.live
+    c.set_isolated.ensures)

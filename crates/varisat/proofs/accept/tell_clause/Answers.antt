@@ -20,7 +20,8 @@ returns-in_err-add_clause-clause-broken g c =
     let entries = Accepts c.args.clause.now ∷ [] in
     passed-on c.from_residual.result (step_error_of_trace e) (λ z. BreaksProof p.proof (step_faults z) q.proof) c.from_residual.ensures
     (subst (λ n. BreaksProof p.proof n q.proof) (trace-faults e)
-    (breaks-proof (parts_of p) (parts_of q) (faults_of e) (entries, breaks-told-globally (parts_of p) (parts_of q) entries e (c.in_err-add_clause.ensures {u = tt}))))
+    (breaks-proof (parts_of p) (parts_of q) (faults_of e)
+    (entries, breaks-told-globally (parts_of p) (parts_of q) entries e (c.in_err-add_clause.ensures {u = tt}))))
 
 -- nothing is stored
 not-full : (e : TraceError) → step_error_of_trace e ≢ step.Full

@@ -13,7 +13,8 @@ use Rattle.varisat.proofs.PlainTables.{is-there}
 use Rattle.varisat.proofs.carrying.carry_literals.Goals as goal
 
 -- where both maps lead
-led-through : (f h : ℕ → Option ℕ) (ls : List Literal) (l : Literal) → ((m : Literal) → m ∈ ls → (v : ℕ) × (chain f h (variable_of m) ≡ Some v)) → l ∈ ls → (x v : ℕ) × (f (variable_of l) ≡ Some x) × (h x ≡ Some v)
+led-through : (f h : ℕ → Option ℕ) (ls : List Literal) (l : Literal) → ((m : Literal) → m ∈ ls → (v : ℕ) × (chain f h (variable_of m) ≡ Some v)) →
+    l ∈ ls → (x v : ℕ) × (f (variable_of l) ≡ Some x) × (h x ≡ Some v)
 led-through f h ls l r i =
     let (v, e) = r l i in
     let (x, a, b) = chain-through f h (variable_of l) v e in
@@ -38,5 +39,10 @@ loop-lit-preserved g c =
     let f = chain (at c.args.first.now) (at c.args.second.now) in
     let l = c.lit-item.result in
     let a = ap (at c.args.first.now) (sym c.var.ensures) ∙ sym c.get.ensures ∙ c.unwrap-middle.ensures in
-    let e = chain-some (at c.args.first.now) (at c.args.second.now) (variable_of l) c.unwrap-middle.result a ∙ sym c.get-in-loop-lit.ensures ∙ c.unwrap-var.ensures in
-    c.in_ok-push.ensures.items ∙ ap (λ xs. xs ++ c.lit.result ∷ []) c.loop-lit.invariant ∙ ap (λ x. map (carry f) (take c.loop-lit.lit-index c.args.lits.now) ++ x ∷ []) (c.lit.ensures ∙ carried-literal f l c.unwrap-var.result c.is_positive.result e c.is_positive.ensures) ∙ sym (ap (map (carry f)) (take-item c.args.lits.now c.loop-lit.lit-index l c.loop-lit-test.true c.lit-item.is) ∙ map-append (carry f) (take c.loop-lit.lit-index c.args.lits.now) (l ∷ []))
+    let e = chain-some (at c.args.first.now) (at c.args.second.now) (variable_of l) c.unwrap-middle.result a ∙ sym c.get-in-loop-lit.ensures
+    ∙ c.unwrap-var.ensures in
+    c.in_ok-push.ensures.items ∙ ap (λ xs. xs ++ c.lit.result ∷ []) c.loop-lit.invariant
+    ∙ ap (λ x. map (carry f) (take c.loop-lit.lit-index c.args.lits.now) ++ x ∷ [])
+    (c.lit.ensures ∙ carried-literal f l c.unwrap-var.result c.is_positive.result e c.is_positive.ensures)
+    ∙ sym (ap (map (carry f)) (take-item c.args.lits.now c.loop-lit.lit-index l c.loop-lit-test.true c.lit-item.is)
+    ∙ map-append (carry f) (take c.loop-lit.lit-index c.args.lits.now) (l ∷ []))

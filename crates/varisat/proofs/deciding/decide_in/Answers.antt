@@ -13,7 +13,8 @@ pub returns-in_err-add_dimacs_cnf-clause-fails : goal.returns-in_err-add_dimacs_
 returns-in_err-add_dimacs_cnf-clause-fails g c =
     let taken = g.W.ProofTarget.taken in
     let s = prepared taken c.args.options.format c.args.options.max_steps c.args.target.now in
-    let x = subst (λ o. StandsFor c.prepare.new.solver (prepared taken c.args.options.format c.args.options.max_steps o)) c.take.ensures.value c.prepare.ensures in
+    let x = subst (λ o. StandsFor c.prepare.new.solver (prepared taken c.args.options.format c.args.options.max_steps o)) c.take.ensures.value
+    c.prepare.ensures in
     let (t, a, y) = (c.in_err-add_dimacs_cnf.ensures {u = tt}).call s x in
     passed-on c.from_residual.result c.in_err-add_dimacs_cnf.field-0.0 (λ e. Fails taken s _ _ e) c.from_residual.ensures (AsRead t a)
 
@@ -21,20 +22,24 @@ pub returns-in_err-report-clause-fails : goal.returns-in_err-report-clause-fails
 returns-in_err-report-clause-fails g c =
     let taken = g.W.ProofTarget.taken in
     let s = prepared taken c.args.options.format c.args.options.max_steps c.args.target.now in
-    let x = subst (λ o. StandsFor c.prepare.new.solver (prepared taken c.args.options.format c.args.options.max_steps o)) c.take.ensures.value c.prepare.ensures in
+    let x = subst (λ o. StandsFor c.prepare.new.solver (prepared taken c.args.options.format c.args.options.max_steps o)) c.take.ensures.value
+    c.prepare.ensures in
     let (t, a, y) = (c.in_ok-add_dimacs_cnf.ensures {u = tt}).call s x in
     let (u, f, z) = c.in_err-report.ensures {u = tt} t y in
-    passed-on c.from_residual-in_err-report.result c.in_err-report.field-0.0 (λ e. Fails taken s _ _ e) c.from_residual-in_err-report.ensures (fails-reported g.row.A.Denot taken s _ _ t u c.in_err-report.field-0.0 a f)
+    passed-on c.from_residual-in_err-report.result c.in_err-report.field-0.0 (λ e. Fails taken s _ _ e) c.from_residual-in_err-report.ensures
+    (fails-reported g.row.A.Denot taken s _ _ t u c.in_err-report.field-0.0 a f)
 
 pub returns-in_err-back-clause-fails : goal.returns-in_err-back-clause-fails
 returns-in_err-back-clause-fails g c =
     let taken = g.W.ProofTarget.taken in
     let s = prepared taken c.args.options.format c.args.options.max_steps c.args.target.now in
-    let x = subst (λ o. StandsFor c.prepare.new.solver (prepared taken c.args.options.format c.args.options.max_steps o)) c.take.ensures.value c.prepare.ensures in
+    let x = subst (λ o. StandsFor c.prepare.new.solver (prepared taken c.args.options.format c.args.options.max_steps o)) c.take.ensures.value
+    c.prepare.ensures in
     let (t, a, y) = (c.in_ok-add_dimacs_cnf.ensures {u = tt}).call s x in
     let (u, f, z) = c.in_ok-report.ensures {u = tt} t y in
     let (back, v, d) = c.in_err-back.ensures.fails u z in
-    passed-on c.from_residual-in_err-back.result c.in_err-back.field-0.0 (λ e. Fails taken s _ _ e) c.from_residual-in_err-back.ensures (AsClosed t u v (concluded c.in_ok-report.report) back a f d)
+    passed-on c.from_residual-in_err-back.result c.in_err-back.field-0.0 (λ e. Fails taken s _ _ e) c.from_residual-in_err-back.ensures
+    (AsClosed t u v (concluded c.in_ok-report.report) back a f d)
 
 pub returns-clause-decided : goal.returns-clause-decided
 returns-clause-decided g c =

@@ -20,4 +20,5 @@ returns-in_default g c =
     let limit = c.args.options.max_steps in
     let (s, a, x) = c.config.ensures empty_state c.requires.new in
     let same = limits limit c.new-update.result c.config.result s c.new-update.ensures a in
-    subst (λ (o : State). StandsFor c.config.new.self o) (same ∙ ap (prepared g.W.ProofTarget.taken c.args.options.format limit) (sym (no-target c.args.target c.in_default.not-Some))) x
+    subst (λ (o : State). StandsFor c.config.new.self o)
+    (same ∙ ap (prepared g.W.ProofTarget.taken c.args.options.format limit) (sym (no-target c.args.target c.in_default.not-Some))) x

@@ -27,14 +27,17 @@ use Rattle.varisat.proofs.dropping.drop_fixed.Goals as goal
 use Rattle.varisat.proofs.dropping.drop_fixed.Goals.{then-current_level-gt0-via-then-current_level-gt0, then-current_level-gt0-via-else-current_level-gt0+then-fully_propagated}
 
 pub settle-requires-clause-holds : goal.settle-requires-clause-holds
-settle-requires-clause-holds g c = relied c.args.tracer.now.variables c.args.tracer.now.proof (view c.args.ctx.now) c.args.ctx.now.assumptions c.requires.tells c.requires.stands
+settle-requires-clause-holds g c = relied c.args.tracer.now.variables c.args.tracer.now.proof
+    (view c.args.ctx.now) c.args.ctx.now.assumptions c.requires.tells c.requires.stands
 
 -- what settling comes to
-begun : (g : Over) (c : In-Ok g) → ComesOn 0 (undecided_spaces c.args.tracer.now.variables c.args.tracer.now.proof.checker c.args.ctx.now) (undecided_spaces c.settle.new.proof.variables c.settle.new.proof.proof.checker c.settle.new.ctx) c.args.tracer.now.proof c.settle.new.proof.proof
+begun : (g : Over) (c : In-Ok g) → ComesOn 0 (undecided_spaces c.args.tracer.now.variables c.args.tracer.now.proof.checker c.args.ctx.now)
+    (undecided_spaces c.settle.new.proof.variables c.settle.new.proof.proof.checker c.settle.new.ctx) c.args.tracer.now.proof c.settle.new.proof.proof
 begun g c =
     let goes = (c.in-Ok.ensures {u = tt}).goes_on in
     let (lines, proves, (settles, takes)) = goes.proves in
-    part-comes (parts_of c.args.tracer.now) (parts_of c.settle.new.proof) c.args.ctx.now c.settle.new.ctx lines c.requires.kept proves takes goes.ready goes.extends.count goes.decidable
+    part-comes (parts_of c.args.tracer.now) (parts_of c.settle.new.proof) c.args.ctx.now c.settle.new.ctx lines c.requires.kept proves takes
+    goes.ready goes.extends.count goes.decidable
     (ap (λ (z : Context g.row.A.Denot). z.assumptions) c.settle.ensures.kept)
 
 -- and what the proof was told
@@ -43,7 +46,8 @@ settled-told g c = (_, (c.in-Ok.ensures {u = tt}).goes_on.proves.2.1.told)
 
 -- and of variables that left
 left-told : (g : Over) (c : In_ok-drop_unneeded g) → TellsSome c.settle.new.proof.proof c.drop_unneeded.new.tracer.proof
-left-told g c = some-through c.settle.new.proof.proof c.drop_listed.new.tracer.proof c.drop_unneeded.new.tracer.proof (c.in_ok-drop_listed.ensures {u = tt}).leave.given (c.in_ok-drop_unneeded.ensures {u = tt}).leave.given
+left-told g c = some-through c.settle.new.proof.proof c.drop_listed.new.tracer.proof c.drop_unneeded.new.tracer.proof
+    (c.in_ok-drop_listed.ensures {u = tt}).leave.given (c.in_ok-drop_unneeded.ensures {u = tt}).leave.given
 
 -- the solver keeps what it did
 kept : (g : Over) (c : In-Ok g) → IsKept c.settle.new.proof.variables c.settle.new.ctx
@@ -51,7 +55,8 @@ kept g c =
     let x = c.args.ctx.now in
     let goes = (c.in-Ok.ensures {u = tt}).goes_on in
     let same = ap (λ (z : Context g.row.A.Denot). z.assumptions) c.settle.ensures.kept in
-    subst (λ (t : Tables). IsKept t c.settle.new.ctx) (sym goes.proves.2.1.tables) (kept-on c.args.tracer.now.variables x c.settle.new.ctx c.requires.kept goes.ready goes.extends.count goes.decidable same)
+    subst (λ (t : Tables). IsKept t c.settle.new.ctx) (sym goes.proves.2.1.tables)
+    (kept-on c.args.tracer.now.variables x c.settle.new.ctx c.requires.kept goes.ready goes.extends.count goes.decidable same)
 
 pub returns-then-is_err-clause-kept : goal.returns-then-is_err-clause-kept
 returns-then-is_err-clause-kept g c = kept g (goal.at.returns-then-is_err-clause-kept g c).In-Ok
@@ -74,14 +79,19 @@ returns-then-current_level-gt0-clause-leaves g c h =
     let calm : IsUnsettled (view c.args.ctx.now) → ⊥ = λ u.
     elim c.then-current_level-gt0.branch [
       | then-current_level-gt0-via-then-current_level-gt0 w ↦ (let n = ap length u.0 in omega (arith, n, c.current_level.ensures, w.if-current_level-gt0.true))
-      | then-current_level-gt0-via-else-current_level-gt0+then-fully_propagated w ↦ (let n = w.fully_propagated.ensures.0 w.if-fully_propagated.true in omega (arith, n, u.1))
+      | then-current_level-gt0-via-else-current_level-gt0+then-fully_propagated w ↦
+          (let n = w.fully_propagated.ensures.0 w.if-fully_propagated.true in omega (arith, n, u.1))
     ] in
     ⊎_elim (λ n. inl (n, calm)) (λ u. absurd (calm u)) h
 
 pub returns-then-is_err-clause-leaves : goal.returns-then-is_err-clause-leaves
 returns-then-is_err-clause-leaves g c h =
     let e = c.in-Ok.ensures {u = tt} in
-    inr (e.at_zero, failed-there c.in-Ok.settled (λ _. Unit {0}) (IsConflicting (view c.settle.new.ctx)) (sym c.is_err.ensures.value ∙ c.if-is_err.true) e.conflict)
+    inr (
+      e.at_zero,
+      failed-there c.in-Ok.settled (λ _. Unit {0}) (IsConflicting (view c.settle.new.ctx))
+          (sym c.is_err.ensures.value ∙ c.if-is_err.true) e.conflict,
+    )
 
 pub returns-clause-leaves : goal.returns-clause-leaves
 returns-clause-leaves g c h =
@@ -101,7 +111,8 @@ returns-then-is_err-clause-told g c = settled-told g (goal.at.returns-then-is_er
 
 pub returns-clause-told : goal.returns-clause-told
 returns-clause-told g c =
-    some-through c.args.tracer.now.proof c.settle.new.proof.proof c.drop_unneeded.new.tracer.proof (settled-told g (goal.at.returns-clause-told g c).In-Ok) (left-told g (goal.at.returns-clause-told g c).In_ok-drop_unneeded)
+    some-through c.args.tracer.now.proof c.settle.new.proof.proof c.drop_unneeded.new.tracer.proof
+    (settled-told g (goal.at.returns-clause-told g c).In-Ok) (left-told g (goal.at.returns-clause-told g c).In_ok-drop_unneeded)
 
 pub returns-clause-tells : goal.returns-clause-tells
 returns-clause-tells g c =
@@ -124,21 +135,28 @@ returns-clause-stands g c =
     let y = c.settle.new.ctx in
     let u = c.drop_listed.new.ctx in
     let z = c.drop_unneeded.new.ctx in
-    comes-through 0 0 0 p.proof q.proof last.proof (undecided_spaces p.variables p.proof.checker x) (undecided_spaces q.variables q.proof.checker y) (undecided_spaces last.variables last.proof.checker z) refl (unknown-undecided q.variables q.proof.checker y)
+    comes-through 0 0 0 p.proof q.proof last.proof (undecided_spaces p.variables p.proof.checker x) (undecided_spaces q.variables q.proof.checker y)
+    (undecided_spaces last.variables last.proof.checker z) refl (unknown-undecided q.variables q.proof.checker y)
     (begun g (goal.at.returns-clause-stands g c).In-Ok)
-    (comes-through 0 0 0 q.proof r.proof last.proof (undecided_spaces q.variables q.proof.checker y) (undecided_spaces r.variables r.proof.checker u) (undecided_spaces last.variables last.proof.checker z) refl (unknown-undecided r.variables r.proof.checker u)
-    (leaving-comes q.proof r.proof (undecided_spaces q.variables q.proof.checker y) (undecided_spaces r.variables r.proof.checker u) (c.in_ok-drop_listed.ensures {u = tt}).leave.stands)
-    (leaving-comes r.proof last.proof (undecided_spaces r.variables r.proof.checker u) (undecided_spaces last.variables last.proof.checker z) (c.in_ok-drop_unneeded.ensures {u = tt}).leave.stands))
+    (comes-through 0 0 0 q.proof r.proof last.proof (undecided_spaces q.variables q.proof.checker y)
+    (undecided_spaces r.variables r.proof.checker u) (undecided_spaces last.variables last.proof.checker z) refl
+    (unknown-undecided r.variables r.proof.checker u)
+    (leaving-comes q.proof r.proof (undecided_spaces q.variables q.proof.checker y) (undecided_spaces r.variables r.proof.checker u)
+    (c.in_ok-drop_listed.ensures {u = tt}).leave.stands)
+    (leaving-comes r.proof last.proof (undecided_spaces r.variables r.proof.checker u) (undecided_spaces last.variables last.proof.checker z)
+    (c.in_ok-drop_unneeded.ensures {u = tt}).leave.stands))
 
 pub returns-then-is_err-clause-within : goal.returns-then-is_err-clause-within
 returns-then-is_err-clause-within g c =
-    come-settled _ c.args.ctx.now c.settle.new.ctx (c.in-Ok.ensures {u = tt}).goes_on (ap (λ (z : Context g.row.A.Denot). z.solver_config) c.settle.ensures.kept)
+    come-settled _ c.args.ctx.now c.settle.new.ctx (c.in-Ok.ensures {u = tt}).goes_on
+    (ap (λ (z : Context g.row.A.Denot). z.solver_config) c.settle.ensures.kept)
 
 pub returns-clause-within : goal.returns-clause-within
 returns-clause-within g c i q k =
     (c.in_ok-drop_unneeded.ensures {u = tt}).leave.within i q
     ((c.in_ok-drop_listed.ensures {u = tt}).leave.within i q
-    (come-settled _ c.args.ctx.now c.settle.new.ctx (c.in-Ok.ensures {u = tt}).goes_on (ap (λ (z : Context g.row.A.Denot). z.solver_config) c.settle.ensures.kept) i q k))
+    (come-settled _ c.args.ctx.now c.settle.new.ctx (c.in-Ok.ensures {u = tt}).goes_on
+    (ap (λ (z : Context g.row.A.Denot). z.solver_config) c.settle.ensures.kept) i q k))
 
 pub returns-in-Err-clause-broken : goal.returns-in-Err-clause-broken
 returns-in-Err-clause-broken g c =
@@ -153,7 +171,8 @@ returns-in-Err-clause-full g c = subst (λ z. z ≢ step.Full) (sym c.from.ensur
 
 -- as variables leave, nothing more is written
 unwritten : (p q r : ProofParts) → TellsSome p q → r.opened ≡ q.opened → BreaksProof p 0 r
-unwritten p q r (given, told) same = proof-breaks-on p q r given 0 told (subst (λ (o : Option OpenState). BreaksProof q 0 (record q { opened = o })) (sym same) (proof-unbroken q))
+unwritten p q r (given, told) same = proof-breaks-on p q r given 0 told
+    (subst (λ (o : Option OpenState). BreaksProof q 0 (record q { opened = o })) (sym same) (proof-unbroken q))
 
 pub returns-in_err-drop_listed-clause-broken : goal.returns-in_err-drop_listed-clause-broken
 returns-in_err-drop_listed-clause-broken g c =
@@ -169,10 +188,12 @@ returns-in_err-drop_unneeded-clause-broken g c =
     let q = c.settle.new.proof.proof in
     let r = c.drop_unneeded.new.tracer.proof in
     passed-on c.from_residual-in_err-drop_unneeded.result step.Memory (λ z. BreaksProof p (step_faults z) r) c.from_residual-in_err-drop_unneeded.ensures
-    (unwritten p q r (settled-told g (goal.at.returns-in_err-drop_unneeded-clause-broken g c).In-Ok) (c.drop_unneeded.ensures.opened ∙ c.drop_listed.ensures.opened))
+    (unwritten p q r (settled-told g (goal.at.returns-in_err-drop_unneeded-clause-broken g c).In-Ok)
+    (c.drop_unneeded.ensures.opened ∙ c.drop_listed.ensures.opened))
 
 pub returns-in_err-drop_listed-clause-full : goal.returns-in_err-drop_listed-clause-full
 returns-in_err-drop_listed-clause-full g c = passed-on c.from_residual.result step.Memory (λ z. z ≢ step.Full) c.from_residual.ensures (λ e. cc)
 
 pub returns-in_err-drop_unneeded-clause-full : goal.returns-in_err-drop_unneeded-clause-full
-returns-in_err-drop_unneeded-clause-full g c = passed-on c.from_residual-in_err-drop_unneeded.result step.Memory (λ z. z ≢ step.Full) c.from_residual-in_err-drop_unneeded.ensures (λ e. cc)
+returns-in_err-drop_unneeded-clause-full g c = passed-on c.from_residual-in_err-drop_unneeded.result step.Memory
+    (λ z. z ≢ step.Full) c.from_residual-in_err-drop_unneeded.ensures (λ e. cc)

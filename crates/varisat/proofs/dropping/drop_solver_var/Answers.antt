@@ -16,5 +16,8 @@ pub returns-clause-dropped : goal.returns-clause-dropped
 returns-clause-dropped g c =
     let x = c.in_ok-global.global in
     let before = parts_of c.args.tracer.now in
-    let proof = c.delete_var_if_gone.new.self.proof in
-    (x, subst (λ (t : Tables). LosesSolverVar x c.args.solver before (record { tables = t; proof = proof })) (sym c.delete_var_if_gone.ensures.variables) (record { dropped = c.in_ok-global.ensures.dropped; told = c.delete_var_if_gone.ensures.told }))
+    let proof = c.delete_var_if_gone.new.self.proof in (
+      x,
+      subst (λ (t : Tables). LosesSolverVar x c.args.solver before (record { tables = t; proof = proof }))
+          (sym c.delete_var_if_gone.ensures.variables) (record { dropped = c.in_ok-global.ensures.dropped; told = c.delete_var_if_gone.ensures.told }),
+    )

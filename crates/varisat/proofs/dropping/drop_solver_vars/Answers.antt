@@ -28,21 +28,27 @@ unwrap-global-requires g c =
     let there = item-∈ ls i l c.loop-lit-test.true c.lit-item.is in
     let (x, e) = there-is (at c.args.tracer.now.variables.solvers.backward (variable_of l)) (c.requires.taken l there) in
     let (rest, s) = split-item ls i l c.loop-lit-test.true c.lit-item.is in
-    let q = c.loop-lit.invariant.1.stays (variable_of l) (λ m h o. distinct-after (take i ls) l rest (subst (λ ks. IsDistinct (map variable_of ks)) s c.requires.distinct) m h o) in
-    is-there c.get.result x (c.get.ensures ∙ ap (λ m. at m c.var-solver.result) c.global_from_solver.ensures ∙ ap (at c.loop-lit.tracer.variables.solvers.backward) c.var-solver.ensures ∙ q ∙ e)
+    let q = c.loop-lit.invariant.1.stays (variable_of l)
+    (λ m h o. distinct-after (take i ls) l rest (subst (λ ks. IsDistinct (map variable_of ks)) s c.requires.distinct) m h o) in
+    is-there c.get.result x (c.get.ensures ∙ ap (λ m. at m c.var-solver.result) c.global_from_solver.ensures
+    ∙ ap (at c.loop-lit.tracer.variables.solvers.backward) c.var-solver.ensures ∙ q ∙ e)
 
 pub set_unit-requires : goal.set_unit-requires
 set_unit-requires g c =
     let t = c.loop-lit.tracer.variables in
-    let e : at t.solvers.backward c.var-solver.result ≡ Some c.unwrap-global.result = ap (λ m. at m c.var-solver.result) (sym c.global_from_solver.ensures) ∙ sym c.get.ensures ∙ c.unwrap-global.ensures in
+    let e : at t.solvers.backward c.var-solver.result ≡ Some c.unwrap-global.result =
+    ap (λ m. at m c.var-solver.result) (sym c.global_from_solver.ensures) ∙ sym c.get.ensures ∙ c.unwrap-global.ensures in
     c.prove_linked.ensures.taken c.unwrap-global.result c.var-solver.result (c.prove_linked.ensures.solvers.back c.unwrap-global.result c.var-solver.result e)
 
 pub set_isolated-requires : goal.set_isolated-requires
 set_isolated-requires g c =
     let t = c.loop-lit.tracer.variables in
     let x = c.unwrap-global.result in
-    let e : at t.solvers.backward c.var-solver.result ≡ Some x = ap (λ m. at m c.var-solver.result) (sym c.global_from_solver.ensures) ∙ sym c.get.ensures ∙ c.unwrap-global.ensures in
-    ap (λ (d : VarData). d.deleted) (c.set_unit.ensures.kept.at_each x ∙ updated-at (kept_at t.kept) x (record (kept_at t.kept x) { unit = Some c.is_positive.result })) ∙ c.prove_linked.ensures.taken x c.var-solver.result (c.prove_linked.ensures.solvers.back x c.var-solver.result e)
+    let e : at t.solvers.backward c.var-solver.result ≡ Some x = ap (λ m. at m c.var-solver.result) (sym c.global_from_solver.ensures)
+    ∙ sym c.get.ensures ∙ c.unwrap-global.ensures in
+    ap (λ (d : VarData). d.deleted)
+    (c.set_unit.ensures.kept.at_each x ∙ updated-at (kept_at t.kept) x (record (kept_at t.kept x) { unit = Some c.is_positive.result }))
+    ∙ c.prove_linked.ensures.taken x c.var-solver.result (c.prove_linked.ensures.solvers.back x c.var-solver.result e)
 
 pub loop-lit-preserved : goal.loop-lit-preserved
 loop-lit-preserved g c =
@@ -54,17 +60,28 @@ loop-lit-preserved g c =
     let before = parts_of c.loop-lit.tracer in
     let last = parts_of c.drop_solver_var.new.tracer in
     let mid = c.loop-lit.tracer.variables in
-    let e : at mid.solvers.backward c.var-solver.result ≡ Some c.unwrap-global.result = ap (λ m. at m c.var-solver.result) (sym c.global_from_solver.ensures) ∙ sym c.get.ensures ∙ c.unwrap-global.ensures in
+    let e : at mid.solvers.backward c.var-solver.result ≡ Some c.unwrap-global.result =
+    ap (λ m. at m c.var-solver.result) (sym c.global_from_solver.ensures) ∙ sym c.get.ensures ∙ c.unwrap-global.ensures in
     let x = c.unwrap-global.result in
     let set = c.set_unit.new.self in
     let marked = c.set_isolated.new.self in
     let known = record (kept_at mid.kept x) { unit = Some c.is_positive.result } in
     let sign : c.is_positive.result ≡ polarity_of l = sign-same l c.is_positive.result c.is_positive.ensures in
-    let told = ap (λ (d : VarData). record d { isolated = true }) (c.set_unit.ensures.kept.at_each x ∙ updated-at (kept_at mid.kept) x known) ∙ ap (λ b. fixed_to b (kept_at mid.kept x)) sign in
-    let changed : IsChangedTo mid marked x (fixed_to (polarity_of l) (kept_at mid.kept x)) = changed-twice mid set marked x known (fixed_to (polarity_of l) (kept_at mid.kept x)) c.set_unit.ensures (subst (IsChangedTo set marked x) told c.set_isolated.ensures) in
+    let told = ap (λ (d : VarData). record d { isolated = true }) (c.set_unit.ensures.kept.at_each x ∙ updated-at (kept_at mid.kept) x known)
+    ∙ ap (λ b. fixed_to b (kept_at mid.kept x)) sign in
+    let changed : IsChangedTo mid marked x (fixed_to (polarity_of l) (kept_at mid.kept x)) =
+    changed-twice mid set marked x known (fixed_to (polarity_of l) (kept_at mid.kept x)) c.set_unit.ensures
+    (subst (IsChangedTo set marked x) told c.set_isolated.ensures) in
     let (y, loses) = c.in_ok-drop_solver_var.ensures.dropped in
-    let q : y ≡ x = (let z : Some y ≡ Some x = sym loses.dropped.taken ∙ ap (λ (b : BiMap). at b.backward c.var-solver.result) (ap (λ (a : Tables). a.solvers) changed.rest) ∙ e in cc) in
-    let one : IsDroppedAlone l before last = (x, marked, changed, subst (λ x. LosesSolverVar x (variable_of l) (record before { tables = marked }) last) q (subst (λ v. LosesSolverVar y v (record before { tables = marked }) last) c.var-solver.ensures loses)) in
+    let q : y ≡ x = (let z : Some y ≡ Some x = sym loses.dropped.taken
+    ∙ ap (λ (b : BiMap). at b.backward c.var-solver.result) (ap (λ (a : Tables). a.solvers) changed.rest) ∙ e in cc) in
+    let one : IsDroppedAlone l before last = (
+      x,
+      marked,
+      changed,
+      subst (λ x. LosesSolverVar x (variable_of l) (record before { tables = marked }) last) q
+          (subst (λ v. LosesSolverVar y v (record before { tables = marked }) last) c.var-solver.ensures loses),
+    ) in
     let (a, b, same) = c.loop-lit.invariant in
     subst (λ ks. AreDroppedAlone ks first last × LeavesTables ks first.tables last.tables × (last.proof.opened ≡ first.proof.opened)) (sym t) (
       dropped-push d l first before last a one,

@@ -6,19 +6,23 @@ use Rattle.varisat.proofs.DroppedUnneeded.{ListsBelow, lists-none, lists-pass, l
 use Rattle.varisat.proofs.dropping.list_unneeded.Goals as goal
 
 pub loop-index-init : goal.loop-index-init
-loop-index-init g c = subst (ListsBelow 0 c.args.variables.now c.args.mentioned.now) (sym c.clear.ensures.items) (lists-none c.args.variables.now c.args.mentioned.now)
+loop-index-init g c = subst (ListsBelow 0 c.args.variables.now c.args.mentioned.now) (sym c.clear.ensures.items)
+    (lists-none c.args.variables.now c.args.mentioned.now)
 
 pub returns : goal.returns
-returns g c = lists-all c.args.variables.now c.args.mentioned.now c.loop-index.unneeded.items c.loop-index.index (omega (arith, c.loop-index-test.false, c.loop-index.auto.index-end)) c.loop-index.invariant
+returns g c = lists-all c.args.variables.now c.args.mentioned.now c.loop-index.unneeded.items c.loop-index.index
+    (omega (arith, c.loop-index-test.false, c.loop-index.auto.index-end)) c.loop-index.invariant
 
 pub loop-index-preserved-then-is_mentioned : goal.loop-index-preserved-then-is_mentioned
-loop-index-preserved-then-is_mentioned g c = lists-pass c.loop-index.index c.args.variables.now c.args.mentioned.now c.loop-index.unneeded.items c.loop-index.invariant (λ p q. let z : false ≡ true = sym p ∙ c.if-is_mentioned.true in cc)
+loop-index-preserved-then-is_mentioned g c = lists-pass c.loop-index.index c.args.variables.now c.args.mentioned.now c.loop-index.unneeded.items
+    c.loop-index.invariant (λ p q. let z : false ≡ true = sym p ∙ c.if-is_mentioned.true in cc)
 
 pub loop-index-preserved-then-not-is_hidden : goal.loop-index-preserved-then-not-is_hidden
 loop-index-preserved-then-not-is_hidden g c =
     let m = c.args.variables.now in
     lists-pass c.loop-index.index m c.args.mentioned.now c.loop-index.unneeded.items c.loop-index.invariant (λ p q.
-    let z : true ≡ false = sym q ∙ ap (λ v. leads_to_hidden m (at m.solvers.backward v)) (sym c.from_index-solver.ensures) ∙ sym c.is_hidden.ensures ∙ c.if-not-is_hidden.true in
+    let z : true ≡ false = sym q ∙ ap (λ v. leads_to_hidden m (at m.solvers.backward v)) (sym c.from_index-solver.ensures) ∙ sym c.is_hidden.ensures
+    ∙ c.if-not-is_hidden.true in
     cc)
 
 pub loop-index-preserved : goal.loop-index-preserved

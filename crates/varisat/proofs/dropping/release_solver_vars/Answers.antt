@@ -20,9 +20,11 @@ drop_solver_var-requires g c =
     let ls = c.args.lits.now in
     let i = c.loop-lit.lit-index in
     let l = c.lit-item.result in
-    let (x, e) = there-is (at c.args.tracer.now.variables.solvers.backward (variable_of l)) (c.requires.taken l (item-∈ ls i l c.loop-lit-test.true c.lit-item.is)) in
+    let (x, e) = there-is (at c.args.tracer.now.variables.solvers.backward (variable_of l))
+    (c.requires.taken l (item-∈ ls i l c.loop-lit-test.true c.lit-item.is)) in
     let (rest, s) = split-item ls i l c.loop-lit-test.true c.lit-item.is in
-    let q = c.loop-lit.invariant.1.stays (variable_of l) (λ m h o. distinct-after (take i ls) l rest (subst (λ ks. IsDistinct (map variable_of ks)) s c.requires.distinct) m h o) in
+    let q = c.loop-lit.invariant.1.stays (variable_of l)
+    (λ m h o. distinct-after (take i ls) l rest (subst (λ ks. IsDistinct (map variable_of ks)) s c.requires.distinct) m h o) in
     is-there (at c.loop-lit.tracer.variables.solvers.backward c.var.result) x (ap (at c.loop-lit.tracer.variables.solvers.backward) c.var.ensures ∙ q ∙ e)
 
 pub loop-lit-preserved : goal.loop-lit-preserved
@@ -35,8 +37,10 @@ loop-lit-preserved g c =
     let (x, loses) = c.in_ok-drop_solver_var.ensures.dropped in
     let one : LosesSolverVar x (variable_of l) before last = subst (λ v. LosesSolverVar x v before last) c.var.ensures loses in
     let (a, b, same) = c.loop-lit.invariant in
-    subst (λ ks. AreReleased ks first last × LeavesTables ks first.tables last.tables × (last.proof.opened ≡ first.proof.opened)) (sym (take-item c.args.lits.now c.loop-lit.lit-index l c.loop-lit-test.true c.lit-item.is)) (
+    subst (λ ks. AreReleased ks first last × LeavesTables ks first.tables last.tables × (last.proof.opened ≡ first.proof.opened))
+    (sym (take-item c.args.lits.now c.loop-lit.lit-index l c.loop-lit-test.true c.lit-item.is)) (
       released-push d l first before last a (x, one),
-      leaves-then d l first.tables before.tables last.tables b (leaves-dropped l before.tables last.tables x (taken-live before.tables (variable_of l) x c.prove_linked.ensures one.dropped.taken) one.dropped),
+      leaves-then d l first.tables before.tables last.tables b
+          (leaves-dropped l before.tables last.tables x (taken-live before.tables (variable_of l) x c.prove_linked.ensures one.dropped.taken) one.dropped),
       c.drop_solver_var.ensures.opened ∙ same,
     )

@@ -8,20 +8,26 @@ pub returns-in-None-clause-no_clause : goal.returns-in-None-clause-no_clause
 returns-in-None-clause-no_clause g c =
     let n = c.args.numbers.now in
     let ls = c.loop-rest.literals.items in
-    no_clause n ls _ _ c.in-None.ensures.no_literal (words_behind ls n _ c.in-Some.text _ _ c.loop-rest.invariant.texts c.in-Some.is c.split_word.ensures.last c.split_word.ensures.more)
+    no_clause n ls _ _ c.in-None.ensures.no_literal
+    (words_behind ls n _ c.in-Some.text _ _ c.loop-rest.invariant.texts c.in-Some.is c.split_word.ensures.last c.split_word.ensures.more)
 
 pub returns-in-None-clause-no_list : goal.returns-in-None-clause-no_list
 returns-in-None-clause-no_list g c =
     let n = c.args.numbers.now in
     let ls = c.loop-rest.literals.items in
-    no_list n ls _ _ c.in-None.ensures.no_literal (words_behind ls n _ c.in-Some.text _ _ c.loop-rest.invariant.texts c.in-Some.is c.split_word.ensures.last c.split_word.ensures.more)
+    no_list n ls _ _ c.in-None.ensures.no_literal
+    (words_behind ls n _ c.in-Some.text _ _ c.loop-rest.invariant.texts c.in-Some.is c.split_word.ensures.last c.split_word.ensures.more)
 
 pub returns-clause-clause : goal.returns-clause-clause
 returns-clause-clause g c =
     let ls = c.loop-rest.literals.items in
-    clause_read c.args.numbers.now ls (ap (λ ws. map literal_text ls ++ ws) (sym (none_left c.loop-rest.rest c.in_default.not-Some)) ∙ c.loop-rest.invariant.texts) c.loop-rest.invariant.in_range
+    clause_read c.args.numbers.now ls
+    (ap (λ ws. map literal_text ls ++ ws) (sym (none_left c.loop-rest.rest c.in_default.not-Some)) ∙ c.loop-rest.invariant.texts)
+    c.loop-rest.invariant.in_range
 
 pub returns-clause-list : goal.returns-clause-list
 returns-clause-list g c =
     let ls = c.loop-rest.literals.items in
-    list_read c.args.numbers.now ls (ap (λ ws. map literal_text ls ++ ws) (sym (none_left c.loop-rest.rest c.in_default.not-Some)) ∙ c.loop-rest.invariant.texts) c.loop-rest.invariant.in_range
+    list_read c.args.numbers.now ls
+    (ap (λ ws. map literal_text ls ++ ws) (sym (none_left c.loop-rest.rest c.in_default.not-Some)) ∙ c.loop-rest.invariant.texts)
+    c.loop-rest.invariant.in_range

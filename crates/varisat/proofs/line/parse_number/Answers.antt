@@ -26,7 +26,8 @@ returns-in_default-clause-no_number c n h e = c.in_default.ensures.cases.0 (is_u
 pub returns-in-Ok-parse-clause-number : goal.returns-in-Ok-parse-clause-number
 returns-in-Ok-parse-clause-number c =
     let nought : c.in_ok-first.field-0.now ≡ 48 → length c.args.text.now ≤ 1 = λ z. omega (arith, z, c.else-first-eq48.either) in
-    reads c.in-Ok.digits.now c.args.text.now c.in_ok-first.field-0.now c.in-Ok-parse.value c.in-Ok.ensures.cases.0 ((c.in_ok-first.ensures {u = tt}).item.3.1 0) c.if-first-eq43.false nought c.in-Ok-parse.ensures.value.0
+    reads c.in-Ok.digits.now c.args.text.now c.in_ok-first.field-0.now c.in-Ok-parse.value c.in-Ok.ensures.cases.0
+    ((c.in_ok-first.ensures {u = tt}).item.3.1 0) c.if-first-eq43.false nought c.in-Ok-parse.ensures.value.0
 
 pub returns-in-Err-clause-no_number : goal.returns-in-Err-clause-no_number
 returns-in-Err-clause-no_number c n h e =

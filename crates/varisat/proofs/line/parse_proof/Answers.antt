@@ -7,4 +7,5 @@ pub returns-then-eq-clause-command : goal.returns-then-eq-clause-command
 returns-then-eq-clause-command g c = let means : MeansCommand c.args.text.now ProofText = search rules in (ProofText, (c.new_in.ensures, refl), means)
 
 pub returns-then-eq-2-clause-command : goal.returns-then-eq-2-clause-command
-returns-then-eq-2-clause-command g c = let means : MeansCommand c.args.text.now ProofBinary = search rules in (ProofBinary, (c.new_in-then-eq-2.ensures, refl), means)
+returns-then-eq-2-clause-command g c = let means : MeansCommand c.args.text.now ProofBinary = search rules in
+    (ProofBinary, (c.new_in-then-eq-2.ensures, refl), means)

@@ -7,10 +7,12 @@ use Rattle.varisat.proofs.line.split_word.Goals as goal
 
 pub returns-in-Some-clause-more : goal.returns-in-Some-clause-more
 returns-in-Some-clause-more c =
-    let first = IsFirst-from_position _ _ (Some c.in-Some.end) (λ b. (b == 32) ≡ true) (λ b. (b == 32) ≡ false) c.in-Some.ensures.ran (YieldsList-from_slice c.args.text.now cc) (λ x q k. search (rules, tests)) (λ x q k. search (rules, tests)) in
+    let first = IsFirst-from_position _ _ (Some c.in-Some.end) (λ b. (b == 32) ≡ true) (λ b. (b == 32) ≡ false) c.in-Some.ensures.ran
+    (YieldsList-from_slice c.args.text.now cc) (λ x q k. search (rules, tests)) (λ x q k. search (rules, tests)) in
     rw take_rest (word_cut c.args.text.now c.in-Some.end first.0 first.1 first.2)
 
 pub returns-in-None-clause-last : goal.returns-in-None-clause-last
 returns-in-None-clause-last c =
-    let first = IsFirst-from_position _ _ None (λ b. (b == 32) ≡ true) (λ b. (b == 32) ≡ false) c.in-None.ensures.ran (YieldsList-from_slice c.args.text.now cc) (λ x q k. search (rules, tests)) (λ x q k. search (rules, tests)) in
+    let first = IsFirst-from_position _ _ None (λ b. (b == 32) ≡ true) (λ b. (b == 32) ≡ false) c.in-None.ensures.ran
+    (YieldsList-from_slice c.args.text.now cc) (λ x q k. search (rules, tests)) (λ x q k. search (rules, tests)) in
     word_alone c.args.text.now first

@@ -11,8 +11,16 @@ pub returns-then-is_witness : goal.returns-then-is_witness
 returns-then-is_witness g c =
     let l = c.lit-item.result in
     let (rest, s) = split-item c.args.clause.now c.loop-lit.lit-index l c.loop-lit-test.true c.lit-item.is in
-    let e = c.var.ensures ∙ sym c.var-then-is_witness.ensures in
-    (take c.loop-lit.lit-index c.args.clause.now, l, rest, s, c.loop-lit.invariant, sym c.var-then-is_witness.ensures, subst (IsWitness (naming_of c.args.variables.now)) e c.if-is_witness.ensures)
+    let e = c.var.ensures ∙ sym c.var-then-is_witness.ensures in (
+      take c.loop-lit.lit-index c.args.clause.now,
+      l,
+      rest,
+      s,
+      c.loop-lit.invariant,
+      sym c.var-then-is_witness.ensures,
+      subst
+          (IsWitness (naming_of c.args.variables.now)) e c.if-is_witness.ensures,
+    )
 
 pub loop-lit-preserved : goal.loop-lit-preserved
 loop-lit-preserved g c =
@@ -25,4 +33,5 @@ loop-lit-preserved g c =
     (∈-append_cases k (take c.loop-lit.lit-index c.args.clause.now) (l ∷ []) (subst (λ ls. k ∈ ls) t h))
 
 pub returns : goal.returns
-returns g c = subst (NameNoWitness (naming_of c.args.variables.now)) (take_all c.loop-lit.lit-index c.args.clause.now c.loop-lit-test.false) c.loop-lit.invariant
+returns g c = subst (NameNoWitness (naming_of c.args.variables.now))
+    (take_all c.loop-lit.lit-index c.args.clause.now c.loop-lit-test.false) c.loop-lit.invariant

@@ -21,4 +21,15 @@ returns-then-made-max_count g c =
 pub returns-then-clause-room : goal.returns-then-clause-room
 returns-then-clause-room g c =
     let (f, a) = all-made c.args.clause.now (naming_of c.args.variables.now) in
-    λ crowded. omega (arith, a, c.watermark_with.ensures, c.user_watermark.ensures, c.global_watermark.ensures, c.max_count.ensures, c.max_count-2.ensures, c.if-made-max_count.false, c.if-clause-room.true, crowded)
+    λ crowded. omega (
+      arith,
+      a,
+      c.watermark_with.ensures,
+      c.user_watermark.ensures,
+      c.global_watermark.ensures,
+      c.max_count.ensures,
+      c.max_count-2.ensures,
+      c.if-made-max_count.false,
+      c.if-clause-room.true,
+      crowded,
+    )

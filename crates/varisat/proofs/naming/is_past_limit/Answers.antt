@@ -7,8 +7,12 @@ use Rattle.varisat.proofs.ReadPlaces.{take-item}
 use Rattle.varisat.proofs.naming.is_past_limit.Goals as goal
 
 pub returns-then-index-max_count : goal.returns-then-index-max_count
-returns-then-index-max_count c =
-    (c.lit-item.result, item-∈ c.args.clause.now c.loop-lit.lit-index c.lit-item.result c.loop-lit-test.true c.lit-item.is, omega (arith, c.index.ensures.index, c.max_count.ensures, c.if-index-max_count.true))
+returns-then-index-max_count c = (
+  c.lit-item.result,
+  item-∈ c.args.clause.now c.loop-lit.lit-index c.lit-item.result c.loop-lit-test.true c.lit-item.is,
+  omega
+      (arith, c.index.ensures.index, c.max_count.ensures, c.if-index-max_count.true),
+)
 
 pub loop-lit-preserved : goal.loop-lit-preserved
 loop-lit-preserved c =
@@ -20,4 +24,5 @@ loop-lit-preserved c =
     (∈-append_cases m d (c.lit-item.result ∷ []) (subst (λ ls. m ∈ ls) t h))
 
 pub returns : goal.returns
-returns c (m, i, b) = let h = subst (λ d. (m : Literal) → m ∈ d → variable_of m < 2 ^ 28) (take_all c.loop-lit.lit-index c.args.clause.now c.loop-lit-test.false) c.loop-lit.invariant m i in omega (arith, h, b)
+returns c (m, i, b) = let h = subst (λ d. (m : Literal) → m ∈ d → variable_of m < 2 ^ 28)
+    (take_all c.loop-lit.lit-index c.args.clause.now c.loop-lit-test.false) c.loop-lit.invariant m i in omega (arith, h, b)

@@ -4,7 +4,8 @@ use Rattle.varisat_names.proofs.Tables.{named-inside}
 use Rattle.varisat.proofs.naming.is_witness.Goals as goal
 
 pub var_data_global-requires : goal.var_data_global-requires
-var_data_global-requires g c = named-inside c.args.variables.now c.args.user c.in-Some.global c.prove_linked.ensures (ap (λ m. at m c.args.user) (sym c.global_from_user.ensures) ∙ sym c.get.ensures ∙ c.in-Some.is)
+var_data_global-requires g c = named-inside c.args.variables.now c.args.user c.in-Some.global c.prove_linked.ensures
+    (ap (λ m. at m c.args.user) (sym c.global_from_user.ensures) ∙ sym c.get.ensures ∙ c.in-Some.is)
 
 pub returns-in-Witness : goal.returns-in-Witness
 returns-in-Witness g c = search rules

@@ -13,10 +13,12 @@ loop-lit-preserved g c =
     let m = naming_of c.args.variables.now in
     let d = take c.loop-lit.lit-index c.args.clause.now in
     let t = take-item c.args.clause.now c.loop-lit.lit-index l c.loop-lit-test.true c.lit-item.is in
-    let next : (name_all (take (c.loop-lit.lit-index + 1) c.args.clause.now) m).watermark ≡ max (name_all d m).watermark (variable_of l + 1) = ap (λ ls. (name_all ls m).watermark) t ∙ ap (λ (n : Naming). n.watermark) (all-append d (l ∷ []) m) ∙ one-watermark (variable_of l) (name_all d m) in
+    let next : (name_all (take (c.loop-lit.lit-index + 1) c.args.clause.now) m).watermark ≡ max (name_all d m).watermark (variable_of l + 1) =
+    ap (λ ls. (name_all ls m).watermark) t ∙ ap (λ (n : Naming). n.watermark) (all-append d (l ∷ []) m) ∙ one-watermark (variable_of l) (name_all d m) in
     let i = c.index.ensures.index in
     let h = c.loop-lit.invariant in
     elim c.if-index-watermark.branch [
-      | then-index-watermark w ↦ let a = w.watermark-is in let b = w.index-watermark.ensures.index in let e = w.if-index-watermark.true in omega (arith, next, i, h, a, b, e)
+      | then-index-watermark w ↦ let a = w.watermark-is in let b = w.index-watermark.ensures.index in let e = w.if-index-watermark.true in
+          omega (arith, next, i, h, a, b, e)
       | else-index-watermark w ↦ let a = w.watermark-is in let e = w.if-index-watermark.false in omega (arith, next, i, h, a, e)
     ]

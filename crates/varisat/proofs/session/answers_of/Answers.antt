@@ -7,10 +7,15 @@ use Rattle.varisat.proofs.FewSteps.{answers-stay-few}
 use Rattle.varisat.proofs.session.answers_of.Goals as goal
 
 pub returns-clause-run : goal.returns-clause-run
-returns-clause-run g c = of-ok c.run-answers.result _ _ (λ answers h. let (t, r, q) = h empty_state c.new_in-solver.ensures in (t, r, λ v. (journal-of _ t q (ap (λ (l : Ledger). l.valid) (sym q.ledger) ∙ v), run-counts _ _ c.args.calls.items answers.items t r v))) c.run-answers.ensures.run
+returns-clause-run g c = of-ok c.run-answers.result _ _
+    (λ answers h. let (t, r, q) = h empty_state c.new_in-solver.ensures in
+    (t, r, λ v. (journal-of _ t q (ap (λ (l : Ledger). l.valid) (sym q.ledger) ∙ v), run-counts _ _ c.args.calls.items answers.items t r v)))
+    c.run-answers.ensures.run
 
 pub returns-clause-truth : goal.returns-clause-truth
-returns-clause-truth g c = of-ok c.run-answers.result _ _ (λ answers h. let (t, r, q) = h empty_state c.new_in-solver.ensures in run-is-true _ _ c.args.calls.items answers.items t r) c.run-answers.ensures.run
+returns-clause-truth g c = of-ok c.run-answers.result _ _
+    (λ answers h. let (t, r, q) = h empty_state c.new_in-solver.ensures in run-is-true _ _ c.args.calls.items answers.items t r) c.run-answers.ensures.run
 
 pub returns-clause-few : goal.returns-clause-few
-returns-clause-few g c = of-ok c.run-answers.result _ _ (λ answers h. answers-stay-few g.S.ByteSource.stand g.W.ProofTarget.taken c.args.calls.items answers.items) c.run-answers.ensures.run
+returns-clause-few g c = of-ok c.run-answers.result _ _
+    (λ answers h. answers-stay-few g.S.ByteSource.stand g.W.ProofTarget.taken c.args.calls.items answers.items) c.run-answers.ensures.run

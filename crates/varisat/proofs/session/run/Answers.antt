@@ -8,7 +8,12 @@ use Rattle.varisat.proofs.session.run.Goals as goal
 
 pub loop-call-init : goal.loop-call-init
 loop-call-init g c = record {
-  so_far = λ s st. (s, (let none : c.in_ok-answers.answers.items ≡ [] = search rules in subst (λ answers. Run g.S.ByteSource.stand g.W.ProofTarget.taken s [] answers s) (sym none) refl), st);
+  so_far = λ s st. (
+    s,
+    (let none : c.in_ok-answers.answers.items ≡ [] = search rules in
+        subst (λ answers. Run g.S.ByteSource.stand g.W.ProofTarget.taken s [] answers s) (sym none) refl),
+    st,
+  );
   room = search rules;
   left = search rules;
   whole = search rules;
@@ -17,7 +22,8 @@ loop-call-init g c = record {
 pub make_call-requires : goal.make_call-requires
 make_call-requires g c =
     ready-next g.S.ByteSource.stand g.W.ProofTarget.taken c.loop-call.yielded _ c.in-Some.call
-    (subst (λ cs. AreReady g.S.ByteSource.stand g.W.ProofTarget.taken cs) (sym (ap (λ xs. c.loop-call.yielded ++ xs) (sym c.in-Some.ensures.steps.0) ∙ c.loop-call.invariant.whole)) c.requires)
+    (subst (λ cs. AreReady g.S.ByteSource.stand g.W.ProofTarget.taken cs)
+    (sym (ap (λ xs. c.loop-call.yielded ++ xs) (sym c.in-Some.ensures.steps.0) ∙ c.loop-call.invariant.whole)) c.requires)
 
 pub loop-call-preserved : goal.loop-call-preserved
 loop-call-preserved g c = record {
@@ -27,7 +33,8 @@ loop-call-preserved g c = record {
       (u, rw c.push_reserved.ensures.items (run-push _ _ s t u c.loop-call.yielded c.loop-call.answers.items c.in-Some.call c.make_call.result r p), w);
   room = omega (arith, c.loop-call.invariant.room, c.in-Some.ensures.steps.1, c.push_reserved.ensures.len, c.push_reserved.ensures.capacity);
   left = let e = ap length c.in-Some.ensures.steps.0 in omega (arith, e, c.loop-call.invariant.left, c.in-Some.ensures.steps.1);
-  whole = append_assoc c.loop-call.yielded (c.in-Some.call ∷ []) _ ∙ ap (λ xs. c.loop-call.yielded ++ xs) (sym c.in-Some.ensures.steps.0) ∙ c.loop-call.invariant.whole;
+  whole = append_assoc c.loop-call.yielded (c.in-Some.call ∷ []) _ ∙ ap (λ xs. c.loop-call.yielded ++ xs) (sym c.in-Some.ensures.steps.0)
+      ∙ c.loop-call.invariant.whole;
 }
 
 pub returns-clause-run : goal.returns-clause-run

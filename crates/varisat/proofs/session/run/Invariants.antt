@@ -8,7 +8,8 @@ use Rattle.varisat.proofs.session.run.Given as goal
 
 abbrev pub invariant-loop-call : goal.invariant-loop-call
 invariant-loop-call g l = record {
-  so_far : (s : State) → StandsFor l.initial.solver s → (t : State) × Run g.S.ByteSource.stand g.W.ProofTarget.taken s l.yielded l.answers.items t × StandsFor l.solver t;
+  so_far : (s : State) → StandsFor l.initial.solver s → (t : State) × Run g.S.ByteSource.stand g.W.ProofTarget.taken s l.yielded l.answers.items t
+      × StandsFor l.solver t;
   room : vec_len l.answers + into_iter_len l.call-iterator ≤ vec_capacity l.answers;
   left : into_iter_len l.call-iterator ≡ length (into_iter_items l.call-iterator);
   whole : l.yielded ++ into_iter_items l.call-iterator ≡ l.fn.calls.items;

@@ -17,7 +17,8 @@ pub lit_is_true-requires : goal.lit_is_true-requires
 lit_is_true-requires g c =
     let t = c.args.variables.now in
     let x = c.in-Some.global in
-    let at-user : at t.users.forward c.from_index-user.result ≡ Some x = sym (c.in-Some.ensures ∙ ap (λ xs. at xs c.from_index-user.result) c.global_from_user.ensures) in
+    let at-user : at t.users.forward c.from_index-user.result ≡ Some x =
+    sym (c.in-Some.ensures ∙ ap (λ xs. at xs c.from_index-user.result) c.global_from_user.ensures) in
     let inside = named-inside t c.from_index-user.result x c.prove_linked.ensures at-user in
     let count = c.in_ok-model.ensures.count in
     let same : variable_of c.positive.result ≡ x = ap variable_of c.positive.ensures ∙ variable-literal x true in
@@ -32,17 +33,21 @@ loop-index-preserved g c =
     let one : i + 1 ≡ suc i = omega arith in
     let zero : 0 + i ≡ i = omega arith in
     let next = ap (list_tables t vs 0) one ∙ tables-push t vs m refl i 0 ∙ ap (λ n. list_tables t vs 0 i ++ put_name n (at t.users.forward n) m []) zero in
-    let got : c.get.result ≡ at t.users.forward i = c.get.ensures ∙ ap (λ xs. at xs c.from_index-user.result) c.global_from_user.ensures ∙ ap (at t.users.forward) c.from_index-user.ensures in
+    let got : c.get.result ≡ at t.users.forward i = c.get.ensures ∙ ap (λ xs. at xs c.from_index-user.result) c.global_from_user.ensures
+    ∙ ap (at t.users.forward) c.from_index-user.ensures in
     elim c.match-get.branch [
       | in-Some+in_ok-push w ↦
           let x = w.in-Some.global in
           let at-i : at t.users.forward i ≡ Some x = sym got ∙ w.in-Some.is in
           let l = c.prove_linked.ensures in
-          let v : w.lit_is_true.result ≡ m x = literal-listed t vs c.in_ok-model.model x w.positive.result w.lit_is_true.result c.in_ok-model.ensures (l.named x i (l.users.there i x at-i)) w.positive.ensures w.lit_is_true.ensures in
-          ap (λ l. l.items) w.list-is ∙ w.in_ok-push.ensures.items ∙ ap₂ (λ xs y. xs ++ y ∷ []) c.loop-index.invariant (w.lit.ensures ∙ ap₂ literal_of c.from_index-user.ensures v) ∙ ap (λ o. list_tables t vs 0 i ++ put_name i o m []) (sym at-i) ∙ sym next
+          let v : w.lit_is_true.result ≡ m x = literal-listed t vs c.in_ok-model.model x w.positive.result w.lit_is_true.result
+          c.in_ok-model.ensures (l.named x i (l.users.there i x at-i)) w.positive.ensures w.lit_is_true.ensures in
+          ap (λ l. l.items) w.list-is ∙ w.in_ok-push.ensures.items ∙ ap₂ (λ xs y. xs ++ y ∷ []) c.loop-index.invariant
+          (w.lit.ensures ∙ ap₂ literal_of c.from_index-user.ensures v) ∙ ap (λ o. list_tables t vs 0 i ++ put_name i o m []) (sym at-i) ∙ sym next
       | in_default w ↦
           let n : at t.users.forward i ≡ None = sym got ∙ w.in_default.is in
-          ap (λ l. l.items) w.list-is ∙ c.loop-index.invariant ∙ sym (append-nil (list_tables t vs 0 i)) ∙ ap (λ o. list_tables t vs 0 i ++ put_name i o m []) (sym n) ∙ sym next
+          ap (λ l. l.items) w.list-is ∙ c.loop-index.invariant ∙ sym (append-nil (list_tables t vs 0 i))
+          ∙ ap (λ o. list_tables t vs 0 i ++ put_name i o m []) (sym n) ∙ sym next
     ]
 
 pub loop-index-init : goal.loop-index-init

@@ -20,23 +20,28 @@ use Rattle.varisat.proofs.solving.begin.Goals.{In_ok-begin_step}
 use Rattle.varisat.proofs.solving.begin.Goals as goal
 
 pub begin_step-requires-clause-holds : goal.begin_step-requires-clause-holds
-begin_step-requires-clause-holds g c = relied c.args.tracer.now.variables c.args.tracer.now.proof (view c.args.ctx.now) c.args.ctx.now.assumptions c.requires.tells c.requires.stands
+begin_step-requires-clause-holds g c = relied c.args.tracer.now.variables c.args.tracer.now.proof
+    (view c.args.ctx.now) c.args.ctx.now.assumptions c.requires.tells c.requires.stands
 
 -- how the step began
-begun : (g : Over) (c : In_ok-begin_step g) → BeginsStep (λ lines. TakesLines TakesGlobally (parts_of c.args.tracer.now) lines (parts_of c.begin_step.new.proof)) c.args.ctx.now c.begin_step.new.ctx
+begun : (g : Over) (c : In_ok-begin_step g) →
+    BeginsStep (λ lines. TakesLines TakesGlobally (parts_of c.args.tracer.now) lines (parts_of c.begin_step.new.proof)) c.args.ctx.now c.begin_step.new.ctx
 begun g c = (c.in_ok-begin_step.ensures {u = tt}).begins
 
 kept : (g : Over) (c : In_ok-begin_step g) → IsKept c.begin_step.new.proof.variables c.begin_step.new.ctx
 kept g c =
     let b = begun g c in
-    subst (λ (t : Tables). IsKept t c.begin_step.new.ctx) (sym (begin-tables (parts_of c.args.tracer.now) (parts_of c.begin_step.new.proof) c.args.ctx.now c.begin_step.new.ctx b))
+    subst (λ (t : Tables). IsKept t c.begin_step.new.ctx)
+    (sym (begin-tables (parts_of c.args.tracer.now) (parts_of c.begin_step.new.proof) c.args.ctx.now c.begin_step.new.ctx b))
     (begin-kept c.args.ctx.now c.begin_step.new.ctx b c.requires.kept.ready c.args.tracer.now.variables c.requires.kept)
 
 pub drop_fixed-requires-clause-kept : goal.drop_fixed-requires-clause-kept
 drop_fixed-requires-clause-kept g c = kept g (goal.at.drop_fixed-requires-clause-kept g c).In_ok-begin_step
 
 pub drop_fixed-requires-clause-tells : goal.drop_fixed-requires-clause-tells
-drop_fixed-requires-clause-tells g c = begin-tells (parts_of c.args.tracer.now) (parts_of c.begin_step.new.proof) c.args.ctx.now c.begin_step.new.ctx (begun g (goal.at.drop_fixed-requires-clause-tells g c).In_ok-begin_step) c.requires.tells
+drop_fixed-requires-clause-tells g c = begin-tells (parts_of c.args.tracer.now)
+    (parts_of c.begin_step.new.proof) c.args.ctx.now c.begin_step.new.ctx
+    (begun g (goal.at.drop_fixed-requires-clause-tells g c).In_ok-begin_step) c.requires.tells
 
 pub drop_fixed-requires-clause-unknown : goal.drop_fixed-requires-clause-unknown
 drop_fixed-requires-clause-unknown g c = ap (λ (x : Context g.row.A.Denot). x.solver_state.sat_state) c.begin_step.ensures.kept ∙ c.requires.unknown
@@ -45,7 +50,8 @@ pub drop_fixed-requires-clause-stands : goal.drop_fixed-requires-clause-stands
 drop_fixed-requires-clause-stands g c =
     let p = parts_of c.args.tracer.now in
     let q = parts_of c.begin_step.new.proof in
-    some-on 0 _ _ p.proof q.proof (begin-comes p q c.args.ctx.now c.begin_step.new.ctx c.requires.kept (begun g (goal.at.drop_fixed-requires-clause-stands g c).In_ok-begin_step)) c.requires.stands
+    some-on 0 _ _ p.proof q.proof (begin-comes p q c.args.ctx.now c.begin_step.new.ctx c.requires.kept
+    (begun g (goal.at.drop_fixed-requires-clause-stands g c).In_ok-begin_step)) c.requires.stands
 
 pub returns-clause-begins : goal.returns-clause-begins
 returns-clause-begins g c =
@@ -63,12 +69,15 @@ returns-clause-begins g c =
       kept = e.kept;
       tells = e.tells;
       told = some-through p.proof q.proof r.proof (begin-told (parts_of p) (parts_of q) x y b) e.told;
-      within = λ i k. e.within i x.schedule (come-begun _ x y c.requires.kept.ready c.prove_in_range.ensures.luby_restart_interval_scale c.requires.counted b config count i k);
+      within = λ i k. e.within i x.schedule
+          (come-begun _ x y c.requires.kept.ready c.prove_in_range.ensures.luby_restart_interval_scale c.requires.counted b config count i k);
       state = c.drop_fixed.ensures.state ∙ ap (λ (c : Context g.row.A.Denot). c.solver_state) c.begin_step.ensures.kept;
       count = e.count ∙ count;
       left = record { reduced = y; begins = begins-any x y b; left = e.left };
       leaves = λ h. e.leaves (leaves-begun p.variables q.variables x y c.requires.kept.ready b (begin-tables (parts_of p) (parts_of q) x y b) h);
-      stands = comes-through 0 0 0 p.proof q.proof r.proof (undecided_spaces p.variables p.proof.checker x) (undecided_spaces q.variables q.proof.checker y) (undecided_spaces r.variables r.proof.checker z) refl (unknown-undecided q.variables q.proof.checker y)
+      stands = comes-through 0 0 0 p.proof q.proof r.proof (undecided_spaces p.variables p.proof.checker x)
+          (undecided_spaces q.variables q.proof.checker y) (undecided_spaces r.variables r.proof.checker z) refl
+          (unknown-undecided q.variables q.proof.checker y)
           (begin-comes (parts_of p) (parts_of q) x y c.requires.kept b) e.stands;
     }
 
@@ -79,10 +88,12 @@ pub returns-clause-config : goal.returns-clause-config
 returns-clause-config g c = c.drop_fixed.ensures.schedule.solver_config ∙ ap (λ (x : Context g.row.A.Denot). x.solver_config) c.begin_step.ensures.kept
 
 pub returns-in_err-drop_fixed-clause-schedule : goal.returns-in_err-drop_fixed-clause-schedule
-returns-in_err-drop_fixed-clause-schedule g c = c.drop_fixed.ensures.schedule.schedule ∙ ap (λ (x : Context g.row.A.Denot). x.schedule) c.begin_step.ensures.kept
+returns-in_err-drop_fixed-clause-schedule g c = c.drop_fixed.ensures.schedule.schedule
+    ∙ ap (λ (x : Context g.row.A.Denot). x.schedule) c.begin_step.ensures.kept
 
 pub returns-in_err-drop_fixed-clause-config : goal.returns-in_err-drop_fixed-clause-config
-returns-in_err-drop_fixed-clause-config g c = c.drop_fixed.ensures.schedule.solver_config ∙ ap (λ (x : Context g.row.A.Denot). x.solver_config) c.begin_step.ensures.kept
+returns-in_err-drop_fixed-clause-config g c = c.drop_fixed.ensures.schedule.solver_config
+    ∙ ap (λ (x : Context g.row.A.Denot). x.solver_config) c.begin_step.ensures.kept
 
 pub returns-in_err-begin_step-clause-broken : goal.returns-in_err-begin_step-clause-broken
 returns-in_err-begin_step-clause-broken g c =
@@ -90,7 +101,8 @@ returns-in_err-begin_step-clause-broken g c =
     let p = c.args.tracer.now in
     let q = c.begin_step.new.proof in
     passed-on c.from_residual.result (step_error_of_trace e) (λ z. BreaksProof p.proof (step_faults z) q.proof) c.from_residual.ensures
-    (subst (λ n. BreaksProof p.proof n q.proof) (trace-faults e) (breaks-proof (parts_of p) (parts_of q) (faults_of e) (c.in_err-begin_step.ensures {u = tt}).broken))
+    (subst (λ n. BreaksProof p.proof n q.proof) (trace-faults e)
+    (breaks-proof (parts_of p) (parts_of q) (faults_of e) (c.in_err-begin_step.ensures {u = tt}).broken))
 
 pub returns-in_err-begin_step-clause-full : goal.returns-in_err-begin_step-clause-full
 returns-in_err-begin_step-clause-full g c =
@@ -103,11 +115,13 @@ returns-in_err-drop_fixed-clause-broken g c =
     let p = c.args.tracer.now in
     let q = c.begin_step.new.proof in
     let r = c.drop_fixed.new.tracer in
-    let (given, told) = begin-told (parts_of p) (parts_of q) c.args.ctx.now c.begin_step.new.ctx (begun g (goal.at.returns-in_err-drop_fixed-clause-broken g c).In_ok-begin_step) in
+    let (given, told) = begin-told (parts_of p) (parts_of q) c.args.ctx.now c.begin_step.new.ctx
+    (begun g (goal.at.returns-in_err-drop_fixed-clause-broken g c).In_ok-begin_step) in
     passed-on c.from_residual-in_err-drop_fixed.result e (λ z. BreaksProof p.proof (step_faults z) r.proof) c.from_residual-in_err-drop_fixed.ensures
     (proof-breaks-on p.proof q.proof r.proof given (step_faults e) told (c.in_err-drop_fixed.ensures {u = tt}).broken)
 
 pub returns-in_err-drop_fixed-clause-full : goal.returns-in_err-drop_fixed-clause-full
 returns-in_err-drop_fixed-clause-full g c =
     let e = c.in_err-drop_fixed.field-0.0 in
-    passed-on c.from_residual-in_err-drop_fixed.result e (λ z. z ≢ step.Full) c.from_residual-in_err-drop_fixed.ensures (c.in_err-drop_fixed.ensures {u = tt}).full
+    passed-on c.from_residual-in_err-drop_fixed.result e (λ z. z ≢ step.Full) c.from_residual-in_err-drop_fixed.ensures
+    (c.in_err-drop_fixed.ensures {u = tt}).full

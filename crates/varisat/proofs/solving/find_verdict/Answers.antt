@@ -25,14 +25,19 @@ stepping : (g : Over) (c : In_ok-make_step g) → Stepping c.args.ctx.now c.step
 stepping g c =
     let r = c.steps.invariant in
     record {
-      searching = searching-at c.args.ctx.now c.steps.ctx c.args.max_steps c.prove_in_range.ensures.luby_restart_interval_scale c.requires.kept.ready c.requires.unknown r.count r.config r.made;
-      left = not-spent c.args.ctx.now.schedule c.steps.ctx.schedule c.args.max_steps c.steps-first.result c.steps-steps.result c.steps-first.ensures.steps c.steps-steps.ensures.steps c.if-steps-first.false;
+      searching = searching-at c.args.ctx.now c.steps.ctx c.args.max_steps c.prove_in_range.ensures.luby_restart_interval_scale
+          c.requires.kept.ready c.requires.unknown r.count r.config r.made;
+      left = not-spent c.args.ctx.now.schedule c.steps.ctx.schedule c.args.max_steps c.steps-first.result c.steps-steps.result
+          c.steps-first.ensures.steps c.steps-steps.ensures.steps c.if-steps-first.false;
       next = (c.in_ok-make_step.ensures {u = tt}).schedule;
       same_count = (made g c).count;
     }
 
 -- what the steps come to with it
-stepped : (g : Over) (c : In_ok-make_step g) → ComesOn (steps_since c.args.ctx.now.schedule c.make_step.new.ctx.schedule) (undecided_spaces c.args.tracer.now.variables c.args.tracer.now.proof.checker c.args.ctx.now) (spaces_with c.make_step.new.tracer.variables c.make_step.new.tracer.proof.checker c.make_step.new.ctx) c.args.tracer.now.proof c.make_step.new.tracer.proof
+stepped : (g : Over) (c : In_ok-make_step g) → ComesOn (steps_since c.args.ctx.now.schedule c.make_step.new.ctx.schedule)
+    (undecided_spaces c.args.tracer.now.variables c.args.tracer.now.proof.checker c.args.ctx.now)
+    (spaces_with c.make_step.new.tracer.variables c.make_step.new.tracer.proof.checker c.make_step.new.ctx) c.args.tracer.now.proof
+    c.make_step.new.tracer.proof
 stepped g c =
     let p = c.args.tracer.now in
     let q = c.steps.tracer in
@@ -40,15 +45,18 @@ stepped g c =
     let x = c.args.ctx.now in
     let y = c.steps.ctx in
     let z = c.make_step.new.ctx in
-    comes-through (steps_since x.schedule y.schedule) 1 (steps_since x.schedule z.schedule) p.proof q.proof r.proof (undecided_spaces p.variables p.proof.checker x) (undecided_spaces q.variables q.proof.checker y) (spaces_with r.variables r.proof.checker z)
+    comes-through (steps_since x.schedule y.schedule) 1 (steps_since x.schedule z.schedule) p.proof q.proof r.proof
+    (undecided_spaces p.variables p.proof.checker x) (undecided_spaces q.variables q.proof.checker y) (spaces_with r.variables r.proof.checker z)
     (one-more (stepping g c)) (unknown-undecided q.variables q.proof.checker y) c.steps.invariant.stands (made g c).stands
 
 -- the solver's state but for the verdict
-same-state : (g : Over) (c : In_ok-make_step g) → c.make_step.new.ctx.solver_state ≡ record c.args.ctx.now.solver_state { sat_state = c.make_step.new.ctx.solver_state.sat_state }
+same-state : (g : Over) (c : In_ok-make_step g) → c.make_step.new.ctx.solver_state ≡ record c.args.ctx.now.solver_state
+    { sat_state = c.make_step.new.ctx.solver_state.sat_state }
 same-state g c = (made g c).state ∙ ap (λ (s : SolverState). record s { sat_state = c.make_step.new.ctx.solver_state.sat_state }) c.steps.invariant.state
 
 -- a verdict that it comes to
-found : (g : Over) (c : In_ok-make_step g) (answer : Option Bool) → answer ≡ answer_at c.make_step.new.ctx.solver_state.sat_state → FindsVerdict (parts_of c.args.tracer.now) (parts_of c.make_step.new.tracer) c.args.ctx.now c.make_step.new.ctx answer
+found : (g : Over) (c : In_ok-make_step g) (answer : Option Bool) → answer ≡ answer_at c.make_step.new.ctx.solver_state.sat_state →
+    FindsVerdict (parts_of c.args.tracer.now) (parts_of c.make_step.new.tracer) c.args.ctx.now c.make_step.new.ctx answer
 found g c answer e = record {
   kept = (made g c).kept;
   tells = (made g c).tells;
@@ -89,7 +97,8 @@ steps-init g c =
 pub overflow_sub-steps : goal.overflow_sub-steps
 overflow_sub-steps g c =
     let r = c.steps.invariant in
-    let k = not-less (searching-at c.args.ctx.now c.steps.ctx c.args.max_steps c.prove_in_range.ensures.luby_restart_interval_scale c.requires.kept.ready c.requires.unknown r.count r.config r.made) in
+    let k = not-less (searching-at c.args.ctx.now c.steps.ctx c.args.max_steps c.prove_in_range.ensures.luby_restart_interval_scale
+    c.requires.kept.ready c.requires.unknown r.count r.config r.made) in
     let a = c.steps-first.ensures.steps in
     let b = c.steps-steps.ensures.steps in
     omega (arith, k, a, b)
@@ -130,7 +139,8 @@ returns-then-steps-first-clause-found g c =
       answer = sym (ap answer_at unknown);
       told = i.told;
       leaves = λ h n. i.leaves h;
-      stands = comes-decided _ (undecided_spaces c.args.tracer.now.variables c.args.tracer.now.proof.checker c.args.ctx.now) c.steps.tracer.variables c.steps.ctx c.args.tracer.now.proof c.steps.tracer.proof unknown i.stands;
+      stands = comes-decided _ (undecided_spaces c.args.tracer.now.variables c.args.tracer.now.proof.checker c.args.ctx.now)
+          c.steps.tracer.variables c.steps.ctx c.args.tracer.now.proof c.steps.tracer.proof unknown i.stands;
       still = i.still;
     }
 
@@ -139,9 +149,11 @@ returns-then-steps-first-clause-counted g c n changed_at h k =
     let x = c.args.ctx.now in
     let y = c.steps.ctx in
     let r = c.steps.invariant in
-    counts-spent (searching-at x y c.args.max_steps c.prove_in_range.ensures.luby_restart_interval_scale c.requires.kept.ready c.requires.unknown r.count r.config r.made) changed_at k
+    counts-spent (searching-at x y c.args.max_steps c.prove_in_range.ensures.luby_restart_interval_scale c.requires.kept.ready c.requires.unknown
+    r.count r.config r.made) changed_at k
     (elim c.then-steps-first.branch [
-      | then-steps-first-via-then-steps-first w ↦ inl (let a = c.steps-first.ensures.steps in let b = c.steps-steps.ensures.steps in let d = w.if-steps-first.true in omega (arith, a, b, d))
+      | then-steps-first-via-then-steps-first w ↦ inl
+          (let a = c.steps-first.ensures.steps in let b = c.steps-steps.ensures.steps in let d = w.if-steps-first.true in omega (arith, a, b, d))
       | then-steps-first-via-else-steps-first+then-steps w ↦ inr (sym c.steps-steps.ensures.steps ∙ w.if-steps.true)
     ])
     n h
@@ -149,27 +161,33 @@ returns-then-steps-first-clause-counted g c n changed_at h k =
 pub returns-then-steps-first-clause-since : goal.returns-then-steps-first-clause-since
 returns-then-steps-first-clause-since g c changed_at k =
     let r = c.steps.invariant in
-    since-stopped (searching-at c.args.ctx.now c.steps.ctx c.args.max_steps c.prove_in_range.ensures.luby_restart_interval_scale c.requires.kept.ready c.requires.unknown r.count r.config r.made) changed_at k
+    since-stopped (searching-at c.args.ctx.now c.steps.ctx c.args.max_steps c.prove_in_range.ensures.luby_restart_interval_scale
+    c.requires.kept.ready c.requires.unknown r.count r.config r.made) changed_at k
 
 pub returns-in-Sat-clause-found : goal.returns-in-Sat-clause-found
 returns-in-Sat-clause-found g c = found g (goal.at.returns-in-Sat-clause-found g c).In_ok-make_step _ (sym (ap answer_at c.in-Sat.is))
 
 pub returns-in-Sat-clause-counted : goal.returns-in-Sat-clause-counted
-returns-in-Sat-clause-counted g c n changed_at h k = stepping-counts (stepping g (goal.at.returns-in-Sat-clause-counted g c).In_ok-make_step) true n changed_at h k
+returns-in-Sat-clause-counted g c n changed_at h k = stepping-counts
+    (stepping g (goal.at.returns-in-Sat-clause-counted g c).In_ok-make_step) true n changed_at h k
 
 pub returns-in-Sat-clause-since : goal.returns-in-Sat-clause-since
-returns-in-Sat-clause-since g c changed_at k = stepping-since (stepping g (goal.at.returns-in-Sat-clause-since g c).In_ok-make_step) (λ u. let z : verdict.Sat ≡ verdict.Unknown = sym c.in-Sat.is ∙ u in cc) changed_at k
+returns-in-Sat-clause-since g c changed_at k = stepping-since (stepping g (goal.at.returns-in-Sat-clause-since g c).In_ok-make_step)
+    (λ u. let z : verdict.Sat ≡ verdict.Unknown = sym c.in-Sat.is ∙ u in cc) changed_at k
 
 pub returns-in-Unsat-clause-found : goal.returns-in-Unsat-clause-found
-returns-in-Unsat-clause-found g c = found g (goal.at.returns-in-Unsat-clause-found g c).In_ok-make_step _ (⊎_elim (λ q. sym (ap answer_at q)) (λ q. sym (ap answer_at q)) c.in-Unsat.is)
+returns-in-Unsat-clause-found g c = found g (goal.at.returns-in-Unsat-clause-found g c).In_ok-make_step _
+    (⊎_elim (λ q. sym (ap answer_at q)) (λ q. sym (ap answer_at q)) c.in-Unsat.is)
 
 pub returns-in-Unsat-clause-counted : goal.returns-in-Unsat-clause-counted
-returns-in-Unsat-clause-counted g c n changed_at h k = stepping-counts (stepping g (goal.at.returns-in-Unsat-clause-counted g c).In_ok-make_step) false n changed_at h k
+returns-in-Unsat-clause-counted g c n changed_at h k = stepping-counts
+    (stepping g (goal.at.returns-in-Unsat-clause-counted g c).In_ok-make_step) false n changed_at h k
 
 pub returns-in-Unsat-clause-since : goal.returns-in-Unsat-clause-since
 returns-in-Unsat-clause-since g c changed_at k =
     stepping-since (stepping g (goal.at.returns-in-Unsat-clause-since g c).In_ok-make_step)
-    (λ u. ⊎_elim (λ e. let z : verdict.Unsat ≡ verdict.Unknown = sym e ∙ u in absurd cc) (λ e. let z : verdict.UnsatUnderAssumptions ≡ verdict.Unknown = sym e ∙ u in absurd cc) c.in-Unsat.is)
+    (λ u. ⊎_elim (λ e. let z : verdict.Unsat ≡ verdict.Unknown = sym e ∙ u in absurd cc)
+    (λ e. let z : verdict.UnsatUnderAssumptions ≡ verdict.Unknown = sym e ∙ u in absurd cc) c.in-Unsat.is)
     changed_at k
 
 pub returns-in_err-make_step-clause-counted : goal.returns-in_err-make_step-clause-counted
@@ -179,7 +197,8 @@ returns-in_err-make_step-clause-counted g c n changed_at h k =
     let r = c.steps.invariant in
     let (e, told) = told-refused c.from_residual.result c.from_residual.ensures.0 in
     subst (λ a. CountsSteps n c.args.max_steps (x.schedule.steps - changed_at) x.schedule.steps c.make_step.new.ctx.schedule.steps a) (sym told)
-    (counts-refused (searching-at x y c.args.max_steps c.prove_in_range.ensures.luby_restart_interval_scale c.requires.kept.ready c.requires.unknown r.count r.config r.made) changed_at k e c.make_step.new.ctx.schedule.steps (c.in_err-make_step.ensures {u = tt}).uncounted n h)
+    (counts-refused (searching-at x y c.args.max_steps c.prove_in_range.ensures.luby_restart_interval_scale c.requires.kept.ready c.requires.unknown
+    r.count r.config r.made) changed_at k e c.make_step.new.ctx.schedule.steps (c.in_err-make_step.ensures {u = tt}).uncounted n h)
 
 pub returns-in_err-make_step-clause-broken : goal.returns-in_err-make_step-clause-broken
 returns-in_err-make_step-clause-broken g c =

@@ -18,7 +18,8 @@ invariant-steps g l = record {
   config : l.ctx.solver_config ≡ l.fn.ctx.solver_config;
   made : HasMade l.fn.ctx l.ctx l.max_steps;
   leaves : LeavesInTime l.fn.tracer.variables (view l.fn.ctx) → LeavesInTime l.tracer.variables (view l.ctx);
-  stands : ComesOn (steps_since l.fn.ctx.schedule l.ctx.schedule) (undecided_spaces l.fn.tracer.variables l.fn.tracer.proof.checker l.fn.ctx) (undecided_spaces l.tracer.variables l.tracer.proof.checker l.ctx) l.fn.tracer.proof l.tracer.proof;
+  stands : ComesOn (steps_since l.fn.ctx.schedule l.ctx.schedule) (undecided_spaces l.fn.tracer.variables l.fn.tracer.proof.checker l.fn.ctx)
+      (undecided_spaces l.tracer.variables l.tracer.proof.checker l.ctx) l.fn.tracer.proof l.tracer.proof;
   still : l.ctx.schedule.steps ≡ l.fn.ctx.schedule.steps → (l.ctx ≡ l.fn.ctx) × (parts_of l.tracer ≡ parts_of l.fn.tracer);
 }
 

@@ -23,7 +23,8 @@ begun : (g : Over) (c : In_ok-begin g) → BeginsSolverStep (parts_of c.args.tra
 begun g c = (c.in_ok-begin.ensures {u = tt}).begins
 
 -- and what came of it
-named : (g : Over) (c : In_ok-named_conflict_step g) → MakesNamedStep (parts_of c.begin.new.tracer) (parts_of c.named_conflict_step.new.tracer) c.begin.new.ctx c.named_conflict_step.new.ctx
+named : (g : Over) (c : In_ok-named_conflict_step g) → MakesNamedStep (parts_of c.begin.new.tracer)
+    (parts_of c.named_conflict_step.new.tracer) c.begin.new.ctx c.named_conflict_step.new.ctx
 named g c = (c.in_ok-named_conflict_step.ensures {u = tt}).made
 
 pub named_conflict_step-requires-clause-kept : goal.named_conflict_step-requires-clause-kept
@@ -34,10 +35,12 @@ named_conflict_step-requires-clause-tells g c = (begun g (goal.at.named_conflict
 
 pub named_conflict_step-requires-clause-stands : goal.named_conflict_step-requires-clause-stands
 named_conflict_step-requires-clause-stands g c =
-    some-on 0 _ _ c.args.tracer.now.proof c.begin.new.tracer.proof (begun g (goal.at.named_conflict_step-requires-clause-stands g c).In_ok-begin).stands c.requires.stands
+    some-on 0 _ _ c.args.tracer.now.proof c.begin.new.tracer.proof
+    (begun g (goal.at.named_conflict_step-requires-clause-stands g c).In_ok-begin).stands c.requires.stands
 
 pub named_conflict_step-requires-clause-unknown : goal.named_conflict_step-requires-clause-unknown
-named_conflict_step-requires-clause-unknown g c = ap (λ (s : SolverState). s.sat_state) (begun g (goal.at.named_conflict_step-requires-clause-unknown g c).In_ok-begin).state ∙ c.requires.unknown
+named_conflict_step-requires-clause-unknown g c = ap (λ (s : SolverState). s.sat_state)
+    (begun g (goal.at.named_conflict_step-requires-clause-unknown g c).In_ok-begin).state ∙ c.requires.unknown
 
 pub returns-clause-made : goal.returns-clause-made
 returns-clause-made g c =
@@ -62,17 +65,21 @@ returns-clause-made g c =
       told = some-through p.proof q.proof r.proof b.told (_, takes.told);
       since = λ u i k.
           come-ended i x.schedule y (record z { schedule = plan }) b.kept.ready (ready-counted z plan m.ready) (m.rises u)
-          (step-ended _ x.schedule z.schedule plan (same.schedule ∙ c.begin.ensures.schedule) c.end_step.ensures ∙ ap (λ (s : Settings). next_plan s.luby_restart_interval_scale x.schedule) (sym c.begin.ensures.config))
+          (step-ended _ x.schedule z.schedule plan (same.schedule ∙ c.begin.ensures.schedule) c.end_step.ensures
+          ∙ ap (λ (s : Settings). next_plan s.luby_restart_interval_scale x.schedule) (sym c.begin.ensures.config))
           same.solver_config m.count m.decidable (b.within i k);
       state = m.state ∙ ap (λ (s : SolverState). record s { sat_state = z.solver_state.sat_state }) b.state;
       count = m.count ∙ b.count;
       leaves = λ h n. leaves-stepped q.variables r.variables y z m.tables m.fixes (b.leaves h) n;
-      stands = comes-through 0 1 1 p.proof q.proof r.proof (undecided_spaces p.variables p.proof.checker x) (undecided_spaces q.variables q.proof.checker y) (spaces_with r.variables r.proof.checker (record z { schedule = plan })) refl (unknown-undecided q.variables q.proof.checker y)
+      stands = comes-through 0 1 1 p.proof q.proof r.proof (undecided_spaces p.variables p.proof.checker x)
+          (undecided_spaces q.variables q.proof.checker y) (spaces_with r.variables r.proof.checker (record z { schedule = plan })) refl
+          (unknown-undecided q.variables q.proof.checker y)
           b.stands (named-comes (parts_of q) (parts_of r) y z b.kept m);
     }
 
 pub returns-clause-schedule : goal.returns-clause-schedule
-returns-clause-schedule g c = step-ended _ c.args.ctx.now.schedule c.named_conflict_step.new.ctx.schedule c.end_step.new.self (c.named_conflict_step.ensures.schedule.schedule ∙ c.begin.ensures.schedule) c.end_step.ensures
+returns-clause-schedule g c = step-ended _ c.args.ctx.now.schedule c.named_conflict_step.new.ctx.schedule c.end_step.new.self
+    (c.named_conflict_step.ensures.schedule.schedule ∙ c.begin.ensures.schedule) c.end_step.ensures
 
 pub returns-clause-config : goal.returns-clause-config
 returns-clause-config g c = c.named_conflict_step.ensures.schedule.solver_config ∙ c.begin.ensures.config
@@ -81,17 +88,20 @@ pub end_step-requires : goal.end_step-requires
 end_step-requires g c = subst (λ (p : Plan). p.steps < p.next_restart) (sym c.named_conflict_step.ensures.schedule.schedule) c.begin.ensures.later
 
 pub returns-in_err-begin-clause-uncounted : goal.returns-in_err-begin-clause-uncounted
-returns-in_err-begin-clause-uncounted g c = on-error c.from_residual.result _ (ap (λ (p : Plan). p.steps) c.begin.ensures.schedule ∙ steps-begun _ c.args.ctx.now.schedule)
+returns-in_err-begin-clause-uncounted g c = on-error c.from_residual.result _
+    (ap (λ (p : Plan). p.steps) c.begin.ensures.schedule ∙ steps-begun _ c.args.ctx.now.schedule)
 
 pub returns-in_err-begin-clause-broken : goal.returns-in_err-begin-clause-broken
 returns-in_err-begin-clause-broken g c =
     let e = c.in_err-begin.field-0.0 in
-    passed-on c.from_residual.result e (λ z. BreaksProof c.args.tracer.now.proof (step_faults z) c.begin.new.tracer.proof) c.from_residual.ensures (c.in_err-begin.ensures {u = tt}).broken
+    passed-on c.from_residual.result e (λ z. BreaksProof c.args.tracer.now.proof (step_faults z) c.begin.new.tracer.proof) c.from_residual.ensures
+    (c.in_err-begin.ensures {u = tt}).broken
 
 pub returns-in_err-begin-clause-full : goal.returns-in_err-begin-clause-full
 returns-in_err-begin-clause-full g c =
     let e = c.in_err-begin.field-0.0 in
-    passed-on c.from_residual.result e (λ z. z ≡ step.Full → HasNoRoom c.begin.new.ctx) c.from_residual.ensures (λ z. absurd ((c.in_err-begin.ensures {u = tt}).full z))
+    passed-on c.from_residual.result e (λ z. z ≡ step.Full → HasNoRoom c.begin.new.ctx) c.from_residual.ensures
+    (λ z. absurd ((c.in_err-begin.ensures {u = tt}).full z))
 
 pub returns-in_err-named_conflict_step-clause-uncounted : goal.returns-in_err-named_conflict_step-clause-uncounted
 returns-in_err-named_conflict_step-clause-uncounted g c =
@@ -108,5 +118,6 @@ returns-in_err-named_conflict_step-clause-broken g c =
     let q = c.begin.new.tracer in
     let r = c.named_conflict_step.new.tracer in
     let (given, told) = (begun g (goal.at.returns-in_err-named_conflict_step-clause-broken g c).In_ok-begin).told in
-    passed-on c.from_residual-in_err-named_conflict_step.result e (λ z. BreaksProof p.proof (step_faults z) r.proof) c.from_residual-in_err-named_conflict_step.ensures
+    passed-on c.from_residual-in_err-named_conflict_step.result e
+    (λ z. BreaksProof p.proof (step_faults z) r.proof) c.from_residual-in_err-named_conflict_step.ensures
     (proof-breaks-on p.proof q.proof r.proof given (step_faults e) told (c.in_err-named_conflict_step.ensures {u = tt}).broken)

@@ -15,7 +15,8 @@ use Rattle.varisat.proofs.SearchVerdicts.{named-plainly, named-also}
 use Rattle.varisat.proofs.solving.named_conflict_step.Goals as goal
 
 pub conflict_step-requires-clause-holds : goal.conflict_step-requires-clause-holds
-conflict_step-requires-clause-holds g c = relied c.args.tracer.now.variables c.args.tracer.now.proof (view c.args.ctx.now) c.args.ctx.now.assumptions c.requires.tells c.requires.stands
+conflict_step-requires-clause-holds g c = relied c.args.tracer.now.variables c.args.tracer.now.proof
+    (view c.args.ctx.now) c.args.ctx.now.assumptions c.requires.tells c.requires.stands
 
 pub name_core-requires : goal.name_core-requires
 name_core-requires g c l h =
@@ -23,16 +24,19 @@ name_core-requires g c l h =
     let m = (c.in_ok-conflict_step.ensures {u = tt}).made in
     let (lines, steps, (settles, takes)) = m.steps in
     let under = ap (outcome_of (view mid) mid.assumptions.failed_core) c.in-UnsatUnderAssumptions.is in
-    subst (λ (t : Tables). HasUser t (variable_of l)) (sym takes.tables) (assumed-named c.args.tracer.now.variables (variable_of l) (c.requires.kept.working l ((m.assumes.core mid.assumptions.failed_core under).0 l h)))
+    subst (λ (t : Tables). HasUser t (variable_of l)) (sym takes.tables)
+    (assumed-named c.args.tracer.now.variables (variable_of l) (c.requires.kept.working l ((m.assumes.core mid.assumptions.failed_core under).0 l h)))
 
 pub returns-clause-made : goal.returns-clause-made
 returns-clause-made g c =
-    named-also (parts_of c.args.tracer.now) (parts_of c.conflict_step.new.proof) c.args.ctx.now c.conflict_step.new.ctx (c.in_ok-conflict_step.ensures {u = tt}).made (c.in_ok-conflict_step.ensures {u = tt}).fixes c.name_core.new.ctx c.name_core.ensures.kept
+    named-also (parts_of c.args.tracer.now) (parts_of c.conflict_step.new.proof) c.args.ctx.now c.conflict_step.new.ctx
+    (c.in_ok-conflict_step.ensures {u = tt}).made (c.in_ok-conflict_step.ensures {u = tt}).fixes c.name_core.new.ctx c.name_core.ensures.kept
     (c.in_ok-name_core.ensures {u = tt}).named
 
 pub returns-in_default-clause-made : goal.returns-in_default-clause-made
 returns-in_default-clause-made g c =
-    named-plainly (parts_of c.args.tracer.now) (parts_of c.conflict_step.new.proof) c.args.ctx.now c.conflict_step.new.ctx (c.in_ok-conflict_step.ensures {u = tt}).made (c.in_ok-conflict_step.ensures {u = tt}).fixes c.in_default.not-UnsatUnderAssumptions
+    named-plainly (parts_of c.args.tracer.now) (parts_of c.conflict_step.new.proof) c.args.ctx.now c.conflict_step.new.ctx
+    (c.in_ok-conflict_step.ensures {u = tt}).made (c.in_ok-conflict_step.ensures {u = tt}).fixes c.in_default.not-UnsatUnderAssumptions
 
 pub returns-in_err-conflict_step-clause-broken : goal.returns-in_err-conflict_step-clause-broken
 returns-in_err-conflict_step-clause-broken g c =

@@ -9,4 +9,5 @@ leave_if_unused-requires-clause-live g c =
     hidden-keeps (λ (d : VarData). d.deleted) h.mid c.set_named_mode.new.variables c.args.var c.in_ok-global.global refl (h.hidden refl) ∙ h.named.live
 
 pub leave_if_unused-requires-clause-unnamed : goal.leave_if_unused-requires-clause-unnamed
-leave_if_unused-requires-clause-unnamed g c = let h = c.in_ok-global.ensures.set in hidden-unnamed h.mid c.set_named_mode.new.variables c.args.var c.in_ok-global.global (h.hidden refl)
+leave_if_unused-requires-clause-unnamed g c = let h = c.in_ok-global.ensures.set in
+    hidden-unnamed h.mid c.set_named_mode.new.variables c.args.var c.in_ok-global.global (h.hidden refl)

@@ -29,11 +29,14 @@ loop-lit-preserved g c =
     let s = c.loop-lit.invariant.small in
     elim c.if-level-current.branch [
       | then-level-current w ↦ record {
-        adds = added-late sees.well p c.loop-lit.invariant.adds c.if-level-current.count c.index.result c.index.ensures.index f marked w.count-is (sym lv ∙ w.if-level-current.true ∙ current) (ap (λ x. marking x (set c.loop-lit.var_flags c.index.result true)) w.scratch-is);
+        adds = added-late sees.well p c.loop-lit.invariant.adds c.if-level-current.count c.index.result c.index.ensures.index f marked w.count-is
+            (sym lv ∙ w.if-level-current.true ∙ current) (ap (λ x. marking x (set c.loop-lit.var_flags c.index.result true)) w.scratch-is);
         small = let x = w.count-is in omega (arith, s, x);
       }
       | else-level-current+in_ok-push+in_ok-push-2 w ↦ record {
-        adds = added-lower sees.well p c.loop-lit.invariant.adds c.if-level-current.count c.index.result c.index.ensures.index f marked w.count-is (omega (arith, lv, above)) (λ q. w.if-level-current.false (lv ∙ q ∙ sym current)) _ _ w.var.result w.in_ok-push.ensures.items w.in_ok-push-2.ensures.items w.var.ensures (ap (λ x. marking x (set c.loop-lit.var_flags c.index.result true)) w.scratch-is);
+        adds = added-lower sees.well p c.loop-lit.invariant.adds c.if-level-current.count c.index.result c.index.ensures.index f marked w.count-is
+            (omega (arith, lv, above)) (λ q. w.if-level-current.false (lv ∙ q ∙ sym current)) _ _ w.var.result w.in_ok-push.ensures.items
+            w.in_ok-push-2.ensures.items w.var.ensures (ap (λ x. marking x (set c.loop-lit.var_flags c.index.result true)) w.scratch-is);
         small = let x = w.count-is in omega (arith, s, x);
       }
     ]

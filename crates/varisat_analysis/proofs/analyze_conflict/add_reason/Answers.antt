@@ -24,7 +24,8 @@ lits-requires-clause-clause g c =
     let (_, (can, stands)) = c.requires in
     let sees = can.sees in
     let p = reason-read g.s c.args.parts.impl_graph.now.nodes.items c.args.lit c.var.result c.reason.result.now sees.nodes_are c.var.ensures c.reason.ensures in
-    subst (λ P. NamesClause P c.reason.result.now) (sym sees.clauses_are) (subst (NamesClause g.s.clauses) (sym p) (names-clause g.s sees.well c.args.lit stands))
+    subst (λ P. NamesClause P c.reason.result.now) (sym sees.clauses_are)
+    (subst (NamesClause g.s.clauses) (sym p) (names-clause g.s sees.well c.args.lit stands))
 
 pub add_literals-requires : goal.add_literals-requires
 add_literals-requires g c κs within =
@@ -40,4 +41,5 @@ returns g c =
     let sees = can.sees in
     let p = reason-read g.s c.args.parts.impl_graph.now.nodes.items c.args.lit c.var.result c.reason.result.now sees.nodes_are c.var.ensures c.reason.ensures in
     let begun = ap (λ x. record (marking c.args.scratch.now c.args.var_flags.now) { involved = x }) c.in_ok-list_reason.ensures in
-    adds-reason c.args.lit (marking c.args.scratch.now c.args.var_flags.now) c.reason.result.now p (c.lits.ensures ∙ ap (λ P. causes_of P c.reason.result.now) sees.clauses_are) begun (c.in_ok-count.ensures {u = tt})
+    adds-reason c.args.lit (marking c.args.scratch.now c.args.var_flags.now) c.reason.result.now p
+    (c.lits.ensures ∙ ap (λ P. causes_of P c.reason.result.now) sees.clauses_are) begun (c.in_ok-count.ensures {u = tt})

@@ -15,4 +15,7 @@ put_highest_first-level-requires g c κs within =
 
 pub returns-clause-teaches : goal.returns-clause-teaches
 returns-clause-teaches g c =
-    learned-teaches c.requires.1.can.sees.well (c.in_ok-first.ensures {u = tt}) (c.in_ok-minimize.ensures {u = tt}) c.put_highest_first-level.new.clause.items c.insert.new.self.items c.put_highest_first-level.ensures.same c.put_highest_first-level.ensures.distinct c.in_ok-insert.ensures.items c.put_highest_first-level.result c.minimize.new.scratch.involved.items c.put_highest_first-level.ensures.level refl
+    learned-teaches c.requires.1.can.sees.well (c.in_ok-first.ensures {u = tt})
+    (c.in_ok-minimize.ensures {u = tt}) c.put_highest_first-level.new.clause.items c.insert.new.self.items
+    c.put_highest_first-level.ensures.same c.put_highest_first-level.ensures.distinct c.in_ok-insert.ensures.items
+    c.put_highest_first-level.result c.minimize.new.scratch.involved.items c.put_highest_first-level.ensures.level refl

@@ -8,4 +8,5 @@ clear_flags-requires g c v i = (c.in-Ok.ensures {u = tt}).cleaned.listed v (subs
 
 pub returns-in-Ok-clause-unmarked : goal.returns-in-Ok-clause-unmarked
 returns-in-Ok-clause-unmarked g c =
-    none-left c.clear_flags.new.var_flags c.deref.result.now (c.in-Ok.ensures {u = tt}).cleaned c.deref.ensures.value c.clear_flags.ensures.gone c.clear_flags.ensures.rest
+    none-left c.clear_flags.new.var_flags c.deref.result.now (c.in-Ok.ensures {u = tt}).cleaned c.deref.ensures.value c.clear_flags.ensures.gone
+    c.clear_flags.ensures.rest

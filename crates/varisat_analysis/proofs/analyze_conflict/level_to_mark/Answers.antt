@@ -22,13 +22,20 @@ pub returns-then-level-eq0 : goal.returns-then-level-eq0
 returns-then-level-eq0 g c =
     let (_, (can, _)) = c.requires in
     let sees = can.sees in
-    let lv = level-read g.s c.args.parts.impl_graph.now.nodes.items c.args.lit c.var.result c.level-level.result sees.nodes_are c.var.ensures c.level-level.ensures in
+    let lv = level-read g.s c.args.parts.impl_graph.now.nodes.items c.args.lit c.var.result c.level-level.result sees.nodes_are c.var.ensures
+    c.level-level.ensures in
     inl (sym lv ∙ c.if-level-eq0.true)
 
 pub returns : goal.returns
 returns g c =
     let (_, (can, falsified)) = c.requires in
     let sees = can.sees in
-    let lv = level-read g.s c.args.parts.impl_graph.now.nodes.items c.args.lit c.var.result c.level-level.result sees.nodes_are c.var.ensures c.level-level.ensures in
-    let z = c.if-level-eq0.false in
-    (lv, omega (arith, z), subst (λ x. get_or c.args.var_flags.now x false ≡ false) c.index.ensures.index c.if-var_flags-index.false, has-flag can c.args.lit falsified)
+    let lv = level-read g.s c.args.parts.impl_graph.now.nodes.items c.args.lit c.var.result c.level-level.result sees.nodes_are c.var.ensures
+    c.level-level.ensures in
+    let z = c.if-level-eq0.false in (
+      lv,
+      omega (arith, z),
+      subst (λ x. get_or c.args.var_flags.now x false ≡ false) c.index.ensures.index c.if-var_flags-index.false,
+      has-flag can
+          c.args.lit falsified,
+    )

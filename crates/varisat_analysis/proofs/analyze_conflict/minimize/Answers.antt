@@ -31,14 +31,20 @@ loop-place-preserved g c =
     let e = element c.loop-place.scratch.clause.items c.loop-place.place c.index-lit.result.now (omega (arith, i, lo)) c.index-lit.ensures in
     elim c.if-not-branch.branch [
       | then-not-branch w ↦
-          let f = subst (λ b. TellsRedundancy g.s c.index-lit.result.now b (marking c.loop-place.scratch c.loop-place.var_flags) (marking c.is_redundant.new.scratch c.is_redundant.new.var_flags)) w.if-not-branch.true (c.in_ok-is_redundant.ensures {u = tt}) in
-          subst (λ k. Minimizing g.s (marking c.args.scratch.now c.args.var_flags.now) (marking c.if-not-branch.scratch c.is_redundant.new.var_flags) k (c.loop-place.place + 1)) (sym w.kept-is)
-          (subst (λ x. Minimizing g.s (marking c.args.scratch.now c.args.var_flags.now) (marking x c.is_redundant.new.var_flags) (c.loop-place.kept + 1) (c.loop-place.place + 1)) (sym w.scratch-is)
+          let f = subst (λ b. TellsRedundancy g.s c.index-lit.result.now b (marking c.loop-place.scratch c.loop-place.var_flags)
+          (marking c.is_redundant.new.scratch c.is_redundant.new.var_flags)) w.if-not-branch.true (c.in_ok-is_redundant.ensures {u = tt}) in
+          subst (λ k. Minimizing g.s (marking c.args.scratch.now c.args.var_flags.now)
+          (marking c.if-not-branch.scratch c.is_redundant.new.var_flags) k (c.loop-place.place + 1)) (sym w.kept-is)
+          (subst (λ x. Minimizing g.s (marking c.args.scratch.now c.args.var_flags.now) (marking x c.is_redundant.new.var_flags)
+          (c.loop-place.kept + 1) (c.loop-place.place + 1)) (sym w.scratch-is)
           (minimizing-keep c.index-lit.result.now c.is_redundant.auto.var_flags i e f c.loop-place.invariant))
       | else-not-branch w ↦
-          let f = subst (λ b. TellsRedundancy g.s c.index-lit.result.now b (marking c.loop-place.scratch c.loop-place.var_flags) (marking c.is_redundant.new.scratch c.is_redundant.new.var_flags)) w.if-not-branch.false (c.in_ok-is_redundant.ensures {u = tt}) in
-          subst (λ k. Minimizing g.s (marking c.args.scratch.now c.args.var_flags.now) (marking c.if-not-branch.scratch c.is_redundant.new.var_flags) k (c.loop-place.place + 1)) (sym w.kept-is)
-          (subst (λ x. Minimizing g.s (marking c.args.scratch.now c.args.var_flags.now) (marking x c.is_redundant.new.var_flags) c.loop-place.kept (c.loop-place.place + 1)) (sym w.scratch-is)
+          let f = subst (λ b. TellsRedundancy g.s c.index-lit.result.now b (marking c.loop-place.scratch c.loop-place.var_flags)
+          (marking c.is_redundant.new.scratch c.is_redundant.new.var_flags)) w.if-not-branch.false (c.in_ok-is_redundant.ensures {u = tt}) in
+          subst (λ k. Minimizing g.s (marking c.args.scratch.now c.args.var_flags.now)
+          (marking c.if-not-branch.scratch c.is_redundant.new.var_flags) k (c.loop-place.place + 1)) (sym w.kept-is)
+          (subst (λ x. Minimizing g.s (marking c.args.scratch.now c.args.var_flags.now) (marking x c.is_redundant.new.var_flags) c.loop-place.kept
+          (c.loop-place.place + 1)) (sym w.scratch-is)
           (minimizing-drop c.index-lit.result.now c.is_redundant.auto.var_flags i e f c.loop-place.invariant))
     ]
 

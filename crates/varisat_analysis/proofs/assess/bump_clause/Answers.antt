@@ -15,13 +15,17 @@ own graph s p = glue_of graph.nodes.items (literals_at (stored_clauses s) p)
 
 pub set_active-requires-clause-place : goal.set_active-requires-clause-place
 set_active-requires-clause-place g c =
-    set-place c.args.alloc.now c.improve_glue.new.alloc c.args.cref (improved (own c.args.impl_graph.now c.args.alloc.now c.args.cref) (header_at (stored_clauses c.args.alloc.now) c.args.cref)) c.requires.place c.in_ok-improve_glue.ensures.improved
+    set-place c.args.alloc.now c.improve_glue.new.alloc c.args.cref
+    (improved (own c.args.impl_graph.now c.args.alloc.now c.args.cref) (header_at (stored_clauses c.args.alloc.now) c.args.cref))
+    c.requires.place c.in_ok-improve_glue.ensures.improved
 
 pub bump_clause_activity-requires-clause-place : goal.bump_clause_activity-requires-clause-place
 bump_clause_activity-requires-clause-place g c =
     let n = c.improve_glue.new.alloc in
     set-place n c.set_active.new.alloc c.args.cref (record (header_at (stored_clauses n) c.args.cref) { active = true })
-    (set-place c.args.alloc.now n c.args.cref (improved (own c.args.impl_graph.now c.args.alloc.now c.args.cref) (header_at (stored_clauses c.args.alloc.now) c.args.cref)) c.requires.place c.in_ok-improve_glue.ensures.improved)
+    (set-place c.args.alloc.now n c.args.cref
+    (improved (own c.args.impl_graph.now c.args.alloc.now c.args.cref) (header_at (stored_clauses c.args.alloc.now) c.args.cref))
+    c.requires.place c.in_ok-improve_glue.ensures.improved)
     c.set_active.ensures
 
 pub returns-clause-bumped : goal.returns-clause-bumped
@@ -32,7 +36,8 @@ returns-clause-bumped g c =
     let p = c.args.cref in
     let nodes = c.args.impl_graph.now.nodes.items in
     bumped-holds s n m c.args.activity.now p nodes (own c.args.impl_graph.now c.args.alloc.now c.args.cref) refl
-    (noted-holds s c.improve_glue.new.alloc n p (own c.args.impl_graph.now c.args.alloc.now c.args.cref) c.requires.place c.in_ok-improve_glue.ensures.improved c.set_active.ensures)
+    (noted-holds s c.improve_glue.new.alloc n p (own c.args.impl_graph.now c.args.alloc.now c.args.cref) c.requires.place
+    c.in_ok-improve_glue.ensures.improved c.set_active.ensures)
     (bump-holds n m c.args.activity.now p c.bump_clause_activity.ensures.raised c.bump_clause_activity.ensures.shifted)
 
 pub returns-clause-scale : goal.returns-clause-scale
@@ -42,8 +47,10 @@ returns-clause-scale g c =
     let p = c.args.cref in
     let nodes = c.args.impl_graph.now.nodes.items in
     c.bump_clause_activity.ensures.scale
-    ∙ ap (λ ks. (with_bump p (record { clauses = ks; scale = c.args.activity.now })).scale) (bumped-clauses s n p nodes (own c.args.impl_graph.now c.args.alloc.now c.args.cref) refl
-    (noted-holds s c.improve_glue.new.alloc n p (own c.args.impl_graph.now c.args.alloc.now c.args.cref) c.requires.place c.in_ok-improve_glue.ensures.improved c.set_active.ensures))
+    ∙ ap (λ ks. (with_bump p (record { clauses = ks; scale = c.args.activity.now })).scale)
+    (bumped-clauses s n p nodes (own c.args.impl_graph.now c.args.alloc.now c.args.cref) refl
+    (noted-holds s c.improve_glue.new.alloc n p (own c.args.impl_graph.now c.args.alloc.now c.args.cref) c.requires.place
+    c.in_ok-improve_glue.ensures.improved c.set_active.ensures))
 
 pub returns-clause-tracks : goal.returns-clause-tracks
 returns-clause-tracks g c =
@@ -54,6 +61,9 @@ returns-clause-tracks g c =
     let p = c.args.cref in
     let d = c.improve_glue.new.db in
     let h : Header = record (header_at (stored_clauses k) p) { active = true } in
-    let at : IsPlace (stored_clauses k) p = set-place s k p (improved (own c.args.impl_graph.now c.args.alloc.now c.args.cref) (header_at (stored_clauses s) p)) c.requires.place c.in_ok-improve_glue.ensures.improved in
+    let at : IsPlace (stored_clauses k) p =
+    set-place s k p (improved (own c.args.impl_graph.now c.args.alloc.now c.args.cref) (header_at (stored_clauses s) p)) c.requires.place
+    c.in_ok-improve_glue.ensures.improved in
     let t : Tracks d n = tracks-header d k n p h c.improve_glue.ensures.tracks at refl refl c.set_active.ensures in
-    bump-tracks d n m c.args.activity.now p t (bump-holds n m c.args.activity.now p c.bump_clause_activity.ensures.raised c.bump_clause_activity.ensures.shifted)
+    bump-tracks d n m c.args.activity.now p t
+    (bump-holds n m c.args.activity.now p c.bump_clause_activity.ensures.raised c.bump_clause_activity.ensures.shifted)

@@ -32,12 +32,14 @@ returns-then-glue-clause-improved g c =
 pub header-header-requires-2-clause-place : goal.header-header-requires-2-clause-place
 header-header-requires-2-clause-place g c =
     let h : Header = header_at (stored_clauses c.args.alloc.now) c.args.cref in
-    set-place c.args.alloc.now c.set_clause_tier.new.alloc c.args.cref (record h { tier = c.tier_by_glue.result }) c.requires.place c.in_ok-set_clause_tier.ensures.moved
+    set-place c.args.alloc.now c.set_clause_tier.new.alloc c.args.cref
+    (record h { tier = c.tier_by_glue.result }) c.requires.place c.in_ok-set_clause_tier.ensures.moved
 
 pub set_header-requires-clause-place : goal.set_header-requires-clause-place
 set_header-requires-clause-place g c =
     let h : Header = header_at (stored_clauses c.args.alloc.now) c.args.cref in
-    set-place c.args.alloc.now c.set_clause_tier.new.alloc c.args.cref (record h { tier = c.tier_by_glue.result }) c.requires.place c.in_ok-set_clause_tier.ensures.moved
+    set-place c.args.alloc.now c.set_clause_tier.new.alloc c.args.cref
+    (record h { tier = c.tier_by_glue.result }) c.requires.place c.in_ok-set_clause_tier.ensures.moved
 
 pub returns-clause-improved : goal.returns-clause-improved
 returns-clause-improved g c =
@@ -46,9 +48,11 @@ returns-clause-improved g c =
     let small = c.glue.ensures.small in
     let l = c.if-glue.false in
     let glue = c.compute_glue-glue.result in
-    subst (λ (n : ℕ). HoldsClauses c.set_header.new.self (length c.args.alloc.now.words) (with_header (stored_clauses c.args.alloc.now) c.args.cref (improved n (header_at (stored_clauses c.args.alloc.now) c.args.cref))))
+    subst (λ (n : ℕ). HoldsClauses c.set_header.new.self (length c.args.alloc.now.words)
+    (with_header (stored_clauses c.args.alloc.now) c.args.cref (improved n (header_at (stored_clauses c.args.alloc.now) c.args.cref))))
     (c.compute_glue-glue.ensures.glue ∙ ap (glue_of c.args.impl_graph.now.nodes.items) c.lits.ensures)
-    (improved-moved c.args.alloc.now c.set_clause_tier.new.alloc c.set_header.new.self c.args.cref glue c.tier_by_glue.result c.set_glue.new.self c.requires.place redundant
+    (improved-moved c.args.alloc.now c.set_clause_tier.new.alloc c.set_header.new.self c.args.cref glue c.tier_by_glue.result c.set_glue.new.self
+    c.requires.place redundant
     (omega (arith, e, l)) (omega (arith, e, small)) c.tier_by_glue.ensures c.in_ok-set_clause_tier.ensures.moved
     (c.set_glue.ensures ∙ ap (λ (x : Header). record x { glue = min glue 63 }) c.header-header-2.ensures) c.set_header.ensures)
 

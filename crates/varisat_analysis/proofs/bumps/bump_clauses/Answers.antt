@@ -7,14 +7,16 @@ use Rattle.varisat_analysis.proofs.BumpedVariables.{among-snoc, in-among, may-pa
 use Rattle.varisat_analysis.proofs.bumps.bump_clauses.Goals as goal
 
 pub lits-requires-clause-place : goal.lits-requires-clause-place
-lits-requires-clause-place g c = c.requires.named c.name-item.result (item-∈ c.args.names.now c.loop-name.name-index c.name-item.result c.loop-name-test.true c.name-item.is)
+lits-requires-clause-place g c = c.requires.named c.name-item.result
+    (item-∈ c.args.names.now c.loop-name.name-index c.name-item.result c.loop-name-test.true c.name-item.is)
 
 pub bump_literals-requires : goal.bump_literals-requires
 bump_literals-requires g c =
     let ks = live_clauses c.args.clause_alloc.now in
     let ps = c.args.names.now in
     let i = item-∈ ps c.loop-name.name-index c.name-item.result c.loop-name-test.true c.name-item.is in
-    may-part c.args.impl_graph.now.nodes.items (literals_among ks ps) c.lits.result.now (bumping c.args.flags.now c.args.vsids.now) (bumping c.loop-name.flags c.loop-name.vsids) c.requires.may
+    may-part c.args.impl_graph.now.nodes.items (literals_among ks ps) c.lits.result.now (bumping c.args.flags.now c.args.vsids.now)
+    (bumping c.loop-name.flags c.loop-name.vsids) c.requires.may
     (λ m h. in-among ks ps c.name-item.result m i (subst (λ ls. m ∈ ls) c.lits.ensures h))
     c.loop-name.auto.flags c.loop-name.invariant.count
 
@@ -31,4 +33,6 @@ loop-name-preserved g c =
 
 pub returns-clause-bumps : goal.returns-clause-bumps
 returns-clause-bumps g c =
-    subst (λ qs. BumpsNew c.args.impl_graph.now.nodes.items (literals_among (live_clauses c.args.clause_alloc.now) qs) (bumping c.args.flags.now c.args.vsids.now) (bumping c.loop-name.flags c.loop-name.vsids)) (take_all c.loop-name.name-index c.args.names.now c.loop-name-test.false) c.loop-name.invariant.bumps
+    subst (λ qs. BumpsNew c.args.impl_graph.now.nodes.items (literals_among (live_clauses c.args.clause_alloc.now) qs)
+    (bumping c.args.flags.now c.args.vsids.now) (bumping c.loop-name.flags c.loop-name.vsids))
+    (take_all c.loop-name.name-index c.args.names.now c.loop-name-test.false) c.loop-name.invariant.bumps

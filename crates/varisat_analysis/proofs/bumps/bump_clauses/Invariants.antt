@@ -6,6 +6,7 @@ use Rattle.varisat_analysis.proofs.bumps.bump_clauses.Given as goal
 abbrev pub invariant-loop-name : goal.invariant-loop-name
 invariant-loop-name g l =
     record {
-      bumps : BumpsNew l.impl_graph.nodes.items (literals_among (live_clauses l.clause_alloc) (take l.name-index l.names)) (bumping l.fn.flags l.fn.vsids) (bumping l.flags l.vsids);
+      bumps : BumpsNew l.impl_graph.nodes.items (literals_among (live_clauses l.clause_alloc) (take l.name-index l.names))
+          (bumping l.fn.flags l.fn.vsids) (bumping l.flags l.vsids);
       count : length l.vsids.activity ≡ length l.fn.vsids.activity;
     }

@@ -14,13 +14,19 @@ clear_clauses-requires-clause-known g c l i =
 pub returns-clause-bumps : goal.returns-clause-bumps
 returns-clause-bumps g c =
     let b = c.bump_clauses.ensures.bumps in
-    let ls = literals_among (live_clauses c.args.clause_alloc.now) c.args.names.now in
-    (b.vars, bumps-above c.args.impl_graph.now.nodes.items ls (bumping c.args.flags.now c.args.vsids.now) (bumping c.bump_clauses.new.flags c.bump_clauses.new.vsids) c.requires.clear b, b.activities)
+    let ls = literals_among (live_clauses c.args.clause_alloc.now) c.args.names.now in (
+      b.vars,
+      bumps-above c.args.impl_graph.now.nodes.items ls (bumping c.args.flags.now c.args.vsids.now)
+          (bumping c.bump_clauses.new.flags c.bump_clauses.new.vsids) c.requires.clear b,
+      b.activities,
+    )
 
 pub returns-clause-clear : goal.returns-clause-clear
 returns-clause-clear g c =
     let ls = literals_among (live_clauses c.args.clause_alloc.now) c.args.names.now in
-    bumps-clear c.args.impl_graph.now.nodes.items ls (bumping c.args.flags.now c.args.vsids.now) (bumping c.bump_clauses.new.flags c.bump_clauses.new.vsids) c.clear_clauses.new.flags c.requires.clear c.bump_clauses.ensures.bumps c.clear_clauses.ensures.gone c.clear_clauses.ensures.fewer
+    bumps-clear c.args.impl_graph.now.nodes.items ls (bumping c.args.flags.now c.args.vsids.now)
+    (bumping c.bump_clauses.new.flags c.bump_clauses.new.vsids) c.clear_clauses.new.flags c.requires.clear c.bump_clauses.ensures.bumps
+    c.clear_clauses.ensures.gone c.clear_clauses.ensures.fewer
 
 pub bump_clauses-requires : goal.bump_clauses-requires
 bump_clauses-requires g c = c.requires.may

@@ -34,5 +34,6 @@ returns-clause-bumps g c =
     let fresh = subst (λ v. get_or flags v false ≡ false) (c.index.ensures.index ∙ c.var-var.ensures) c.if-flags-index.false in
     let b = c.bump.ensures.bumped ∙ ap (λ v. bumped v c.args.vsids.now) c.var-var.ensures in
     subst (λ a. BumpsNew nodes (lit ∷ []) x (bumping (set flags c.index-2.result true) a)) (sym b)
-    (subst (λ i. BumpsNew nodes (lit ∷ []) x (bumping (set flags i true) (bumped (variable_of lit) c.args.vsids.now))) (sym (c.index-2.ensures.index ∙ c.var-var.ensures))
+    (subst (λ i. BumpsNew nodes (lit ∷ []) x (bumping (set flags i true) (bumped (variable_of lit) c.args.vsids.now)))
+    (sym (c.index-2.ensures.index ∙ c.var-var.ensures))
     (bumps-one nodes lit x above (omega (arith, known, room)) fresh))

@@ -9,7 +9,8 @@ pub bump_literal-requires : goal.bump_literal-requires
 bump_literal-requires g c =
     let lits = c.args.lits.now in
     let i = item-∈ lits c.loop-lit.lit-index c.lit-item.result c.loop-lit-test.true c.lit-item.is in
-    may-part c.args.impl_graph.now.nodes.items lits (c.lit-item.result ∷ []) (bumping c.args.flags.now c.args.vsids.now) (bumping c.loop-lit.flags c.loop-lit.vsids) c.requires
+    may-part c.args.impl_graph.now.nodes.items lits (c.lit-item.result ∷ []) (bumping c.args.flags.now c.args.vsids.now)
+    (bumping c.loop-lit.flags c.loop-lit.vsids) c.requires
     (λ m h. ⊎_elim (λ e. subst (λ y. y ∈ lits) (sym e) i) (λ z. absurd z) h)
     c.loop-lit.auto.flags c.loop-lit.invariant.count
 
@@ -23,4 +24,5 @@ loop-lit-preserved g c =
 
 pub returns-clause-bumps : goal.returns-clause-bumps
 returns-clause-bumps g c =
-    subst (λ ls. BumpsNew c.args.impl_graph.now.nodes.items ls (bumping c.args.flags.now c.args.vsids.now) (bumping c.loop-lit.flags c.loop-lit.vsids)) (take_all c.loop-lit.lit-index c.args.lits.now c.loop-lit-test.false) c.loop-lit.invariant.bumps
+    subst (λ ls. BumpsNew c.args.impl_graph.now.nodes.items ls (bumping c.args.flags.now c.args.vsids.now)
+    (bumping c.loop-lit.flags c.loop-lit.vsids)) (take_all c.loop-lit.lit-index c.args.lits.now c.loop-lit-test.false) c.loop-lit.invariant.bumps

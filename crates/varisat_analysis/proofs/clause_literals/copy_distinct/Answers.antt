@@ -22,8 +22,13 @@ loop-lit-preserved-then-flags-code g c =
     let xs = c.loop-lit.lits.items in
     let v = c.lit-item.result in
     let k = element c.args.clause.now c.loop-lit.lit-index v c.loop-lit-test.true c.lit-item.is in
-    let n : v ∈ xs = (c.loop-lit.invariant.flagged v).0 (ap (λ (i : ℕ). slice_index_or c.loop-lit.flags i false) (sym c.code.ensures.code) ∙ c.if-flags-code.true) in
-    record { distinct = c.loop-lit.invariant.distinct; same = copied-same xs c.args.clause.now c.loop-lit.lit-index v c.loop-lit.invariant.same k n; flagged = c.loop-lit.invariant.flagged }
+    let n : v ∈ xs = (c.loop-lit.invariant.flagged v).0
+    (ap (λ (i : ℕ). slice_index_or c.loop-lit.flags i false) (sym c.code.ensures.code) ∙ c.if-flags-code.true) in
+    record {
+      distinct = c.loop-lit.invariant.distinct;
+      same = copied-same xs c.args.clause.now c.loop-lit.lit-index v c.loop-lit.invariant.same k n;
+      flagged = c.loop-lit.invariant.flagged;
+    }
 
 pub loop-lit-preserved : goal.loop-lit-preserved
 loop-lit-preserved g c =
@@ -33,13 +38,18 @@ loop-lit-preserved g c =
     let k = element c.args.clause.now c.loop-lit.lit-index v c.loop-lit-test.true c.lit-item.is in
     let i = c.requires.known v (item-∈ c.args.clause.now c.loop-lit.lit-index v c.loop-lit-test.true c.lit-item.is) in
     let n = c.loop-lit.auto.flags in
-    let new : v ∈ xs → ⊥ = λ h. let e = (c.loop-lit.invariant.flagged v).1 h in let f = ap (λ (j : ℕ). slice_index_or c.loop-lit.flags j false) (sym c.code.ensures.code) ∙ c.if-flags-code.false in let z : true ≡ false = sym e ∙ f in cc in
+    let new : v ∈ xs → ⊥ = λ h. let e = (c.loop-lit.invariant.flagged v).1 h in
+    let f = ap (λ (j : ℕ). slice_index_or c.loop-lit.flags j false) (sym c.code.ensures.code) ∙ c.if-flags-code.false in
+    let z : true ≡ false = sym e ∙ f in cc in
     let p = copied-more xs c.args.clause.now c.loop-lit.lit-index v c.loop-lit.invariant.distinct c.loop-lit.invariant.same c.loop-lit-test.true k new in
-    let f : AreFlagged (set c.loop-lit.flags c.code-in-loop-lit.result true) (xs ++ v ∷ []) = subst (λ u. AreFlagged (set c.loop-lit.flags u true) (xs ++ v ∷ [])) (sym c.code-in-loop-lit.ensures.code) (flagged-more c.loop-lit.flags xs v c.loop-lit.invariant.flagged (omega (arith, i, n))) in
+    let f : AreFlagged (set c.loop-lit.flags c.code-in-loop-lit.result true) (xs ++ v ∷ []) =
+    subst (λ u. AreFlagged (set c.loop-lit.flags u true) (xs ++ v ∷ [])) (sym c.code-in-loop-lit.ensures.code)
+    (flagged-more c.loop-lit.flags xs v c.loop-lit.invariant.flagged (omega (arith, i, n))) in
     rw c.in_ok-push.ensures.items (record { distinct = p.0; same = p.1; flagged = f })
 
 pub loop-lit-init : goal.loop-lit-init
-loop-lit-init g c = rw c.clear.ensures.items (record { distinct = tt; same = ((λ x i. i), (λ x i. i)); flagged = flagged-none c.args.flags.now c.requires.clear })
+loop-lit-init g c = rw c.clear.ensures.items
+    (record { distinct = tt; same = ((λ x i. i), (λ x i. i)); flagged = flagged-none c.args.flags.now c.requires.clear })
 
 pub returns-clause-same : goal.returns-clause-same
 returns-clause-same g c =

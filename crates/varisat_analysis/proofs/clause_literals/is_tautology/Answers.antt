@@ -29,5 +29,8 @@ loop-lit-preserved c m h o =
     (∈-take_more m c.args.lits.now c.loop-lit.lit-index 0 h)
 
 pub returns : goal.returns
-returns c =
-    ((λ e. absurd cc), (λ (l, a, b). absurd (c.loop-lit.invariant l (subst (λ xs. l ∈ xs) (sym (take_all c.loop-lit.lit-index c.args.lits.now c.loop-lit-test.false)) a) b)))
+returns c = (
+  (λ e. absurd cc),
+  (λ (l, a, b).
+      absurd (c.loop-lit.invariant l (subst (λ xs. l ∈ xs) (sym (take_all c.loop-lit.lit-index c.args.lits.now c.loop-lit-test.false)) a) b)),
+)

@@ -12,7 +12,9 @@ flag_causes-requires g c κs within =
 pub loop-place-init : goal.loop-place-init
 loop-place-init g c =
     let (_, (sees, (_, (false_now, clear)))) = c.requires in
-    core-start g.s sees.well c.args.failed false_now c.clear.new.self.items c.push.new.self.items c.trail-lits.result.now c.args.flags.now c.flag_causes.new.flags (length c.trail-lits.result.now) c.clear.ensures.items c.in_ok-push.ensures.items (c.trail-lits.ensures ∙ sees.trail_is) refl clear c.flag_causes.ensures
+    core-start g.s sees.well c.args.failed false_now c.clear.new.self.items c.push.new.self.items c.trail-lits.result.now c.args.flags.now
+    c.flag_causes.new.flags (length c.trail-lits.result.now) c.clear.ensures.items c.in_ok-push.ensures.items
+    (c.trail-lits.ensures ∙ sees.trail_is) refl clear c.flag_causes.ensures
 
 pub bounds-flags-code : goal.bounds-flags-code
 bounds-flags-code g c =
@@ -24,7 +26,8 @@ bounds-flags-code g c =
 pub loop-place-preserved-then-not-flags-code : goal.loop-place-preserved-then-not-flags-code
 loop-place-preserved-then-not-flags-code g c =
     let (_, (sees, (_, (false_now, _)))) = c.requires in
-    pass-skip sees.well false_now c.loop-place.invariant c.loop-place-test.true (c.trail-lits.ensures ∙ sees.trail_is) c.index-lits-place.is c.code.result c.code.ensures.code c.if-not-flags-code.true
+    pass-skip sees.well false_now c.loop-place.invariant c.loop-place-test.true
+    (c.trail-lits.ensures ∙ sees.trail_is) c.index-lits-place.is c.code.result c.code.ensures.code c.if-not-flags-code.true
 
 pub pass_flagged-requires : goal.pass_flagged-requires
 pass_flagged-requires g c κs within =
@@ -36,14 +39,18 @@ pub loop-place-preserved : goal.loop-place-preserved
 loop-place-preserved g c =
     let (_, (sees, (_, (false_now, _)))) = c.requires in
     let o = c.in-Ok.ensures {u = tt} in
-    pass-next sees.well false_now c.loop-place.invariant c.loop-place-test.true (c.trail-lits.ensures ∙ sees.trail_is) c.index-lits-place.is c.code.result c.code.ensures.code c.if-not-flags-code.false c.pass_flagged.new.core.items c.pass_flagged.new.flags o.listed o.flagged
+    pass-next sees.well false_now c.loop-place.invariant c.loop-place-test.true
+    (c.trail-lits.ensures ∙ sees.trail_is) c.index-lits-place.is c.code.result c.code.ensures.code c.if-not-flags-code.false
+    c.pass_flagged.new.core.items c.pass_flagged.new.flags o.listed o.flagged
 
 pub returns-clause-clear : goal.returns-clause-clear
 returns-clause-clear g c =
     let (_, (sees, (_, (false_now, _)))) = c.requires in
-    core-clear g.s sees.well c.args.failed false_now c.loop-place.core.items c.loop-place.flags (at-start (omega (arith, c.loop-place-test.false)) c.loop-place.invariant)
+    core-clear g.s sees.well c.args.failed false_now c.loop-place.core.items c.loop-place.flags
+    (at-start (omega (arith, c.loop-place-test.false)) c.loop-place.invariant)
 
 pub returns-clause-core : goal.returns-clause-core
 returns-clause-core g c =
     let (_, (sees, (_, (false_now, _)))) = c.requires in
-    core-end g.s sees.well c.args.failed false_now c.loop-place.core.items c.loop-place.flags (at-start (omega (arith, c.loop-place-test.false)) c.loop-place.invariant)
+    core-end g.s sees.well c.args.failed false_now c.loop-place.core.items c.loop-place.flags
+    (at-start (omega (arith, c.loop-place-test.false)) c.loop-place.invariant)

@@ -30,13 +30,24 @@ pub lits-requires-clause-clause : goal.lits-requires-clause-clause
 lits-requires-clause-clause g c =
     let (_, (sees, (_, stands))) = c.requires in
     let p = reason-read g.s c.args.parts.impl_graph.now.nodes.items c.args.lit c.var.result c.reason.result.now sees.nodes_are c.var.ensures c.reason.ensures in
-    subst (λ P. NamesClause P c.reason.result.now) (sym sees.clauses_are) (subst (NamesClause g.s.clauses) (sym p) (names-clause g.s sees.well c.args.lit stands))
+    subst (λ P. NamesClause P c.reason.result.now) (sym sees.clauses_are)
+    (subst (NamesClause g.s.clauses) (sym p) (names-clause g.s sees.well c.args.lit stands))
 
 pub flag_causes-requires : goal.flag_causes-requires
 flag_causes-requires g c κs within =
     let (_, (sees, (flags, stands))) = c.requires in
-    let e = causes-read g.s (live_clauses c.args.parts.clause_alloc.now) c.args.parts.impl_graph.now.nodes.items c.args.lit c.var.result c.reason.result.now c.lits.result.now sees.clauses_are sees.nodes_are c.var.ensures c.reason.ensures c.lits.ensures in
-    (within, (sees, (length-set c.args.flags.now c.code.result false ∙ flags, subst (IsFalse g.s.trail) (sym e) (causes-false g.s sees.well c.args.lit stands))))
+    let e = causes-read g.s (live_clauses c.args.parts.clause_alloc.now) c.args.parts.impl_graph.now.nodes.items c.args.lit c.var.result
+    c.reason.result.now c.lits.result.now sees.clauses_are sees.nodes_are c.var.ensures c.reason.ensures c.lits.ensures in (
+      within,
+      (
+        sees,
+        (
+          length-set c.args.flags.now c.code.result false
+              ∙ flags,
+          subst (IsFalse g.s.trail) (sym e) (causes-false g.s sees.well c.args.lit stands),
+        ),
+      ),
+    )
 
 pub returns-clause-listed : goal.returns-clause-listed
 returns-clause-listed g c =
@@ -47,6 +58,8 @@ returns-clause-listed g c =
 pub returns-clause-flagged : goal.returns-clause-flagged
 returns-clause-flagged g c =
     let (_, (sees, (_, _))) = c.requires in
-    let e = causes-read g.s (live_clauses c.args.parts.clause_alloc.now) c.args.parts.impl_graph.now.nodes.items c.args.lit c.var.result c.reason.result.now c.lits.result.now sees.clauses_are sees.nodes_are c.var.ensures c.reason.ensures c.lits.ensures in
-    subst (λ v. FlagsCauses g.s (causes_of g.s.clauses (node_of g.s c.args.lit).reason) (set c.args.flags.now v false) c.flag_causes.new.flags) c.code.ensures.code
+    let e = causes-read g.s (live_clauses c.args.parts.clause_alloc.now) c.args.parts.impl_graph.now.nodes.items c.args.lit c.var.result
+    c.reason.result.now c.lits.result.now sees.clauses_are sees.nodes_are c.var.ensures c.reason.ensures c.lits.ensures in
+    subst (λ v. FlagsCauses g.s (causes_of g.s.clauses (node_of g.s c.args.lit).reason) (set c.args.flags.now v false) c.flag_causes.new.flags)
+    c.code.ensures.code
     (subst (λ x. FlagsCauses g.s x (set c.args.flags.now c.code.result false) c.flag_causes.new.flags) e c.flag_causes.ensures)

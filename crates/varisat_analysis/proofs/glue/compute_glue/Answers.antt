@@ -12,4 +12,5 @@ clear_levels-requires-clause-room g c l i =
 pub returns-clause-flags : goal.returns-clause-flags
 returns-clause-flags g c =
     counts-clear (level_in c.args.impl_graph.now.nodes.items) c.args.lits.now c.args.flags.now c.flag_levels-count.new.flags c.clear_levels.new.flags
-    (c.clear_levels.auto.flags ∙ c.flag_levels-count.auto.flags) c.requires.clear c.flag_levels-count.ensures.only c.clear_levels.ensures.gone c.clear_levels.ensures.fewer
+    (c.clear_levels.auto.flags ∙ c.flag_levels-count.auto.flags) c.requires.clear c.flag_levels-count.ensures.only c.clear_levels.ensures.gone
+    c.clear_levels.ensures.fewer

@@ -13,11 +13,13 @@ level-level-requires g c = has-node c.args.impl_graph.now.nodes.items c.args.lit
 
 pub bounds-flags-level : goal.bounds-flags-level
 bounds-flags-level g c =
-    level-flagged c.args.impl_graph.now.nodes.items c.args.lits.now c.args.flags.now c.loop-lit.flags c.requires.room c.loop-lit.auto.flags c.loop-lit-test.true c.lit-item.is c.var.ensures c.level-level.ensures
+    level-flagged c.args.impl_graph.now.nodes.items c.args.lits.now c.args.flags.now c.loop-lit.flags c.requires.room c.loop-lit.auto.flags
+    c.loop-lit-test.true c.lit-item.is c.var.ensures c.level-level.ensures
 
 pub bounds-flags-level-in-loop-lit : goal.bounds-flags-level-in-loop-lit
 bounds-flags-level-in-loop-lit g c =
-    level-flagged c.args.impl_graph.now.nodes.items c.args.lits.now c.args.flags.now c.loop-lit.flags c.requires.room c.loop-lit.auto.flags c.loop-lit-test.true c.lit-item.is c.var.ensures c.level-level.ensures
+    level-flagged c.args.impl_graph.now.nodes.items c.args.lits.now c.args.flags.now c.loop-lit.flags c.requires.room c.loop-lit.auto.flags
+    c.loop-lit-test.true c.lit-item.is c.var.ensures c.level-level.ensures
 
 pub loop-lit-preserved-then-flags-level : goal.loop-lit-preserved-then-flags-level
 loop-lit-preserved-then-flags-level g c =
@@ -29,7 +31,8 @@ loop-lit-preserved-then-flags-level g c =
     let few = c.loop-lit.invariant.few in
     record {
       counts = subst (λ ls. Counts (level_in nodes) ls c.loop-lit.flags c.loop-lit.count) (sym (item-snoc k lits l c.loop-lit-test.true c.lit-item.is))
-          (counts-old (level_in nodes) (take k lits) l c.loop-lit.flags c.loop-lit.count c.loop-lit.invariant.counts (subst (λ v. get_or c.loop-lit.flags v false ≡ true) e c.if-flags-level.true));
+          (counts-old (level_in nodes) (take k lits) l c.loop-lit.flags c.loop-lit.count c.loop-lit.invariant.counts
+          (subst (λ v. get_or c.loop-lit.flags v false ≡ true) e c.if-flags-level.true));
       few = omega (arith, few);
     }
 
@@ -46,8 +49,10 @@ loop-lit-preserved g c =
     let few = c.loop-lit.invariant.few in
     record {
       counts = subst (λ v. Counts (level_in nodes) (take (k + 1) lits) (set f v true) (c.loop-lit.count + 1)) (sym e)
-          (subst (λ ls. Counts (level_in nodes) ls (set f (level_in nodes l) true) (c.loop-lit.count + 1)) (sym (item-snoc k lits l c.loop-lit-test.true c.lit-item.is))
-          (counts-new (level_in nodes) (take k lits) l f c.loop-lit.count c.loop-lit.invariant.counts (omega (arith, i, n)) (subst (λ v. get_or f v false ≡ false) e c.if-flags-level.false)));
+          (subst (λ ls. Counts (level_in nodes) ls (set f (level_in nodes l) true) (c.loop-lit.count + 1))
+          (sym (item-snoc k lits l c.loop-lit-test.true c.lit-item.is))
+          (counts-new (level_in nodes) (take k lits) l f c.loop-lit.count c.loop-lit.invariant.counts (omega (arith, i, n))
+          (subst (λ v. get_or f v false ≡ false) e c.if-flags-level.false)));
       few = omega (arith, few);
     }
 
@@ -55,10 +60,12 @@ pub returns-clause-count : goal.returns-clause-count
 returns-clause-count g c =
     let nodes = c.args.impl_graph.now.nodes.items in
     counts-all (level_in nodes) c.args.lits.now c.loop-lit.flags c.loop-lit.count
-    (subst (λ ls. Counts (level_in nodes) ls c.loop-lit.flags c.loop-lit.count) (take_all c.loop-lit.lit-index c.args.lits.now c.loop-lit-test.false) c.loop-lit.invariant.counts)
+    (subst (λ ls. Counts (level_in nodes) ls c.loop-lit.flags c.loop-lit.count)
+    (take_all c.loop-lit.lit-index c.args.lits.now c.loop-lit-test.false) c.loop-lit.invariant.counts)
 
 pub returns-clause-only : goal.returns-clause-only
 returns-clause-only g c n h =
     let nodes = c.args.impl_graph.now.nodes.items in
     counts-only (level_in nodes) c.args.lits.now c.loop-lit.flags c.loop-lit.count n
-    (subst (λ ls. Counts (level_in nodes) ls c.loop-lit.flags c.loop-lit.count) (take_all c.loop-lit.lit-index c.args.lits.now c.loop-lit-test.false) c.loop-lit.invariant.counts) h
+    (subst (λ ls. Counts (level_in nodes) ls c.loop-lit.flags c.loop-lit.count)
+    (take_all c.loop-lit.lit-index c.args.lits.now c.loop-lit-test.false) c.loop-lit.invariant.counts) h

@@ -15,4 +15,5 @@ pub returns : goal.returns
 returns g c =
     let n = (long-at c.args.clause_alloc.now c.args.cref c.requires.sound c.requires.place).0 in
     let e = ap length c.lits.ensures in
-    first-read c.lits.result.now (stored_at (stored_clauses c.args.clause_alloc.now) c.args.cref).literals c.index-lits-0.result c.var.result (omega (arith, n, e)) c.lits.ensures c.index-lits-0.is c.var.ensures
+    first-read c.lits.result.now (stored_at (stored_clauses c.args.clause_alloc.now) c.args.cref).literals c.index-lits-0.result c.var.result
+    (omega (arith, n, e)) c.lits.ensures c.index-lits-0.is c.var.ensures

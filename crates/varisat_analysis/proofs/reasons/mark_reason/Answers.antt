@@ -10,11 +10,13 @@ pub returns-then-deleted-clause-marked : goal.returns-then-deleted-clause-marked
 returns-then-deleted-clause-marked g c =
     let ks = stored_clauses c.args.clause_alloc.now in
     let p = c.args.cref in
-    let dead : (stored_at ks p).header.deleted ≡ true = sym (ap (λ (h : Header). h.deleted) c.header-header.ensures) ∙ sym c.deleted.ensures ∙ c.if-deleted.true in
+    let dead : (stored_at ks p).header.deleted ≡ true = sym (ap (λ (h : Header). h.deleted) c.header-header.ensures) ∙ sym c.deleted.ensures
+    ∙ c.if-deleted.true in
     record {
       sound = c.requires.sound;
       words = refl;
-      clauses = sym (ap (with_stored ks p) (mark-dead c.args.assignment.now.current c.args.impl_graph.now.nodes.items (stored_at ks p) dead) ∙ clause-self ks p);
+      clauses = sym (ap (with_stored ks p) (mark-dead c.args.assignment.now.current c.args.impl_graph.now.nodes.items (stored_at ks p) dead)
+          ∙ clause-self ks p);
     }
 
 pub returns-clause-tracks : goal.returns-clause-tracks

@@ -13,7 +13,9 @@ pub mark_reason-requires-clause-value : goal.mark_reason-requires-clause-value
 mark_reason-requires-clause-value g c live =
     let s = c.args.clause_alloc.now in
     let f = reason_marked c.args.assignment.now.current c.args.impl_graph.now.nodes.items in
-    let (k, i, e) = unmarked-clause f s c.clauses.clause_alloc c.clauses.index c.place-cref.result (mark-place c.args.assignment.now.current c.args.impl_graph.now.nodes.items) c.requires.sound (omega arith) c.clauses.invariant.state c.place-cref.ensures.place in
+    let (k, i, e) = unmarked-clause f s c.clauses.clause_alloc c.clauses.index c.place-cref.result
+    (mark-place c.args.assignment.now.current c.args.impl_graph.now.nodes.items) c.requires.sound
+    (omega arith) c.clauses.invariant.state c.place-cref.ensures.place in
     subst (λ (x : StoredClause). variable_of (literal_in x.literals 0) < length c.args.assignment.now.current) (sym e)
     (c.requires.values k (∈-live (stored_clauses s) k i (sym (ap (λ (x : StoredClause). x.header.deleted) e) ∙ live)))
 
@@ -21,10 +23,14 @@ pub clauses-preserved : goal.clauses-preserved
 clauses-preserved g c =
     let f = reason_marked c.args.assignment.now.current c.args.impl_graph.now.nodes.items in
     record {
-      state = mapped-more f c.args.clause_alloc.now c.clauses.clause_alloc c.mark_reason.new.clause_alloc c.clauses.index c.place-cref.result (f (stored_at (stored_clauses c.clauses.clause_alloc) c.place-cref.result)) (mark-place c.args.assignment.now.current c.args.impl_graph.now.nodes.items) c.requires.sound (omega arith) c.clauses.invariant.state c.place-cref.ensures.place refl c.mark_reason.ensures.marked;
+      state = mapped-more f c.args.clause_alloc.now c.clauses.clause_alloc c.mark_reason.new.clause_alloc c.clauses.index c.place-cref.result
+          (f (stored_at (stored_clauses c.clauses.clause_alloc) c.place-cref.result))
+          (mark-place c.args.assignment.now.current c.args.impl_graph.now.nodes.items) c.requires.sound
+          (omega arith) c.clauses.invariant.state c.place-cref.ensures.place refl c.mark_reason.ensures.marked;
       tracks = λ d t. c.mark_reason.ensures.tracks d (c.clauses.invariant.tracks d t);
     }
 
 pub returns-clause-marked : goal.returns-clause-marked
 returns-clause-marked g c =
-    mapped-done (reason_marked c.args.assignment.now.current c.args.impl_graph.now.nodes.items) c.args.clause_alloc.now c.clauses.clause_alloc c.clauses.index (omega arith) c.clauses.invariant.state
+    mapped-done (reason_marked c.args.assignment.now.current c.args.impl_graph.now.nodes.items) c.args.clause_alloc.now c.clauses.clause_alloc
+    c.clauses.index (omega arith) c.clauses.invariant.state

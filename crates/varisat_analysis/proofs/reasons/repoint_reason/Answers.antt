@@ -9,4 +9,6 @@ update_reason-requires g c = subst (λ v. v < length c.args.impl_graph.now.nodes
 
 pub returns-then-is_reason_clause : goal.returns-then-is_reason_clause
 returns-then-is_reason_clause g c =
-    repoint-done c.args.assignment.now.current c.args.impl_graph.now.nodes.items c.update_reason.new.self.nodes.items (stored_at (stored_clauses c.args.clause_alloc.now) c.args.cref) c.first_var-var.result c.args.new_cref (sym c.is_reason_clause.ensures ∙ c.if-is_reason_clause.true) c.first_var-var.ensures c.update_reason.ensures
+    repoint-done c.args.assignment.now.current c.args.impl_graph.now.nodes.items c.update_reason.new.self.nodes.items
+    (stored_at (stored_clauses c.args.clause_alloc.now) c.args.cref) c.first_var-var.result c.args.new_cref
+    (sym c.is_reason_clause.ensures ∙ c.if-is_reason_clause.true) c.first_var-var.ensures c.update_reason.ensures

@@ -7,4 +7,5 @@ use Rattle.varisat_clause.proofs.activity.bump_clause_activity.Goals as goal
 
 pub set_activity-requires-else-value-lt-ACTIVITY_LIMIT-clause-place : goal.set_activity-requires-else-value-lt-ACTIVITY_LIMIT-clause-place
 set_activity-requires-else-value-lt-ACTIVITY_LIMIT-clause-place g c =
-    subst (λ xs. IsPlace xs c.args.cref) (sym c.rescale.ensures.clauses) (mapped-known activity_shifted (stored_clauses c.args.alloc.now) c.args.cref (λ x. refl) c.requires.place)
+    subst (λ xs. IsPlace xs c.args.cref) (sym c.rescale.ensures.clauses)
+    (mapped-known activity_shifted (stored_clauses c.args.alloc.now) c.args.cref (λ x. refl) c.requires.place)

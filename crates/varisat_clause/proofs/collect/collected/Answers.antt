@@ -11,7 +11,9 @@ overflow_sub-words g c =
 
 pub clauses-preserved : goal.clauses-preserved
 clauses-preserved g c =
-    copied-next c.args.alloc.now c.clauses.new_alloc c.copy_clause.new.new_alloc c.clauses.new_db c.copy_clause.new.new_db c.clauses.index c.place.result (omega arith) c.place.ensures.place c.clauses.invariant (c.in_ok-copy_clause.ensures.copied) (c.in_ok-copy_clause.ensures.passed_over) c.in_ok-copy_clause.ensures.tracks
+    copied-next c.args.alloc.now c.clauses.new_alloc c.copy_clause.new.new_alloc c.clauses.new_db c.copy_clause.new.new_db c.clauses.index
+    c.place.result (omega arith) c.place.ensures.place c.clauses.invariant (c.in_ok-copy_clause.ensures.copied)
+    (c.in_ok-copy_clause.ensures.passed_over) c.in_ok-copy_clause.ensures.tracks
 
 pub returns : goal.returns
 returns g c = grind (arith, common_steps)

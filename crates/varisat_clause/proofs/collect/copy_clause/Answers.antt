@@ -12,4 +12,6 @@ add_clause-requires-clause-long g c =
 
 pub returns-in-Ok-clause-copied : goal.returns-in-Ok-clause-copied
 returns-in-Ok-clause-copied g c live =
-    copied-adds c.args.alloc.now c.args.new_alloc.now c.add_clause.new.alloc c.args.cref c.in-Ok.field-0 c.set_mark.new.self c.lits.result.now c.requires.sound c.requires.place (c.set_mark.ensures ∙ ap (λ (x : Header). record x { mark = false }) c.header-header.ensures) c.lits.ensures c.in-Ok.ensures.added
+    copied-adds c.args.alloc.now c.args.new_alloc.now c.add_clause.new.alloc c.args.cref c.in-Ok.field-0 c.set_mark.new.self c.lits.result.now
+    c.requires.sound c.requires.place (c.set_mark.ensures ∙ ap (λ (x : Header). record x { mark = false }) c.header-header.ensures)
+    c.lits.ensures c.in-Ok.ensures.added

@@ -13,7 +13,9 @@ raise-requires g c =
 pub returns-clause-tracks : goal.returns-clause-tracks
 returns-clause-tracks g c =
     let k : StoredClause = record { place = c.in_ok-cref.cref; header = record c.args.header { len = length c.args.lits.now }; literals = c.args.lits.now } in
-    let t : Tracks (record { counts = c.db.inside.counts; garbage = c.db.inside.garbage; lists = c.db.inside.lists }) c.args.alloc.now = subst (λ (x : Database). Tracks x c.args.alloc.now) (sym c.db.view_is) c.requires.tracks in
-    let a = tracks-added (record { counts = c.db.inside.counts; garbage = c.db.inside.garbage; lists = c.db.inside.lists }) c.args.alloc.now c.add_clause.new.alloc k t c.in_ok-cref.ensures.store.added c.requires.live in
+    let t : Tracks (record { counts = c.db.inside.counts; garbage = c.db.inside.garbage; lists = c.db.inside.lists }) c.args.alloc.now =
+    subst (λ (x : Database). Tracks x c.args.alloc.now) (sym c.db.view_is) c.requires.tracks in
+    let a = tracks-added (record { counts = c.db.inside.counts; garbage = c.db.inside.garbage; lists = c.db.inside.lists }) c.args.alloc.now
+    c.add_clause.new.alloc k t c.in_ok-cref.ensures.store.added c.requires.live in
     let r = c.raise.ensures ∙ ap (λ x. raised x c.db.inside.counts) c.tier.ensures in
     rw (r, c.in_ok-cref.ensures.listed) a

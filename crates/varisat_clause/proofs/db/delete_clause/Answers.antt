@@ -17,10 +17,14 @@ note_deleted-requires-clause-small g c =
 
 pub returns-clause-noted : goal.returns-clause-noted
 returns-clause-noted g c =
-    c.note_deleted.ensures ∙ rw (c.tier.ensures, c.len.ensures.len, c.header-header.ensures) (ap (λ (x : ℕ). with_deleted (header_at (stored_clauses c.args.alloc.now) c.args.cref).tier x c.args.db.now) ((long-at c.args.alloc.now c.args.cref c.requires.tracks.sound c.requires.place).1))
+    c.note_deleted.ensures ∙ rw (c.tier.ensures, c.len.ensures.len, c.header-header.ensures)
+    (ap (λ (x : ℕ). with_deleted (header_at (stored_clauses c.args.alloc.now) c.args.cref).tier x c.args.db.now)
+    ((long-at c.args.alloc.now c.args.cref c.requires.tracks.sound c.requires.place).1))
 
 pub returns-clause-tracks : goal.returns-clause-tracks
 returns-clause-tracks g c =
-    tracks-deleted c.args.db.now c.note_deleted.new.self c.args.alloc.now c.set_header.new.self c.args.cref c.header-header.result c.requires.tracks c.requires.place c.requires.live c.header-header.ensures
+    tracks-deleted c.args.db.now c.note_deleted.new.self c.args.alloc.now c.set_header.new.self c.args.cref c.header-header.result c.requires.tracks
+    c.requires.place c.requires.live c.header-header.ensures
     (c.note_deleted.ensures ∙ rw (c.tier.ensures, c.len.ensures.len) refl)
-    (subst (λ (x : Header). HoldsClauses c.set_header.new.self (length c.args.alloc.now.words) (with_header (stored_clauses c.args.alloc.now) c.args.cref x)) c.set_deleted.ensures c.set_header.ensures)
+    (subst (λ (x : Header). HoldsClauses c.set_header.new.self (length c.args.alloc.now.words)
+    (with_header (stored_clauses c.args.alloc.now) c.args.cref x)) c.set_deleted.ensures c.set_header.ensures)

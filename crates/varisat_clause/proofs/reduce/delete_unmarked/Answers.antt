@@ -9,27 +9,42 @@ use Rattle.varisat_clause.proofs.reduce.delete_unmarked.Goals as goal
 
 pub clauses-preserved-then-left-eq0 : goal.clauses-preserved-then-left-eq0
 clauses-preserved-then-left-eq0 g c =
-    let e = drop-place c.args.list.now c.clauses.cref-index c.cref-item.result (omega arith) (element c.args.list.now c.clauses.cref-index c.cref-item.result (omega arith) c.cref-item.is) in
+    let e = drop-place c.args.list.now c.clauses.cref-index c.cref-item.result (omega arith)
+    (element c.args.list.now c.clauses.cref-index c.cref-item.result (omega arith) c.cref-item.is) in
     record {
-      state = reducing-kept _ c.args.alloc.now c.clauses.alloc c.clauses.left c.cref-item.result (drop (c.clauses.cref-index + 1) c.args.list.now) (subst (λ (xs : List ℕ). IsReducing (all_deleted (unmarked_places (stored_clauses c.args.alloc.now) c.args.count c.args.list.now) (stored_clauses c.args.alloc.now)) c.args.alloc.now c.clauses.alloc c.clauses.left xs) e c.clauses.invariant.state) (inl c.if-left-eq0.true);
+      state = reducing-kept _ c.args.alloc.now c.clauses.alloc c.clauses.left c.cref-item.result (drop (c.clauses.cref-index + 1) c.args.list.now)
+          (subst (λ (xs : List ℕ). IsReducing
+          (all_deleted (unmarked_places (stored_clauses c.args.alloc.now) c.args.count c.args.list.now) (stored_clauses c.args.alloc.now))
+          c.args.alloc.now c.clauses.alloc c.clauses.left xs) e c.clauses.invariant.state) (inl c.if-left-eq0.true);
       tracks = c.clauses.invariant.tracks;
     }
 
 pub clauses-preserved-then-mark : goal.clauses-preserved-then-mark
 clauses-preserved-then-mark g c =
-    let e = drop-place c.args.list.now c.clauses.cref-index c.cref-item.result (omega arith) (element c.args.list.now c.clauses.cref-index c.cref-item.result (omega arith) c.cref-item.is) in
-    let m : (header_at (stored_clauses c.clauses.alloc) c.cref-item.result).mark ≡ true = ap (λ (h : Header). h.mark) (sym c.header.ensures) ∙ sym c.mark.ensures ∙ c.if-mark.true in
+    let e = drop-place c.args.list.now c.clauses.cref-index c.cref-item.result (omega arith)
+    (element c.args.list.now c.clauses.cref-index c.cref-item.result (omega arith) c.cref-item.is) in
+    let m : (header_at (stored_clauses c.clauses.alloc) c.cref-item.result).mark ≡ true = ap (λ (h : Header). h.mark) (sym c.header.ensures)
+    ∙ sym c.mark.ensures ∙ c.if-mark.true in
     record {
-      state = reducing-kept _ c.args.alloc.now c.clauses.alloc c.clauses.left c.cref-item.result (drop (c.clauses.cref-index + 1) c.args.list.now) (subst (λ (xs : List ℕ). IsReducing (all_deleted (unmarked_places (stored_clauses c.args.alloc.now) c.args.count c.args.list.now) (stored_clauses c.args.alloc.now)) c.args.alloc.now c.clauses.alloc c.clauses.left xs) e c.clauses.invariant.state) (inr m);
+      state = reducing-kept _ c.args.alloc.now c.clauses.alloc c.clauses.left c.cref-item.result (drop (c.clauses.cref-index + 1) c.args.list.now)
+          (subst (λ (xs : List ℕ). IsReducing
+          (all_deleted (unmarked_places (stored_clauses c.args.alloc.now) c.args.count c.args.list.now) (stored_clauses c.args.alloc.now))
+          c.args.alloc.now c.clauses.alloc c.clauses.left xs) e c.clauses.invariant.state) (inr m);
       tracks = c.clauses.invariant.tracks;
     }
 
 pub clauses-preserved : goal.clauses-preserved
 clauses-preserved g c =
-    let e = drop-place c.args.list.now c.clauses.cref-index c.cref-item.result (omega arith) (element c.args.list.now c.clauses.cref-index c.cref-item.result (omega arith) c.cref-item.is) in
-    let m : (header_at (stored_clauses c.clauses.alloc) c.cref-item.result).mark ≡ false = ap (λ (h : Header). h.mark) (sym c.header.ensures) ∙ sym c.mark.ensures ∙ c.if-mark.false in
+    let e = drop-place c.args.list.now c.clauses.cref-index c.cref-item.result (omega arith)
+    (element c.args.list.now c.clauses.cref-index c.cref-item.result (omega arith) c.cref-item.is) in
+    let m : (header_at (stored_clauses c.clauses.alloc) c.cref-item.result).mark ≡ false = ap (λ (h : Header). h.mark) (sym c.header.ensures)
+    ∙ sym c.mark.ensures ∙ c.if-mark.false in
     record {
-      state = reducing-deleted _ c.args.alloc.now c.clauses.alloc c.delete_clause.new.alloc c.clauses.left c.cref-item.result (drop (c.clauses.cref-index + 1) c.args.list.now) (subst (λ (xs : List ℕ). IsReducing (all_deleted (unmarked_places (stored_clauses c.args.alloc.now) c.args.count c.args.list.now) (stored_clauses c.args.alloc.now)) c.args.alloc.now c.clauses.alloc c.clauses.left xs) e c.clauses.invariant.state) (omega arith) m c.delete_clause.ensures.deleted;
+      state = reducing-deleted _ c.args.alloc.now c.clauses.alloc c.delete_clause.new.alloc c.clauses.left c.cref-item.result
+          (drop (c.clauses.cref-index + 1) c.args.list.now)
+          (subst (λ (xs : List ℕ). IsReducing
+          (all_deleted (unmarked_places (stored_clauses c.args.alloc.now) c.args.count c.args.list.now) (stored_clauses c.args.alloc.now))
+          c.args.alloc.now c.clauses.alloc c.clauses.left xs) e c.clauses.invariant.state) (omega arith) m c.delete_clause.ensures.deleted;
       tracks = c.delete_clause.ensures.tracks;
     }
 

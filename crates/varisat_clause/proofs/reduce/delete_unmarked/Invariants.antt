@@ -7,6 +7,7 @@ use Rattle.varisat_clause.proofs.reduce.delete_unmarked.Given as goal
 
 abbrev pub invariant-clauses : goal.invariant-clauses
 invariant-clauses g l = record {
-  state : IsReducing (all_deleted (unmarked_places (stored_clauses l.fn.alloc) l.count l.list) (stored_clauses l.fn.alloc)) l.fn.alloc l.alloc l.left (drop l.cref-index l.list);
+  state : IsReducing (all_deleted (unmarked_places (stored_clauses l.fn.alloc) l.count l.list) (stored_clauses l.fn.alloc)) l.fn.alloc l.alloc
+      l.left (drop l.cref-index l.list);
   tracks : Tracks l.db l.alloc;
 }

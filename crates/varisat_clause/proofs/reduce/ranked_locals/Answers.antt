@@ -10,12 +10,20 @@ use Rattle.varisat_clause.proofs.reduce.ranked_locals.Goals as goal
 pub returns-clause-listed : goal.returns-clause-listed
 returns-clause-listed g c =
     let items = with_items_is c.in_ok-locals.locals c.sort_by_rank.new.list (omega (arith, c.sort_by_rank.auto.list, c.deref_mut.ensures.len)) in
-    let moved : IsPermutation (places_in Local (stored_clauses c.args.alloc.now)) c.sort_by_rank.new.list = subst (λ (xs : List ℕ). IsPermutation xs c.sort_by_rank.new.list) (c.deref_mut.ensures.value ∙ c.in_ok-locals.ensures) c.sort_by_rank.ensures.permutation in
-    subst (ListsTier Local (stored_clauses c.args.alloc.now)) (sym items) (listed-permutation Local (stored_clauses c.args.alloc.now) (places_in Local (stored_clauses c.args.alloc.now)) c.sort_by_rank.new.list moved (tier-listed Local c.args.alloc.now c.requires))
+    let moved : IsPermutation (places_in Local (stored_clauses c.args.alloc.now)) c.sort_by_rank.new.list =
+    subst (λ (xs : List ℕ). IsPermutation xs c.sort_by_rank.new.list)
+    (c.deref_mut.ensures.value ∙ c.in_ok-locals.ensures) c.sort_by_rank.ensures.permutation in
+    subst (ListsTier Local (stored_clauses c.args.alloc.now)) (sym items)
+    (listed-permutation Local (stored_clauses c.args.alloc.now) (places_in Local (stored_clauses c.args.alloc.now)) c.sort_by_rank.new.list
+    moved (tier-listed Local c.args.alloc.now c.requires))
 
 pub returns-clause-ranked : goal.returns-clause-ranked
 returns-clause-ranked g c =
     let items = with_items_is c.in_ok-locals.locals c.sort_by_rank.new.list (omega (arith, c.sort_by_rank.auto.list, c.deref_mut.ensures.len)) in
-    let moved : IsPermutation (places_in Local (stored_clauses c.args.alloc.now)) c.sort_by_rank.new.list = subst (λ (xs : List ℕ). IsPermutation xs c.sort_by_rank.new.list) (c.deref_mut.ensures.value ∙ c.in_ok-locals.ensures) c.sort_by_rank.ensures.permutation in
-    let l = listed-permutation Local (stored_clauses c.args.alloc.now) (places_in Local (stored_clauses c.args.alloc.now)) c.sort_by_rank.new.list moved (tier-listed Local c.args.alloc.now c.requires) in
-    subst (AreRanked (stored_clauses c.args.alloc.now)) (sym items) (ranked-places c.args.alloc.now c.sort_by_rank.new.list c.requires l.known l.distinct c.sort_by_rank.ensures.ranked)
+    let moved : IsPermutation (places_in Local (stored_clauses c.args.alloc.now)) c.sort_by_rank.new.list =
+    subst (λ (xs : List ℕ). IsPermutation xs c.sort_by_rank.new.list)
+    (c.deref_mut.ensures.value ∙ c.in_ok-locals.ensures) c.sort_by_rank.ensures.permutation in
+    let l = listed-permutation Local (stored_clauses c.args.alloc.now)
+    (places_in Local (stored_clauses c.args.alloc.now)) c.sort_by_rank.new.list moved (tier-listed Local c.args.alloc.now c.requires) in
+    subst (AreRanked (stored_clauses c.args.alloc.now)) (sym items)
+    (ranked-places c.args.alloc.now c.sort_by_rank.new.list c.requires l.known l.distinct c.sort_by_rank.ensures.ranked)

@@ -14,5 +14,7 @@ returns-clause-reduced g c =
       order = c.deref.result.now;
       listed = subst (ListsTier Local (stored_clauses c.args.alloc.now)) (sym c.deref.ensures.value) c.in_ok-locals.ensures.listed;
       ranked = subst (AreRanked (stored_clauses c.args.alloc.now)) (sym c.deref.ensures.value) c.in_ok-locals.ensures.ranked;
-      deleted = subst (λ (m : ℕ). HoldsClauses c.delete_unmarked.new.alloc (length c.args.alloc.now.words) (all_deleted (unmarked_places (stored_clauses c.args.alloc.now) (m / 2) c.deref.result.now) (stored_clauses c.args.alloc.now))) n c.delete_unmarked.ensures.deleted;
+      deleted = subst (λ (m : ℕ). HoldsClauses c.delete_unmarked.new.alloc (length c.args.alloc.now.words)
+          (all_deleted (unmarked_places (stored_clauses c.args.alloc.now) (m / 2) c.deref.result.now) (stored_clauses c.args.alloc.now))) n
+          c.delete_unmarked.ensures.deleted;
     }

@@ -12,7 +12,8 @@ use Rattle.varisat_clause.proofs.reduce.reduce_mid.Goals as goal
 
 pub returns-then-not-is_live_in-clause-reduced : goal.returns-then-not-is_live_in-clause-reduced
 returns-then-not-is_live_in-clause-reduced g c =
-    let live : is_live_in Mid (stored_at (stored_clauses c.args.alloc.now) c.args.cref) ≡ false = ap (λ (h : Header). not h.deleted && is_tier Mid h.tier) (sym c.header-header.ensures) ∙ sym c.is_live_in.ensures ∙ c.if-not-is_live_in.true in
+    let live : is_live_in Mid (stored_at (stored_clauses c.args.alloc.now) c.args.cref) ≡ false =
+    ap (λ (h : Header). not h.deleted && is_tier Mid h.tier) (sym c.header-header.ensures) ∙ sym c.is_live_in.ensures ∙ c.if-not-is_live_in.true in
     holds-other c.args.alloc.now c.args.cref c.requires.tracks.sound live
 
 pub returns-then-active-clause-tracks : goal.returns-then-active-clause-tracks

@@ -5,7 +5,8 @@ use Rattle.varisat_plain.proofs.checker.is_part.Goals as goal
 
 pub returns-then-not-holds : goal.returns-then-not-holds
 returns-then-not-holds c =
-    answers_false _ (λ s. refused _ c.holds.result c.if-not-holds.true c.holds.ensures (s (get_or c.args.part.now c.loop-l.l-index 0) (∈-get_or c.args.part.now c.loop-l.l-index 0 c.loop-l-test.true)))
+    answers_false _ (λ s. refused _ c.holds.result c.if-not-holds.true c.holds.ensures
+    (s (get_or c.args.part.now c.loop-l.l-index 0) (∈-get_or c.args.part.now c.loop-l.l-index 0 c.loop-l-test.true)))
 
 pub loop-l-preserved : goal.loop-l-preserved
 loop-l-preserved c =

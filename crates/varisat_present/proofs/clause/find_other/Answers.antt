@@ -9,7 +9,8 @@ use Rattle.varisat_present.proofs.clause.find_other.Goals as goal
 pub loop-l-preserved : goal.loop-l-preserved
 loop-l-preserved g c =
     let e = get_or_read c.args.clause.now c.loop-l.l-index c.l-item.result c.loop-l-test.true c.l-item.is 0 in
-    other_more c.args.known.now c.args.clause.now c.loop-l.l-index c.args.literal c.loop-l.invariant (subst (λ (x : ℕ). (x ≡ c.args.literal) ⊎ (opposite x ∈ c.args.known.now)) e (c.is_other.ensures.no c.if-is_other.false))
+    other_more c.args.known.now c.args.clause.now c.loop-l.l-index c.args.literal c.loop-l.invariant
+    (subst (λ (x : ℕ). (x ≡ c.args.literal) ⊎ (opposite x ∈ c.args.known.now)) e (c.is_other.ensures.no c.if-is_other.false))
 
 pub returns-then-is_other : goal.returns-then-is_other
 returns-then-is_other g c =

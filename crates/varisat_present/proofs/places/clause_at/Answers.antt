@@ -14,4 +14,5 @@ returns-in-None g c =
 pub returns-in-Some : goal.returns-in-Some
 returns-in-Some g c =
     let short : c.args.place < length c.args.places.now = omega (arith, c.if-place-places.false) in
-    at_read c.args.places.now c.args.place c.index-places-place.result short c.index-places-place.is ∙ ap literals_there c.in-Some.is ∙ ap Some (sym c.as_slice.ensures.value)
+    at_read c.args.places.now c.args.place c.index-places-place.result short c.index-places-place.is ∙ ap literals_there c.in-Some.is
+    ∙ ap Some (sym c.as_slice.ensures.value)

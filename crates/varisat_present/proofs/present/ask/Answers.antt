@@ -14,7 +14,8 @@ pub returns-then-conflicts : goal.returns-then-conflicts
 returns-then-conflicts g c =
     asks_settled (present c.args.places.now) c.args.known.now c.args.base.now c.assume.new.known c.propagate.new.known _ c.requires.implied
     (subst (λ (b : Bool). TakesBase c.args.known.now c.args.base.now b c.assume.new.known) c.if-clashes.false c.in_ok-clashes.ensures)
-    (settles_early (present c.args.places.now) c.assume.new.known c.propagate.new.known c.in_ok-conflicts.conflicts c.if-conflicts.true c.in_ok-conflicts.ensures)
+    (settles_early (present c.args.places.now) c.assume.new.known c.propagate.new.known c.in_ok-conflicts.conflicts c.if-conflicts.true
+    c.in_ok-conflicts.ensures)
 
 pub returns : goal.returns
 returns g c =

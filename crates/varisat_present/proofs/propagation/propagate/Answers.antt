@@ -10,7 +10,8 @@ returns-in-None g c = finds_no_more (present c.args.places.now) c.args.known.now
 
 pub returns-then-found : goal.returns-then-found
 returns-then-found g c =
-    finds_found (present c.args.places.now) c.args.known.now c.loop-place.known c.propagate_literal.new.known c.loop-place.invariant c.in_ok-found.ensures.grows (c.in_ok-found.ensures.conflict c.if-found.true)
+    finds_found (present c.args.places.now) c.args.known.now c.loop-place.known c.propagate_literal.new.known c.loop-place.invariant
+    c.in_ok-found.ensures.grows (c.in_ok-found.ensures.conflict c.if-found.true)
 
 pub loop-place-preserved : goal.loop-place-preserved
 loop-place-preserved g c =

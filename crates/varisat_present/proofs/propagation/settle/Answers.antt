@@ -8,11 +8,13 @@ rounds-init g c = grows_none (present c.args.places.now) c.args.known.now c.requ
 
 pub returns-then-is_false : goal.returns-then-is_false
 returns-then-is_false g c =
-    settles_found (present c.args.places.now) c.args.known.now c.rounds.known c.pass.new.known c.rounds.invariant c.in_ok-is_false.ensures.finds.grows (c.in_ok-is_false.ensures.finds.conflict c.if-is_false.true)
+    settles_found (present c.args.places.now) c.args.known.now c.rounds.known c.pass.new.known c.rounds.invariant
+    c.in_ok-is_false.ensures.finds.grows (c.in_ok-is_false.ensures.finds.conflict c.if-is_false.true)
 
 pub returns-then-len-count : goal.returns-then-len-count
 returns-then-len-count g c =
-    settles_end (present c.args.places.now) c.args.known.now c.rounds.known c.pass.new.known c.rounds.invariant c.in_ok-is_false.ensures.finds.grows (c.in_ok-is_false.ensures.rest c.if-is_false.false) (omega (arith, c.if-len-count.true, c.len-count.ensures, c.len.ensures))
+    settles_end (present c.args.places.now) c.args.known.now c.rounds.known c.pass.new.known c.rounds.invariant c.in_ok-is_false.ensures.finds.grows
+    (c.in_ok-is_false.ensures.rest c.if-is_false.false) (omega (arith, c.if-len-count.true, c.len-count.ensures, c.len.ensures))
 
 pub returns-then-found : goal.returns-then-found
 returns-then-found g c =
@@ -28,5 +30,6 @@ rounds-preserved g c =
 
 pub rounds-smaller : goal.rounds-smaller
 rounds-smaller g c =
-    less_left (present c.args.places.now) c.rounds.known c.pass.new.known c.propagate.new.known c.in_ok-is_false.ensures.finds.grows (c.in_ok-is_false.ensures.rest c.if-is_false.false)
+    less_left (present c.args.places.now) c.rounds.known c.pass.new.known c.propagate.new.known c.in_ok-is_false.ensures.finds.grows
+    (c.in_ok-is_false.ensures.rest c.if-is_false.false)
     (λ e. c.if-len-count.false (omega (arith, e, c.len-count.ensures, c.len.ensures))) c.in_ok-found.ensures.grows

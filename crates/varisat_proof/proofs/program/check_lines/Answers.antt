@@ -2,4 +2,5 @@ use Rattle.varisat_proof.proofs.VerifiedTexts.{status_is_true}
 use Rattle.varisat_proof.proofs.program.check_lines.Goals as goal
 
 pub returns-in-Ok-write_verdict-clause-truth : goal.returns-in-Ok-write_verdict-clause-truth
-returns-in-Ok-write_verdict-clause-truth g c = status_is_true c.args.format _ _ c.in-Ok.verified c.in-Ok-write_verdict.status c.in-Ok-write_verdict.ensures.status c.in-Ok.ensures
+returns-in-Ok-write_verdict-clause-truth g c = status_is_true c.args.format _ _ c.in-Ok.verified c.in-Ok-write_verdict.status
+    c.in-Ok-write_verdict.ensures.status c.in-Ok.ensures

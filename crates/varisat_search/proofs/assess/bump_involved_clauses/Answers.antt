@@ -29,7 +29,8 @@ returns-clause-headers g c =
     (decay-headers t u _ c.decay_clause_activities.ensures.clauses)
 
 pub returns-clause-tracks : goal.returns-clause-tracks
-returns-clause-tracks g c = decay-tracks c.bump_named.new.db c.bump_named.new.alloc c.decay_clause_activities.new.alloc _ c.bump_named.ensures.tracks c.decay_clause_activities.ensures.clauses
+returns-clause-tracks g c = decay-tracks c.bump_named.new.db c.bump_named.new.alloc c.decay_clause_activities.new.alloc _
+    c.bump_named.ensures.tracks c.decay_clause_activities.ensures.clauses
 
 pub returns-in_err-bump_named-clause-flags : goal.returns-in_err-bump_named-clause-flags
 returns-in_err-bump_named-clause-flags g c = grind (arith, common_steps)

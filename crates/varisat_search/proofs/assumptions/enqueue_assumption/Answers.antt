@@ -12,20 +12,27 @@ use Rattle.varisat_search.proofs.assumptions.enqueue_assumption.Given.{Over}
 use Rattle.varisat_search.proofs.assumptions.enqueue_assumption.Goals.{After-next_assumption, In-Some, In_ok-decide_lit}
 use Rattle.varisat_search.proofs.assumptions.enqueue_assumption.Goals as goal
 
-taken : (g : Over) (c : After-next_assumption g) → TakesOutTrue c.args.ctx.now.assignment.current (length c.args.ctx.now.trail.decisions) c.args.ctx.now.assumptions c.next_assumption.new.assumptions
-taken g c = subst (λ n. TakesOutTrue c.args.ctx.now.assignment.current n c.args.ctx.now.assumptions c.next_assumption.new.assumptions) c.current_level-level.ensures c.next_assumption.ensures.taken
+taken : (g : Over) (c : After-next_assumption g) → TakesOutTrue c.args.ctx.now.assignment.current
+    (length c.args.ctx.now.trail.decisions) c.args.ctx.now.assumptions c.next_assumption.new.assumptions
+taken g c = subst (λ n. TakesOutTrue c.args.ctx.now.assignment.current n c.args.ctx.now.assumptions c.next_assumption.new.assumptions)
+    c.current_level-level.ensures c.next_assumption.ensures.taken
 
 before : (g : Over) (c : After-next_assumption g) → AreImpliedBefore (view c.args.ctx.now) c.args.ctx.now.assumptions c.next_assumption.new.assumptions
-before g c = implied-before (view c.args.ctx.now) c.args.ctx.now.assumptions c.next_assumption.new.assumptions c.requires.ready.well c.requires.ready.assumed (taken g c)
+before g c = implied-before (view c.args.ctx.now) c.args.ctx.now.assumptions c.next_assumption.new.assumptions c.requires.ready.well
+    c.requires.ready.assumed (taken g c)
 
-next : (g : Over) (c : In-Some g) → IsNextAssumption c.args.ctx.now.assignment.current (length c.args.ctx.now.trail.decisions) c.next_assumption.new.assumptions.working (Some c.in-Some.lit)
-next g c = subst (λ n. IsNextAssumption c.args.ctx.now.assignment.current n c.next_assumption.new.assumptions.working (Some c.in-Some.lit)) c.current_level-level.ensures c.in-Some.ensures.next
+next : (g : Over) (c : In-Some g) → IsNextAssumption c.args.ctx.now.assignment.current
+    (length c.args.ctx.now.trail.decisions) c.next_assumption.new.assumptions.working (Some c.in-Some.lit)
+next g c = subst (λ n. IsNextAssumption c.args.ctx.now.assignment.current n c.next_assumption.new.assumptions.working (Some c.in-Some.lit))
+    c.current_level-level.ensures c.in-Some.ensures.next
 
 pub returns-in_default-clause-ready : goal.returns-in_default-clause-ready
-returns-in_default-clause-ready g c = none-ready c.args.ctx.now c.next_assumption.new.assumptions c.requires.ready (taken g (goal.at.returns-in_default-clause-ready g c).After-next_assumption)
+returns-in_default-clause-ready g c = none-ready c.args.ctx.now c.next_assumption.new.assumptions c.requires.ready
+    (taken g (goal.at.returns-in_default-clause-ready g c).After-next_assumption)
 
 pub returns-in_default-clause-taken : goal.returns-in_default-clause-taken
-returns-in_default-clause-taken g c = left-implied c.args.ctx.now c.next_assumption.new.assumptions c.requires.ready (taken g (goal.at.returns-in_default-clause-taken g c).After-next_assumption)
+returns-in_default-clause-taken g c = left-implied c.args.ctx.now c.next_assumption.new.assumptions c.requires.ready
+    (taken g (goal.at.returns-in_default-clause-taken g c).After-next_assumption)
 
 pub returns-in_default-clause-before : goal.returns-in_default-clause-before
 returns-in_default-clause-before g c = before g (goal.at.returns-in_default-clause-before g c).After-next_assumption
@@ -37,22 +44,30 @@ lit_is_false-requires g c =
     next-inside c.args.ctx.now c.next_assumption.new.assumptions c.requires.ready (taken g here.After-next_assumption) c.in-Some.lit n.0 n.1
 
 pub find_failed_core-requires : goal.find_failed_core-requires
-find_failed_core-requires g c κs within =
-    (within, (none-ready c.args.ctx.now c.next_assumption.new.assumptions c.requires.ready (taken g (goal.at.find_failed_core-requires g c).After-next_assumption), (c.if-lit_is_false.ensures.0 refl, refl)))
+find_failed_core-requires g c κs within = (
+  within,
+  (
+    none-ready c.args.ctx.now c.next_assumption.new.assumptions c.requires.ready
+        (taken g (goal.at.find_failed_core-requires g c).After-next_assumption),
+    (c.if-lit_is_false.ensures.0 refl, refl),
+  ),
+)
 
 pub returns-then-lit_is_false-clause-ready : goal.returns-then-lit_is_false-clause-ready
 returns-then-lit_is_false-clause-ready g c =
     let here = goal.at.returns-then-lit_is_false-clause-ready g c in
     let n = next g here.In-Some in
     let z = c.find_failed_core.new.ctx in
-    failed-ready c.args.ctx.now c.next_assumption.new.assumptions c.requires.ready (taken g here.After-next_assumption) c.in-Some.lit n.0 n.1 z z.assumptions.failed_core c.find_failed_core.ensures.kept c.find_failed_core.ensures.flags
+    failed-ready c.args.ctx.now c.next_assumption.new.assumptions c.requires.ready
+    (taken g here.After-next_assumption) c.in-Some.lit n.0 n.1 z z.assumptions.failed_core c.find_failed_core.ensures.kept c.find_failed_core.ensures.flags
 
 pub returns-then-lit_is_false-clause-taken : goal.returns-then-lit_is_false-clause-taken
 returns-then-lit_is_false-clause-taken g c =
     let here = goal.at.returns-then-lit_is_false-clause-taken g c in
     let z = c.find_failed_core.new.ctx in
     let e = ap (λ (x : Context g.row.A.Denot). x.assumptions) c.find_failed_core.ensures.kept in
-    left-implied-with c.args.ctx.now c.next_assumption.new.assumptions c.requires.ready (taken g here.After-next_assumption) z.assumptions (ap (λ (a : AssumptionParts). a.user) e) (ap (λ (a : AssumptionParts). a.user_core) e) (ap (λ (a : AssumptionParts). a.working) e)
+    left-implied-with c.args.ctx.now c.next_assumption.new.assumptions c.requires.ready (taken g here.After-next_assumption) z.assumptions
+    (ap (λ (a : AssumptionParts). a.user) e) (ap (λ (a : AssumptionParts). a.user_core) e) (ap (λ (a : AssumptionParts). a.working) e)
 
 pub returns-then-lit_is_false-clause-before : goal.returns-then-lit_is_false-clause-before
 returns-then-lit_is_false-clause-before g c =
@@ -68,7 +83,8 @@ returns-then-lit_is_false-clause-next g c =
     let k = c.find_failed_core.ensures.kept in (
       ap (λ (x : Context g.row.A.Denot). view x) k,
       subst (λ (x : Context g.row.A.Denot). HasFailed (view x) x.assumptions) (sym k)
-          (has-failed c.args.ctx.now c.next_assumption.new.assumptions c.requires.ready (taken g here.After-next_assumption) c.in-Some.lit n.0 n.1 z.assumptions.failed_core c.in_ok-find_failed_core.ensures.core),
+          (has-failed c.args.ctx.now c.next_assumption.new.assumptions c.requires.ready
+          (taken g here.After-next_assumption) c.in-Some.lit n.0 n.1 z.assumptions.failed_core c.in_ok-find_failed_core.ensures.core),
     )
 
 pub decide_lit-requires : goal.decide_lit-requires
@@ -76,20 +92,24 @@ decide_lit-requires g c =
     let here = goal.at.decide_lit-requires g c in
     let x = c.args.ctx.now in
     let n = next g here.In-Some in
-    let free = next-free x c.next_assumption.new.assumptions c.requires.ready (taken g here.After-next_assumption) c.in-Some.lit n.0 n.1 n.2 (λ h. let b = c.if-lit_is_false.ensures.1 h in cc) in
+    let free = next-free x c.next_assumption.new.assumptions c.requires.ready (taken g here.After-next_assumption) c.in-Some.lit n.0 n.1 n.2
+    (λ h. let b = c.if-lit_is_false.ensures.1 h in cc) in
     let i = free.0 in
     let m = c.requires.ready.well.nodes_are in
     (i, omega (arith, i, m), free.1)
 
 free : (g : Over) (c : In_ok-decide_lit g) → IsFree (view c.args.ctx.now) c.in-Some.lit
 free g c =
-    let n = subst (λ n. IsNextAssumption c.args.ctx.now.assignment.current n c.next_assumption.new.assumptions.working (Some c.in-Some.lit)) c.current_level-level.ensures c.in-Some.ensures.next in
-    let t = subst (λ n. TakesOutTrue c.args.ctx.now.assignment.current n c.args.ctx.now.assumptions c.next_assumption.new.assumptions) c.current_level-level.ensures c.next_assumption.ensures.taken in
+    let n = subst (λ n. IsNextAssumption c.args.ctx.now.assignment.current n c.next_assumption.new.assumptions.working (Some c.in-Some.lit))
+    c.current_level-level.ensures c.in-Some.ensures.next in
+    let t = subst (λ n. TakesOutTrue c.args.ctx.now.assignment.current n c.args.ctx.now.assumptions c.next_assumption.new.assumptions)
+    c.current_level-level.ensures c.next_assumption.ensures.taken in
     next-free c.args.ctx.now c.next_assumption.new.assumptions c.requires.ready t c.in-Some.lit n.0 n.1 n.2 (λ h. let b = c.if-lit_is_false.ensures.1 h in cc)
 
 -- the context once the assumption is decided
 abbrev after : (g : Over) (c : In_ok-decide_lit g) → AssumptionParts → Context g.row.A.Denot
-after g c a = record c.args.ctx.now { assignment = c.decide_lit.new.ctx.assignment; assumptions = a; impl_graph = c.decide_lit.new.ctx.impl_graph; trail = c.decide_lit.new.ctx.trail }
+after g c a = record c.args.ctx.now
+    { assignment = c.decide_lit.new.ctx.assignment; assumptions = a; impl_graph = c.decide_lit.new.ctx.impl_graph; trail = c.decide_lit.new.ctx.trail }
 
 is-after : (g : Over) (c : In_ok-decide_lit g) (a : AssumptionParts) → record c.decide_lit.new.ctx { assumptions = a } ≡ after g c a
 is-after g c a = ap (λ (x : Context g.row.A.Denot). record x { assumptions = a }) c.decide_lit.ensures.kept
@@ -102,20 +122,26 @@ returns-clause-ready g c =
     let at = goal.at.returns-clause-ready g c in
     let here = at.In_ok-decide_lit in
     let n = next g at.In-Some in
-    let levels = c.set_levels.ensures ∙ ap (λ (x : Context g.row.A.Denot). record x.assumptions { levels = c.current_level.result }) c.decide_lit.ensures.kept in
+    let levels = c.set_levels.ensures ∙ ap (λ (x : Context g.row.A.Denot). record x.assumptions { levels = c.current_level.result })
+    c.decide_lit.ensures.kept in
     subst (λ (x : Context g.row.A.Denot). IsReady x) (sym (is-after g here c.set_levels.new.self))
-    (next-ready c.args.ctx.now c.next_assumption.new.assumptions c.requires.ready (taken g at.After-next_assumption) c.in-Some.lit n.0 n.1 (after g here c.set_levels.new.self) c.current_level.result c.requires.complete c.requires.propagated (free g here) (decided g here c.set_levels.new.self) c.current_level.ensures
+    (next-ready c.args.ctx.now c.next_assumption.new.assumptions c.requires.ready (taken g at.After-next_assumption) c.in-Some.lit n.0 n.1
+    (after g here c.set_levels.new.self) c.current_level.result c.requires.complete c.requires.propagated (free g here)
+    (decided g here c.set_levels.new.self) c.current_level.ensures
     (ap (after g here) levels))
 
 pub returns-clause-taken : goal.returns-clause-taken
 returns-clause-taken g c =
     let e = c.set_levels.ensures ∙ ap (λ (x : Context g.row.A.Denot). record x.assumptions { levels = c.current_level.result }) c.decide_lit.ensures.kept in
-    left-implied-with c.args.ctx.now c.next_assumption.new.assumptions c.requires.ready (taken g (goal.at.returns-clause-taken g c).After-next_assumption) c.set_levels.new.self (ap (λ (a : AssumptionParts). a.user) e) (ap (λ (a : AssumptionParts). a.user_core) e) (ap (λ (a : AssumptionParts). a.working) e)
+    left-implied-with c.args.ctx.now c.next_assumption.new.assumptions c.requires.ready
+    (taken g (goal.at.returns-clause-taken g c).After-next_assumption) c.set_levels.new.self (ap (λ (a : AssumptionParts). a.user) e)
+    (ap (λ (a : AssumptionParts). a.user_core) e) (ap (λ (a : AssumptionParts). a.working) e)
 
 pub returns-clause-before : goal.returns-clause-before
 returns-clause-before g c =
     let e = c.set_levels.ensures ∙ ap (λ (x : Context g.row.A.Denot). record x.assumptions { levels = c.current_level.result }) c.decide_lit.ensures.kept in
-    implied-before-with (view c.args.ctx.now) c.args.ctx.now.assumptions c.next_assumption.new.assumptions c.set_levels.new.self (ap (λ (a : AssumptionParts). a.working) e)
+    implied-before-with (view c.args.ctx.now) c.args.ctx.now.assumptions c.next_assumption.new.assumptions c.set_levels.new.self
+    (ap (λ (a : AssumptionParts). a.working) e)
     (before g (goal.at.returns-clause-before g c).After-next_assumption)
 
 pub returns-clause-next : goal.returns-clause-next
@@ -130,4 +156,5 @@ returns-clause-same g c =
     let n = next g at.In-Some in
     let x = c.args.ctx.now in
     subst (λ (y : Context g.row.A.Denot). SameDecidable (view x) x.vsids (view y) y.vsids) (sym (is-after g here c.set_levels.new.self))
-    (next-same x c.next_assumption.new.assumptions c.requires.ready (taken g at.After-next_assumption) c.in-Some.lit n.0 n.1 (after g here c.set_levels.new.self) (free g here) (decided g here c.set_levels.new.self) refl)
+    (next-same x c.next_assumption.new.assumptions c.requires.ready (taken g at.After-next_assumption) c.in-Some.lit n.0 n.1
+    (after g here c.set_levels.new.self) (free g here) (decided g here c.set_levels.new.self) refl)

@@ -12,5 +12,6 @@ find_core-requires g c κs within =
     let (_, (ready, (false_now, seen))) = c.requires in
     let x = c.args.ctx.now in
     let e : view x ≡ g.s = sym seen in
-    let on : opposite c.args.failed ∈ g.s.trail = subst (λ (s : View). opposite c.args.failed ∈ s.trail) e (on-trail (view x) ready.well (opposite c.args.failed) false_now) in
+    let on : opposite c.args.failed ∈ g.s.trail = subst (λ (s : View). opposite c.args.failed ∈ s.trail) e
+    (on-trail (view x) ready.well (opposite c.args.failed) false_now) in
     (within, (shown x g.s ready e, (subst WellFormed e ready.well, (on, ready.flags ∙ ap (λ (s : View). replicate (2 * length s.values) false) e))))

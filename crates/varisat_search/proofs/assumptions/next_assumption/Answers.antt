@@ -11,7 +11,9 @@ pub lit_is_true-requires : goal.lit_is_true-requires
 lit_is_true-requires g c =
     let x = c.implied.assumptions in
     let (h, e) = read-next x.working c.args.level c.in-Some.lit (sym c.assumption.ensures ∙ c.in-Some.is) in
-    c.requires.in_range c.in-Some.lit (subst (λ l. l ∈ c.args.assumptions.now.working) (sym e) (c.implied.invariant.part (get_or x.working c.args.level 0) (∈-get_or x.working c.args.level 0 h)))
+    c.requires.in_range c.in-Some.lit
+    (subst (λ l. l ∈ c.args.assumptions.now.working) (sym e)
+    (c.implied.invariant.part (get_or x.working c.args.level 0) (∈-get_or x.working c.args.level 0 h)))
 
 pub returns-then-not-lit_is_true-clause-next : goal.returns-then-not-lit_is_true-clause-next
 returns-then-not-lit_is_true-clause-next g c =
@@ -27,7 +29,8 @@ implied-preserved g c =
     let values = c.args.assignment.now.current in
     let (h, e) = read-next x.working c.args.level c.in-Some.lit (sym c.assumption.ensures ∙ c.in-Some.is) in
     subst (TakesOutTrue values c.args.level c.args.assumptions.now) (sym c.take_out.ensures)
-    (takes-one values c.args.level c.args.assumptions.now x c.implied.invariant h (subst (IsMadeTrue values) e (c.lit_is_true.ensures.0 c.if-not-lit_is_true.false)))
+    (takes-one values c.args.level c.args.assumptions.now x c.implied.invariant h
+    (subst (IsMadeTrue values) e (c.lit_is_true.ensures.0 c.if-not-lit_is_true.false)))
 
 pub returns-clause-next : goal.returns-clause-next
 returns-clause-next g c = read-none c.implied.assumptions.working c.args.level (sym c.assumption.ensures ∙ c.in_default.is)

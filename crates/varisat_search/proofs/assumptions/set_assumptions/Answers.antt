@@ -16,14 +16,16 @@ returns-clause-ready g c =
     let x = c.args.ctx.now in
     let y = c.full_restart.new.ctx in
     let b = c.full_restart.ensures.undone in
-    let given : c.set.new.self.working ⊆ c.args.lits.now = λ l i. subst (λ ws. l ∈ ws) (ap (λ (a : AssumptionParts). a.working) c.set.ensures ∙ c.in_ok-working.ensures {u = tt}) i in
+    let given : c.set.new.self.working ⊆ c.args.lits.now = λ l i. subst (λ ws. l ∈ ws)
+    (ap (λ (a : AssumptionParts). a.working) c.set.ensures ∙ c.in_ok-working.ensures {u = tt}) i in
     let count : length y.assignment.current ≡ length x.assignment.current = ⊎_elim
     (λ (h : 0 < length x.trail.decisions). (b.cut h).count)
     (λ (h : length x.trail.decisions ≤ 0). ap (λ (z : Context g.row.A.Denot). length z.assignment.current) (b.same h))
     (cases_lt 0 (length x.trail.decisions)) in
     let r = backtracked-ready 0 x y c.requires.ready b in
     ready-with y (record y { assumptions = c.set.new.self; solver_state = c.assume.new.self }) r refl refl refl r.propagated r.decidable
-    (has-undecided (view y) c.set.new.self c.full_restart.ensures.undecided (ap (λ (a : AssumptionParts). a.levels) c.set.ensures) (λ l i. let h = c.requires.in_range l (given l i) in omega (arith, h, count)))
+    (has-undecided (view y) c.set.new.self c.full_restart.ensures.undecided (ap (λ (a : AssumptionParts). a.levels) c.set.ensures)
+    (λ l i. let h = c.requires.in_range l (given l i) in omega (arith, h, count)))
     (λ l i. (b.decidable (variable_of l)).0 (c.requires.decidable l (given l i)))
 
 pub returns-clause-seen : goal.returns-clause-seen

@@ -15,13 +15,15 @@ bump_each_once-requires-clause-may g c =
     let x = c.args.ctx.now in
     let r = c.requires.ready in
     let n = r.well.nodes_are in
-    let f : length x.tmp_flags.flags.items ≡ 2 * length x.assignment.current = ap (λ xs. length xs) r.flags ∙ length-replicate (2 * length x.assignment.current) false in
+    let f : length x.tmp_flags.flags.items ≡ 2 * length x.assignment.current = ap (λ xs. length xs) r.flags
+    ∙ length-replicate (2 * length x.assignment.current) false in
     let v = ap (λ xs. length xs) c.deref_mut.ensures.value in
     record {
       sound = is-sound x.clause_alloc r.well.sound;
       may = record {
         known = λ l i.
-            let (k, h, j) = among-kept (view x) r.well x.analyze_conflict.involved l c.requires.named (subst (λ ps. l ∈ literals_among (live_clauses x.clause_alloc) ps) c.involved.ensures i) in
+            let (k, h, j) = among-kept (view x) r.well x.analyze_conflict.involved l c.requires.named
+            (subst (λ ps. l ∈ literals_among (live_clauses x.clause_alloc) ps) c.involved.ensures i) in
             let w = r.well.in_range k h l j in
             omega (arith, w, n);
         flags = omega (arith, n, f, v);
@@ -32,13 +34,17 @@ bump_each_once-requires-clause-may g c =
 
 pub bump_each_once-requires-clause-clear : goal.bump_each_once-requires-clause-clear
 bump_each_once-requires-clause-clear g c v =
-    subst (λ xs. get_or xs v false ≡ false) (sym (c.deref_mut.ensures.value ∙ c.requires.ready.flags)) (false-all (2 * length c.args.ctx.now.assignment.current) v)
+    subst (λ xs. get_or xs v false ≡ false) (sym (c.deref_mut.ensures.value ∙ c.requires.ready.flags))
+    (false-all (2 * length c.args.ctx.now.assignment.current) v)
 
 pub returns-clause-bumps : goal.returns-clause-bumps
 returns-clause-bumps g c h =
     let x = c.args.ctx.now in
-    let (vars, a, e) = c.bump_each_once.ensures.bumps in
-    (vars, subst (λ ps. AreVariablesAbove x.impl_graph.nodes.items (literals_among (live_clauses x.clause_alloc) ps) vars) c.involved.ensures a, c.decay.ensures.decayed ∙ ap decayed e)
+    let (vars, a, e) = c.bump_each_once.ensures.bumps in (
+      vars,
+      subst (λ ps. AreVariablesAbove x.impl_graph.nodes.items (literals_among (live_clauses x.clause_alloc) ps) vars) c.involved.ensures a,
+      c.decay.ensures.decayed ∙ ap decayed e,
+    )
 
 pub returns-clause-available : goal.returns-clause-available
 returns-clause-available g c =
@@ -56,7 +62,9 @@ returns-clause-entries g c =
     let n = c.requires.ready.decidable.entries in
     record {
       activity = c.decay.ensures.count ∙ c.bump_each_once.ensures.count ∙ n.activity;
-      available = ap (λ xs. length xs) (ap (λ (b : Activities). b.available) c.decay.ensures.decayed ∙ ap (λ (b : Activities). b.available) e ∙ each-available vars c.args.ctx.now.vsids) ∙ n.available;
+      available = ap (λ xs. length xs)
+          (ap (λ (b : Activities). b.available) c.decay.ensures.decayed ∙ ap (λ (b : Activities). b.available) e
+          ∙ each-available vars c.args.ctx.now.vsids) ∙ n.available;
     }
 
 pub returns-clause-flags : goal.returns-clause-flags
@@ -67,8 +75,10 @@ returns-clause-flags g c =
     let long = c.bump_each_once.auto.flags in
     let value = ap (λ xs. length xs) c.deref_mut.ensures.value in
     let count = x.tmp_flags.flags.ok.0 in
-    let f : length x.tmp_flags.flags.items ≡ 2 * length x.assignment.current = ap (λ xs. length xs) r.flags ∙ length-replicate (2 * length x.assignment.current) false in
-    clear-given-back news (drop (length news) x.tmp_flags.flags.items) x.tmp_flags.flags.len (2 * length x.assignment.current) (omega (arith, long, value, count)) (omega (arith, f, count)) c.bump_each_once.ensures.clear ∙ sym r.flags
+    let f : length x.tmp_flags.flags.items ≡ 2 * length x.assignment.current = ap (λ xs. length xs) r.flags
+    ∙ length-replicate (2 * length x.assignment.current) false in
+    clear-given-back news (drop (length news) x.tmp_flags.flags.items) x.tmp_flags.flags.len (2 * length x.assignment.current)
+    (omega (arith, long, value, count)) (omega (arith, f, count)) c.bump_each_once.ensures.clear ∙ sym r.flags
 
 pub returns-clause-undecided : goal.returns-clause-undecided
 returns-clause-undecided g c e = absurd (c.if-current_level-eq0.false (c.current_level.ensures ∙ ap (λ xs. length xs) e))

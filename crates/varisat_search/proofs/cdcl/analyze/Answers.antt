@@ -10,5 +10,13 @@ analyze_conflict-requires g c κs within =
     let (_, (ready, (conflict, seen))) = c.requires in
     let x = c.args.ctx.now in
     let e : view x ≡ g.s = sym seen in
-    let conflict = subst (λ (s : View). IsConflicting s c.args.conflict) e conflict in
-    (within, (shown x g.s ready e, (subst WellFormed e ready.well, (subst LevelsSettled e ready.settled, (conflict, ready.analysis ∙ sym ready.well.nodes_are)))))
+    let conflict = subst (λ (s : View). IsConflicting s c.args.conflict) e conflict in (
+      within,
+      (
+        shown x g.s ready e,
+        (
+          subst WellFormed e ready.well,
+          (subst LevelsSettled e ready.settled, (conflict, ready.analysis ∙ sym ready.well.nodes_are)),
+        ),
+      ),
+    )

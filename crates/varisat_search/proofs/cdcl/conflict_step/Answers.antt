@@ -20,7 +20,8 @@ use Rattle.varisat_search.proofs.cdcl.conflict_step.Goals as goal
 holds : (g : Over) (c : In_ok-settle_units g) → HoldsFor (g.P.ProofTracer.holds c.settle_units.new.proof) (search_of (view c.settle_units.new.ctx))
 holds g c =
     let (lines, p, (s, t)) = c.in_ok-settle_units.ensures.goes_on.proves in
-    holds_on g.P.ProofTracer.holds g.P.ProofTracer.takes g.met.P.ProofTracer.holds_after c.args.proof.now c.settle_units.new.proof 0 (search_of (view c.args.ctx.now)) (search_of (view c.settle_units.new.ctx)) lines c.requires.holds p t
+    holds_on g.P.ProofTracer.holds g.P.ProofTracer.takes g.met.P.ProofTracer.holds_after c.args.proof.now c.settle_units.new.proof 0
+    (search_of (view c.args.ctx.now)) (search_of (view c.settle_units.new.ctx)) lines c.requires.holds p t
 
 pub find_and_learn-requires-clause-holds : goal.find_and_learn-requires-clause-holds
 find_and_learn-requires-clause-holds g c = holds g (goal.at.find_and_learn-requires-clause-holds g c).In_ok-settle_units
@@ -29,7 +30,9 @@ pub learn-requires-clause-holds : goal.learn-requires-clause-holds
 learn-requires-clause-holds g c = holds g (goal.at.learn-requires-clause-holds g c).In_ok-settle_units
 
 -- the units are settled, and a step is made from there
-after : (g : Over) (c : In_ok-settle_units g) (z : Context g.row.A.Denot) (p2 : g.row.P.Denot) → MakesStep (λ lines. TakesStep g.P.ProofTracer.takes c.settle_units.new.proof lines (outcome_at z) p2) c.settle_units.new.ctx z → MakesStep (λ lines. SettlesFirst lines c.args.ctx.now z × TakesStep g.P.ProofTracer.takes c.args.proof.now lines (outcome_at z) p2) c.args.ctx.now z
+after : (g : Over) (c : In_ok-settle_units g) (z : Context g.row.A.Denot) (p2 : g.row.P.Denot) →
+    MakesStep (λ lines. TakesStep g.P.ProofTracer.takes c.settle_units.new.proof lines (outcome_at z) p2) c.settle_units.new.ctx z →
+    MakesStep (λ lines. SettlesFirst lines c.args.ctx.now z × TakesStep g.P.ProofTracer.takes c.args.proof.now lines (outcome_at z) p2) c.args.ctx.now z
 after g c z p2 m =
     let takes = g.P.ProofTracer.takes in
     let x = c.args.ctx.now in
@@ -42,12 +45,18 @@ after g c z p2 m =
     (λ lines. (IsUnsettled (view x) → SettlesUnits lines (view x) (view y) end) × TakesLines takes p0 lines p1)
     (λ lines. Steps (search_of (view y)) (search_of (view z)) v lines × TakesStep takes p1 lines v p2)
     (λ lines. SettlesFirst lines x z × TakesStep takes p0 lines v p2)
-    (λ first more (s, i) (p, j). ((λ u. record { settled = y; end = end; first = first; rest = more; parts = refl; settles = s u; steps = (more, p, refl) }), step-more takes g.met.P.ProofTracer.takes_more p0 p1 p2 first more v i j))
+    (λ first more (s, i) (p, j). (
+      (λ u.
+          record { settled = y; end = end; first = first; rest = more; parts = refl; settles = s u; steps = (more, p, refl) }),
+      step-more takes
+          g.met.P.ProofTracer.takes_more p0 p1 p2 first more v i j,
+    ))
     c.requires.ready c.in_ok-settle_units.ensures.goes_on c.settle_units.ensures.kept (made-with y z (λ lines. TakesStep takes p1 lines v p2) m)
 
 pub returns-in_ok-find_and_learn-in-Ok-clause-made : goal.returns-in_ok-find_and_learn-in-Ok-clause-made
 returns-in_ok-find_and_learn-in-Ok-clause-made g c =
-    after g (goal.at.returns-in_ok-find_and_learn-in-Ok-clause-made g c).In_ok-settle_units c.find_and_learn.new.ctx c.find_and_learn.new.proof c.in_ok-find_and_learn-in-Ok.ensures.made
+    after g (goal.at.returns-in_ok-find_and_learn-in-Ok-clause-made g c).In_ok-settle_units c.find_and_learn.new.ctx c.find_and_learn.new.proof
+    c.in_ok-find_and_learn-in-Ok.ensures.made
 
 pub returns-in_ok-learn-in-Err-clause-made : goal.returns-in_ok-learn-in-Err-clause-made
 returns-in_ok-learn-in-Err-clause-made g c =
@@ -100,17 +109,20 @@ returns-in_ok-learn-in-Err-clause-fixes g c =
 
 pub returns-in_err-settle_units-clause-broken : goal.returns-in_err-settle_units-clause-broken
 returns-in_err-settle_units-clause-broken g c =
-    trace-broken g.P.ProofTracer.breaks_off c.args.proof.now c.settle_units.new.proof c.from_residual.result c.in_err-settle_units.field-0.0 c.from_residual.ensures
+    trace-broken g.P.ProofTracer.breaks_off c.args.proof.now c.settle_units.new.proof c.from_residual.result c.in_err-settle_units.field-0.0
+    c.from_residual.ensures
     c.in_err-settle_units.ensures.broken
 
 pub returns-in_err-find_and_learn-in-Ok-clause-broken : goal.returns-in_err-find_and_learn-in-Ok-clause-broken
 returns-in_err-find_and_learn-in-Ok-clause-broken g c =
     let (lines, p, (s, t)) = c.in_ok-settle_units.ensures.goes_on.proves in
-    step-passed g.P.ProofTracer.breaks_off c.args.proof.now c.find_and_learn.new.proof c.from_residual-in_err-find_and_learn-in-Ok.result c.in_err-find_and_learn-in-Ok.field-0.0 c.from_residual-in_err-find_and_learn-in-Ok.ensures
+    step-passed g.P.ProofTracer.breaks_off c.args.proof.now c.find_and_learn.new.proof c.from_residual-in_err-find_and_learn-in-Ok.result
+    c.in_err-find_and_learn-in-Ok.field-0.0 c.from_residual-in_err-find_and_learn-in-Ok.ensures
     (breaks-on g.P.ProofTracer.takes g.P.ProofTracer.breaks_off g.met.P.ProofTracer.breaks_behind t c.in_err-find_and_learn-in-Ok.ensures.broken)
 
 pub returns-in_err-learn-in-Err-clause-broken : goal.returns-in_err-learn-in-Err-clause-broken
 returns-in_err-learn-in-Err-clause-broken g c =
     let (lines, p, (s, t)) = c.in_ok-settle_units.ensures.goes_on.proves in
-    step-passed g.P.ProofTracer.breaks_off c.args.proof.now c.learn.new.proof c.from_residual-in_err-learn-in-Err.result c.in_err-learn-in-Err.field-0.0 c.from_residual-in_err-learn-in-Err.ensures
+    step-passed g.P.ProofTracer.breaks_off c.args.proof.now c.learn.new.proof c.from_residual-in_err-learn-in-Err.result
+    c.in_err-learn-in-Err.field-0.0 c.from_residual-in_err-learn-in-Err.ensures
     (breaks-on g.P.ProofTracer.takes g.P.ProofTracer.breaks_off g.met.P.ProofTracer.breaks_behind t c.in_err-learn-in-Err.ensures.broken)

@@ -48,7 +48,8 @@ returns-clause-ready g c =
     let n = subst (ComesToNext s (view x) x.assumptions) c.in-Done.is c.in_ok-enqueue_assumption.ensures.next in
     let m = c.in_ok-made.ensures in
     made-or-not c.in_ok-made.made _ _ _ m.decided
-    (λ p. literal-ready x z r n.1 m.kept m.decidable m.same (subst (λ (t : View). IsComplete (kept t) t.trail) (sym n.0) c.requires.complete) (subst (λ (t : View). t.queue_head ≡ length t.trail) (sym n.0) c.requires.propagated) p.0 p.1 p.2)
+    (λ p. literal-ready x z r n.1 m.kept m.decidable m.same (subst (λ (t : View). IsComplete (kept t) t.trail) (sym n.0) c.requires.complete)
+    (subst (λ (t : View). t.queue_head ≡ length t.trail) (sym n.0) c.requires.propagated) p.0 p.1 p.2)
     (λ p. end-ready x z r n.1 m.kept m.decidable m.same p.0)
 
 pub returns-clause-grows : goal.returns-clause-grows
@@ -67,7 +68,8 @@ returns-clause-fixed g c =
     let z = c.make_decision.new.ctx in
     let n = subst (ComesToNext s (view x) x.assumptions) c.in-Done.is c.in_ok-enqueue_assumption.ensures.next in
     made-or-not c.in_ok-made.made _ _ _ c.in_ok-made.ensures.decided
-    (λ p. subst (λ (t : View). FixesNone t (view z)) n.0 (subst (FixesNone (view x)) (sym p.2) (fixed-decided (view x) p.0 c.in_ok-enqueue_assumption.ensures.ready.well)))
+    (λ p. subst (λ (t : View). FixesNone t (view z)) n.0
+    (subst (FixesNone (view x)) (sym p.2) (fixed-decided (view x) p.0 c.in_ok-enqueue_assumption.ensures.ready.well)))
     (λ p. subst (FixesNone s) (sym (ap (λ (y : Context g.row.A.Denot). view y) p.0 ∙ n.0)) (fixed-still s c.requires.propagated))
 
 pub returns-clause-decided : goal.returns-clause-decided

@@ -22,15 +22,28 @@ use Rattle.varisat_trace.specs.Traces.{TakesLines, TakesStep, HoldsFor}
 finds : (g : Over) (c : In_ok-find_conflict g) → Finds c.args.ctx.now c.find_conflict.new.ctx
 finds g c =
     let e = c.in_ok-find_conflict.ensures in
-    record { ready = e.ready; grows = e.grows; taken = e.taken; decidable = e.decidable; activities = e.activities; state = e.state; last = e.last; units = e.units }
+    record {
+      ready = e.ready;
+      grows = e.grows;
+      taken = e.taken;
+      decidable = e.decidable;
+      activities = e.activities;
+      state = e.state;
+      last =
+          e.last;
+      units = e.units;
+    }
 
 pub returns-in-Ok-clause-made : goal.returns-in-Ok-clause-made
 returns-in-Ok-clause-made g c =
     let x = c.args.ctx.now in
     let y = c.find_conflict.new.ctx in
     let m = c.in_ok-find_conflict.ensures in
-    let a = subst (λ r. MatchResult r (λ _. IsComplete (kept (view y)) y.trail.literals × EndsAssumed (view y) y.assumptions) (λ f. Stops (view y) y.assumptions f)) c.in-Ok.is m.found in
-    made-ended x y c.requires.ready (finds g (goal.at.returns-in-Ok-clause-made g c).In_ok-find_conflict) verdict.Sat (λ lines. TakesStep g.P.ProofTracer.takes c.args.proof.now lines (outcome_of (view y) y.assumptions.failed_core verdict.Sat) c.args.proof.now) (g.met.P.ProofTracer.takes_none c.args.proof.now) (λ e. absurd cc)
+    let a = subst (λ r. MatchResult r (λ _. IsComplete (kept (view y)) y.trail.literals × EndsAssumed (view y) y.assumptions)
+    (λ f. Stops (view y) y.assumptions f)) c.in-Ok.is m.found in
+    made-ended x y c.requires.ready (finds g (goal.at.returns-in-Ok-clause-made g c).In_ok-find_conflict) verdict.Sat
+    (λ lines. TakesStep g.P.ProofTracer.takes c.args.proof.now lines
+    (outcome_of (view y) y.assumptions.failed_core verdict.Sat) c.args.proof.now) (g.met.P.ProofTracer.takes_none c.args.proof.now) (λ e. absurd cc)
     (model-steps (view y) m.ready.well a.0 a.1.0)
     (keeps-model (view x) (view y) x.assumptions y.assumptions c.requires.ready.well m.ready.well m.taken m.ready.assumed a.1.1)
 
@@ -39,8 +52,12 @@ returns-in_ok-trace_core-in-Err-Assumption-clause-made g c =
     let x = c.args.ctx.now in
     let y = c.find_conflict.new.ctx in
     let m = c.in_ok-find_conflict.ensures in
-    let b = error-is (IsComplete (kept (view y)) y.trail.literals × EndsAssumed (view y) y.assumptions) (Stops (view y) y.assumptions) c.in-Err-Assumption.is c.in-Err-Assumption.field-0-is m.found in
-    made-ended x y c.requires.ready (finds g (goal.at.returns-in_ok-trace_core-in-Err-Assumption-clause-made g c).In_ok-find_conflict) verdict.UnsatUnderAssumptions (λ lines. TakesStep g.P.ProofTracer.takes c.args.proof.now lines (outcome_of (view y) y.assumptions.failed_core verdict.UnsatUnderAssumptions) c.trace_core.new.proof) ((c.in_ok-trace_core-in-Err-Assumption.ensures {u = tt}).taken) (λ e. absurd cc)
+    let b = error-is (IsComplete (kept (view y)) y.trail.literals × EndsAssumed (view y) y.assumptions)
+    (Stops (view y) y.assumptions) c.in-Err-Assumption.is c.in-Err-Assumption.field-0-is m.found in
+    made-ended x y c.requires.ready (finds g (goal.at.returns-in_ok-trace_core-in-Err-Assumption-clause-made g c).In_ok-find_conflict)
+    verdict.UnsatUnderAssumptions (λ lines. TakesStep g.P.ProofTracer.takes c.args.proof.now lines
+    (outcome_of (view y) y.assumptions.failed_core verdict.UnsatUnderAssumptions) c.trace_core.new.proof)
+    ((c.in_ok-trace_core-in-Err-Assumption.ensures {u = tt}).taken) (λ e. absurd cc)
     (core-steps (view y) y.assumptions m.ready.well b)
     (keeps-core (view x) (view y) x.assumptions y.assumptions c.requires.ready.well m.taken b)
 
@@ -50,18 +67,23 @@ returns-in_ok-learn-in-Err-Conflict-clause-made g c =
     let e = c.in_ok-learn-in-Err-Conflict.ensures in
     let z = c.learn.new.ctx in
     let v = outcome_of (view z) z.assumptions.failed_core z.solver_state.sat_state in
-    made-are c.args.ctx.now z (λ lines. TakesLines g.P.ProofTracer.takes c.args.proof.now lines c.learn.new.proof) (λ lines. TakesStep g.P.ProofTracer.takes c.args.proof.now lines v c.learn.new.proof)
-    (λ lines h. step-lines g.P.ProofTracer.takes c.args.proof.now c.learn.new.proof lines v (no-core-entry (view z) z.assumptions.failed_core z.solver_state.sat_state e.further.known) h)
-    (made-learned c.args.ctx.now c.find_conflict.new.ctx c.requires.ready (finds g here) z (λ lines. TakesLines g.P.ProofTracer.takes c.args.proof.now lines c.learn.new.proof) e.further e.last)
+    made-are c.args.ctx.now z (λ lines. TakesLines g.P.ProofTracer.takes c.args.proof.now lines c.learn.new.proof)
+    (λ lines. TakesStep g.P.ProofTracer.takes c.args.proof.now lines v c.learn.new.proof)
+    (λ lines h. step-lines g.P.ProofTracer.takes c.args.proof.now c.learn.new.proof lines v
+    (no-core-entry (view z) z.assumptions.failed_core z.solver_state.sat_state e.further.known) h)
+    (made-learned c.args.ctx.now c.find_conflict.new.ctx c.requires.ready (finds g here) z
+    (λ lines. TakesLines g.P.ProofTracer.takes c.args.proof.now lines c.learn.new.proof) e.further e.last)
 
 pub returns-in_ok-trace_core-in-Err-Assumption-clause-core : goal.returns-in_ok-trace_core-in-Err-Assumption-clause-core
 returns-in_ok-trace_core-in-Err-Assumption-clause-core g c u =
     let y = c.find_conflict.new.ctx in
-    error-is (IsComplete (kept (view y)) y.trail.literals × EndsAssumed (view y) y.assumptions) (Stops (view y) y.assumptions) c.in-Err-Assumption.is c.in-Err-Assumption.field-0-is
+    error-is (IsComplete (kept (view y)) y.trail.literals × EndsAssumed (view y) y.assumptions)
+    (Stops (view y) y.assumptions) c.in-Err-Assumption.is c.in-Err-Assumption.field-0-is
     c.in_ok-find_conflict.ensures.found
 
 pub returns-in_ok-learn-in-Err-Conflict-clause-core : goal.returns-in_ok-learn-in-Err-Conflict-clause-core
-returns-in_ok-learn-in-Err-Conflict-clause-core g c u = absurd (learned-no-core c.learn.new.ctx.solver_state.sat_state c.in_ok-learn-in-Err-Conflict.ensures.further.known u)
+returns-in_ok-learn-in-Err-Conflict-clause-core g c u =
+    absurd (learned-no-core c.learn.new.ctx.solver_state.sat_state c.in_ok-learn-in-Err-Conflict.ensures.further.known u)
 
 pub returns-in-Ok-clause-fixed : goal.returns-in-Ok-clause-fixed
 returns-in-Ok-clause-fixed g c calm n = inl (c.in_ok-find_conflict.ensures.fixed calm).0
@@ -79,7 +101,8 @@ holds g c =
     let x = c.args.ctx.now in
     let y = c.find_conflict.new.ctx in
     let m = c.in_ok-find_conflict.ensures in
-    holds_still (g.P.ProofTracer.holds c.args.proof.now) 0 (search_of (view x)) (search_of (view y)) c.requires.holds (grows_prove (view x) (view y) c.requires.ready.well m.ready.well m.grows)
+    holds_still (g.P.ProofTracer.holds c.args.proof.now) 0 (search_of (view x)) (search_of (view y)) c.requires.holds
+    (grows_prove (view x) (view y) c.requires.ready.well m.ready.well m.grows)
 
 pub learn-requires-clause-holds : goal.learn-requires-clause-holds
 learn-requires-clause-holds g c = holds g (goal.at.learn-requires-clause-holds g c).In_ok-find_conflict
@@ -88,7 +111,8 @@ pub trace_core-requires : goal.trace_core-requires
 trace_core-requires g c =
     let y = c.find_conflict.new.ctx in
     let m = c.in_ok-find_conflict.ensures in
-    let b = error-is (IsComplete (kept (view y)) y.trail.literals × EndsAssumed (view y) y.assumptions) (Stops (view y) y.assumptions) c.in-Err-Assumption.is c.in-Err-Assumption.field-0-is m.found in
+    let b = error-is (IsComplete (kept (view y)) y.trail.literals × EndsAssumed (view y) y.assumptions)
+    (Stops (view y) y.assumptions) c.in-Err-Assumption.is c.in-Err-Assumption.field-0-is m.found in
     let (held, h, f) = holds g (goal.at.trace_core-requires g c).In_ok-find_conflict in
     let (after, d, i, n) = (core-steps (view y) y.assumptions m.ready.well b).holds held f in
     (held, h, subst (λ (P : List Clause). Conflicts P y.assumptions.failed_core) (sym d) i.1)
@@ -100,10 +124,12 @@ returns-in_err-find_conflict-clause-broken g c =
 
 pub returns-in_err-trace_core-in-Err-Assumption-clause-broken : goal.returns-in_err-trace_core-in-Err-Assumption-clause-broken
 returns-in_err-trace_core-in-Err-Assumption-clause-broken g c =
-    trace-broken g.P.ProofTracer.breaks_off c.args.proof.now c.trace_core.new.proof c.from_residual-in_err-trace_core-in-Err-Assumption.result c.in_err-trace_core-in-Err-Assumption.field-0.0 c.from_residual-in_err-trace_core-in-Err-Assumption.ensures
+    trace-broken g.P.ProofTracer.breaks_off c.args.proof.now c.trace_core.new.proof c.from_residual-in_err-trace_core-in-Err-Assumption.result
+    c.in_err-trace_core-in-Err-Assumption.field-0.0 c.from_residual-in_err-trace_core-in-Err-Assumption.ensures
     c.in_err-trace_core-in-Err-Assumption.ensures.broken
 
 pub returns-in_err-learn-in-Err-Conflict-clause-broken : goal.returns-in_err-learn-in-Err-Conflict-clause-broken
 returns-in_err-learn-in-Err-Conflict-clause-broken g c =
-    step-passed g.P.ProofTracer.breaks_off c.args.proof.now c.learn.new.proof c.from_residual-in_err-learn-in-Err-Conflict.result c.in_err-learn-in-Err-Conflict.field-0.0 c.from_residual-in_err-learn-in-Err-Conflict.ensures
+    step-passed g.P.ProofTracer.breaks_off c.args.proof.now c.learn.new.proof c.from_residual-in_err-learn-in-Err-Conflict.result
+    c.in_err-learn-in-Err-Conflict.field-0.0 c.from_residual-in_err-learn-in-Err-Conflict.ensures
     c.in_err-learn-in-Err-Conflict.ensures.broken

@@ -18,7 +18,14 @@ use Rattle.varisat_search.proofs.cdcl.find_conflict.Goals as goal
 
 -- the context once propagation has come to its end
 abbrev mid : (g : Over) (c : In_ok-propagated g) → Context g.row.A.Denot
-mid g c = record c.levels.ctx { assignment = c.propagate.new.assignment; clause_alloc = c.propagate.new.clause_alloc; impl_graph = c.propagate.new.impl_graph; trail = c.propagate.new.trail; watchlists = c.propagate.new.watchlists }
+mid g c = record c.levels.ctx {
+  assignment = c.propagate.new.assignment;
+  clause_alloc = c.propagate.new.clause_alloc;
+  impl_graph =
+      c.propagate.new.impl_graph;
+  trail = c.propagate.new.trail;
+  watchlists = c.propagate.new.watchlists;
+}
 
 propagated : (g : Over) (c : In_ok-propagated g) → Finding (view c.levels.ctx) (view (mid g c))
 propagated g c =
@@ -36,11 +43,13 @@ fixed g c calm =
 
 -- propagation keeps the same variables decidable
 still : (g : Over) (c : In_ok-propagated g) → SameDecidable (view c.levels.ctx) c.levels.ctx.vsids (view (mid g c)) c.levels.ctx.vsids
-still g c = propagated-same (view c.levels.ctx) (view (mid g c)) c.levels.ctx.vsids c.levels.invariant.ready.well c.levels.invariant.ready.decidable c.in_ok-propagated.ensures.propagates
+still g c = propagated-same (view c.levels.ctx) (view (mid g c)) c.levels.ctx.vsids c.levels.invariant.ready.well c.levels.invariant.ready.decidable
+    c.in_ok-propagated.ensures.propagates
 
 same : (g : Over) (c : In_ok-propagated g) → SameDecidable (view c.args.ctx.now) c.args.ctx.now.vsids (view (mid g c)) c.levels.ctx.vsids
 same g c =
-    same-trans (view c.args.ctx.now) c.args.ctx.now.vsids (view c.levels.ctx) c.levels.ctx.vsids (view (mid g c)) c.levels.ctx.vsids c.levels.invariant.same (still g c)
+    same-trans (view c.args.ctx.now) c.args.ctx.now.vsids (view c.levels.ctx) c.levels.ctx.vsids
+    (view (mid g c)) c.levels.ctx.vsids c.levels.invariant.same (still g c)
 
 ready : (g : Over) (c : In_ok-propagated g) → IsReady (mid g c)
 ready g c = let e = c.in_ok-propagated.ensures in propagated-ready c.levels.ctx (mid g c) c.levels.invariant.ready e.propagates e.propagated e.store refl
@@ -67,7 +76,20 @@ pub decide-requires-clause-propagated : goal.decide-requires-clause-propagated
 decide-requires-clause-propagated g c = (not-err c.in_ok-propagated.propagated _ _ c.in_default.not-Err c.in_ok-propagated.ensures.ends).1.1
 
 pub levels-init : goal.levels-init
-levels-init g c = record { ready = c.requires; grows = grows-refl (view c.args.ctx.now); fixed = λ calm. (refl, calm); taken = takes-refl (view c.args.ctx.now) c.args.ctx.now.assumptions; state = refl; last = refl; units = refl; schedule = record { schedule = refl; solver_config = refl }; same = same-refl (view c.args.ctx.now) c.args.ctx.now.vsids; activities = refl }
+levels-init g c = record {
+  ready = c.requires;
+  grows = grows-refl (view c.args.ctx.now);
+  fixed = λ calm. (refl, calm);
+  taken =
+      takes-refl (view c.args.ctx.now) c.args.ctx.now.assumptions;
+  state = refl;
+  last = refl;
+  units = refl;
+  schedule =
+      record { schedule = refl; solver_config = refl };
+  same = same-refl (view c.args.ctx.now) c.args.ctx.now.vsids;
+  activities = refl;
+}
 
 pub returns-in-Ok-false-clause-grows : goal.returns-in-Ok-false-clause-grows
 returns-in-Ok-false-clause-grows g c =
@@ -82,12 +104,14 @@ returns-in-Ok-false-clause-fixed g c calm =
 pub returns-in-Ok-false-clause-taken : goal.returns-in-Ok-false-clause-taken
 returns-in-Ok-false-clause-taken g c =
     let here = (goal.at.returns-in-Ok-false-clause-taken g c).In_ok-propagated in
-    takes-trans (view c.args.ctx.now) (view (mid g here)) c.args.ctx.now.assumptions c.levels.ctx.assumptions c.decide.new.ctx.assumptions (grown g here) c.levels.invariant.taken c.in_ok-decide.ensures.taken
+    takes-trans (view c.args.ctx.now) (view (mid g here)) c.args.ctx.now.assumptions c.levels.ctx.assumptions c.decide.new.ctx.assumptions
+    (grown g here) c.levels.invariant.taken c.in_ok-decide.ensures.taken
 
 pub returns-in-Ok-false-clause-decidable : goal.returns-in-Ok-false-clause-decidable
 returns-in-Ok-false-clause-decidable g c =
     let here = (goal.at.returns-in-Ok-false-clause-decidable g c).In_ok-propagated in
-    same-trans (view c.args.ctx.now) c.args.ctx.now.vsids (view (mid g here)) c.levels.ctx.vsids (view c.decide.new.ctx) c.decide.new.ctx.vsids (same g here) c.in_ok-decide.ensures.decidable
+    same-trans (view c.args.ctx.now) c.args.ctx.now.vsids (view (mid g here)) c.levels.ctx.vsids (view c.decide.new.ctx) c.decide.new.ctx.vsids
+    (same g here) c.in_ok-decide.ensures.decidable
 
 pub returns-in-Err-2-clause-grows : goal.returns-in-Err-2-clause-grows
 returns-in-Err-2-clause-grows g c =
@@ -102,12 +126,14 @@ returns-in-Err-2-clause-fixed g c calm =
 pub returns-in-Err-2-clause-taken : goal.returns-in-Err-2-clause-taken
 returns-in-Err-2-clause-taken g c =
     let here = (goal.at.returns-in-Err-2-clause-taken g c).In_ok-propagated in
-    takes-trans (view c.args.ctx.now) (view (mid g here)) c.args.ctx.now.assumptions c.levels.ctx.assumptions c.decide.new.ctx.assumptions (grown g here) c.levels.invariant.taken c.in_ok-decide.ensures.taken
+    takes-trans (view c.args.ctx.now) (view (mid g here)) c.args.ctx.now.assumptions c.levels.ctx.assumptions c.decide.new.ctx.assumptions
+    (grown g here) c.levels.invariant.taken c.in_ok-decide.ensures.taken
 
 pub returns-in-Err-2-clause-decidable : goal.returns-in-Err-2-clause-decidable
 returns-in-Err-2-clause-decidable g c =
     let here = (goal.at.returns-in-Err-2-clause-decidable g c).In_ok-propagated in
-    same-trans (view c.args.ctx.now) c.args.ctx.now.vsids (view (mid g here)) c.levels.ctx.vsids (view c.decide.new.ctx) c.decide.new.ctx.vsids (same g here) c.in_ok-decide.ensures.decidable
+    same-trans (view c.args.ctx.now) c.args.ctx.now.vsids (view (mid g here)) c.levels.ctx.vsids (view c.decide.new.ctx) c.decide.new.ctx.vsids
+    (same g here) c.in_ok-decide.ensures.decidable
 
 pub levels-smaller : goal.levels-smaller
 levels-smaller g c =
@@ -136,7 +162,11 @@ levels-preserved g c =
       state = e.state ∙ i.state;
       last = e.last ∙ c.in_ok-propagated.ensures.last ∙ i.last;
       units = e.units ∙ c.in_ok-propagated.ensures.units ∙ i.units;
-      schedule = record { schedule = c.decide.ensures.schedule.schedule ∙ i.schedule.schedule; solver_config = c.decide.ensures.schedule.solver_config ∙ i.schedule.solver_config };
+      schedule = record {
+        schedule = c.decide.ensures.schedule.schedule
+            ∙ i.schedule.schedule;
+        solver_config = c.decide.ensures.schedule.solver_config ∙ i.schedule.solver_config;
+      };
       same = same-trans (view x) x.vsids (view (mid g here)) c.levels.ctx.vsids (view z) z.vsids (same g here) e.decidable;
       activities = e.activities ∙ ap (λ (a : Activities). record a { available = z.vsids.available }) i.activities;
     }

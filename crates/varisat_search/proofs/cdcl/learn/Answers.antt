@@ -34,38 +34,81 @@ pub bump_involved_clauses-requires : goal.bump_involved_clauses-requires
 bump_involved_clauses-requires g c =
     let analysis : (x : Context g.row.A.Denot) → Analysis = λ x. x.analyze_conflict in
     let d = analyzed-bumped
-    (record { ready = c.requires.ready; unknown = c.requires.unknown; kept = c.analyze.ensures.kept; room = c.analyze.ensures.count; learned = c.in_ok-level.ensures.learned })
-    c.bump_involved.ensures.kept c.bump_involved.ensures.flags c.bump_involved.ensures.available c.bump_involved.ensures.decay c.bump_involved.ensures.entries in
-    let a = subst (λ (x : Analysis). AreInvolved (view c.args.ctx.now) c.args.conflict x.involved) (sym (ap analysis c.bump_involved.ensures.kept)) c.in_ok-level.ensures.involved in
-    record { well = analyzed-well d; tracks = analyzed-tracks d; clear = analyzed-clear d; named = analyzed-named d c.requires.conflict a; assigned = analyzed-assigned d c.requires.conflict a }
+    (record {
+      ready = c.requires.ready;
+      unknown = c.requires.unknown;
+      kept = c.analyze.ensures.kept;
+      room = c.analyze.ensures.count;
+      learned =
+          c.in_ok-level.ensures.learned;
+    })
+    c.bump_involved.ensures.kept c.bump_involved.ensures.flags c.bump_involved.ensures.available c.bump_involved.ensures.decay
+    c.bump_involved.ensures.entries in
+    let a = subst (λ (x : Analysis). AreInvolved (view c.args.ctx.now) c.args.conflict x.involved)
+    (sym (ap analysis c.bump_involved.ensures.kept)) c.in_ok-level.ensures.involved in
+    record {
+      well = analyzed-well d;
+      tracks = analyzed-tracks d;
+      clear = analyzed-clear d;
+      named =
+          analyzed-named d c.requires.conflict a;
+      assigned = analyzed-assigned d c.requires.conflict a;
+    }
 
 pub assess_learned-header-requires : goal.assess_learned-header-requires
 assess_learned-header-requires g c =
     let d = analyzed-bumped
-    (record { ready = c.requires.ready; unknown = c.requires.unknown; kept = c.analyze.ensures.kept; room = c.analyze.ensures.count; learned = c.in_ok-level.ensures.learned })
-    c.bump_involved.ensures.kept c.bump_involved.ensures.flags c.bump_involved.ensures.available c.bump_involved.ensures.decay c.bump_involved.ensures.entries in
-    let e = analyzed-noted c.bump_involved_clauses.new.ctx d c.bump_involved_clauses.ensures.tracks c.bump_involved_clauses.ensures.headers c.bump_involved_clauses.ensures.kept c.bump_involved_clauses.ensures.flags in
+    (record {
+      ready = c.requires.ready;
+      unknown = c.requires.unknown;
+      kept = c.analyze.ensures.kept;
+      room = c.analyze.ensures.count;
+      learned =
+          c.in_ok-level.ensures.learned;
+    })
+    c.bump_involved.ensures.kept c.bump_involved.ensures.flags c.bump_involved.ensures.available c.bump_involved.ensures.decay
+    c.bump_involved.ensures.entries in
+    let e = analyzed-noted c.bump_involved_clauses.new.ctx d c.bump_involved_clauses.ensures.tracks c.bump_involved_clauses.ensures.headers
+    c.bump_involved_clauses.ensures.kept c.bump_involved_clauses.ensures.flags in
     record { well = analyzed-well e; clear = analyzed-clear e; assigned = learned-assigned e }
 
 pub backtrack-requires-clause-well : goal.backtrack-requires-clause-well
 backtrack-requires-clause-well g c =
     let d = analyzed-bumped
-    (record { ready = c.requires.ready; unknown = c.requires.unknown; kept = c.analyze.ensures.kept; room = c.analyze.ensures.count; learned = c.in_ok-level.ensures.learned })
-    c.bump_involved.ensures.kept c.bump_involved.ensures.flags c.bump_involved.ensures.available c.bump_involved.ensures.decay c.bump_involved.ensures.entries in
-    let e = analyzed-noted c.bump_involved_clauses.new.ctx d c.bump_involved_clauses.ensures.tracks c.bump_involved_clauses.ensures.headers c.bump_involved_clauses.ensures.kept c.bump_involved_clauses.ensures.flags in
+    (record {
+      ready = c.requires.ready;
+      unknown = c.requires.unknown;
+      kept = c.analyze.ensures.kept;
+      room = c.analyze.ensures.count;
+      learned =
+          c.in_ok-level.ensures.learned;
+    })
+    c.bump_involved.ensures.kept c.bump_involved.ensures.flags c.bump_involved.ensures.available c.bump_involved.ensures.decay
+    c.bump_involved.ensures.entries in
+    let e = analyzed-noted c.bump_involved_clauses.new.ctx d c.bump_involved_clauses.ensures.tracks c.bump_involved_clauses.ensures.headers
+    c.bump_involved_clauses.ensures.kept c.bump_involved_clauses.ensures.flags in
     analyzed-well (analyzed-flags e c.assess_learned-header.ensures.kept c.assess_learned-header.ensures.flags)
 
 -- after analysis and the bumps of variables; as it were with the clauses that were bumped; and after backtracking
 begun : (g : Over) (c : After-backtrack g) → Analyzed c.args.ctx.now c.bump_involved.new.ctx c.args.conflict c.in_ok-level.level
 begun g c =
     analyzed-bumped
-    (record { ready = c.requires.ready; unknown = c.requires.unknown; kept = c.analyze.ensures.kept; room = c.analyze.ensures.count; learned = c.in_ok-level.ensures.learned })
+    (record {
+      ready = c.requires.ready;
+      unknown = c.requires.unknown;
+      kept = c.analyze.ensures.kept;
+      room = c.analyze.ensures.count;
+      learned =
+          c.in_ok-level.ensures.learned;
+    })
     c.bump_involved.ensures.kept c.bump_involved.ensures.flags c.bump_involved.ensures.available c.bump_involved.ensures.decay c.bump_involved.ensures.entries
 
-undone : (g : Over) (c : After-backtrack g) → Backtracked (with_store c.args.ctx.now c.bump_involved_clauses.new.ctx) c.assess_learned-header.new.ctx c.backtrack.new.ctx c.args.conflict c.in_ok-level.level
+undone : (g : Over) (c : After-backtrack g) → Backtracked (with_store c.args.ctx.now c.bump_involved_clauses.new.ctx)
+    c.assess_learned-header.new.ctx c.backtrack.new.ctx c.args.conflict c.in_ok-level.level
 undone g c =
     let d = begun g c in
-    let e = analyzed-noted c.bump_involved_clauses.new.ctx d c.bump_involved_clauses.ensures.tracks c.bump_involved_clauses.ensures.headers c.bump_involved_clauses.ensures.kept c.bump_involved_clauses.ensures.flags in
+    let e = analyzed-noted c.bump_involved_clauses.new.ctx d c.bump_involved_clauses.ensures.tracks c.bump_involved_clauses.ensures.headers
+    c.bump_involved_clauses.ensures.kept c.bump_involved_clauses.ensures.flags in
     record {
       begun = analyzed-flags e c.assess_learned-header.ensures.kept c.assess_learned-header.ensures.flags;
       same = c.backtrack.ensures.same;
@@ -83,8 +126,10 @@ undone g c =
 abbrev taken : (g : Over) (c : After-backtrack g) → List Line → Type 0
 taken g c lines = TakesLines g.P.ProofTracer.takes c.args.proof.now lines c.trace_learned.new.proof
 
-further : (g : Over) (c : After-backtrack g) (z : Context g.row.A.Denot) → IsStepFurther (taken g c) (with_store c.args.ctx.now c.bump_involved_clauses.new.ctx) z → IsStepFurther (taken g c) c.args.ctx.now z
-further g c z p = noted-further c.bump_involved_clauses.new.ctx (begun g c) c.bump_involved_clauses.ensures.tracks c.bump_involved_clauses.ensures.headers z (taken g c) p
+further : (g : Over) (c : After-backtrack g) (z : Context g.row.A.Denot) →
+    IsStepFurther (taken g c) (with_store c.args.ctx.now c.bump_involved_clauses.new.ctx) z → IsStepFurther (taken g c) c.args.ctx.now z
+further g c z p = noted-further c.bump_involved_clauses.new.ctx
+    (begun g c) c.bump_involved_clauses.ensures.tracks c.bump_involved_clauses.ensures.headers z (taken g c) p
 
 pub trace_learned-requires : goal.trace_learned-requires
 trace_learned-requires g c =
@@ -94,24 +139,39 @@ trace_learned-requires g c =
 
 saves : (g : Over) (c : After-backtrack g) → SavesSome (view c.args.ctx.now) c.args.ctx.now.assignment.last c.backtrack.new.ctx.assignment.last
 saves g c =
-    noted-saves c.bump_involved_clauses.new.ctx (begun g c) c.bump_involved_clauses.ensures.tracks c.bump_involved_clauses.ensures.headers c.args.ctx.now.assignment.last c.backtrack.new.ctx.assignment.last (saves-some (undone g c))
+    noted-saves c.bump_involved_clauses.new.ctx (begun g c) c.bump_involved_clauses.ensures.tracks c.bump_involved_clauses.ensures.headers
+    c.args.ctx.now.assignment.last c.backtrack.new.ctx.assignment.last (saves-some (undone g c))
 
 -- the clauses that took part stay those that analysis listed
 analysis-stays : (g : Over) (c : After-backtrack g) → c.backtrack.new.ctx.analyze_conflict ≡ c.analyze.new.ctx.analyze_conflict
 analysis-stays g c =
     let analysis : (x : Context g.row.A.Denot) → Analysis = λ x. x.analyze_conflict in
-    ap analysis c.backtrack.ensures.kept ∙ ap analysis c.assess_learned-header.ensures.kept ∙ ap analysis c.bump_involved_clauses.ensures.kept ∙ ap analysis c.bump_involved.ensures.kept
+    ap analysis c.backtrack.ensures.kept ∙ ap analysis c.assess_learned-header.ensures.kept ∙ ap analysis c.bump_involved_clauses.ensures.kept
+    ∙ ap analysis c.bump_involved.ensures.kept
 
 -- the line that was taken is that of the clause that is kept
 taken-is : (g : Over) (c : After-backtrack g) (d : Clause) → c.backtrack.new.ctx.analyze_conflict.clause ≡ d → taken g c (Add d ∷ [])
 taken-is g c d e =
     subst (λ (x : Clause). taken g c (Add x ∷ [])) (sym (ap (λ (a : Analysis). a.clause) (analysis-stays g c)) ∙ e) (c.in_ok-trace_learned.ensures {u = tt})
 
-learning : (g : Over) (c : In_ok-reason g) → Backtracked (with_store c.args.ctx.now c.bump_involved_clauses.new.ctx) c.assess_learned-header.new.ctx c.backtrack.new.ctx c.args.conflict c.in_ok-level.level → Learning (with_store c.args.ctx.now c.bump_involved_clauses.new.ctx) c.assess_learned-header.new.ctx c.backtrack.new.ctx c.keep_learned.new.ctx c.args.conflict c.in_ok-level.level c.in-Some.first c.in-Some.ensures.0 c.in_ok-reason.reason
-learning g c b = record { before = b; split = sym c.clause.ensures ∙ c.in-Some.ensures.1; tracks = c.in_ok-reason.ensures.tracks; stored = c.keep_learned.ensures.kept; kept = c.in_ok-reason.ensures.reason; watched = c.in_ok-reason.ensures.watched }
+learning : (g : Over) (c : In_ok-reason g) → Backtracked (with_store c.args.ctx.now c.bump_involved_clauses.new.ctx) c.assess_learned-header.new.ctx
+    c.backtrack.new.ctx c.args.conflict c.in_ok-level.level → Learning
+    (with_store c.args.ctx.now c.bump_involved_clauses.new.ctx) c.assess_learned-header.new.ctx c.backtrack.new.ctx c.keep_learned.new.ctx
+    c.args.conflict c.in_ok-level.level c.in-Some.first c.in-Some.ensures.0 c.in_ok-reason.reason
+learning g c b = record {
+  before = b;
+  split = sym c.clause.ensures
+      ∙ c.in-Some.ensures.1;
+  tracks = c.in_ok-reason.ensures.tracks;
+  stored = c.keep_learned.ensures.kept;
+  kept =
+      c.in_ok-reason.ensures.reason;
+  watched = c.in_ok-reason.ensures.watched;
+}
 
 abbrev last : (g : Over) (c : In_ok-enqueue_assignment g) → Context g.row.A.Denot
-last g c = record c.keep_learned.new.ctx { assignment = c.enqueue_assignment.new.assignment; impl_graph = c.enqueue_assignment.new.impl_graph; trail = c.enqueue_assignment.new.trail }
+last g c = record c.keep_learned.new.ctx
+    { assignment = c.enqueue_assignment.new.assignment; impl_graph = c.enqueue_assignment.new.impl_graph; trail = c.enqueue_assignment.new.trail }
 
 pub keep_learned-requires : goal.keep_learned-requires
 keep_learned-requires g c =
@@ -119,7 +179,8 @@ keep_learned-requires g c =
     let e = sym c.clause.ensures ∙ c.in-Some.ensures.1 in
     let h = c.assess_learned-header.ensures.header in
     record {
-      redundant = ap (λ (x : Header). is_tier x.tier tier.Irred) h ∙ tier-redundant (glue_of c.bump_involved_clauses.new.ctx.impl_graph.nodes.items c.bump_involved_clauses.new.ctx.analyze_conflict.clause);
+      redundant = ap (λ (x : Header). is_tier x.tier tier.Irred) h
+          ∙ tier-redundant (glue_of c.bump_involved_clauses.new.ctx.impl_graph.nodes.items c.bump_involved_clauses.new.ctx.analyze_conflict.clause);
       live = ap (λ (x : Header). x.deleted) h;
       listed = learned-listed d c.in-Some.first c.in-Some.ensures.0 e;
       paired = learned-paired d c.in-Some.first c.in-Some.ensures.0 e;
@@ -138,7 +199,10 @@ returns-clause-further g c =
     let here = goal.at.returns-clause-further g c in
     let d = learning g here.In_ok-reason (undone g here.After-backtrack) in
     further g here.After-backtrack (last g here.In_ok-enqueue_assignment)
-    (learning-further d (last g here.In_ok-enqueue_assignment) refl (c.in_ok-enqueue_assignment.ensures.view c.keep_learned.new.ctx.clause_alloc c.keep_learned.new.ctx.binary_clauses) (taken g here.After-backtrack) (taken-is g here.After-backtrack (c.in-Some.first ∷ c.in-Some.ensures.0) (sym c.clause.ensures ∙ c.in-Some.ensures.1)) c.in_ok-enqueue_assignment.ensures.units)
+    (learning-further d (last g here.In_ok-enqueue_assignment) refl
+    (c.in_ok-enqueue_assignment.ensures.view c.keep_learned.new.ctx.clause_alloc c.keep_learned.new.ctx.binary_clauses)
+    (taken g here.After-backtrack) (taken-is g here.After-backtrack (c.in-Some.first ∷ c.in-Some.ensures.0)
+    (sym c.clause.ensures ∙ c.in-Some.ensures.1)) c.in_ok-enqueue_assignment.ensures.units)
 
 pub returns-clause-bumps : goal.returns-clause-bumps
 returns-clause-bumps g c h =
@@ -155,7 +219,8 @@ returns-clause-bumps g c h =
       bumps-learned c.args.ctx.now c.analyze.new.ctx x1 z c.analyze.ensures.kept c.bump_involved.ensures.bumps
           (ap analysis c.keep_learned.ensures.kept ∙ analysis-stays g here.After-backtrack) h,
       learning-activities d z refl (c.in_ok-enqueue_assignment.ensures.view c.keep_learned.new.ctx.clause_alloc c.keep_learned.new.ctx.binary_clauses) x1.vsids
-          (cut-activities y w c.in_ok-level.level c.backtrack.ensures.same c.backtrack.ensures.available ∙ ap (λ (v : Activities). record v { available = w.vsids.available }) same),
+          (cut-activities y w c.in_ok-level.level c.backtrack.ensures.same c.backtrack.ensures.available
+          ∙ ap (λ (v : Activities). record v { available = w.vsids.available }) same),
     )
 
 pub returns-clause-stored : goal.returns-clause-stored
@@ -170,22 +235,30 @@ returns-clause-stored g c h =
     let keeps : z.analyze_conflict ≡ w.analyze_conflict = ap analysis c.keep_learned.ensures.kept in
     let read : z.analyze_conflict ≡ c.bump_involved.new.ctx.analyze_conflict = keeps ∙ analysis-stays g b ∙ sym (ap analysis c.bump_involved.ensures.kept) in
     let before : w.analyze_conflict ≡ y.analyze_conflict = ap analysis c.backtrack.ensures.kept ∙ ap analysis c.assess_learned-header.ensures.kept in
-    let store : w.clause_alloc ≡ y.clause_alloc = ap (λ (x : Context g.row.A.Denot). x.clause_alloc) c.backtrack.ensures.kept ∙ ap (λ (x : Context g.row.A.Denot). x.clause_alloc) c.assess_learned-header.ensures.kept in
-    let scale : z.clause_activity ≡ y.clause_activity = ap (λ (x : Context g.row.A.Denot). x.clause_activity) c.keep_learned.ensures.kept ∙ ap (λ (x : Context g.row.A.Denot). x.clause_activity) c.backtrack.ensures.kept ∙ ap (λ (x : Context g.row.A.Denot). x.clause_activity) c.assess_learned-header.ensures.kept in
+    let store : w.clause_alloc ≡ y.clause_alloc = ap (λ (x : Context g.row.A.Denot). x.clause_alloc) c.backtrack.ensures.kept
+    ∙ ap (λ (x : Context g.row.A.Denot). x.clause_alloc) c.assess_learned-header.ensures.kept in
+    let scale : z.clause_activity ≡ y.clause_activity = ap (λ (x : Context g.row.A.Denot). x.clause_activity) c.keep_learned.ensures.kept
+    ∙ ap (λ (x : Context g.row.A.Denot). x.clause_activity) c.backtrack.ensures.kept
+    ∙ ap (λ (x : Context g.row.A.Denot). x.clause_activity) c.assess_learned-header.ensures.kept in
     let nodes : y.impl_graph.nodes.items ≡ x0.impl_graph.nodes.items =
-    ap (λ (x : Context g.row.A.Denot). x.impl_graph.nodes.items) c.bump_involved_clauses.ensures.kept ∙ ap (λ (x : Context g.row.A.Denot). x.impl_graph.nodes.items) c.bump_involved.ensures.kept ∙ ap (λ (x : Context g.row.A.Denot). x.impl_graph.nodes.items) c.analyze.ensures.kept in
+    ap (λ (x : Context g.row.A.Denot). x.impl_graph.nodes.items) c.bump_involved_clauses.ensures.kept
+    ∙ ap (λ (x : Context g.row.A.Denot). x.impl_graph.nodes.items) c.bump_involved.ensures.kept
+    ∙ ap (λ (x : Context g.row.A.Denot). x.impl_graph.nodes.items) c.analyze.ensures.kept in
     let clause : y.analyze_conflict.clause ≡ z.analyze_conflict.clause = sym (ap (λ (a : Analysis). a.clause) (keeps ∙ before)) in
     let header : c.assess_learned-header.result ≡ assessed (glue_of x0.impl_graph.nodes.items z.analyze_conflict.clause) =
     c.assess_learned-header.ensures.header
     ∙ ap (λ (ns : List ImplNode). assessed (glue_of ns y.analyze_conflict.clause)) nodes
     ∙ ap (λ (ls : List Literal). assessed (glue_of x0.impl_graph.nodes.items ls)) clause in (
       y.clause_alloc,
-      noted-bumps y (begun g b) c.bump_involved_clauses.ensures.tracks c.bump_involved_clauses.ensures.headers z.analyze_conflict.involved z.clause_activity (ap (λ (a : Analysis). a.involved) read) scale c.in_ok-bump_involved_clauses.ensures.bumped h,
+      noted-bumps y (begun g b) c.bump_involved_clauses.ensures.tracks c.bump_involved_clauses.ensures.headers z.analyze_conflict.involved
+          z.clause_activity (ap (λ (a : Analysis). a.involved) read) scale c.in_ok-bump_involved_clauses.ensures.bumped h,
       (
         c.in_ok-reason.reason,
-        subst (λ (s : Store). IsStoredAsReason s z.clause_alloc (assessed (glue_of x0.impl_graph.nodes.items z.analyze_conflict.clause)) z.analyze_conflict.clause c.in_ok-reason.reason) store
+        subst (λ (s : Store). IsStoredAsReason s z.clause_alloc (assessed (glue_of x0.impl_graph.nodes.items z.analyze_conflict.clause))
+            z.analyze_conflict.clause c.in_ok-reason.reason) store
             (subst (λ (k : Header). IsStoredAsReason w.clause_alloc z.clause_alloc k z.analyze_conflict.clause c.in_ok-reason.reason) header
-            (subst (λ (ls : List Literal). IsStoredAsReason w.clause_alloc z.clause_alloc c.assess_learned-header.result ls c.in_ok-reason.reason) (sym (ap (λ (a : Analysis). a.clause) keeps)) c.in_ok-reason.ensures.stored)),
+            (subst (λ (ls : List Literal). IsStoredAsReason w.clause_alloc z.clause_alloc c.assess_learned-header.result ls c.in_ok-reason.reason)
+            (sym (ap (λ (a : Analysis). a.clause) keeps)) c.in_ok-reason.ensures.stored)),
       ),
     )
 
@@ -229,7 +302,8 @@ returns-in_default-clause-stored g c h =
 
 pub returns-in_default-clause-involved : goal.returns-in_default-clause-involved
 returns-in_default-clause-involved g c =
-    subst (λ (a : Analysis). AreInvolved (view c.args.ctx.now) c.args.conflict a.involved) (sym (analysis-stays g (goal.at.returns-in_default-clause-involved g c).After-backtrack)) c.in_ok-level.ensures.involved
+    subst (λ (a : Analysis). AreInvolved (view c.args.ctx.now) c.args.conflict a.involved)
+    (sym (analysis-stays g (goal.at.returns-in_default-clause-involved g c).After-backtrack)) c.in_ok-level.ensures.involved
 
 pub returns-in_default-clause-last : goal.returns-in_default-clause-last
 returns-in_default-clause-last g c = saves g (goal.at.returns-in_default-clause-last g c).After-backtrack
@@ -240,7 +314,8 @@ returns-in_err-reason-clause-full g c =
     let z = c.keep_learned.new.ctx in
     full-told c.from_residual-in_err-reason.result c.in_err-reason.field-0.0 z c.from_residual-in_err-reason.ensures (λ h.
     let room = c.in_err-reason.ensures.full h in
-    let short = learned-length (undone g (goal.at.returns-in_err-reason-clause-full g c).After-backtrack) c.in-Some.first c.in-Some.ensures.0 (sym c.clause.ensures ∙ c.in-Some.ensures.1) in
+    let short = learned-length (undone g (goal.at.returns-in_err-reason-clause-full g c).After-backtrack) c.in-Some.first c.in-Some.ensures.0
+    (sym c.clause.ensures ∙ c.in-Some.ensures.1) in
     let count = ap (λ (x : Context g.row.A.Denot). length x.assignment.current) c.keep_learned.ensures.kept in
     omega (arith, room, short, count))
 
@@ -251,20 +326,27 @@ returns-in_err-level-clause-broken g c =
 
 pub returns-in_err-trace_learned-clause-broken : goal.returns-in_err-trace_learned-clause-broken
 returns-in_err-trace_learned-clause-broken g c =
-    trace-broken g.P.ProofTracer.breaks_off c.args.proof.now c.trace_learned.new.proof c.from_residual-in_err-trace_learned.result c.in_err-trace_learned.field-0.0 c.from_residual-in_err-trace_learned.ensures
+    trace-broken g.P.ProofTracer.breaks_off c.args.proof.now c.trace_learned.new.proof c.from_residual-in_err-trace_learned.result
+    c.in_err-trace_learned.field-0.0 c.from_residual-in_err-trace_learned.ensures
     (c.in_err-trace_learned.ensures {u = tt})
 
 pub returns-in_err-bump_involved_clauses-clause-broken : goal.returns-in_err-bump_involved_clauses-clause-broken
 returns-in_err-bump_involved_clauses-clause-broken g c =
-    memory-broken g.P.ProofTracer.breaks_off c.args.proof.now c.trace_learned.new.proof c.from_residual-in_err-bump_involved_clauses.result c.from_residual-in_err-bump_involved_clauses.ensures
-    (breaks-on g.P.ProofTracer.takes g.P.ProofTracer.breaks_off g.met.P.ProofTracer.breaks_behind (c.in_ok-trace_learned.ensures {u = tt}) (breaks-not g.P.ProofTracer.breaks_off g.met.P.ProofTracer.breaks_none c.trace_learned.new.proof))
+    memory-broken g.P.ProofTracer.breaks_off c.args.proof.now c.trace_learned.new.proof c.from_residual-in_err-bump_involved_clauses.result
+    c.from_residual-in_err-bump_involved_clauses.ensures
+    (breaks-on g.P.ProofTracer.takes g.P.ProofTracer.breaks_off g.met.P.ProofTracer.breaks_behind (c.in_ok-trace_learned.ensures {u = tt})
+    (breaks-not g.P.ProofTracer.breaks_off g.met.P.ProofTracer.breaks_none c.trace_learned.new.proof))
 
 pub returns-in_err-reason-clause-broken : goal.returns-in_err-reason-clause-broken
 returns-in_err-reason-clause-broken g c =
-    store-broken g.P.ProofTracer.breaks_off c.args.proof.now c.trace_learned.new.proof c.from_residual-in_err-reason.result c.in_err-reason.field-0.0 c.from_residual-in_err-reason.ensures
-    (breaks-on g.P.ProofTracer.takes g.P.ProofTracer.breaks_off g.met.P.ProofTracer.breaks_behind (c.in_ok-trace_learned.ensures {u = tt}) (breaks-not g.P.ProofTracer.breaks_off g.met.P.ProofTracer.breaks_none c.trace_learned.new.proof))
+    store-broken g.P.ProofTracer.breaks_off c.args.proof.now c.trace_learned.new.proof c.from_residual-in_err-reason.result
+    c.in_err-reason.field-0.0 c.from_residual-in_err-reason.ensures
+    (breaks-on g.P.ProofTracer.takes g.P.ProofTracer.breaks_off g.met.P.ProofTracer.breaks_behind (c.in_ok-trace_learned.ensures {u = tt})
+    (breaks-not g.P.ProofTracer.breaks_off g.met.P.ProofTracer.breaks_none c.trace_learned.new.proof))
 
 pub returns-in_err-enqueue_assignment-clause-broken : goal.returns-in_err-enqueue_assignment-clause-broken
 returns-in_err-enqueue_assignment-clause-broken g c =
-    memory-broken g.P.ProofTracer.breaks_off c.args.proof.now c.trace_learned.new.proof c.from_residual-in_err-enqueue_assignment.result c.from_residual-in_err-enqueue_assignment.ensures
-    (breaks-on g.P.ProofTracer.takes g.P.ProofTracer.breaks_off g.met.P.ProofTracer.breaks_behind (c.in_ok-trace_learned.ensures {u = tt}) (breaks-not g.P.ProofTracer.breaks_off g.met.P.ProofTracer.breaks_none c.trace_learned.new.proof))
+    memory-broken g.P.ProofTracer.breaks_off c.args.proof.now c.trace_learned.new.proof c.from_residual-in_err-enqueue_assignment.result
+    c.from_residual-in_err-enqueue_assignment.ensures
+    (breaks-on g.P.ProofTracer.takes g.P.ProofTracer.breaks_off g.met.P.ProofTracer.breaks_behind (c.in_ok-trace_learned.ensures {u = tt})
+    (breaks-not g.P.ProofTracer.breaks_off g.met.P.ProofTracer.breaks_none c.trace_learned.new.proof))

@@ -26,7 +26,14 @@ use Rattle.varisat_search.proofs.cdcl.settle.Goals as goal
 
 -- the context after propagation
 abbrev mid : (g : Over) (c : In_ok-propagated g) → Context g.row.A.Denot
-mid g c = record c.args.ctx.now { assignment = c.propagate.new.assignment; clause_alloc = c.propagate.new.clause_alloc; impl_graph = c.propagate.new.impl_graph; trail = c.propagate.new.trail; watchlists = c.propagate.new.watchlists }
+mid g c = record c.args.ctx.now {
+  assignment = c.propagate.new.assignment;
+  clause_alloc = c.propagate.new.clause_alloc;
+  impl_graph = c.propagate.new.impl_graph;
+  trail =
+      c.propagate.new.trail;
+  watchlists = c.propagate.new.watchlists;
+}
 
 ready : (g : Over) (c : In_ok-propagated g) → IsReady (mid g c)
 ready g c = let e = c.in_ok-propagated.ensures in propagated-ready c.args.ctx.now (mid g c) c.requires.ready e.propagates e.propagated e.store refl
@@ -35,7 +42,10 @@ none : (g : Over) (c : In_ok-propagated g) → (mid g c).trail.decisions ≡ []
 none g c = c.in_ok-propagated.ensures.propagates.decisions ∙ c.requires.undecided
 
 -- once the units are proved
-facts : (g : Over) (h : In_ok-propagated g) (p : Context g.row.A.Denot) → IsReady p → ((mid g h).trail.decisions ≡ [] → ProvesUnits (view (mid g h)) (view p)) → ((mid g h).trail.decisions ≡ [] → Proves 0 (search_of (view (mid g h))) (search_of (view p)) (unit_lines (implied_units (view (mid g h))))) → p ≡ record (mid g h) { impl_graph = p.impl_graph } → ProvedAfter h.args.ctx.now (mid g h) p
+facts : (g : Over) (h : In_ok-propagated g) (p : Context g.row.A.Denot) → IsReady p →
+    ((mid g h).trail.decisions ≡ [] → ProvesUnits (view (mid g h)) (view p)) →
+    ((mid g h).trail.decisions ≡ [] → Proves 0 (search_of (view (mid g h))) (search_of (view p))
+    (unit_lines (implied_units (view (mid g h))))) → p ≡ record (mid g h) { impl_graph = p.impl_graph } → ProvedAfter h.args.ctx.now (mid g h) p
 facts g h p r f l k =
     let e = h.in_ok-propagated.ensures in
     record {
@@ -70,7 +80,9 @@ unit_simplify-requires-clause-holds g c =
     let h = (goal.at.unit_simplify-requires-clause-holds g c).In_ok-propagated in
     let p = c.in_ok-prove_units.ensures in
     let m = mid g h in
-    holds_on g.P.ProofTracer.holds g.P.ProofTracer.takes g.met.P.ProofTracer.holds_after c.args.proof.now c.prove_units.new.proof 0 (search_of (view m)) (search_of (view c.prove_units.new.ctx)) (unit_lines (implied_units (view m))) (holds g h) (p.proves (none g h)) (p.takes (none g h))
+    holds_on g.P.ProofTracer.holds g.P.ProofTracer.takes g.met.P.ProofTracer.holds_after c.args.proof.now c.prove_units.new.proof 0
+    (search_of (view m)) (search_of (view c.prove_units.new.ctx)) (unit_lines (implied_units (view m))) (holds g h) (p.proves (none g h))
+    (p.takes (none g h))
 
 pub unit_simplify-requires-clause-can : goal.unit_simplify-requires-clause-can
 unit_simplify-requires-clause-can g c =
@@ -79,7 +91,8 @@ unit_simplify-requires-clause-can g c =
     let y = c.prove_units.new.ctx in
     let p = c.in_ok-prove_units.ensures in
     let k = c.prove_units.ensures.kept in
-    let ends = subst (λ r. MatchResult r (λ _. IsComplete (kept (view m)) m.trail.literals × (m.trail.queue_head ≡ length m.trail.literals)) (λ f. IsConflicting (view m) f)) c.in_default.is c.in_ok-propagated.ensures.ends in
+    let ends = subst (λ r. MatchResult r (λ _. IsComplete (kept (view m)) m.trail.literals × (m.trail.queue_head ≡ length m.trail.literals))
+    (λ f. IsConflicting (view m) f)) c.in_default.is c.in_ok-propagated.ensures.ends in
     record {
       ready = p.ready;
       undecided = ap (λ (z : Context g.row.A.Denot). z.trail.decisions) k ∙ none g h;
@@ -94,17 +107,23 @@ returns-in-Err-clause-goes_on g c =
     let p = c.in_ok-prove_units.ensures in
     let t = view c.prove_units.new.ctx in
     let d = facts g h c.prove_units.new.ctx p.ready p.proved p.proves c.prove_units.ensures.kept in
-    let ends = subst (λ r. MatchResult r (λ _. IsComplete (kept (view m)) m.trail.literals × (m.trail.queue_head ≡ length m.trail.literals)) (λ f. IsConflicting (view m) f)) c.in-Err.is c.in_ok-propagated.ensures.ends in
+    let ends = subst (λ r. MatchResult r (λ _. IsComplete (kept (view m)) m.trail.literals × (m.trail.queue_head ≡ length m.trail.literals))
+    (λ f. IsConflicting (view m) f)) c.in-Err.is c.in_ok-propagated.ensures.ends in
     goes-to-units c.args.ctx.now m c.prove_units.new.ctx d
-    (λ lines. SettlesUnits lines (view c.args.ctx.now) t (Err c.in-Err.conflict) × TakesLines g.P.ProofTracer.takes c.args.proof.now lines c.prove_units.new.proof)
-    (settles-to-units c.args.ctx.now m c.prove_units.new.ctx d (unit_lines (implied_units (view m))) t (Err c.in-Err.conflict) (refl, still-conflicting (view m) t c.in-Err.conflict (p.proved (none g h)) ends, refl), p.takes (none g h))
+    (λ lines. SettlesUnits lines (view c.args.ctx.now) t (Err c.in-Err.conflict)
+    × TakesLines g.P.ProofTracer.takes c.args.proof.now lines c.prove_units.new.proof) (
+      settles-to-units c.args.ctx.now m c.prove_units.new.ctx d (unit_lines (implied_units (view m))) t (Err c.in-Err.conflict)
+          (refl, still-conflicting (view m) t c.in-Err.conflict (p.proved (none g h)) ends, refl),
+      p.takes (none g h),
+    )
 
 pub returns-in-Err-clause-conflict : goal.returns-in-Err-clause-conflict
 returns-in-Err-clause-conflict g c =
     let h = (goal.at.returns-in-Err-clause-conflict g c).In_ok-propagated in
     let m = mid g h in
     let t = view c.prove_units.new.ctx in
-    let ends = subst (λ r. MatchResult r (λ _. IsComplete (kept (view m)) m.trail.literals × (m.trail.queue_head ≡ length m.trail.literals)) (λ f. IsConflicting (view m) f)) c.in-Err.is c.in_ok-propagated.ensures.ends in
+    let ends = subst (λ r. MatchResult r (λ _. IsComplete (kept (view m)) m.trail.literals × (m.trail.queue_head ≡ length m.trail.literals))
+    (λ f. IsConflicting (view m) f)) c.in-Err.is c.in_ok-propagated.ensures.ends in
     still-conflicting (view m) t c.in-Err.conflict (c.in_ok-prove_units.ensures.proved (none g h)) ends
 
 pub returns-in-Err-clause-finds : goal.returns-in-Err-clause-finds
@@ -114,7 +133,8 @@ pub returns-clause-finds : goal.returns-clause-finds
 returns-clause-finds g c f k e =
     let h = (goal.at.returns-clause-finds g c).In_ok-propagated in
     let m = mid g h in
-    let ends = subst (λ r. MatchResult r (λ _. IsComplete (kept (view m)) m.trail.literals × (m.trail.queue_head ≡ length m.trail.literals)) (λ f. IsConflicting (view m) f)) c.in_default.is c.in_ok-propagated.ensures.ends in
+    let ends = subst (λ r. MatchResult r (λ _. IsComplete (kept (view m)) m.trail.literals × (m.trail.queue_head ≡ length m.trail.literals))
+    (λ f. IsConflicting (view m) f)) c.in_default.is c.in_ok-propagated.ensures.ends in
     none-was-conflicting (view c.args.ctx.now) (view m) c.requires.ready.well c.in_ok-propagated.ensures.propagates.grows ends.0 f k
 
 pub returns-in-Err-clause-at_zero : goal.returns-in-Err-clause-at_zero
@@ -125,7 +145,8 @@ returns-in-Err-clause-at_zero g c =
 pub returns-clause-at_zero : goal.returns-clause-at_zero
 returns-clause-at_zero g c =
     let h = (goal.at.returns-clause-at_zero g c).In_ok-propagated in
-    ap (λ (z : Context g.row.A.Denot). z.trail.decisions) c.unit_simplify.ensures.kept ∙ ap (λ (z : Context g.row.A.Denot). z.trail.decisions) c.prove_units.ensures.kept ∙ none g h
+    ap (λ (z : Context g.row.A.Denot). z.trail.decisions) c.unit_simplify.ensures.kept
+    ∙ ap (λ (z : Context g.row.A.Denot). z.trail.decisions) c.prove_units.ensures.kept ∙ none g h
 
 pub returns-clause-goes_on : goal.returns-clause-goes_on
 returns-clause-goes_on g c =
@@ -150,17 +171,20 @@ returns-clause-goes_on g c =
       lines-more takes g.met.P.ProofTracer.takes_more p0 p1 p2 first more i j,
     ))
     (goes-to-units x m y d (λ lines. (lines ≡ units) × TakesLines takes p0 lines p1) (refl, p.takes (none g h)))
-    (goes-simplified y z (λ lines. (lines ≡ left) × TakesLines takes p1 lines p2) q.ready left q.proves (refl, q.takes) q.decidable c.unit_simplify.ensures.kept)
+    (goes-simplified y z (λ lines. (lines ≡ left) × TakesLines takes p1 lines p2) q.ready left q.proves
+    (refl, q.takes) q.decidable c.unit_simplify.ensures.kept)
 
 pub returns-clause-settled : goal.returns-clause-settled
 returns-clause-settled g c =
     let h = (goal.at.returns-clause-settled g c).In_ok-propagated in
     let m = mid g h in
     let p = c.in_ok-prove_units.ensures in
-    let ends = subst (λ r. MatchResult r (λ _. IsComplete (kept (view m)) m.trail.literals × (m.trail.queue_head ≡ length m.trail.literals)) (λ f. IsConflicting (view m) f)) c.in_default.is c.in_ok-propagated.ensures.ends in
+    let ends = subst (λ r. MatchResult r (λ _. IsComplete (kept (view m)) m.trail.literals × (m.trail.queue_head ≡ length m.trail.literals))
+    (λ f. IsConflicting (view m) f)) c.in_default.is c.in_ok-propagated.ensures.ends in
     settled-down (view c.prove_units.new.ctx) (view c.unit_simplify.new.ctx)
     (ap (λ (y : Context g.row.A.Denot). y.trail.decisions) c.prove_units.ensures.kept ∙ none g h)
-    (ap (λ (y : Context g.row.A.Denot). y.trail.queue_head) c.prove_units.ensures.kept ∙ ends.1 ∙ sym (ap (λ (y : Context g.row.A.Denot). length y.trail.literals) c.prove_units.ensures.kept))
+    (ap (λ (y : Context g.row.A.Denot). y.trail.queue_head) c.prove_units.ensures.kept ∙ ends.1
+    ∙ sym (ap (λ (y : Context g.row.A.Denot). length y.trail.literals) c.prove_units.ensures.kept))
     (units-all (view m) (view c.prove_units.new.ctx) (ready g h).well (none g h) (p.proved (none g h)))
     c.in_ok-unit_simplify.ensures.simplified
 
@@ -171,11 +195,14 @@ returns-in_err-propagated-clause-broken g c =
 
 pub returns-in_err-prove_units-clause-broken : goal.returns-in_err-prove_units-clause-broken
 returns-in_err-prove_units-clause-broken g c =
-    error-broken g.P.ProofTracer.breaks_off c.args.proof.now c.prove_units.new.proof c.from_residual-in_err-prove_units.result c.in_err-prove_units.field-0.0 c.from_residual-in_err-prove_units.ensures
+    error-broken g.P.ProofTracer.breaks_off c.args.proof.now c.prove_units.new.proof c.from_residual-in_err-prove_units.result
+    c.in_err-prove_units.field-0.0 c.from_residual-in_err-prove_units.ensures
     c.in_err-prove_units.ensures.broken
 
 pub returns-in_err-unit_simplify-clause-broken : goal.returns-in_err-unit_simplify-clause-broken
 returns-in_err-unit_simplify-clause-broken g c =
     let h = (goal.at.returns-in_err-unit_simplify-clause-broken g c).In_ok-propagated in
-    error-broken g.P.ProofTracer.breaks_off c.args.proof.now c.unit_simplify.new.proof c.from_residual-in_err-unit_simplify.result c.in_err-unit_simplify.field-0.0 c.from_residual-in_err-unit_simplify.ensures
-    (breaks-on g.P.ProofTracer.takes g.P.ProofTracer.breaks_off g.met.P.ProofTracer.breaks_behind (c.in_ok-prove_units.ensures.takes (none g h)) c.in_err-unit_simplify.ensures.broken)
+    error-broken g.P.ProofTracer.breaks_off c.args.proof.now c.unit_simplify.new.proof c.from_residual-in_err-unit_simplify.result
+    c.in_err-unit_simplify.field-0.0 c.from_residual-in_err-unit_simplify.ensures
+    (breaks-on g.P.ProofTracer.takes g.P.ProofTracer.breaks_off g.met.P.ProofTracer.breaks_behind
+    (c.in_ok-prove_units.ensures.takes (none g h)) c.in_err-unit_simplify.ensures.broken)

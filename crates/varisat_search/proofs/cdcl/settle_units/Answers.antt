@@ -13,7 +13,8 @@ returns-then-current_level-gt0-clause-goes_on g c =
     let settled : IsUnsettled (view c.args.ctx.now) → ⊥ = λ u.
     elim c.then-current_level-gt0.branch [
       | then-current_level-gt0-via-then-current_level-gt0 w ↦ (let n = ap length u.0 in omega (arith, n, c.current_level.ensures, w.if-current_level-gt0.true))
-      | then-current_level-gt0-via-else-current_level-gt0+then-fully_propagated w ↦ (let n = w.fully_propagated.ensures.0 w.if-fully_propagated.true in omega (arith, n, u.1))
+      | then-current_level-gt0-via-else-current_level-gt0+then-fully_propagated w ↦
+          (let n = w.fully_propagated.ensures.0 w.if-fully_propagated.true in omega (arith, n, u.1))
     ] in
     goes-refl c.args.ctx.now _ c.requires.ready ((λ u. absurd (settled u)), g.met.P.ProofTracer.takes_none c.args.proof.now)
 
@@ -22,8 +23,10 @@ returns-then-current_level-gt0-clause-finds g c none f k e =
     let x = c.args.ctx.now in
     let head : x.trail.queue_head ≡ length x.trail.literals =
     elim c.then-current_level-gt0.branch [
-      | then-current_level-gt0-via-then-current_level-gt0 w ↦ (let n = ap length none in absurd (omega (arith, n, c.current_level.ensures, w.if-current_level-gt0.true)))
-      | then-current_level-gt0-via-else-current_level-gt0+then-fully_propagated w ↦ (let n = w.fully_propagated.ensures.0 w.if-fully_propagated.true in let h = c.requires.ready.well.head in omega (arith, n, h))
+      | then-current_level-gt0-via-then-current_level-gt0 w ↦
+          (let n = ap length none in absurd (omega (arith, n, c.current_level.ensures, w.if-current_level-gt0.true)))
+      | then-current_level-gt0-via-else-current_level-gt0+then-fully_propagated w ↦
+          (let n = w.fully_propagated.ensures.0 w.if-fully_propagated.true in let h = c.requires.ready.well.head in omega (arith, n, h))
     ] in
     none-conflicting (view x) c.requires.ready.well (ready-complete c.requires.ready head) f k
 

@@ -5,5 +5,6 @@ use Rattle.varisat_search.proofs.cdcl.trace_learned.Goals as goal
 
 pub returns-in_err-add_step : goal.returns-in_err-add_step
 returns-in_err-add_step g c =
-    lines-broken g.P.ProofTracer.takes g.P.ProofTracer.breaks_off c.args.proof.now c.add_step.new.self (Add c.args.ctx.now.analyze_conflict.clause ∷ []) c.from_residual.result c.in_err-add_step.field-0.0 c.from_residual.ensures
+    lines-broken g.P.ProofTracer.takes g.P.ProofTracer.breaks_off c.args.proof.now c.add_step.new.self
+    (Add c.args.ctx.now.analyze_conflict.clause ∷ []) c.from_residual.result c.in_err-add_step.field-0.0 c.from_residual.ensures
     (breaks-in g.P.ProofTracer.breaks_off (c.in_err-add_step.ensures {u = tt}))

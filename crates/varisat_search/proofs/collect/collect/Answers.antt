@@ -21,7 +21,13 @@ repoint_reasons-requires g c =
     }
 
 abbrev after : (g : Over) (c : After-disable g) → Context g.row.A.Denot
-after g c = record c.args.ctx.now { clause_alloc = c.in_ok-new_alloc.new_alloc; clause_db = c.in_ok-new_alloc.new_db; impl_graph = c.repoint_reasons.new.impl_graph; watchlists = c.disable.new.self }
+after g c = record c.args.ctx.now {
+  clause_alloc = c.in_ok-new_alloc.new_alloc;
+  clause_db = c.in_ok-new_alloc.new_db;
+  impl_graph = c.repoint_reasons.new.impl_graph;
+  watchlists =
+      c.disable.new.self;
+}
 
 repacks : (g : Over) (c : After-disable g) → Repacks (view c.args.ctx.now) (view (after g c))
 repacks g c = context-repacks c.args.ctx.now (after g c) c.requires c.in_ok-new_alloc.ensures c.repoint_reasons.ensures refl

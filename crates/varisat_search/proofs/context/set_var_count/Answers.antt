@@ -12,11 +12,13 @@ use Rattle.varisat_search.proofs.context.set_var_count.Goals.{In_ok-set_var_coun
 use Rattle.varisat_search.proofs.context.set_var_count.Goals as goal
 
 abbrev after : (g : Over) (c : In_ok-set_var_count-4 g) → View
-after g c = record (view c.args.ctx.now) { binary = c.set_var_count-3.new.self; values = c.set_var_count-2.new.self.current; nodes = c.set_var_count-4.new.self.nodes.items }
+after g c = record (view c.args.ctx.now)
+    { binary = c.set_var_count-3.new.self; values = c.set_var_count-2.new.self.current; nodes = c.set_var_count-4.new.self.nodes.items }
 
 grown : (g : Over) (c : In_ok-set_var_count-4 g) → Grown (view c.args.ctx.now) (after g c) c.args.count
 grown g c =
-    grown-result (view c.args.ctx.now) c.set_var_count-3.new.self c.set_var_count-2.new.self.current c.set_var_count-4.new.self.nodes.items c.args.count c.requires.ready.well c.requires.ready.settled c.requires.raised c.requires.small
+    grown-result (view c.args.ctx.now) c.set_var_count-3.new.self c.set_var_count-2.new.self.current c.set_var_count-4.new.self.nodes.items
+    c.args.count c.requires.ready.well c.requires.ready.settled c.requires.raised c.requires.small
     c.in_ok-set_var_count-3.ensures c.in_ok-set_var_count-2.ensures.current c.in_ok-set_var_count-4.ensures
 
 pub returns-clause-raised : goal.returns-clause-raised
@@ -28,13 +30,20 @@ returns-clause-raised g c =
       ready = record {
         well = r.well;
         settled = r.settled;
-        propagated = grown-propagated x.watchlists c.set_var_count-7.new.self (view x) c.set_var_count-3.new.self c.set_var_count-2.new.self.current c.set_var_count-4.new.self.nodes.items c.args.count c.in_ok-set_var_count-3.ensures r.count c.requires.raised c.in_ok-set_var_count-7.ensures c.requires.ready.propagated;
+        propagated = grown-propagated x.watchlists c.set_var_count-7.new.self
+            (view x) c.set_var_count-3.new.self c.set_var_count-2.new.self.current c.set_var_count-4.new.self.nodes.items c.args.count
+            c.in_ok-set_var_count-3.ensures r.count c.requires.raised c.in_ok-set_var_count-7.ensures c.requires.ready.propagated;
         tracks = c.requires.ready.tracks;
-        assumed = has-same-decisions (view x) (after g here) x.assumptions [] c.requires.ready.well (sym (append-nil x.trail.literals)) refl (let n = r.count in let h = c.requires.raised in omega (arith, n, h)) c.requires.ready.assumed;
-        assumable = still-assumable (view x) x.vsids (after g here) c.set_var_count-6.new.self x.assumptions.working x.assumptions.working (raised-same (view x) (after g here) x.vsids c.args.count c.in_ok-set_var_count-2.ensures.current c.in_ok-set_var_count-6.ensures.raised) (λ l i. i) c.requires.ready.assumable;
+        assumed = has-same-decisions (view x) (after g here) x.assumptions [] c.requires.ready.well (sym (append-nil x.trail.literals)) refl
+            (let n = r.count in let h = c.requires.raised in omega (arith, n, h)) c.requires.ready.assumed;
+        assumable = still-assumable (view x) x.vsids (after g here) c.set_var_count-6.new.self x.assumptions.working x.assumptions.working
+            (raised-same (view x) (after g here) x.vsids c.args.count c.in_ok-set_var_count-2.ensures.current
+            c.in_ok-set_var_count-6.ensures.raised) (λ l i. i) c.requires.ready.assumable;
         analysis = ap (λ y. y.var_count) c.in_ok-set_var_count.ensures ∙ sym r.count;
-        decidable = raised-decidable (view x) (after g here) x.vsids c.args.count c.requires.ready.decidable c.requires.raised c.in_ok-set_var_count-2.ensures.current c.in_ok-set_var_count-6.ensures.raised r.same_kept;
-        flags = c.in_ok-set_var_count-5.ensures ∙ grown-flags x.tmp_flags.flags.items (length x.assignment.current) c.args.count c.requires.ready.flags c.requires.raised ∙ ap (λ n. replicate (2 * n) false) (sym r.count);
+        decidable = raised-decidable (view x) (after g here) x.vsids c.args.count c.requires.ready.decidable c.requires.raised
+            c.in_ok-set_var_count-2.ensures.current c.in_ok-set_var_count-6.ensures.raised r.same_kept;
+        flags = c.in_ok-set_var_count-5.ensures ∙ grown-flags x.tmp_flags.flags.items
+            (length x.assignment.current) c.args.count c.requires.ready.flags c.requires.raised ∙ ap (λ n. replicate (2 * n) false) (sym r.count);
       };
       count = r.count;
       seen = r.seen;
@@ -43,7 +52,8 @@ returns-clause-raised g c =
 pub returns-clause-decidable : goal.returns-clause-decidable
 returns-clause-decidable g c =
     let x = c.args.ctx.now in
-    raised-same (view x) (after g (goal.at.returns-clause-decidable g c).In_ok-set_var_count-4) x.vsids c.args.count c.in_ok-set_var_count-2.ensures.current c.in_ok-set_var_count-6.ensures.raised
+    raised-same (view x) (after g (goal.at.returns-clause-decidable g c).In_ok-set_var_count-4) x.vsids c.args.count
+    c.in_ok-set_var_count-2.ensures.current c.in_ok-set_var_count-6.ensures.raised
 
 pub returns-in_err-set_var_count-3-clause-remembered : goal.returns-in_err-set_var_count-3-clause-remembered
 returns-in_err-set_var_count-3-clause-remembered g c = grind (arith, common_steps)

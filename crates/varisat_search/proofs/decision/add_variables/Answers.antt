@@ -8,8 +8,38 @@ use Rattle.varisat_search.proofs.DecidableVariables.{none-added, one-more-added}
 use Rattle.varisat_search.proofs.decision.add_variables.Goals as goal
 
 -- a change of activities alone keeps the rest as it was
-only-activities : {A : Type 0} (x y z : Context A) (a : Activities) → y ≡ record x { analyze_conflict = y.analyze_conflict; assignment = y.assignment; binary_clauses = y.binary_clauses; impl_graph = y.impl_graph; tmp_flags = y.tmp_flags; vsids = y.vsids; watchlists = y.watchlists } → z ≡ record y { vsids = a } → z ≡ record x { analyze_conflict = z.analyze_conflict; assignment = z.assignment; binary_clauses = z.binary_clauses; impl_graph = z.impl_graph; tmp_flags = z.tmp_flags; vsids = z.vsids; watchlists = z.watchlists }
-only-activities x y z a e f = subst (λ w. w ≡ record x { analyze_conflict = w.analyze_conflict; assignment = w.assignment; binary_clauses = w.binary_clauses; impl_graph = w.impl_graph; tmp_flags = w.tmp_flags; vsids = w.vsids; watchlists = w.watchlists }) (sym f) (ap (λ (w : Context _). record w { vsids = a }) e)
+only-activities : {A : Type 0} (x y z : Context A) (a : Activities) →
+    y ≡ record x {
+      analyze_conflict = y.analyze_conflict;
+      assignment = y.assignment;
+      binary_clauses = y.binary_clauses;
+      impl_graph =
+          y.impl_graph;
+      tmp_flags = y.tmp_flags;
+      vsids = y.vsids;
+      watchlists = y.watchlists;
+    } → z ≡ record y { vsids = a } →
+    z ≡ record x {
+      analyze_conflict = z.analyze_conflict;
+      assignment = z.assignment;
+      binary_clauses = z.binary_clauses;
+      impl_graph =
+          z.impl_graph;
+      tmp_flags = z.tmp_flags;
+      vsids = z.vsids;
+      watchlists = z.watchlists;
+    }
+only-activities x y z a e f = subst
+    (λ w. w ≡ record x {
+      analyze_conflict = w.analyze_conflict;
+      assignment = w.assignment;
+      binary_clauses = w.binary_clauses;
+      impl_graph =
+          w.impl_graph;
+      tmp_flags = w.tmp_flags;
+      vsids = w.vsids;
+      watchlists = w.watchlists;
+    }) (sym f) (ap (λ (w : Context _). record w { vsids = a }) e)
 
 pub loop-index-init : goal.loop-index-init
 loop-index-init g c =
@@ -23,7 +53,8 @@ loop-index-init g c =
       count = e.raised.count;
       seen = e.raised.seen;
       within = (omega (arith, n), omega (arith, n, raised));
-      decidable = subst (λ k. AddsDecidable (length old.assignment.current) k (view old) old.vsids (view new) new.vsids) (sym n) (none-added (length old.assignment.current) (view old) old.vsids (view new) new.vsids e.decidable);
+      decidable = subst (λ k. AddsDecidable (length old.assignment.current) k (view old) old.vsids (view new) new.vsids) (sym n)
+          (none-added (length old.assignment.current) (view old) old.vsids (view new) new.vsids e.decidable);
       remembered = c.set_var_count.ensures.remembered;
       kept = e.kept;
     }
@@ -42,8 +73,10 @@ loop-index-preserved g c =
       count = ap (λ (x : Context g.row.A.Denot). length x.assignment.current) e.initialized ∙ r.count;
       seen = ap (λ (x : Context g.row.A.Denot). search_of (view x)) e.initialized ∙ r.seen;
       within = (omega (arith, r.within.0), omega (arith, t));
-      decidable = one-more-added (length first.assignment.current) c.loop-index.index (view first) first.vsids (view old) old.vsids (view new) new.vsids r.within.0 r.decidable
-          (subst (IsDecidable (view new) new.vsids) var (e.decidable refl)) (subst (λ v. SameDecidableBut v (view old) old.vsids (view new) new.vsids) var e.others);
+      decidable = one-more-added (length first.assignment.current) c.loop-index.index (view first) first.vsids (view old) old.vsids
+          (view new) new.vsids r.within.0 r.decidable
+          (subst (IsDecidable (view new) new.vsids) var (e.decidable refl))
+          (subst (λ v. SameDecidableBut v (view old) old.vsids (view new) new.vsids) var e.others);
       remembered = λ v. ap (λ (x : Context g.row.A.Denot). slice_index_or x.assignment.last v false) e.initialized ∙ r.remembered v;
       kept = only-activities first old new _ r.kept e.initialized;
     }
@@ -53,4 +86,5 @@ returns-clause-decidable g c =
     let r = c.loop-index.invariant in
     let old = c.args.ctx.now in
     let new = c.loop-index.ctx in
-    subst (λ k. AddsDecidable (length old.assignment.current) k (view old) old.vsids (view new) new.vsids) (let t = c.loop-index-test.false in let w = r.within.1 in omega (arith, t, w)) r.decidable
+    subst (λ k. AddsDecidable (length old.assignment.current) k (view old) old.vsids (view new) new.vsids)
+    (let t = c.loop-index-test.false in let w = r.within.1 in omega (arith, t, w)) r.decidable

@@ -14,8 +14,10 @@ use Rattle.varisat_search.proofs.decision.make_decision.Goals as goal
 variable-is : (g : Over) (c : In_ok-decide_lit g) → variable_of c.lit-lit.result ≡ c.in-Some.var
 variable-is g c = ap variable_of c.lit-lit.ensures ∙ variable-literal c.in-Some.var c.last_var_value.result
 
-taken : (g : Over) (c : In_ok-decide_lit g) → TakesUnassigned c.args.ctx.now.assignment.current c.args.ctx.now.vsids c.take_unassigned.new.vsids (Some (variable_of c.lit-lit.result))
-taken g c = subst (λ v. TakesUnassigned c.args.ctx.now.assignment.current c.args.ctx.now.vsids c.take_unassigned.new.vsids (Some v)) (sym (variable-is g c)) c.in-Some.ensures
+taken : (g : Over) (c : In_ok-decide_lit g) → TakesUnassigned c.args.ctx.now.assignment.current c.args.ctx.now.vsids c.take_unassigned.new.vsids
+    (Some (variable_of c.lit-lit.result))
+taken g c = subst (λ v. TakesUnassigned c.args.ctx.now.assignment.current c.args.ctx.now.vsids c.take_unassigned.new.vsids (Some v))
+    (sym (variable-is g c)) c.in-Some.ensures
 
 inside : (g : Over) (c : In_ok-decide_lit g) → variable_of c.lit-lit.result < length c.args.ctx.now.assignment.current
 inside g c = let k = (taken g c).found.known in let n = c.requires.decidable.entries.activity in omega (arith, k, n)
@@ -31,7 +33,8 @@ returns-clause-decided g c =
       c.lit-lit.result,
       (inside g here, k.found.unassigned),
       c.in_ok-decide_lit.ensures.decided,
-      ap polarity_of c.lit-lit.ensures ∙ polarity-literal c.in-Some.var c.last_var_value.result ∙ c.last_var_value.ensures ∙ ap (λ v. get_or x.assignment.last v false) (sym (variable-is g here)),
+      ap polarity_of c.lit-lit.ensures ∙ polarity-literal c.in-Some.var c.last_var_value.result ∙ c.last_var_value.ensures
+          ∙ ap (λ v. get_or x.assignment.last v false) (sym (variable-is g here)),
       k.found,
     )
 
@@ -61,4 +64,5 @@ pub returns-in_default-clause-same : goal.returns-in_default-clause-same
 returns-in_default-clause-same g c = none-same (view c.args.ctx.now) c.args.ctx.now.vsids c.take_unassigned.new.vsids c.requires.decidable c.in_default.ensures
 
 pub returns-in_default-clause-decidable : goal.returns-in_default-clause-decidable
-returns-in_default-clause-decidable g c = none-decidable (view c.args.ctx.now) c.args.ctx.now.vsids c.take_unassigned.new.vsids c.requires.decidable c.in_default.ensures
+returns-in_default-clause-decidable g c = none-decidable (view c.args.ctx.now) c.args.ctx.now.vsids c.take_unassigned.new.vsids c.requires.decidable
+    c.in_default.ensures

@@ -23,10 +23,17 @@ use Rattle.varisat_search.proofs.forgetting.drop_variables.Goals as goal
 
 -- the context afterwards
 abbrev after : (g : Over) (c : After-forget_activities g) → Context g.row.A.Denot
-after g c = record c.args.ctx.now { assignment = c.forget_values.new.assignment; impl_graph = c.renumber.new.impl_graph; trail = c.remove_units.new.self; vsids = c.forget_activities.new.vsids }
+after g c = record c.args.ctx.now {
+  assignment = c.forget_values.new.assignment;
+  impl_graph = c.renumber.new.impl_graph;
+  trail = c.remove_units.new.self;
+  vsids =
+      c.forget_activities.new.vsids;
+}
 
 dropped : (g : Over) (c : After-forget_activities g) → IsWithout c.args.gone.now (view c.args.ctx.now) (view (after g c))
-dropped g c = without-view c.args.ctx.now (after g c) c.args.gone.now c.trail.result.now _ c.remove_units.ensures c.forget_values.ensures c.trail.ensures c.renumber.ensures refl
+dropped g c = without-view c.args.ctx.now (after g c) c.args.gone.now c.trail.result.now _ c.remove_units.ensures c.forget_values.ensures
+    c.trail.ensures c.renumber.ensures refl
 
 pub renumber-requires-clause-known : goal.renumber-requires-clause-known
 renumber-requires-clause-known g c l h =
@@ -38,7 +45,8 @@ renumber-requires-clause-known g c l h =
 pub renumber-requires-clause-distinct : goal.renumber-requires-clause-distinct
 renumber-requires-clause-distinct g c =
     let x = c.args.ctx.now in
-    subst (λ ls. IsDistinct (map variable_of ls)) (sym (c.trail.ensures ∙ ap (λ (t : TrailParts). t.literals) c.remove_units.ensures)) (staying-distinct (view x) c.args.gone.now c.requires.ready.well)
+    subst (λ ls. IsDistinct (map variable_of ls)) (sym (c.trail.ensures ∙ ap (λ (t : TrailParts). t.literals) c.remove_units.ensures))
+    (staying-distinct (view x) c.args.gone.now c.requires.ready.well)
 
 pub returns-clause-dropped : goal.returns-clause-dropped
 returns-clause-dropped g c = dropped g (goal.at.returns-clause-dropped g c).After-forget_activities
@@ -46,7 +54,8 @@ returns-clause-dropped g c = dropped g (goal.at.returns-clause-dropped g c).Afte
 pub returns-clause-ready : goal.returns-clause-ready
 returns-clause-ready g c =
     let here = (goal.at.returns-clause-ready g c).After-forget_activities in
-    without-ready c.args.ctx.now (after g here) c.args.gone.now c.requires.ready c.requires.settled (dropped g here) c.requires.unmentioned c.requires.unassumed c.forget_activities.ensures refl
+    without-ready c.args.ctx.now (after g here) c.args.gone.now c.requires.ready c.requires.settled
+    (dropped g here) c.requires.unmentioned c.requires.unassumed c.forget_activities.ensures refl
 
 pub returns-clause-settled : goal.returns-clause-settled
 returns-clause-settled g c =
@@ -58,7 +67,8 @@ returns-clause-decidable g c v =
     let here = (goal.at.returns-clause-decidable g c).After-forget_activities in
     let x = c.args.ctx.now in
     let z = after g here in
-    subst (λ (b : Activities). IsDecidable (view z) b v ↔ (IsDecidable (view x) x.vsids v × (leaves c.args.gone.now v ≡ false))) (sym c.forget_activities.ensures)
+    subst (λ (b : Activities). IsDecidable (view z) b v ↔ (IsDecidable (view x) x.vsids v × (leaves c.args.gone.now v ≡ false)))
+    (sym c.forget_activities.ensures)
     (without-decidable c.args.gone.now (view x) (view z) x.vsids (ap (λ (y : View). y.values) (dropped g here).rest) v)
 
 pub returns-clause-seen : goal.returns-clause-seen
@@ -70,7 +80,8 @@ pub returns-clause-fits : goal.returns-clause-fits
 returns-clause-fits g c held f =
     let here = (goal.at.returns-clause-fits g c).After-forget_activities in
     let x = c.args.ctx.now in
-    subst (λ (y : Search). Fits (clauses_without c.args.gone.now held) y) (sym (without-seen c.args.gone.now (view x) (view (after g here)) c.requires.ready.well c.requires.settled (dropped g here)))
+    subst (λ (y : Search). Fits (clauses_without c.args.gone.now held) y)
+    (sym (without-seen c.args.gone.now (view x) (view (after g here)) c.requires.ready.well c.requires.settled (dropped g here)))
     (fits-without c.args.gone.now (search_of (view x)) (λ d i. c.requires.unmentioned d (subst (λ cs. d ∈ cs) (seen_clauses (view x)) i)) held f)
 
 pub returns-clause-units : goal.returns-clause-units

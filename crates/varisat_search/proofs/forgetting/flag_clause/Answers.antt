@@ -21,7 +21,8 @@ loop-lit-preserved c =
     let n = c.loop-lit.invariant.count in
     let more = take_more ls k l c.loop-lit-test.true ∙ ap (λ x. take k ls ++ x ∷ []) (sym c.lit-item.is) in
     subst (λ ks. FlagsAlso (ks ∷ []) c.args.flags.now (set c.loop-lit.flags c.index.result true)) (sym more)
-    (clause-more (take k ls) l c.index.result c.args.flags.now c.loop-lit.flags c.index.ensures.index (omega (arith, h, n, c.index.ensures.index)) c.loop-lit.invariant)
+    (clause-more (take k ls) l c.index.result c.args.flags.now c.loop-lit.flags c.index.ensures.index
+    (omega (arith, h, n, c.index.ensures.index)) c.loop-lit.invariant)
 
 pub returns : goal.returns
 returns c = grind (arith, common_steps)

@@ -20,11 +20,14 @@ loop-code-preserved g c =
           let m = c.from_code-lit.ensures in
           let h : k < length B = omega (arith, c.loop-code-test.true) in
           let inside : w.index.result < length c.loop-code.flags = omega (arith, n, below, v, m, h) in
-          subst (ImplyingBelow (k + 1) B old) (sym w.flags-is) (below-more k w.index.result B old c.loop-code.flags (is-not-empty (get_or B k []) e) (w.index.ensures.index ∙ ap variable_of c.from_code-lit.ensures) inside i)
+          subst (ImplyingBelow (k + 1) B old) (sym w.flags-is)
+          (below-more k w.index.result B old c.loop-code.flags (is-not-empty (get_or B k []) e)
+          (w.index.ensures.index ∙ ap variable_of c.from_code-lit.ensures) inside i)
       | else-not-is_empty w ↦
           let e = sym implied ∙ sym c.is_empty.ensures ∙ w.if-not-is_empty.false in
           subst (ImplyingBelow (k + 1) B old) (sym w.flags-is) (below-empty k B old c.loop-code.flags (is-empty (get_or B k []) e) i)
     ]
 
 pub returns : goal.returns
-returns g c = below-all c.loop-code.code c.args.binary_clauses.now c.args.flags.now c.loop-code.flags (omega (arith, c.loop-code-test.false)) c.loop-code.invariant
+returns g c = below-all c.loop-code.code c.args.binary_clauses.now c.args.flags.now c.loop-code.flags
+    (omega (arith, c.loop-code-test.false)) c.loop-code.invariant

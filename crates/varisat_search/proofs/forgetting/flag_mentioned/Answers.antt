@@ -11,7 +11,9 @@ use Rattle.varisat_search.proofs.forgetting.flag_mentioned.Goals.{After-deref_mu
 use Rattle.varisat_search.proofs.forgetting.flag_mentioned.Goals as goal
 
 none-yet : (g : Over) (c : After-deref_mut g) → c.deref_mut.result.now ≡ replicate (length c.args.ctx.now.assignment.current) false
-none-yet g c = c.deref_mut.ensures.value ∙ (c.in_ok-resize.ensures {u = tt}).items ∙ made-anew (length c.assignment.result.now) _ c.new-flags.result.items c.new-flags.ensures.items c.new-flags.ensures.len ∙ ap (λ (vs : List (Option Bool)). replicate (length vs) false) c.assignment.ensures
+none-yet g c = c.deref_mut.ensures.value ∙ (c.in_ok-resize.ensures {u = tt}).items
+    ∙ made-anew (length c.assignment.result.now) _ c.new-flags.result.items c.new-flags.ensures.items c.new-flags.ensures.len
+    ∙ ap (λ (vs : List (Option Bool)). replicate (length vs) false) c.assignment.ensures
 
 pub flag_stored-requires-clause-known : goal.flag_stored-requires-clause-known
 flag_stored-requires-clause-known g c d h l i =
@@ -29,5 +31,6 @@ returns g c =
     let last = c.flag_implying.new.flags in
     let back = lent-back size first c.resize.new.self.items (c.flag_stored.ensures.count ∙ c.deref_mut.ensures.len) in
     let mid = subst (λ fs. FlagsImplying s.binary fs last) (c.deref_mut-2.ensures.value ∙ back) c.flag_implying.ensures in
-    subst (FlagsMentioned s) (sym (lent-back size last (take size (first ++ drop (length first) c.resize.new.self.items)) (mid.count ∙ c.flag_stored.ensures.count ∙ c.deref_mut.ensures.len)))
+    subst (FlagsMentioned s) (sym (lent-back size last (take size (first ++ drop (length first) c.resize.new.self.items))
+    (mid.count ∙ c.flag_stored.ensures.count ∙ c.deref_mut.ensures.len)))
     (all-flagged s c.deref_mut.result.now first last c.requires.well (none-yet g here) c.flag_stored.ensures mid)

@@ -14,21 +14,24 @@ use Rattle.varisat_search.proofs.forgetting.flag_stored.Goals as goal
 pub loop-cref-init : goal.loop-cref-init
 loop-cref-init g c =
     let P = live_clauses c.args.clause_alloc.now in
-    subst (λ left. FlagsBut P left c.args.flags.now c.args.flags.now) (sym (c.into_iter-cref-iterator.ensures.into_iter_gives ∙ c.clauses_iter-cref-items.ensures)) (but-all P c.args.flags.now)
+    subst (λ left. FlagsBut P left c.args.flags.now c.args.flags.now)
+    (sym (c.into_iter-cref-iterator.ensures.into_iter_gives ∙ c.clauses_iter-cref-items.ensures)) (but-all P c.args.flags.now)
 
 -- the next place is one of those that are left
 next-place : (g : Over) (c : In-Some g) → IsPlace (live_clauses c.args.clause_alloc.now) c.in-Some.cref
 next-place g c = c.loop-cref.invariant.places c.in-Some.cref (subst (λ (xs : List ℕ). c.in-Some.cref ∈ xs) (sym c.in-Some.ensures.steps) (inl refl))
 
 pub lits-requires-clause-place : goal.lits-requires-clause-place
-lits-requires-clause-place g c = live-place (stored_clauses c.args.clause_alloc.now) c.in-Some.cref (next-place g (goal.at.lits-requires-clause-place g c).In-Some)
+lits-requires-clause-place g c = live-place (stored_clauses c.args.clause_alloc.now) c.in-Some.cref
+    (next-place g (goal.at.lits-requires-clause-place g c).In-Some)
 
 pub flag_clause-requires : goal.flag_clause-requires
 flag_clause-requires g c l m =
     let s = c.args.clause_alloc.now in
     let p = c.in-Some.cref in
     let h = next-place g (goal.at.flag_clause-requires g c).In-Some in
-    let b = c.requires.known (literals_at (live_clauses s) p) (kept-at (live_clauses s) p h) l (subst (λ x. l ∈ x) (c.lits.ensures ∙ live-literals s p c.requires.sound h) m) in
+    let b = c.requires.known (literals_at (live_clauses s) p) (kept-at (live_clauses s) p h) l
+    (subst (λ x. l ∈ x) (c.lits.ensures ∙ live-literals s p c.requires.sound h) m) in
     let n = c.loop-cref.invariant.count in
     omega (arith, b, n)
 

@@ -13,16 +13,19 @@ pub loop-index-init : goal.loop-index-init
 loop-index-init g c = activities-none c.args.vsids.now c.args.gone.now
 
 pub loop-index-preserved-then-not-is_gone : goal.loop-index-preserved-then-not-is_gone
-loop-index-preserved-then-not-is_gone g c = activities-off c.args.vsids.now c.loop-index.vsids c.args.gone.now c.loop-index.index c.if-not-is_gone.true c.loop-index.invariant
+loop-index-preserved-then-not-is_gone g c = activities-off c.args.vsids.now c.loop-index.vsids c.args.gone.now c.loop-index.index
+    c.if-not-is_gone.true c.loop-index.invariant
 
 pub loop-index-preserved : goal.loop-index-preserved
 loop-index-preserved g c =
     c.make_unavailable.ensures ∙ ap (λ (a : Activities). with_available c.from_index-var.result false a) c.reset.ensures
-    ∙ ap (λ v. record c.loop-index.vsids { activity = set c.loop-index.vsids.activity v 0; available = set c.loop-index.vsids.available v false }) c.from_index-var.ensures
+    ∙ ap (λ v. record c.loop-index.vsids { activity = set c.loop-index.vsids.activity v 0; available = set c.loop-index.vsids.available v false })
+    c.from_index-var.ensures
     ∙ activities-on c.args.vsids.now c.loop-index.vsids c.args.gone.now c.loop-index.index c.if-not-is_gone.false c.loop-index.invariant
 
 pub returns : goal.returns
-returns g c = c.loop-index.invariant ∙ ap (λ (xs : List Bool). forgotten_activities xs c.args.vsids.now) (take_all c.loop-index.index c.args.gone.now (omega (arith, c.loop-index-test.false)))
+returns g c = c.loop-index.invariant ∙ ap (λ (xs : List Bool). forgotten_activities xs c.args.vsids.now)
+    (take_all c.loop-index.index c.args.gone.now (omega (arith, c.loop-index-test.false)))
 
 pub reset-requires : goal.reset-requires
 reset-requires g c =

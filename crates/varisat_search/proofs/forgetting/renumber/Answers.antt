@@ -27,7 +27,9 @@ loop-place-preserved g c =
     let e = element lits k l inside c.index-lits-place.is in
     let i = c.requires.known l (item-∈ lits k l inside c.index-lits-place.is) in
     subst (NumberedTo lits (k + 1) old) (sym c.update_depth.ensures)
-    (numbered-more lits k c.var.result old ns inside (c.var.ensures ∙ ap variable_of e) (omega (arith, i, c.var.ensures)) c.requires.distinct c.loop-place.invariant)
+    (numbered-more lits k c.var.result old ns inside (c.var.ensures ∙ ap variable_of e)
+    (omega (arith, i, c.var.ensures)) c.requires.distinct c.loop-place.invariant)
 
 pub returns : goal.returns
-returns g c = numbered-all c.args.lits.now c.loop-place.place c.args.impl_graph.now.nodes.items c.loop-place.impl_graph.nodes.items (omega (arith, c.loop-place-test.false)) c.loop-place.invariant
+returns g c = numbered-all c.args.lits.now c.loop-place.place c.args.impl_graph.now.nodes.items c.loop-place.impl_graph.nodes.items
+    (omega (arith, c.loop-place-test.false)) c.loop-place.invariant

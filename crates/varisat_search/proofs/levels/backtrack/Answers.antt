@@ -28,7 +28,8 @@ reads g c =
     let n = ap (λ xs. length xs) c.trail-place-end.ensures in
     let below : k < length s.trail = omega (arith, c.loop-place-test.true, n) in
     let tr : c.trail.result.now ≡ s.trail = c.trail.ensures ∙ ap (λ x. x.trail.literals) c.loop-place.invariant.kept in
-    let e : c.index-trail-place.result ≡ literal_at s k = element s.trail k c.index-trail-place.result below (c.index-trail-place.is ∙ ap (λ xs. get_or xs k c.index-trail-place.result) tr) in
+    let e : c.index-trail-place.result ≡ literal_at s k = element s.trail k c.index-trail-place.result below
+    (c.index-trail-place.is ∙ ap (λ xs. get_or xs k c.index-trail-place.result) tr) in
     let v = c.var-var.ensures ∙ ap variable_of e in
     let i = made-inside s.values (literal_at s k) (c.requires.well.is_true k below) in
     record { below = below; lit = e; var = v; inside = omega (arith, i, v) }
@@ -53,13 +54,23 @@ loop-place-preserved g c =
     let t = view c.loop-place.ctx in
     let k = c.loop-place.place in
     let r = reads g (goal.at.loop-place-preserved g c).After-var-var in
-    let v : c.release_var.new.self.current ≡ set t.values (variable_of c.index-trail-place.result) None = ap (λ x. x.current) c.release_var.ensures.released ∙ ap (λ x. set t.values x None) c.var-var.ensures in
-    let b : c.release_var.new.self.last ≡ set c.loop-place.ctx.assignment.last (variable_of c.index-trail-place.result) (is_true_value (get_or t.values (variable_of c.index-trail-place.result) None)) = ap (λ x. x.last) c.release_var.ensures.released ∙ ap (λ x. set c.loop-place.ctx.assignment.last x (is_true_value (get_or t.values x None))) c.var-var.ensures in
+    let v : c.release_var.new.self.current ≡ set t.values (variable_of c.index-trail-place.result) None =
+    ap (λ x. x.current) c.release_var.ensures.released ∙ ap (λ x. set t.values x None) c.var-var.ensures in
+    let b : c.release_var.new.self.last ≡ set c.loop-place.ctx.assignment.last (variable_of c.index-trail-place.result)
+    (is_true_value (get_or t.values (variable_of c.index-trail-place.result) None)) = ap (λ x. x.last) c.release_var.ensures.released
+    ∙ ap (λ x. set c.loop-place.ctx.assignment.last x (is_true_value (get_or t.values x None))) c.var-var.ensures in
     record {
-      cutting = subst (λ a. Cutting s (record t { values = a }) c.level_end-end.result (k + 1)) (sym v) (cutting-step s t c.level_end-end.result k c.index-trail-place.result c.requires.well c.loop-place.auto.place r.below r.lit c.loop-place.invariant.cutting);
-      saving = subst (λ a. Saving s c.args.ctx.now.assignment.last a c.level_end-end.result (k + 1)) (sym b) (saving-step s t c.args.ctx.now.assignment.last c.loop-place.ctx.assignment.last c.level_end-end.result k c.index-trail-place.result c.requires.well c.loop-place.auto.place r.below r.lit c.release_var.ensures.count c.loop-place.invariant.cutting c.loop-place.invariant.saving);
-      making = subst (λ a. Making s c.args.ctx.now.vsids a c.level_end-end.result (k + 1)) (sym c.make_available.ensures) (making-step s c.args.ctx.now.vsids c.loop-place.ctx.vsids c.level_end-end.result k c.var-var.result c.requires.well c.requires.entries.available c.loop-place.auto.place r.below r.var c.loop-place.invariant.making);
-      kept = ap (λ (x : Context g.row.A.Denot). record x { assignment = c.release_var.new.self; vsids = c.make_available.new.self }) c.loop-place.invariant.kept;
+      cutting = subst (λ a. Cutting s (record t { values = a }) c.level_end-end.result (k + 1)) (sym v)
+          (cutting-step s t c.level_end-end.result k c.index-trail-place.result c.requires.well c.loop-place.auto.place r.below r.lit
+          c.loop-place.invariant.cutting);
+      saving = subst (λ a. Saving s c.args.ctx.now.assignment.last a c.level_end-end.result (k + 1)) (sym b)
+          (saving-step s t c.args.ctx.now.assignment.last c.loop-place.ctx.assignment.last c.level_end-end.result k c.index-trail-place.result
+          c.requires.well c.loop-place.auto.place r.below r.lit c.release_var.ensures.count c.loop-place.invariant.cutting c.loop-place.invariant.saving);
+      making = subst (λ a. Making s c.args.ctx.now.vsids a c.level_end-end.result (k + 1)) (sym c.make_available.ensures)
+          (making-step s c.args.ctx.now.vsids c.loop-place.ctx.vsids c.level_end-end.result k c.var-var.result c.requires.well
+          c.requires.entries.available c.loop-place.auto.place r.below r.var c.loop-place.invariant.making);
+      kept = ap (λ (x : Context g.row.A.Denot). record x { assignment = c.release_var.new.self; vsids = c.make_available.new.self })
+          c.loop-place.invariant.kept;
     }
 
 pub returns : goal.returns

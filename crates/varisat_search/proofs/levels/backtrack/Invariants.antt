@@ -6,4 +6,11 @@ use Rattle.varisat_search.proofs.BacktrackActivities.{Making}
 use Rattle.varisat_search.proofs.levels.backtrack.Given as goal
 
 abbrev pub invariant-loop-place : goal.invariant-loop-place
-invariant-loop-place g l = record { cutting : Cutting (view l.fn.ctx) (view l.ctx) l.end l.place; saving : Saving (view l.fn.ctx) l.fn.ctx.assignment.last l.ctx.assignment.last l.end l.place; making : Making (view l.fn.ctx) l.fn.ctx.vsids l.ctx.vsids l.end l.place; kept : l.ctx ≡ record l.fn.ctx { assignment = l.ctx.assignment; vsids = l.ctx.vsids } }
+invariant-loop-place g l = record {
+  cutting : Cutting (view l.fn.ctx) (view l.ctx) l.end l.place;
+  saving : Saving
+      (view l.fn.ctx) l.fn.ctx.assignment.last l.ctx.assignment.last l.end l.place;
+  making : Making
+      (view l.fn.ctx) l.fn.ctx.vsids l.ctx.vsids l.end l.place;
+  kept : l.ctx ≡ record l.fn.ctx { assignment = l.ctx.assignment; vsids = l.ctx.vsids };
+}

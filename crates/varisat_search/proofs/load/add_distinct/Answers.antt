@@ -58,25 +58,34 @@ two : (g : Over) (c : After-index-then-len-eq2 g) → c.args.ctx.now.tmp_data.li
 two g c =
     let xs = c.args.ctx.now.tmp_data.lits in
     let n = c.len-then-len-gt1.ensures in
-    only-two xs.items c.index.result.now c.index-then-len-eq2.result.now (omega (arith, n, xs.ok.0, c.if-len-eq2.true)) c.index.ensures c.index-then-len-eq2.ensures
+    only-two xs.items c.index.result.now c.index-then-len-eq2.result.now
+    (omega (arith, n, xs.ok.0, c.if-len-eq2.true)) c.index.ensures c.index-then-len-eq2.ensures
 
 first-paired : (g : Over) (c : After-index-then-len-eq2 g) → opposite c.index.result.now < length c.args.ctx.now.binary_clauses
 first-paired g c =
-    let i = listed c.index.result.now (length c.args.ctx.now.assignment.current) (c.requires.in_range c.index.result.now (subst (λ xs. c.index.result.now ∈ xs) (sym (two g c)) (inl refl))) in
+    let i = listed c.index.result.now (length c.args.ctx.now.assignment.current)
+    (c.requires.in_range c.index.result.now (subst (λ xs. c.index.result.now ∈ xs) (sym (two g c)) (inl refl))) in
     let n = c.requires.propagated.binary in
     omega (arith, i, n)
 
 second-paired : (g : Over) (c : After-index-then-len-eq2 g) → opposite c.index-then-len-eq2.result.now < length c.args.ctx.now.binary_clauses
 second-paired g c =
-    let i = listed c.index-then-len-eq2.result.now (length c.args.ctx.now.assignment.current) (c.requires.in_range c.index-then-len-eq2.result.now (subst (λ xs. c.index-then-len-eq2.result.now ∈ xs) (sym (two g c)) (inr (inl refl)))) in
+    let i = listed c.index-then-len-eq2.result.now (length c.args.ctx.now.assignment.current)
+    (c.requires.in_range c.index-then-len-eq2.result.now (subst (λ xs. c.index-then-len-eq2.result.now ∈ xs) (sym (two g c)) (inr (inl refl)))) in
     let n = c.requires.propagated.binary in
     omega (arith, i, n)
 
 -- what is left once they are kept as a pair
-with-two : (g : Over) (c : In_ok-add_binary_clause g) → view_of c.args.ctx.now.clause_alloc c.add_binary_clause.new.self c.args.ctx.now.assignment c.reset_queue_if_false.new.trail c.args.ctx.now.impl_graph ≡ record (view c.args.ctx.now) { binary = with_pair c.args.ctx.now.binary_clauses c.index.result.now c.index-then-len-eq2.result.now; queue_head = c.reset_queue_if_false.new.trail.queue_head }
+with-two : (g : Over) (c : In_ok-add_binary_clause g) → view_of c.args.ctx.now.clause_alloc c.add_binary_clause.new.self c.args.ctx.now.assignment
+    c.reset_queue_if_false.new.trail c.args.ctx.now.impl_graph ≡ record (view c.args.ctx.now) {
+      binary = with_pair c.args.ctx.now.binary_clauses c.index.result.now c.index-then-len-eq2.result.now;
+      queue_head =
+          c.reset_queue_if_false.new.trail.queue_head;
+    }
 with-two g c =
     let x = c.args.ctx.now in
-    ap (λ (u : TrailParts). view_of x.clause_alloc c.add_binary_clause.new.self x.assignment u x.impl_graph) c.reset_queue_if_false.ensures.kept ∙ ap (λ B. record (view x) { binary = B; queue_head = c.reset_queue_if_false.new.trail.queue_head }) c.in_ok-add_binary_clause.ensures
+    ap (λ (u : TrailParts). view_of x.clause_alloc c.add_binary_clause.new.self x.assignment u x.impl_graph) c.reset_queue_if_false.ensures.kept
+    ∙ ap (λ B. record (view x) { binary = B; queue_head = c.reset_queue_if_false.new.trail.queue_head }) c.in_ok-add_binary_clause.ensures
 
 pub add_binary_clause-requires-clause-first : goal.add_binary_clause-requires-clause-first
 add_binary_clause-requires-clause-first g c = first-paired g (goal.at.add_binary_clause-requires-clause-first g c).After-index-then-len-eq2
@@ -89,7 +98,10 @@ returns-then-len-eq2-clause-added g c =
     let x = c.args.ctx.now in
     let here = goal.at.returns-then-len-eq2-clause-added g c in
     let z = view_of x.clause_alloc c.add_binary_clause.new.self x.assignment c.reset_queue_if_false.new.trail x.impl_graph in
-    added-pair (view x) z x.tmp_data.lits.items x.solver_state.sat_state x.solver_state.sat_state c.index.result.now c.index-then-len-eq2.result.now (two g here.After-index-then-len-eq2) (subst (λ ls. IsHeadAfter x.assignment.current ls x.trail.queue_head c.reset_queue_if_false.new.trail.queue_head) c.deref-then-len-gt1.ensures.value c.reset_queue_if_false.ensures.head) (with-two g here.In_ok-add_binary_clause) refl
+    added-pair (view x) z x.tmp_data.lits.items x.solver_state.sat_state x.solver_state.sat_state c.index.result.now c.index-then-len-eq2.result.now
+    (two g here.After-index-then-len-eq2)
+    (subst (λ ls. IsHeadAfter x.assignment.current ls x.trail.queue_head c.reset_queue_if_false.new.trail.queue_head)
+    c.deref-then-len-gt1.ensures.value c.reset_queue_if_false.ensures.head) (with-two g here.In_ok-add_binary_clause) refl
 
 pub returns-then-len-eq2-clause-propagated : goal.returns-then-len-eq2-clause-propagated
 returns-then-len-eq2-clause-propagated g c =
@@ -100,8 +112,10 @@ returns-then-len-eq2-clause-propagated g c =
     let b = c.index-then-len-eq2.result.now in
     let other : a ≢ b = λ e. (subst IsDistinct (two g here) c.requires.distinct).0 (inl e) in
     subst (IsPropagated x.watchlists) (sym (with-two g at.In_ok-add_binary_clause))
-    (propagated-kept-pair (view x) c.requires.well c.requires.undecided x.watchlists a b (first-paired g here) (second-paired g here) other c.requires.propagated c.reset_queue_if_false.new.trail.queue_head
-    (subst (λ ls. IsHeadAfter x.assignment.current ls x.trail.queue_head c.reset_queue_if_false.new.trail.queue_head) (c.deref-then-len-gt1.ensures.value ∙ two g here) c.reset_queue_if_false.ensures.head))
+    (propagated-kept-pair (view x) c.requires.well c.requires.undecided x.watchlists a b (first-paired g here)
+    (second-paired g here) other c.requires.propagated c.reset_queue_if_false.new.trail.queue_head
+    (subst (λ ls. IsHeadAfter x.assignment.current ls x.trail.queue_head c.reset_queue_if_false.new.trail.queue_head)
+    (c.deref-then-len-gt1.ensures.value ∙ two g here) c.reset_queue_if_false.ensures.head))
 
 pub returns-then-len-gt1-clause-added : goal.returns-then-len-gt1-clause-added
 returns-then-len-gt1-clause-added g c =
@@ -109,37 +123,61 @@ returns-then-len-gt1-clause-added g c =
     let n = c.len-then-len-gt1.ensures in
     let m = c.len.ensures in
     let o = x.tmp_data.lits.ok.0 in
-    let many : 3 ≤ length x.tmp_data.lits.items = more-than-two (length x.tmp_data.lits.items) (omega (arith, m, o, c.if-len-gt1.true)) (λ e. c.if-len-eq2.false (omega (arith, n, o, e))) in
-    let j : StoredClause = record { place = c.in_ok-cref.cref; header = record c.new.result { len = length c.deref-then-len-gt1-2.result.now }; literals = c.deref-then-len-gt1-2.result.now } in
+    let many : 3 ≤ length x.tmp_data.lits.items = more-than-two (length x.tmp_data.lits.items) (omega (arith, m, o, c.if-len-gt1.true))
+    (λ e. c.if-len-eq2.false (omega (arith, n, o, e))) in
+    let j : StoredClause = record {
+      place = c.in_ok-cref.cref;
+      header =
+          record c.new.result { len = length c.deref-then-len-gt1-2.result.now };
+      literals = c.deref-then-len-gt1-2.result.now;
+    } in
     let k = live-added x.clause_alloc c.add_clause.new.alloc j c.in_ok-cref.ensures.added (ap (λ (h : Header). h.deleted) c.new.ensures) in
     let sound = sound-is c.add_clause.new.alloc c.in_ok-cref.ensures.added.sound ∙ sym c.requires.well.sound in
     let z = view_of c.add_clause.new.alloc x.binary_clauses x.assignment c.reset_queue_if_false.new.trail x.impl_graph in
     let whole : z ≡ record (view x) { clauses = live_clauses c.add_clause.new.alloc; queue_head = c.reset_queue_if_false.new.trail.queue_head } =
-    ap (λ (u : TrailParts). view_of c.add_clause.new.alloc x.binary_clauses x.assignment u x.impl_graph) c.reset_queue_if_false.ensures.kept ∙ ap (λ (b : Bool). record (view x) { sound = b; clauses = live_clauses c.add_clause.new.alloc; queue_head = c.reset_queue_if_false.new.trail.queue_head }) sound in
-    added-long (view x) z x.tmp_data.lits.items x.solver_state.sat_state x.solver_state.sat_state j many c.deref-then-len-gt1-2.ensures.value (ap (λ (h : Header). record h { len = length c.deref-then-len-gt1-2.result.now }) c.new.ensures) k (subst (λ ls. IsHeadAfter x.assignment.current ls x.trail.queue_head c.reset_queue_if_false.new.trail.queue_head) c.deref-then-len-gt1.ensures.value c.reset_queue_if_false.ensures.head) whole refl
+    ap (λ (u : TrailParts). view_of c.add_clause.new.alloc x.binary_clauses x.assignment u x.impl_graph) c.reset_queue_if_false.ensures.kept
+    ∙ ap (λ (b : Bool). record (view x)
+    { sound = b; clauses = live_clauses c.add_clause.new.alloc; queue_head = c.reset_queue_if_false.new.trail.queue_head }) sound in
+    added-long (view x) z x.tmp_data.lits.items x.solver_state.sat_state x.solver_state.sat_state j many c.deref-then-len-gt1-2.ensures.value
+    (ap (λ (h : Header). record h { len = length c.deref-then-len-gt1-2.result.now }) c.new.ensures) k
+    (subst (λ ls. IsHeadAfter x.assignment.current ls x.trail.queue_head c.reset_queue_if_false.new.trail.queue_head)
+    c.deref-then-len-gt1.ensures.value c.reset_queue_if_false.ensures.head) whole refl
 
 pub returns-then-len-gt1-clause-propagated : goal.returns-then-len-gt1-clause-propagated
 returns-then-len-gt1-clause-propagated g c =
     let x = c.args.ctx.now in
     let V = c.watch_clause.new.self in
     let z = view_of c.add_clause.new.alloc x.binary_clauses x.assignment c.reset_queue_if_false.new.trail x.impl_graph in
-    let j : StoredClause = record { place = c.in_ok-cref.cref; header = record c.new.result { len = length c.deref-then-len-gt1-2.result.now }; literals = c.deref-then-len-gt1-2.result.now } in
+    let j : StoredClause = record {
+      place = c.in_ok-cref.cref;
+      header =
+          record c.new.result { len = length c.deref-then-len-gt1-2.result.now };
+      literals = c.deref-then-len-gt1-2.result.now;
+    } in
     let k = live-added x.clause_alloc c.add_clause.new.alloc j c.in_ok-cref.ensures.added (ap (λ (h : Header). h.deleted) c.new.ensures) in
     let sound = sound-is c.add_clause.new.alloc c.in_ok-cref.ensures.added.sound ∙ sym c.requires.well.sound in
-    let watched = subst (WatchesClause x.watchlists V c.in_ok-cref.cref) (c.deref-then-len-gt1-3.ensures.value ∙ sym c.deref-then-len-gt1-2.ensures.value) c.in_ok-watch_clause.ensures in
+    let watched = subst (WatchesClause x.watchlists V c.in_ok-cref.cref)
+    (c.deref-then-len-gt1-3.ensures.value ∙ sym c.deref-then-len-gt1-2.ensures.value) c.in_ok-watch_clause.ensures in
     let whole : z ≡ record (view x) { clauses = live_clauses x.clause_alloc ++ j ∷ []; queue_head = c.reset_queue_if_false.new.trail.queue_head } =
-    ap (λ (t : TrailParts). view_of c.add_clause.new.alloc x.binary_clauses x.assignment t x.impl_graph) c.reset_queue_if_false.ensures.kept ∙ ap (λ (b : Bool). record (view x) { sound = b; clauses = live_clauses c.add_clause.new.alloc; queue_head = c.reset_queue_if_false.new.trail.queue_head }) sound ∙ ap (λ ks. record (view x) { clauses = ks; queue_head = c.reset_queue_if_false.new.trail.queue_head }) k.0 in
+    ap (λ (t : TrailParts). view_of c.add_clause.new.alloc x.binary_clauses x.assignment t x.impl_graph) c.reset_queue_if_false.ensures.kept
+    ∙ ap (λ (b : Bool). record (view x)
+    { sound = b; clauses = live_clauses c.add_clause.new.alloc; queue_head = c.reset_queue_if_false.new.trail.queue_head }) sound
+    ∙ ap (λ ks. record (view x) { clauses = ks; queue_head = c.reset_queue_if_false.new.trail.queue_head }) k.0 in
     let m = c.len.ensures in
     let o = x.tmp_data.lits.ok.0 in
     let same = ap length c.deref-then-len-gt1-2.ensures.value in
-    let head = subst (λ ls. IsHeadAfter x.assignment.current ls x.trail.queue_head c.reset_queue_if_false.new.trail.queue_head) (c.deref-then-len-gt1.ensures.value ∙ sym c.deref-then-len-gt1-2.ensures.value) c.reset_queue_if_false.ensures.head in
-    subst (IsPropagated V) (sym whole) (propagated-kept (view x) c.requires.well c.requires.undecided x.watchlists V j c.requires.propagated k.1 watched c.reset_queue_if_false.new.trail.queue_head (omega (arith, m, o, same, c.if-len-gt1.true)) head)
+    let head = subst (λ ls. IsHeadAfter x.assignment.current ls x.trail.queue_head c.reset_queue_if_false.new.trail.queue_head)
+    (c.deref-then-len-gt1.ensures.value ∙ sym c.deref-then-len-gt1-2.ensures.value) c.reset_queue_if_false.ensures.head in
+    subst (IsPropagated V) (sym whole)
+    (propagated-kept (view x) c.requires.well c.requires.undecided x.watchlists V j c.requires.propagated k.1 watched
+    c.reset_queue_if_false.new.trail.queue_head (omega (arith, m, o, same, c.if-len-gt1.true)) head)
 
 pub returns-clause-propagated : goal.returns-clause-propagated
 returns-clause-propagated g c =
     let x = c.args.ctx.now in
     let l = c.in-Some.first in
-    subst (IsPropagated x.watchlists) (sym (c.in_ok-enqueue_assignment.ensures.view x.clause_alloc x.binary_clauses)) (propagated-enqueued x.watchlists (view x) l reason.Unit c.requires.well c.requires.propagated)
+    subst (IsPropagated x.watchlists) (sym (c.in_ok-enqueue_assignment.ensures.view x.clause_alloc x.binary_clauses))
+    (propagated-enqueued x.watchlists (view x) l reason.Unit c.requires.well c.requires.propagated)
 
 pub add_clause-requires-clause-long : goal.add_clause-requires-clause-long
 add_clause-requires-clause-long g c =
@@ -148,7 +186,8 @@ add_clause-requires-clause-long g c =
     let m = c.len.ensures in
     let o = x.tmp_data.lits.ok.0 in
     let v = ap length c.deref-then-len-gt1-2.ensures.value in
-    let many : 3 ≤ length x.tmp_data.lits.items = more-than-two (length x.tmp_data.lits.items) (omega (arith, m, o, c.if-len-gt1.true)) (λ e. c.if-len-eq2.false (omega (arith, n, o, e))) in
+    let many : 3 ≤ length x.tmp_data.lits.items = more-than-two (length x.tmp_data.lits.items) (omega (arith, m, o, c.if-len-gt1.true))
+    (λ e. c.if-len-eq2.false (omega (arith, n, o, e))) in
     omega (arith, many, v)
 
 pub reset_queue_if_false-requires : goal.reset_queue_if_false-requires

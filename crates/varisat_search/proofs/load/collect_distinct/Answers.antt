@@ -26,7 +26,8 @@ returns-clause-flags g c =
     let value = ap (λ xs. length xs) c.deref_mut.ensures.value in
     let count = x.tmp_flags.flags.ok.0 in
     let f : length x.tmp_flags.flags.items ≡ 2 * n = ap (λ xs. length xs) c.requires.flags ∙ length-replicate (2 * n) false in
-    clear-given-back news (drop (length news) x.tmp_flags.flags.items) x.tmp_flags.flags.len (2 * n) (omega (arith, long, value, count)) (omega (arith, f, count)) c.collect_flagged.ensures.clear ∙ sym c.requires.flags
+    clear-given-back news (drop (length news) x.tmp_flags.flags.items) x.tmp_flags.flags.len (2 * n) (omega (arith, long, value, count))
+    (omega (arith, f, count)) c.collect_flagged.ensures.clear ∙ sym c.requires.flags
 
 pub collect_flagged-requires-clause-clear : goal.collect_flagged-requires-clause-clear
 collect_flagged-requires-clause-clear g c = grind (arith, common_steps)

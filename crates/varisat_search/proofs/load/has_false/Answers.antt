@@ -10,10 +10,12 @@ pub lit_is_false-requires : goal.lit_is_false-requires
 lit_is_false-requires g c = c.requires c.lit-item.result (item-∈ c.args.lits.now c.loop-lit.lit-index c.lit-item.result c.loop-lit-test.true c.lit-item.is)
 
 pub returns-then-lit_is_false : goal.returns-then-lit_is_false
-returns-then-lit_is_false g c = one-found (λ l. IsMadeTrue c.args.assignment.now.current (opposite l)) c.args.lits.now c.loop-lit-test.true c.lit-item.is (c.if-lit_is_false.ensures.0 refl)
+returns-then-lit_is_false g c = one-found (λ l. IsMadeTrue c.args.assignment.now.current (opposite l)) c.args.lits.now c.loop-lit-test.true
+    c.lit-item.is (c.if-lit_is_false.ensures.0 refl)
 
 pub loop-lit-preserved : goal.loop-lit-preserved
-loop-lit-preserved g c = none-so-far (λ l. IsMadeTrue c.args.assignment.now.current (opposite l)) c.args.lits.now c.loop-lit-test.true c.lit-item.is c.loop-lit.invariant (λ t. let b = c.if-lit_is_false.ensures.1 t in cc)
+loop-lit-preserved g c = none-so-far (λ l. IsMadeTrue c.args.assignment.now.current (opposite l)) c.args.lits.now c.loop-lit-test.true c.lit-item.is
+    c.loop-lit.invariant (λ t. let b = c.if-lit_is_false.ensures.1 t in cc)
 
 pub returns : goal.returns
 returns g c = grind (arith, common_steps)

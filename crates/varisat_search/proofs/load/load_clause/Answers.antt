@@ -37,7 +37,8 @@ undone g c =
 
 loading : (g : Over) (c : In_ok-collect_distinct g) → Loading c.args.ctx.now (copied g c) c.args.lits.now c.collect_distinct.new.ctx.tmp_data.lits.items
 loading g c =
-    subst (λ (x : Context g.row.A.Denot). Loading c.args.ctx.now x c.args.lits.now c.collect_distinct.new.ctx.tmp_data.lits.items) (sym c.collect_distinct.ensures.kept) record {
+    subst (λ (x : Context g.row.A.Denot). Loading c.args.ctx.now x c.args.lits.now c.collect_distinct.new.ctx.tmp_data.lits.items)
+    (sym c.collect_distinct.ensures.kept) record {
       ready = c.requires.ready;
       in_range = c.requires.in_range;
       same = λ e. ap (λ (x : Context g.row.A.Denot). view x) (c.full_restart.ensures.undone.same (let n = ap length e in omega (arith, n)));
@@ -46,16 +47,25 @@ loading g c =
       entries = c.full_restart.ensures.undone.entries;
       stay_decidable = c.full_restart.ensures.undone.decidable;
       decay = c.full_restart.ensures.undone.decay;
-      last = (λ e. ap (λ (x : Context g.row.A.Denot). x.assignment.last) (c.full_restart.ensures.undone.same (let n = ap length e in omega (arith, n))), c.full_restart.ensures.undone.saved);
+      last = (
+        λ e. ap (λ (x : Context g.row.A.Denot). x.assignment.last)
+            (c.full_restart.ensures.undone.same (let n = ap length e in omega (arith, n))),
+        c.full_restart.ensures.undone.saved,
+      );
       state = ap (λ (x : Context g.row.A.Denot). x.solver_state) c.full_restart.ensures.undone.kept ∙ c.accept_clause.ensures;
       units = c.full_restart.ensures.undone.units;
       analysis = ap (λ (x : Context g.row.A.Denot). x.analyze_conflict.var_count) c.full_restart.ensures.undone.kept;
       flags = c.in_ok-collect_distinct.ensures.flags ∙ ap (λ (x : Context g.row.A.Denot). x.tmp_flags.flags.items) c.full_restart.ensures.undone.kept;
       watches = ap (λ (x : Context g.row.A.Denot). x.watchlists) c.full_restart.ensures.undone.kept;
       tracks = subst (λ (x : Context g.row.A.Denot). Tracks x.clause_db x.clause_alloc) (sym c.full_restart.ensures.undone.kept) c.requires.ready.tracks;
-      schedule = record { schedule = ap (λ (x : Context g.row.A.Denot). x.schedule) c.full_restart.ensures.undone.kept; solver_config = ap (λ (x : Context g.row.A.Denot). x.solver_config) c.full_restart.ensures.undone.kept };
+      schedule = record {
+        schedule = ap (λ (x : Context g.row.A.Denot). x.schedule) c.full_restart.ensures.undone.kept;
+        solver_config =
+            ap (λ (x : Context g.row.A.Denot). x.solver_config) c.full_restart.ensures.undone.kept;
+      };
       same_list = cut-same-list 0 (before g c) c.full_restart.new.ctx c.full_restart.ensures.undone.same c.full_restart.ensures.undone.assumptions;
-      assumed = cut-assumed 0 (before g c) c.full_restart.new.ctx c.full_restart.ensures.undone.same c.full_restart.ensures.undone.assumptions c.requires.ready.well c.full_restart.ensures.undone.cut c.requires.ready.assumed;
+      assumed = cut-assumed 0 (before g c) c.full_restart.new.ctx c.full_restart.ensures.undone.same c.full_restart.ensures.undone.assumptions
+          c.requires.ready.well c.full_restart.ensures.undone.cut c.requires.ready.assumed;
       distinct = c.in_ok-collect_distinct.ensures.distinct;
       literals = c.in_ok-collect_distinct.ensures.same;
     }
@@ -64,7 +74,8 @@ pub collect_distinct-requires : goal.collect_distinct-requires
 collect_distinct-requires g c =
     let n = (undone g (goal.at.collect_distinct-requires g c).After-full_restart).count in
     record {
-      flags = ap (λ (x : Context g.row.A.Denot). x.tmp_flags.flags.items) c.full_restart.ensures.undone.kept ∙ c.requires.ready.flags ∙ ap (λ m. replicate (2 * m) false) (sym n);
+      flags = ap (λ (x : Context g.row.A.Denot). x.tmp_flags.flags.items) c.full_restart.ensures.undone.kept ∙ c.requires.ready.flags
+          ∙ ap (λ m. replicate (2 * m) false) (sym n);
       in_range = λ l h. let i = c.requires.in_range l h in omega (arith, i, n);
     }
 
@@ -72,8 +83,29 @@ pub returns-then-branch : goal.returns-then-branch
 returns-then-branch g c =
     let taut = c.in_ok-collect_distinct.ensures.tautology.0 c.if-branch.true in
     let p = c.args.proof.now in
-    let o = loaded-tautology (loading g (goal.at.returns-then-branch g c).In_ok-collect_distinct) (g.P.ProofTracer.in_order p) (λ lines. TakesLines g.P.ProofTracer.takes p lines p) (g.met.P.ProofTracer.takes_none p) taut in
-    record { full = tt; broken = tt; ready = o.ready; unsat = λ e. absurd (c.in_default.not-Unsat e); lines = o.lines; verdict = o.kept_verdict; assumptions = λ n. o.assumptions; last = λ n. o.last; state = λ n. o.state; count = o.count; units = o.units; undecided = λ n. o.undecided; decidable = o.decidable; decay = o.decay; schedule = o.schedule; single = λ l e. loaded-none (loading g (goal.at.returns-then-branch g c).In_ok-collect_distinct) l e }
+    let o = loaded-tautology (loading g (goal.at.returns-then-branch g c).In_ok-collect_distinct) (g.P.ProofTracer.in_order p)
+    (λ lines. TakesLines g.P.ProofTracer.takes p lines p) (g.met.P.ProofTracer.takes_none p) taut in
+    record {
+      full = tt;
+      broken = tt;
+      ready = o.ready;
+      unsat = λ e. absurd (c.in_default.not-Unsat e);
+      lines = o.lines;
+      verdict =
+          o.kept_verdict;
+      assumptions = λ n. o.assumptions;
+      last = λ n. o.last;
+      state = λ n. o.state;
+      count = o.count;
+      units = o.units;
+      undecided =
+          λ n. o.undecided;
+      decidable = o.decidable;
+      decay = o.decay;
+      schedule = o.schedule;
+      single =
+          λ l e. loaded-none (loading g (goal.at.returns-then-branch g c).In_ok-collect_distinct) l e;
+    }
 
 pub is_satisfied-requires : goal.is_satisfied-requires
 is_satisfied-requires g c l h =
@@ -81,14 +113,19 @@ is_satisfied-requires g c l h =
 
 pub trace_satisfied-requires : goal.trace_satisfied-requires
 trace_satisfied-requires g c =
-    can-delete-loaded (g.P.ProofTracer.holds c.args.proof.now) (search_of (view c.args.ctx.now)) c.args.lits.now c.collect_distinct.new.ctx.tmp_data.lits.items c.deref_mut.result.now c.deref_mut.ensures.value c.in_ok-collect_distinct.ensures.same (c.requires.holds c.in_default.not-Unsat)
+    can-delete-loaded (g.P.ProofTracer.holds c.args.proof.now) (search_of (view c.args.ctx.now)) c.args.lits.now
+    c.collect_distinct.new.ctx.tmp_data.lits.items c.deref_mut.result.now c.deref_mut.ensures.value c.in_ok-collect_distinct.ensures.same
+    (c.requires.holds c.in_default.not-Unsat)
 
 -- the context once the literals were ordered
 abbrev ordered : (g : Over) (c : In_ok-trace_satisfied g) → Context g.row.A.Denot
 ordered g c = record c.collect_distinct.new.ctx { tmp_data = record { lits = with_items c.collect_distinct.new.ctx.tmp_data.lits c.trace_satisfied.new.lits } }
 
 -- whether there is a line or none
-satisfied : (g : Over) (c : In_ok-trace_satisfied g) → Loading c.args.ctx.now (ordered g c) c.args.lits.now c.collect_distinct.new.ctx.tmp_data.lits.items → Loaded (g.P.ProofTracer.in_order c.args.proof.now) (λ lines. TakesLines g.P.ProofTracer.takes c.args.proof.now lines c.trace_satisfied.new.proof) c.args.ctx.now (ordered g c) c.args.lits.now
+satisfied : (g : Over) (c : In_ok-trace_satisfied g) → Loading c.args.ctx.now
+    (ordered g c) c.args.lits.now c.collect_distinct.new.ctx.tmp_data.lits.items →
+    Loaded (g.P.ProofTracer.in_order c.args.proof.now)
+    (λ lines. TakesLines g.P.ProofTracer.takes c.args.proof.now lines c.trace_satisfied.new.proof) c.args.ctx.now (ordered g c) c.args.lits.now
 satisfied g c d =
     let found = c.if-is_satisfied.ensures.0 refl in
     let lits = c.collect_distinct.new.ctx.tmp_data.lits.items in
@@ -101,14 +138,34 @@ satisfied g c d =
     (λ n. loaded-satisfied d in_order are (e.unit (subst (λ ys. length ys < 2) (sym value) n)) found.0 i found.2 n)
     (λ n.
     let f = e.longer (subst (λ ys. 2 ≤ length ys) (sym value) n) in
-    loaded-deleted d in_order are found.0 i found.2 (λ t. let b = c.in_ok-collect_distinct.ensures.tautology.1 t in absurd cc) n c.trace_satisfied.new.lits (subst (λ ys. IsPermutation ys c.trace_satisfied.new.lits) value f.0) f.1 f.2)
+    loaded-deleted d in_order are found.0 i found.2 (λ t. let b = c.in_ok-collect_distinct.ensures.tautology.1 t in absurd cc) n
+    c.trace_satisfied.new.lits (subst (λ ys. IsPermutation ys c.trace_satisfied.new.lits) value f.0) f.1 f.2)
     (cases_lt (length lits) 2)
 
 pub returns-then-is_satisfied : goal.returns-then-is_satisfied
 returns-then-is_satisfied g c =
     let d = loading-other (ordered g c).tmp_data (loading g (goal.at.returns-then-is_satisfied g c).In_ok-collect_distinct) in
     let o = satisfied g c d in
-    record { full = tt; broken = tt; ready = o.ready; unsat = λ e. absurd (c.in_default.not-Unsat e); lines = o.lines; verdict = o.kept_verdict; assumptions = λ n. o.assumptions; last = λ n. o.last; state = λ n. o.state; count = o.count; units = o.units; undecided = λ n. o.undecided; decidable = o.decidable; decay = o.decay; schedule = o.schedule; single = λ l e. loaded-none d l e }
+    record {
+      full = tt;
+      broken = tt;
+      ready = o.ready;
+      unsat = λ e. absurd (c.in_default.not-Unsat e);
+      lines = o.lines;
+      verdict =
+          o.kept_verdict;
+      assumptions = λ n. o.assumptions;
+      last = λ n. o.last;
+      state = λ n. o.state;
+      count = o.count;
+      units = o.units;
+      undecided =
+          λ n. o.undecided;
+      decidable = o.decidable;
+      decay = o.decay;
+      schedule = o.schedule;
+      single = λ l e. loaded-none d l e;
+    }
 
 pub add_distinct-requires : goal.add_distinct-requires
 add_distinct-requires g c =
@@ -128,8 +185,32 @@ returns g c =
     let e = c.in_ok-add_distinct.ensures in
     let k = c.add_distinct.ensures.kept in
     let p = c.args.proof.now in
-    let o = loaded-added (loading g (goal.at.returns g c).In_ok-collect_distinct) (g.P.ProofTracer.in_order p) (λ lines. TakesLines g.P.ProofTracer.takes p lines p) (g.met.P.ProofTracer.takes_none p) (λ l i t. let b = c.if-is_satisfied.ensures.1 (l, subst (λ ys. l ∈ ys) (sym c.deref.ensures.value) i, t) in absurd cc) c.add_distinct.new.ctx k e.propagated e.tracks e.state e.units e.last e.added in
-    record { full = tt; broken = tt; ready = o.ready; unsat = λ e. absurd (c.in_default.not-Unsat e); lines = o.lines; verdict = o.kept_verdict; assumptions = λ n. o.assumptions; last = λ n. o.last; state = λ n. o.state; count = o.count; units = o.units; undecided = λ n. o.undecided; decidable = o.decidable; decay = o.decay; schedule = o.schedule; single = λ l i. loaded-one (loading g (goal.at.returns g c).In_ok-collect_distinct) l i c.add_distinct.new.ctx c.collect_distinct.new.ctx.solver_state.sat_state c.add_distinct.new.ctx.solver_state.sat_state e.added }
+    let o = loaded-added (loading g (goal.at.returns g c).In_ok-collect_distinct) (g.P.ProofTracer.in_order p)
+    (λ lines. TakesLines g.P.ProofTracer.takes p lines p) (g.met.P.ProofTracer.takes_none p)
+    (λ l i t. let b = c.if-is_satisfied.ensures.1 (l, subst (λ ys. l ∈ ys) (sym c.deref.ensures.value) i, t) in absurd cc)
+    c.add_distinct.new.ctx k e.propagated e.tracks e.state e.units e.last e.added in
+    record {
+      full = tt;
+      broken = tt;
+      ready = o.ready;
+      unsat = λ e. absurd (c.in_default.not-Unsat e);
+      lines = o.lines;
+      verdict =
+          o.kept_verdict;
+      assumptions = λ n. o.assumptions;
+      last = λ n. o.last;
+      state = λ n. o.state;
+      count = o.count;
+      units = o.units;
+      undecided =
+          λ n. o.undecided;
+      decidable = o.decidable;
+      decay = o.decay;
+      schedule = o.schedule;
+      single =
+          λ l i. loaded-one (loading g (goal.at.returns g c).In_ok-collect_distinct) l i c.add_distinct.new.ctx
+          c.collect_distinct.new.ctx.solver_state.sat_state c.add_distinct.new.ctx.solver_state.sat_state e.added;
+    }
 
 pub returns-in_err-add_distinct-clause-full : goal.returns-in_err-add_distinct-clause-full
 returns-in_err-add_distinct-clause-full g c =
@@ -138,7 +219,8 @@ returns-in_err-add_distinct-clause-full g c =
     let z = c.add_distinct.new.ctx in
     full-told c.from_residual-in_err-add_distinct.result c.in_err-add_distinct.field-0.0 z c.from_residual-in_err-add_distinct.ensures (λ h.
     let (room, same) = c.in_err-add_distinct.ensures.full h in
-    let short = clause-short x.tmp_data.lits.items (length x.assignment.current) d.distinct (λ t. let b = c.in_ok-collect_distinct.ensures.tautology.1 t in absurd cc) (loading-inside d) in
+    let short = clause-short x.tmp_data.lits.items (length x.assignment.current) d.distinct
+    (λ t. let b = c.in_ok-collect_distinct.ensures.tautology.1 t in absurd cc) (loading-inside d) in
     let count = ap length same in
     omega (arith, room, short, count))
 
@@ -149,10 +231,12 @@ returns-in_err-collect_distinct-clause-broken g c =
 
 pub returns-in_err-trace_satisfied-clause-broken : goal.returns-in_err-trace_satisfied-clause-broken
 returns-in_err-trace_satisfied-clause-broken g c =
-    trace-broken g.P.ProofTracer.breaks_off c.args.proof.now c.trace_satisfied.new.proof c.from_residual-in_err-trace_satisfied.result c.in_err-trace_satisfied.field-0.0 c.from_residual-in_err-trace_satisfied.ensures
+    trace-broken g.P.ProofTracer.breaks_off c.args.proof.now c.trace_satisfied.new.proof c.from_residual-in_err-trace_satisfied.result
+    c.in_err-trace_satisfied.field-0.0 c.from_residual-in_err-trace_satisfied.ensures
     c.in_err-trace_satisfied.ensures.broken
 
 pub returns-in_err-add_distinct-clause-broken : goal.returns-in_err-add_distinct-clause-broken
 returns-in_err-add_distinct-clause-broken g c =
-    store-broken g.P.ProofTracer.breaks_off c.args.proof.now c.args.proof.now c.from_residual-in_err-add_distinct.result c.in_err-add_distinct.field-0.0 c.from_residual-in_err-add_distinct.ensures
+    store-broken g.P.ProofTracer.breaks_off c.args.proof.now c.args.proof.now c.from_residual-in_err-add_distinct.result
+    c.in_err-add_distinct.field-0.0 c.from_residual-in_err-add_distinct.ensures
     (breaks-not g.P.ProofTracer.breaks_off g.met.P.ProofTracer.breaks_none c.args.proof.now)

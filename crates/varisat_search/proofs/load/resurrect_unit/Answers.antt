@@ -20,9 +20,11 @@ loaded g c =
     let e = c.in-Ok.ensures in
     let n = c.in_default.not-Unsat in
     let p = unit-loads _ _ (search_of (view x)) (search_of (view z)) c.args.lit (loaded_outcome z.solver_state.sat_state) (e.lines n) in
-    let v = unit-verdict (search_of (view x)) (search_of (view z)) c.args.lit (reopened_state x.solver_state.sat_state) z.solver_state.sat_state c.requires.unopposed p e.verdict in
+    let v = unit-verdict (search_of (view x)) (search_of (view z)) c.args.lit
+    (reopened_state x.solver_state.sat_state) z.solver_state.sat_state c.requires.unopposed p e.verdict in
     record {
-      lines = unit-lines (search_of (view x)) (search_of (view z)) c.args.lit (reopened_state x.solver_state.sat_state) z.solver_state.sat_state c.requires.unopposed p e.verdict;
+      lines = unit-lines (search_of (view x)) (search_of (view z)) c.args.lit
+          (reopened_state x.solver_state.sat_state) z.solver_state.sat_state c.requires.unopposed p e.verdict;
       state = e.state n ∙ ap (λ (b : SatState). record x.solver_state { sat_state = b; formula_is_empty = false }) v;
       assumptions = e.assumptions n;
       decidable = e.decidable;
@@ -49,7 +51,8 @@ returns-then-eq g c =
     let e = c.in-Ok.ensures in
     let k = c.skip_unmentioned.ensures.kept in
     let u = e.single c.args.lit refl in
-    let b = subst (λ y. HoldsUnitAgain x y c.args.lit) (sym k) (skipped-back x c.load_clause.new.ctx c.args.lit (loaded g (goal.at.returns-then-eq g c).After-queue_head)) in
+    let b = subst (λ y. HoldsUnitAgain x y c.args.lit) (sym k)
+    (skipped-back x c.load_clause.new.ctx c.args.lit (loaded g (goal.at.returns-then-eq g c).After-queue_head)) in
     record {
       ready = c.skip_unmentioned.ensures.ready;
       unsat = λ s. absurd (c.in_default.not-Unsat s);
@@ -58,7 +61,9 @@ returns-then-eq g c =
       assumptions = λ n. b.assumptions;
       decidable = b.decidable;
       count = b.count;
-      quiet = λ n none all. subst (λ (y : Context g.row.A.Denot). y.trail.queue_head ≡ length y.trail.literals) (sym k) (next-quiet x.trail.literals c.load_clause.new.ctx.trail.literals x.trail.queue_head c.load_clause.new.ctx.trail.queue_head c.args.lit (u.trail none) (u.head none) all (sym c.queue_head.ensures ∙ is-literal c.queue_head.result c.args.lit (sym c.if-eq.ensures)));
+      quiet = λ n none all. subst (λ (y : Context g.row.A.Denot). y.trail.queue_head ≡ length y.trail.literals) (sym k)
+          (next-quiet x.trail.literals c.load_clause.new.ctx.trail.literals x.trail.queue_head c.load_clause.new.ctx.trail.queue_head c.args.lit
+          (u.trail none) (u.head none) all (sym c.queue_head.ensures ∙ is-literal c.queue_head.result c.args.lit (sym c.if-eq.ensures)));
       schedule = b.schedule;
     }
 
@@ -76,6 +81,8 @@ returns-else-eq g c =
       assumptions = λ n. b.assumptions;
       decidable = b.decidable;
       count = b.count;
-      quiet = λ n none all. none-quiet x.trail.literals c.load_clause.new.ctx.trail.literals x.trail.queue_head c.load_clause.new.ctx.trail.queue_head c.args.lit (u.trail none) (u.head none) all (λ h. let a : false ≡ true = c.if-eq.ensures ∙ literal-is c.queue_head.result c.args.lit (c.queue_head.ensures ∙ h) in cc);
+      quiet = λ n none all. none-quiet x.trail.literals c.load_clause.new.ctx.trail.literals x.trail.queue_head
+          c.load_clause.new.ctx.trail.queue_head c.args.lit (u.trail none) (u.head none) all
+          (λ h. let a : false ≡ true = c.if-eq.ensures ∙ literal-is c.queue_head.result c.args.lit (c.queue_head.ensures ∙ h) in cc);
       schedule = b.schedule;
     }

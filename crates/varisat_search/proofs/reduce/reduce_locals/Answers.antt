@@ -23,17 +23,24 @@ use Rattle.varisat_search.proofs.reduce.reduce_locals.Goals as goal
 use Rattle.varisat_trace.specs.Traces.{TakesLines}
 
 pub mark_reasons-requires : goal.mark_reasons-requires
-mark_reasons-requires g c = record { sound = c.requires.ready.tracks.sound; values = first-known (view c.args.ctx.now) c.requires.ready.well; nodes = c.requires.ready.well.nodes_are }
+mark_reasons-requires g c = record {
+  sound = c.requires.ready.tracks.sound;
+  values =
+      first-known (view c.args.ctx.now) c.requires.ready.well;
+  nodes = c.requires.ready.well.nodes_are;
+}
 
 pub trace_deletions-requires : goal.trace_deletions-requires
 trace_deletions-requires g c =
     let x = c.args.ctx.now in
     let marked = c.mark_reasons.new.clause_alloc in
-    let l : ListsTier Local (stored_clauses marked) c.deref.result.now = subst (ListsTier Local (stored_clauses marked)) (sym c.deref.ensures.value) c.in_ok-locals.ensures.listed in
+    let l : ListsTier Local (stored_clauses marked) c.deref.result.now =
+    subst (ListsTier Local (stored_clauses marked)) (sym c.deref.ensures.value) c.in_ok-locals.ensures.listed in
     record {
       sound = c.mark_reasons.ensures.marked.sound;
       listed = l.known;
-      able = can_take (g.P.ProofTracer.holds c.args.proof.now) 0 (search_of (view x)) _ (unmarked_deletions (stored_clauses marked) (c.len-count.result / 2) c.deref.result.now) c.requires.holds
+      able = can_take (g.P.ProofTracer.holds c.args.proof.now) 0 (search_of (view x)) _
+          (unmarked_deletions (stored_clauses marked) (c.len-count.result / 2) c.deref.result.now) c.requires.holds
           (locals-go (view x) x.clause_alloc marked c.deref.result.now (c.len-count.result / 2) c.requires.ready.well refl c.mark_reasons.ensures.marked l);
     }
 
@@ -54,7 +61,9 @@ reduces g c =
       order = c.deref-2.result.now;
       listed = subst (ListsTier Local (stored_clauses marked)) (sym c.deref-2.ensures.value) c.in_ok-locals.ensures.listed;
       ranked = subst (AreRanked (stored_clauses marked)) (sym c.deref-2.ensures.value) c.in_ok-locals.ensures.ranked;
-      deleted = subst (λ (m : ℕ). HoldsClauses c.delete_unmarked.new.alloc (length marked.words) (all_deleted (unmarked_places (stored_clauses marked) (m / 2) c.deref-2.result.now) (stored_clauses marked))) (count-is g c) c.delete_unmarked.ensures.deleted;
+      deleted = subst (λ (m : ℕ). HoldsClauses c.delete_unmarked.new.alloc (length marked.words)
+          (all_deleted (unmarked_places (stored_clauses marked) (m / 2) c.deref-2.result.now) (stored_clauses marked)))
+          (count-is g c) c.delete_unmarked.ensures.deleted;
     }
 
 abbrev after : (g : Over) (c : After-delete_unmarked g) → Context g.row.A.Denot
@@ -63,7 +72,8 @@ after g c = record c.args.ctx.now { clause_alloc = c.delete_unmarked.new.alloc; 
 abbrev discards : (g : Over) (c : After-delete_unmarked g) → Discards (view c.args.ctx.now) (view (after g c))
 discards g c =
     let x = c.args.ctx.now in
-    reduces-discards (view x) x.clause_alloc c.mark_reasons.new.clause_alloc c.delete_unmarked.new.alloc c.requires.ready.well c.requires.ready.tracks.sound refl c.mark_reasons.ensures.marked (reduces g c) (view (after g c)) refl
+    reduces-discards (view x) x.clause_alloc c.mark_reasons.new.clause_alloc c.delete_unmarked.new.alloc c.requires.ready.well
+    c.requires.ready.tracks.sound refl c.mark_reasons.ensures.marked (reduces g c) (view (after g c)) refl
     (store-view x (after g c) c.requires.ready.tracks.sound c.delete_unmarked.ensures.tracks.sound refl)
 
 -- the view does not read the watch lists
@@ -82,12 +92,24 @@ returns-clause-keeps g c =
     ap (λ n. deletions n c.deref.result.now) (count-is g here) ∙ ap (deletions (length order)) (c.deref.ensures.value ∙ sym c.deref-2.ensures.value) in
     let d = c.disable.ensures in
     let sound = c.requires.ready.tracks.sound in
-    let drops : DropsLocals (deletions (length order) order) x (last g end) = record { marked = marked; marks = c.mark_reasons.ensures.marked; reduces = reduces g here; deletes = refl; discards = discards g here } in
-    let gone = reduces-gone (view x) x.clause_alloc marked c.delete_unmarked.new.alloc c.requires.ready.well sound refl c.mark_reasons.ensures.marked (reduces g here) (view (after g here)) refl (store-view x (after g here) sound c.delete_unmarked.ensures.tracks.sound refl) in
-    let proves = locals-prove (view x) (view (after g here)) x.clause_alloc marked c.delete_unmarked.new.alloc c.requires.ready.well sound refl c.mark_reasons.ensures.marked (reduces g here) (discards g here) gone in
-    discards-keep x (last g end) (discards-ready x (last g end) c.requires.ready (discards g here) c.delete_unmarked.ensures.tracks d.count d.empty d.enabled refl) refl
-    (λ lines. DropsLocals lines x (last g end) × TakesLines g.P.ProofTracer.takes c.args.proof.now lines c.trace_deletions.new.proof) (discards g here)
-    (deletions (length order) order, proves, (drops, subst (λ (ls : List Line). TakesLines g.P.ProofTracer.takes c.args.proof.now ls c.trace_deletions.new.proof) whole (c.in_ok-trace_deletions.ensures {u = tt})))
+    let drops : DropsLocals (deletions (length order) order) x (last g end) =
+    record { marked = marked; marks = c.mark_reasons.ensures.marked; reduces = reduces g here; deletes = refl; discards = discards g here } in
+    let gone = reduces-gone (view x) x.clause_alloc marked c.delete_unmarked.new.alloc c.requires.ready.well sound refl
+    c.mark_reasons.ensures.marked (reduces g here) (view (after g here)) refl
+    (store-view x (after g here) sound c.delete_unmarked.ensures.tracks.sound refl) in
+    let proves = locals-prove (view x) (view (after g here)) x.clause_alloc marked c.delete_unmarked.new.alloc c.requires.ready.well sound refl
+    c.mark_reasons.ensures.marked (reduces g here) (discards g here) gone in
+    discards-keep x (last g end) (discards-ready x (last g end) c.requires.ready
+    (discards g here) c.delete_unmarked.ensures.tracks d.count d.empty d.enabled refl) refl
+    (λ lines. DropsLocals lines x (last g end) × TakesLines g.P.ProofTracer.takes c.args.proof.now lines c.trace_deletions.new.proof) (discards g here) (
+      deletions (length order) order,
+      proves,
+      (
+        drops,
+        subst (λ (ls : List Line). TakesLines g.P.ProofTracer.takes c.args.proof.now ls c.trace_deletions.new.proof) whole
+            (c.in_ok-trace_deletions.ensures {u = tt}),
+      ),
+    )
 
 pub returns-in_err-locals-clause-broken : goal.returns-in_err-locals-clause-broken
 returns-in_err-locals-clause-broken g c =
@@ -96,5 +118,6 @@ returns-in_err-locals-clause-broken g c =
 
 pub returns-in_err-trace_deletions-clause-broken : goal.returns-in_err-trace_deletions-clause-broken
 returns-in_err-trace_deletions-clause-broken g c =
-    error-broken g.P.ProofTracer.breaks_off c.args.proof.now c.trace_deletions.new.proof c.from_residual-in_err-trace_deletions.result c.in_err-trace_deletions.field-0.0 c.from_residual-in_err-trace_deletions.ensures
+    error-broken g.P.ProofTracer.breaks_off c.args.proof.now c.trace_deletions.new.proof c.from_residual-in_err-trace_deletions.result
+    c.in_err-trace_deletions.field-0.0 c.from_residual-in_err-trace_deletions.ensures
     (c.in_err-trace_deletions.ensures {u = tt})

@@ -17,7 +17,8 @@ begun : (g : Over) (c : After-restart_if_due g) → HoldsFor (g.P.ProofTracer.ho
 begun g c =
     let x = c.args.ctx.now in
     holds_still (g.P.ProofTracer.holds c.args.proof.now) 0 (search_of (view x)) (search_of (view c.restart_if_due.new.ctx)) c.requires.holds
-    (begun-view x.schedule x.assumptions.levels (view x) (view c.restart_if_due.new.ctx) c.requires.ready.well c.requires.ready.settled c.restart_if_due.ensures.restarted).proves
+    (begun-view x.schedule x.assumptions.levels (view x) (view c.restart_if_due.new.ctx) c.requires.ready.well c.requires.ready.settled
+    c.restart_if_due.ensures.restarted).proves
 
 pub reduce_if_due-requires-clause-holds : goal.reduce_if_due-requires-clause-holds
 reduce_if_due-requires-clause-holds g c = begun g (goal.at.reduce_if_due-requires-clause-holds g c).After-restart_if_due
@@ -31,7 +32,8 @@ returns-clause-begins g c =
       begun = t;
       restarts = c.restart_if_due.ensures.restarted;
       saves = c.restart_if_due.ensures.saved;
-      begins = e ∙ ap (λ (p : Plan). record x { assignment = t.assignment; trail = t.trail; vsids = t.vsids; schedule = p }) (sym (ap (λ (y : Context g.row.A.Denot). y.schedule) e));
+      begins = e ∙ ap (λ (p : Plan). record x { assignment = t.assignment; trail = t.trail; vsids = t.vsids; schedule = p })
+          (sym (ap (λ (y : Context g.row.A.Denot). y.schedule) e));
       decidable = c.restart_if_due.ensures.decidable;
       units = c.restart_if_due.ensures.units;
       decay = c.restart_if_due.ensures.decay;
@@ -42,9 +44,12 @@ returns-clause-begins g c =
 pub returns-clause-holds : goal.returns-clause-holds
 returns-clause-holds g c =
     let (lines, p, (r, t)) = c.in_ok-reduce_if_due.ensures.keeps.proves in
-    holds_on g.P.ProofTracer.holds g.P.ProofTracer.takes g.met.P.ProofTracer.holds_after c.args.proof.now c.reduce_if_due.new.proof 0 (search_of (view c.restart_if_due.new.ctx)) (search_of (view c.reduce_if_due.new.ctx)) lines (begun g (goal.at.returns-clause-holds g c).After-restart_if_due) p t
+    holds_on g.P.ProofTracer.holds g.P.ProofTracer.takes g.met.P.ProofTracer.holds_after c.args.proof.now c.reduce_if_due.new.proof 0
+    (search_of (view c.restart_if_due.new.ctx)) (search_of (view c.reduce_if_due.new.ctx)) lines
+    (begun g (goal.at.returns-clause-holds g c).After-restart_if_due) p t
 
 pub returns-in_err-reduce_if_due-clause-broken : goal.returns-in_err-reduce_if_due-clause-broken
 returns-in_err-reduce_if_due-clause-broken g c =
-    error-broken g.P.ProofTracer.breaks_off c.args.proof.now c.reduce_if_due.new.proof c.from_residual.result c.in_err-reduce_if_due.field-0.0 c.from_residual.ensures
+    error-broken g.P.ProofTracer.breaks_off c.args.proof.now c.reduce_if_due.new.proof c.from_residual.result c.in_err-reduce_if_due.field-0.0
+    c.from_residual.ensures
     c.in_err-reduce_if_due.ensures.broken

@@ -17,7 +17,8 @@ nothing P first more h e = subst P (sym (ap (λ xs. first ++ xs) e ∙ append-ni
 
 -- the lines are those of the reductions, and were taken
 abbrev are : (g : Over) (c : In_ok-collect_garbage g) → List Line → Type 0
-are g c lines = ReducesIfDue lines c.args.ctx.now c.collect_garbage.new.ctx × TakesLines g.P.ProofTracer.takes c.args.proof.now lines c.reduce_locals_if_due.new.proof
+are g c lines = ReducesIfDue lines c.args.ctx.now c.collect_garbage.new.ctx
+    × TakesLines g.P.ProofTracer.takes c.args.proof.now lines c.reduce_locals_if_due.new.proof
 
 pub returns-clause-keeps : goal.returns-clause-keeps
 returns-clause-keeps g c =
@@ -29,7 +30,17 @@ returns-clause-keeps g c =
     let r = c.in_ok-reduce_mids_if_due.ensures.keeps.ready in
     let none : List Line → Type 0 = λ lines. lines ≡ [] in
     keeps-trans c.args.ctx.now l z _ none (are g h)
-    (λ first more (i, t) j. nothing (are g h) first more (record { after_locals = l; after_mids = m; locals = i; mids = c.in_ok-reduce_mids_if_due.ensures.reduces; collected = record { collected = e.collected; repacks = e.repacks; stays = e.stays } }, t) j)
+    (λ first more (i, t) j. nothing (are g h) first more (
+      record {
+        after_locals = l;
+        after_mids = m;
+        locals = i;
+        mids = c.in_ok-reduce_mids_if_due.ensures.reduces;
+        collected =
+            record { collected = e.collected; repacks = e.repacks; stays = e.stays };
+      },
+      t,
+    ) j)
     c.in_ok-reduce_locals_if_due.ensures.keeps
     (keeps-trans l m z none none none (λ first more i j. nothing none first more i j) c.in_ok-reduce_mids_if_due.ensures.keeps (⊎_elim
     (λ h. repacks-keep m z e.ready (ap (λ (x : Context g.row.A.Denot). x.vsids) c.collect_garbage.ensures.kept) r (e.repacks h))
@@ -38,17 +49,22 @@ returns-clause-keeps g c =
 
 pub returns-in_err-reduce_locals_if_due-clause-broken : goal.returns-in_err-reduce_locals_if_due-clause-broken
 returns-in_err-reduce_locals_if_due-clause-broken g c =
-    error-broken g.P.ProofTracer.breaks_off c.args.proof.now c.reduce_locals_if_due.new.proof c.from_residual.result c.in_err-reduce_locals_if_due.field-0.0 c.from_residual.ensures
+    error-broken g.P.ProofTracer.breaks_off c.args.proof.now c.reduce_locals_if_due.new.proof c.from_residual.result
+    c.in_err-reduce_locals_if_due.field-0.0 c.from_residual.ensures
     c.in_err-reduce_locals_if_due.ensures.broken
 
 pub returns-in_err-reduce_mids_if_due-clause-broken : goal.returns-in_err-reduce_mids_if_due-clause-broken
 returns-in_err-reduce_mids_if_due-clause-broken g c =
     let (lines, p, (r, t)) = c.in_ok-reduce_locals_if_due.ensures.keeps.proves in
-    error-broken g.P.ProofTracer.breaks_off c.args.proof.now c.reduce_locals_if_due.new.proof c.from_residual-in_err-reduce_mids_if_due.result Memory c.from_residual-in_err-reduce_mids_if_due.ensures
-    (breaks-on g.P.ProofTracer.takes g.P.ProofTracer.breaks_off g.met.P.ProofTracer.breaks_behind t (breaks-not g.P.ProofTracer.breaks_off g.met.P.ProofTracer.breaks_none c.reduce_locals_if_due.new.proof))
+    error-broken g.P.ProofTracer.breaks_off c.args.proof.now c.reduce_locals_if_due.new.proof c.from_residual-in_err-reduce_mids_if_due.result
+    Memory c.from_residual-in_err-reduce_mids_if_due.ensures
+    (breaks-on g.P.ProofTracer.takes g.P.ProofTracer.breaks_off g.met.P.ProofTracer.breaks_behind t
+    (breaks-not g.P.ProofTracer.breaks_off g.met.P.ProofTracer.breaks_none c.reduce_locals_if_due.new.proof))
 
 pub returns-in_err-collect_garbage-clause-broken : goal.returns-in_err-collect_garbage-clause-broken
 returns-in_err-collect_garbage-clause-broken g c =
     let (lines, p, (r, t)) = c.in_ok-reduce_locals_if_due.ensures.keeps.proves in
-    error-broken g.P.ProofTracer.breaks_off c.args.proof.now c.reduce_locals_if_due.new.proof c.from_residual-in_err-collect_garbage.result Memory c.from_residual-in_err-collect_garbage.ensures
-    (breaks-on g.P.ProofTracer.takes g.P.ProofTracer.breaks_off g.met.P.ProofTracer.breaks_behind t (breaks-not g.P.ProofTracer.breaks_off g.met.P.ProofTracer.breaks_none c.reduce_locals_if_due.new.proof))
+    error-broken g.P.ProofTracer.breaks_off c.args.proof.now c.reduce_locals_if_due.new.proof c.from_residual-in_err-collect_garbage.result Memory
+    c.from_residual-in_err-collect_garbage.ensures
+    (breaks-on g.P.ProofTracer.takes g.P.ProofTracer.breaks_off g.met.P.ProofTracer.breaks_behind t
+    (breaks-not g.P.ProofTracer.breaks_off g.met.P.ProofTracer.breaks_none c.reduce_locals_if_due.new.proof))

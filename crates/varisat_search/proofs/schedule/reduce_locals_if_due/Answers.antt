@@ -15,10 +15,13 @@ returns-in_ok-reduce_locals-clause-keeps g c =
 pub returns-else-steps-reduce_locals_interval-eq0-clause-keeps : goal.returns-else-steps-reduce_locals_interval-eq0-clause-keeps
 returns-else-steps-reduce_locals_interval-eq0-clause-keeps g c =
     let x = c.args.ctx.now in
-    keeps-none x x (λ lines. ReducesLocalsIfDue lines x x × TakesLines g.P.ProofTracer.takes c.args.proof.now lines c.args.proof.now)
-    (record { drops = λ due. absurd (c.if-steps-reduce_locals_interval-eq0.false cc); stays = λ other. (refl, refl) }, g.met.P.ProofTracer.takes_none c.args.proof.now) (keeps-refl x c.requires.ready)
+    keeps-none x x (λ lines. ReducesLocalsIfDue lines x x × TakesLines g.P.ProofTracer.takes c.args.proof.now lines c.args.proof.now) (
+      record { drops = λ due. absurd (c.if-steps-reduce_locals_interval-eq0.false cc); stays = λ other. (refl, refl) },
+      g.met.P.ProofTracer.takes_none c.args.proof.now,
+    ) (keeps-refl x c.requires.ready)
 
 pub returns-in_err-reduce_locals-clause-broken : goal.returns-in_err-reduce_locals-clause-broken
 returns-in_err-reduce_locals-clause-broken g c =
-    error-broken g.P.ProofTracer.breaks_off c.args.proof.now c.reduce_locals.new.proof c.from_residual.result c.in_err-reduce_locals.field-0.0 c.from_residual.ensures
+    error-broken g.P.ProofTracer.breaks_off c.args.proof.now c.reduce_locals.new.proof c.from_residual.result c.in_err-reduce_locals.field-0.0
+    c.from_residual.ensures
     c.in_err-reduce_locals.ensures.broken

@@ -9,7 +9,8 @@ use Rattle.varisat_search.proofs.schedule.restart_if_due.Given.{Over}
 use Rattle.varisat_search.proofs.schedule.restart_if_due.Goals.{After-restart}
 use Rattle.varisat_search.proofs.schedule.restart_if_due.Goals as goal
 
-restarts : (g : Over) (c : After-restart g) → RestartsIfDue c.args.ctx.now.schedule c.args.ctx.now.assumptions.levels (view c.args.ctx.now) (view c.restart.new.ctx)
+restarts : (g : Over) (c : After-restart g) → RestartsIfDue c.args.ctx.now.schedule c.args.ctx.now.assumptions.levels (view c.args.ctx.now)
+    (view c.restart.new.ctx)
 restarts g c = record {
   stays = λ n. absurd (n (c.begin_step.ensures.due.0 c.if-not-begin_step.false));
   undecided = λ e. ap (λ (x : Context g.row.A.Denot). view x) (c.restart.ensures.same e);
@@ -32,7 +33,8 @@ returns-clause-ready g c =
     let x = c.args.ctx.now in
     let y = before g (goal.at.returns-clause-ready g c).After-restart in
     let r = c.requires.ready in
-    backtracked-ready x.assumptions.levels y c.restart.new.ctx (ready-with x y r refl refl refl r.propagated r.decidable r.assumed r.assumable) c.restart.ensures
+    backtracked-ready x.assumptions.levels y c.restart.new.ctx (ready-with x y r refl refl refl r.propagated r.decidable r.assumed r.assumable)
+    c.restart.ensures
 
 pub returns-clause-saved : goal.returns-clause-saved
 returns-clause-saved g c = record {
@@ -44,5 +46,14 @@ pub returns-clause-kept : goal.returns-clause-kept
 returns-clause-kept g c =
     let here = (goal.at.returns-clause-kept g c).After-restart in
     c.restart.ensures.kept
-    ∙ ap (λ a. record c.args.ctx.now { assignment = c.restart.new.ctx.assignment; assumptions = a; trail = c.restart.new.ctx.trail; vsids = c.restart.new.ctx.vsids; schedule = c.begin_step.new.self }) (assumptions-stay g here)
-    ∙ ap (λ p. record c.args.ctx.now { assignment = c.restart.new.ctx.assignment; trail = c.restart.new.ctx.trail; vsids = c.restart.new.ctx.vsids; schedule = p }) (c.begin_step.ensures.plan ∙ ap (λ n. step_begun n c.args.ctx.now.schedule) c.luby_restart_interval_scale-scale.ensures.value)
+    ∙ ap (λ a. record c.args.ctx.now {
+      assignment = c.restart.new.ctx.assignment;
+      assumptions = a;
+      trail = c.restart.new.ctx.trail;
+      vsids = c.restart.new.ctx.vsids;
+      schedule =
+          c.begin_step.new.self;
+    }) (assumptions-stay g here)
+    ∙ ap (λ p. record c.args.ctx.now
+    { assignment = c.restart.new.ctx.assignment; trail = c.restart.new.ctx.trail; vsids = c.restart.new.ctx.vsids; schedule = p })
+    (c.begin_step.ensures.plan ∙ ap (λ n. step_begun n c.args.ctx.now.schedule) c.luby_restart_interval_scale-scale.ensures.value)

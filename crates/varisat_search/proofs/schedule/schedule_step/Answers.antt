@@ -19,7 +19,8 @@ use Rattle.varisat_search.proofs.ScheduledSteps.{scheduled-steps, scheduled-rise
 use Rattle.varisat_search.proofs.schedule.schedule_step.Goals as goal
 
 -- the schedule's count is no part of how the units were settled
-counted : {A : Type 0} {lines : List Line} {x z : Context A} {plan : Plan} → SettlesThenSteps lines x z → SettlesThenSteps lines x (record z { schedule = plan })
+counted : {A : Type 0} {lines : List Line} {x z : Context A} {plan : Plan} → SettlesThenSteps lines x z →
+    SettlesThenSteps lines x (record z { schedule = plan })
 counted d = record { settled = d.settled; end = d.end; first = d.first; rest = d.rest; parts = d.parts; settles = d.settles; steps = d.steps }
 
 pub returns-clause-steps : goal.returns-clause-steps
@@ -36,12 +37,26 @@ returns-clause-steps g c =
     let v = outcome_at z in
     let m = made-with u z (λ lines. SettlesFirst lines u z × TakesStep takes p1 lines v p2) c.in_ok-conflict_step.ensures.made in
     scheduled-steps x t u c.requires.ready b.restarts
-    (keeps-are (λ lines. Proves 0 (search_of (view t)) (search_of (view u)) lines × (ReducesIfDue lines t u × TakesLines takes p0 lines p1)) (λ lines p i. (p, i)) b.reduces)
+    (keeps-are (λ lines. Proves 0 (search_of (view t)) (search_of (view u)) lines × (ReducesIfDue lines t u × TakesLines takes p0 lines p1))
+    (λ lines p i. (p, i)) b.reduces)
     (view z) v
     (λ lines. Steps (search_of (view u)) (search_of (view z)) v lines × (SettlesFirst lines u z × TakesStep takes p1 lines v p2))
     (λ lines. GoesBySchedule lines x (record z { schedule = c.end_step.new.self }) × TakesStep takes p0 lines v p2)
     (λ first more (d, (r, i)) (p, (s, j)). (
-      record { begun = t; reduced = u; restarts = b.restarts; begins = b.begins; first = first; rest = more; parts = refl; reduces = r; deletes = d; settles = λ h. counted (s h); steps = (more, p, refl) },
+      record {
+        begun = t;
+        reduced = u;
+        restarts = b.restarts;
+        begins = b.begins;
+        first = first;
+        rest = more;
+        parts = refl;
+        reduces = r;
+        deletes =
+            d;
+        settles = λ h. counted (s h);
+        steps = (more, p, refl);
+      },
       step-more takes g.met.P.ProofTracer.takes_more p0 p1 p2 first more v i j,
     ))
     m.steps
@@ -49,12 +64,14 @@ returns-clause-steps g c =
 pub returns-clause-rises : goal.returns-clause-rises
 returns-clause-rises g c e =
     let b = c.in_ok-begin_step.ensures.begins in
-    scheduled-rises c.args.ctx.now b.begun c.begin_step.new.ctx c.requires.ready b.restarts b.reduces (view c.conflict_step.new.ctx) (c.in_ok-conflict_step.ensures.made.rises e)
+    scheduled-rises c.args.ctx.now b.begun c.begin_step.new.ctx c.requires.ready b.restarts b.reduces (view c.conflict_step.new.ctx)
+    (c.in_ok-conflict_step.ensures.made.rises e)
 
 pub returns-clause-decidable : goal.returns-clause-decidable
 returns-clause-decidable g c =
     let b = c.in_ok-begin_step.ensures.begins in
-    scheduled-decidable c.args.ctx.now b.begun c.begin_step.new.ctx c.requires.ready b.restarts b.reduces c.conflict_step.new.ctx b.decidable c.in_ok-conflict_step.ensures.made.decidable
+    scheduled-decidable c.args.ctx.now b.begun c.begin_step.new.ctx c.requires.ready b.restarts b.reduces c.conflict_step.new.ctx b.decidable
+    c.in_ok-conflict_step.ensures.made.decidable
 
 pub returns-clause-decay : goal.returns-clause-decay
 returns-clause-decay g c =
@@ -70,7 +87,8 @@ pub returns-clause-last : goal.returns-clause-last
 returns-clause-last g c =
     let b = c.in_ok-begin_step.ensures.begins in
     let same = ap (λ (y : Context g.row.A.Denot). y.assignment.last) b.rest in
-    scheduled-last c.args.ctx.now b.begun c.begin_step.new.ctx c.requires.ready b.restarts b.reduces c.conflict_step.new.ctx.assignment.last b.saves same c.in_ok-conflict_step.ensures.made.last
+    scheduled-last c.args.ctx.now b.begun c.begin_step.new.ctx c.requires.ready b.restarts b.reduces c.conflict_step.new.ctx.assignment.last b.saves
+    same c.in_ok-conflict_step.ensures.made.last
 
 pub returns-clause-core : goal.returns-clause-core
 returns-clause-core g c = c.in_ok-conflict_step.ensures.core
@@ -79,7 +97,8 @@ pub returns-clause-assumes : goal.returns-clause-assumes
 returns-clause-assumes g c =
     let b = c.in_ok-begin_step.ensures.begins in
     let z = c.conflict_step.new.ctx in
-    scheduled-assumes c.args.ctx.now b.begun c.begin_step.new.ctx c.requires.ready b.restarts b.reduces (outcome_at z) z.assumptions (ap (λ (y : Context g.row.A.Denot). y.assumptions) c.begin_step.ensures.kept) c.in_ok-conflict_step.ensures.made.assumes
+    scheduled-assumes c.args.ctx.now b.begun c.begin_step.new.ctx c.requires.ready b.restarts b.reduces (outcome_at z) z.assumptions
+    (ap (λ (y : Context g.row.A.Denot). y.assumptions) c.begin_step.ensures.kept) c.in_ok-conflict_step.ensures.made.assumes
 
 pub returns-in_err-begin_step-clause-broken : goal.returns-in_err-begin_step-clause-broken
 returns-in_err-begin_step-clause-broken g c =
@@ -89,5 +108,6 @@ returns-in_err-begin_step-clause-broken g c =
 pub returns-in_err-conflict_step-clause-broken : goal.returns-in_err-conflict_step-clause-broken
 returns-in_err-conflict_step-clause-broken g c =
     let (lines, p, (r, t)) = c.in_ok-begin_step.ensures.begins.reduces.proves in
-    step-passed g.P.ProofTracer.breaks_off c.args.proof.now c.conflict_step.new.proof c.from_residual-in_err-conflict_step.result c.in_err-conflict_step.field-0.0 c.from_residual-in_err-conflict_step.ensures
+    step-passed g.P.ProofTracer.breaks_off c.args.proof.now c.conflict_step.new.proof c.from_residual-in_err-conflict_step.result
+    c.in_err-conflict_step.field-0.0 c.from_residual-in_err-conflict_step.ensures
     (breaks-on g.P.ProofTracer.takes g.P.ProofTracer.breaks_off g.met.P.ProofTracer.breaks_behind t c.in_err-conflict_step.ensures.broken)

@@ -26,7 +26,8 @@ same g c = ap variable_of c.lit.ensures ∙ variable-literal c.args.solver c.in-
 pub resurrect_unit-requires-clause-unopposed : goal.resurrect_unit-requires-clause-unopposed
 resurrect_unit-requires-clause-unopposed g c h =
     let here = (goal.at.resurrect_unit-requires-clause-unopposed g c).After-lit in
-    c.requires.unmentioned (opposite c.lit.result) (inl (subst (λ (s : Search). opposite c.lit.result ∈ s.fixed) (seen g here) h)) (variable-opposite c.lit.result ∙ same g here)
+    c.requires.unmentioned (opposite c.lit.result) (inl (subst (λ (s : Search). opposite c.lit.result ∈ s.fixed) (seen g here) h))
+    (variable-opposite c.lit.result ∙ same g here)
 
 pub resurrect_unit-requires-clause-unmentioned : goal.resurrect_unit-requires-clause-unmentioned
 resurrect_unit-requires-clause-unmentioned g c d h m i e =

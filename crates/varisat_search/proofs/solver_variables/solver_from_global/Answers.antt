@@ -14,7 +14,8 @@ use Rattle.varisat_search.proofs.solver_variables.solver_from_global.Goals as go
 pub add_variables-requires : goal.add_variables-requires
 add_variables-requires g c =
     let k = c.requires.variables in
-    let s = taken-small c.args.variables.now c.take_solver_var.new.self c.args.global c.in_ok-solver.solver c.prove_linked.ensures k.room k.solvers c.in_ok-solver.ensures.taken in
+    let s = taken-small c.args.variables.now c.take_solver_var.new.self c.args.global c.in_ok-solver.solver c.prove_linked.ensures k.room k.solvers
+    c.in_ok-solver.ensures.taken in
     let w = c.in_ok-solver.ensures.taken.solvers.backward.watermark in
     record { ready = k.ready; raised = omega (arith, k.count, w, c.solver_watermark.ensures); small = omega (arith, s, c.solver_watermark.ensures) }
 
@@ -23,7 +24,8 @@ initialize_solver_var-requires-clause-unmentioned g c l h e =
     let k = c.requires.variables in
     let old = c.args.ctx.now in
     let m = c.args.variables.now in
-    let (y, q) = in-use-all m (view old) old.vsids k.decidable k.ready.decidable k.ready.well l (subst (λ s. IsLiteralOf s l) (c.in_ok-add_variables.ensures {u = tt}).raised.seen h) in
+    let (y, q) = in-use-all m (view old) old.vsids k.decidable k.ready.decidable k.ready.well l
+    (subst (λ s. IsLiteralOf s l) (c.in_ok-add_variables.ensures {u = tt}).raised.seen h) in
     let z : None ≡ Some y = sym c.in_ok-solver.ensures.taken.least.0 ∙ ap (at m.solvers.backward) (sym e) ∙ q in
     cc
 
@@ -44,7 +46,8 @@ returns-clause-variables g c =
       solvers = taken-small m n c.args.global v c.prove_linked.ensures k.room k.solvers t;
       ready = i.ready;
       count = i.count ∙ e.raised.count ∙ c.solver_watermark.ensures;
-      decidable = taken-decidable m n c.args.global v (length old.assignment.current) (view old) old.vsids (view mid) mid.vsids (view new) new.vsids t k.decidable k.count
+      decidable = taken-decidable m n c.args.global v (length old.assignment.current) (view old) old.vsids (view mid) mid.vsids
+          (view new) new.vsids t k.decidable k.count
           (subst (λ j. AddsDecidable (length old.assignment.current) j (view old) old.vsids (view mid) mid.vsids) c.solver_watermark.ensures e.decidable)
           i.decidable i.others;
     }

@@ -32,14 +32,18 @@ loop-lit-preserved g c =
     let k = c.loop-lit.invariant in
     let named = subst (λ u. NameHasSolver u now new v) c.var.ensures (c.in_ok-solver.ensures {u = tt}).solver in
     let t : take (i + 1) list ≡ take i list ++ l ∷ [] = take_more list i l c.loop-lit-test.true ∙ ap (λ x. take i list ++ x ∷ []) (sym c.lit-item.is) in
-    let pushed = c.in_ok-push.ensures.items ∙ ap (λ x. c.loop-lit.solver_lits.items ++ x ∷ []) (c.lit.ensures ∙ ap (literal_of v) (sign-is c.is_positive.result l c.is_positive.ensures)) in
+    let pushed = c.in_ok-push.ensures.items ∙ ap (λ x. c.loop-lit.solver_lits.items ++ x ∷ [])
+    (c.lit.ensures ∙ ap (literal_of v) (sign-is c.is_positive.result l c.is_positive.ensures)) in
     record {
       variables = named.variables;
-      room = room-left (variable_of l) now new v named l (drop (i + 1) list) refl (subst (λ ls. HasRoomFor ls c.loop-lit.variables) (drop-item list i l c.loop-lit-test.true c.lit-item.is) k.room);
+      room = room-left (variable_of l) now new v named l (drop (i + 1) list) refl
+          (subst (λ ls. HasRoomFor ls c.loop-lit.variables) (drop-item list i l c.loop-lit-test.true c.lit-item.is) k.room);
       in_turn = subst (λ ls. HaveSolversInTurn ls old new) (sym t) (in-turn-push (take i list) old now new l v k.in_turn named);
       literals = subst (λ ls. AreOver to-new ls c.push.new.self.items) (sym t)
           (subst (AreOver to-new (take i list ++ l ∷ [])) (sym pushed)
-          (over-push to-new (take i list) c.loop-lit.solver_lits.items l v (over-more to to-new (solver-stays (variable_of l) now new v named) (take i list) c.loop-lit.solver_lits.items k.literals) (solver-here (variable_of l) now new v named)));
+          (over-push to-new (take i list) c.loop-lit.solver_lits.items l v
+          (over-more to to-new (solver-stays (variable_of l) now new v named) (take i list) c.loop-lit.solver_lits.items k.literals)
+          (solver-here (variable_of l) now new v named)));
       schedule = record {
         schedule = c.solver_from_user.ensures.schedule.schedule ∙ k.schedule.schedule;
         solver_config = c.solver_from_user.ensures.schedule.solver_config ∙ k.schedule.solver_config;

@@ -28,58 +28,75 @@ two g c h =
 
 pub add_step-requires : goal.add_step-requires
 add_step-requires g c =
-    let e = lines-satisfied c.args.assignment.now.current c.args.lits.now (satisfied-read c.args.assignment.now.current c.args.lits.now c.args.lits.now refl (c.if-is_satisfied.ensures.0 refl)) in
+    let e = lines-satisfied c.args.assignment.now.current c.args.lits.now
+    (satisfied-read c.args.assignment.now.current c.args.lits.now c.args.lits.now refl (c.if-is_satisfied.ensures.0 refl)) in
     subst (λ (ls : List Line). CanTake (g.P.ProofTracer.holds c.args.proof.now) ls) e c.requires.able
 
 pub returns-then-is_satisfied : goal.returns-then-is_satisfied
 returns-then-is_satisfied g c =
-    let e = lines-satisfied c.args.assignment.now.current c.args.lits.now (satisfied-read c.args.assignment.now.current c.args.lits.now c.args.lits.now refl (c.if-is_satisfied.ensures.0 refl)) in
+    let e = lines-satisfied c.args.assignment.now.current c.args.lits.now
+    (satisfied-read c.args.assignment.now.current c.args.lits.now c.args.lits.now refl (c.if-is_satisfied.ensures.0 refl)) in
     subst (λ (ls : List Line). TakesLines g.P.ProofTracer.takes c.args.proof.now ls c.add_step.new.self) (sym e) (c.in_ok-add_step.ensures {u = tt})
 
 pub add_step-requires-then-len-lits : goal.add_step-requires-then-len-lits
 add_step-requires-then-len-lits g c =
     let here = (goal.at.add_step-requires-then-len-lits g c).After-len in
-    let whole : lines g here ≡ Add c.deref.result.now ∷ Delete c.args.lits.now ∷ [] = two g here c.if-len-lits.true ∙ ap (λ (d : Clause). Add d ∷ Delete c.args.lits.now ∷ []) (sym c.deref.ensures.value) in
+    let whole : lines g here ≡ Add c.deref.result.now ∷ Delete c.args.lits.now ∷ [] = two g here c.if-len-lits.true
+    ∙ ap (λ (d : Clause). Add d ∷ Delete c.args.lits.now ∷ []) (sym c.deref.ensures.value) in
     can_take_first (g.P.ProofTracer.holds c.args.proof.now) (Add c.deref.result.now ∷ []) (Delete c.args.lits.now ∷ [])
     (subst (λ (ls : List Line). CanTake (g.P.ProofTracer.holds c.args.proof.now) ls) whole c.requires.able)
 
 pub add_step-requires-then-len-lits-2 : goal.add_step-requires-then-len-lits-2
 add_step-requires-then-len-lits-2 g c =
     let here = (goal.at.add_step-requires-then-len-lits-2 g c).After-len in
-    let whole : lines g here ≡ Add c.deref.result.now ∷ Delete c.args.lits.now ∷ [] = two g here c.if-len-lits.true ∙ ap (λ (d : Clause). Add d ∷ Delete c.args.lits.now ∷ []) (sym c.deref.ensures.value) in
-    can_take_rest g.P.ProofTracer.holds g.P.ProofTracer.takes g.met.P.ProofTracer.holds_after c.args.proof.now c.add_step-then-len-lits.new.self (Add c.deref.result.now ∷ []) (Delete c.args.lits.now ∷ [])
+    let whole : lines g here ≡ Add c.deref.result.now ∷ Delete c.args.lits.now ∷ [] = two g here c.if-len-lits.true
+    ∙ ap (λ (d : Clause). Add d ∷ Delete c.args.lits.now ∷ []) (sym c.deref.ensures.value) in
+    can_take_rest g.P.ProofTracer.holds g.P.ProofTracer.takes g.met.P.ProofTracer.holds_after c.args.proof.now c.add_step-then-len-lits.new.self
+    (Add c.deref.result.now ∷ []) (Delete c.args.lits.now ∷ [])
     (subst (λ (ls : List Line). CanTake (g.P.ProofTracer.holds c.args.proof.now) ls) whole c.requires.able) (c.in_ok-add_step-2.ensures {u = tt})
 
 pub returns-in_ok-add_step-3 : goal.returns-in_ok-add_step-3
 returns-in_ok-add_step-3 g c =
     let here = (goal.at.returns-in_ok-add_step-3 g c).After-len in
-    let whole : lines g here ≡ Add c.deref.result.now ∷ Delete c.args.lits.now ∷ [] = two g here c.if-len-lits.true ∙ ap (λ (d : Clause). Add d ∷ Delete c.args.lits.now ∷ []) (sym c.deref.ensures.value) in
+    let whole : lines g here ≡ Add c.deref.result.now ∷ Delete c.args.lits.now ∷ [] = two g here c.if-len-lits.true
+    ∙ ap (λ (d : Clause). Add d ∷ Delete c.args.lits.now ∷ []) (sym c.deref.ensures.value) in
     subst (λ (ls : List Line). TakesLines g.P.ProofTracer.takes c.args.proof.now ls c.add_step-then-len-lits-2.new.self) (sym whole)
-    (lines-more g.P.ProofTracer.takes g.met.P.ProofTracer.takes_more c.args.proof.now c.add_step-then-len-lits.new.self c.add_step-then-len-lits-2.new.self (Add c.deref.result.now ∷ []) (Delete c.args.lits.now ∷ []) (c.in_ok-add_step-2.ensures {u = tt}) (c.in_ok-add_step-3.ensures {u = tt}))
+    (lines-more g.P.ProofTracer.takes g.met.P.ProofTracer.takes_more c.args.proof.now c.add_step-then-len-lits.new.self
+    c.add_step-then-len-lits-2.new.self (Add c.deref.result.now ∷ []) (Delete c.args.lits.now ∷ []) (c.in_ok-add_step-2.ensures {u = tt})
+    (c.in_ok-add_step-3.ensures {u = tt}))
 
 pub returns-else-len-lits : goal.returns-else-len-lits
 returns-else-len-lits g c =
     let here = (goal.at.returns-else-len-lits g c).After-len in
     let n = ap (λ (d : Clause). length d) (c.in_ok-copy_unassigned.ensures {u = tt}) in
-    let e = lines-same c.args.assignment.now.current c.args.lits.now (none-true g here) (omega (arith, n, c.if-len-lits.false, c.copy_unassigned.new.left.ok.0)) in
+    let e = lines-same c.args.assignment.now.current c.args.lits.now (none-true g here)
+    (omega (arith, n, c.if-len-lits.false, c.copy_unassigned.new.left.ok.0)) in
     subst (λ (ls : List Line). TakesLines g.P.ProofTracer.takes c.args.proof.now ls c.args.proof.now) (sym e) (g.met.P.ProofTracer.takes_none c.args.proof.now)
 
 pub returns-in_err-add_step : goal.returns-in_err-add_step
 returns-in_err-add_step g c =
-    lines-broken g.P.ProofTracer.takes g.P.ProofTracer.breaks_off c.args.proof.now c.add_step.new.self (lines_of_clause c.args.assignment.now.current c.args.lits.now) c.from_residual.result c.in_err-add_step.field-0.0 c.from_residual.ensures
+    lines-broken g.P.ProofTracer.takes g.P.ProofTracer.breaks_off c.args.proof.now c.add_step.new.self
+    (lines_of_clause c.args.assignment.now.current c.args.lits.now) c.from_residual.result c.in_err-add_step.field-0.0 c.from_residual.ensures
     (breaks-in g.P.ProofTracer.breaks_off (c.in_err-add_step.ensures {u = tt}))
 
 pub returns-in_err-copy_unassigned : goal.returns-in_err-copy_unassigned
 returns-in_err-copy_unassigned g c =
-    lines-broken g.P.ProofTracer.takes g.P.ProofTracer.breaks_off c.args.proof.now c.args.proof.now (lines_of_clause c.args.assignment.now.current c.args.lits.now) c.from_residual-in_err-copy_unassigned.result Memory c.from_residual-in_err-copy_unassigned.ensures
+    lines-broken g.P.ProofTracer.takes g.P.ProofTracer.breaks_off c.args.proof.now c.args.proof.now
+    (lines_of_clause c.args.assignment.now.current c.args.lits.now) c.from_residual-in_err-copy_unassigned.result Memory
+    c.from_residual-in_err-copy_unassigned.ensures
     (breaks-not g.P.ProofTracer.breaks_off g.met.P.ProofTracer.breaks_none c.args.proof.now)
 
 pub returns-in_err-add_step-2 : goal.returns-in_err-add_step-2
 returns-in_err-add_step-2 g c =
-    lines-broken g.P.ProofTracer.takes g.P.ProofTracer.breaks_off c.args.proof.now c.add_step-then-len-lits.new.self (lines_of_clause c.args.assignment.now.current c.args.lits.now) c.from_residual-in_err-add_step-2.result c.in_err-add_step-2.field-0.0 c.from_residual-in_err-add_step-2.ensures
+    lines-broken g.P.ProofTracer.takes g.P.ProofTracer.breaks_off c.args.proof.now c.add_step-then-len-lits.new.self
+    (lines_of_clause c.args.assignment.now.current c.args.lits.now) c.from_residual-in_err-add_step-2.result c.in_err-add_step-2.field-0.0
+    c.from_residual-in_err-add_step-2.ensures
     (breaks-in g.P.ProofTracer.breaks_off (c.in_err-add_step-2.ensures {u = tt}))
 
 pub returns-in_err-add_step-3 : goal.returns-in_err-add_step-3
 returns-in_err-add_step-3 g c =
-    lines-broken g.P.ProofTracer.takes g.P.ProofTracer.breaks_off c.args.proof.now c.add_step-then-len-lits-2.new.self (lines_of_clause c.args.assignment.now.current c.args.lits.now) c.from_residual-in_err-add_step-3.result c.in_err-add_step-3.field-0.0 c.from_residual-in_err-add_step-3.ensures
-    (breaks-on g.P.ProofTracer.takes g.P.ProofTracer.breaks_off g.met.P.ProofTracer.breaks_behind (c.in_ok-add_step-2.ensures {u = tt}) (breaks-in g.P.ProofTracer.breaks_off (c.in_err-add_step-3.ensures {u = tt})))
+    lines-broken g.P.ProofTracer.takes g.P.ProofTracer.breaks_off c.args.proof.now c.add_step-then-len-lits-2.new.self
+    (lines_of_clause c.args.assignment.now.current c.args.lits.now) c.from_residual-in_err-add_step-3.result c.in_err-add_step-3.field-0.0
+    c.from_residual-in_err-add_step-3.ensures
+    (breaks-on g.P.ProofTracer.takes g.P.ProofTracer.breaks_off g.met.P.ProofTracer.breaks_behind (c.in_ok-add_step-2.ensures {u = tt})
+    (breaks-in g.P.ProofTracer.breaks_off (c.in_err-add_step-3.ensures {u = tt})))

@@ -4,4 +4,5 @@ use Rattle.varisat_search.proofs.TracedClauses.{stored_lines}
 use Rattle.varisat_search.proofs.trace.trace_clauses.Given as goal
 
 abbrev pub invariant-clauses : goal.invariant-clauses
-invariant-clauses g l = TracesTo g.P.ProofTracer.holds g.P.ProofTracer.takes (stored_lines l.assignment.current) (stored_clauses l.clause_alloc) l.index l.fn.proof l.proof
+invariant-clauses g l = TracesTo g.P.ProofTracer.holds g.P.ProofTracer.takes (stored_lines l.assignment.current)
+    (stored_clauses l.clause_alloc) l.index l.fn.proof l.proof

@@ -20,13 +20,19 @@ clauses-preserved-then-left-eq0 g c =
     let m = g.met.P.ProofTracer in
     let ks = stored_clauses c.args.clause_alloc.now in
     let e = unmarked-zero ks c.clauses.left (drop c.clauses.cref-index c.args.list.now) (drop (c.clauses.cref-index + 1) c.args.list.now) c.if-left-eq0.true in
-    part-same g.P.ProofTracer.holds g.P.ProofTracer.takes m.takes_none m.takes_more m.holds_after (deletion_lines ks (unmarked_places ks c.args.count c.args.list.now)) (deletion_lines ks (unmarked_places ks c.clauses.left (drop c.clauses.cref-index c.args.list.now))) (deletion_lines ks (unmarked_places ks c.clauses.left (drop (c.clauses.cref-index + 1) c.args.list.now))) c.args.proof.now c.clauses.proof (ap (deletion_lines ks) e) c.clauses.invariant
+    part-same g.P.ProofTracer.holds g.P.ProofTracer.takes m.takes_none m.takes_more m.holds_after
+    (deletion_lines ks (unmarked_places ks c.args.count c.args.list.now))
+    (deletion_lines ks (unmarked_places ks c.clauses.left (drop c.clauses.cref-index c.args.list.now)))
+    (deletion_lines ks (unmarked_places ks c.clauses.left (drop (c.clauses.cref-index + 1) c.args.list.now))) c.args.proof.now
+    c.clauses.proof (ap (deletion_lines ks) e) c.clauses.invariant
 
 pub header-requires-clause-place : goal.header-requires-clause-place
-header-requires-clause-place g c = c.requires.listed c.cref-item.result (item-∈ c.args.list.now c.clauses.cref-index c.cref-item.result c.clauses-test.true c.cref-item.is)
+header-requires-clause-place g c = c.requires.listed c.cref-item.result
+    (item-∈ c.args.list.now c.clauses.cref-index c.cref-item.result c.clauses-test.true c.cref-item.is)
 
 pub lits-requires-clause-place : goal.lits-requires-clause-place
-lits-requires-clause-place g c = c.requires.listed c.cref-item.result (item-∈ c.args.list.now c.clauses.cref-index c.cref-item.result c.clauses-test.true c.cref-item.is)
+lits-requires-clause-place g c = c.requires.listed c.cref-item.result
+    (item-∈ c.args.list.now c.clauses.cref-index c.cref-item.result c.clauses-test.true c.cref-item.is)
 
 pub clauses-preserved-then-mark : goal.clauses-preserved-then-mark
 clauses-preserved-then-mark g c =
@@ -34,19 +40,31 @@ clauses-preserved-then-mark g c =
     let ks = stored_clauses c.args.clause_alloc.now in
     let marked : (header_at ks c.cref-item.result).mark ≡ true = ap (λ (h : Header). h.mark) (sym c.header.ensures) ∙ sym c.mark.ensures ∙ c.if-mark.true in
     let e = unmarked-passed ks c.args.list.now c.clauses.cref-index c.cref-item.result c.clauses.left c.clauses-test.true c.cref-item.is marked in
-    part-same g.P.ProofTracer.holds g.P.ProofTracer.takes m.takes_none m.takes_more m.holds_after (deletion_lines ks (unmarked_places ks c.args.count c.args.list.now)) (deletion_lines ks (unmarked_places ks c.clauses.left (drop c.clauses.cref-index c.args.list.now))) (deletion_lines ks (unmarked_places ks c.clauses.left (drop (c.clauses.cref-index + 1) c.args.list.now))) c.args.proof.now c.clauses.proof (ap (deletion_lines ks) e) c.clauses.invariant
+    part-same g.P.ProofTracer.holds g.P.ProofTracer.takes m.takes_none m.takes_more m.holds_after
+    (deletion_lines ks (unmarked_places ks c.args.count c.args.list.now))
+    (deletion_lines ks (unmarked_places ks c.clauses.left (drop c.clauses.cref-index c.args.list.now)))
+    (deletion_lines ks (unmarked_places ks c.clauses.left (drop (c.clauses.cref-index + 1) c.args.list.now))) c.args.proof.now
+    c.clauses.proof (ap (deletion_lines ks) e) c.clauses.invariant
 
 -- the next line, and those behind it
 abbrev more : (g : Over) (c : After-lits g) → List Line
-more g c = deletion_lines (stored_clauses c.args.clause_alloc.now) (unmarked_places (stored_clauses c.args.clause_alloc.now) (c.clauses.left - 1) (drop (c.clauses.cref-index + 1) c.args.list.now))
+more g c = deletion_lines (stored_clauses c.args.clause_alloc.now)
+    (unmarked_places (stored_clauses c.args.clause_alloc.now) (c.clauses.left - 1) (drop (c.clauses.cref-index + 1) c.args.list.now))
 
-at-next : (g : Over) (c : After-lits g) → TracesPart g.P.ProofTracer.holds g.P.ProofTracer.takes (deletion_lines (stored_clauses c.args.clause_alloc.now) (unmarked_places (stored_clauses c.args.clause_alloc.now) c.args.count c.args.list.now)) ((Delete c.lits.result.now ∷ []) ++ more g c) c.args.proof.now c.clauses.proof
+at-next : (g : Over) (c : After-lits g) → TracesPart g.P.ProofTracer.holds g.P.ProofTracer.takes
+    (deletion_lines (stored_clauses c.args.clause_alloc.now)
+    (unmarked_places (stored_clauses c.args.clause_alloc.now) c.args.count c.args.list.now))
+    ((Delete c.lits.result.now ∷ []) ++ more g c) c.args.proof.now c.clauses.proof
 at-next g c =
     let m = g.met.P.ProofTracer in
     let ks = stored_clauses c.args.clause_alloc.now in
     let free : (header_at ks c.cref-item.result).mark ≡ false = ap (λ (h : Header). h.mark) (sym c.header.ensures) ∙ sym c.mark.ensures ∙ c.if-mark.false in
-    let e = unmarked-one ks c.args.list.now c.clauses.cref-index c.cref-item.result c.clauses.left c.clauses-test.true c.cref-item.is c.if-left-eq0.false free in
-    part-same g.P.ProofTracer.holds g.P.ProofTracer.takes m.takes_none m.takes_more m.holds_after (deletion_lines ks (unmarked_places ks c.args.count c.args.list.now)) (deletion_lines ks (unmarked_places ks c.clauses.left (drop c.clauses.cref-index c.args.list.now))) ((Delete c.lits.result.now ∷ []) ++ more g c) c.args.proof.now c.clauses.proof
+    let e = unmarked-one ks c.args.list.now c.clauses.cref-index c.cref-item.result c.clauses.left c.clauses-test.true c.cref-item.is
+    c.if-left-eq0.false free in
+    part-same g.P.ProofTracer.holds g.P.ProofTracer.takes m.takes_none m.takes_more m.holds_after
+    (deletion_lines ks (unmarked_places ks c.args.count c.args.list.now))
+    (deletion_lines ks (unmarked_places ks c.clauses.left (drop c.clauses.cref-index c.args.list.now)))
+    ((Delete c.lits.result.now ∷ []) ++ more g c) c.args.proof.now c.clauses.proof
     (ap (deletion_lines ks) e ∙ ap (λ (d : Clause). Delete d ∷ more g c) (sym c.lits.ensures)) c.clauses.invariant
 
 pub add_step-requires : goal.add_step-requires
@@ -54,19 +72,26 @@ add_step-requires g c =
     let m = g.met.P.ProofTracer in
     let ks = stored_clauses c.args.clause_alloc.now in
     let h = (goal.at.add_step-requires g c).After-lits in
-    part-able g.P.ProofTracer.holds g.P.ProofTracer.takes m.takes_none m.takes_more m.holds_after (deletion_lines ks (unmarked_places ks c.args.count c.args.list.now)) (Delete c.lits.result.now ∷ []) (more g h) c.args.proof.now c.clauses.proof (at-next g h)
+    part-able g.P.ProofTracer.holds g.P.ProofTracer.takes m.takes_none m.takes_more m.holds_after
+    (deletion_lines ks (unmarked_places ks c.args.count c.args.list.now)) (Delete c.lits.result.now ∷ [])
+    (more g h) c.args.proof.now c.clauses.proof (at-next g h)
 
 pub clauses-preserved : goal.clauses-preserved
 clauses-preserved g c =
     let m = g.met.P.ProofTracer in
     let ks = stored_clauses c.args.clause_alloc.now in
     let h = (goal.at.clauses-preserved g c).After-lits in
-    part-next g.P.ProofTracer.holds g.P.ProofTracer.takes m.takes_none m.takes_more m.holds_after (deletion_lines ks (unmarked_places ks c.args.count c.args.list.now)) (Delete c.lits.result.now ∷ []) (more g h) c.args.proof.now c.clauses.proof c.add_step.new.self (at-next g h) (c.in_ok-add_step.ensures {u = tt})
+    part-next g.P.ProofTracer.holds g.P.ProofTracer.takes m.takes_none m.takes_more m.holds_after
+    (deletion_lines ks (unmarked_places ks c.args.count c.args.list.now)) (Delete c.lits.result.now ∷ [])
+    (more g h) c.args.proof.now c.clauses.proof c.add_step.new.self (at-next g h) (c.in_ok-add_step.ensures {u = tt})
 
 pub returns-in_err-add_step : goal.returns-in_err-add_step
 returns-in_err-add_step g c =
-    lines-broken g.P.ProofTracer.takes g.P.ProofTracer.breaks_off c.args.proof.now c.add_step.new.self (unmarked_deletions (stored_clauses c.args.clause_alloc.now) c.args.count c.args.list.now) c.from_residual.result c.in_err-add_step.field-0.0 c.from_residual.ensures
-    (breaks-on g.P.ProofTracer.takes g.P.ProofTracer.breaks_off g.met.P.ProofTracer.breaks_behind c.clauses.invariant.taken (breaks-in g.P.ProofTracer.breaks_off (c.in_err-add_step.ensures {u = tt})))
+    lines-broken g.P.ProofTracer.takes g.P.ProofTracer.breaks_off c.args.proof.now c.add_step.new.self
+    (unmarked_deletions (stored_clauses c.args.clause_alloc.now) c.args.count c.args.list.now) c.from_residual.result
+    c.in_err-add_step.field-0.0 c.from_residual.ensures
+    (breaks-on g.P.ProofTracer.takes g.P.ProofTracer.breaks_off g.met.P.ProofTracer.breaks_behind c.clauses.invariant.taken
+    (breaks-in g.P.ProofTracer.breaks_off (c.in_err-add_step.ensures {u = tt})))
 
 pub returns : goal.returns
 returns g c = grind (arith, common_steps)

@@ -6,4 +6,6 @@ use Rattle.varisat_search.specs.Deletions.{deletion_lines}
 use Rattle.varisat_search.proofs.trace.trace_deletions.Given as goal
 
 abbrev pub invariant-clauses : goal.invariant-clauses
-invariant-clauses g l = TracesPart g.P.ProofTracer.holds g.P.ProofTracer.takes (deletion_lines (stored_clauses l.clause_alloc) (unmarked_places (stored_clauses l.clause_alloc) l.count l.list)) (deletion_lines (stored_clauses l.clause_alloc) (unmarked_places (stored_clauses l.clause_alloc) l.left (drop l.cref-index l.list))) l.fn.proof l.proof
+invariant-clauses g l = TracesPart g.P.ProofTracer.holds g.P.ProofTracer.takes
+    (deletion_lines (stored_clauses l.clause_alloc) (unmarked_places (stored_clauses l.clause_alloc) l.count l.list))
+    (deletion_lines (stored_clauses l.clause_alloc) (unmarked_places (stored_clauses l.clause_alloc) l.left (drop l.cref-index l.list))) l.fn.proof l.proof

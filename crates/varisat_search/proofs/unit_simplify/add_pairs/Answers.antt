@@ -25,7 +25,8 @@ loop-pair-preserved g c =
     let q = longer-pair B C v n (c.requires v (item-∈ c.args.pairs.now i v c.loop-pair-test.true c.pair-item.is)) in
     let e = c.in_ok-add_binary_clause.ensures in
     record {
-      joined = e ∙ joined-on B C (take i c.args.pairs.now) v c.loop-pair.invariant.joined ∙ ap (with_pairs B) (next-taken c.args.pairs.now i v c.loop-pair-test.true c.pair-item.is);
+      joined = e ∙ joined-on B C (take i c.args.pairs.now) v c.loop-pair.invariant.joined
+          ∙ ap (with_pairs B) (next-taken c.args.pairs.now i v c.loop-pair-test.true c.pair-item.is);
       count = ap (λ (D : List (List ℕ)). length D) e ∙ joined-count C v q ∙ n;
     }
 

@@ -27,8 +27,10 @@ loop-lit-preserved g c =
     let n = c.loop-lit.invariant.given.count in
     subst (HasUnitsTo (take (k + 1) lits) old) (sym c.update_reason.ensures)
     (subst (λ v. HasUnitsTo (take (k + 1) lits) old (set ns v (as_unit (get_or ns v no_node)))) (sym c.var.ensures)
-    (subst (λ (ls : List Literal). HasUnitsTo ls old (set ns (variable_of l) (as_unit (get_or ns (variable_of l) no_node)))) (sym (take-snoc k lits c.loop-lit-test.true ∙ ap (λ m. take k lits ++ m ∷ []) (sym e)))
+    (subst (λ (ls : List Literal). HasUnitsTo ls old (set ns (variable_of l) (as_unit (get_or ns (variable_of l) no_node))))
+    (sym (take-snoc k lits c.loop-lit-test.true ∙ ap (λ m. take k lits ++ m ∷ []) (sym e)))
     (units-more (take k lits) l old ns (omega (arith, i, n)) c.loop-lit.invariant)))
 
 pub returns : goal.returns
-returns g c = (subst (λ ls. HasUnitsTo ls c.args.impl_graph.now.nodes.items c.loop-lit.impl_graph.nodes.items) (take_all c.loop-lit.lit-index c.args.lits.now c.loop-lit-test.false) c.loop-lit.invariant).given
+returns g c = (subst (λ ls. HasUnitsTo ls c.args.impl_graph.now.nodes.items c.loop-lit.impl_graph.nodes.items)
+    (take_all c.loop-lit.lit-index c.args.lits.now c.loop-lit-test.false) c.loop-lit.invariant).given

@@ -22,7 +22,11 @@ abbrev after : (g : Over) (c : After-forget_reasons g) → Context g.row.A.Denot
 after g c = record c.args.ctx.now { impl_graph = c.forget_reasons.new.impl_graph }
 
 proved : (g : Over) (c : After-forget_reasons g) → ProvesUnits (view c.args.ctx.now) (view (after g c))
-proved g c = record { nodes = subst (λ ls. HaveUnits ls c.args.ctx.now.impl_graph.nodes.items c.forget_reasons.new.impl_graph.nodes.items) c.trail-2.ensures c.forget_reasons.ensures; rest = refl }
+proved g c = record {
+  nodes = subst (λ ls. HaveUnits ls c.args.ctx.now.impl_graph.nodes.items c.forget_reasons.new.impl_graph.nodes.items)
+      c.trail-2.ensures c.forget_reasons.ensures;
+  rest = refl;
+}
 
 pub trace_units-requires-clause-inside : goal.trace_units-requires-clause-inside
 trace_units-requires-clause-inside g c l h =
@@ -35,7 +39,8 @@ trace_units-requires-clause-able g c =
     let x = c.args.ctx.now in
     let none = none-left x.trail.decisions (omega (arith, c.if-current_level-gt0.false, c.current_level.ensures)) in
     subst (λ (ls : List Literal). CanTake (g.P.ProofTracer.holds c.args.proof.now) (unit_lines (units_in x.impl_graph.nodes.items ls))) (sym c.trail.ensures)
-    (can_take (g.P.ProofTracer.holds c.args.proof.now) 0 (search_of (view x)) (with_units (view x) c.requires.ready.well none) (unit_lines (implied_units (view x))) c.requires.holds (lines-prove (view x) c.requires.ready.well none))
+    (can_take (g.P.ProofTracer.holds c.args.proof.now) 0 (search_of (view x)) (with_units (view x) c.requires.ready.well none)
+    (unit_lines (implied_units (view x))) c.requires.holds (lines-prove (view x) c.requires.ready.well none))
 
 pub forget_reasons-requires : goal.forget_reasons-requires
 forget_reasons-requires g c l h =
@@ -52,11 +57,13 @@ pub returns-clause-ready : goal.returns-clause-ready
 returns-clause-ready g c =
     let here = (goal.at.returns-clause-ready g c).After-forget_reasons in
     let x = c.args.ctx.now in
-    units-ready x (after g here) c.requires.ready (none-left x.trail.decisions (omega (arith, c.if-current_level-gt0.false, c.current_level.ensures))) (proved g here) refl c.requires.ready.tracks refl
+    units-ready x (after g here) c.requires.ready
+    (none-left x.trail.decisions (omega (arith, c.if-current_level-gt0.false, c.current_level.ensures))) (proved g here) refl c.requires.ready.tracks refl
 
 pub returns-in_err-trace_units-clause-broken : goal.returns-in_err-trace_units-clause-broken
 returns-in_err-trace_units-clause-broken g c =
-    error-broken g.P.ProofTracer.breaks_off c.args.proof.now c.trace_units.new.proof c.from_residual.result c.in_err-trace_units.field-0.0 c.from_residual.ensures
+    error-broken g.P.ProofTracer.breaks_off c.args.proof.now c.trace_units.new.proof c.from_residual.result c.in_err-trace_units.field-0.0
+    c.from_residual.ensures
     (c.in_err-trace_units.ensures {u = tt})
 
 pub returns-clause-found : goal.returns-clause-found

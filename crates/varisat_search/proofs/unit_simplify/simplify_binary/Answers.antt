@@ -40,5 +40,6 @@ returns-clause-ready g c = binary-ready (simplifies g (goal.at.returns-clause-re
 
 pub returns-in_err-trace_pairs-clause-broken : goal.returns-in_err-trace_pairs-clause-broken
 returns-in_err-trace_pairs-clause-broken g c =
-    error-broken g.P.ProofTracer.breaks_off c.args.proof.now c.trace_pairs.new.proof c.from_residual.result c.in_err-trace_pairs.field-0.0 c.from_residual.ensures
+    error-broken g.P.ProofTracer.breaks_off c.args.proof.now c.trace_pairs.new.proof c.from_residual.result c.in_err-trace_pairs.field-0.0
+    c.from_residual.ensures
     (c.in_err-trace_pairs.ensures {u = tt})

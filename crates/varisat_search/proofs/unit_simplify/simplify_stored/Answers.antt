@@ -43,35 +43,61 @@ filter_clauses-requires-clause-accepted g c = live-open c.args.ctx.now (at g (go
 abbrev IsLeft : List (Option Bool) → Store → Store → List Clause → List Clause → Type 0
 IsLeft values old new before pairs = (live_clauses new ≡ left_long values (live_clauses old)) × (pairs ≡ before ++ left_pairs values (live_clauses old))
 
-left : (g : Over) (c : In_ok-filter_clauses g) → IsLeft c.args.ctx.now.assignment.current c.args.ctx.now.clause_alloc c.filter_clauses.new.alloc c.new-2.result.items c.filter_clauses.new.filter.pairs.items
+left : (g : Over) (c : In_ok-filter_clauses g) → IsLeft c.args.ctx.now.assignment.current c.args.ctx.now.clause_alloc c.filter_clauses.new.alloc
+    c.new-2.result.items c.filter_clauses.new.filter.pairs.items
 left g c =
     filtered-left (λ (f : UnitFilter g.row.A.Denot). f.assignment.now.current) (λ (f : UnitFilter g.row.A.Denot). f.pairs.items)
-    (λ (f : UnitFilter g.row.A.Denot) (k j : StoredClause) (h : UnitFilter g.row.A.Denot). (h.assignment ≡ f.assignment) × LeavesOpen f.assignment.now.current k j f.pairs.items h.pairs.items)
+    (λ (f : UnitFilter g.row.A.Denot) (k j : StoredClause) (h : UnitFilter g.row.A.Denot). (h.assignment ≡ f.assignment)
+    × LeavesOpen f.assignment.now.current k j f.pairs.items h.pairs.items)
     (λ f k j h o. (ap (λ a. a.now.current) o.0, o.1))
-    _ c.filter_clauses.new.filter (stored_clauses c.args.ctx.now.clause_alloc) (stored_clauses c.filter_clauses.new.alloc) c.in_ok-filter_clauses.ensures.filtered
+    _ c.filter_clauses.new.filter (stored_clauses c.args.ctx.now.clause_alloc)
+    (stored_clauses c.filter_clauses.new.alloc) c.in_ok-filter_clauses.ensures.filtered
 
 pub add_pairs-requires : goal.add_pairs-requires
 add_pairs-requires g c =
     let here = goal.at.add_pairs-requires g c in
     joining c.args.ctx.now (at g here.In_ok-trace_stored) c.args.ctx.now.binary_clauses c.deref.result.now (sym c.requires.left)
-    (c.deref.ensures.value ∙ (left g here.In_ok-filter_clauses).1 ∙ ap (λ (cs : List Clause). cs ++ left_pairs c.args.ctx.now.assignment.current (live_clauses c.args.ctx.now.clause_alloc)) c.new-2.ensures.items)
+    (c.deref.ensures.value ∙ (left g here.In_ok-filter_clauses).1
+    ∙ ap (λ (cs : List Clause). cs ++ left_pairs c.args.ctx.now.assignment.current (live_clauses c.args.ctx.now.clause_alloc)) c.new-2.ensures.items)
 
 -- the lists of what literals imply
-joined : (g : Over) (c : After-disable g) → IsLeft c.args.ctx.now.assignment.current c.args.ctx.now.clause_alloc c.filter_clauses.new.alloc c.new-2.result.items c.filter_clauses.new.filter.pairs.items → c.add_pairs.new.binary_clauses ≡ with_pairs (without_assigned c.args.ctx.now.assignment.current c.args.ctx.now.binary_clauses) (left_pairs c.args.ctx.now.assignment.current (live_clauses c.args.ctx.now.clause_alloc))
+joined : (g : Over) (c : After-disable g) → IsLeft c.args.ctx.now.assignment.current c.args.ctx.now.clause_alloc c.filter_clauses.new.alloc
+    c.new-2.result.items c.filter_clauses.new.filter.pairs.items →
+    c.add_pairs.new.binary_clauses ≡ with_pairs (without_assigned c.args.ctx.now.assignment.current c.args.ctx.now.binary_clauses)
+    (left_pairs c.args.ctx.now.assignment.current (live_clauses c.args.ctx.now.clause_alloc))
 joined g c l =
     c.in_ok-add_pairs.ensures
     ∙ ap (λ (D : List (List Literal)). with_pairs D c.deref.result.now) (sym c.requires.left)
-    ∙ ap (with_pairs (without_assigned c.args.ctx.now.assignment.current c.args.ctx.now.binary_clauses)) (c.deref.ensures.value ∙ l.1 ∙ ap (λ (cs : List Clause). cs ++ left_pairs c.args.ctx.now.assignment.current (live_clauses c.args.ctx.now.clause_alloc)) c.new-2.ensures.items)
+    ∙ ap (with_pairs (without_assigned c.args.ctx.now.assignment.current c.args.ctx.now.binary_clauses))
+    (c.deref.ensures.value ∙ l.1 ∙ ap
+    (λ (cs : List Clause). cs ++ left_pairs c.args.ctx.now.assignment.current (live_clauses c.args.ctx.now.clause_alloc)) c.new-2.ensures.items)
 
 -- the search after it
 abbrev after : (g : Over) (c : After-disable g) → Context g.row.A.Denot
-after g c = record c.args.ctx.now { binary_clauses = c.add_pairs.new.binary_clauses; clause_alloc = c.filter_clauses.new.alloc; clause_db = c.filter_clauses.new.db; watchlists = c.disable.new.self }
+after g c = record c.args.ctx.now {
+  binary_clauses = c.add_pairs.new.binary_clauses;
+  clause_alloc = c.filter_clauses.new.alloc;
+  clause_db = c.filter_clauses.new.db;
+  watchlists =
+      c.disable.new.self;
+}
 
-simplifies : (g : Over) (c : After-disable g) → IsAtUnits (view c.args.ctx.now) → IsLeft c.args.ctx.now.assignment.current c.args.ctx.now.clause_alloc c.filter_clauses.new.alloc c.new-2.result.items c.filter_clauses.new.filter.pairs.items → Simplifies c.args.ctx.now (after g c)
-simplifies g c u l = record { ready = c.requires.can.ready; units = u; tracks = c.filter_clauses.ensures.tracks; clauses = l.0; binary = joined g c l; rest = refl }
+simplifies : (g : Over) (c : After-disable g) → IsAtUnits (view c.args.ctx.now) →
+    IsLeft c.args.ctx.now.assignment.current c.args.ctx.now.clause_alloc c.filter_clauses.new.alloc c.new-2.result.items
+    c.filter_clauses.new.filter.pairs.items → Simplifies c.args.ctx.now (after g c)
+simplifies g c u l = record {
+  ready = c.requires.can.ready;
+  units = u;
+  tracks = c.filter_clauses.ensures.tracks;
+  clauses = l.0;
+  binary =
+      joined g c l;
+  rest = refl;
+}
 
 pub returns-clause-simplified : goal.returns-clause-simplified
-returns-clause-simplified g c = let here = goal.at.returns-clause-simplified g c in is-simplified (simplifies g here.After-disable (at g here.In_ok-trace_stored) (left g here.In_ok-filter_clauses))
+returns-clause-simplified g c = let here = goal.at.returns-clause-simplified g c in
+    is-simplified (simplifies g here.After-disable (at g here.In_ok-trace_stored) (left g here.In_ok-filter_clauses))
 
 pub returns-clause-ready : goal.returns-clause-ready
 returns-clause-ready g c =
@@ -83,22 +109,29 @@ pub returns-clause-proves : goal.returns-clause-proves
 returns-clause-proves g c =
     let here = goal.at.returns-clause-proves g c in
     let x = c.args.ctx.now in
-    without-pair-lines (view x) c.requires.left (view (after g here.After-disable)) (simplified-proves (simplifies g here.After-disable (at g here.In_ok-trace_stored) (left g here.In_ok-filter_clauses)))
+    without-pair-lines (view x) c.requires.left (view (after g here.After-disable))
+    (simplified-proves (simplifies g here.After-disable (at g here.In_ok-trace_stored) (left g here.In_ok-filter_clauses)))
 
 pub returns-clause-decidable : goal.returns-clause-decidable
-returns-clause-decidable g c = let here = goal.at.returns-clause-decidable g c in simplified-decidable (simplifies g here.After-disable (at g here.In_ok-trace_stored) (left g here.In_ok-filter_clauses))
+returns-clause-decidable g c = let here = goal.at.returns-clause-decidable g c in
+    simplified-decidable (simplifies g here.After-disable (at g here.In_ok-trace_stored) (left g here.In_ok-filter_clauses))
 
 pub returns-in_err-trace_stored-clause-broken : goal.returns-in_err-trace_stored-clause-broken
 returns-in_err-trace_stored-clause-broken g c =
-    error-broken g.P.ProofTracer.breaks_off c.args.proof.now c.trace_stored.new.proof c.from_residual.result c.in_err-trace_stored.field-0.0 c.from_residual.ensures
+    error-broken g.P.ProofTracer.breaks_off c.args.proof.now c.trace_stored.new.proof c.from_residual.result c.in_err-trace_stored.field-0.0
+    c.from_residual.ensures
     (c.in_err-trace_stored.ensures {u = tt})
 
 pub returns-in_err-filter_clauses-clause-broken : goal.returns-in_err-filter_clauses-clause-broken
 returns-in_err-filter_clauses-clause-broken g c =
-    error-broken g.P.ProofTracer.breaks_off c.args.proof.now c.trace_stored.new.proof c.from_residual-in_err-filter_clauses.result Memory c.from_residual-in_err-filter_clauses.ensures
-    (breaks-on g.P.ProofTracer.takes g.P.ProofTracer.breaks_off g.met.P.ProofTracer.breaks_behind (c.in_ok-trace_stored.ensures {u = tt}) (breaks-not g.P.ProofTracer.breaks_off g.met.P.ProofTracer.breaks_none c.trace_stored.new.proof))
+    error-broken g.P.ProofTracer.breaks_off c.args.proof.now c.trace_stored.new.proof c.from_residual-in_err-filter_clauses.result Memory
+    c.from_residual-in_err-filter_clauses.ensures
+    (breaks-on g.P.ProofTracer.takes g.P.ProofTracer.breaks_off g.met.P.ProofTracer.breaks_behind (c.in_ok-trace_stored.ensures {u = tt})
+    (breaks-not g.P.ProofTracer.breaks_off g.met.P.ProofTracer.breaks_none c.trace_stored.new.proof))
 
 pub returns-in_err-add_pairs-clause-broken : goal.returns-in_err-add_pairs-clause-broken
 returns-in_err-add_pairs-clause-broken g c =
-    error-broken g.P.ProofTracer.breaks_off c.args.proof.now c.trace_stored.new.proof c.from_residual-in_err-add_pairs.result Memory c.from_residual-in_err-add_pairs.ensures
-    (breaks-on g.P.ProofTracer.takes g.P.ProofTracer.breaks_off g.met.P.ProofTracer.breaks_behind (c.in_ok-trace_stored.ensures {u = tt}) (breaks-not g.P.ProofTracer.breaks_off g.met.P.ProofTracer.breaks_none c.trace_stored.new.proof))
+    error-broken g.P.ProofTracer.breaks_off c.args.proof.now c.trace_stored.new.proof c.from_residual-in_err-add_pairs.result Memory
+    c.from_residual-in_err-add_pairs.ensures
+    (breaks-on g.P.ProofTracer.takes g.P.ProofTracer.breaks_off g.met.P.ProofTracer.breaks_behind (c.in_ok-trace_stored.ensures {u = tt})
+    (breaks-not g.P.ProofTracer.breaks_off g.met.P.ProofTracer.breaks_none c.trace_stored.new.proof))

@@ -25,7 +25,8 @@ simplify_stored-requires g c =
     let e = c.in_ok-simplify_binary.ensures in
     record {
       can = binary-can d;
-      holds = holds_on g.P.ProofTracer.holds g.P.ProofTracer.takes g.met.P.ProofTracer.holds_after c.args.proof.now c.simplify_binary.new.proof 0 (search_of (view x)) (search_of (view y)) (pair_lines (view x)) c.requires.holds e.proves e.takes;
+      holds = holds_on g.P.ProofTracer.holds g.P.ProofTracer.takes g.met.P.ProofTracer.holds_after c.args.proof.now c.simplify_binary.new.proof 0
+          (search_of (view x)) (search_of (view y)) (pair_lines (view x)) c.requires.holds e.proves e.takes;
       left = binary-left d;
     }
 
@@ -45,8 +46,10 @@ returns-clause-proves g c =
 pub returns-clause-takes : goal.returns-clause-takes
 returns-clause-takes g c =
     let d = first g (goal.at.returns-clause-takes g c).In_ok-simplify_binary in
-    lines-more g.P.ProofTracer.takes g.met.P.ProofTracer.takes_more c.args.proof.now c.simplify_binary.new.proof c.simplify_stored.new.proof (pair_lines (view c.args.ctx.now)) (clause_lines (view c.args.ctx.now)) c.in_ok-simplify_binary.ensures.takes
-    (subst (λ (ls : List Line). TakesLines g.P.ProofTracer.takes c.simplify_binary.new.proof ls c.simplify_stored.new.proof) (binary-lines d) c.in_ok-simplify_stored.ensures.takes)
+    lines-more g.P.ProofTracer.takes g.met.P.ProofTracer.takes_more c.args.proof.now c.simplify_binary.new.proof c.simplify_stored.new.proof
+    (pair_lines (view c.args.ctx.now)) (clause_lines (view c.args.ctx.now)) c.in_ok-simplify_binary.ensures.takes
+    (subst (λ (ls : List Line). TakesLines g.P.ProofTracer.takes c.simplify_binary.new.proof ls c.simplify_stored.new.proof)
+    (binary-lines d) c.in_ok-simplify_stored.ensures.takes)
 
 pub returns-clause-decidable : goal.returns-clause-decidable
 returns-clause-decidable g c =
@@ -54,10 +57,13 @@ returns-clause-decidable g c =
 
 pub returns-in_err-simplify_binary-clause-broken : goal.returns-in_err-simplify_binary-clause-broken
 returns-in_err-simplify_binary-clause-broken g c =
-    error-broken g.P.ProofTracer.breaks_off c.args.proof.now c.simplify_binary.new.proof c.from_residual.result c.in_err-simplify_binary.field-0.0 c.from_residual.ensures
+    error-broken g.P.ProofTracer.breaks_off c.args.proof.now c.simplify_binary.new.proof c.from_residual.result c.in_err-simplify_binary.field-0.0
+    c.from_residual.ensures
     c.in_err-simplify_binary.ensures.broken
 
 pub returns-in_err-simplify_stored-clause-broken : goal.returns-in_err-simplify_stored-clause-broken
 returns-in_err-simplify_stored-clause-broken g c =
-    error-broken g.P.ProofTracer.breaks_off c.args.proof.now c.simplify_stored.new.proof c.from_residual-in_err-simplify_stored.result c.in_err-simplify_stored.field-0.0 c.from_residual-in_err-simplify_stored.ensures
-    (breaks-on g.P.ProofTracer.takes g.P.ProofTracer.breaks_off g.met.P.ProofTracer.breaks_behind c.in_ok-simplify_binary.ensures.takes c.in_err-simplify_stored.ensures.broken)
+    error-broken g.P.ProofTracer.breaks_off c.args.proof.now c.simplify_stored.new.proof c.from_residual-in_err-simplify_stored.result
+    c.in_err-simplify_stored.field-0.0 c.from_residual-in_err-simplify_stored.ensures
+    (breaks-on g.P.ProofTracer.takes g.P.ProofTracer.breaks_off g.met.P.ProofTracer.breaks_behind c.in_ok-simplify_binary.ensures.takes
+    c.in_err-simplify_stored.ensures.broken)

@@ -8,10 +8,13 @@ use Rattle.varisat_search.proofs.variables.show_if_hidden.Goals as goal
 
 pub returns-in_err-push-clause-refused : goal.returns-in_err-push-clause-refused
 returns-in_err-push-clause-refused g c =
-    let live : (kept_at c.args.variables.now.kept c.args.global).deleted ≡ false = ap (λ d. d.deleted) (sym c.var_data_global.ensures) ∙ c.if-var_data_global.false in
+    let live : (kept_at c.args.variables.now.kept c.args.global).deleted ≡ false = ap (λ d. d.deleted) (sym c.var_data_global.ensures)
+    ∙ c.if-var_data_global.false in
     let got = c.get.ensures ∙ ap (λ m. at m c.args.global) c.user_from_global.ensures in
-    let unnamed : at c.args.variables.now.users.backward c.args.global ≡ None = sym got ∙ is_none-none c.get.result (sym c.is_some.ensures ∙ c.if-is_some.false) in
-    shown-refused c.from_residual-in_err-push.result (c.in_ok-user.user ∷ []) c.args.variables.now c.show.new.self c.show.new.self (c.show.new.self, c.args.global, live, unnamed, c.in_ok-user.ensures.shown, refl) ([], refl)
+    let unnamed : at c.args.variables.now.users.backward c.args.global ≡ None = sym got
+    ∙ is_none-none c.get.result (sym c.is_some.ensures ∙ c.if-is_some.false) in
+    shown-refused c.from_residual-in_err-push.result (c.in_ok-user.user ∷ []) c.args.variables.now c.show.new.self c.show.new.self
+    (c.show.new.self, c.args.global, live, unnamed, c.in_ok-user.ensures.shown, refl) ([], refl)
 
 pub returns-clause-shows : goal.returns-clause-shows
 returns-clause-shows g c =

@@ -20,7 +20,8 @@ up-preserved c =
             less.0 less.1 c.up.invariant.within h.order less.2 (ap at x.at_first) (ap at x.at_second) (λ j jk jp. ap at (x.elsewhere j jk jp));
       };
       within = above;
-      available = rw x.position (availability_stays c.up.heap c.up.position c.up.place c.in-Some.above c.args.len h.linked (omega (arith, h.part)) (omega (arith, h.part, above)) c.up.invariant.within above ∙ c.up.invariant.available);
+      available = rw x.position (availability_stays c.up.heap c.up.position c.up.place c.in-Some.above c.args.len h.linked (omega (arith, h.part))
+          (omega (arith, h.part, above)) c.up.invariant.within above ∙ c.up.invariant.available);
     }
 
 pub down-preserved : goal.down-preserved
@@ -33,8 +34,11 @@ down-preserved c =
     record {
       linked = x.linked;
       known = omega (arith, i.known, x.count);
-      order = down (key c.args.activity.now c.down.heap) (key c.args.activity.now c.exchange-in-Some-greater_child.new.heap) c.args.len c.down.place c.in-Some-greater_child.child
+      order = down (key c.args.activity.now c.down.heap) (key c.args.activity.now c.exchange-in-Some-greater_child.new.heap) c.args.len c.down.place
+          c.in-Some-greater_child.child
           i.order greater (ap at x.at_first) (ap at x.at_second) (λ j jk jc. ap at (x.elsewhere j jk jc));
       within = greater.below;
-      available = rw x.position (availability_stays c.down.heap c.down.position c.down.place c.in-Some-greater_child.child c.args.len i.linked (omega (arith, part, c.requires.heap.known, i.known)) (omega (arith, part, c.requires.heap.known, i.known, greater.below)) i.within greater.below ∙ i.available);
+      available = rw x.position (availability_stays c.down.heap c.down.position c.down.place c.in-Some-greater_child.child c.args.len i.linked
+          (omega (arith, part, c.requires.heap.known, i.known)) (omega (arith, part, c.requires.heap.known, i.known, greater.below)) i.within
+          greater.below ∙ i.available);
     }

@@ -33,7 +33,13 @@ invariant_of-self g c _ =
     let e = c.in-Ok.ensures {u = tt} in
     let (s, fits, fresh) = (c.self.invariant c.if-self.false).stands in
     let (x, told, v, more, proof, now) = e.accepted s fits in
-    record { stands = (_, now, λ e. absurd cc); kept = e.kept; tells = e.tells; counts = since-now c.steps-self-inside.result c.accept_clause.new.ctx c.steps-self-inside.ensures.steps e.kept.ready c.steps-self-inside.ensures.plan }
+    record {
+      stands = (_, now, λ e. absurd cc);
+      kept = e.kept;
+      tells = e.tells;
+      counts =
+          since-now c.steps-self-inside.result c.accept_clause.new.ctx c.steps-self-inside.ensures.steps e.kept.ready c.steps-self-inside.ensures.plan;
+    }
 
 pub returns-in_err-check_names-clause-call : goal.returns-in_err-check_names-clause-call
 returns-in_err-check_names-clause-call g c s st =
@@ -43,8 +49,12 @@ returns-in_err-check_names-clause-call g c s st =
       unrefuted = not-refuted _ s q ok c.in_default.not-Unsat;
       unsearched = unsearched-there _ s.ever_hidden s.told s.proof c.is_searched.result (q.proof ok) c.is_searched.ensures c.if-is_searched.false;
     } in
-    let refused = told-error c.from_residual.result c.in_err-check_names.field-0.0 c.from_residual.ensures in
-    (s, subst (λ r. AddsClause s c.args.clause.now r s) (sym refused) (clause-refused _ s q (ap not c.if-self.false) c.args.clause.now bad c.in_err-check_names.field-0.0 c.in_err-check_names.ensures), st)
+    let refused = told-error c.from_residual.result c.in_err-check_names.field-0.0 c.from_residual.ensures in (
+      s,
+      subst (λ r. AddsClause s c.args.clause.now r s) (sym refused)
+          (clause-refused _ s q (ap not c.if-self.false) c.args.clause.now bad c.in_err-check_names.field-0.0 c.in_err-check_names.ensures),
+      st,
+    )
 
 pub returns-in-Ok-clause-call : goal.returns-in-Ok-clause-call
 returns-in-Ok-clause-call g c s st =
@@ -59,13 +69,27 @@ returns-in-Ok-clause-call g c s st =
     let n = name_all c.args.clause.now s.naming in
     let k' = c.accept_clause.ensures.schedule in
     let u = append_clause (map (through_names n) c.args.clause.now) x (with_naming n s) in
-    let (now, grows, goes) = proof-goes-on c.self.inside.tracer.proof c.accept_clause.new.tracer.proof s.ever_hidden s.told told s.proof (q.proof (ap not c.if-self.false)) proof in
+    let (now, grows, goes) = proof-goes-on c.self.inside.tracer.proof c.accept_clause.new.tracer.proof s.ever_hidden s.told told s.proof
+    (q.proof (ap not c.if-self.false)) proof in
     let t = record (retold told u) { proof = now } in (
       start t,
-      (stands-valid _ s q (ap not c.if-self.false), Accepted bad (may-constrain _ s q (ap not c.if-self.false) c.args.clause.now c.in_ok-check_names.ensures.0 c.in_ok-check_names.ensures.1) (x, v, like-told (start u) told now more grows)),
+      (
+        stands-valid _ s q (ap not c.if-self.false),
+        Accepted bad
+            (may-constrain _ s q (ap not c.if-self.false) c.args.clause.now c.in_ok-check_names.ensures.0 c.in_ok-check_names.ensures.1)
+            (x, v, like-told (start u) told now more grows),
+      ),
       record {
-        ledger = ledger-is _ _ _ _ _ _ (ap (λ (x : Ledger). x.valid) q.ledger ∙ ap (λ (x : SolverState). not x.state_is_invalid) (sym e.state)) refl (ap (λ (x : Ledger). x.steps) q.ledger ∙ sym (ap (λ (x : Plan). x.steps) k'.schedule)) (none-since c.steps-self-inside.result c.accept_clause.new.ctx.schedule.steps c.steps-self-inside.ensures.steps) (ap (λ (x : Ledger). x.settings) q.ledger ∙ sym k'.solver_config);
-        fits = λ _. (w, ledger-free w (spaces_of c.accept_clause.new.tracer.variables c.accept_clause.new.tracer.proof.checker (view c.accept_clause.new.ctx) c.accept_clause.new.ctx.assumptions c.accept_clause.new.ctx.solver_state.sat_state) t (record t.ledger { started = true; since = 0 }) (proof-free w _ (retold told u) now k));
+        ledger = ledger-is _ _ _ _ _ _ (ap (λ (x : Ledger). x.valid) q.ledger ∙ ap (λ (x : SolverState). not x.state_is_invalid) (sym e.state)) refl
+            (ap (λ (x : Ledger). x.steps) q.ledger ∙ sym (ap (λ (x : Plan). x.steps) k'.schedule))
+            (none-since c.steps-self-inside.result c.accept_clause.new.ctx.schedule.steps c.steps-self-inside.ensures.steps)
+            (ap (λ (x : Ledger). x.settings) q.ledger ∙ sym k'.solver_config);
+        fits = λ _. (
+          w,
+          ledger-free w (spaces_of c.accept_clause.new.tracer.variables c.accept_clause.new.tracer.proof.checker
+              (view c.accept_clause.new.ctx) c.accept_clause.new.ctx.assumptions c.accept_clause.new.ctx.solver_state.sat_state) t
+              (record t.ledger { started = true; since = 0 }) (proof-free w _ (retold told u) now k),
+        );
         proof = λ _. goes;
         flags = λ _. flags-started s (start t) (q.flags ok) refl refl grows;
       },
@@ -82,9 +106,16 @@ returns-in-Err-clause-call g c s st =
     let k = c.accept_clause.ensures.schedule in (
       broken s,
       subst (λ e. AddsClause s c.args.clause.now (Err e) (broken s)) (sym c.from.ensures)
-          (adds-broken c.in-Err.error s (broken s) c.args.clause.now (λ f. broken-open c.self.inside.tracer.proof c.accept_clause.new.tracer.proof s.ever_hidden s.told s.proof (q.proof ok) (subst (λ n. BreaksProof c.self.inside.tracer.proof n c.accept_clause.new.tracer.proof) f c.in-Err.ensures.broken)) bad (may-constrain _ s q (ap not c.if-self.false) c.args.clause.now c.in_ok-check_names.ensures.0 c.in_ok-check_names.ensures.1) (broken-invalid s (stands-valid _ s q (ap not c.if-self.false)) (q.fits (ap not c.if-self.false)).1.well_formed)),
+          (adds-broken c.in-Err.error s (broken s) c.args.clause.now
+          (λ f. broken-open c.self.inside.tracer.proof c.accept_clause.new.tracer.proof s.ever_hidden s.told s.proof (q.proof ok)
+          (subst (λ n. BreaksProof c.self.inside.tracer.proof n c.accept_clause.new.tracer.proof) f c.in-Err.ensures.broken)) bad
+          (may-constrain _ s q (ap not c.if-self.false) c.args.clause.now c.in_ok-check_names.ensures.0 c.in_ok-check_names.ensures.1)
+          (broken-invalid s (stands-valid _ s q (ap not c.if-self.false)) (q.fits (ap not c.if-self.false)).1.well_formed)),
       record {
-        ledger = ledger-is _ _ _ _ _ _ refl (ap (λ (x : Ledger). x.started) q.ledger) (ap (λ (x : Ledger). x.steps) q.ledger ∙ sym (ap (λ (x : Plan). x.steps) k.schedule)) (ap (λ (x : Ledger). x.since) q.ledger ∙ sym (ap (λ (x : Plan). x.steps - c.self.inside.changed_at) k.schedule)) (ap (λ (x : Ledger). x.settings) q.ledger ∙ sym k.solver_config);
+        ledger = ledger-is _ _ _ _ _ _ refl (ap (λ (x : Ledger). x.started) q.ledger)
+            (ap (λ (x : Ledger). x.steps) q.ledger ∙ sym (ap (λ (x : Plan). x.steps) k.schedule))
+            (ap (λ (x : Ledger). x.since) q.ledger ∙ sym (ap (λ (x : Plan). x.steps - c.self.inside.changed_at) k.schedule))
+            (ap (λ (x : Ledger). x.settings) q.ledger ∙ sym k.solver_config);
         fits = λ e. absurd cc;
         proof = λ e. absurd cc;
         flags = λ e. absurd cc;
@@ -93,15 +124,24 @@ returns-in-Err-clause-call g c s st =
 
 pub returns-in-Unsat-clause-call : goal.returns-in-Unsat-clause-call
 returns-in-Unsat-clause-call g c s st =
-    let q = rw (← c.self.view_is) at st in
-    (count_anew s, (stands-valid _ s q (ap not c.if-self.false), Ignored (unsat-known _ s q (ap not c.if-self.false) c.in-Unsat.is) refl), c.begin_count.ensures.call s st)
+    let q = rw (← c.self.view_is) at st in (
+      count_anew s,
+      (stands-valid _ s q (ap not c.if-self.false), Ignored (unsat-known _ s q (ap not c.if-self.false) c.in-Unsat.is) refl),
+      c.begin_count.ensures.call s st,
+    )
 
 pub returns-then-is_searched-clause-call : goal.returns-then-is_searched-clause-call
 returns-then-is_searched-clause-call g c s st =
     let q = rw (← c.self.view_is) at st in
     let ok = ap not c.if-self.false in (
       s,
-      (stands-valid _ s q ok, not-refuted _ s q ok c.in_default.not-Unsat, searched-there _ s.ever_hidden s.told s.proof c.is_searched.result (q.proof ok) c.is_searched.ensures c.if-is_searched.true, refl),
+      (
+        stands-valid _ s q ok,
+        not-refuted _ s q ok c.in_default.not-Unsat,
+        searched-there _ s.ever_hidden s.told s.proof c.is_searched.result
+            (q.proof ok) c.is_searched.ensures c.if-is_searched.true,
+        refl,
+      ),
       st,
     )
 
@@ -122,11 +162,13 @@ returns-in_err-check_names-clause-target g c =
     rw refused (names-unwritten c.args.self.now.opened c.self.inside.tracer.variables c.args.clause.now e c.in_err-check_names.ensures)
 
 pub returns-in-Ok-clause-target : goal.returns-in-Ok-clause-target
-returns-in-Ok-clause-target g c = rw (← c.self.view_is) (tells-writes c.self.inside.tracer.proof c.accept_clause.new.tracer.proof (c.in-Ok.ensures {u = tt}).told)
+returns-in-Ok-clause-target g c =
+    rw (← c.self.view_is) (tells-writes c.self.inside.tracer.proof c.accept_clause.new.tracer.proof (c.in-Ok.ensures {u = tt}).told)
 
 pub returns-in-Err-clause-target : goal.returns-in-Err-clause-target
 returns-in-Err-clause-target g c =
-    rw (← c.self.view_is) (subst (λ e. WritesUpTo (told_faults e) c.self.inside.tracer.proof.opened c.accept_clause.new.tracer.proof.opened) (sym c.from.ensures)
+    rw (← c.self.view_is) (subst (λ e. WritesUpTo (told_faults e) c.self.inside.tracer.proof.opened c.accept_clause.new.tracer.proof.opened)
+    (sym c.from.ensures)
     (breaks-writes c.self.inside.tracer.proof c.accept_clause.new.tracer.proof c.in-Err.error c.in-Err.ensures.broken))
 
 pub returns-in_err-check_names-clause-full : goal.returns-in_err-check_names-clause-full

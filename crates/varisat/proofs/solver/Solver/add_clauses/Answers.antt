@@ -17,14 +17,17 @@ loop-clause-init g c = record {
 
 pub loop-clause-preserved : goal.loop-clause-preserved
 loop-clause-preserved g c =
-    let seen : map (λ c. c.now) (c.loop-clause.yielded ++ c.in-Some.clause ∷ []) ≡ map (λ c. c.now) c.loop-clause.yielded ++ c.in-Some.clause.now ∷ [] = map-append _ _ _ in
+    let seen : map (λ c. c.now) (c.loop-clause.yielded ++ c.in-Some.clause ∷ []) ≡ map
+    (λ c. c.now) c.loop-clause.yielded ++ c.in-Some.clause.now ∷ [] = map-append _ _ _ in
     record {
       target = all-then _ _ _ c.loop-clause.invariant.target (c.in_ok-add_clause.ensures {u = tt}).target;
       so_far = λ s st.
           let (t, r, q) = c.loop-clause.invariant.so_far s st in
           let (u, p, w) = (c.in_ok-add_clause.ensures {u = tt}).call t q in
           (u, subst (λ P. AddsAll s P (Ok tt) u) (sym seen) (adds-last s t u _ _ r p), w);
-      whole = ap (λ P. P ++ c.next.new.self) seen ∙ append_assoc (map (λ c. c.now) c.loop-clause.yielded) (c.in-Some.clause.now ∷ []) c.next.new.self ∙ ap (λ xs. map (λ c. c.now) c.loop-clause.yielded ++ xs) (sym c.in-Some.ensures.steps) ∙ c.loop-clause.invariant.whole;
+      whole = ap (λ P. P ++ c.next.new.self) seen ∙ append_assoc (map (λ c. c.now) c.loop-clause.yielded)
+          (c.in-Some.clause.now ∷ []) c.next.new.self ∙ ap (λ xs. map (λ c. c.now) c.loop-clause.yielded ++ xs) (sym c.in-Some.ensures.steps)
+          ∙ c.loop-clause.invariant.whole;
     }
 
 pub returns-in_err-add_clause-clause-call : goal.returns-in_err-add_clause-clause-call
@@ -38,7 +41,8 @@ returns-in_err-add_clause-clause-call g c s st =
 pub returns-clause-call : goal.returns-clause-call
 returns-clause-call g c s st =
     let (t, r, q) = c.loop-clause.invariant.so_far s st in
-    let all = sym (append-nil (map (λ c. c.now) c.loop-clause.yielded)) ∙ ap (λ xs. map (λ c. c.now) c.loop-clause.yielded ++ xs) (sym (c.in-None.ensures {u = tt}).steps.0) ∙ c.loop-clause.invariant.whole in
+    let all = sym (append-nil (map (λ c. c.now) c.loop-clause.yielded))
+    ∙ ap (λ xs. map (λ c. c.now) c.loop-clause.yielded ++ xs) (sym (c.in-None.ensures {u = tt}).steps.0) ∙ c.loop-clause.invariant.whole in
     (t, subst (λ P. AddsAll s P (Ok tt) t) all r, q)
 
 pub returns-in_err-add_clause-clause-target : goal.returns-in_err-add_clause-clause-target

@@ -12,7 +12,13 @@ use Rattle.varisat.proofs.Targets.{writes-nothing, all-then, up-to-then, writes-
 use Rattle.varisat.proofs.solver.Solver.add_dimacs_cnf.Goals as goal
 
 pub pieces-init : goal.pieces-init
-pieces-init g c = record { front = []; read = read-nothing _ _ c.new_in-parser.ensures.begins; target = writes-nothing c.args.self.now.opened; so_far = λ s st. (s, (refl, refl), st) }
+pieces-init g c = record {
+  front = [];
+  read = read-nothing _ _ c.new_in-parser.ensures.begins;
+  target =
+      writes-nothing c.args.self.now.opened;
+  so_far = λ s st. (s, (refl, refl), st);
+}
 
 pub next_piece-more-requires-clause-few : goal.next_piece-more-requires-clause-few
 next_piece-more-requires-clause-few g c = omega (arith, c.pieces.invariant.read.quiet, c.requires)
@@ -22,8 +28,12 @@ returns-in_err-add_clauses-clause-call g c s st =
     let valid = stands-valid _ s (rw (← c.self.view_is) at st) (ap not c.if-self.false) in
     let (mid, a, q) = c.pieces.invariant.so_far s st in
     let (t, b, w) = (c.in_err-add_clauses.ensures {u = tt}).call mid q in
-    let refused = told-error c.from_residual.result c.in_err-add_clauses.field-0.0 c.from_residual.ensures in
-    (t, rw refused (Read valid _ (piece-refused s mid t _ _ _ _ _ _ _ _ _ _ c.pieces.invariant.read c.next_piece-more.ensures.takes (took _ _ _ c.take_formula.ensures.formula c.take_formula.ensures.rest c.take_formula.ensures.later) a b)), w)
+    let refused = told-error c.from_residual.result c.in_err-add_clauses.field-0.0 c.from_residual.ensures in (
+      t,
+      rw refused (Read valid _ (piece-refused s mid t _ _ _ _ _ _ _ _ _ _ c.pieces.invariant.read c.next_piece-more.ensures.takes
+          (took _ _ _ c.take_formula.ensures.formula c.take_formula.ensures.rest c.take_formula.ensures.later) a b)),
+      w,
+    )
 
 pub pieces-smaller : goal.pieces-smaller
 pieces-smaller g c = (c.next_piece-more.ensures.takes.goes (c.in-Ok-true.is ∙ ap Ok c.in-Ok-true.field-0-test)).1
@@ -31,7 +41,8 @@ pieces-smaller g c = (c.next_piece-more.ensures.takes.goes (c.in-Ok-true.is ∙ 
 pub pieces-preserved : goal.pieces-preserved
 pieces-preserved g c = record {
   front = c.pieces.invariant.front ++ c.take_formula.result.clauses;
-  read = read-more _ _ _ _ _ _ _ _ _ _ c.pieces.invariant.read c.next_piece-more.ensures.takes c.in-Ok-true.is c.next_piece-more.ensures.open (took _ _ _ c.take_formula.ensures.formula c.take_formula.ensures.rest c.take_formula.ensures.later);
+  read = read-more _ _ _ _ _ _ _ _ _ _ c.pieces.invariant.read c.next_piece-more.ensures.takes c.in-Ok-true.is c.next_piece-more.ensures.open
+      (took _ _ _ c.take_formula.ensures.formula c.take_formula.ensures.rest c.take_formula.ensures.later);
   target = all-then _ _ _ c.pieces.invariant.target (c.in_ok-add_clauses.ensures {u = tt}).target;
   so_far = λ s st.
       let (mid, a, q) = c.pieces.invariant.so_far s st in
@@ -51,7 +62,8 @@ returns-in-Err-clause-call g c s st =
       t,
       Read valid _
           (text-broken s mid t _ _ _ _ _ _ c.in-Err.fault _ _ c.pieces.invariant.read c.next_piece-more.ensures.takes c.in-Err.is a
-          (piece-fault mid u t _ _ _ _ _ took (piece_told _ _ _ _ c.in-Err.fault _ c.pieces.invariant.read.open_still c.next_piece-more.ensures.takes c.in-Err.is) added f)),
+          (piece-fault mid u t _ _ _ _ _ took
+          (piece_told _ _ _ _ c.in-Err.fault _ c.pieces.invariant.read.open_still c.next_piece-more.ensures.takes c.in-Err.is) added f)),
       z,
     )
 
@@ -64,7 +76,8 @@ returns-clause-call g c s st =
     let (u, b, w) = (c.in_ok-add_clauses.ensures {u = tt}).call mid q in
     let all = adds-more s mid u _ _ (Ok tt) a b in
     let (p, e, t, d, z) = c.end_text.ensures.call u w (adds-valid s u _ valid all) in
-    let read = read-more _ _ _ _ _ _ _ _ _ _ c.pieces.invariant.read k ok c.next_piece-more.ensures.open (took _ _ _ c.take_formula.ensures.formula c.take_formula.ensures.rest c.take_formula.ensures.later) in
+    let read = read-more _ _ _ _ _ _ _ _ _ _ c.pieces.invariant.read k ok c.next_piece-more.ensures.open
+    (took _ _ _ c.take_formula.ensures.formula c.take_formula.ensures.rest c.take_formula.ensures.later) in
     (t, Read valid _ (text-ended s u t _ _ _ p _ _ read (k.ends ok).1 e all d), z)
 
 pub returns-then-self-clause-target : goal.returns-then-self-clause-target
@@ -85,7 +98,8 @@ pub returns-in-Err-clause-target : goal.returns-in-Err-clause-target
 returns-in-Err-clause-target g c =
     let e = c.refuse_text.result in
     subst (WritesUpTo (told_faults e) c.args.self.now.opened) (sym c.refuse_text.ensures.same)
-    (up-to-then _ _ _ (told_faults e) (all-then _ _ _ c.pieces.invariant.target (c.in_ok-add_clauses.ensures {u = tt}).target) (refused-unwritten _ e c.refuse_text.ensures.faults))
+    (up-to-then _ _ _ (told_faults e) (all-then _ _ _ c.pieces.invariant.target (c.in_ok-add_clauses.ensures {u = tt}).target)
+    (refused-unwritten _ e c.refuse_text.ensures.faults))
 
 pub returns-in-Err-clause-full : goal.returns-in-Err-clause-full
 returns-in-Err-clause-full g c f = absurd (c.refuse_text.ensures.full (same-error _ ClauseStoreFull f))

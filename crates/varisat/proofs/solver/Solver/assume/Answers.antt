@@ -23,13 +23,26 @@ pub invariant_of-self : goal.invariant_of-self
 invariant_of-self g c _ =
     let e = c.in-Ok.ensures {u = tt} in
     let (s, fits, fresh) = (c.self.invariant c.if-self.false).stands in
-    record { stands = (_, e.assumed s c.self.inside.tracer.proof.checker fits, λ e. absurd cc); kept = e.kept; tells = (c.self.invariant c.if-self.false).tells; counts = since-now c.steps-self-inside.result c.assume_list.new.ctx c.steps-self-inside.ensures.steps e.kept.ready c.steps-self-inside.ensures.plan }
+    record {
+      stands = (_, e.assumed s c.self.inside.tracer.proof.checker fits, λ e. absurd cc);
+      kept = e.kept;
+      tells =
+          (c.self.invariant c.if-self.false).tells;
+      counts = since-now c.steps-self-inside.result c.assume_list.new.ctx
+          c.steps-self-inside.ensures.steps e.kept.ready c.steps-self-inside.ensures.plan;
+    }
 
 pub returns-in_err-check_names : goal.returns-in_err-check_names
 returns-in_err-check_names g c s st =
     let q = rw (← c.self.view_is) at st in
-    let refused = told-error c.from_residual.result c.in_err-check_names.field-0.0 c.from_residual.ensures in
-    (s, subst (λ r. Assumes s c.args.lits.now r s) (sym refused) (list-refused _ s q (ap not c.if-self.false) c.args.lits.now (none-there _ s.proof (q.proof (ap not c.if-self.false)).same (sym c.is_open.ensures ∙ c.if-is_open.false)) c.in_err-check_names.field-0.0 c.in_err-check_names.ensures), st)
+    let refused = told-error c.from_residual.result c.in_err-check_names.field-0.0 c.from_residual.ensures in (
+      s,
+      subst (λ r. Assumes s c.args.lits.now r s) (sym refused)
+          (list-refused _ s q (ap not c.if-self.false) c.args.lits.now
+          (none-there _ s.proof (q.proof (ap not c.if-self.false)).same (sym c.is_open.ensures ∙ c.if-is_open.false))
+          c.in_err-check_names.field-0.0 c.in_err-check_names.ensures),
+      st,
+    )
 
 pub returns-in-Ok : goal.returns-in-Ok
 returns-in-Ok g c s st =
@@ -39,12 +52,27 @@ returns-in-Ok g c s st =
     let n = name_all c.args.lits.now s.naming in
     let plan = c.assume_list.ensures.schedule in
     let new = c.assume_list.new.ctx in
-    let t = retold (s.told ++ Assumed (map (through_names n) c.args.lits.now) ∷ []) (with_assumptions (map (through_names n) c.args.lits.now) (with_naming n s)) in (
+    let t = retold (s.told ++ Assumed (map (through_names n) c.args.lits.now) ∷ [])
+    (with_assumptions (map (through_names n) c.args.lits.now) (with_naming n s)) in (
       start t,
-      (stands-valid _ s q (ap not c.if-self.false), none-there _ s.proof (q.proof (ap not c.if-self.false)).same (sym c.is_open.ensures ∙ c.if-is_open.false), may-constrain _ s q (ap not c.if-self.false) c.args.lits.now c.in_ok-check_names.ensures.0 c.in_ok-check_names.ensures.1, like-refl (start t)),
+      (
+        stands-valid _ s q (ap not c.if-self.false),
+        none-there _ s.proof (q.proof (ap not c.if-self.false)).same
+            (sym c.is_open.ensures ∙ c.if-is_open.false),
+        may-constrain _ s q
+            (ap not c.if-self.false) c.args.lits.now c.in_ok-check_names.ensures.0 c.in_ok-check_names.ensures.1,
+        like-refl (start t),
+      ),
       record {
-        ledger = ledger-is _ _ _ _ _ _ (ap (λ (x : Ledger). x.valid) q.ledger ∙ ap (λ (x : SolverState). not x.state_is_invalid) (sym e.state)) refl (ap (λ (x : Ledger). x.steps) q.ledger ∙ sym (ap (λ (x : Plan). x.steps) plan.schedule)) (none-since c.steps-self-inside.result c.assume_list.new.ctx.schedule.steps c.steps-self-inside.ensures.steps) (ap (λ (x : Ledger). x.settings) q.ledger ∙ sym plan.solver_config);
-        fits = λ _. (w, ledger-free w (spaces_of c.assume_list.new.variables c.self.inside.tracer.proof.checker (view new) new.assumptions new.solver_state.sat_state) t (record t.ledger { started = true; since = 0 }) k);
+        ledger = ledger-is _ _ _ _ _ _ (ap (λ (x : Ledger). x.valid) q.ledger ∙ ap (λ (x : SolverState). not x.state_is_invalid) (sym e.state)) refl
+            (ap (λ (x : Ledger). x.steps) q.ledger ∙ sym (ap (λ (x : Plan). x.steps) plan.schedule))
+            (none-since c.steps-self-inside.result c.assume_list.new.ctx.schedule.steps c.steps-self-inside.ensures.steps)
+            (ap (λ (x : Ledger). x.settings) q.ledger ∙ sym plan.solver_config);
+        fits = λ _. (
+          w,
+          ledger-free w (spaces_of c.assume_list.new.variables c.self.inside.tracer.proof.checker
+              (view new) new.assumptions new.solver_state.sat_state) t (record t.ledger { started = true; since = 0 }) k,
+        );
         proof = λ v. assumed-fits _ s.ever_hidden s.told (map (through_names n) c.args.lits.now) s.proof (q.proof (ap not c.if-self.false));
         flags = λ _. flags-assumed (start t) refl (none-there _ s.proof (q.proof (ap not c.if-self.false)).same (sym c.is_open.ensures ∙ c.if-is_open.false));
       },
@@ -55,9 +83,18 @@ returns-in-Err g c s st =
     let q = rw (← c.self.view_is) at st in
     let plan = c.assume_list.ensures.schedule in (
       broken s,
-      (none-there _ s.proof (q.proof (ap not c.if-self.false)).same (sym c.is_open.ensures ∙ c.if-is_open.false), may-constrain _ s q (ap not c.if-self.false) c.args.lits.now c.in_ok-check_names.ensures.0 c.in_ok-check_names.ensures.1, broken-invalid s (stands-valid _ s q (ap not c.if-self.false)) (q.fits (ap not c.if-self.false)).1.well_formed),
+      (
+        none-there _ s.proof (q.proof (ap not c.if-self.false)).same (sym c.is_open.ensures ∙ c.if-is_open.false),
+        may-constrain _ s q
+            (ap not c.if-self.false) c.args.lits.now c.in_ok-check_names.ensures.0 c.in_ok-check_names.ensures.1,
+        broken-invalid s
+            (stands-valid _ s q (ap not c.if-self.false)) (q.fits (ap not c.if-self.false)).1.well_formed,
+      ),
       record {
-        ledger = ledger-is _ _ _ _ _ _ refl (ap (λ (x : Ledger). x.started) q.ledger) (ap (λ (x : Ledger). x.steps) q.ledger ∙ sym (ap (λ (x : Plan). x.steps) plan.schedule)) (ap (λ (x : Ledger). x.since) q.ledger ∙ sym (ap (λ (x : Plan). x.steps - c.self.inside.changed_at) plan.schedule)) (ap (λ (x : Ledger). x.settings) q.ledger ∙ sym plan.solver_config);
+        ledger = ledger-is _ _ _ _ _ _ refl (ap (λ (x : Ledger). x.started) q.ledger)
+            (ap (λ (x : Ledger). x.steps) q.ledger ∙ sym (ap (λ (x : Plan). x.steps) plan.schedule))
+            (ap (λ (x : Ledger). x.since) q.ledger ∙ sym (ap (λ (x : Plan). x.steps - c.self.inside.changed_at) plan.schedule))
+            (ap (λ (x : Ledger). x.settings) q.ledger ∙ sym plan.solver_config);
         fits = λ e. absurd cc;
         proof = λ e. absurd cc;
         flags = λ e. absurd cc;

@@ -25,8 +25,10 @@ invariant_of-self-in-Ok g c v =
     record {
       kept = k.kept;
       tells = subst CanTell (sym c.close_proof.ensures.closed) (record { room = tt; usable = k.tells.usable });
-      stands = subst (λ (p : ProofParts). StandsForSome (spaces_with c.self.inside.tracer.variables p.checker c.self.inside.ctx) c.self.inside.started) (sym c.close_proof.ensures.closed) k.stands;
-      counts = since-now c.steps-self-inside-in-Ok.result c.self.inside.ctx c.steps-self-inside-in-Ok.ensures.steps k.kept.ready c.steps-self-inside-in-Ok.ensures.plan;
+      stands = subst (λ (p : ProofParts). StandsForSome (spaces_with c.self.inside.tracer.variables p.checker c.self.inside.ctx)
+          c.self.inside.started) (sym c.close_proof.ensures.closed) k.stands;
+      counts = since-now c.steps-self-inside-in-Ok.result c.self.inside.ctx c.steps-self-inside-in-Ok.ensures.steps k.kept.ready
+          c.steps-self-inside-in-Ok.ensures.plan;
     }
 
 pub returns-in-Ok-clause-call : goal.returns-in-Ok-clause-call
@@ -42,7 +44,9 @@ returns-in-Ok-clause-call g c s st =
         )),
         refl,
       ),
-      stands-with-proof c.self.inside.tracer.variables c.self.inside.tracer.proof c.close_proof.new.proof c.self.inside.started c.self.inside.changed_at c.steps-self-inside-in-Ok.result c.self.inside.ctx s None c.steps-self-inside-in-Ok.ensures.steps (ap (λ (p : ProofParts). p.checker) c.close_proof.ensures.closed)
+      stands-with-proof c.self.inside.tracer.variables c.self.inside.tracer.proof c.close_proof.new.proof c.self.inside.started
+          c.self.inside.changed_at c.steps-self-inside-in-Ok.result c.self.inside.ctx s None c.steps-self-inside-in-Ok.ensures.steps
+          (ap (λ (p : ProofParts). p.checker) c.close_proof.ensures.closed)
           (ap (λ (p : ProofParts). p.opened) c.close_proof.ensures.closed) tt (λ (p, e). absurd cc) q,
     )
 
@@ -50,7 +54,8 @@ pub returns-in-Ok-clause-handed : goal.returns-in-Ok-clause-handed
 returns-in-Ok-clause-handed g c = rw (← c.self.view_is) (closed-back Error SolverError g.W.ProofTarget.taken _ c.in-Ok.target c.in-Ok.ensures.taken)
 
 pub returns-in-Err-clause-handed : goal.returns-in-Err-clause-handed
-returns-in-Err-clause-handed g c = rw (← c.self.view_is) (closed-fails g.W.ProofTarget.taken _ c.in-Err.cause (ProofIoError c.in-Err.cause) c.in-Err.target c.in-Err.ensures.taken)
+returns-in-Err-clause-handed g c =
+    rw (← c.self.view_is) (closed-fails g.W.ProofTarget.taken _ c.in-Err.cause (ProofIoError c.in-Err.cause) c.in-Err.target c.in-Err.ensures.taken)
 
 pub returns-in-Err-clause-call : goal.returns-in-Err-clause-call
 returns-in-Err-clause-call g c s st =
@@ -58,6 +63,11 @@ returns-in-Err-clause-call g c s st =
     let ok = ap not c.if-self.false in
     let closed = subst (λ o. IsClosed g.W.ProofTarget.taken o (Err (c.in-Err.cause, c.in-Err.target))) (q.proof ok).same c.in-Err.ensures.taken in (
       broken s,
-      (closed-fails g.W.ProofTarget.taken (opened_state s.proof) c.in-Err.cause (ProofIoError c.in-Err.cause) c.in-Err.target closed, proof-of _ s q ok, broken-invalid s (stands-valid _ s q ok) (q.fits ok).1.well_formed),
+      (
+        closed-fails g.W.ProofTarget.taken (opened_state s.proof) c.in-Err.cause
+            (ProofIoError c.in-Err.cause) c.in-Err.target closed,
+        proof-of _ s q ok,
+        broken-invalid s (stands-valid _ s q ok) (q.fits ok).1.well_formed,
+      ),
       record { ledger = ap (λ (l : Ledger). record l { valid = false }) q.ledger; fits = λ v. absurd cc; proof = λ v. absurd cc; flags = λ v. absurd cc },
     )

@@ -11,14 +11,23 @@ use Rattle.varisat.proofs.solver.Solver.config.Goals as goal
 pub returns : goal.returns
 returns g c s st =
     let q = rw (← c.self.view_is) at st in
-    let e = c.in-Ok.ensures.changed in
-    (with_update c.args.update.now s, (stands-valid _ s q (ap not c.if-self.false), e.0, refl), stands-updated (parts_of c.self.inside.tracer) c.self.inside.started c.self.inside.changed_at c.steps-self-inside.result c.self.inside.ctx c.config_changed.new.self c.args.update.now _ _ s e.1 c.steps-self-inside.ensures.steps q)
+    let e = c.in-Ok.ensures.changed in (
+      with_update c.args.update.now s,
+      (stands-valid _ s q (ap not c.if-self.false), e.0, refl),
+      stands-updated
+          (parts_of c.self.inside.tracer) c.self.inside.started c.self.inside.changed_at c.steps-self-inside.result c.self.inside.ctx
+          c.config_changed.new.self c.args.update.now _ _ s e.1 c.steps-self-inside.ensures.steps q,
+    )
 
 pub returns-in-Err : goal.returns-in-Err
 returns-in-Err g c s st =
     let q = rw (← c.self.view_is) at st in
-    let e = c.in-Err.ensures.changed in
-    (s, (stands-valid _ s q (ap not c.if-self.false), e.0, refl), stands-same (parts_of c.self.inside.tracer) c.self.inside.started c.self.inside.changed_at c.self.inside.ctx c.config_changed.new.self s e.1 q)
+    let e = c.in-Err.ensures.changed in (
+      s,
+      (stands-valid _ s q (ap not c.if-self.false), e.0, refl),
+      stands-same
+          (parts_of c.self.inside.tracer) c.self.inside.started c.self.inside.changed_at c.self.inside.ctx c.config_changed.new.self s e.1 q,
+    )
 
 pub invariant_of-self-2 : goal.invariant_of-self-2
 invariant_of-self-2 g c v =
@@ -29,7 +38,9 @@ invariant_of-self-2 g c v =
     let ready = c.config_changed.ensures.ready k.ready in
     record {
       kept = kept-updated c.self.inside.tracer.variables x y c.args.update.now _ _ e.1 ready c.config_changed.ensures.decidable k;
-      stands = subst (λ (z : Context g.row.A.Denot). StandsForSome (spaces_with c.self.inside.tracer.variables c.self.inside.tracer.proof.checker z) c.self.inside.started) (sym e.1) (c.self.invariant c.if-self.false).stands;
+      stands = subst (λ (z : Context g.row.A.Denot). StandsForSome
+          (spaces_with c.self.inside.tracer.variables c.self.inside.tracer.proof.checker z) c.self.inside.started) (sym e.1)
+          (c.self.invariant c.if-self.false).stands;
       tells = (c.self.invariant c.if-self.false).tells;
       counts = since-now c.steps-self-inside.result y c.steps-self-inside.ensures.steps ready c.steps-self-inside.ensures.plan;
     }

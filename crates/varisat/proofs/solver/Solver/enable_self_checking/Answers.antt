@@ -27,7 +27,8 @@ returns-clause-call g c s st =
     let (e, runs) = begun-or-on c.self.inside.tracer.proof c.begin_checking.new.self c.begin_checking.ensures.begun c.begin_checking.ensures.stays in (
       count_anew s,
       (stands-valid _ s q ok, fresh, refl),
-      stands-checking c.self.inside.tracer.variables c.self.inside.tracer.proof c.begin_checking.new.self c.self.inside.started c.self.inside.changed_at c.steps-self-inside.result c.self.inside.ctx s c.steps-self-inside.ensures.steps e fresh q,
+      stands-checking c.self.inside.tracer.variables c.self.inside.tracer.proof c.begin_checking.new.self c.self.inside.started
+          c.self.inside.changed_at c.steps-self-inside.result c.self.inside.ctx s c.steps-self-inside.ensures.steps e fresh q,
     )
 
 pub returns-clause-runs : goal.returns-clause-runs

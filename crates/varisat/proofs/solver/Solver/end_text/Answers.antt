@@ -22,16 +22,28 @@ returns-in_err-add_clauses-clause-call g c s st v =
 pub returns-in-Ok-clause-call : goal.returns-in-Ok-clause-call
 returns-in-Ok-clause-call g c s st v =
     let (t, b, w) = (c.in_ok-add_clauses.ensures {u = tt}).call s st in
-    let last = took _ _ _ c.take_formula.ensures.formula c.take_formula.ensures.rest c.take_formula.ensures.later in
-    (_, c.finish-end.ensures.reads, count_anew t, piece-fault s t (count_anew t) _ _ _ None _ last (sym c.finish-end.ensures.answer ∙ ap fault_of c.in-Ok.is) b (NoFault refl refl refl), c.begin_count.ensures.call t w)
+    let last = took _ _ _ c.take_formula.ensures.formula c.take_formula.ensures.rest c.take_formula.ensures.later in (
+      _,
+      c.finish-end.ensures.reads,
+      count_anew t,
+      piece-fault s t (count_anew t) _ _ _ None _ last
+          (sym c.finish-end.ensures.answer ∙ ap fault_of c.in-Ok.is) b (NoFault refl refl refl),
+      c.begin_count.ensures.call t w,
+    )
 
 pub returns-in-Err-clause-call : goal.returns-in-Err-clause-call
 returns-in-Err-clause-call g c s st v =
     let (t, b, w) = (c.in_ok-add_clauses.ensures {u = tt}).call s st in
     let last = took _ _ _ c.take_formula.ensures.formula c.take_formula.ensures.rest c.take_formula.ensures.later in
     let added = b in
-    let (u, f, z) = c.refuse_text.ensures.call t w (adds-valid s t _ v added) in
-    (_, c.finish-end.ensures.reads, u, piece-fault s t u _ _ _ (Some c.in-Err.fault) _ last (sym c.finish-end.ensures.answer ∙ ap fault_of c.in-Err.is) added f, z)
+    let (u, f, z) = c.refuse_text.ensures.call t w (adds-valid s t _ v added) in (
+      _,
+      c.finish-end.ensures.reads,
+      u,
+      piece-fault s t u _ _ _ (Some c.in-Err.fault) _ last
+          (sym c.finish-end.ensures.answer ∙ ap fault_of c.in-Err.is) added f,
+      z,
+    )
 
 pub returns-in_err-add_clauses-clause-target : goal.returns-in_err-add_clauses-clause-target
 returns-in_err-add_clauses-clause-target g c =

@@ -9,12 +9,14 @@ use Rattle.varisat.proofs.solver.Solver.failed_core.Goals as goal
 pub returns-in-UnsatUnderAssumptions-clause-call : goal.returns-in-UnsatUnderAssumptions-clause-call
 returns-in-UnsatUnderAssumptions-clause-call g c s st =
     let q = rw (← c.self.view_is) at st in
-    let told = subst (λ (core : List Literal). IsCoreToTell s (Some core)) (sym c.user_failed_core-core.ensures) (core-to-tell _ s q (ap not c.if-self.false) c.in-UnsatUnderAssumptions.is) in
+    let told = subst (λ (core : List Literal). IsCoreToTell s (Some core)) (sym c.user_failed_core-core.ensures)
+    (core-to-tell _ s q (ap not c.if-self.false) c.in-UnsatUnderAssumptions.is) in
     (s, (inl (stands-valid _ s q (ap not c.if-self.false), told), refl), st)
 
 pub returns-in-UnsatUnderAssumptions-clause-fails : goal.returns-in-UnsatUnderAssumptions-clause-fails
 returns-in-UnsatUnderAssumptions-clause-fails g c m e s st =
     let q = rw (← c.self.view_is) at st in
     let same : c.user_failed_core-core.result.now ≡ m = cc in
-    let told = subst (λ (core : List Literal). IsCoreToTell s (Some core)) (sym c.user_failed_core-core.ensures ∙ same) (core-to-tell _ s q (ap not c.if-self.false) c.in-UnsatUnderAssumptions.is) in
+    let told = subst (λ (core : List Literal). IsCoreToTell s (Some core)) (sym c.user_failed_core-core.ensures ∙ same)
+    (core-to-tell _ s q (ap not c.if-self.false) c.in-UnsatUnderAssumptions.is) in
     (told.0, told-fails s m (q.fits (ap not c.if-self.false)).1.right told)

@@ -20,17 +20,28 @@ pub invariant_of-self : goal.invariant_of-self
 invariant_of-self g c v =
     let k = (c.self.invariant c.if-self.false).kept in
     record {
-      kept = kept-after c.self.inside.ctx c.self.inside.tracer.variables c.hide_named.new.tracer.variables k (hides-stay c.args.var c.self.inside.ctx.solver_state.sat_state (parts_of c.self.inside.tracer) (parts_of c.hide_named.new.tracer) (c.in-Ok.ensures {u = tt}));
-      tells = let (given, told, opened) = hides-told c.args.var c.self.inside.ctx.solver_state.sat_state (parts_of c.self.inside.tracer) (parts_of c.hide_named.new.tracer) (c.in-Ok.ensures {u = tt}) in tells-told c.self.inside.tracer.proof c.hide_named.new.tracer.proof given told (c.self.invariant c.if-self.false).tells;
-      stands = let (s, f, fresh) = (c.self.invariant c.if-self.false).stands in let (told, more, fits) = hide-state (summary_of (parts_of c.self.inside.tracer) c.self.inside.started c.self.inside.changed_at c.self.inside.ctx) s c.args.var c.self.inside.tracer.proof (parts_of c.hide_named.new.tracer) refl f (c.in-Ok.ensures {u = tt}) in (_, fits, fresh);
+      kept = kept-after c.self.inside.ctx c.self.inside.tracer.variables c.hide_named.new.tracer.variables k
+          (hides-stay c.args.var c.self.inside.ctx.solver_state.sat_state (parts_of c.self.inside.tracer) (parts_of c.hide_named.new.tracer)
+          (c.in-Ok.ensures {u = tt}));
+      tells = let (given, told, opened) = hides-told c.args.var c.self.inside.ctx.solver_state.sat_state (parts_of c.self.inside.tracer)
+          (parts_of c.hide_named.new.tracer) (c.in-Ok.ensures {u = tt}) in
+          tells-told c.self.inside.tracer.proof c.hide_named.new.tracer.proof given told (c.self.invariant c.if-self.false).tells;
+      stands = let (s, f, fresh) = (c.self.invariant c.if-self.false).stands in
+          let (told, more, fits) = hide-state
+          (summary_of (parts_of c.self.inside.tracer) c.self.inside.started c.self.inside.changed_at c.self.inside.ctx) s c.args.var
+          c.self.inside.tracer.proof (parts_of c.hide_named.new.tracer) refl f (c.in-Ok.ensures {u = tt}) in (_, fits, fresh);
       counts = since-now c.steps-self-inside.result c.self.inside.ctx c.steps-self-inside.ensures.steps k.ready c.steps-self-inside.ensures.plan;
     }
 
 pub returns-in_err-check_change : goal.returns-in_err-check_change
 returns-in_err-check_change g c s st =
     let k = begins (rw (← c.self.view_is) at st) (ap not c.if-self.false) in
-    let refused = told-error c.from_residual.result c.in_err-check_change.field-0.0 c.from_residual.ensures in
-    (s, subst (λ r. HidesVar s c.args.var r s) (sym refused) (change-refused true (hide_name c.args.var) c.args.var c.in_err-check_change.field-0.0 k c.in_err-check_change.ensures), st)
+    let refused = told-error c.from_residual.result c.in_err-check_change.field-0.0 c.from_residual.ensures in (
+      s,
+      subst (λ r. HidesVar s c.args.var r s) (sym refused)
+          (change-refused true (hide_name c.args.var) c.args.var c.in_err-check_change.field-0.0 k c.in_err-check_change.ensures),
+      st,
+    )
 
 pub returns-in-Ok : goal.returns-in-Ok
 returns-in-Ok g c s st =
@@ -39,14 +50,26 @@ returns-in-Ok g c s st =
     let q = parts_of c.hide_named.new.tracer in
     let v = c.self.inside.ctx.solver_state.sat_state in
     let hides = c.in-Ok.ensures {u = tt} in
-    let (told, more, fits) = hide-state (summary_of (parts_of c.self.inside.tracer) c.self.inside.started c.self.inside.changed_at c.self.inside.ctx) s c.args.var p q refl k.fits hides in
+    let (told, more, fits) = hide-state
+    (summary_of (parts_of c.self.inside.tracer) c.self.inside.started c.self.inside.changed_at c.self.inside.ctx) s c.args.var p q refl k.fits hides in
     let (given, was_told, same) = hides-told c.args.var v (parts_of c.self.inside.tracer) q hides in
     let u = hide_name c.args.var (name_var named c.args.var s) in
     let t = retold told u in
     let may = c.in_ok-check_change.ensures in (
       t,
       (k.valid, may.in_range, unassumed-state c.args.var k may.unassumed, like-retold u told more.more),
-      record { ledger = ledger-is _ _ _ _ _ _ (ap (λ (x : Ledger). x.valid) k.ledger) (ap (λ (x : Ledger). x.started) k.ledger) (ap (λ (x : Ledger). x.steps) k.ledger) (none-since c.steps-self-inside.result c.self.inside.ctx.schedule.steps c.steps-self-inside.ensures.steps) (ap (λ (x : Ledger). x.settings) k.ledger); fits = λ _. fits; proof = λ _. subst (λ (o : Option OpenState). ProofFits o true told s.proof) (sym same) (hidden-fits _ s.ever_hidden s.told told s.proof k.proof); flags = λ _. let f = k.flags in record { clauses = f.clauses; assumptions = f.assumptions; counted = f.counted; unassumed = f.unassumed } },
+      record {
+        ledger = ledger-is _ _ _ _ _ _ (ap (λ (x : Ledger). x.valid) k.ledger) (ap (λ (x : Ledger). x.started) k.ledger)
+            (ap (λ (x : Ledger). x.steps) k.ledger)
+            (none-since c.steps-self-inside.result c.self.inside.ctx.schedule.steps c.steps-self-inside.ensures.steps)
+            (ap (λ (x : Ledger). x.settings) k.ledger);
+        fits = λ _. fits;
+        proof =
+            λ _. subst (λ (o : Option OpenState). ProofFits o true told s.proof) (sym same)
+            (hidden-fits _ s.ever_hidden s.told told s.proof k.proof);
+        flags = λ _. let f = k.flags in
+            record { clauses = f.clauses; assumptions = f.assumptions; counted = f.counted; unassumed = f.unassumed };
+      },
     )
 
 pub returns-in-Err : goal.returns-in-Err

@@ -22,5 +22,9 @@ returns-in_ok-list-in-Sat-clause-completable g c m e s st =
 
 pub returns-in_err-list-in-Sat-clause-call : goal.returns-in_err-list-in-Sat-clause-call
 returns-in_err-list-in-Sat-clause-call g c s st =
-    let q = rw (← c.self.view_is) at st in
-    (s, tells-error s c.from_residual.result c.from_residual.ensures.0 (stands-valid _ s q (ap not c.if-self.false)) (sat-answer _ s q (ap not c.if-self.false) c.in-Sat.is), st)
+    let q = rw (← c.self.view_is) at st in (
+      s,
+      tells-error s c.from_residual.result c.from_residual.ensures.0 (stands-valid _ s q (ap not c.if-self.false))
+          (sat-answer _ s q (ap not c.if-self.false) c.in-Sat.is),
+      st,
+    )

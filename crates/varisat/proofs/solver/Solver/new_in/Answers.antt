@@ -18,7 +18,9 @@ use Rattle.varisat.proofs.SinceSteps.{since-now, first-plan-is}
 use Rattle.varisat.proofs.solver.Solver.new_in.Goals as goal
 
 -- a new solver stands for the empty state
-begun : {A : Type 0} (t : Tables) (p : ProofParts) (x : Context A) → t ≡ no_variables → p ≡ record { opened = None; checker = None } → x.assumptions ≡ no_assumptions → x.solver_state.sat_state ≡ verdict.Unknown → search_of (view x) ≡ first_search → length x.assignment.current ≡ 0 → StandsForSome (spaces_with t p.checker x) false
+begun : {A : Type 0} (t : Tables) (p : ProofParts) (x : Context A) → t ≡ no_variables → p ≡ record { opened = None; checker = None } →
+    x.assumptions ≡ no_assumptions → x.solver_state.sat_state ≡ verdict.Unknown → search_of (view x) ≡ first_search →
+    length x.assignment.current ≡ 0 → StandsForSome (spaces_with t p.checker x) false
 begun t p x tables proof assumed unknown seen empty = (
   empty_state,
   subst (λ (o : ProofParts). SpacesFit (spaces_of t o.checker (view x) x.assumptions x.solver_state.sat_state) empty_state) (sym proof)
@@ -33,8 +35,11 @@ unfolding begun
 returns g c =
     let s = c.new_in.ensures.state in
     record {
-      ledger = ledger-is _ _ _ _ _ _ (ap (λ (x : SolverState). not x.state_is_invalid) (sym s)) refl (ap (λ (x : Plan). x.steps) (sym c.new_in.ensures.schedule)) (ap (λ (x : Plan). x.steps - 0) (sym c.new_in.ensures.schedule)) (sym c.new_in.ensures.config);
-      fits = λ _. (begun c.new_in-2.result.variables c.new_in-2.result.proof c.new_in.result c.new_in-2.ensures.variables c.new_in-2.ensures.proof c.new_in.ensures.assumptions (ap (λ (x : SolverState). x.sat_state) c.new_in.ensures.state) c.new_in.ensures.seen c.new_in.ensures.empty).1;
+      ledger = ledger-is _ _ _ _ _ _ (ap (λ (x : SolverState). not x.state_is_invalid) (sym s)) refl
+          (ap (λ (x : Plan). x.steps) (sym c.new_in.ensures.schedule)) (ap (λ (x : Plan). x.steps - 0) (sym c.new_in.ensures.schedule))
+          (sym c.new_in.ensures.config);
+      fits = λ _. (begun c.new_in-2.result.variables c.new_in-2.result.proof c.new_in.result c.new_in-2.ensures.variables c.new_in-2.ensures.proof
+          c.new_in.ensures.assumptions (ap (λ (x : SolverState). x.sat_state) c.new_in.ensures.state) c.new_in.ensures.seen c.new_in.ensures.empty).1;
       proof = λ _. record { same = ap (λ (p : ProofParts). p.opened) c.new_in-2.ensures.proof; written = tt };
       flags = λ _. record { clauses = λ e. refl; assumptions = λ e. refl; counted = λ e. refl; unassumed = λ (p, e). absurd cc };
     }
@@ -45,6 +50,7 @@ invariant_of-result g c _ =
     record {
       kept = first-kept c.new_in-2.result.variables c.new_in.result c.new_in-2.ensures.variables e.ready e.empty e.assumptions e.none_decidable;
       tells = subst CanTell (sym c.new_in-2.ensures.proof) (record { room = tt; usable = tt });
-      stands = begun c.new_in-2.result.variables c.new_in-2.result.proof c.new_in.result c.new_in-2.ensures.variables c.new_in-2.ensures.proof c.new_in.ensures.assumptions (ap (λ (x : SolverState). x.sat_state) c.new_in.ensures.state) c.new_in.ensures.seen c.new_in.ensures.empty;
+      stands = begun c.new_in-2.result.variables c.new_in-2.result.proof c.new_in.result c.new_in-2.ensures.variables c.new_in-2.ensures.proof
+          c.new_in.ensures.assumptions (ap (λ (x : SolverState). x.sat_state) c.new_in.ensures.state) c.new_in.ensures.seen c.new_in.ensures.empty;
       counts = since-now 0 c.new_in.result (ap (λ (x : Plan). x.steps) (sym e.schedule)) e.ready (subst IsPlan (sym e.schedule) first-plan-is);
     }

@@ -44,11 +44,18 @@ invariant_of-self g c v =
         ready = k.ready;
         count = k.count ∙ ap (λ m. length m.backward) (sym t.solvers);
         decidable = tables-in-use old new (view c.self.inside.ctx) c.self.inside.ctx.vsids t.solvers k.decidable;
-        assumed = λ l h. let (y, e) = there-is (at old.users.forward (variable_of l)) (k.assumed l h) in is-there (at new.users.forward (variable_of l)) y (keeps.named (variable_of l) y e);
-        marked = λ l y h f. let (z, e) = there-is (at old.users.forward (variable_of l)) (k.assumed l h) in marked-keeps old new (variable_of l) y z c.prove_linked.ensures keeps e (k.marked l z h e) f;
+        assumed = λ l h. let (y, e) = there-is (at old.users.forward (variable_of l)) (k.assumed l h) in
+            is-there (at new.users.forward (variable_of l)) y (keeps.named (variable_of l) y e);
+        marked = λ l y h f. let (z, e) = there-is (at old.users.forward (variable_of l)) (k.assumed l h) in
+            marked-keeps old new (variable_of l) y z c.prove_linked.ensures keeps e (k.marked l z h e) f;
         working = λ l h. assumed-keeps old new (variable_of l) c.prove_linked.ensures keeps (k.working l h);
       };
-      stands = let (s, f, fresh) = (c.self.invariant c.if-self.false).stands in (_, new-named (summary_of (parts_of c.self.inside.tracer) c.self.inside.started c.self.inside.changed_at c.self.inside.ctx) s new u x f least.least (unmapped-near old.users.forward u least.least) t, λ e. absurd cc);
+      stands = let (s, f, fresh) = (c.self.invariant c.if-self.false).stands in (
+        _,
+        new-named (summary_of (parts_of c.self.inside.tracer) c.self.inside.started c.self.inside.changed_at c.self.inside.ctx) s new u x f
+            least.least (unmapped-near old.users.forward u least.least) t,
+        λ e. absurd cc,
+      );
       tells = (c.self.invariant c.if-self.false).tells;
       counts = since-now c.steps-self-inside.result c.self.inside.ctx c.steps-self-inside.ensures.steps k.ready c.steps-self-inside.ensures.plan;
     }
@@ -64,10 +71,22 @@ returns-in-Ok g c s st =
     let same = unmapped-same old.tables.users.forward u c.next_unmapped_user-next.result t.least c.next_unmapped_user-next.ensures.least in
     let (w, n) = new-named old s new u t.global f t.least (unmapped-near old.tables.users.forward u t.least) t.given in (
       start (with_naming (name_one u s.naming) s),
-      (stands-valid _ s q (ap not c.if-self.false), least-free old s u f t.least, omega (arith, same, c.index.ensures.index, c.max_count.ensures, c.if-index-max_count.false), like-refl (start (with_naming (name_one u s.naming) s))),
+      (
+        stands-valid _ s q (ap not c.if-self.false),
+        least-free old s u f t.least,
+        omega
+            (arith, same, c.index.ensures.index, c.max_count.ensures, c.if-index-max_count.false),
+        like-refl (start (with_naming (name_one u s.naming) s)),
+      ),
       record {
-        ledger = ledger-is _ _ _ _ _ _ (ap (λ (x : Ledger). x.valid) q.ledger) refl (ap (λ (x : Ledger). x.steps) q.ledger) (none-since c.steps-self-inside.result c.self.inside.ctx.schedule.steps c.steps-self-inside.ensures.steps) (ap (λ (x : Ledger). x.settings) q.ledger);
-        fits = λ _. (w, ledger-free w (spaces (with_tables new old)) (with_naming (name_one u s.naming) s) (record (with_naming (name_one u s.naming) s).ledger { started = true; since = 0 }) n);
+        ledger = ledger-is _ _ _ _ _ _ (ap (λ (x : Ledger). x.valid) q.ledger) refl (ap (λ (x : Ledger). x.steps) q.ledger)
+            (none-since c.steps-self-inside.result c.self.inside.ctx.schedule.steps c.steps-self-inside.ensures.steps)
+            (ap (λ (x : Ledger). x.settings) q.ledger);
+        fits = λ _. (
+          w,
+          ledger-free w (spaces (with_tables new old)) (with_naming (name_one u s.naming) s)
+              (record (with_naming (name_one u s.naming) s).ledger { started = true; since = 0 }) n,
+        );
         proof = q.proof;
         flags = λ v. flags-started s (start (with_naming (name_one u s.naming) s)) (q.flags v) refl refl (goes-on-none s.proof);
       },
@@ -77,9 +96,13 @@ pub returns-in-Err : goal.returns-in-Err
 returns-in-Err g c s st =
     let q = rw (← c.self.view_is) at st in
     let f = q.fits (ap not c.if-self.false) in
-    let least = least-free (summary_of (parts_of c.self.inside.tracer) c.self.inside.started c.self.inside.changed_at c.self.inside.ctx) s c.next_unmapped_user-next.result f c.next_unmapped_user-next.ensures.least in (
+    let least = least-free (summary_of (parts_of c.self.inside.tracer) c.self.inside.started c.self.inside.changed_at c.self.inside.ctx) s
+    c.next_unmapped_user-next.result f c.next_unmapped_user-next.ensures.least in (
       broken s,
-      ((c.next_unmapped_user-next.result, least, omega (arith, c.index.ensures.index, c.max_count.ensures, c.if-index-max_count.false)), broken-invalid s (stands-valid _ s q (ap not c.if-self.false)) f.1.well_formed),
+      (
+        (c.next_unmapped_user-next.result, least, omega (arith, c.index.ensures.index, c.max_count.ensures, c.if-index-max_count.false)),
+        broken-invalid s (stands-valid _ s q (ap not c.if-self.false)) f.1.well_formed,
+      ),
       record { ledger = ap (λ (x : Ledger). record x { valid = false }) q.ledger; fits = λ e. absurd cc; proof = λ e. absurd cc; flags = λ e. absurd cc },
     )
 
@@ -101,9 +124,12 @@ returns-then-index-max_count g c s st =
           u,
           least,
           elim c.then-index-max_count.branch [
-            | then-index-max_count-via-then-index-max_count w ↦ inl (let a = c.index.ensures.index in let b = c.max_count.ensures in let d = w.if-index-max_count.true in omega (arith, a, b, d))
+            | then-index-max_count-via-then-index-max_count w ↦ inl
+                (let a = c.index.ensures.index in let b = c.max_count.ensures in let d = w.if-index-max_count.true in omega (arith, a, b, d))
             | then-index-max_count-via-else-index-max_count+then-global_watermark-max_count w ↦
-                inr (let a = w.global_watermark.ensures in let b = w.max_count-else-index-max_count.ensures in let d = w.if-global_watermark-max_count.true in let made = f.1.globals in let one = ap (λ (m : Naming). m.made) alone in omega (arith, a, b, d, made, one))
+                inr (let a = w.global_watermark.ensures in let b = w.max_count-else-index-max_count.ensures in
+                let d = w.if-global_watermark-max_count.true in let made = f.1.globals in let one = ap (λ (m : Naming). m.made) alone in
+                omega (arith, a, b, d, made, one))
           ],
         ),
         refl,

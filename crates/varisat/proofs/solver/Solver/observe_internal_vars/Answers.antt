@@ -18,7 +18,10 @@ invariant_of-self g c v =
     let shown = (c.in-Ok.ensures {u = tt}).shown in
     record {
       kept = kept-after c.self.inside.ctx old new k (turns-stay c.in-Ok.shown.items old new c.prove_linked.ensures k.bounded shown.in_turn).0;
-      stands = let (s, f, fresh) = (c.self.invariant c.if-self.false).stands in let (m, all, fits) = show-state c.in-Ok.shown.items (summary_of (parts_of c.self.inside.tracer) c.self.inside.started c.self.inside.changed_at c.self.inside.ctx) s new f c.prove_linked.ensures k.bounded shown in (_, fits, fresh);
+      stands = let (s, f, fresh) = (c.self.invariant c.if-self.false).stands in
+          let (m, all, fits) = show-state c.in-Ok.shown.items
+          (summary_of (parts_of c.self.inside.tracer) c.self.inside.started c.self.inside.changed_at c.self.inside.ctx) s new f
+          c.prove_linked.ensures k.bounded shown in (_, fits, fresh);
       tells = (c.self.invariant c.if-self.false).tells;
       counts = since-now c.steps-self-inside.result c.self.inside.ctx c.steps-self-inside.ensures.steps k.ready c.steps-self-inside.ensures.plan;
     }
@@ -27,10 +30,23 @@ pub returns-in-Ok : goal.returns-in-Ok
 returns-in-Ok g c s st =
     let q = rw (← c.self.view_is) at st in
     let k = begins q (ap not c.if-self.false) in
-    let (m, shown, fits) = show-state c.in-Ok.shown.items (summary_of (parts_of c.self.inside.tracer) c.self.inside.started c.self.inside.changed_at c.self.inside.ctx) s c.observe_internal_vars.new.variables k.fits c.prove_linked.ensures (c.self.invariant c.if-self.false).kept.bounded (c.in-Ok.ensures {u = tt}).shown in (
+    let (m, shown, fits) = show-state c.in-Ok.shown.items
+    (summary_of (parts_of c.self.inside.tracer) c.self.inside.started c.self.inside.changed_at c.self.inside.ctx) s
+    c.observe_internal_vars.new.variables k.fits c.prove_linked.ensures (c.self.invariant c.if-self.false).kept.bounded
+    (c.in-Ok.ensures {u = tt}).shown in (
       count_anew (with_naming m s),
       (k.valid, (m, shown, like-refl (count_anew (with_naming m s)))),
-      record { ledger = ledger-is _ _ _ _ _ _ (ap (λ (x : Ledger). x.valid) k.ledger) (ap (λ (x : Ledger). x.started) k.ledger) (ap (λ (x : Ledger). x.steps) k.ledger) (none-since c.steps-self-inside.result c.self.inside.ctx.schedule.steps c.steps-self-inside.ensures.steps) (ap (λ (x : Ledger). x.settings) k.ledger); fits = λ _. (fits.0, ledger-free fits.0 _ (with_naming m s) (record s.ledger { since = 0 }) fits.1); proof = q.proof; flags = λ _. let f = k.flags in record { clauses = f.clauses; assumptions = f.assumptions; counted = f.counted; unassumed = f.unassumed } },
+      record {
+        ledger = ledger-is _ _ _ _ _ _ (ap (λ (x : Ledger). x.valid) k.ledger) (ap (λ (x : Ledger). x.started) k.ledger)
+            (ap (λ (x : Ledger). x.steps) k.ledger)
+            (none-since c.steps-self-inside.result c.self.inside.ctx.schedule.steps c.steps-self-inside.ensures.steps)
+            (ap (λ (x : Ledger). x.settings) k.ledger);
+        fits =
+            λ _. (fits.0, ledger-free fits.0 _ (with_naming m s) (record s.ledger { since = 0 }) fits.1);
+        proof = q.proof;
+        flags =
+            λ _. let f = k.flags in record { clauses = f.clauses; assumptions = f.assumptions; counted = f.counted; unassumed = f.unassumed };
+      },
     )
 
 pub returns-in-Err : goal.returns-in-Err

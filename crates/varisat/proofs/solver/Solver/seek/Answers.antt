@@ -9,10 +9,10 @@ use Rattle.varisat.specs.Budgets.{told_verdict, CountsSteps}
 use Rattle.varisat.specs.States.{State, Ledger}
 use Rattle.varisat_tracer.specs.Tracing.{TracerState, parts_of, BreaksProof}
 use Rattle.varisat.specs.OpenProofs.{OpenProof, ProofFits, GoesOnWriting}
-use Rattle.varisat.proofs.OpenProofs.{proof-goes-on, open-there, broken-open}
-use Rattle.varisat.specs.Searches.{answer_at, ComesTo, ComesOn, FindsVerdict}
 use Rattle.varisat.specs.Targets.{WritesUpTo}
 use Rattle.varisat.proofs.Targets.{writes-nothing, refused-unwritten, tells-writes, tells-refused, breaks-writes, refused-full, same-error}
+use Rattle.varisat.proofs.OpenProofs.{proof-goes-on, broken-open}
+use Rattle.varisat.specs.Searches.{answer_at, ComesTo, ComesOn, FindsVerdict}
 use Rattle.varisat_names.specs.Variables.{Tables}
 use Rattle.varisat_proof.specs.Calls.{CheckerState}
 use Rattle.varisat_proof.specs.Proving.{ProofParts}
@@ -41,7 +41,8 @@ record Sought {A : Type 0} (p q : TracerState) (started : Bool) (changed_at : �
   config : y.solver_config ≡ x.solver_config
   low : changed_at ≤ x.schedule.steps
 
-module _ {A : Type 0} {p q : TracerState} {started : Bool} {changed_at : ℕ} {x y : Context A} {found : Option Bool} {s : State} (d : Sought p q started changed_at x y found s) where
+module _ {A : Type 0} {p q : TracerState} {started : Bool} {changed_at : ℕ} {x y : Context A} {found : Option Bool} {s : State}
+    (d : Sought p q started changed_at x y found s) where
   n : ℕ
   n = y.schedule.steps
 
@@ -54,7 +55,8 @@ module _ {A : Type 0} {p q : TracerState} {started : Bool} {changed_at : ℕ} {x
   still-valid : not y.solver_state.state_is_invalid ≡ true
   still-valid = ap (λ (b : SolverState). not b.state_is_invalid) d.finds.state ∙ d.valid
 
-  since-after : {r : Result Bool SolverError} → CountsSteps (length s.counted) s.ledger.settings.max_steps s.ledger.since s.ledger.steps y.schedule.steps r → s.ledger.since + (y.schedule.steps - s.ledger.steps) ≡ y.schedule.steps - changed_at
+  since-after : {r : Result Bool SolverError} → CountsSteps (length s.counted) s.ledger.settings.max_steps s.ledger.since s.ledger.steps
+      y.schedule.steps r → s.ledger.since + (y.schedule.steps - s.ledger.steps) ≡ y.schedule.steps - changed_at
   since-after k =
       let since = ap (λ (l : Ledger). l.since) d.stood.ledger in
       let steps = ap (λ (l : Ledger). l.steps) d.stood.ledger in
@@ -66,48 +68,75 @@ module _ {A : Type 0} {p q : TracerState} {started : Bool} {changed_at : ℕ} {x
   goes-on = proof-goes-on p.proof q.proof s.ever_hidden s.told comes.told s.proof (d.stood.proof d.valid) comes.proof
 
   -- the solver stands for the state that it came to
-  stands-after : {r : Result Bool SolverError} → CountsSteps (length s.counted) s.ledger.settings.max_steps s.ledger.since s.ledger.steps y.schedule.steps r → StandsFor (summary_of q started changed_at y) (after-solve comes.told comes.verdict y.schedule.steps goes-on.0 s)
+  stands-after : {r : Result Bool SolverError} → CountsSteps (length s.counted) s.ledger.settings.max_steps s.ledger.since s.ledger.steps
+      y.schedule.steps r → StandsFor (summary_of q started changed_at y) (after-solve comes.told comes.verdict y.schedule.steps goes-on.0 s)
   stands-after k = record {
-    ledger = ledger-is _ _ _ _ _ _ (ap (λ (l : Ledger). l.valid) d.stood.ledger ∙ ap (λ (b : SolverState). not b.state_is_invalid) (sym d.finds.state)) (ap (λ (l : Ledger). l.started) d.stood.ledger) refl (since-after k) (ap (λ (l : Ledger). l.settings) d.stood.ledger ∙ sym d.config);
+    ledger = ledger-is _ _ _ _ _ _ (ap (λ (l : Ledger). l.valid) d.stood.ledger
+        ∙ ap (λ (b : SolverState). not b.state_is_invalid) (sym d.finds.state)) (ap (λ (l : Ledger). l.started) d.stood.ledger) refl (since-after k)
+        (ap (λ (l : Ledger). l.settings) d.stood.ledger ∙ sym d.config);
     fits = λ _. comes-fits q.tables y comes y.schedule.steps goes-on.0;
     proof = λ _. goes-on.2;
     flags = λ _. flags-after s comes.told comes.verdict y.schedule.steps goes-on.0 (d.stood.flags d.valid) goes-on.1;
   }
 
 -- a verdict was found
-found-call : {A : Type 0} {p q : TracerState} {started : Bool} {changed_at : ℕ} {x y : Context A} {b : Bool} {s : State} (d : Sought p q started changed_at x y (Some b) s) → CountsSteps (length s.counted) s.ledger.settings.max_steps s.ledger.since s.ledger.steps y.schedule.steps (Ok b) → (t : State) × TellsVerdict s b t × StandsFor (summary_of q started changed_at y) t
+found-call : {A : Type 0} {p q : TracerState} {started : Bool} {changed_at : ℕ} {x y : Context A} {b : Bool} {s : State}
+    (d : Sought p q started changed_at x y (Some b) s) → CountsSteps
+    (length s.counted) s.ledger.settings.max_steps s.ledger.since s.ledger.steps y.schedule.steps (Ok b) → (t : State) × TellsVerdict s b t
+    × StandsFor (summary_of q started changed_at y) t
 found-call {p = p} {q = q} {started = started} {changed_at = changed_at} {x = x} {y = y} {b = b} {s = s} d k = (
   after-solve (comes d).told (comes d).verdict y.schedule.steps (goes-on d).0 s,
-  comes-verdict q.tables y (comes d) y.schedule.steps (goes-on d).0 b (stands-valid (summary_of p started changed_at x) s d.stood d.valid) (was-unknown (summary_of p started changed_at x) s d.stood d.valid d.unknown) k (sym d.finds.answer) (made d) (goes-on d).1,
+  comes-verdict q.tables y (comes d) y.schedule.steps (goes-on d).0 b (stands-valid (summary_of p started changed_at x) s d.stood d.valid)
+      (was-unknown (summary_of p started changed_at x) s d.stood d.valid d.unknown) k (sym d.finds.answer) (made d) (goes-on d).1,
   stands-after d k,
 )
 
 -- the steps were spent, and some were made
-moved-call : {A : Type 0} {p q : TracerState} {started : Bool} {changed_at : ℕ} {x y : Context A} {s : State} (d : Sought p q started changed_at x y None s) → CountsSteps (length s.counted) s.ledger.settings.max_steps s.ledger.since s.ledger.steps y.schedule.steps (Err Interrupted) → s.ledger.steps < y.schedule.steps → (t : State) × IsInterrupted s t × StandsFor (summary_of q started changed_at y) t
+moved-call : {A : Type 0} {p q : TracerState} {started : Bool} {changed_at : ℕ} {x y : Context A} {s : State}
+    (d : Sought p q started changed_at x y None s) → CountsSteps
+    (length s.counted) s.ledger.settings.max_steps s.ledger.since s.ledger.steps y.schedule.steps (Err Interrupted) →
+    s.ledger.steps < y.schedule.steps → (t : State) × IsInterrupted s t × StandsFor (summary_of q started changed_at y) t
 moved-call {p = p} {q = q} {started = started} {changed_at = changed_at} {x = x} {y = y} {s = s} d k h =
     let last = answered-none y.solver_state.sat_state (sym d.finds.answer) in
-    let unknown = unknown-undecided q.tables q.proof.checker y (after-solve (comes d).told (comes d).verdict y.schedule.steps (goes-on d).0 s) (subst (λ b. SpacesFit (spaces_of q.tables q.proof.checker (view y) y.assumptions b) (after-solve (comes d).told (comes d).verdict y.schedule.steps (goes-on d).0 s)) last (comes-fits q.tables y (comes d) y.schedule.steps (goes-on d).0)) in (
+    let unknown = unknown-undecided q.tables q.proof.checker y (after-solve (comes d).told (comes d).verdict y.schedule.steps (goes-on d).0 s)
+    (subst (λ b. SpacesFit (spaces_of q.tables q.proof.checker (view y) y.assumptions b)
+    (after-solve (comes d).told (comes d).verdict y.schedule.steps (goes-on d).0 s)) last
+    (comes-fits q.tables y (comes d) y.schedule.steps (goes-on d).0)) in (
       after-solve (comes d).told (comes d).verdict y.schedule.steps (goes-on d).0 s,
-      comes-interrupted q.tables y (comes d) y.schedule.steps (goes-on d).0 (stands-valid (summary_of p started changed_at x) s d.stood d.valid) (was-unknown (summary_of p started changed_at x) s d.stood d.valid d.unknown) k unknown (made d) (λ e. omega (arith, h, e)) (goes-on d).1,
+      comes-interrupted q.tables y (comes d) y.schedule.steps (goes-on d).0 (stands-valid (summary_of p started changed_at x) s d.stood d.valid)
+          (was-unknown (summary_of p started changed_at x) s d.stood d.valid d.unknown) k unknown (made d) (λ e. omega (arith, h, e)) (goes-on d).1,
       stands-after d k,
     )
 
 -- none was made
-still-call : {A : Type 0} {p q : TracerState} {started : Bool} {changed_at : ℕ} {x y : Context A} {s : State} (d : Sought p q started changed_at x y None s) → CountsSteps (length s.counted) s.ledger.settings.max_steps s.ledger.since s.ledger.steps y.schedule.steps (Err Interrupted) → y.schedule.steps ≡ s.ledger.steps → (t : State) × IsInterrupted s t × StandsFor (summary_of q started changed_at y) t
+still-call : {A : Type 0} {p q : TracerState} {started : Bool} {changed_at : ℕ} {x y : Context A} {s : State}
+    (d : Sought p q started changed_at x y None s) → CountsSteps
+    (length s.counted) s.ledger.settings.max_steps s.ledger.since s.ledger.steps y.schedule.steps (Err Interrupted) →
+    y.schedule.steps ≡ s.ledger.steps → (t : State) × IsInterrupted s t × StandsFor (summary_of q started changed_at y) t
 still-call {A} {p} {q} {started} {changed_at} {x} {y} {s} d k e =
     let (same, parts) = d.finds.still (e ∙ ap (λ (l : Ledger). l.steps) d.stood.ledger) in (
       s,
-      interrupted-still s (stands-valid (summary_of p started changed_at x) s d.stood d.valid) (was-unknown (summary_of p started changed_at x) s d.stood d.valid d.unknown) (subst (λ m. CountsSteps (length s.counted) s.ledger.settings.max_steps s.ledger.since s.ledger.steps m (Err Interrupted)) e k),
-      subst (λ (z : Context A). StandsFor (summary_of q started changed_at z) s) (sym same) (subst (λ (t : TracerState). StandsFor (summary_of t started changed_at x) s) (sym parts) d.stood),
+      interrupted-still s (stands-valid (summary_of p started changed_at x) s d.stood d.valid)
+          (was-unknown (summary_of p started changed_at x) s d.stood d.valid d.unknown)
+          (subst (λ m. CountsSteps (length s.counted) s.ledger.settings.max_steps s.ledger.since s.ledger.steps m (Err Interrupted)) e k),
+      subst (λ (z : Context A). StandsFor (summary_of q started changed_at z) s) (sym same)
+          (subst (λ (t : TracerState). StandsFor (summary_of t started changed_at x) s) (sym parts) d.stood),
     )
 
-spent-call : {A : Type 0} {p q : TracerState} {started : Bool} {changed_at : ℕ} {x y : Context A} {s : State} (d : Sought p q started changed_at x y None s) → CountsSteps (length s.counted) s.ledger.settings.max_steps s.ledger.since s.ledger.steps y.schedule.steps (Err Interrupted) → (t : State) × IsInterrupted s t × StandsFor (summary_of q started changed_at y) t
+spent-call : {A : Type 0} {p q : TracerState} {started : Bool} {changed_at : ℕ} {x y : Context A} {s : State}
+    (d : Sought p q started changed_at x y None s) → CountsSteps
+    (length s.counted) s.ledger.settings.max_steps s.ledger.since s.ledger.steps y.schedule.steps (Err Interrupted) → (t : State)
+    × IsInterrupted s t × StandsFor (summary_of q started changed_at y) t
 spent-call {A} {p} {q} {started} {changed_at} {x} {y} {s} d k =
-    ⊎_elim (λ (h : s.ledger.steps < y.schedule.steps). moved-call d k h) (λ (h : y.schedule.steps ≤ s.ledger.steps). still-call d k (let e = k.count in omega (arith, e, h))) (cases_lt s.ledger.steps y.schedule.steps)
+    ⊎_elim (λ (h : s.ledger.steps < y.schedule.steps). moved-call d k h)
+    (λ (h : y.schedule.steps ≤ s.ledger.steps). still-call d k (let e = k.count in omega (arith, e, h))) (cases_lt s.ledger.steps y.schedule.steps)
 
 -- 2. The answers.
 
-sought-some : (g : Over) (c : In-Ok-Some g) (s : State) → StandsFor (summary_of (parts_of c.self.inside.tracer) c.self.inside.started c.self.inside.changed_at c.self.inside.ctx) s → Sought (parts_of c.self.inside.tracer) (parts_of c.find_verdict.new.tracer) c.self.inside.started c.self.inside.changed_at c.self.inside.ctx c.find_verdict.new.ctx (Some c.in-Ok-Some.found) s
+sought-some : (g : Over) (c : In-Ok-Some g) (s : State) → StandsFor
+    (summary_of (parts_of c.self.inside.tracer) c.self.inside.started c.self.inside.changed_at c.self.inside.ctx) s →
+    Sought (parts_of c.self.inside.tracer) (parts_of c.find_verdict.new.tracer) c.self.inside.started c.self.inside.changed_at c.self.inside.ctx
+    c.find_verdict.new.ctx (Some c.in-Ok-Some.found) s
 sought-some g c s st = record {
   stood = st;
   valid = ap not c.if-self.false;
@@ -117,7 +146,10 @@ sought-some g c s st = record {
   low = (c.self.invariant c.if-self.false).counts.low;
 }
 
-sought-none : (g : Over) (c : In-Ok-None g) (s : State) → StandsFor (summary_of (parts_of c.self.inside.tracer) c.self.inside.started c.self.inside.changed_at c.self.inside.ctx) s → Sought (parts_of c.self.inside.tracer) (parts_of c.find_verdict.new.tracer) c.self.inside.started c.self.inside.changed_at c.self.inside.ctx c.find_verdict.new.ctx None s
+sought-none : (g : Over) (c : In-Ok-None g) (s : State) → StandsFor
+    (summary_of (parts_of c.self.inside.tracer) c.self.inside.started c.self.inside.changed_at c.self.inside.ctx) s →
+    Sought (parts_of c.self.inside.tracer) (parts_of c.find_verdict.new.tracer) c.self.inside.started c.self.inside.changed_at c.self.inside.ctx
+    c.find_verdict.new.ctx None s
 sought-none g c s st = record {
   stood = st;
   valid = ap not c.if-self.false;
@@ -128,25 +160,43 @@ sought-none g c s st = record {
 }
 
 -- some state stands before the search
-begins : {A : Type 0} (t : Tables) (checker : Option CheckerState) (started : Bool) (x : Context A) → x.solver_state.sat_state ≡ verdict.Unknown → StandsForSome (spaces_with t checker x) started → StandsForSome (undecided_spaces t checker x) started
+begins : {A : Type 0} (t : Tables) (checker : Option CheckerState) (started : Bool) (x : Context A) → x.solver_state.sat_state ≡ verdict.Unknown →
+    StandsForSome (spaces_with t checker x) started → StandsForSome (undecided_spaces t checker x) started
 begins t checker started x e f = subst (λ b. StandsForSome (spaces_of t checker (view x) x.assumptions b) started) e f
 
 -- and after what it came to
-on : {n : ℕ} {before after : Spaces} {p q : ProofParts} {started : Bool} → ComesOn n before after p q → StandsForSome before started → StandsForSome after started
+on : {n : ℕ} {before after : Spaces} {p q : ProofParts} {started : Bool} → ComesOn n before after p q → StandsForSome before started →
+    StandsForSome after started
 on comes (s, fits, fresh) = let c = comes s fits in (_, c.fits, fresh)
 
 pub find_verdict-requires-clause-stands : goal.find_verdict-requires-clause-stands
-find_verdict-requires-clause-stands g c = let (s, fits, fresh) = begins c.self.inside.tracer.variables c.self.inside.tracer.proof.checker c.self.inside.started c.self.inside.ctx c.in-Unknown.is (c.self.invariant c.if-self.false).stands in (s, fits)
+find_verdict-requires-clause-stands g c = let (s, fits, fresh) =
+    begins c.self.inside.tracer.variables c.self.inside.tracer.proof.checker c.self.inside.started c.self.inside.ctx c.in-Unknown.is
+    (c.self.invariant c.if-self.false).stands in (s, fits)
 
 pub invariant_of-self : goal.invariant_of-self
 invariant_of-self g c _ =
     let f = c.in-Ok-Some.ensures.found in
-    record { stands = on f.stands (begins c.self.inside.tracer.variables c.self.inside.tracer.proof.checker c.self.inside.started c.self.inside.ctx c.in-Unknown.is (c.self.invariant c.if-self.false).stands); kept = f.kept; tells = f.tells; counts = c.in-Ok-Some.ensures.since c.self.inside.changed_at (c.self.invariant c.if-self.false).counts }
+    record {
+      stands = on f.stands (begins c.self.inside.tracer.variables c.self.inside.tracer.proof.checker c.self.inside.started c.self.inside.ctx
+          c.in-Unknown.is (c.self.invariant c.if-self.false).stands);
+      kept = f.kept;
+      tells = f.tells;
+      counts =
+          c.in-Ok-Some.ensures.since c.self.inside.changed_at (c.self.invariant c.if-self.false).counts;
+    }
 
 pub invariant_of-self-in-Ok-None : goal.invariant_of-self-in-Ok-None
 invariant_of-self-in-Ok-None g c _ =
     let f = c.in-Ok-None.ensures.found in
-    record { stands = on f.stands (begins c.self.inside.tracer.variables c.self.inside.tracer.proof.checker c.self.inside.started c.self.inside.ctx c.in-Unknown.is (c.self.invariant c.if-self.false).stands); kept = f.kept; tells = f.tells; counts = c.in-Ok-None.ensures.since c.self.inside.changed_at (c.self.invariant c.if-self.false).counts }
+    record {
+      stands = on f.stands (begins c.self.inside.tracer.variables c.self.inside.tracer.proof.checker c.self.inside.started c.self.inside.ctx
+          c.in-Unknown.is (c.self.invariant c.if-self.false).stands);
+      kept = f.kept;
+      tells = f.tells;
+      counts =
+          c.in-Ok-None.ensures.since c.self.inside.changed_at (c.self.invariant c.if-self.false).counts;
+    }
 
 pub returns-in-Sat-clause-call : goal.returns-in-Sat-clause-call
 returns-in-Sat-clause-call g c s st = let q = rw (← c.self.view_is) at st in (s, known-told _ s true q (ap not c.if-self.false) (ap answer_at c.in-Sat.is), st)
@@ -158,10 +208,12 @@ pub returns-in-Sat-clause-model : goal.returns-in-Sat-clause-model
 returns-in-Sat-clause-model g c e s st = let q = rw (← c.self.view_is) at st in let r = sat-model _ s q (ap not c.if-self.false) c.in-Sat.is in (_, r.0, r.1)
 
 pub returns-in-Unsat-clause-call : goal.returns-in-Unsat-clause-call
-returns-in-Unsat-clause-call g c s st = let q = rw (← c.self.view_is) at st in (s, known-told _ s false q (ap not c.if-self.false) (answered-false _ c.in-Unsat.is), st)
+returns-in-Unsat-clause-call g c s st = let q = rw (← c.self.view_is) at st in
+    (s, known-told _ s false q (ap not c.if-self.false) (answered-false _ c.in-Unsat.is), st)
 
 pub returns-in-Unsat-clause-unsatisfiable : goal.returns-in-Unsat-clause-unsatisfiable
-returns-in-Unsat-clause-unsatisfiable g c e s st = let q = rw (← c.self.view_is) at st in false-right _ s q (ap not c.if-self.false) (answered-false _ c.in-Unsat.is)
+returns-in-Unsat-clause-unsatisfiable g c e s st = let q = rw (← c.self.view_is) at st in
+    false-right _ s q (ap not c.if-self.false) (answered-false _ c.in-Unsat.is)
 
 pub returns-in-Unsat-clause-core : goal.returns-in-Unsat-clause-core
 returns-in-Unsat-clause-core g c e s st = let q = rw (← c.self.view_is) at st in false-core _ s q (ap not c.if-self.false) (answered-false _ c.in-Unsat.is)
@@ -170,7 +222,10 @@ pub returns-in-Ok-Some-clause-call : goal.returns-in-Ok-Some-clause-call
 returns-in-Ok-Some-clause-call g c s st =
     let q = rw (← c.self.view_is) at st in
     found-call (sought-some g c s q)
-    (counted-call _ s c.max_steps-max_steps.result c.find_verdict.new.ctx.schedule.steps (told_verdict c.find_verdict.result) (Ok c.in-Ok-Some.found) q (ap not c.if-self.false) c.max_steps-max_steps.ensures (ap told_verdict (c.in-Ok-Some.is ∙ ap Ok c.in-Ok-Some.field-0-is)) (λ m h. c.find_verdict.ensures.counted m c.self.inside.changed_at h (c.self.invariant c.if-self.false).counts))
+    (counted-call _ s c.max_steps-max_steps.result c.find_verdict.new.ctx.schedule.steps (told_verdict c.find_verdict.result)
+    (Ok c.in-Ok-Some.found) q (ap not c.if-self.false) c.max_steps-max_steps.ensures
+    (ap told_verdict (c.in-Ok-Some.is ∙ ap Ok c.in-Ok-Some.field-0-is))
+    (λ m h. c.find_verdict.ensures.counted m c.self.inside.changed_at h (c.self.invariant c.if-self.false).counts))
 
 pub returns-in-Ok-Some-clause-satisfiable : goal.returns-in-Ok-Some-clause-satisfiable
 returns-in-Ok-Some-clause-satisfiable g c b s st =
@@ -186,14 +241,17 @@ returns-in-Ok-Some-clause-unsatisfiable g c b s st =
 
 pub returns-in-Ok-Some-clause-model : goal.returns-in-Ok-Some-clause-model
 returns-in-Ok-Some-clause-model g c b s st =
-    let f : FindsVerdict (parts_of c.self.inside.tracer) (parts_of c.find_verdict.new.tracer) c.self.inside.ctx c.find_verdict.new.ctx (Some c.in-Ok-Some.found) = rw c.in-Ok-Some.field-0-is at c.in-Ok-Some.ensures.found in
+    let f : FindsVerdict (parts_of c.self.inside.tracer) (parts_of c.find_verdict.new.tracer) c.self.inside.ctx c.find_verdict.new.ctx
+    (Some c.in-Ok-Some.found) = rw c.in-Ok-Some.field-0-is at c.in-Ok-Some.ensures.found in
     let sat : c.in-Ok-Some.found ≡ true = cc in
-    let r = sat-model _ s st (ap (λ (x : SolverState). not x.state_is_invalid) f.state ∙ ap not c.if-self.false) (answered-true _ (sym f.answer ∙ ap Some sat)) in
+    let r = sat-model _ s st (ap (λ (x : SolverState). not x.state_is_invalid) f.state ∙ ap not c.if-self.false)
+    (answered-true _ (sym f.answer ∙ ap Some sat)) in
     (_, r.0, r.1)
 
 pub returns-in-Ok-Some-clause-core : goal.returns-in-Ok-Some-clause-core
 returns-in-Ok-Some-clause-core g c b s st =
-    let f : FindsVerdict (parts_of c.self.inside.tracer) (parts_of c.find_verdict.new.tracer) c.self.inside.ctx c.find_verdict.new.ctx (Some c.in-Ok-Some.found) = rw c.in-Ok-Some.field-0-is at c.in-Ok-Some.ensures.found in
+    let f : FindsVerdict (parts_of c.self.inside.tracer) (parts_of c.find_verdict.new.tracer) c.self.inside.ctx c.find_verdict.new.ctx
+    (Some c.in-Ok-Some.found) = rw c.in-Ok-Some.field-0-is at c.in-Ok-Some.ensures.found in
     let unsat : c.in-Ok-Some.found ≡ false = cc in
     false-core _ s st (ap (λ (x : SolverState). not x.state_is_invalid) f.state ∙ ap not c.if-self.false) (sym f.answer ∙ ap Some unsat)
 
@@ -201,7 +259,9 @@ pub returns-in-Ok-None-clause-call : goal.returns-in-Ok-None-clause-call
 returns-in-Ok-None-clause-call g c s st =
     let q = rw (← c.self.view_is) at st in
     spent-call (sought-none g c s q)
-    (counted-call _ s c.max_steps-max_steps.result c.find_verdict.new.ctx.schedule.steps (told_verdict c.find_verdict.result) (Err Interrupted) q (ap not c.if-self.false) c.max_steps-max_steps.ensures (ap told_verdict (c.in-Ok-None.is ∙ ap Ok c.in-Ok-None.field-0-is)) (λ m h. c.find_verdict.ensures.counted m c.self.inside.changed_at h (c.self.invariant c.if-self.false).counts))
+    (counted-call _ s c.max_steps-max_steps.result c.find_verdict.new.ctx.schedule.steps (told_verdict c.find_verdict.result) (Err Interrupted) q
+    (ap not c.if-self.false) c.max_steps-max_steps.ensures (ap told_verdict (c.in-Ok-None.is ∙ ap Ok c.in-Ok-None.field-0-is))
+    (λ m h. c.find_verdict.ensures.counted m c.self.inside.changed_at h (c.self.invariant c.if-self.false).counts))
 
 pub returns-in-Err-clause-call : goal.returns-in-Err-clause-call
 returns-in-Err-clause-call g c s st =
@@ -210,16 +270,23 @@ returns-in-Err-clause-call g c s st =
     let was = was-unknown _ s q ok c.in-Unknown.is in
     let n = c.find_verdict.new.ctx.schedule.steps in
     let since = (c.self.invariant c.if-self.false).counts in
-    let counts = counted-call _ s c.max_steps-max_steps.result n (told_verdict c.find_verdict.result) (Err (step_refusal c.in-Err.error)) q ok c.max_steps-max_steps.ensures (ap told_verdict c.in-Err.is) (λ m h. c.find_verdict.ensures.counted m c.self.inside.changed_at h since) in
+    let counts = counted-call _ s c.max_steps-max_steps.result n (told_verdict c.find_verdict.result)
+    (Err (step_refusal c.in-Err.error)) q ok c.max_steps-max_steps.ensures (ap told_verdict c.in-Err.is)
+    (λ m h. c.find_verdict.ensures.counted m c.self.inside.changed_at h since) in
     let low = since.low in
     let before = ap (λ (x : Ledger). x.since) q.ledger in
     let steps = ap (λ (x : Ledger). x.steps) q.ledger in
     let count = counts.count in (
       broken (with_steps n s),
       subst (λ e. Searches s (Err e) (broken (with_steps n s))) (sym c.from.ensures)
-          (searches-broken c.in-Err.error s (broken (with_steps n s)) (λ f. broken-open c.self.inside.tracer.proof c.find_verdict.new.tracer.proof s.ever_hidden s.told s.proof (q.proof ok) (subst (λ k. BreaksProof c.self.inside.tracer.proof k c.find_verdict.new.tracer.proof) f c.in-Err.ensures.broken)) was counts (broken-invalid (with_steps n s) (stands-valid _ s q ok) (told-well s (with_steps n s) (q.fits ok).1.well_formed))),
+          (searches-broken c.in-Err.error s (broken (with_steps n s))
+          (λ f. broken-open c.self.inside.tracer.proof c.find_verdict.new.tracer.proof s.ever_hidden s.told s.proof (q.proof ok)
+          (subst (λ k. BreaksProof c.self.inside.tracer.proof k c.find_verdict.new.tracer.proof) f c.in-Err.ensures.broken)) was counts
+          (broken-invalid (with_steps n s) (stands-valid _ s q ok) (told-well s (with_steps n s) (q.fits ok).1.well_formed))),
       record {
-        ledger = ledger-is _ _ _ _ _ _ refl (ap (λ (x : Ledger). x.started) q.ledger) refl (more-since c.self.inside.changed_at s.ledger.steps n s.ledger.since (omega (arith, low, steps)) (omega (arith, count)) (omega (arith, before, steps))) (ap (λ (x : Ledger). x.settings) q.ledger ∙ sym c.find_verdict.ensures.config);
+        ledger = ledger-is _ _ _ _ _ _ refl (ap (λ (x : Ledger). x.started) q.ledger) refl
+            (more-since c.self.inside.changed_at s.ledger.steps n s.ledger.since (omega (arith, low, steps)) (omega (arith, count))
+            (omega (arith, before, steps))) (ap (λ (x : Ledger). x.settings) q.ledger ∙ sym c.find_verdict.ensures.config);
         fits = λ e. absurd cc;
         proof = λ e. absurd cc;
         flags = λ e. absurd cc;
@@ -246,16 +313,20 @@ pub returns-in-Unsat-clause-whole : goal.returns-in-Unsat-clause-whole
 returns-in-Unsat-clause-whole g c v = writes-nothing c.args.self.now.opened
 
 pub returns-in-Ok-Some-clause-target : goal.returns-in-Ok-Some-clause-target
-returns-in-Ok-Some-clause-target g c = rw (← c.self.view_is) (tells-writes c.self.inside.tracer.proof c.find_verdict.new.tracer.proof c.in-Ok-Some.ensures.found.told)
+returns-in-Ok-Some-clause-target g c = rw (← c.self.view_is)
+    (tells-writes c.self.inside.tracer.proof c.find_verdict.new.tracer.proof c.in-Ok-Some.ensures.found.told)
 
 pub returns-in-Ok-Some-clause-whole : goal.returns-in-Ok-Some-clause-whole
-returns-in-Ok-Some-clause-whole g c v = rw (← c.self.view_is) (tells-writes c.self.inside.tracer.proof c.find_verdict.new.tracer.proof c.in-Ok-Some.ensures.found.told)
+returns-in-Ok-Some-clause-whole g c v = rw (← c.self.view_is)
+    (tells-writes c.self.inside.tracer.proof c.find_verdict.new.tracer.proof c.in-Ok-Some.ensures.found.told)
 
 pub returns-in-Ok-None-clause-target : goal.returns-in-Ok-None-clause-target
-returns-in-Ok-None-clause-target g c = rw (← c.self.view_is) (tells-refused c.self.inside.tracer.proof c.find_verdict.new.tracer.proof Interrupted refl c.in-Ok-None.ensures.found.told)
+returns-in-Ok-None-clause-target g c = rw (← c.self.view_is)
+    (tells-refused c.self.inside.tracer.proof c.find_verdict.new.tracer.proof Interrupted refl c.in-Ok-None.ensures.found.told)
 
 pub returns-in-Ok-None-clause-whole : goal.returns-in-Ok-None-clause-whole
-returns-in-Ok-None-clause-whole g c v = rw (← c.self.view_is) (tells-writes c.self.inside.tracer.proof c.find_verdict.new.tracer.proof c.in-Ok-None.ensures.found.told)
+returns-in-Ok-None-clause-whole g c v = rw (← c.self.view_is)
+    (tells-writes c.self.inside.tracer.proof c.find_verdict.new.tracer.proof c.in-Ok-None.ensures.found.told)
 
 pub returns-in-Err-clause-target : goal.returns-in-Err-clause-target
 returns-in-Err-clause-target g c =

@@ -16,7 +16,12 @@ invariant_of-self g c v =
     let k = (c.self.invariant c.if-self.false).kept in
     record {
       kept = kept-after c.self.inside.ctx c.self.inside.tracer.variables c.set_named_mode.new.variables k (c.in-Ok.ensures {u = tt}).set.stays;
-      stands = let (s, f, fresh) = (c.self.invariant c.if-self.false).stands in (_, mode-state (summary_of (parts_of c.self.inside.tracer) c.self.inside.started c.self.inside.changed_at c.self.inside.ctx) s c.set_named_mode.new.variables c.args.var c.in-Ok.field-0 c.args.mode (mode_of c.args.mode) f c.requires (c.in-Ok.ensures {u = tt}).set, fresh);
+      stands = let (s, f, fresh) = (c.self.invariant c.if-self.false).stands in (
+        _,
+        mode-state (summary_of (parts_of c.self.inside.tracer) c.self.inside.started c.self.inside.changed_at c.self.inside.ctx) s
+            c.set_named_mode.new.variables c.args.var c.in-Ok.field-0 c.args.mode (mode_of c.args.mode) f c.requires (c.in-Ok.ensures {u = tt}).set,
+        fresh,
+      );
       tells = (c.self.invariant c.if-self.false).tells;
       counts = since-now c.steps-self-inside.result c.self.inside.ctx c.steps-self-inside.ensures.steps k.ready c.steps-self-inside.ensures.plan;
     }
@@ -25,8 +30,12 @@ pub returns-in_err-check_change : goal.returns-in_err-check_change
 returns-in_err-check_change g c s st =
     let k = begins (rw (← c.self.view_is) at st) (ap not c.if-self.false) in
     let n = mode_of c.args.mode in
-    let refused = told-error c.from_residual.result c.in_err-check_change.field-0.0 c.from_residual.ensures in
-    (s, subst (λ r. SetsMode named n s c.args.var r s) (sym refused) (mode-refused n c.args.var c.in_err-check_change.field-0.0 k c.in_err-check_change.ensures), st)
+    let refused = told-error c.from_residual.result c.in_err-check_change.field-0.0 c.from_residual.ensures in (
+      s,
+      subst (λ r. SetsMode named n s c.args.var r s) (sym refused)
+          (mode-refused n c.args.var c.in_err-check_change.field-0.0 k c.in_err-check_change.ensures),
+      st,
+    )
 
 pub returns-in-Ok : goal.returns-in-Ok
 returns-in-Ok g c s st =
@@ -37,7 +46,19 @@ returns-in-Ok g c s st =
     let t = with_mode u (mode_of m) (name_var named u s) in (
       t,
       ((k.valid, may.in_range, unassumed-state u k may.unassumed, like-refl t), λ e. absurd cc),
-      record { ledger = ledger-is _ _ _ _ _ _ (ap (λ (x : Ledger). x.valid) k.ledger) (ap (λ (x : Ledger). x.started) k.ledger) (ap (λ (x : Ledger). x.steps) k.ledger) (none-since c.steps-self-inside.result c.self.inside.ctx.schedule.steps c.steps-self-inside.ensures.steps) (ap (λ (x : Ledger). x.settings) k.ledger); fits = λ _. mode-state (summary_of (parts_of c.self.inside.tracer) c.self.inside.started c.self.inside.changed_at c.self.inside.ctx) s c.set_named_mode.new.variables u c.in-Ok.field-0 m (mode_of m) k.fits c.requires (c.in-Ok.ensures {u = tt}).set; proof = λ _. k.proof; flags = λ _. let f = k.flags in record { clauses = f.clauses; assumptions = f.assumptions; counted = f.counted; unassumed = f.unassumed } },
+      record {
+        ledger = ledger-is _ _ _ _ _ _ (ap (λ (x : Ledger). x.valid) k.ledger) (ap (λ (x : Ledger). x.started) k.ledger)
+            (ap (λ (x : Ledger). x.steps) k.ledger)
+            (none-since c.steps-self-inside.result c.self.inside.ctx.schedule.steps c.steps-self-inside.ensures.steps)
+            (ap (λ (x : Ledger). x.settings) k.ledger);
+        fits = λ _. mode-state
+            (summary_of (parts_of c.self.inside.tracer) c.self.inside.started c.self.inside.changed_at c.self.inside.ctx) s
+            c.set_named_mode.new.variables u c.in-Ok.field-0 m (mode_of m) k.fits c.requires (c.in-Ok.ensures {u = tt}).set;
+        proof =
+            λ _. k.proof;
+        flags = λ _. let f = k.flags in
+            record { clauses = f.clauses; assumptions = f.assumptions; counted = f.counted; unassumed = f.unassumed };
+      },
     )
 
 pub returns-in-Err : goal.returns-in-Err
@@ -46,6 +67,10 @@ returns-in-Err g c s st =
     let u = c.args.var in
     let may = c.in_ok-check_change.ensures in (
       broken s,
-      ((may.in_range, unassumed-state u k may.unassumed, broken-invalid s k.valid k.fits.1.well_formed), λ e. free-state u k ((c.in-Err.ensures {u = tt}).free (not-hide c.args.mode (mode_of c.args.mode) c.requires))),
+      (
+        (may.in_range, unassumed-state u k may.unassumed, broken-invalid s k.valid k.fits.1.well_formed),
+        λ e. free-state u k
+            ((c.in-Err.ensures {u = tt}).free (not-hide c.args.mode (mode_of c.args.mode) c.requires)),
+      ),
       record { ledger = ap (λ (x : Ledger). record x { valid = false }) k.ledger; fits = λ e. absurd cc; proof = λ e. absurd cc; flags = λ e. absurd cc },
     )

@@ -44,7 +44,8 @@ returns-in_err-end_search-clause-target g c =
     let e = c.in_err-end_search.field-0.0 in
     let valid = subst (λ (x : Summary). x.ledger.valid ≡ true) c.self.view_is (ap not c.if-self.false) in
     let refused = told-error c.from_residual.result e c.from_residual.ensures in
-    rw refused (fails-writing c.args.self.now.opened c.seek-found.new.self c.end_search.new.self e (c.seek-found.ensures.whole valid) c.in_err-end_search.ensures)
+    rw refused (fails-writing c.args.self.now.opened c.seek-found.new.self c.end_search.new.self e
+    (c.seek-found.ensures.whole valid) c.in_err-end_search.ensures)
 
 pub returns-clause-target : goal.returns-clause-target
 returns-clause-target g c =

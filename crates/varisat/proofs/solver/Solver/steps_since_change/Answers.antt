@@ -16,7 +16,8 @@ returns g c s st =
         e,
         (λ v.
             let ok = sym (ap (λ (x : Ledger). x.valid) q.ledger) ∙ v in
-            subst (λ k. k < 2 ^ (2 * length s.counted + 3)) (sym e) (counted-few _ s q ok (λ n h. (c.self.invariant (not-valid c.self.inside.ctx.solver_state.state_is_invalid ok)).counts.few n h))),
+            subst (λ k. k < 2 ^ (2 * length s.counted + 3)) (sym e)
+            (counted-few _ s q ok (λ n h. (c.self.invariant (not-valid c.self.inside.ctx.solver_state.state_is_invalid ok)).counts.few n h))),
         refl,
       ),
       st,

@@ -5,4 +5,11 @@ use Rattle.varisat_analysis.proofs.glue.LevelAbstraction.test.Goals as goal
 
 pub returns : goal.returns
 returns c =
-    rw (← c.self.view_is) (grind (arith, tests, one_shl (c.args.level % 64) 64 (omega arith), and_pow c.self.inside.bits (c.args.level % 64), pow_pos (c.args.level % 64)))
+    rw (← c.self.view_is) (grind (
+      arith,
+      tests,
+      one_shl (c.args.level % 64) 64 (omega arith),
+      and_pow c.self.inside.bits
+          (c.args.level % 64),
+      pow_pos (c.args.level % 64),
+    ))

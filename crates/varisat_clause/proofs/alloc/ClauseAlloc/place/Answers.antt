@@ -10,7 +10,9 @@ pub returns-clause-known : goal.returns-clause-known
 returns-clause-known g c =
     let s : Store = c.args.self.now in
     let v : c.self.inside.places.items ≡ s.places = ap (λ (x : Store). x.places) c.self.view_is in
-    let i : c.index.result.now ∈ c.self.inside.places.items = subst (λ (x : ℕ). x ∈ c.self.inside.places.items) (sym c.index.ensures) (∈-get_or c.self.inside.places.items c.args.index c.index.result.now (let l = ap (λ (x : Store). length x.places) c.self.view_is in omega (arith, l, c.requires))) in
+    let i : c.index.result.now ∈ c.self.inside.places.items = subst (λ (x : ℕ). x ∈ c.self.inside.places.items) (sym c.index.ensures)
+    (∈-get_or c.self.inside.places.items c.args.index c.index.result.now
+    (let l = ap (λ (x : Store). length x.places) c.self.view_is in omega (arith, l, c.requires))) in
     to-place s.words s.places c.index.result.now (rw (← v) i)
 
 pub returns-clause-place : goal.returns-clause-place

@@ -13,9 +13,12 @@ from_code-requires g c =
 
 pub index_mut-requires : goal.index_mut-requires
 index_mut-requires g c =
-    let e = word-in c.args.self.now c.args.cref c.cref.inside.offset c.self.inside.buffer.items c.requires.sound c.requires.place (ap (λ (x : Store). x.words) c.self.view_is) c.cref.view_is in
+    let e = word-in c.args.self.now c.args.cref c.cref.inside.offset c.self.inside.buffer.items c.requires.sound c.requires.place
+    (ap (λ (x : Store). x.words) c.self.view_is) c.cref.view_is in
     omega (arith, e)
 
 pub returns : goal.returns
 returns g c =
-    length-put c.args.self.now _ c.args.cref c.cref.inside.offset c.args.count c.self.inside.buffer.items c.requires.sound c.requires.place (ap (λ (x : Store). x.words) c.self.view_is) c.cref.view_is c.requires.least c.requires.most (rw c.from_code.ensures refl) (ap (λ (x : Store). x.places) c.self.view_is)
+    length-put c.args.self.now _ c.args.cref c.cref.inside.offset c.args.count c.self.inside.buffer.items c.requires.sound c.requires.place
+    (ap (λ (x : Store). x.words) c.self.view_is) c.cref.view_is c.requires.least c.requires.most (rw c.from_code.ensures refl)
+    (ap (λ (x : Store). x.places) c.self.view_is)

@@ -8,7 +8,8 @@ returns-in-Err g c =
     let parts = c.args.parts.now in
     let i = c.loop-part.part-index in
     let b = c.in-Err.ensures.begun in (
-      begun_part _ _ _ (flat_map (λ p. p.now) (take i parts)) _ (flat_map (λ p. p.now) (drop (suc i) parts)) _ b.0 c.loop-part.invariant.put b.1 (parts_split (λ p. p.now) parts i _ c.loop-part-test.true),
+      begun_part _ _ _ (flat_map (λ p. p.now) (take i parts)) _ (flat_map (λ p. p.now) (drop (suc i) parts)) _ b.0 c.loop-part.invariant.put b.1
+          (parts_split (λ p. p.now) parts i _ c.loop-part-test.true),
       c.in-Err.ensures.fault ∙ ap (λ n. n + 1) c.loop-part.invariant.quiet,
     )
 

@@ -15,7 +15,8 @@ returns-in-Err-clause-read_back g c = λ h. reads_back c.args.formula.now h c.le
 pub returns-in-Err-write_clause-clause-begun : goal.returns-in-Err-write_clause-clause-begun
 returns-in-Err-write_clause-clause-begun g c =
     let v = c.loop-clause.invariant in
-    begun_part _ _ _ v.0 (spaced_literals c.in-Some.clause.now ++ 48 ∷ 10 ∷ []) (clauses_text c.next.new.self) _ c.in-Err-write_clause.ensures.0.0 v.1 c.in-Err-write_clause.ensures.0.1
+    begun_part _ _ _ v.0 (spaced_literals c.in-Some.clause.now ++ 48 ∷ 10 ∷ [])
+    (clauses_text c.next.new.self) _ c.in-Err-write_clause.ensures.0.0 v.1 c.in-Err-write_clause.ensures.0.1
     (clause_parts c.in-Some.clause.now v.0 _ c.next.new.self c.loop-clause.clause-iterator c.in-Some.ensures.steps v.2)
 
 pub returns-in-Err-write_clause-clause-read_back : goal.returns-in-Err-write_clause-clause-read_back

@@ -17,7 +17,8 @@ loop-i-preserved g c =
     let w = c.loop-i.invariant.whole in
     let h : c.loop-i.i < length c.loop-i.vars = omega arith in
     record {
-      made = subst (λ xs. FoldsTo (λ s v t. g.F.ExtendFormula.makes_var s (Ok v) t) c.args.formula.now xs c.new_var.new.self) (sym (take_more_set c.loop-i.vars c.loop-i.i c.in-Ok.var h))
+      made = subst (λ xs. FoldsTo (λ s v t. g.F.ExtendFormula.makes_var s (Ok v) t) c.args.formula.now xs c.new_var.new.self)
+          (sym (take_more_set c.loop-i.vars c.loop-i.i c.in-Ok.var h))
           (FoldsTo-push (λ s v t. g.F.ExtendFormula.makes_var s (Ok v) t) _ _ _ _ _ c.loop-i.invariant.made c.in-Ok.ensures);
       whole = length-set _ _ _ ∙ w;
     }

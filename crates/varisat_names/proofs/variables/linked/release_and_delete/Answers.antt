@@ -7,7 +7,8 @@ use Rattle.varisat_names.proofs.variables.linked.release_and_delete.Goals as goa
 pub returns-in-Err-clause-globals_refused : goal.returns-in-Err-clause-globals_refused
 returns-in-Err-clause-globals_refused g c =
     let inside = live-inside c.args.globals.now.kept c.args.variable c.requires.live in
-    restored c.args.globals.now.kept c.delete.new.self.kept c.restore.new.self.kept c.args.variable c.data-kept.result.now inside c.data-kept.ensures c.in_ok-delete.ensures.deleted c.restore.ensures.kept
+    restored c.args.globals.now.kept c.delete.new.self.kept c.restore.new.self.kept c.args.variable c.data-kept.result.now inside
+    c.data-kept.ensures c.in_ok-delete.ensures.deleted c.restore.ensures.kept
 
 pub data-kept-requires : goal.data-kept-requires
 data-kept-requires g c = grind (arith, common_steps)

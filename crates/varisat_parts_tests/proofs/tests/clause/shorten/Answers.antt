@@ -7,4 +7,5 @@ use Rattle.varisat_parts_tests.proofs.tests.clause.shorten.Goals as goal
 pub returns-then-count-len : goal.returns-then-count-len
 returns-then-count-len g c =
     let live : (header_at (stored_clauses c.args.alloc.now) c.place-cref.result).deleted ≡ false = cc (c.if-not-deleted.ensures, c.header-header.ensures) in
-    tracks-shortened c.args.db.now c.args.alloc.now c.shorten.new.self c.place-cref.result c.args.count c.requires.tracks c.place-cref.ensures.known live c.shorten.ensures
+    tracks-shortened c.args.db.now c.args.alloc.now c.shorten.new.self c.place-cref.result c.args.count c.requires.tracks c.place-cref.ensures.known
+    live c.shorten.ensures

@@ -15,4 +15,5 @@ loop-literal-preserved g c = λ m i.
     (∈-take_more m clause k 0 i)
 
 pub watch_clause-requires-clause-listed : goal.watch_clause-requires-clause-listed
-watch_clause-requires-clause-listed g c = λ l i. c.loop-literal.invariant l (∈-take_all l c.args.clause.now c.loop-literal.literal-index c.loop-literal-test.false i)
+watch_clause-requires-clause-listed g c = λ l i. c.loop-literal.invariant l
+    (∈-take_all l c.args.clause.now c.loop-literal.literal-index c.loop-literal-test.false i)

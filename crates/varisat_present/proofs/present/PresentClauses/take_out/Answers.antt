@@ -14,24 +14,30 @@ returns-in-None-clause-absent g c =
 
 pub index_mut-requires : goal.index_mut-requires
 index_mut-requires g c =
-    let h = at_within c.self.inside.places.items c.in-Some.place c.in-Some.ensures.0 (at_in_slice c.deref.result.now c.self.inside.places.items c.in-Some.place c.in-Some.ensures.0 c.deref.ensures.value c.in-Some.ensures.1) in
+    let h = at_within c.self.inside.places.items c.in-Some.place c.in-Some.ensures.0
+    (at_in_slice c.deref.result.now c.self.inside.places.items c.in-Some.place c.in-Some.ensures.0 c.deref.ensures.value c.in-Some.ensures.1) in
     omega (arith, h)
 
 pub invariant_of-self : goal.invariant_of-self
 invariant_of-self g c =
     let e = at_in_slice c.deref.result.now c.self.inside.places.items c.in-Some.place c.in-Some.ensures.0 c.deref.ensures.value c.in-Some.ensures.1 in
-    let t = takes_out c.self.inside.places.items (set c.self.inside.places.items c.in-Some.place None) c.in-Some.place c.in-Some.ensures.0 c.args.clause.now e c.in-Some.ensures.2 refl in
+    let t = takes_out c.self.inside.places.items (set c.self.inside.places.items c.in-Some.place None) c.in-Some.place c.in-Some.ensures.0
+    c.args.clause.now e c.in-Some.ensures.2 refl in
     let w = c.is_spare.ensures c.if-is_spare.true in
-    keeps_without c.self.inside.is_settled (present c.self.inside.places.items) (present (set c.self.inside.places.items c.in-Some.place None)) c.args.clause.now c.self.inside.known w.0 t (subst (λ (P : List Clause). IsSpare P c.self.inside.known c.args.clause.now) (ap present c.deref-2.ensures.value) w.1) c.self.invariant
+    keeps_without c.self.inside.is_settled (present c.self.inside.places.items)
+    (present (set c.self.inside.places.items c.in-Some.place None)) c.args.clause.now c.self.inside.known w.0 t
+    (subst (λ (P : List Clause). IsSpare P c.self.inside.known c.args.clause.now) (ap present c.deref-2.ensures.value) w.1) c.self.invariant
 
 pub returns-then-is_spare-clause-taken : goal.returns-then-is_spare-clause-taken
 returns-then-is_spare-clause-taken g c =
     λ q. let e = at_in_slice c.deref.result.now c.self.inside.places.items c.in-Some.place c.in-Some.ensures.0 c.deref.ensures.value c.in-Some.ensures.1 in
-    let t = takes_out c.self.inside.places.items (set c.self.inside.places.items c.in-Some.place None) c.in-Some.place c.in-Some.ensures.0 c.args.clause.now e c.in-Some.ensures.2 refl in
+    let t = takes_out c.self.inside.places.items (set c.self.inside.places.items c.in-Some.place None) c.in-Some.place c.in-Some.ensures.0
+    c.args.clause.now e c.in-Some.ensures.2 refl in
     subst (λ (P : List Clause). TakesOut P c.args.clause.now (present (set c.self.inside.places.items c.in-Some.place None))) c.self.view_is t
 
 pub returns-clause-taken : goal.returns-clause-taken
 returns-clause-taken g c =
     λ q. let e = at_in_slice c.deref.result.now c.self.inside.places.items c.in-Some.place c.in-Some.ensures.0 c.deref.ensures.value c.in-Some.ensures.1 in
-    let t = takes_out c.self.inside.places.items (set c.self.inside.places.items c.in-Some.place None) c.in-Some.place c.in-Some.ensures.0 c.args.clause.now e c.in-Some.ensures.2 refl in
+    let t = takes_out c.self.inside.places.items (set c.self.inside.places.items c.in-Some.place None) c.in-Some.place c.in-Some.ensures.0
+    c.args.clause.now e c.in-Some.ensures.2 refl in
     subst (λ (P : List Clause). TakesOut P c.args.clause.now (present (set c.self.inside.places.items c.in-Some.place None))) c.self.view_is t

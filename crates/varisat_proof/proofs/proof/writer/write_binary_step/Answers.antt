@@ -5,4 +5,5 @@ use Rattle.varisat_proof.proofs.proof.writer.write_binary_step.Goals as goal
 
 pub returns : goal.returns
 returns g c =
-    puts-step Binary refl (g.W.ProofTarget.taken c.args.target.now) (g.W.ProofTarget.taken c.write_entries.new.target) c.write_entries.result c.args.step.now c.write_entries.ensures
+    puts-step Binary refl (g.W.ProofTarget.taken c.args.target.now)
+    (g.W.ProofTarget.taken c.write_entries.new.target) c.write_entries.result c.args.step.now c.write_entries.ensures

@@ -9,4 +9,5 @@ lists-preserved g c =
 
 pub returns : goal.returns
 returns g c =
-    ap (λ n. n / 2) (counted-all (2 ^ 64 - 1) c.args.self.now c.lists.entries c.lists.place (omega (arith, c.lists-test.false, c.len-place-end.ensures)) c.lists.invariant (omega (arith, c.lists.auto.entries-fits)))
+    ap (λ n. n / 2) (counted-all (2 ^ 64 - 1) c.args.self.now c.lists.entries c.lists.place
+    (omega (arith, c.lists-test.false, c.len-place-end.ensures)) c.lists.invariant (omega (arith, c.lists.auto.entries-fits)))

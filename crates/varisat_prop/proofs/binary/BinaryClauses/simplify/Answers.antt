@@ -9,4 +9,5 @@ returns g c =
     let n = c.len-code-end.ensures in
     let past = c.loop-code-test.false in
     lists-left c.args.assignment.now.current c.args.self.now c.loop-code.self inv.count
-    (λ k h. subst (λ values. get_or c.loop-code.self k [] ≡ unassigned_implied values k (get_or c.args.self.now k [])) c.assignment-values.ensures (inv.done k (omega (arith, h, n, past))))
+    (λ k h. subst (λ values. get_or c.loop-code.self k [] ≡ unassigned_implied values k (get_or c.args.self.now k [])) c.assignment-values.ensures
+    (inv.done k (omega (arith, h, n, past))))

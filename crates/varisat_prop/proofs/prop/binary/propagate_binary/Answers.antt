@@ -7,7 +7,8 @@ use Rattle.varisat_prop.proofs.prop.binary.propagate_binary.Goals as goal
 
 pub loop-entry-init : goal.loop-entry-init
 loop-entry-init g c = record {
-  implying = implying-start (view_of c.args.clause_alloc.now c.args.binary_clauses.now c.args.assignment.now c.args.trail.now c.args.impl_graph.now) c.args.lit c.requires.well c.requires.is_true;
+  implying = implying-start (view_of c.args.clause_alloc.now c.args.binary_clauses.now c.args.assignment.now c.args.trail.now c.args.impl_graph.now)
+      c.args.lit c.requires.well c.requires.is_true;
   keeps = keeps-refl (parts_of c.args.clause_alloc.now c.args.binary_clauses.now c.args.assignment.now c.args.trail.now c.args.impl_graph.now);
 }
 
@@ -23,11 +24,13 @@ enqueue_assignment-requires g c =
     (λ h. let b = c.if-lit_is_true.ensures.1 h in cc) (λ h. let b = c.if-lit_is_false.ensures.1 h in cc)
 
 pub returns-then-lit_is_false-clause-ends : goal.returns-then-lit_is_false-clause-ends
-returns-then-lit_is_false-clause-ends g c = implying-conflict c.loop-entry.invariant.implying c.implied-entry-items.ensures c.loop-entry-test.true c.entry-item.is c.not.ensures (c.if-lit_is_false.ensures.0 refl)
+returns-then-lit_is_false-clause-ends g c = implying-conflict c.loop-entry.invariant.implying c.implied-entry-items.ensures c.loop-entry-test.true
+    c.entry-item.is c.not.ensures (c.if-lit_is_false.ensures.0 refl)
 
 pub loop-entry-preserved-then-lit_is_true : goal.loop-entry-preserved-then-lit_is_true
 loop-entry-preserved-then-lit_is_true g c = record {
-  implying = implying-true c.loop-entry.invariant.implying c.implied-entry-items.ensures c.loop-entry-test.true c.entry-item.is (c.if-lit_is_true.ensures.0 refl);
+  implying = implying-true c.loop-entry.invariant.implying c.implied-entry-items.ensures c.loop-entry-test.true c.entry-item.is
+      (c.if-lit_is_true.ensures.0 refl);
   keeps = c.loop-entry.invariant.keeps;
 }
 
@@ -38,7 +41,8 @@ loop-entry-preserved g c =
     record {
       implying = implying-new c.loop-entry.invariant.implying c.implied-entry-items.ensures c.loop-entry-test.true c.entry-item.is
           (λ h. let b = c.if-lit_is_true.ensures.1 h in cc) (λ h. let b = c.if-lit_is_false.ensures.1 h in cc) c.not-in-loop-entry.ensures view;
-      keeps = keeps-trans c.loop-entry.invariant.keeps record { last = enters.last; head = ap (λ (v : View). v.queue_head) view; units = enters.units; store = refl };
+      keeps = keeps-trans c.loop-entry.invariant.keeps
+          record { last = enters.last; head = ap (λ (v : View). v.queue_head) view; units = enters.units; store = refl };
     }
 
 pub returns-clause-ends : goal.returns-clause-ends

@@ -13,10 +13,12 @@ pub lits_mut-lits-requires-clause-place : goal.lits_mut-lits-requires-clause-pla
 lits_mut-lits-requires-clause-place g c = live-place (stored_clauses c.args.clause_alloc.now) c.args.cref c.requires.place
 
 pub reorder-requires-clause-long : goal.reorder-requires-clause-long
-reorder-requires-clause-long g c = subst (λ x. 2 ≤ length x) (sym (c.lits_mut-lits.ensures.value ∙ live-literals c.args.clause_alloc.now c.args.cref c.requires.sound c.requires.place)) c.requires.long
+reorder-requires-clause-long g c = subst (λ x. 2 ≤ length x)
+    (sym (c.lits_mut-lits.ensures.value ∙ live-literals c.args.clause_alloc.now c.args.cref c.requires.sound c.requires.place)) c.requires.long
 
 pub reorder-requires-clause-within : goal.reorder-requires-clause-within
-reorder-requires-clause-within g c = subst (IsInRange c.args.assignment.now.current) (sym (c.lits_mut-lits.ensures.value ∙ live-literals c.args.clause_alloc.now c.args.cref c.requires.sound c.requires.place)) c.requires.within
+reorder-requires-clause-within g c = subst (IsInRange c.args.assignment.now.current)
+    (sym (c.lits_mut-lits.ensures.value ∙ live-literals c.args.clause_alloc.now c.args.cref c.requires.sound c.requires.place)) c.requires.within
 
 pub returns : goal.returns
 returns g c =
@@ -31,6 +33,7 @@ returns g c =
       sound = alone.sound;
       changed = e ∙ ap (λ x. with_literals (live_clauses s) p x) (sym now);
       found = subst (λ x. IsFound c.args.assignment.now.current (literals_at (live_clauses s) p) x c.args.false_lit c.reorder.result) (sym now)
-          (subst (λ x. IsFound c.args.assignment.now.current x d c.args.false_lit c.reorder.result) (c.lits_mut-lits.ensures.value ∙ live-literals s p c.requires.sound c.requires.place) c.reorder.ensures.found);
+          (subst (λ x. IsFound c.args.assignment.now.current x d c.args.false_lit c.reorder.result)
+          (c.lits_mut-lits.ensures.value ∙ live-literals s p c.requires.sound c.requires.place) c.reorder.ensures.found);
       store = shapes-changed s n (length s.words) p d (c.reorder.ensures.count ∙ ap length c.lits_mut-lits.ensures.value) alone;
     }

@@ -6,7 +6,8 @@ use Rattle.varisat_prop.proofs.LongVisited.{blocking-range, watch-long, watch-ra
 use Rattle.varisat_prop.proofs.prop.long.visit_watch.Goals as goal
 
 pub lit_is_true-requires : goal.lit_is_true-requires
-lit_is_true-requires g c = blocking-range (parts_of c.args.clause_alloc.now c.args.binary_clauses.now c.args.assignment.now c.args.trail.now c.args.impl_graph.now) c.requires
+lit_is_true-requires g c = blocking-range
+    (parts_of c.args.clause_alloc.now c.args.binary_clauses.now c.args.assignment.now c.args.trail.now c.args.impl_graph.now) c.requires
 
 pub reorder_clause-requires : goal.reorder_clause-requires
 reorder_clause-requires g c =
@@ -60,5 +61,6 @@ returns-in_ok-enqueue_assignment-in-Implied g c =
     let enters = c.in_ok-enqueue_assignment-in-Implied.ensures in
     let view = enters.view c.reorder_clause.new.clause_alloc c.args.binary_clauses.now in
     code-implied p c.requires c.not.ensures c.in-Implied.ensures
-    (parts_of c.reorder_clause.new.clause_alloc c.args.binary_clauses.now c.enqueue_assignment.new.assignment c.enqueue_assignment.new.trail c.enqueue_assignment.new.impl_graph) view
+    (parts_of c.reorder_clause.new.clause_alloc c.args.binary_clauses.now c.enqueue_assignment.new.assignment c.enqueue_assignment.new.trail
+    c.enqueue_assignment.new.impl_graph) view
     record { last = enters.last; head = ap (λ (v : View). v.queue_head) view; units = enters.units; store = c.in-Implied.ensures.store }

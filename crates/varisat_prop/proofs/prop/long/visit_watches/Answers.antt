@@ -18,7 +18,8 @@ pub loop-read-preserved : goal.loop-read-preserved
 loop-read-preserved g c =
     let inside : c.loop-read.read < length c.loop-read.list.items = omega (arith, c.loop-read-test.true, c.len.ensures) in
     elim c.match-branch-2.branch [
-      | in-Dropped k ↦ rw (k.list-is, k.write-is) (visiting-dropped c.loop-read.invariant inside c.index-watch.ensures c.in_ok-visit_watch.ensures k.in-Dropped.is)
+      | in-Dropped k ↦ rw (k.list-is, k.write-is)
+          (visiting-dropped c.loop-read.invariant inside c.index-watch.ensures c.in_ok-visit_watch.ensures k.in-Dropped.is)
       | in-Keep k ↦ rw (k.list-is, k.write-is) (visiting-kept c.loop-read.invariant inside c.index-watch.ensures c.in_ok-visit_watch.ensures k.in-Keep.is)
     ]
 

@@ -12,7 +12,8 @@ use Rattle.varisat_prop.proofs.prop.propagation.enable_watchlists.Goals as goal
 
 pub lits-requires-clause-place : goal.lits-requires-clause-place
 lits-requires-clause-place g c =
-    live-place (stored_clauses c.args.clause_alloc.now) c.in-Some.cref (c.loop-cref.invariant.but.places c.in-Some.cref (subst (λ (xs : List ℕ). c.in-Some.cref ∈ xs) (sym c.in-Some.ensures.steps) (inl refl)))
+    live-place (stored_clauses c.args.clause_alloc.now) c.in-Some.cref
+    (c.loop-cref.invariant.but.places c.in-Some.cref (subst (λ (xs : List ℕ). c.in-Some.cref ∈ xs) (sym c.in-Some.ensures.steps) (inl refl)))
 
 pub watch_clause-requires-clause-several : goal.watch_clause-requires-clause-several
 watch_clause-requires-clause-several g c =
@@ -42,7 +43,8 @@ loop-cref-preserved g c =
     let h = c.loop-cref.invariant.but.places p (subst (λ (xs : List ℕ). p ∈ xs) (sym c.in-Some.ensures.steps) (inl refl)) in
     let w = subst (λ x. WatchesClause W V p x) (c.lits.ensures ∙ live-literals s p c.requires.sound h) c.in_ok-watch_clause.ensures in
     record {
-      but = but-next W V (live_clauses s) p c.next.new.self c.loop-cref.invariant.enabled (subst (λ (xs : List ℕ). WatchingBut W (live_clauses s) xs) c.in-Some.ensures.steps c.loop-cref.invariant.but) w;
+      but = but-next W V (live_clauses s) p c.next.new.self c.loop-cref.invariant.enabled
+          (subst (λ (xs : List ℕ). WatchingBut W (live_clauses s) xs) c.in-Some.ensures.steps c.loop-cref.invariant.but) w;
       enabled = w.adds.enabled ∙ c.loop-cref.invariant.enabled;
       count = w.adds.count ∙ c.loop-cref.invariant.count;
     }
@@ -53,7 +55,9 @@ loop-cref-init g c =
     let off : c.args.watchlists.now.enabled ≡ false = sym c.enabled.ensures ∙ c.if-enabled.false in
     let lists = ap (λ (x : Watches). x.lists) c.enable.ensures in
     record {
-      but = subst (λ (xs : List ℕ). WatchingBut c.enable.new.self (live_clauses s) xs) (sym (c.into_iter-cref-iterator.ensures.into_iter_gives ∙ c.clauses_iter-cref-items.ensures)) (but-all c.enable.new.self (live_clauses s) (λ x. ap (λ (X : Watches). watches_of X x) c.enable.ensures ∙ c.requires.empty off x));
+      but = subst (λ (xs : List ℕ). WatchingBut c.enable.new.self (live_clauses s) xs)
+          (sym (c.into_iter-cref-iterator.ensures.into_iter_gives ∙ c.clauses_iter-cref-items.ensures))
+          (but-all c.enable.new.self (live_clauses s) (λ x. ap (λ (X : Watches). watches_of X x) c.enable.ensures ∙ c.requires.empty off x));
       enabled = ap (λ (x : Watches). x.enabled) c.enable.ensures;
       count = ap length lists;
     }
@@ -61,4 +65,5 @@ loop-cref-init g c =
 pub returns-clause-watching : goal.returns-clause-watching
 returns-clause-watching g c = λ e.
     let s = c.args.clause_alloc.now in
-    but-none c.loop-cref.watchlists (live_clauses s) (subst (λ (xs : List ℕ). WatchingBut c.loop-cref.watchlists (live_clauses s) xs) (c.in-None.ensures {u = tt}).steps.0 c.loop-cref.invariant.but)
+    but-none c.loop-cref.watchlists (live_clauses s)
+    (subst (λ (xs : List ℕ). WatchingBut c.loop-cref.watchlists (live_clauses s) xs) (c.in-None.ensures {u = tt}).steps.0 c.loop-cref.invariant.but)

@@ -27,7 +27,8 @@ queue-init g c =
     let e = c.in_ok-enable_watchlists.ensures in
     record {
       propagates = propagates-refl s c.requires.well;
-      watched = watched-enabled c.args.watchlists.now c.enable_watchlists.new.watchlists s c.requires.well c.requires.propagated e.enabled e.count e.same e.watching;
+      watched = watched-enabled c.args.watchlists.now c.enable_watchlists.new.watchlists s c.requires.well c.requires.propagated e.enabled e.count
+          e.same e.watching;
       last = refl;
       units = refl;
       store = refl;
@@ -61,5 +62,9 @@ returns-clause-ends g c =
     let t = view_of c.queue.clause_alloc c.args.binary_clauses.now c.queue.assignment c.queue.trail c.queue.impl_graph in
     let past : length t.trail ≤ t.queue_head = at-end t.trail t.queue_head c.queue_head.result c.queue_head.ensures c.in_default.is in
     let w = c.queue.invariant.watched in
-    let e : t.queue_head ≡ length t.trail = (let n = w.within in omega (arith, n, past)) in
-    (complete-both (literals_of t.clauses) (pairs_from 0 t.binary) t.trail (settled-complete t c.queue.invariant.propagates.well (subst (IsSettledTo t) e w.settled)) (pairs-complete t c.queue.invariant.propagates.well (subst (IsImpliedTo t) e w.implied)), e)
+    let e : t.queue_head ≡ length t.trail = (let n = w.within in omega (arith, n, past)) in (
+      complete-both (literals_of t.clauses) (pairs_from 0 t.binary) t.trail
+          (settled-complete t c.queue.invariant.propagates.well (subst (IsSettledTo t) e w.settled))
+          (pairs-complete t c.queue.invariant.propagates.well (subst (IsImpliedTo t) e w.implied)),
+      e,
+    )

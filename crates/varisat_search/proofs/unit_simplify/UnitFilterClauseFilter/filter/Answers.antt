@@ -25,7 +25,8 @@ left-is g c = c.in_ok-copy_unassigned.ensures ∙ ap (unassigned (values g c)) c
 
 -- none of its literals is true
 none-true : (g : Over) (c : After-len g) → has_true (values g c) (clause g c).literals ≡ false
-none-true g c = unsatisfied-read (values g c) c.lits-lits.result.now (clause g c).literals c.lits-lits.ensures (λ h. let b = c.if-is_satisfied.ensures.1 h in cc)
+none-true g c = unsatisfied-read (values g c) c.lits-lits.result.now (clause g c).literals c.lits-lits.ensures
+    (λ h. let b = c.if-is_satisfied.ensures.1 h in cc)
 
 -- three or more are left, unless there are two
 three-left : (g : Over) (c : After-len g) → c.len.result ≢ 2 → 3 ≤ length c.copy_unassigned.new.left.items
@@ -35,8 +36,11 @@ three-left g c n =
     omega (arith, c.copy_unassigned.new.left.ok.0, n, two, e)
 
 -- the clause stays, as j
-stays : (g : Over) (c : After-len g) (j : StoredClause) → c.len.result ≢ 2 → j ≡ shortened_to (unassigned (values g c) (clause g c).literals) (clause g c) → LeavesOpen (values g c) (clause g c) (left_if true j) c.args.self.now.pairs.items c.args.self.now.pairs.items
-stays g c j n is = leaves-long (values g c) (clause g c) c.args.self.now.pairs.items j (none-true g c) (subst (λ (d : Clause). 3 ≤ length d) (left-is g c) (three-left g c n)) c.requires.live is
+stays : (g : Over) (c : After-len g) (j : StoredClause) → c.len.result ≢ 2 →
+    j ≡ shortened_to (unassigned (values g c) (clause g c).literals) (clause g c) →
+    LeavesOpen (values g c) (clause g c) (left_if true j) c.args.self.now.pairs.items c.args.self.now.pairs.items
+stays g c j n is = leaves-long (values g c) (clause g c) c.args.self.now.pairs.items j (none-true g c)
+    (subst (λ (d : Clause). 3 ≤ length d) (left-is g c) (three-left g c n)) c.requires.live is
 
 pub returns-then-is_satisfied-clause-altered : goal.returns-then-is_satisfied-clause-altered
 returns-then-is_satisfied-clause-altered g c = alters-same c.args.alloc.now c.args.cref c.requires.sound c.requires.place c.requires.live
@@ -44,8 +48,11 @@ returns-then-is_satisfied-clause-altered g c = alters-same c.args.alloc.now c.ar
 pub returns-then-is_satisfied-clause-left : goal.returns-then-is_satisfied-clause-left
 returns-then-is_satisfied-clause-left g c =
     let values = c.args.self.now.assignment.now.current in
-    let k = stored_at (stored_clauses c.args.alloc.now) c.args.cref in
-    (refl, leaves-none values k c.args.self.now.pairs.items k (satisfied-read values c.lits-lits.result.now k.literals c.lits-lits.ensures (c.if-is_satisfied.ensures.0 refl)))
+    let k = stored_at (stored_clauses c.args.alloc.now) c.args.cref in (
+      refl,
+      leaves-none values k c.args.self.now.pairs.items k
+          (satisfied-read values c.lits-lits.result.now k.literals c.lits-lits.ensures (c.if-is_satisfied.ensures.0 refl)),
+    )
 
 pub returns-then-len-eq2-clause-altered : goal.returns-then-len-eq2-clause-altered
 returns-then-len-eq2-clause-altered g c = alters-same c.args.alloc.now c.args.cref c.requires.sound c.requires.place c.requires.live
@@ -57,7 +64,8 @@ returns-then-len-eq2-clause-left g c =
     let n : length left.items ≡ 2 = omega (arith, left.ok.0, c.if-len-eq2.true) in
     let two = only-two left.items c.index.result.now c.index-then-len-eq2.result.now n c.index.ensures c.index-then-len-eq2.ensures in (
       refl,
-      leaves-pair (values g here) (clause g here) c.args.self.now.pairs.items (clause g here) c.push.new.self.items (none-true g here) (sym (ap (λ (d : Clause). length d) (left-is g here)) ∙ n)
+      leaves-pair (values g here) (clause g here) c.args.self.now.pairs.items (clause g here) c.push.new.self.items (none-true g here)
+          (sym (ap (λ (d : Clause). length d) (left-is g here)) ∙ n)
           (c.in_ok-push.ensures.items ∙ ap (λ (d : Clause). c.args.self.now.pairs.items ++ d ∷ []) (sym two ∙ left-is g here)),
     )
 
@@ -68,13 +76,17 @@ shrink-requires-clause-least g c =
     omega (arith, three, m)
 
 pub returns-then-len-lits-clause-altered : goal.returns-then-len-lits-clause-altered
-returns-then-len-lits-clause-altered g c = shrunk-alters c.args.alloc.now c.shrink.new.alloc c.args.cref c.deref.result.now c.requires.place c.shrink.ensures c.requires.live
+returns-then-len-lits-clause-altered g c = shrunk-alters c.args.alloc.now c.shrink.new.alloc c.args.cref c.deref.result.now c.requires.place
+    c.shrink.ensures c.requires.live
 
 pub returns-then-len-lits-clause-left : goal.returns-then-len-lits-clause-left
 returns-then-len-lits-clause-left g c =
     let here = (goal.at.returns-then-len-lits-clause-left g c).After-len in
-    let shrunk = shrunk-stored c.args.alloc.now c.shrink.new.alloc c.args.cref c.deref.result.now c.requires.place c.shrink.ensures in
-    (refl, stays g here (stored_at (stored_clauses c.shrink.new.alloc) c.args.cref) c.if-len-eq2.false (shrunk ∙ ap (λ (d : Clause). shortened_to d (clause g here)) (c.deref.ensures.value ∙ left-is g here)))
+    let shrunk = shrunk-stored c.args.alloc.now c.shrink.new.alloc c.args.cref c.deref.result.now c.requires.place c.shrink.ensures in (
+      refl,
+      stays g here (stored_at (stored_clauses c.shrink.new.alloc) c.args.cref) c.if-len-eq2.false
+          (shrunk ∙ ap (λ (d : Clause). shortened_to d (clause g here)) (c.deref.ensures.value ∙ left-is g here)),
+    )
 
 pub returns-else-len-lits-clause-altered : goal.returns-else-len-lits-clause-altered
 returns-else-len-lits-clause-altered g c = alters-same c.args.alloc.now c.args.cref c.requires.sound c.requires.place c.requires.live
@@ -84,5 +96,10 @@ returns-else-len-lits-clause-left g c =
     let here = (goal.at.returns-else-len-lits-clause-left g c).After-len in
     let n = ap (λ (d : Clause). length d) (left-is g here) in
     let m = ap (λ (d : Clause). length d) c.lits-lits.ensures in
-    let full = filter-full (is_unassigned (values g here)) (clause g here).literals (omega (arith, c.copy_unassigned.new.left.ok.0, c.if-len-lits.false, n, m)) in
-    (refl, stays g here (clause g here) c.if-len-eq2.false (not-shortened (values g here) (clause g here) c.args.self.now.pairs.items (header-length c.args.alloc.now c.args.cref c.requires.sound c.requires.place) full))
+    let full = filter-full (is_unassigned (values g here)) (clause g here).literals
+    (omega (arith, c.copy_unassigned.new.left.ok.0, c.if-len-lits.false, n, m)) in (
+      refl,
+      stays g here (clause g here) c.if-len-eq2.false
+          (not-shortened (values g here) (clause g here) c.args.self.now.pairs.items
+          (header-length c.args.alloc.now c.args.cref c.requires.sound c.requires.place) full),
+    )

@@ -35,10 +35,12 @@ loop-lit-preserved g c =
       ready = c.make_available.ensures.ready;
       known = λ m i. ⊎_elim
           (λ j. let h = c.loop-lit.invariant.known m j in omega (arith, h, n))
-          (λ f. let q = ap variable_of (f ∙ sym e) in let h = c.index.ensures.index in let a = ap (λ xs. length xs) c.assignment.ensures in omega (arith, q, h, n, a, c.if-index-assignment.false))
+          (λ f. let q = ap variable_of (f ∙ sym e) in let h = c.index.ensures.index in let a = ap (λ xs. length xs) c.assignment.ensures in
+          omega (arith, q, h, n, a, c.if-index-assignment.false))
           (∈-take_more m lits k 0 i);
       decidable = λ m i. ⊎_elim
-          (λ j. still-decidable c.var.result (view old) old.vsids (view new) new.vsids c.make_available.ensures.decidable c.make_available.ensures.others (variable_of m) (c.loop-lit.invariant.decidable m j))
+          (λ j. still-decidable c.var.result (view old) old.vsids (view new) new.vsids c.make_available.ensures.decidable
+          c.make_available.ensures.others (variable_of m) (c.loop-lit.invariant.decidable m j))
           (λ f. subst (IsDecidable (view new) new.vsids) (v ∙ sym (ap variable_of (f ∙ sym e))) c.make_available.ensures.decidable)
           (∈-take_more m lits k 0 i);
     }

@@ -19,6 +19,7 @@ loop-index-preserved g c = elim c.if-is_none.branch [
       let values = c.loop-index.assignment.current in
       let v = c.from_index-var.result in
       let none = sym c.var_value.ensures ∙ none-from c.var_value.result (c.is_none.ensures ∙ ap not w.if-is_none.true) in
-      ap (λ x. x.current) w.assignment-is ∙ ap (λ x. x.current) w.release_var.ensures.released ∙ ap (λ x. set x.current v None) w.set_var.ensures ∙ given-and-taken values v (Some c.args.value) none ∙ c.loop-index.invariant
+      ap (λ x. x.current) w.assignment-is ∙ ap (λ x. x.current) w.release_var.ensures.released ∙ ap (λ x. set x.current v None) w.set_var.ensures
+      ∙ given-and-taken values v (Some c.args.value) none ∙ c.loop-index.invariant
   | else-is_none w ↦ ap (λ x. x.current) w.assignment-is ∙ c.loop-index.invariant
 ]

@@ -9,7 +9,8 @@ use Rattle.varisat_search_tests.proofs.tests.watching.rebuild.Goals as goal
 
 pub enable_watchlists-requires-clause-within : goal.enable_watchlists-requires-clause-within
 enable_watchlists-requires-clause-within g c = λ d h l i.
-    subst (λ n. opposite l < n) (sym (c.disable.ensures.count ∙ c.requires.propagated.lists)) (listed l (length c.args.ctx.now.assignment.current) (c.requires.well.in_range d (stored-kept (view c.args.ctx.now) d h) l i))
+    subst (λ n. opposite l < n) (sym (c.disable.ensures.count ∙ c.requires.propagated.lists))
+    (listed l (length c.args.ctx.now.assignment.current) (c.requires.well.in_range d (stored-kept (view c.args.ctx.now) d h) l i))
 
 pub returns : goal.returns
 returns g c =

@@ -12,7 +12,8 @@ use Rattle.varisat_trace.proofs.recorder.LineRecorderProofTracer.add_step.Goals 
 
 pub returns-in_ok-push_units-in-UnitClauses : goal.returns-in_ok-push_units-in-UnitClauses
 returns-in_ok-push_units-in-UnitClauses g c =
-    (c.in_ok-push_units-in-UnitClauses.ensures {u = tt}).pushed ∙ ap (λ (ls : List Line). c.args.self.now ++ ls) (sym (written_lines (unit_lines c.in-UnitClauses.units.now)) ∙ ap (λ (s : ProofStep). lines_of (entries_of s)) (sym c.in-UnitClauses.is))
+    (c.in_ok-push_units-in-UnitClauses.ensures {u = tt}).pushed ∙ ap (λ (ls : List Line). c.args.self.now ++ ls)
+    (sym (written_lines (unit_lines c.in-UnitClauses.units.now)) ∙ ap (λ (s : ProofStep). lines_of (entries_of s)) (sym c.in-UnitClauses.is))
 
 pub returns-in_err-push_units-in-UnitClauses : goal.returns-in_err-push_units-in-UnitClauses
 returns-in_err-push_units-in-UnitClauses g c =
@@ -20,5 +21,11 @@ returns-in_err-push_units-in-UnitClauses g c =
     let (n, e) = (c.in_err-push_units-in-UnitClauses.ensures {u = tt}).refused in
     let es = entries_of c.args.step.now in
     step-broken (λ a es b. b ≡ a ++ lines_of es) BreaksOffAt true x c.push_units.new.self es c.from_residual-in_err-push_units-in-UnitClauses.result Memory
-    c.from_residual-in_err-push_units-in-UnitClauses.ensures refl
-    ((n, e ∙ ap (λ (ls : List Line). x ++ take n ls) (sym (written_lines (unit_lines c.in-UnitClauses.units.now)) ∙ ap (λ (s : ProofStep). lines_of (entries_of s)) (sym c.in-UnitClauses.is))), refl)
+    c.from_residual-in_err-push_units-in-UnitClauses.ensures refl (
+      (
+        n,
+        e ∙ ap (λ (ls : List Line). x ++ take n ls)
+            (sym (written_lines (unit_lines c.in-UnitClauses.units.now)) ∙ ap (λ (s : ProofStep). lines_of (entries_of s)) (sym c.in-UnitClauses.is)),
+      ),
+      refl,
+    )

@@ -73,7 +73,8 @@ returns-in_ok-add_step-in-DeleteClause g c =
 pub returns-in_err-map_lits-in-AtClause : goal.returns-in_err-map_lits-in-AtClause
 returns-in_err-map_lits-in-AtClause g c =
     let y : TracerState = record { tables = c.args.self.now.variables; proof = c.args.self.now.proof } in
-    step-broken (λ a es b. TakesGlobally (parts_of a) es (parts_of b)) (λ a es n b. BreaksGlobally (parts_of a) es n (parts_of b)) (is_telling c.args.self.now.proof) c.args.self.now _ (entries_of c.args.step.now) c.from_residual.result Memory c.from_residual.ensures
+    step-broken (λ a es b. TakesGlobally (parts_of a) es (parts_of b)) (λ a es n b. BreaksGlobally (parts_of a) es n (parts_of b))
+    (is_telling c.args.self.now.proof) c.args.self.now _ (entries_of c.args.step.now) c.from_residual.result Memory c.from_residual.ensures
     (sym c.is_active.ensures ∙ c.if-not-is_active.false) (breaks-before y (entries_of c.args.step.now))
 
 pub returns-in_err-add_step-in-AtClause : goal.returns-in_err-add_step-in-AtClause
@@ -82,7 +83,9 @@ returns-in_err-add_step-in-AtClause g c =
     let z : TracerState = record { tables = c.args.self.now.variables; proof = c.add_step.new.proof } in
     let f = global_literal c.args.self.now.variables in
     let e = c.in_err-add_step-in-AtClause.field-0.0 in
-    step-broken (λ a es b. TakesGlobally (parts_of a) es (parts_of b)) (λ a es n b. BreaksGlobally (parts_of a) es n (parts_of b)) (is_telling c.args.self.now.proof) c.args.self.now _ (entries_of c.args.step.now) c.from_residual-in_err-add_step-in-AtClause.result e c.from_residual-in_err-add_step-in-AtClause.ensures
+    step-broken (λ a es b. TakesGlobally (parts_of a) es (parts_of b)) (λ a es n b. BreaksGlobally (parts_of a) es n (parts_of b))
+    (is_telling c.args.self.now.proof) c.args.self.now _ (entries_of c.args.step.now) c.from_residual-in_err-add_step-in-AtClause.result e
+    c.from_residual-in_err-add_step-in-AtClause.ensures
     (sym c.is_active.ensures ∙ c.if-not-is_active.false)
     (breaks-told y z (entries_of c.args.step.now) (Writes (Add c.as_slice-clause.result.now) ∷ []) e refl
     (ap (λ (ls : List Literal). Writes (Add ls) ∷ []) (c.as_slice-clause.ensures.value ∙ c.in_ok-map_lits-in-AtClause.ensures) ∙
@@ -91,7 +94,9 @@ returns-in_err-add_step-in-AtClause g c =
 pub returns-in_err-map_lits-in-UnitClauses : goal.returns-in_err-map_lits-in-UnitClauses
 returns-in_err-map_lits-in-UnitClauses g c =
     let y : TracerState = record { tables = c.args.self.now.variables; proof = c.args.self.now.proof } in
-    step-broken (λ a es b. TakesGlobally (parts_of a) es (parts_of b)) (λ a es n b. BreaksGlobally (parts_of a) es n (parts_of b)) (is_telling c.args.self.now.proof) c.args.self.now _ (entries_of c.args.step.now) c.from_residual-in_err-map_lits-in-UnitClauses.result Memory c.from_residual-in_err-map_lits-in-UnitClauses.ensures
+    step-broken (λ a es b. TakesGlobally (parts_of a) es (parts_of b)) (λ a es n b. BreaksGlobally (parts_of a) es n (parts_of b))
+    (is_telling c.args.self.now.proof) c.args.self.now _ (entries_of c.args.step.now) c.from_residual-in_err-map_lits-in-UnitClauses.result
+    Memory c.from_residual-in_err-map_lits-in-UnitClauses.ensures
     (sym c.is_active.ensures ∙ c.if-not-is_active.false) (breaks-before y (entries_of c.args.step.now))
 
 pub returns-in_err-add_step-in-UnitClauses : goal.returns-in_err-add_step-in-UnitClauses
@@ -100,16 +105,21 @@ returns-in_err-add_step-in-UnitClauses g c =
     let z : TracerState = record { tables = c.args.self.now.variables; proof = c.add_step-in-UnitClauses.new.proof } in
     let f = global_literal c.args.self.now.variables in
     let e = c.in_err-add_step-in-UnitClauses.field-0.0 in
-    step-broken (λ a es b. TakesGlobally (parts_of a) es (parts_of b)) (λ a es n b. BreaksGlobally (parts_of a) es n (parts_of b)) (is_telling c.args.self.now.proof) c.args.self.now _ (entries_of c.args.step.now) c.from_residual-in_err-add_step-in-UnitClauses.result e c.from_residual-in_err-add_step-in-UnitClauses.ensures
+    step-broken (λ a es b. TakesGlobally (parts_of a) es (parts_of b)) (λ a es n b. BreaksGlobally (parts_of a) es n (parts_of b))
+    (is_telling c.args.self.now.proof) c.args.self.now _ (entries_of c.args.step.now) c.from_residual-in_err-add_step-in-UnitClauses.result e
+    c.from_residual-in_err-add_step-in-UnitClauses.ensures
     (sym c.is_active.ensures ∙ c.if-not-is_active.false)
     (breaks-told y z (entries_of c.args.step.now) (written (unit_lines c.as_slice-units.result.now)) e refl
     (ap (λ (ls : List Literal). written (unit_lines ls)) (c.as_slice-units.ensures.value ∙ c.in_ok-map_lits-in-UnitClauses.ensures) ∙
-    sym (told-units f c.in-UnitClauses.units.now) ∙ ap (λ (s : ProofStep). told_as f (entries_of s)) (sym c.in-UnitClauses.is)) (c.in_err-add_step-in-UnitClauses.ensures {u = tt}))
+    sym (told-units f c.in-UnitClauses.units.now) ∙ ap (λ (s : ProofStep). told_as f (entries_of s)) (sym c.in-UnitClauses.is))
+    (c.in_err-add_step-in-UnitClauses.ensures {u = tt}))
 
 pub returns-in_err-map_lits-in-DeleteClause : goal.returns-in_err-map_lits-in-DeleteClause
 returns-in_err-map_lits-in-DeleteClause g c =
     let y : TracerState = record { tables = c.args.self.now.variables; proof = c.args.self.now.proof } in
-    step-broken (λ a es b. TakesGlobally (parts_of a) es (parts_of b)) (λ a es n b. BreaksGlobally (parts_of a) es n (parts_of b)) (is_telling c.args.self.now.proof) c.args.self.now _ (entries_of c.args.step.now) c.from_residual-in_err-map_lits-in-DeleteClause.result Memory c.from_residual-in_err-map_lits-in-DeleteClause.ensures
+    step-broken (λ a es b. TakesGlobally (parts_of a) es (parts_of b)) (λ a es n b. BreaksGlobally (parts_of a) es n (parts_of b))
+    (is_telling c.args.self.now.proof) c.args.self.now _ (entries_of c.args.step.now) c.from_residual-in_err-map_lits-in-DeleteClause.result
+    Memory c.from_residual-in_err-map_lits-in-DeleteClause.ensures
     (sym c.is_active.ensures ∙ c.if-not-is_active.false) (breaks-before y (entries_of c.args.step.now))
 
 pub returns-in_err-add_step-in-DeleteClause : goal.returns-in_err-add_step-in-DeleteClause
@@ -118,7 +128,9 @@ returns-in_err-add_step-in-DeleteClause g c =
     let z : TracerState = record { tables = c.args.self.now.variables; proof = c.add_step-in-DeleteClause.new.proof } in
     let f = global_literal c.args.self.now.variables in
     let e = c.in_err-add_step-in-DeleteClause.field-0.0 in
-    step-broken (λ a es b. TakesGlobally (parts_of a) es (parts_of b)) (λ a es n b. BreaksGlobally (parts_of a) es n (parts_of b)) (is_telling c.args.self.now.proof) c.args.self.now _ (entries_of c.args.step.now) c.from_residual-in_err-add_step-in-DeleteClause.result e c.from_residual-in_err-add_step-in-DeleteClause.ensures
+    step-broken (λ a es b. TakesGlobally (parts_of a) es (parts_of b)) (λ a es n b. BreaksGlobally (parts_of a) es n (parts_of b))
+    (is_telling c.args.self.now.proof) c.args.self.now _ (entries_of c.args.step.now) c.from_residual-in_err-add_step-in-DeleteClause.result e
+    c.from_residual-in_err-add_step-in-DeleteClause.ensures
     (sym c.is_active.ensures ∙ c.if-not-is_active.false)
     (breaks-told y z (entries_of c.args.step.now) (Writes (Delete c.as_slice-clause-in-DeleteClause.result.now) ∷ []) e refl
     (ap (λ (ls : List Literal). Writes (Delete ls) ∷ []) (c.as_slice-clause-in-DeleteClause.ensures.value ∙ c.in_ok-map_lits-in-DeleteClause.ensures) ∙
@@ -127,7 +139,9 @@ returns-in_err-add_step-in-DeleteClause g c =
 pub returns-in_err-map_lits-in-FailedAssumptions : goal.returns-in_err-map_lits-in-FailedAssumptions
 returns-in_err-map_lits-in-FailedAssumptions g c =
     let y : TracerState = record { tables = c.args.self.now.variables; proof = c.args.self.now.proof } in
-    step-broken (λ a es b. TakesGlobally (parts_of a) es (parts_of b)) (λ a es n b. BreaksGlobally (parts_of a) es n (parts_of b)) (is_telling c.args.self.now.proof) c.args.self.now _ (entries_of c.args.step.now) c.from_residual-in_err-map_lits-in-FailedAssumptions.result Memory c.from_residual-in_err-map_lits-in-FailedAssumptions.ensures
+    step-broken (λ a es b. TakesGlobally (parts_of a) es (parts_of b)) (λ a es n b. BreaksGlobally (parts_of a) es n (parts_of b))
+    (is_telling c.args.self.now.proof) c.args.self.now _ (entries_of c.args.step.now)
+    c.from_residual-in_err-map_lits-in-FailedAssumptions.result Memory c.from_residual-in_err-map_lits-in-FailedAssumptions.ensures
     (sym c.is_active.ensures ∙ c.if-not-is_active.false) (breaks-before y (entries_of c.args.step.now))
 
 pub returns-in_err-add_step-in-FailedAssumptions : goal.returns-in_err-add_step-in-FailedAssumptions
@@ -136,7 +150,9 @@ returns-in_err-add_step-in-FailedAssumptions g c =
     let z : TracerState = record { tables = c.args.self.now.variables; proof = c.add_step-in-FailedAssumptions.new.proof } in
     let f = global_literal c.args.self.now.variables in
     let e = c.in_err-add_step-in-FailedAssumptions.field-0.0 in
-    step-broken (λ a es b. TakesGlobally (parts_of a) es (parts_of b)) (λ a es n b. BreaksGlobally (parts_of a) es n (parts_of b)) (is_telling c.args.self.now.proof) c.args.self.now _ (entries_of c.args.step.now) c.from_residual-in_err-add_step-in-FailedAssumptions.result e c.from_residual-in_err-add_step-in-FailedAssumptions.ensures
+    step-broken (λ a es b. TakesGlobally (parts_of a) es (parts_of b)) (λ a es n b. BreaksGlobally (parts_of a) es n (parts_of b))
+    (is_telling c.args.self.now.proof) c.args.self.now _ (entries_of c.args.step.now)
+    c.from_residual-in_err-add_step-in-FailedAssumptions.result e c.from_residual-in_err-add_step-in-FailedAssumptions.ensures
     (sym c.is_active.ensures ∙ c.if-not-is_active.false)
     (breaks-told y z (entries_of c.args.step.now) (Fails c.as_slice-failed_core.result.now ∷ []) e refl
     (ap (λ (ls : List Literal). Fails ls ∷ []) (c.as_slice-failed_core.ensures.value ∙ c.in_ok-map_lits-in-FailedAssumptions.ensures) ∙

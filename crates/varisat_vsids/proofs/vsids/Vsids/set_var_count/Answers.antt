@@ -17,7 +17,8 @@ loop-index-preserved g c =
     let q = c.push_reserved-in-loop-index.ensures in
     let r = c.push_reserved-in-loop-index-2.ensures in
     let few : k < variable_limit = omega (arith, c.requires.small, c.loop-index-test.true) in
-    let pushed : c.push_reserved-in-loop-index.new.self.items ≡ s.heap.items ++ k ∷ [] = q.items ∙ ap (λ (v : ℕ). s.heap.items ++ v ∷ []) c.from_index.ensures in
+    let pushed : c.push_reserved-in-loop-index.new.self.items ≡ s.heap.items ++ k ∷ [] = q.items
+    ∙ ap (λ (v : ℕ). s.heap.items ++ v ∷ []) c.from_index.ensures in
     let part : s.len ≤ k = omega (arith, i.heap.part, i.count) in
     record {
       heap = same_heap _ _ _ _ _ _ s.len (one_more s.activity.items s.heap.items s.position.items s.len k i.heap i.count few) p.items pushed r.items;
@@ -25,7 +26,8 @@ loop-index-preserved g c =
       count = ap length pushed ∙ longer_by_one s.heap.items k k i.count;
       raised = omega (arith, i.raised);
       activity = p.items ∙ ap (λ (xs : List ℕ). xs ++ 0 ∷ []) i.activity ∙ one_more_filled old.activity 0 (length old.activity) k i.raised;
-      available = ap (availability s.len) r.items ∙ one_more_available s.position.items s.len k part ∙ ap (λ (bs : List Bool). bs ++ false ∷ []) i.available ∙ one_more_filled old.available false (length old.activity) k i.raised;
+      available = ap (availability s.len) r.items ∙ one_more_available s.position.items s.len k part
+          ∙ ap (λ (bs : List Bool). bs ++ false ∷ []) i.available ∙ one_more_filled old.available false (length old.activity) k i.raised;
       increment = i.increment;
       decay = i.decay;
       room = omega (arith, p.len, p.capacity, i.room, c.loop-index-test.true);

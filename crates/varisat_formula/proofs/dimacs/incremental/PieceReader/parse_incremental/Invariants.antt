@@ -5,7 +5,8 @@ use Rattle.varisat_formula.proofs.dimacs.incremental.PieceReader.parse_increment
 
 abbrev pub invariant-pieces : goal.invariant-pieces
 invariant-pieces g l = record {
-  turns : Turns (record { progress = g.Self.PieceReader.progress; calls = CalledAtMut g.F.FnMut; made = g.E.From.from_gives }) (g.S.ByteSource.stand l.fn.source) l.fn.f
+  turns : Turns (record { progress = g.Self.PieceReader.progress; calls = CalledAtMut g.F.FnMut; made = g.E.From.from_gives })
+      (g.S.ByteSource.stand l.fn.source) l.fn.f
       (record { source = g.S.ByteSource.stand l.source; reader = l.parser; function = l.f });
   quiet : (g.S.ByteSource.stand l.source).faults ≡ (g.S.ByteSource.stand l.fn.source).faults;
 }

@@ -10,7 +10,8 @@ invariant_of-self-2 g c =
     fits_append c.self.inside.var_count _ (length c.args.literals.now) _ _ c.args.literals.now _ _ c.self.invariant refl
     (c.push_reserved.ensures.items ∙ ap (λ ns. ns ++ length c.args.literals.now ∷ []) c.reserve.ensures.items)
     c.in_ok-extend_from_slice.ensures.items
-    (c.max-self-inside.ensures ∙ ap (λ n. max c.self.inside.var_count n) c.variables_of-needed.ensures.count) (small _ _ c.variables_of-needed.ensures.count c.variables_of-needed.ensures.small)
+    (c.max-self-inside.ensures ∙ ap (λ n. max c.self.inside.var_count n) c.variables_of-needed.ensures.count)
+    (small _ _ c.variables_of-needed.ensures.count c.variables_of-needed.ensures.small)
 
 pub returns : goal.returns
 returns g c = rw (← c.self.view_is) (

@@ -6,7 +6,8 @@ use Rattle.varisat_formula.proofs.formula.cnf.CnfFormula.from_clauses_in.Goals a
 
 pub loop-clause-preserved : goal.loop-clause-preserved
 loop-clause-preserved g c =
-    clauses_step (λ b. b.now) c.args.clauses.now c.loop-clause.clause-index c.clause-item.result _ no_clauses c.loop-clause.formula _ c.loop-clause-test.true c.clause-item.is refl c.loop-clause.invariant c.in_ok-add_clause.ensures
+    clauses_step (λ b. b.now) c.args.clauses.now c.loop-clause.clause-index c.clause-item.result _ no_clauses c.loop-clause.formula _
+    c.loop-clause-test.true c.clause-item.is refl c.loop-clause.invariant c.in_ok-add_clause.ensures
 
 pub returns-clause-formula : goal.returns-clause-formula
 returns-clause-formula g c = grind (arith, common_steps)

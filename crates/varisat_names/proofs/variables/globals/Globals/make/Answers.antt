@@ -9,7 +9,8 @@ returns-then-index-len-clause-kept g c =
     let below = c.if-index-len.true in
     let items = c.self.inside.data.items in
     let index = c.index-then-index-len-2.result in
-    rw (← c.self.view_is) (subst (λ d. IsKeptAs items c.args.global fresh (slice_set items index d)) (sym c.user_default.ensures) (set-kept items c.args.global index fresh c.index-then-index-len-2.ensures.index (omega (arith, below, c.index.ensures.index, c.len.ensures))))
+    rw (← c.self.view_is) (subst (λ d. IsKeptAs items c.args.global fresh (slice_set items index d)) (sym c.user_default.ensures)
+    (set-kept items c.args.global index fresh c.index-then-index-len-2.ensures.index (omega (arith, below, c.index.ensures.index, c.len.ensures))))
 
 pub returns-else-index-len-clause-kept : goal.returns-else-index-len-clause-kept
 returns-else-index-len-clause-kept g c = grind (arith, common_steps)

@@ -8,10 +8,13 @@ use Rattle.varisat_names.proofs.LinkedCalls.{begun, taken-before, taken-live}
 use Rattle.varisat_names.proofs.variables.linked.LinkedVariables.drop_solver_var.Goals as goal
 
 pub data-kept-requires : goal.data-kept-requires
-data-kept-requires g c = live-inside _ c.unwrap-global.result (taken-live (ap (λ s. s.variables) c.self-inside.view_is) c.self.invariant c.unwrap-global.result c.args.solver c.global_from_solver.ensures c.get.ensures c.unwrap-global.ensures)
+data-kept-requires g c = live-inside _ c.unwrap-global.result
+    (taken-live (ap (λ s. s.variables) c.self-inside.view_is) c.self.invariant c.unwrap-global.result c.args.solver c.global_from_solver.ensures
+    c.get.ensures c.unwrap-global.ensures)
 
 pub release_and_delete-requires-clause-live : goal.release_and_delete-requires-clause-live
-release_and_delete-requires-clause-live g c = taken-live (ap (λ s. s.variables) c.self-inside.view_is) c.self.invariant c.unwrap-global.result c.args.solver c.global_from_solver.ensures c.get.ensures c.unwrap-global.ensures
+release_and_delete-requires-clause-live g c = taken-live (ap (λ s. s.variables) c.self-inside.view_is) c.self.invariant c.unwrap-global.result
+    c.args.solver c.global_from_solver.ensures c.get.ensures c.unwrap-global.ensures
 
 pub invariant_of-self : goal.invariant_of-self
 invariant_of-self g c =
@@ -21,7 +24,8 @@ invariant_of-self g c =
     let x = c.unwrap-global.result in
     let v = c.args.solver in
     let back = taken-before same c.self.invariant c.unwrap-global.result c.args.solver c.global_from_solver.ensures c.get.ensures c.unwrap-global.ensures in
-    let unnamed = ap (λ s. at s.variables.tables.users.backward x) w ∙ ap (λ m. at m x) (sym c.user_from_global.ensures) ∙ sym c.get-user.ensures ∙ unused-none c.get-user.result c.data-kept.result.now (sym c.is_unused.ensures ∙ c.if-is_unused.true) in
+    let unnamed = ap (λ s. at s.variables.tables.users.backward x) w ∙ ap (λ m. at m x) (sym c.user_from_global.ensures) ∙ sym c.get-user.ensures
+    ∙ unused-none c.get-user.result c.data-kept.result.now (sym c.is_unused.ensures ∙ c.if-is_unused.true) in
     let solvers = c.release_and_delete.new.names.pairs in
     let kept = c.release_and_delete.new.globals.kept in
     let done = c.release_and_delete.ensures in (
@@ -38,7 +42,8 @@ invariant_of-self-2 g c =
     let back = taken-before same c.self.invariant c.unwrap-global.result c.args.solver c.global_from_solver.ensures c.get.ensures c.unwrap-global.ensures in
     let solvers = c.release.new.self.pairs in (
       on-either c.release.result c.release.ensures.parted c.release.ensures.refused
-          (λ p. part-solvers _ (turned solvers) c.unwrap-global.result c.args.solver linked back (parted-turned _ solvers c.args.solver c.unwrap-global.result p))
+          (λ p. part-solvers _ (turned solvers) c.unwrap-global.result c.args.solver linked back
+          (parted-turned _ solvers c.args.solver c.unwrap-global.result p))
           (λ r. same-tables _ _ (turned solvers) _ refl (ap turned r) refl linked),
       record { users = listed.users; solvers = c.release.ensures.listed; globals = listed.globals },
     )

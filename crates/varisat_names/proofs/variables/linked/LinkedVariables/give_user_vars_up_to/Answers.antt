@@ -11,7 +11,8 @@ loop-index-preserved g c =
     let before = c.loop-index-test.true in
     let last = c.index-index-end.ensures.index in
     let global = c.in_ok-give_user_var.field-0 in
-    one-more (length c.args.self.now.users.forward) c.args.user c.args.self.now c.loop-index.self c.give_user_var.new.self c.loop-index.index global (omega (arith, first, after)) (omega (arith, before, last)) c.loop-index.invariant
+    one-more (length c.args.self.now.users.forward) c.args.user c.args.self.now c.loop-index.self c.give_user_var.new.self c.loop-index.index global
+    (omega (arith, first, after)) (omega (arith, before, last)) c.loop-index.invariant
     (subst (λ u. IsGiven c.loop-index.self c.give_user_var.new.self u global) c.from_index.ensures c.in_ok-give_user_var.ensures.given)
 
 pub returns-clause-given : goal.returns-clause-given

@@ -9,7 +9,9 @@ returns-in_ok-give_user_var-clause-named g c =
     let below = c.if-index-user_watermark.false in
     let index = c.index.ensures.index in
     let watermark = c.user_watermark.ensures in
-    Free c.in_ok-give_user_var.field-0 (omega (arith, below, index, watermark)) (ap (λ m. at m c.args.user) (sym c.global_from_user.ensures) ∙ sym c.get.ensures ∙ is_none-none c.get.result (c.if-is_none.ensures {u = tt})) ((c.in_ok-give_user_var.ensures {u = tt}).given)
+    Free c.in_ok-give_user_var.field-0 (omega (arith, below, index, watermark))
+    (ap (λ m. at m c.args.user) (sym c.global_from_user.ensures) ∙ sym c.get.ensures
+    ∙ is_none-none c.get.result (c.if-is_none.ensures {u = tt})) ((c.in_ok-give_user_var.ensures {u = tt}).given)
 
 pub returns-else-is_none-clause-named : goal.returns-else-is_none-clause-named
 returns-else-is_none-clause-named g c =

@@ -14,11 +14,15 @@ invariant_of-self-2 g c =
     let w = c.self-inside.view_is in
     let (linked, listed) = begun (ap (λ s. s.variables) w) c.self.invariant in
     let user = c.next_unmapped_user-user.result in
-    let live = ap (λ s. (kept_at s.variables.tables.kept c.args.global).deleted) w ∙ ap (λ t. (kept_at t.kept c.args.global).deleted) c.self.view_is ∙ c.requires.live in
-    let unnamed = ap (λ s. at s.variables.tables.users.backward c.args.global) w ∙ ap (λ t. at t.users.backward c.args.global) c.self.view_is ∙ c.requires.unnamed in
+    let live = ap (λ s. (kept_at s.variables.tables.kept c.args.global).deleted) w ∙ ap (λ t. (kept_at t.kept c.args.global).deleted) c.self.view_is
+    ∙ c.requires.live in
+    let unnamed = ap (λ s. at s.variables.tables.users.backward c.args.global) w ∙ ap (λ t. at t.users.backward c.args.global) c.self.view_is
+    ∙ c.requires.unnamed in
     let free = ap (λ s. at s.variables.tables.users.forward user) w ∙ c.next_unmapped_user-user.ensures.least.0 in
-    let given = join-users _ c.give.new.self.pairs user c.args.global linked live free unnamed c.in_ok-give.ensures.joined in
-    (keep-live _ c.set_data.new.self.kept c.args.global _ given (ap (λ d. d.deleted) c.data-kept.ensures ∙ live) c.set_data.ensures.kept, record { users = c.give.ensures.listed; solvers = listed.solvers; globals = c.set_data.ensures.listed })
+    let given = join-users _ c.give.new.self.pairs user c.args.global linked live free unnamed c.in_ok-give.ensures.joined in (
+      keep-live _ c.set_data.new.self.kept c.args.global _ given (ap (λ d. d.deleted) c.data-kept.ensures ∙ live) c.set_data.ensures.kept,
+      record { users = c.give.ensures.listed; solvers = listed.solvers; globals = c.set_data.ensures.listed },
+    )
 
 pub data-kept-requires : goal.data-kept-requires
 data-kept-requires g c = grind (arith, common_steps)

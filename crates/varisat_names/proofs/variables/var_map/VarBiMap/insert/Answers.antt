@@ -10,7 +10,8 @@ pub invariant_of-self-2 : goal.invariant_of-self-2
 invariant_of-self-2 g c =
     let free = ap (λ m. at m.forward c.args.from) c.self.view_is in
     let free-back = ap (λ m. at m.backward c.args.into) c.self.view_is in
-    joined-inverse c.self.inside.fwd c.self.inside.bwd c.put.new.self c.put-2.new.self c.args.from c.args.into c.self.invariant (free ∙ c.requires.from_is_free) (free-back ∙ c.requires.into_is_free)
+    joined-inverse c.self.inside.fwd c.self.inside.bwd c.put.new.self c.put-2.new.self c.args.from c.args.into c.self.invariant
+    (free ∙ c.requires.from_is_free) (free-back ∙ c.requires.into_is_free)
     (put-padded c.self.inside.fwd c.reach.new.self c.put.new.self c.args.from _ c.in_ok-reach.ensures.reached c.put.ensures)
     (put-padded c.self.inside.bwd c.reach-2.new.self c.put-2.new.self c.args.into _ c.in_default.ensures.reached c.put-2.ensures)
 
@@ -23,8 +24,10 @@ returns-clause-joined g c =
 
 pub invariant_of-self-in-Err : goal.invariant_of-self-in-Err
 invariant_of-self-in-Err g c =
-    let fwd = cut-back c.self.inside.fwd _ c.reach.new.self c.cut.new.self c.watermark-watermark.result c.watermark-watermark.ensures c.in_ok-reach.ensures.reached c.cut.ensures in
-    subst (λ f. IsInverse (at f) (at c.reach-2.new.self)) (sym fwd) (subst (λ b. IsInverse (at c.self.inside.fwd) (at b)) (sym c.in-Err.ensures.refused) c.self.invariant)
+    let fwd = cut-back c.self.inside.fwd _ c.reach.new.self c.cut.new.self c.watermark-watermark.result c.watermark-watermark.ensures
+    c.in_ok-reach.ensures.reached c.cut.ensures in
+    subst (λ f. IsInverse (at f) (at c.reach-2.new.self)) (sym fwd)
+    (subst (λ b. IsInverse (at c.self.inside.fwd) (at b)) (sym c.in-Err.ensures.refused) c.self.invariant)
 
 pub returns-in-Err-clause-refused : goal.returns-in-Err-clause-refused
 returns-in-Err-clause-refused g c = grind (arith, common_steps)

@@ -9,7 +9,8 @@ returns-in_ok-resize-clause-reached g c =
     let len = c.len.ensures in
     let index = c.index.ensures.index in
     let again = c.index-then-len-index.ensures.index in
-    reached c.self.inside.mapping.items c.resize.new.self.items c.args.self.now c.args.from c.index-then-len-index.result c.self.inside.mapping.len c.self.view_is again c.self.inside.mapping.ok.0 (omega (arith, le, len, index, again)) ((c.in_ok-resize.ensures {u = tt}).items)
+    reached c.self.inside.mapping.items c.resize.new.self.items c.args.self.now c.args.from c.index-then-len-index.result c.self.inside.mapping.len
+    c.self.view_is again c.self.inside.mapping.ok.0 (omega (arith, le, len, index, again)) ((c.in_ok-resize.ensures {u = tt}).items)
 
 pub returns-else-len-index-clause-reached : goal.returns-else-len-index-clause-reached
 returns-else-len-index-clause-reached g c = grind (arith, common_steps)

@@ -9,4 +9,5 @@ pub lit_is_false-requires : goal.lit_is_false-requires
 lit_is_false-requires g c = rw (c.not.ensures, variable-opposite c.args.lit) c.requires
 
 pub returns : goal.returns
-returns g c = subst (λ l. IsTrue c.lit_is_false.result ↔ IsMadeTrue c.args.self.now.current l) (ap opposite c.not.ensures ∙ opposite_twice c.args.lit) c.lit_is_false.ensures
+returns g c = subst (λ l. IsTrue c.lit_is_false.result ↔ IsMadeTrue c.args.self.now.current l)
+    (ap opposite c.not.ensures ∙ opposite_twice c.args.lit) c.lit_is_false.ensures

@@ -7,7 +7,8 @@ use Rattle.varisat_prop.specs.Changes.{NamesPlace, named_in}
 use Rattle.varisat_prop.proofs.prop.graph.Conflict.lits.Goals as goal
 
 pub lits-requires-clause-place : goal.lits-requires-clause-place
-lits-requires-clause-place g c = live-place (stored_clauses c.args.clause_alloc.now) c.in-Long.cref (subst (NamesPlace (live_clauses c.args.clause_alloc.now)) c.in-Long.is c.requires.place)
+lits-requires-clause-place g c = live-place (stored_clauses c.args.clause_alloc.now) c.in-Long.cref
+    (subst (NamesPlace (live_clauses c.args.clause_alloc.now)) c.in-Long.is c.requires.place)
 
 pub returns-in-Long : goal.returns-in-Long
 returns-in-Long g c =

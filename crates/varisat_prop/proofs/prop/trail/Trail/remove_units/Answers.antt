@@ -12,4 +12,12 @@ returns g c =
     let n : c.len-count.result ≡ length c.self.inside.trail.items = omega (arith, c.len-count.ensures) in
     let q : c.len-self-inside.result ≡ length c.retain.new.self.items = omega (arith, c.len-self-inside.ensures) in
     let m : c.len.result ≡ length c.retain.new.self.items = omega (arith, c.len.ensures) in
-    rw (← c.self.view_is) (trail-left record { literals = c.self.inside.trail.items; queue_head = c.self.inside.queue_head_pos; decisions = c.self.inside.decisions.items; units_removed = c.self.inside.units_removed } gone c.retain.new.self.items c.len-count.result c.len.result c.len-self-inside.result c.saturating_add-self-inside.result kept n m q c.saturating_add-self-inside.ensures)
+    rw (← c.self.view_is) (trail-left
+    record {
+      literals = c.self.inside.trail.items;
+      queue_head = c.self.inside.queue_head_pos;
+      decisions =
+          c.self.inside.decisions.items;
+      units_removed = c.self.inside.units_removed;
+    } gone c.retain.new.self.items c.len-count.result
+    c.len.result c.len-self-inside.result c.saturating_add-self-inside.result kept n m q c.saturating_add-self-inside.ensures)

@@ -11,10 +11,15 @@ pub returns : goal.returns
 returns g c =
     let vs = c.self.inside.watches.items in
     let lists = map (λ (v : Vec Watch _). v.items) vs in (
-      (refl, λ w. rw (← c.self.view_is) (ap (λ (ls : List (List Watch)). record { lists = ls; enabled = c.self.inside.enabled }) (written vs lists c.args.place c.args.place w refl refl))),
+      (
+        refl,
+        λ w. rw (← c.self.view_is)
+            (ap (λ (ls : List (List Watch)). record { lists = ls; enabled = c.self.inside.enabled }) (written vs lists c.args.place c.args.place w refl refl)),
+      ),
       record {
         lends = tt;
-        value = read vs c.args.self.now.lists c.args.place c.args.place c.index_mut.result.now (ap (λ (x : Watches). x.lists) c.self.view_is) refl c.requires c.index_mut.ensures.value;
+        value = read vs c.args.self.now.lists c.args.place c.args.place c.index_mut.result.now
+            (ap (λ (x : Watches). x.lists) c.self.view_is) refl c.requires c.index_mut.ensures.value;
       },
     )
 

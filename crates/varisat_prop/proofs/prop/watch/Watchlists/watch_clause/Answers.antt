@@ -15,7 +15,8 @@ add_watch-requires g c =
 pub add_watch-requires-2 : goal.add_watch-requires-2
 add_watch-requires-2 g c =
     let W = c.args.self.now in
-    let first = c.requires.listed c.index-lits-0.result (item-∈ c.args.lits.now 0 c.index-lits-0.result (omega (arith, c.requires.several)) c.index-lits-0.is) in
+    let first = c.requires.listed c.index-lits-0.result
+    (item-∈ c.args.lits.now 0 c.index-lits-0.result (omega (arith, c.requires.several)) c.index-lits-0.is) in
     let h = c.requires.listed c.index-lits-1.result (item-∈ c.args.lits.now 1 c.index-lits-1.result (omega (arith, c.requires.several)) c.index-lits-1.is) in
     let n = ap (λ (x : Watches). length x.lists) c.in_ok-add_watch.ensures in
     let m = length-set W.lists c.not.result (watches_of W c.not.result ++ record { cref = c.args.cref; blocking = c.index-lits-1.result } ∷ []) in
@@ -32,4 +33,6 @@ returns g c =
     let h = c.requires.listed c.index-lits-0.result (item-∈ lits 0 c.index-lits-0.result (omega (arith, c.requires.several)) c.index-lits-0.is) in
     let k = c.requires.listed c.index-lits-1.result (item-∈ lits 1 c.index-lits-1.result (omega (arith, c.requires.several)) c.index-lits-1.is) in
     watch-whole W c.add_watch-2.new.self c.args.cref c.index-lits-0.result c.index-lits-1.result lits c.requires.several first second
-    (watch-two W c.add_watch.new.self c.add_watch-2.new.self c.args.cref c.index-lits-0.result c.index-lits-1.result c.not.result c.not-2.result (sym c.enabled.ensures ∙ c.if-not-enabled.false) c.not.ensures c.not-2.ensures (subst (λ x. x < length W.lists) (sym c.not.ensures) h) (subst (λ x. x < length W.lists) (sym c.not-2.ensures) k) c.in_ok-add_watch.ensures c.in_ok-add_watch-2.ensures)
+    (watch-two W c.add_watch.new.self c.add_watch-2.new.self c.args.cref c.index-lits-0.result c.index-lits-1.result c.not.result c.not-2.result
+    (sym c.enabled.ensures ∙ c.if-not-enabled.false) c.not.ensures c.not-2.ensures (subst (λ x. x < length W.lists) (sym c.not.ensures) h)
+    (subst (λ x. x < length W.lists) (sym c.not-2.ensures) k) c.in_ok-add_watch.ensures c.in_ok-add_watch-2.ensures)

@@ -52,7 +52,10 @@ abbrev count-all : ℕ → List Clause → ℕ
 count-all n [] = n
 count-all n (c ∷ P) = count-all (count_with n c) P
 
--- What becomes of a past whose names are those below n, in order, as it takes clauses in. `more`: the clauses before stay. `part`: each one that joined is one of those taken in. `whole`: all of them joined, and their names are in order; or no assignment satisfies those that did. `carries`: what is a proof from the clauses that joined is one from all that were taken in. `counted`, `once`: no more variables are counted than the clauses name, and none twice.
+-- What becomes of a past whose names are those below n, in order, as it takes clauses in. `more`: the clauses before stay.
+-- `part`: each one that joined is one of those taken in. `whole`: all of them joined, and their names are in order; or no
+-- assignment satisfies those that did. `carries`: what is a proof from the clauses that joined is one from all that were taken
+-- in. `counted`, `once`: no more variables are counted than the clauses name, and none twice.
 record Took (n : ℕ) (P : List Clause) (p q : Past) : Type 0 where
   more : (a : Assignment) → SatisfiesAll a q.clauses → SatisfiesAll a p.clauses
   part : (a : Assignment) → SatisfiesAll a p.clauses → SatisfiesAll a P → SatisfiesAll a q.clauses

@@ -122,5 +122,6 @@ pub record FindsVerdict {A : Type 0} (p q : TracerState) (x y : Context A) (foun
   pub told : TellsSome p.proof q.proof
   -- where no variable was to leave but with literals that are still to be propagated, so it is, unless under Unsat
   pub leaves : LeavesInTime p.tables (view x) → y.solver_state.sat_state ≢ verdict.Unsat → LeavesInTime q.tables (view y)
-  pub stands : ComesOn (steps_since x.schedule y.schedule) (undecided_spaces p.tables p.proof.checker x) (spaces_with q.tables q.proof.checker y) p.proof q.proof
+  pub stands : ComesOn (steps_since x.schedule y.schedule) (undecided_spaces p.tables p.proof.checker x)
+      (spaces_with q.tables q.proof.checker y) p.proof q.proof
   pub still : y.schedule.steps ≡ x.schedule.steps → (y ≡ x) × (q ≡ p)

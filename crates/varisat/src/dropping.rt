@@ -237,8 +237,9 @@ fn drop_unneeded<W: ProofTarget, A: Allocator + Copy>(
 
 /// At level 0, where literals are still to be propagated, settles the units and lets the variables leave the search
 /// that have a value and are not assumed, and the hidden ones that no kept clause names. The tracer takes the lines of
-/// settling, and the proof is told which variables are gone for good. Does nothing at another level or where there is no such news, so that a step passes over all clauses no more
-/// often than its conflict step would. Lets none leave where a clause is false. `literals` is overwritten.
+/// settling, and the proof is told which variables are gone for good. Does nothing at another level or where there is no
+/// such news, so that a step passes over all clauses no more often than its conflict step would. Lets none leave where a
+/// clause is false. `literals` is overwritten.
 pub fn drop_fixed<W: ProofTarget, A: Allocator + Copy>(
     tracer: &mut SolverTracer<W, A>,
     ctx: &mut Context<A>,

@@ -13,6 +13,7 @@ use Rattle.varisat.specs.Additions.{Gave, AllAdded, OneRefused, RefusedAtOnce, N
 use Rattle.varisat.specs.Additions as additions
 use Rattle.varisat.specs.Usage as usage
 use Rattle.varisat.specs.Updates as updates
+use Rattle.varisat.specs.SelfChecking as checking
 use Rattle.varisat.specs.Budgets.{CountsSteps}
 use Rattle.varisat.specs.Calls as state
 use Rattle.varisat.specs.Calls.{IsLike}
@@ -123,6 +124,13 @@ module _ {X : Type 0} (by : CallRules X) (keeps : KeepsFew by) where
   config s t u (Err (ConfigOutOfRange field)) a h = same s t a.2 h
   config s t u (Err e) a h = absurd a
 
+  enable-checking : (s t : X) (r : Result (Unit {0}) SolverError) →
+      checking.EnablesChecking by.adding.valid by.started by.adding.count_anew s r t → HasFewSteps by s → HasFewSteps by t
+  enable-checking s t (Ok x) (v, b, e) h = anew-is s t e
+  enable-checking s t (Err Invalid) a h = same s t a.1 h
+  enable-checking s t (Err ProofTooLate) a h = same s t a.2 h
+  enable-checking s t (Err e) a h = absurd a
+
   call-keeps : {W S A : Type 0} (seen : S → Stand) (taken : W → Taken) (c : Call W S A) (a : Answer W S A) (s t : X) → Makes by seen taken s c a t →
       HasFewSteps by s → HasFewSteps by t
   call-keeps seen taken (call.AddClause d) (answer.AddClause r) s t m h = keeps.adds s t d.items r m h
@@ -146,6 +154,7 @@ module _ {X : Type 0} (by : CallRules X) (keeps : KeepsFew by) where
   call-keeps seen taken call.IsValid (answer.IsValid b) s t m h = same s t m.1 h
   call-keeps seen taken (call.WriteProof target f) (answer.WriteProof r) s t m h = keeps.opens taken target f s t r m h
   call-keeps seen taken call.CloseProof (answer.CloseProof r) s t m h = keeps.closes taken s t r m
+  call-keeps seen taken call.EnableSelfChecking (answer.EnableSelfChecking r) s t m h = enable-checking s t r m h
   call-keeps seen taken _ _ s t m h = absurd m
 
   along : {W S A : Type 0} (seen : S → Stand) (taken : W → Taken) (calls : List (Call W S A)) (answers : List (Answer W S A)) (s : X) →

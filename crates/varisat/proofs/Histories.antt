@@ -12,7 +12,7 @@ use Rattle.varisat.specs.Names.{Sample, Witness}
 use Rattle.varisat.specs.Runs.{MakesCall, Run}
 use Rattle.varisat.specs.Pasts.{Past, empty_past}
 use Rattle.varisat.specs.Histories.{IsTrue, AreTrue}
-use Rattle.varisat.proofs.Pasts.{Agrees, Leads, add-clause, add-formula, add-text, make-var, set-usage, hide, observe, assume-list, solve, tell-model, tell-core, config, tell-since, open-proof, close, stays, empty-agrees}
+use Rattle.varisat.proofs.Pasts.{Agrees, Leads, add-clause, add-formula, add-text, make-var, set-usage, hide, observe, assume-list, solve, tell-model, tell-core, config, tell-since, open-proof, close, enable-checking, stays, empty-agrees}
 
 -- what holds of each value with P
 pub of-ok : {X E : Type 0} (r : Result X E) (P Q : X → Type 0) → ((x : X) → P x → Q x) → IfOk r P → IfOk r Q
@@ -40,6 +40,7 @@ is-true seen taken call.StepsSinceChange (answer.StepsSinceChange n) p s t g m =
 is-true seen taken call.IsValid (answer.IsValid b) p s t g (e, k) = (p, (e ∙ g.valid, refl), stays p s t k g)
 is-true seen taken (call.WriteProof target format) (answer.WriteProof r) p s t g m = open-proof taken target format p s t r g m
 is-true seen taken call.CloseProof (answer.CloseProof r) p s t g m = close taken p s t r g m
+is-true seen taken call.EnableSelfChecking (answer.EnableSelfChecking r) p s t g m = enable-checking p s t r g m
 is-true seen taken _ _ p s t g m = absurd m
 
 are-true : {W S A : Type 0} (seen : S → Stand) (taken : W → Taken) (calls : List (Call W S A)) (answers : List (Answer W S A)) (p : Past)

@@ -23,7 +23,7 @@ use Rattle.varisat.specs.declared.session.Call.TheVariants as call
 use Rattle.varisat_names.specs.declared.config.ConfigField.{ConfigField}
 use Rattle.varisat_names.specs.declared.config.ConfigField.TheVariants.{VsidsDecay, ClauseActivityDecay, ReduceLocalsInterval, ReduceMidsInterval, LubyRestartIntervalScale, MaxSteps}
 use Rattle.varisat_names.specs.Settings.{field_text}
-use Rattle.varisat.specs.Lines.{Command, Add, Assume, New, Sample, Witness, Hide, Observe, Solve, Model, Core, Config, Steps, Since, ProofText, ProofBinary, Close, MeansCommand, MeansOneCommand, HasNumbersInRange, AsksFor, words, words_of, spelling}
+use Rattle.varisat.specs.Lines.{Command, Add, Assume, New, Sample, Witness, Hide, Observe, Solve, Model, Core, Config, Steps, Since, ProofText, ProofBinary, Close, SelfCheck, MeansCommand, MeansOneCommand, HasNumbersInRange, AsksFor, words, words_of, spelling}
 
 abbrev pub NoSpace : List ℕ → Type 0
 NoSpace word = All (λ b. (b == 32) ≡ false) word
@@ -147,6 +147,7 @@ words_have_no_space ProofText h =
 words_have_no_space ProofBinary h =
     (no_space (codes "proof") (from_spaceless (codes "proof") refl), (no_space (codes "binary") (from_spaceless (codes "binary") refl), tt))
 words_have_no_space Close h = (no_space (codes "close") (refl, (refl, (refl, (refl, (refl, tt))))), tt)
+words_have_no_space SelfCheck h = (no_space (codes "selfcheck") (from_spaceless (codes "selfcheck") refl), tt)
 
 -- words that are joined are parted again
 pub words_of_joined : (w : List ℕ) (ws : List (List ℕ)) → AllByRecursion NoSpace (w ∷ ws) → words_of (join_with_byte 32 (w ∷ ws)) ≡ w ∷ ws
@@ -170,6 +171,7 @@ words_of_spelled Since h = words_of_joined (codes "since") [] (words_have_no_spa
 words_of_spelled ProofText h = words_of_joined (codes "proof") (codes "text" ∷ []) (words_have_no_space ProofText h)
 words_of_spelled ProofBinary h = words_of_joined (codes "proof") (codes "binary" ∷ []) (words_have_no_space ProofBinary h)
 words_of_spelled Close h = words_of_joined (codes "close") [] (words_have_no_space Close h)
+words_of_spelled SelfCheck h = words_of_joined (codes "selfcheck") [] (words_have_no_space SelfCheck h)
 
 pub words_of_meant : (text : List ℕ) (command : Command) → MeansCommand text command → words_of text ≡ words command
 words_of_meant text command m = ap words_of (sym m.spelled) ∙ words_of_spelled command m.in_range
@@ -232,6 +234,7 @@ words_apart ProofText ProofBinary h k e = let n = ap (λ (word : List ℕ). leng
 words_apart ProofBinary ProofText h k e = let n = ap (λ (word : List ℕ). length word) (second_same _ _ _ _ e) in absurd (omega (arith, n))
 words_apart ProofBinary ProofBinary h k e = refl
 words_apart Close Close h k e = refl
+words_apart SelfCheck SelfCheck h k e = refl
 words_apart a b h k e = let n : first_word_number (words a) ≡ first_word_number (words b) = ap first_word_number e in absurd (omega arith)
 
 pub one_command : MeansOneCommand

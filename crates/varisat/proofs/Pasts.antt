@@ -11,7 +11,8 @@ use Rattle.varisat_formula.specs.Streams.{Stand, Taken}
 use Rattle.varisat_proof.specs.declared.proof.format.ProofFormat.{ProofFormat}
 use Rattle.varisat_proof.specs.Proving.{IsClosed}
 use Rattle.varisat.specs.OpenProofs.{OpenProof, opened_state, IsOpen, IsSearched, GoesOnWriting, searched_under, first_proof}
-use Rattle.varisat.specs.ProofCalls.{with_proof, HasProof, OpensProof, ClosesProof}
+use Rattle.varisat.specs.ProofCalls.{with_proof, HasProof, OpensProof, EnablesChecking, ClosesProof}
+use Rattle.varisat.specs.SelfChecking as checking
 use Rattle.varisat_names.specs.declared.config.SolverConfigUpdate.{SolverConfigUpdate}
 use Rattle.varisat_names.specs.Settings.{Settings, updated_settings}
 use Rattle.varisat_names.proofs.Maps.{updated-other, updated-all}
@@ -883,6 +884,14 @@ close taken p s t (Ok back) g (h, e) =
 close taken p s t (Err (ProofIoError cause, target)) g (closed, has, b) =
     let (q, c, h) = breaks p s t g b in (q, (hands-back-failed taken p s s.proof (ProofIoError cause) target refl (knows-of p s g b.valid) closed has, c), h)
 close taken p s t (Err e) g a = absurd a
+
+-- Self checking is switched on.
+pub enable-checking : (p : Past) (s t : State) (r : Result (Unit {0}) SolverError) → Agrees p s → EnablesChecking s r t →
+    Leads (checking.EnablesChecking past.is_valid (λ p. p.started) past.count_anew p r) t
+enable-checking p s t (Ok x) g (v, b, e) = (past.count_anew p, (sym g.valid ∙ v, sym g.started ∙ b, refl), anew p s t e g)
+enable-checking p s t (Err Invalid) g (v, e) = (p, (sym g.valid ∙ v, refl), stays p s t e g)
+enable-checking p s t (Err ProofTooLate) g (v, b, e) = (p, (sym g.valid ∙ v, sym g.started ∙ b, refl), stays p s t e g)
+enable-checking p s t (Err e) g a = absurd a
 
 -- 10. A model.
 

@@ -14,7 +14,7 @@ use Rattle.varisat_formula.specs.Streams.{Stand, Taken, HasEnded}
 use Rattle.varisat_names.specs.declared.config.SolverConfigUpdate.{SolverConfigUpdate}
 use Rattle.varisat_names.specs.Settings.{Settings, no_update}
 use Rattle.varisat_proof.specs.declared.proof.format.ProofFormat.{ProofFormat}
-use Rattle.varisat.specs.ProofCalls.{OpensProof}
+use Rattle.varisat.specs.ProofCalls.{OpensProof, EnablesChecking}
 use Rattle.varisat.specs.Proven.{limited, prepared, Finds}
 use Rattle.varisat.specs.States.{State, join_counted, empty_state}
 use Rattle.varisat.specs.Names.{Naming, AreInOrder}
@@ -255,6 +255,13 @@ opens-limited {W = W} taken target format limit s t r e h = go r (subst (λ x. O
     go (Err (ProofOpen, back)) (h, v, (o, n), k) = let z : None ≡ Some o = n in absurd cc
     go (Err (ProofTooLate, back)) (h, v, n, b, k) = let z : false ≡ true = b in absurd cc
     go (Err (e, back)) h = absurd h
+
+-- It does not refuse to switch self checking on, which changes nothing that a user knows.
+pub enables-new : (r : Result (Unit {0}) SolverError) (s : State) → EnablesChecking empty_state r s → (r ≡ Ok tt) × (s ≡ empty_state)
+enables-new (Ok u) s (v, b, e) = (refl, e)
+enables-new (Err Invalid) s (v, e) = let z : true ≡ false = v in absurd cc
+enables-new (Err ProofTooLate) s (v, b, e) = let z : false ≡ true = b in absurd cc
+enables-new (Err e) s h = absurd h
 
 pub no-target : {W : Type 0} (o : Option W) → ((target : W) → o ≡ Some target → ⊥) → o ≡ None
 no-target None h = refl

@@ -21,7 +21,7 @@ use Rattle.varisat_names.specs.declared.config.SolverConfigUpdate.{SolverConfigU
 use Rattle.varisat_formula.specs.declared.dimacs.error.DimacsError.{DimacsError}
 use Rattle.varisat.specs.VariableCalls as variables
 use Rattle.varisat_proof.specs.declared.proof.format.ProofFormat.{ProofFormat}
-use Rattle.varisat.specs.ProofCalls.{OpensProof, ClosesProof}
+use Rattle.varisat.specs.ProofCalls.{OpensProof, EnablesChecking, ClosesProof}
 use Rattle.varisat.specs.Journals.{TellsMore}
 use Rattle.varisat.specs.declared.solver.SolverError.{SolverError}
 use Rattle.varisat.specs.declared.solver.SolverError.TheVariants.{OutOfMemory, Invalid, ProofIoError, ClauseStoreFull, WitnessVar, AssumedVar, VariableLimit, ClauseAfterSolve, ProofOpen, ProofTooLate, Interrupted, ConfigOutOfRange}
@@ -206,6 +206,13 @@ close taken s t (Ok back) (h, e) w = tells-plainly s t (subst state.IsValid e w)
 close taken s t (Err (ProofIoError cause, target)) (closed, has, b) w = absurd (no-way s t b w)
 close taken s t (Err e) a w = absurd a
 
+-- self checking is switched on, and nothing is told
+enable-checking : (s t : State) (r : Result (Unit {0}) SolverError) → EnablesChecking s r t → state.IsValid t → TellsOn s t
+enable-checking s t (Ok x) (v, b, e) w = tells-anew s t e w
+enable-checking s t (Err Invalid) a w = tells-same s t a.1 w
+enable-checking s t (Err ProofTooLate) a w = tells-same s t a.2 w
+enable-checking s t (Err e) a w = absurd a
+
 -- 4. Runs.
 
 call-tells : {W S A : Type 0} (seen : S → Stand) (taken : W → Taken) (c : Call W S A) (a : Answer W S A) (s t : State) →
@@ -228,6 +235,7 @@ call-tells seen taken call.StepsSinceChange (answer.StepsSinceChange n) s t m w 
 call-tells seen taken call.IsValid (answer.IsValid b) s t m w = tells-same s t m.1 w
 call-tells seen taken (call.WriteProof target format) (answer.WriteProof r) s t m w = open-proof taken target format s t r m w
 call-tells seen taken call.CloseProof (answer.CloseProof r) s t m w = close taken s t r m w
+call-tells seen taken call.EnableSelfChecking (answer.EnableSelfChecking r) s t m w = enable-checking s t r m w
 call-tells seen taken _ _ s t m w = absurd m
 
 pub run-tells : {W S A : Type 0} (seen : S → Stand) (taken : W → Taken) (calls : List (Call W S A)) (answers : List (Answer W S A)) (s t : State) →

@@ -17,6 +17,7 @@ telling = record {
   tells_model = TellsModel;
   tells_core = TellsCore;
   updated = with_update;
+  started = λ p. p.started;
   steps = λ p. p.steps;
   since = λ p. p.since;
   counted = λ p. p.counted;

@@ -9,6 +9,7 @@ pub mod Targets
 pub mod Budgets
 pub mod SinceChange
 pub mod Updates
+pub mod SelfChecking
 pub mod Additions
 pub mod Calls
 pub mod Pasts

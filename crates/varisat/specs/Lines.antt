@@ -35,6 +35,7 @@ pub data Command : Type 0 where
   ProofText : Command
   ProofBinary : Command
   Close : Command
+  SelfCheck : Command
 
 -- the words of a command, in order
 abbrev pub words : Command → List (List ℕ)
@@ -54,6 +55,7 @@ words Since = codes "since" ∷ []
 words ProofText = codes "proof" ∷ codes "text" ∷ []
 words ProofBinary = codes "proof" ∷ codes "binary" ∷ []
 words Close = codes "close" ∷ []
+words SelfCheck = codes "selfcheck" ∷ []
 
 -- its words, with one space between each two
 abbrev pub spelling : Command → List ℕ
@@ -77,6 +79,7 @@ HasNumbersInRange Since = Unit {0}
 HasNumbersInRange ProofText = Unit {0}
 HasNumbersInRange ProofBinary = Unit {0}
 HasNumbersInRange Close = Unit {0}
+HasNumbersInRange SelfCheck = Unit {0}
 
 -- the text means the command
 pub record MeansCommand (text : List ℕ) (command : Command) : Type 0 where
@@ -109,6 +112,7 @@ AsksFor call.StepsSinceChange Since = Unit {0}
 AsksFor (call.WriteProof target format) ProofText = (target ≡ no_bytes) × (format ≡ Drat)
 AsksFor (call.WriteProof target format) ProofBinary = (target ≡ no_bytes) × (format ≡ BinaryDrat)
 AsksFor call.CloseProof Close = Unit {0}
+AsksFor call.EnableSelfChecking SelfCheck = Unit {0}
 AsksFor _ _ = ⊥
 
 -- the command sets how one variable is used
@@ -218,3 +222,4 @@ answer_text (answer.StepsSinceChange steps) = count_text steps
 answer_text (answer.IsValid b) = truth_text b
 answer_text (answer.WriteProof opened) = opened_text opened
 answer_text (answer.CloseProof closed) = closed_text closed
+answer_text (answer.EnableSelfChecking done) = done_text done

@@ -6,7 +6,8 @@ use Rattle.varisat_proof.specs.Proving.{IsClosed}
 use Rattle.varisat.specs.OpenProofs.{OpenProof, opened_state, IsOpen, first_proof}
 use Rattle.varisat.specs.ProofBytes.{AreBytesOfProof}
 use Rattle.varisat.specs.States.{State}
-use Rattle.varisat.specs.Calls.{IsValid, Invalidates, IsRefusedInvalid, count_anew, answer_of}
+use Rattle.varisat.specs.Calls.{is_valid, IsValid, Invalidates, IsRefusedInvalid, count_anew, answer_of}
+use Rattle.varisat.specs.SelfChecking as checking
 use Rattle.varisat.specs.declared.solver.SolverError.{SolverError}
 use Rattle.varisat.specs.declared.solver.SolverError.TheVariants.{ProofIoError, Invalid, ProofOpen, ProofTooLate}
 
@@ -23,12 +24,9 @@ OpensProof taken target format s (Err (ProofOpen, back)) t = (back ≡ target) �
 OpensProof taken target format s (Err (ProofTooLate, back)) t = (back ≡ target) × IsValid s × (s.proof ≡ None) × (s.ledger.started ≡ true) × (t ≡ s)
 OpensProof taken target format s (Err _) t = ⊥
 
--- Self checking is switched on before anything is accepted, or was so before. A user knows no more of the solver by it.
+-- Self checking is switched on before anything is accepted, or was so before.
 abbrev pub EnablesChecking : State → Result (Unit {0}) SolverError → State → Type 0
-EnablesChecking s (Ok _) t = IsValid s × (s.ledger.started ≡ false) × (t ≡ count_anew s)
-EnablesChecking s (Err Invalid) t = IsRefusedInvalid s t
-EnablesChecking s (Err ProofTooLate) t = IsValid s × (s.ledger.started ≡ true) × (t ≡ s)
-EnablesChecking s (Err _) t = ⊥
+EnablesChecking s r t = checking.EnablesChecking is_valid (λ s. s.ledger.started) count_anew s r t
 
 -- The bytes of an open proof are those of lines. As long as nothing was ever hidden these are a derivation from the accepted
 -- clauses, and they refute them where the answer of `solve` is false.

@@ -22,6 +22,7 @@ calling = record {
   tells_model = TellsModel;
   tells_core = TellsCore;
   updated = with_update;
+  started = λ s. s.ledger.started;
   steps = λ s. s.ledger.steps;
   since = λ s. s.ledger.since;
   counted = λ s. s.counted;

@@ -6,6 +6,7 @@ use Rattle.varisat_formula.specs.Streams.{Stand, Taken}
 use Rattle.varisat_proof.specs.declared.proof.format.ProofFormat.{ProofFormat}
 use Rattle.varisat_names.specs.declared.config.SolverConfigUpdate.{SolverConfigUpdate}
 use Rattle.varisat.specs.Updates.{Configures}
+use Rattle.varisat.specs.SelfChecking.{EnablesChecking}
 use Rattle.varisat.specs.Budgets.{TellsSince}
 use Rattle.varisat.specs.Additions as additions
 use Rattle.varisat.specs.Told.{told_list, told_vars}
@@ -18,8 +19,9 @@ use Rattle.varisat.specs.declared.session.Call.TheVariants as call
 use Rattle.varisat.specs.declared.session.Answer.TheVariants as answer
 
 -- How calls move something, and with which answers: how clauses are added to it, how its names are used, and each further call
--- that can be refused; what an update of the settings makes of it, how many steps were made, how many of them since the last
--- change, and which variables are counted; and how a proof opens and closes, where it is known what each target took.
+-- that can be refused; what an update of the settings makes of it, whether a clause, a variable or a list of assumptions was
+-- accepted, how many steps were made, how many of them since the last change, and which variables are counted; and how a proof
+-- opens and closes, where it is known what each target took.
 pub record CallRules (X : Type 0) : Type 1 where
   pub adding : additions.Adding X
   pub named : usage.Named X
@@ -29,6 +31,7 @@ pub record CallRules (X : Type 0) : Type 1 where
   pub tells_model : X → Result (Option (List Literal)) AllocError → X → Type 0
   pub tells_core : X → Result (Option (List Literal)) AllocError → X → Type 0
   pub updated : SolverConfigUpdate → X → X
+  pub started : X → Bool
   pub steps : X → ℕ
   pub since : X → ℕ
   pub counted : X → List ℕ
@@ -57,6 +60,8 @@ module _ {X : Type 0} (by : CallRules X) where
   Makes seen taken s call.IsValid (answer.IsValid b) t = (b ≡ by.adding.valid s) × (t ≡ s)
   Makes seen taken s (call.WriteProof target format) (answer.WriteProof r) t = by.opens taken target format s r t
   Makes seen taken s call.CloseProof (answer.CloseProof r) t = by.closes taken s r t
+  Makes seen taken s call.EnableSelfChecking (answer.EnableSelfChecking r) t =
+      EnablesChecking by.adding.valid by.started by.adding.count_anew s r t
   Makes seen taken s _ _ t = ⊥
 
   -- the calls in turn get the answers in turn, one each, and lead to t

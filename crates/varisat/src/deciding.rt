@@ -1,5 +1,5 @@
 //! How a text is decided: by a new solver, which may write a proof.
-ghost use Rattle.std.specs.Prelude.{◌≡◌, ◌-◌, ◌^◌, ◌<◌, Ok, IfOk, IfErr};
+ghost use Rattle.std.specs.Prelude.{◌≡◌, ◌-◌, ◌^◌, ◌<◌, true, Ok, IfOk, IfErr, IsSome};
 ghost use Rattle.varisat_proof.specs.Proving.{IsClosed};
 ghost use Rattle.varisat.specs.States.{State, empty_state};
 ghost use Rattle.varisat.specs.Summaries.{StandsFor};
@@ -15,10 +15,11 @@ use varisat_literals::Lit;
 use varisat_names::config::SolverConfigUpdate;
 use varisat_proof::proof::ProofFormat;
 
-/// What `solve` keeps to: how many steps it may make, where they are limited, and how a proof is written, where there is
-/// one. That is a format of DRAT.
+/// What `solve` keeps to: whether a checker runs inside the solver, how many steps it may make, where they are limited,
+/// and how a proof is written, where there is one. That is a format of DRAT.
 #[derive(Clone, Copy, Debug)]
 pub struct SolveOptions {
+    pub check: bool,
     pub max_steps: Option<u64>,
     pub format: ProofFormat,
 }
@@ -50,10 +51,22 @@ pub(crate) fn decide<W: ProofTarget, A: Allocator + Copy, S: ByteSource>(
     ensures fails { IfErr result (λ error.
         Fails W.taken (prepared W.taken options.format options.max_steps target.old) (S.stand cnf.old) (S.stand cnf.new) error) }
 {
-    let mut solver: Solver<W, A> = Solver::new_in(alloc);
+    let mut solver: Solver<W, A> = new_solver(alloc, options.check);
     let report = decide_in(&mut solver, cnf, target, options);
     drop(solver);
     report
+}
+
+/// A new solver, inside which a checker runs where that is wanted. Before anything is accepted that is not refused.
+fn new_solver<W: ProofTarget, A: Allocator + Copy>(alloc: A, is_checked: bool) -> Solver<W, A>
+    ensures stands { StandsFor result empty_state }
+    ensures checks { is_checked ≡ true → IsSome result.checker }
+{
+    let mut solver = Solver::new_in(alloc);
+    if is_checked {
+        let _ = solver.enable_self_checking();
+    }
+    solver
 }
 
 /// The same in a new solver.

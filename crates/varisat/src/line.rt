@@ -131,6 +131,8 @@ fn parse_word<S: ByteSource, A: Allocator + Copy>(
         Some(Call::StepsSinceChange)
     } else if word == b"observe".as_slice() {
         Some(Call::ObserveInternalVars)
+    } else if word == b"selfcheck".as_slice() {
+        Some(Call::EnableSelfChecking)
     } else {
         None
     }
@@ -248,7 +250,8 @@ pub fn write_answer<O: Write, S: ByteSource, A: Allocator + Copy>(
         | Answer::WitnessVar(done)
         | Answer::HideVar(done)
         | Answer::Assume(done)
-        | Answer::Config(done) => write_done(out, done),
+        | Answer::Config(done)
+        | Answer::EnableSelfChecking(done) => write_done(out, done),
         Answer::NewVar(made) => write_made(out, made),
         Answer::ObserveInternalVars(names) => write_names(out, names),
         Answer::Steps(steps) | Answer::StepsSinceChange(steps) => write_count(out, *steps),

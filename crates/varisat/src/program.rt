@@ -47,7 +47,8 @@ pub fn session_lines<A: Allocator + Copy, R: Read + Drop, W: Write, E: Write>(
 /// the lines of the search as a proof, which is opened before a clause is accepted and closed before anything is
 /// printed; then the target is there again. A fault of the text, its source, the target or the writer, and out of
 /// memory, is told on `err`, and the status is 2. Of what was printed something is said only for a writer whose contents
-/// are known. The source and the target have to have counted fewer than 2^64-1 faults.
+/// are known. With `check` a checker runs inside the solver. The source and the target have to have counted fewer than
+/// 2^64-1 faults.
 pub fn solve_lines<A: Allocator + Copy, S: ByteSource, T: ProofTarget, W: Write, E: Write>(
     alloc: A,
     cnf: &mut S,

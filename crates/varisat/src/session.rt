@@ -38,6 +38,7 @@ pub enum Call<W: ProofTarget, S: ByteSource, A: Allocator + Copy> {
     IsValid,
     WriteProof(W, ProofFormat),
     CloseProof,
+    EnableSelfChecking,
 }
 
 /// What a call returned. A source is given back with the answer, and a proof's target where its proof is not opened, or
@@ -62,6 +63,7 @@ pub enum Answer<W: ProofTarget, S: ByteSource, A: Allocator + Copy> {
     IsValid(bool),
     WriteProof(Result<(), (SolverError, W)>),
     CloseProof(Result<Option<W>, (SolverError, W)>),
+    EnableSelfChecking(Result<(), SolverError>),
 }
 
 /// Makes one call. A source or a target has to have counted fewer than 2^64-1 faults, and a proof's format is one of DRAT.
@@ -96,6 +98,7 @@ pub fn make_call<W: ProofTarget, S: ByteSource, A: Allocator + Copy>(
             Answer::WriteProof(solver.write_proof(target, format))
         }
         Call::CloseProof => Answer::CloseProof(solver.close_proof()),
+        Call::EnableSelfChecking => Answer::EnableSelfChecking(solver.enable_self_checking()),
     }
 }
 

@@ -76,11 +76,12 @@ fn check_format(options: &[String]) -> Option<ProofFormat> {
     }
 }
 
-// The options of `solve`: where a proof goes, whether it is binary, and a limit of steps.
+// The options of `solve`: where a proof goes, whether it is binary, whether the search is checked, and a limit of steps.
 #[derive(Drop)]
 struct SolveWords<'a> {
     proof: Option<&'a str>,
     is_binary: bool,
+    is_checked: bool,
     max_steps: Option<u64>,
 }
 
@@ -102,6 +103,7 @@ impl<'a> SolveWords<'a> {
         ensures { IsDrat result.format }
     {
         SolveOptions {
+            check: self.is_checked,
             max_steps: self.max_steps,
             format: drat_format(self.is_binary),
         }
@@ -124,6 +126,7 @@ fn solve_words(words: &[String]) -> Option<SolveWords<'_>> {
     let mut found = SolveWords {
         proof: None,
         is_binary: false,
+        is_checked: false,
         max_steps: None,
     };
     // The option whose value comes next.
@@ -136,6 +139,7 @@ fn solve_words(words: &[String]) -> Option<SolveWords<'_>> {
                 option = None;
             }
             None if word == "--binary" && !found.is_binary => found.is_binary = true,
+            None if word == "--check" && !found.is_checked => found.is_checked = true,
             None => option = Some(word),
         }
     }

@@ -77,6 +77,7 @@ fn proofs_are_verified(rt: HostRuntime) {
         for is_binary in [false, true] {
             let format = drat_format(is_binary);
             let options = SolveOptions {
+                check: false,
                 max_steps: None,
                 format,
             };
@@ -160,6 +161,7 @@ fn faults_of_targets_are_told(rt: HostRuntime) {
     let alloc = rt.alloc();
     for (text, max_steps, writes, flushes, printed) in TARGETS {
         let options = SolveOptions {
+            check: false,
             max_steps,
             format: ProofFormat::Drat,
         };
@@ -187,6 +189,7 @@ fn files_of_proofs_are_made(rt: HostRuntime) {
     }
     assert!(rt; matches!(create_target(&rt, None), Ok(None)));
     let options = SolveOptions {
+        check: false,
         max_steps: None,
         format: ProofFormat::Drat,
     };

@@ -69,6 +69,7 @@ fn solve_prints<S: ByteSource>(
     let mut out = Vec::new(alloc);
     let mut err = Vec::new(alloc);
     let options = SolveOptions {
+        check: false,
         max_steps,
         format: ProofFormat::Drat,
     };

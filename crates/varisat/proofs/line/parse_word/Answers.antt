@@ -1,6 +1,6 @@
 -- A word that is a command is that of its call.
 use Rattle.std.proofs.Common.{rules, refl}
-use Rattle.varisat.specs.Lines.{Add, Assume, New, Solve, Model, Core, Steps, Since, Close, Observe, MeansCommand}
+use Rattle.varisat.specs.Lines.{Add, Assume, New, Solve, Model, Core, Steps, Since, Close, Observe, SelfCheck, MeansCommand}
 use Rattle.varisat.proofs.line.parse_word.Goals as goal
 
 pub returns-then-eq-clause-command : goal.returns-then-eq-clause-command
@@ -36,3 +36,6 @@ returns-then-eq-9-clause-command g c = let means : MeansCommand c.args.word.now 
 
 pub returns-then-eq-10-clause-command : goal.returns-then-eq-10-clause-command
 returns-then-eq-10-clause-command g c = let means : MeansCommand c.args.word.now Observe = search rules in (Observe, tt, means)
+
+pub returns-then-eq-11-clause-command : goal.returns-then-eq-11-clause-command
+returns-then-eq-11-clause-command g c = let means : MeansCommand c.args.word.now SelfCheck = search rules in (SelfCheck, tt, means)

@@ -68,3 +68,6 @@ returns-in-CloseProof g c s st = rw c.in-CloseProof.is (c.close_proof.ensures.ca
 
 pub returns-in-StepsSinceChange : goal.returns-in-StepsSinceChange
 returns-in-StepsSinceChange g c s st = rw c.in-StepsSinceChange.is (c.steps_since_change.ensures s st)
+
+pub returns-in-EnableSelfChecking : goal.returns-in-EnableSelfChecking
+returns-in-EnableSelfChecking g c s st = rw c.in-EnableSelfChecking.is (c.enable_self_checking.ensures.call s st)

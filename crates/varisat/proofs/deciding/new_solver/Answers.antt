@@ -1,0 +1,16 @@
+-- A new solver switches self checking on.
+use Rattle.std.proofs.Common.{subst}
+use Rattle.varisat.specs.States.{empty_state}
+use Rattle.varisat.specs.Summaries.{StandsFor}
+use Rattle.varisat.proofs.ProgramDecides.{enables-new}
+use Rattle.varisat.proofs.deciding.new_solver.Goals as goal
+
+pub returns-then-is_checked-clause-stands : goal.returns-then-is_checked-clause-stands
+returns-then-is_checked-clause-stands g c =
+    let (s, a, x) = c.enable_self_checking.ensures.call empty_state c.new_in-solver.ensures in
+    subst (StandsFor c.enable_self_checking.new.self) ((enables-new c.enable_self_checking.result s a).1) x
+
+pub returns-then-is_checked-clause-checks : goal.returns-then-is_checked-clause-checks
+returns-then-is_checked-clause-checks g c h =
+    let (s, a, x) = c.enable_self_checking.ensures.call empty_state c.new_in-solver.ensures in
+    c.enable_self_checking.ensures.runs ((enables-new c.enable_self_checking.result s a).0)

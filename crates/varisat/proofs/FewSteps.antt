@@ -289,7 +289,7 @@ past-same : (p q : Past) → q ≡ p → HasFewSteps telling p → HasFewSteps t
 past-same p q e h = subst (HasFewSteps telling) (sym e) h
 
 past-adds : (p q : Past) (c : Clause) (r : Result (Unit {0}) SolverError) → past.AddsClause p c r q → HasFewSteps telling p → HasFewSteps telling q
-past-adds p q c (Ok u) (v, past.Accepted unsearched lim e) h = past-few q (past.accept c p) e refl
+past-adds p q c (Ok u) (v, past.Accepted unsearched lim e) h = past-few q _ e.same refl
 past-adds p q c (Ok u) (v, past.Ignored n e) h = past-few q (past.count_anew p) e refl
 past-adds p q c (Err OutOfMemory) a h = past-broken p q a.2
 past-adds p q c (Err ClauseStoreFull) a h = past-broken p q a.2
@@ -301,14 +301,14 @@ past-adds p q c (Err (WitnessVar u)) a h = past-same p q a.4 h
 past-adds p q c (Err e) a h = absurd a
 
 past-var : (p q : Past) (r : Result ℕ SolverError) → past.MakesVar p r q → HasFewSteps telling p → HasFewSteps telling q
-past-var p q (Ok u) (v, free, small, e) h = past-few q _ e refl
+past-var p q (Ok u) (v, free, small, e) h = past-few q _ e.same refl
 past-var p q (Err OutOfMemory) a h = past-broken p q a
 past-var p q (Err Invalid) a h = past-same p q a.1 h
 past-var p q (Err VariableLimit) a h = past-same p q a.2 h
 past-var p q (Err e) a h = absurd a
 
 past-assumes : (p q : Past) (list : List Literal) (r : Result (Unit {0}) SolverError) → past.Assumes p list r q → HasFewSteps telling p → HasFewSteps telling q
-past-assumes p q list (Ok u) (v, closed, lim, e) h = past-few q (past.assume list p) e refl
+past-assumes p q list (Ok u) (v, closed, lim, e) h = past-few q _ e.same refl
 past-assumes p q list (Err OutOfMemory) a h = past-broken p q a.2
 past-assumes p q list (Err Invalid) a h = past-same p q a.1 h
 past-assumes p q list (Err ProofOpen) a h = past-same p q a.2 h
@@ -316,13 +316,13 @@ past-assumes p q list (Err VariableLimit) a h = past-same p q a.3 h
 past-assumes p q list (Err (WitnessVar u)) a h = past-same p q a.4 h
 past-assumes p q list (Err e) a h = absurd a
 
-past-joined : (p q : Past) (r : Result Bool SolverError) (m c : Bool) →
-    q ≡ record (past.with_steps q.steps (past.once_searched p)) { has_model = m; has_core = c } → past.CountsCall p r q → HasFewSteps telling q
-past-joined p q r m c e k v =
+past-joined : (p q : Past) (r : Result Bool SolverError) (n : ℕ) (m c : Bool) →
+    q ≡ record (past.once_searched n p q) { has_model = m; has_core = c } → past.CountsCall p r q → HasFewSteps telling q
+past-joined p q r n m c e k v =
     subst (λ (xs : List ℕ). q.since < 2 ^ (2 * length xs + 3)) (sym (ap (λ (x : Past). x.counted) e))
     (joined-are-few (length p.counted) p.settings.max_steps p.since q.since p.steps q.steps r (ap (λ (x : Past). x.since) e) k)
 
-past-stays : (p q : Past) (m c : Bool) → q ≡ record (past.with_steps q.steps (past.once_searched p)) { has_model = m; has_core = c } →
+past-stays : (p q : Past) (m c : Bool) → q ≡ record (past.once_searched 0 p q) { has_model = m; has_core = c } →
     q.steps ≡ p.steps → HasFewSteps telling p → HasFewSteps telling q
 past-stays p q m c e n h v =
     let k : q.since ≡ p.since + (q.steps - p.steps) = ap (λ (x : Past). x.since) e in
@@ -330,18 +330,18 @@ past-stays p q m c e n h v =
     subst (λ (xs : List ℕ). q.since < 2 ^ (2 * length xs + 3)) (sym (ap (λ (x : Past). x.counted) e))
     (subst (λ x. x < 2 ^ (2 * length p.counted + 3)) (sym z) (h (sym (ap (λ (x : Past). x.valid) e) ∙ v)))
 
-past-told : (p q : Past) (b m c : Bool) → q ≡ record (past.with_steps q.steps (past.once_searched p)) { has_model = m; has_core = c } →
+past-told : (p q : Past) (b m c : Bool) → q ≡ record (past.once_searched 0 p q) { has_model = m; has_core = c } →
     past.CountsIfUnknown p (Ok b) q → HasFewSteps telling p → HasFewSteps telling q
 past-told p q b m c e (past.Known w n) h = past-stays p q m c e n h
-past-told p q b m c e (past.Searched w k) h = past-joined p q (Ok b) m c e k
+past-told p q b m c e (past.Searched w k) h = past-joined p q (Ok b) 0 m c e k
 
 past-solves : (p q : Past) (r : Result Bool SolverError) → past.Solves p r q → HasFewSteps telling p → HasFewSteps telling q
-past-solves p q (Ok true) (v, sat, few, e) h = past-told p q true true false e few h
-past-solves p q (Ok false) (v, sat, few, e) h = past-told p q false false true e few h
+past-solves p q (Ok true) (v, sat, few, told, e) h = past-told p q true true false e few h
+past-solves p q (Ok false) (v, sat, few, told, refuted, e) h = past-told p q false false true e few h
 past-solves p q (Err OutOfMemory) (n, c, b) h = past-broken (past.with_steps q.steps p) q b
 past-solves p q (Err ClauseStoreFull) (n, c, b) h = past-broken (past.with_steps q.steps p) q b
 past-solves p q (Err (ProofIoError cause)) (o, c, b) h = past-broken (past.with_steps q.steps p) q b
-past-solves p q (Err Interrupted) (v, n, k, e) h = past-joined p q (Err Interrupted) p.has_model p.has_core e k
+past-solves p q (Err Interrupted) (v, n, k, told, e) h = past-joined p q (Err Interrupted) (q.steps - p.steps) p.has_model p.has_core e k
 past-solves p q (Err Invalid) a h = past-same p q a.1 h
 past-solves p q (Err e) a h = absurd a
 
@@ -373,9 +373,9 @@ past-keeps = record {
   anew = λ p. past-few (past.count_anew p) (past.count_anew p) refl refl;
   broken = past-broken;
   adds = past-adds;
-  named = λ f p q e. past-few q _ e refl;
-  moded = λ f g p q e. past-few q _ e refl;
-  hidden = λ f p q e. past-few q _ e refl;
+  named = λ f p q e. past-few q _ e.same refl;
+  moded = λ f g p q e. past-few q _ e.same refl;
+  hidden = λ f p q e. past-few q _ e.same refl;
   lost = past-broken;
   makes_var = past-var;
   assumes = past-assumes;

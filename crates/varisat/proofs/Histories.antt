@@ -12,7 +12,8 @@ use Rattle.varisat.specs.Names.{Sample, Witness}
 use Rattle.varisat.specs.Runs.{MakesCall, Run}
 use Rattle.varisat.specs.Pasts.{Past, empty_past}
 use Rattle.varisat.specs.Histories.{IsTrue, AreTrue}
-use Rattle.varisat.proofs.Pasts.{Agrees, Leads, add-clause, add-formula, add-text, make-var, set-usage, hide, observe, assume-list, solve, tell-model, tell-core, config, tell-since, open-proof, close, enable-checking, stays, empty-agrees}
+use Rattle.varisat.proofs.Pasts.{Agrees, Leads, add-clause, add-formula, add-text, make-var, set-usage, hide, observe, assume-list, tell-model, tell-core, config, tell-since, open-proof, close, enable-checking, stays, empty-agrees}
+use Rattle.varisat.proofs.SolvedPasts.{solve}
 
 -- what holds of each value with P
 pub of-ok : {X E : Type 0} (r : Result X E) (P Q : X → Type 0) → ((x : X) → P x → Q x) → IfOk r P → IfOk r Q

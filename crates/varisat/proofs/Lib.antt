@@ -33,7 +33,9 @@ pub mod NamesComing
 pub mod NamesInOrder
 pub mod NamingStates
 pub mod NewNames
+pub mod PastJournals
 pub mod Pasts
+pub mod SolvedPasts
 pub mod PlainTables
 pub mod ProgramDecides
 pub mod ProgramProves

@@ -1,16 +1,16 @@
 -- What the calls and answers so far say of the state that a solver is in: each call moves both alike.
-use Rattle.std.proofs.Common.{◌≡◌, ◌≢◌, ℕ, zero, suc, ◌<◌, ◌≤◌, ◌+◌, ◌-◌, ◌*◌, ◌^◌, ap₂, nat_lt, if◌then◌else◌, Bool, true, false, not, List, [], ◌∷◌, ◌++◌, ◌⊎◌, inl, inr, ⊎_elim, sym, ap, ◌∙◌, subst, refl, Option, Some, None, Result, Ok, Err, map, arith, length}
-use Rattle.std.proofs.lemmas.Bool.{not-true, false_from_ne_true}
+use Rattle.std.proofs.Common.{◌≡◌, ◌≢◌, ℕ, zero, suc, ◌<◌, ◌≤◌, ◌+◌, ◌-◌, ◌*◌, ◌^◌, nat_lt, if◌then◌else◌, Bool, true, false, List, [], ◌∷◌, ◌++◌, ◌⊎◌, inl, inr, ⊎_elim, sym, ap, ◌∙◌, subst, refl, Option, Some, None, Result, Ok, Err, map, arith, length}
+use Rattle.std.proofs.lemmas.Bool.{false_from_ne_true}
 use Rattle.std.specs.declared.alloc.AllocError.{AllocError}
 use Rattle.varisat_theory.specs.Membership.{◌∈◌}
-use Rattle.varisat_theory.specs.Literals.{Literal, Clause, Assignment, variable_of, SatisfiesAll, MakesTrue, IsSatisfiable, IsSatisfiableWith, IsFailedCore}
+use Rattle.varisat_theory.specs.Literals.{Literal, Clause, Assignment, variable_of, IsSatisfiable, IsFailedCore}
 use Rattle.varisat_theory.specs.Derivations.{IsDerivation, Refutes}
 use Rattle.varisat_formula.specs.declared.dimacs.error.DimacsError.{DimacsError}
 use Rattle.varisat_formula.specs.Dimacs.{Reading}
 use Rattle.varisat_formula.specs.Streams.{Stand, Taken}
 use Rattle.varisat_proof.specs.declared.proof.format.ProofFormat.{ProofFormat}
 use Rattle.varisat_proof.specs.Proving.{IsClosed}
-use Rattle.varisat.specs.OpenProofs.{OpenProof, opened_state, IsOpen, IsSearched, GoesOnWriting, searched_under, first_proof}
+use Rattle.varisat.specs.OpenProofs.{OpenProof, opened_state, IsOpen, IsSearched, first_proof}
 use Rattle.varisat.specs.ProofCalls.{with_proof, HasProof, OpensProof, EnablesChecking, ClosesProof}
 use Rattle.varisat.specs.SelfChecking as checking
 use Rattle.varisat_names.specs.declared.config.SolverConfigUpdate.{SolverConfigUpdate}
@@ -22,10 +22,10 @@ use Rattle.varisat.specs.Models.{list_names, model_of, AreNamesInUse, IsCompleta
 use Rattle.varisat.specs.Additions as additions
 use Rattle.varisat.specs.Additions.{Gave, AllAdded, OneRefused, RefusedAtOnce, NoFault, MemoryFault, Fault, ClauseRefused, ClausesAdded, RefusedEarly, FaultInText, Whole, MemoryRanOut, SourceFailed, Read, Unread}
 use Rattle.varisat.specs.Calls as state
-use Rattle.varisat_theory.specs.Journals.{Entry}
-use Rattle.varisat.specs.Journals.{retold}
+use Rattle.varisat_theory.specs.Counted.{added}
+use Rattle.varisat_theory.specs.Journals.{Accepts, Assumes, lines_of}
 use Rattle.varisat.specs.Calls.{IsPastLimit, MayConstrain, IsCrowded, IsLikeButLeft, IsLike, with_naming, start, with_steps, answer_of, reopened_verdict, assumed_verdict, VerdictAfter}
-use Rattle.varisat.specs.Budgets.{CountsSteps, TellsSince}
+use Rattle.varisat.specs.Budgets.{TellsSince}
 use Rattle.varisat.specs.Updates as updates
 use Rattle.varisat.specs.Pasts as past
 use Rattle.varisat.specs.Usage as usage
@@ -35,13 +35,14 @@ use Rattle.varisat.specs.Pasts.{Past, PastProof, empty_past, accept, assume, IsU
 use Rattle.varisat.specs.declared.solver.SolverError.{SolverError}
 use Rattle.varisat.specs.declared.solver.SolverError.TheVariants.{Interrupted, ProofIoError, OutOfMemory, Invalid, ClauseStoreFull, WitnessVar, VariableLimit, AssumedVar, ClauseAfterSolve, ProofOpen, ProofTooLate, ConfigOutOfRange, Dimacs}
 use Rattle.varisat_literals.specs.Numbers.{variable_limit}
-use Rattle.varisat.proofs.CallStates.{like-refl}
-use Rattle.varisat.proofs.VerdictAnswers.{is-unknown-or-not, answer-sat, right-false, told-fails, core-answer, no-core, reopened-core, assumed-no-core, reopened-not-true, reopened-false, right-reopened, assumed-not-true, right-assumed}
+use Rattle.varisat.proofs.ToldEntries.{tells, tells-through, accepts-goes, assumes-goes}
+use Rattle.varisat.proofs.PastJournals.{past_proof, KnowsTold, searched-past, searched-state, told-more, told-opened, told-closed, like-past}
+use Rattle.varisat.proofs.VerdictAnswers.{told-fails, core-answer, no-core, reopened-core, assumed-no-core, reopened-not-true, reopened-false, right-reopened, assumed-not-true, right-assumed}
 use Rattle.varisat.proofs.ModelsFit.{completable}
 
 -- 1. No name is in use from the watermark on.
 
-abbrev IsCapped : Naming → Type 0
+abbrev pub IsCapped : Naming → Type 0
 IsCapped m = (u : ℕ) → m.watermark ≤ u → m.names u ≡ None
 
 capped-bring : (u : ℕ) (m : Naming) → IsCapped m → IsCapped (bring u m)
@@ -78,43 +79,20 @@ capped-shown (u ∷ us) old new (least, (i, made, unnamed, rest)) f = capped-sho
 
 -- 2. The state and the past.
 
--- what it says of an open proof
-abbrev past_proof : Option OpenProof → Option PastProof
-past_proof None = None
-past_proof (Some o) = Some (record { format = o.format; first = o.first; searched = o.searched })
-
--- the same of one with more bytes
-same-proof : (p q : Option OpenProof) → GoesOnWriting p q → past_proof q ≡ past_proof p
-same-proof None q e = ap past_proof e
-same-proof (Some p) q (more, e) = ap past_proof e
-
-searched-past : (proof : Option OpenProof) (p : Option PastProof) → past_proof proof ≡ p → IsSearched proof → (o : PastProof) × (p ≡ Some o)
-    × (o.searched ≡ true)
-searched-past None p e h = absurd cc
-searched-past (Some q) p e h = let z : Some q.searched ≡ Some true = h in (record { format = q.format; first = q.first; searched = q.searched }, sym e, cc)
-
-searched-state : (proof : Option OpenProof) (o : PastProof) → past_proof proof ≡ Some o → o.searched ≡ true → IsSearched proof
-searched-state None o e b = absurd cc
-searched-state (Some q) o e b =
-    let is : PastProof = record { format = q.format; first = q.first; searched = q.searched } in
-    let some : Some is ≡ Some o = e in
-    let same : is ≡ o = cc in
-    ap (λ (x : PastProof). Some x.searched) same ∙ ap Some b
-
 -- what the past says of the state as long as it is valid
 pub record Knows (p : Past) (s : State) : Type 0 where
-  naming : s.naming ≡ p.naming
-  hidden : s.ever_hidden ≡ p.ever_hidden
-  capped : IsCapped s.naming
-  clauses : s.clauses ≡ p.clauses
-  assumed : s.assumptions ≡ p.assumptions
-  counted : s.counted ≡ p.counted
-  model : p.has_model ≡ true → answer_of s.verdict ≡ Some true
-  found : answer_of s.verdict ≡ Some true → p.has_model ≡ true
-  failed : p.has_core ≡ true → answer_of s.verdict ≡ Some false
-  core : (l : List Literal) → s.verdict ≡ UnsatUnderAssumptions l → p.has_core ≡ true
-  proof : past_proof s.proof ≡ p.proof
-  right : HasRightVerdict s
+  pub naming : s.naming ≡ p.naming
+  pub hidden : s.ever_hidden ≡ p.ever_hidden
+  pub capped : IsCapped s.naming
+  pub clauses : s.clauses ≡ p.clauses
+  pub assumed : s.assumptions ≡ p.assumptions
+  pub counted : s.counted ≡ p.counted
+  pub model : p.has_model ≡ true → answer_of s.verdict ≡ Some true
+  pub found : answer_of s.verdict ≡ Some true → p.has_model ≡ true
+  pub failed : p.has_core ≡ true → answer_of s.verdict ≡ Some false
+  pub core : (l : List Literal) → s.verdict ≡ UnsatUnderAssumptions l → p.has_core ≡ true
+  pub told : KnowsTold s.told s.proof p.told p.proof
+  pub right : HasRightVerdict s
 
 -- the state is one that the past leads to
 pub record Agrees (p : Past) (s : State) : Type 0 where
@@ -129,7 +107,7 @@ pub record Agrees (p : Past) (s : State) : Type 0 where
 abbrev pub Leads : (Past → Type 0) → State → Type 0
 Leads to t = (q : Past) × to q × Agrees q t
 
-knows-of : (p : Past) (s : State) → Agrees p s → state.IsValid s → Knows p s
+pub knows-of : (p : Past) (s : State) → Agrees p s → state.IsValid s → Knows p s
 knows-of p s g v = g.knows (sym g.valid ∙ v)
 
 pub clauses-known : (p : Past) (s : State) → Agrees p s → p.valid ≡ true → s.clauses ≡ p.clauses
@@ -137,6 +115,24 @@ clauses-known p s g v = (g.knows v).clauses
 
 false-true : (b : Bool) → b ≡ false → b ≡ true → ⊥
 false-true b e f = let z : true ≡ false = sym f ∙ e in cc
+
+-- It stays where only the ledger changes, the steps, the settings, and the open proof with what is known of it.
+knows-still : (p : Past) (s : State) (l : Ledger) (u : Option OpenProof) (i : ℕ) (c : Settings) (o : Option PastProof) → KnowsTold s.told u p.told o →
+    Knows p s → Knows (record p { since = i; settings = c; proof = o }) (record s { ledger = l; proof = u })
+knows-still p s l u i c o told k = record {
+  naming = k.naming;
+  hidden = k.hidden;
+  capped = k.capped;
+  clauses = k.clauses;
+  assumed = k.assumed;
+  counted = k.counted;
+  model = k.model;
+  found = k.found;
+  failed = k.failed;
+  core = k.core;
+  told = told;
+  right = k.right;
+}
 
 -- nothing changes
 pub stays : (p : Past) (s t : State) → t ≡ s → Agrees p s → Agrees p t
@@ -150,22 +146,7 @@ anew p s t e g = subst (Agrees (past.count_anew p)) (sym e) (record {
   steps = g.steps;
   since = refl;
   settings = g.settings;
-  knows = λ v. let k = g.knows v in
-      record {
-        naming = k.naming;
-        hidden = k.hidden;
-        capped = k.capped;
-        clauses = k.clauses;
-        assumed = k.assumed;
-        counted = k.counted;
-        model =
-            k.model;
-        found = k.found;
-        failed = k.failed;
-        core = k.core;
-        proof = k.proof;
-        right = k.right;
-      };
+  knows = λ v. let k = g.knows v in knows-still p s (state.count_anew s).ledger s.proof 0 p.settings p.proof k.told k;
 })
 
 -- the past keeps its flags, and the state too, but that something was accepted now
@@ -196,7 +177,7 @@ breaks p s t g b = (
   },
 )
 
-right-like : (t : State) (P : List Clause) (A : List Literal) (C : List ℕ) (v : Verdict) → t.clauses ≡ P → t.assumptions ≡ A → t.counted ≡ C →
+pub right-like : (t : State) (P : List Clause) (A : List Literal) (C : List ℕ) (v : Verdict) → t.clauses ≡ P → t.assumptions ≡ A → t.counted ≡ C →
     t.verdict ≡ v → IsRight P A C v → HasRightVerdict t
 right-like t P A C v c a n w r =
     subst (λ x. IsRight t.clauses t.assumptions t.counted x) (sym w)
@@ -211,12 +192,13 @@ after-cases : (P : List Clause) (c : Clause) (v w : Verdict) → VerdictAfter P 
 after-cases P c v w (state.Refuted e u) = inl (e, u)
 after-cases P c v w (state.Reopened e u) = inr e
 
-accepted : (p : Past) (s t : State) (d : Clause) → s.verdict ≢ Unsat → state.Accepts s d t → Agrees p s → p.valid ≡ true → Agrees (accept d p) t
+accepted : (p : Past) (s t : State) (d : Clause) → s.verdict ≢ Unsat → state.Accepts s d t → Agrees p s → p.valid ≡ true →
+    Agrees (past.retold t.told (accept d p)) t
 accepted p s t d n (w, after, e) g v =
     let k = g.knows v in
     let c = map (through_names (name_all d s.naming)) d in
     let cases = after-cases s.clauses c s.verdict w after in
-    agrees-still p (accept d p) s t g e.ledger (refl, refl, refl, refl, refl)
+    agrees-still p (past.retold t.told (accept d p)) s t g e.ledger (refl, refl, refl, refl, refl)
     (record {
       naming = e.naming ∙ ap (name_all d) k.naming;
       hidden = e.ever_hidden ∙ k.hidden;
@@ -229,7 +211,8 @@ accepted p s t d n (w, after, e) g v =
       found = λ h. absurd (⊎_elim
           (λ r. let z : Some false ≡ Some true = ap answer_of (sym (e.verdict ∙ r.0)) ∙ h in let y : false ≡ true = cc in cc)
           (λ r. reopened-not-true s.verdict (ap answer_of (sym (e.verdict ∙ r)) ∙ h)) cases);
-      proof = same-proof s.proof t.proof e.proof ∙ k.proof;
+      told = told-more 0 s.told t.told p.told s.proof t.proof p.proof k.told
+          (tells-through 0 0 s.told (s.told ++ Accepts c ∷ []) t.told (tells 0 s.told (Accepts c ∷ []) (accepts-goes s.told c)) e.told) e.proof;
       failed = λ h. ⊎_elim (λ r. ap answer_of (e.verdict ∙ r.0)) (λ r. ap answer_of (e.verdict ∙ r) ∙ reopened-false s.verdict (k.failed h)) cases;
       core = λ l h. ⊎_elim
           (λ r. let z : Unsat ≡ UnsatUnderAssumptions l = sym (e.verdict ∙ r.0) ∙ h in absurd cc)
@@ -241,8 +224,15 @@ accepted p s t d n (w, after, e) g v =
           cases;
     })
 
+accepted-told : (p : Past) (s t : State) (d : Clause) → state.Accepts s d t → Knows p s → past.IsLike (accept d p) (past.retold t.told (accept d p))
+accepted-told p s t d (w, after, e) k =
+    let c = map (through_names (name_all d s.naming)) d in
+    like-past false (accept d p) (past.retold t.told (accept d p)) (s.told ++ Accepts c ∷ [])
+    (ap (λ x. x ++ Accepts c ∷ []) k.told.same ∙ ap (λ (m : Naming). p.told ++ Accepts (map (through_names (name_all d m)) d) ∷ []) k.naming)
+    refl e.told e.stays
+
 -- under Unsat no assignment satisfies the clauses
-refuted : (p : Past) (s : State) → Knows p s → s.verdict ≡ Unsat → IsSatisfiable p.clauses → ⊥
+pub refuted : (p : Past) (s : State) → Knows p s → s.verdict ≡ Unsat → IsSatisfiable p.clauses → ⊥
 refuted p s k u = subst (λ P. IsSatisfiable P → ⊥) k.clauses (subst (IsRight s.clauses s.assumptions s.counted) u k.right)
 
 -- what it needs, and what it is refused for, is the same for both
@@ -257,25 +247,26 @@ crowded : (p : Past) (s : State) (d : List Literal) → Knows p s → IsPastLimi
 crowded p s d k h = subst (λ (m : Naming). IsPastLimit d ⊎ IsCrowded (name_all d m)) k.naming h
 
 -- a proof that is open
-has-open : (p : Past) (s : State) → Knows p s → IsOpen s.proof → past.HasOpenProof p
-has-open p s k (o, is) = (_, sym k.proof ∙ ap past_proof is)
+pub has-open : (p : Past) (s : State) → Knows p s → IsOpen s.proof → past.HasOpenProof p
+has-open p s k (o, is) = (_, sym k.told.proof ∙ ap (past_proof k.told.interrupted) is)
 
 -- none under which `solve` was called
 unsearched : (p : Past) (s : State) → Knows p s → (IsSearched s.proof → ⊥) → past.IsSearched p → ⊥
-unsearched p s k n (o, e, b) = n (searched-state s.proof o (k.proof ∙ e) b)
+unsearched p s k n (o, e, b) = n (searched-state k.told.interrupted s.proof o (k.told.proof ∙ e) b)
 
 -- and none at all
 none-open : (p : Past) (s : State) → Knows p s → s.proof ≡ None → p.proof ≡ None
-none-open p s k n = sym k.proof ∙ ap past_proof n
+none-open p s k n = sym k.told.proof ∙ ap (past_proof k.told.interrupted) n
 
 pub add-clause : (p : Past) (s t : State) (d : Clause) (r : Result (Unit {0}) SolverError) → Agrees p s → state.AddsClause s d r t →
     Leads (past.AddsClause p d r) t
 add-clause p s t d (Ok u) g (v, state.Ignored n e) =
     let w = sym g.valid ∙ v in (past.count_anew p, (w, past.Ignored (refuted p s (g.knows w) n) refl), anew p s t e g)
 add-clause p s t d (Ok u) g (v, state.Accepted n lim a) =
-    let w = sym g.valid ∙ v in (
-      accept d p,
-      (w, past.Accepted (unsearched p s (g.knows w) n.unsearched) (may-constrain p s d (g.knows w) lim) refl),
+    let w = sym g.valid ∙ v in
+    let k = g.knows w in (
+      past.retold t.told (accept d p),
+      (w, past.Accepted (unsearched p s k n.unsearched) (may-constrain p s d k lim) (accepted-told p s t d a k)),
       accepted p s t d n.unrefuted a g w,
     )
 add-clause p s t d (Err OutOfMemory) g (n, lim, b) =
@@ -288,7 +279,7 @@ add-clause p s t d (Err (ProofIoError cause)) g (o, n, lim, b) =
     let k = knows-of p s g b.valid in
     let (q, c, h) = breaks p s t g b in (q, (has-open p s k o, unsearched p s k n.unsearched, may-constrain p s d k lim, c), h)
 add-clause p s t d (Err ClauseAfterSolve) g (v, n, is, e) =
-    (p, (sym g.valid ∙ v, searched-past s.proof p.proof (knows-of p s g v).proof is, refl), stays p s t e g)
+    let k = (knows-of p s g v).told in (p, (sym g.valid ∙ v, searched-past k.interrupted s.proof p.proof k.proof is, refl), stays p s t e g)
 add-clause p s t d (Err Invalid) g a = (p, (sym g.valid ∙ a.0, refl), stays p s t a.1 g)
 add-clause p s t d (Err VariableLimit) g (v, n, over, e) =
     let k = knows-of p s g v in (p, (sym g.valid ∙ v, unsearched p s k n.unsearched, crowded p s d k over, refl), stays p s t e g)
@@ -344,10 +335,10 @@ add-text p s t old new r g (Unread e (v, k) n) = (p, Unread e (sym g.valid ∙ v
 -- 5. A new variable.
 
 -- The state has the names m now, and the past may have other flags. All else that is known stays.
-knows-like : {may_leave : Bool} (p : Past) (s t : State) (m : Naming) (b x d : Bool) (l : Ledger) (told : List Entry) (n i : ℕ) (c : Settings) →
-    IsLikeButLeft may_leave (record s { naming = m; ever_hidden = b; ledger = l; told = told }) t → IsCapped m → b ≡ x → Knows p s →
-    Knows (record p { started = d; naming = m; ever_hidden = x; steps = n; since = i; settings = c }) t
-knows-like p s t m b x d l told n i c e h f k = record {
+knows-like : {may_leave : Bool} (p : Past) (s t : State) (m : Naming) (b x d : Bool) (l : Ledger) →
+    IsLikeButLeft may_leave (record s { naming = m; ever_hidden = b; ledger = l }) t → IsCapped m → b ≡ x → Knows p s →
+    Knows (record p { started = d; naming = m; ever_hidden = x; since = 0; told = t.told }) t
+knows-like p s t m b x d l e h f k = record {
   naming = e.naming;
   hidden = e.ever_hidden ∙ f;
   capped = subst IsCapped (sym e.naming) h;
@@ -358,24 +349,24 @@ knows-like p s t m b x d l told n i c e h f k = record {
   found = λ x. k.found (sym (ap answer_of e.verdict) ∙ x);
   failed = λ x. ap answer_of e.verdict ∙ k.failed x;
   core = λ l h. k.core l (sym e.verdict ∙ h);
-  proof = same-proof s.proof t.proof e.proof ∙ k.proof;
+  told = told-more 0 s.told t.told p.told s.proof t.proof p.proof k.told e.told e.proof;
   right = right-like t s.clauses s.assumptions s.counted s.verdict e.clauses e.assumptions e.counted e.verdict k.right;
 }
 
 named : (p : Past) (s t : State) (u : ℕ) → IsLike (start (with_naming (name_one u s.naming) s)) t → Knows p s →
-    Knows (record p { started = true; naming = name_one u p.naming; since = 0 }) t
+    Knows (record p { started = true; naming = name_one u p.naming; since = 0; told = t.told }) t
 named p s t u e k =
-    subst (λ (m : Naming). Knows (record p { started = true; naming = m; since = 0 }) t) (ap (name_one u) k.naming)
-    (knows-like p s t (name_one u s.naming) s.ever_hidden p.ever_hidden true (start s).ledger s.told p.steps 0 p.settings e
-    (capped-one u s.naming k.capped) k.hidden k)
+    subst (λ (m : Naming). Knows (record p { started = true; naming = m; since = 0; told = t.told }) t) (ap (name_one u) k.naming)
+    (knows-like p s t (name_one u s.naming) s.ever_hidden p.ever_hidden true (start s).ledger e (capped-one u s.naming k.capped) k.hidden k)
 
 pub make-var : (p : Past) (s t : State) (r : Result ℕ SolverError) → Agrees p s → state.MakesVar s r t → Leads (past.MakesVar p r) t
 make-var p s t (Ok u) g (v, free, small, e) =
     let w = sym g.valid ∙ v in
     let k = g.knows w in
-    let q : Past = record p { started = true; naming = name_one u p.naming; since = 0 } in (
+    let made : Past = record p { started = true; naming = name_one u p.naming; since = 0 } in
+    let q : Past = past.retold t.told made in (
       q,
-      (w, subst (λ (m : Naming). IsLeastFree m u) k.naming free, small, refl),
+      (w, subst (λ (m : Naming). IsLeastFree m u) k.naming free, small, like-past false made q s.told k.told.same refl e.told e.stays),
       agrees-still p q s t g e.ledger (refl, refl, refl, refl, refl)
           (named p s t u e k),
     )
@@ -398,14 +389,14 @@ make-var p s t (Err e) g a = absurd a
 -- the state and the past have other names
 renamed : {may_leave : Bool} (p : Past) (s t : State) (m : Naming) (b x : Bool) →
     IsLikeButLeft may_leave (record s { naming = m; ever_hidden = b; ledger = record s.ledger { since = 0 } }) t → IsCapped m → b ≡ x → Agrees p s →
-    p.valid ≡ true → Agrees (record p { naming = m; ever_hidden = x; since = 0 }) t
+    p.valid ≡ true → Agrees (record p { naming = m; ever_hidden = x; since = 0; told = t.told }) t
 renamed p s t m b x e c f g v = record {
   valid = ap (λ x. x.valid) e.ledger ∙ g.valid;
   started = ap (λ x. x.started) e.ledger ∙ g.started;
   steps = ap (λ x. x.steps) e.ledger ∙ g.steps;
   since = ap (λ x. x.since) e.ledger;
   settings = ap (λ x. x.settings) e.ledger ∙ g.settings;
-  knows = λ _. knows-like p s t m b x p.started (record s.ledger { since = 0 }) s.told p.steps 0 p.settings e c f (g.knows v);
+  knows = λ _. knows-like p s t m b x p.started (record s.ledger { since = 0 }) e c f (g.knows v);
 }
 
 -- a name is assumed in both or in none
@@ -424,14 +415,15 @@ changes-var : (may_leave : Bool) (f : Naming → Naming) (b : Bool → Bool) →
 changes-var may_leave f b keeps p s t u (Ok x) g (v, small, free, e) =
     let w = sym g.valid ∙ v in
     let k = g.knows w in
-    let m = f (name_one u s.naming) in (
-      record p { naming = m; ever_hidden = b p.ever_hidden; since = 0 },
+    let m = f (name_one u s.naming) in
+    let changed : Naming → Past = λ n. record p { naming = f (name_one u n); ever_hidden = b p.ever_hidden; since = 0 } in
+    let q : Past = past.retold t.told (changed s.naming) in (
+      q,
       (
         w,
         small,
         (λ h. free (assumed-state p s u k h)),
-        ap
-            (λ (n : Naming). record p { naming = f (name_one u n); ever_hidden = b p.ever_hidden; since = 0 }) k.naming,
+        like-past may_leave (changed p.naming) q s.told k.told.same (ap (λ (n : Naming). past.retold t.told (changed n)) k.naming) e.told e.stays,
       ),
       renamed p s t m (b s.ever_hidden) (b p.ever_hidden) e (keeps (name_one u s.naming) (capped-one u s.naming k.capped)) (ap b k.hidden) g w,
     )
@@ -465,9 +457,11 @@ pub observe : (p : Past) (s t : State) (r : Result (List ℕ) SolverError) → A
     Leads (usage.Observes past.named p r) t
 observe p s t (Ok us) g (v, (m, shown, e)) =
     let w = sym g.valid ∙ v in
-    let k = g.knows w in (
-      record p { naming = m; since = 0 },
-      (w, (m, subst (λ P. AreAllShown us P p.naming m) k.clauses (subst (λ (n : Naming). AreAllShown us s.clauses n m) k.naming shown), refl)),
+    let k = g.knows w in
+    let shows = subst (λ P. AreAllShown us P p.naming m) k.clauses (subst (λ (n : Naming). AreAllShown us s.clauses n m) k.naming shown) in
+    let shown-past : Past = record p { naming = m; since = 0 } in (
+      past.retold t.told shown-past,
+      (w, (m, shows, like-past false shown-past (past.retold t.told shown-past) s.told k.told.same refl e.told e.stays)),
       renamed p s t m s.ever_hidden p.ever_hidden e (capped-shown us s.naming m shown.in_turn k.capped) k.hidden g w,
     )
 observe p s t (Err Invalid) g a = (p, (sym g.valid ∙ a.0, refl), stays p s t a.1 g)
@@ -476,11 +470,12 @@ observe p s t (Err e) g a = absurd a
 
 -- 7. Assumptions.
 
-assumed-list : (p : Past) (s t : State) (list : List Literal) → state.TakesAssumptions s list t → Agrees p s → p.valid ≡ true → Agrees (assume list p) t
+assumed-list : (p : Past) (s t : State) (list : List Literal) → state.TakesAssumptions s list t → Agrees p s → p.valid ≡ true →
+    Agrees (past.retold t.told (assume list p)) t
 assumed-list p s t list e g v =
     let k = g.knows v in
     let c = map (through_names (name_all list s.naming)) list in
-    agrees-still p (assume list p) s t g e.ledger (refl, refl, refl, refl, refl)
+    agrees-still p (past.retold t.told (assume list p)) s t g e.ledger (refl, refl, refl, refl, refl)
     (record {
       naming = e.naming ∙ ap (name_all list) k.naming;
       hidden = e.ever_hidden ∙ k.hidden;
@@ -493,16 +488,27 @@ assumed-list p s t list e g v =
       found = λ x. absurd (assumed-not-true s.verdict (sym (ap answer_of e.verdict) ∙ x));
       failed = λ x. absurd cc;
       core = λ l h. absurd (assumed-no-core s.verdict l (sym e.verdict ∙ h));
-      proof = same-proof s.proof t.proof e.proof ∙ k.proof;
+      told = told-more 0 s.told t.told p.told s.proof t.proof p.proof k.told
+          (tells-through 0 0 s.told (s.told ++ Assumes c ∷ []) t.told (tells 0 s.told (Assumes c ∷ []) (assumes-goes s.told c)) e.told) e.proof;
       right = right-like t s.clauses t.assumptions t.counted (assumed_verdict s.verdict) e.clauses refl refl e.verdict
           (right-assumed s.clauses s.assumptions t.assumptions s.counted t.counted s.verdict k.right);
     })
+
+assumed-told : (p : Past) (s t : State) (list : List Literal) → state.TakesAssumptions s list t → Knows p s →
+    past.IsLike (assume list p) (past.retold t.told (assume list p))
+assumed-told p s t list e k =
+    let c = map (through_names (name_all list s.naming)) list in
+    like-past false (assume list p) (past.retold t.told (assume list p)) (s.told ++ Assumes c ∷ [])
+    (ap (λ x. x ++ Assumes c ∷ []) k.told.same ∙ ap (λ (m : Naming). p.told ++ Assumes (map (through_names (name_all list m)) list) ∷ []) k.naming)
+    refl e.told e.stays
 
 pub assume-list : (p : Past) (s t : State) (list : List Literal) (r : Result (Unit {0}) SolverError) → Agrees p s → state.Assumes s list r t →
     Leads (past.Assumes p list r) t
 assume-list p s t list (Ok u) g (v, n, lim, e) =
     let w = sym g.valid ∙ v in
-    let k = g.knows w in (assume list p, (w, none-open p s k n, may-constrain p s list k lim, refl), assumed-list p s t list e g w)
+    let k = g.knows w in
+    let q = past.retold t.told (assume list p) in
+    (q, (w, none-open p s k n, may-constrain p s list k lim, assumed-told p s t list e k), assumed-list p s t list e g w)
 assume-list p s t list (Err OutOfMemory) g (n, lim, b) =
     let k = knows-of p s g b.valid in
     let (q, c, h) = breaks p s t g b in (q, (none-open p s k n, may-constrain p s list k lim, c), h)
@@ -514,234 +520,7 @@ assume-list p s t list (Err (WitnessVar u)) g (v, n, within, is, e) =
     let k = knows-of p s g v in (p, (sym g.valid ∙ v, none-open p s k n, within, first-witness p s list u k is, refl), stays p s t e g)
 assume-list p s t list (Err e) g a = absurd a
 
--- 8. An answer of `solve`.
-
--- the steps since the last change
-since-told : (p : Past) (s t : State) → Agrees p s → t.ledger.since ≡ s.ledger.since + (t.ledger.steps - s.ledger.steps) →
-    t.ledger.since ≡ p.since + (t.ledger.steps - p.steps)
-since-told p s t g e = e ∙ ap₂ (λ x y. x + (t.ledger.steps - y)) g.since g.steps
-
--- the past behind an answer, where the state has the verdict that was told
-solved : (p : Past) (s t : State) (b : Bool) → Agrees p s → Knows p s → state.TellsVerdict s b t →
-    Agrees (record (past.with_steps t.ledger.steps p) { has_model = b; has_core = not b }) t
-solved p s t b g k r =
-    let e = r.rest in
-    record {
-      valid = ap (λ x. x.valid) e.ledger ∙ g.valid;
-      started = ap (λ x. x.started) e.ledger ∙ g.started;
-      steps = refl;
-      since = since-told p s t g (ap (λ x. x.since) e.ledger);
-      settings = ap (λ x. x.settings) e.ledger ∙ g.settings;
-      knows = λ _. record {
-        naming = e.naming ∙ k.naming;
-        hidden = e.ever_hidden ∙ k.hidden;
-        capped = subst IsCapped (sym e.naming) k.capped;
-        clauses = e.clauses ∙ k.clauses;
-        assumed = e.assumptions ∙ k.assumed;
-        counted = e.counted ∙ k.counted;
-        model = λ x. r.answer ∙ ap Some x;
-        found = λ x. told b (sym r.answer ∙ x);
-        failed = λ x. r.answer ∙ ap Some (not-true b x);
-        core = λ l h. told-false b (sym r.answer ∙ ap answer_of h);
-        proof = same-proof s.proof t.proof e.proof ∙ k.proof;
-        right = r.right;
-      };
-    }
-  where
-    told : (b : Bool) → Some b ≡ Some true → b ≡ true
-    told b e = cc
-
-    told-false : (b : Bool) → Some b ≡ Some false → not b ≡ true
-    told-false b e = let z : b ≡ false = cc in ap not z
-
--- the steps of a call under the verdict Unknown
-counts : (p : Past) (s t : State) (r : Result Bool SolverError) → Agrees p s → Knows p s → state.CountsCall s r t →
-    CountsSteps (length p.counted) p.settings.max_steps p.since p.steps t.ledger.steps r
-counts p s t r g k c =
-    subst (λ (xs : List ℕ). CountsSteps (length xs) p.settings.max_steps p.since p.steps t.ledger.steps r) k.counted
-    (subst (λ (x : Settings). CountsSteps (length s.counted) x.max_steps p.since p.steps t.ledger.steps r) g.settings
-    (subst (λ x. CountsSteps (length s.counted) s.ledger.settings.max_steps x p.steps t.ledger.steps r) g.since
-    (subst (λ x. CountsSteps (length s.counted) s.ledger.settings.max_steps s.ledger.since x t.ledger.steps r) g.steps c)))
-
--- neither a model nor a core was found last where the verdict is unknown
-no-model-yet : (p : Past) (s : State) → Knows p s → s.verdict ≡ Unknown → p.has_model ≡ false
-no-model-yet p s k u = false_from_ne_true p.has_model (λ e. let z : None ≡ Some true = ap answer_of (sym u) ∙ k.model e in cc)
-
-no-core-yet : (p : Past) (s : State) → Knows p s → s.verdict ≡ Unknown → p.has_core ≡ false
-no-core-yet p s k u = false_from_ne_true p.has_core (λ e. let z : None ≡ Some false = ap answer_of (sym u) ∙ k.failed e in cc)
-
-undecided : (p : Past) (s : State) → Knows p s → s.verdict ≡ Unknown → IsUndecided p
-undecided p s k u = record { no_model = no-model-yet p s k u; no_core = no-core-yet p s k u }
-
--- and where it is known a model or a core was, or no assignment satisfies the clauses
-known-by : (p : Past) (s : State) → Knows p s → s.verdict ≢ Unknown → (p.has_model ≡ true) ⊎ ((p.has_core ≡ true) ⊎ (IsSatisfiable p.clauses → ⊥))
-known-by p s k n = go s.verdict refl
-  where
-    go : (v : Verdict) → s.verdict ≡ v → (p.has_model ≡ true) ⊎ ((p.has_core ≡ true) ⊎ (IsSatisfiable p.clauses → ⊥))
-    go Unknown e = absurd (n e)
-    go (Sat a) e = inl (k.found (ap answer_of e))
-    go Unsat e = inr (inr (refuted p s k e))
-    go (UnsatUnderAssumptions core) e = inr (inl (k.core core e))
-
--- how the steps are counted of a call whether or not the verdict is known
-counted-if : (p q : Past) (s t : State) (r : Result Bool SolverError) → Agrees p s → Knows p s → q.steps ≡ t.ledger.steps →
-    (s.verdict ≢ Unknown → t.ledger.steps ≡ s.ledger.steps) → (s.verdict ≡ Unknown → state.CountsCall s r t) → past.CountsIfUnknown p r q
-counted-if p q s t r g k e known unknown =
-    ⊎_elim
-    (λ u. past.Searched (undecided p s k u)
-    (subst (λ n. CountsSteps (length p.counted) p.settings.max_steps p.since p.steps n r) (sym e) (counts p s t r g k (unknown u))))
-    (λ n. past.Known (known-by p s k n) (e ∙ known n ∙ g.steps))
-    (is-unknown-or-not s.verdict)
-
--- the ledger alone changes
-told-on : (p : Past) (s t : State) (n i : ℕ) (c : Settings) → IsLike (record s { ledger = t.ledger; told = t.told }) t → Knows p s →
-    Knows (record p { steps = n; since = i; settings = c }) t
-told-on p s t n i c e k =
-    subst (λ (m : Naming). Knows (record p { naming = m; steps = n; since = i; settings = c }) t) k.naming
-    (knows-like p s t s.naming s.ever_hidden p.ever_hidden p.started t.ledger t.told n i c e k.capped k.hidden k)
-
-like-told : (s t : State) (n : ℕ) → IsLike (retold t.told (with_steps n s)) t → IsLike (record s { ledger = t.ledger; told = t.told }) t
-like-told s t n e = record {
-  naming = e.naming;
-  ever_hidden = e.ever_hidden;
-  clauses = e.clauses;
-  assumptions = e.assumptions;
-  counted =
-      e.counted;
-  verdict = e.verdict;
-  ledger = refl;
-  told = e.told;
-  stays = e.stays;
-  proof = e.proof;
-}
-
--- some assignment satisfies the clauses and the assumptions where true is returned
-some-with : (p : Past) (s t : State) → Knows p s → state.TellsVerdict s true t → IsSatisfiableWith p.clauses p.assumptions
-some-with p s t k r =
-    let (a, e) = answer-sat t.verdict r.answer in
-    let right = subst (IsRight t.clauses t.assumptions t.counted) e r.right in
-    (a, subst (SatisfiesAll a) (r.rest.clauses ∙ k.clauses) right.0, subst (MakesTrue a) (r.rest.assumptions ∙ k.assumed) right.1)
-
--- and none does where false is
-none-with : (p : Past) (s t : State) → Knows p s → state.TellsVerdict s false t → IsSatisfiableWith p.clauses p.assumptions → ⊥
-none-with p s t k r =
-    subst (λ P. IsSatisfiableWith P p.assumptions → ⊥) (r.rest.clauses ∙ k.clauses)
-    (subst (λ A. IsSatisfiableWith t.clauses A → ⊥) (r.rest.assumptions ∙ k.assumed) (right-false t.clauses t.assumptions t.counted t.verdict r.answer r.right))
-
--- `solve` was called under an open proof
-searched-same : (o : Option OpenProof) → past_proof (searched_under o) ≡ past.searched_under (past_proof o)
-searched-same None = refl
-searched-same (Some p) = refl
-
-searched : (p : Past) (s : State) → Agrees p s → Agrees (past.once_searched p) (state.once_searched s)
-searched p s g = record {
-  valid = g.valid;
-  started = g.started;
-  steps = g.steps;
-  since = g.since;
-  settings = g.settings;
-  knows = λ v. let k = g.knows v in
-      record {
-        naming = k.naming;
-        hidden = k.hidden;
-        capped = k.capped;
-        clauses = k.clauses;
-        assumed = k.assumed;
-        counted = k.counted;
-        model =
-            k.model;
-        found = k.found;
-        failed = k.failed;
-        core = k.core;
-        proof = searched-same s.proof ∙ ap past.searched_under k.proof;
-        right = k.right;
-      };
-}
-
--- no way leads back, and steps were counted
-breaks-after : (p : Past) (s t : State) → Agrees p s → state.Invalidates (with_steps t.ledger.steps s) t →
-    past.Invalidates (past.with_steps t.ledger.steps p) (record (past.with_steps t.ledger.steps p) { valid = false })
-    × Agrees (record (past.with_steps t.ledger.steps p) { valid = false }) t
-breaks-after p s t g b = (
-  (sym g.valid ∙ b.valid, refl),
-  record {
-    valid = ap (λ x. x.valid) b.ledger;
-    started = ap (λ x. x.started) b.ledger
-        ∙ g.started;
-    steps = refl;
-    since = since-told p s t g (ap (λ x. x.since) b.ledger);
-    settings = ap (λ x. x.settings) b.ledger
-        ∙ g.settings;
-    knows = λ e. absurd cc;
-  },
-)
-
-solved-as : (p : Past) (s t : State) (b : Bool) → Agrees p s → state.TellsVerdict (state.once_searched s) b t → (v : p.valid ≡ true) → Knows p s →
-    past.CountsIfUnknown p (Ok b) (record (past.with_steps t.ledger.steps (past.once_searched p)) { has_model = b; has_core = not b })
-    × Agrees (record (past.with_steps t.ledger.steps (past.once_searched p)) { has_model = b; has_core = not b }) t
-solved-as p s t b g r v k =
-    let h = searched p s g in (
-      counted-if p (record (past.with_steps t.ledger.steps (past.once_searched p)) { has_model = b; has_core = not b }) s t (Ok b) g k refl
-          (λ n. (r.known n).1) r.steps,
-      solved (past.once_searched p) (state.once_searched s) t b h (h.knows v) r,
-    )
-
-pub solve : (p : Past) (s t : State) (r : Result Bool SolverError) → Agrees p s → state.Solves s r t → Leads (past.Solves p r) t
-solve p s t (Ok true) g r =
-    let v = sym g.valid ∙ r.valid in
-    let k = g.knows v in
-    let (few, h) = solved-as p s t true g r v k in (
-      record (past.with_steps t.ledger.steps (past.once_searched p)) { has_model = true; has_core = false },
-      (v, some-with (past.once_searched p) (state.once_searched s) t ((searched p s g).knows v) r, few, refl),
-      h,
-    )
-solve p s t (Ok false) g r =
-    let v = sym g.valid ∙ r.valid in
-    let k = g.knows v in
-    let (few, h) = solved-as p s t false g r v k in (
-      record (past.with_steps t.ledger.steps (past.once_searched p)) { has_model = false; has_core = true },
-      (v, none-with (past.once_searched p) (state.once_searched s) t ((searched p s g).knows v) r, few, refl),
-      h,
-    )
-solve p s t (Err OutOfMemory) g (u, c, b) =
-    let k = knows-of p s g b.valid in
-    let (invalid, h) = breaks-after p s t g b in
-    (record (past.with_steps t.ledger.steps p) { valid = false }, (undecided p s k u, counts p s t (Err OutOfMemory) g k c, invalid), h)
-solve p s t (Err ClauseStoreFull) g (u, c, b) =
-    let k = knows-of p s g b.valid in
-    let (invalid, h) = breaks-after p s t g b in
-    (record (past.with_steps t.ledger.steps p) { valid = false }, (undecided p s k u, counts p s t (Err ClauseStoreFull) g k c, invalid), h)
-solve p s t (Err (ProofIoError cause)) g (o, c, b) =
-    let k = knows-of p s g b.valid in
-    let (invalid, h) = breaks-after p s t g b in
-    let q = record (past.with_steps t.ledger.steps p) { valid = false } in
-    (q, (has-open p s k o, counted-if p q s t (Err (ProofIoError cause)) g k refl c.known c.unknown, invalid), h)
-solve p s t (Err Interrupted) g r =
-    let k = knows-of p s g r.valid in
-    let h = searched p s g in (
-      past.with_steps t.ledger.steps (past.once_searched p),
-      (sym g.valid ∙ r.valid, undecided p s k r.unknown, counts p s t (Err Interrupted) g k r.steps, refl),
-      record {
-        valid = ap (λ x. x.valid) r.rest.ledger ∙ g.valid;
-        started = ap (λ x. x.started) r.rest.ledger ∙ g.started;
-        steps = refl;
-        since = since-told p s t g (ap (λ x. x.since) r.rest.ledger);
-        settings = ap (λ x. x.settings) r.rest.ledger ∙ g.settings;
-        knows = λ v. told-on (past.once_searched p) (state.once_searched s) t t.ledger.steps (p.since + (t.ledger.steps - p.steps)) p.settings
-            (like-told (state.once_searched s) t t.ledger.steps r.rest) (h.knows (sym g.valid ∙ r.valid));
-      },
-    )
-solve p s t (Err (WitnessVar u)) g r = absurd r
-solve p s t (Err (AssumedVar u)) g r = absurd r
-solve p s t (Err ClauseAfterSolve) g r = absurd r
-solve p s t (Err ProofOpen) g r = absurd r
-solve p s t (Err ProofTooLate) g r = absurd r
-solve p s t (Err (ConfigOutOfRange field)) g r = absurd r
-solve p s t (Err Invalid) g r = (p, (sym g.valid ∙ r.0, refl), stays p s t r.1 g)
-solve p s t (Err VariableLimit) g r = absurd r
-solve p s t (Err (Dimacs cause)) g r = absurd r
-
--- 9. Other settings.
+-- 8. Other settings.
 
 pub config : (p : Past) (s t : State) (u : SolverConfigUpdate) (r : Result (Unit {0}) SolverError) → Agrees p s → state.Configures s u r t →
     Leads (updates.Configures past.is_valid past.with_update p u r) t
@@ -754,7 +533,7 @@ config p s t u (Ok x) g (v, n, e) = (
     steps = g.steps;
     since = refl;
     settings = ap (λ c. updated_settings c u) g.settings;
-    knows = λ w. told-on p s (state.with_update u s) p.steps 0 (updated_settings p.settings u) (like-refl (state.with_update u s)) (g.knows w);
+    knows = λ w. let k = g.knows w in knows-still p s (state.with_update u s).ledger s.proof 0 (updated_settings p.settings u) p.proof k.told k;
   }),
 )
 config p s t u (Err Invalid) g (v, e) = (p, (sym g.valid ∙ v, refl), stays p s t e g)
@@ -789,21 +568,8 @@ opens p s t f taken g e = subst (Agrees (past.opened f taken.bytes p)) (sym e) (
   since = refl;
   settings = g.settings;
   knows = λ v. let k = g.knows v in
-      record {
-        naming = k.naming;
-        hidden = k.hidden;
-        capped = k.capped;
-        clauses = k.clauses;
-        assumed = k.assumed;
-        counted = k.counted;
-        model =
-            k.model;
-        found = k.found;
-        failed = k.failed;
-        core = k.core;
-        proof = refl;
-        right = k.right;
-      };
+      knows-still p s (state.count_anew s).ledger (Some (first_proof f taken)) 0 p.settings (past.opened f taken.bytes p).proof
+      (told-opened s.told s.proof p.told p.proof f taken k.told) k;
 })
 
 pub open-proof : {W : Type 0} (taken : W → Taken) (target : W) (format : ProofFormat) (p : Past) (s t : State)
@@ -830,21 +596,7 @@ closes p s t g e = subst (Agrees (past.closed p)) (sym e) (record {
   since = refl;
   settings = g.settings;
   knows = λ v. let k = g.knows v in
-      record {
-        naming = k.naming;
-        hidden = k.hidden;
-        capped = k.capped;
-        clauses = k.clauses;
-        assumed = k.assumed;
-        counted = k.counted;
-        model =
-            k.model;
-        found = k.found;
-        failed = k.failed;
-        core = k.core;
-        proof = refl;
-        right = k.right;
-      };
+      knows-still p s (state.count_anew s).ledger None 0 p.settings None (told-closed s.told s.proof p.told p.proof k.told) k;
 })
 
 -- what the target of an open proof took
@@ -853,16 +605,18 @@ handed : (p : Past) (s : State) (o : OpenProof) (taken : List ℕ) → Knows p s
 handed p s o taken k e h has =
     let a = has o e in
     record {
-      opened = record { format = o.format; first = o.first; searched = o.searched };
-      is_open = sym k.proof ∙ ap past_proof e;
+      opened = record { format = o.format; first = o.first; searched = o.searched; interrupted_steps = k.told.interrupted };
+      is_open = sym k.told.proof ∙ ap (past_proof k.told.interrupted) e;
       bytes = o.bytes;
       behind = h;
       proof = record {
         lines = a.lines;
         written = a.written;
+        same = λ n. a.same (k.hidden ∙ n) ∙ ap lines_of k.told.same;
         derives = λ n. subst (λ P. IsDerivation P a.lines) k.clauses (a.derives (k.hidden ∙ n));
         refutes = λ n c. subst (λ P. Refutes P a.lines) k.clauses (a.refutes (k.hidden ∙ n) (k.failed c));
       };
+      enough = λ n. subst (λ ls. k.told.interrupted ≤ added ls) (sym (a.same (k.hidden ∙ n))) k.told.enough;
     }
 
 hands-back : {W : Type 0} (taken : W → Taken) (p : Past) (s : State) (proof : Option OpenProof) (back : Option W) → s.proof ≡ proof → Knows p s →
@@ -893,7 +647,7 @@ enable-checking p s t (Err Invalid) g (v, e) = (p, (sym g.valid ∙ v, refl), st
 enable-checking p s t (Err ProofTooLate) g (v, b, e) = (p, (sym g.valid ∙ v, sym g.started ∙ b, refl), stays p s t e g)
 enable-checking p s t (Err e) g a = absurd a
 
--- 10. A model.
+-- 9. A model.
 
 model-sat : (m : Naming) (v : Verdict) (model : List Literal) → Some model ≡ model_of m v → (a : Assignment) × (v ≡ Sat a)
     × (model ≡ list_names m a 0 m.watermark)
@@ -932,7 +686,7 @@ tell-model p s t (Ok None) g (inr (v, e), same) = (p, ((λ w. absurd (false-true
 tell-model p s t (Err e) g (v, x, same) =
     let w = sym g.valid ∙ v in (p, (w, (g.knows w).found x, refl), stays p s t same g)
 
--- 11. A core.
+-- 10. A core.
 
 -- what is told is carried to some of the assumptions, which fail with the clauses
 failed-core : (p : Past) (s : State) (core : List Literal) → Knows p s → IsCoreToTell s (Some core) → AreNamesInUse p.naming core
@@ -962,7 +716,7 @@ tell-core p s t (Ok None) g (inr (v, e), same) = (p, ((λ w. absurd (false-true 
 tell-core p s t (Err e) g (v, x, same) =
     let w = sym g.valid ∙ v in (p, (w, no-model-false p s (g.knows w) x, refl), stays p s t same g)
 
--- 12. Before the first call.
+-- 11. Before the first call.
 
 pub empty-agrees : Agrees empty_past empty_state
 empty-agrees = record {
@@ -982,7 +736,7 @@ empty-agrees = record {
     found = λ e. absurd cc;
     failed = λ e. absurd cc;
     core = λ l e. absurd cc;
-    proof = refl;
+    told = record { same = refl; held = []; led = refl; interrupted = 0; enough = omega arith; proof = refl };
     right = tt;
   };
 }

@@ -32,7 +32,8 @@ use Rattle.varisat.specs.declared.solver.SolverError.TheVariants.{Interrupted, I
 use Rattle.varisat.proofs.NamesInOrder.{stay-in-order, count-above, count-within, through-all}
 use Rattle.varisat.proofs.NameLaws.{none-in-order, in-use-below}
 use Rattle.varisat.proofs.Counted.{join-more, join-has, join-only, join-once}
-use Rattle.varisat.proofs.Pasts.{Agrees, clauses-known, add-text, solve, config, opens, tell-model, empty-agrees}
+use Rattle.varisat.proofs.Pasts.{Agrees, clauses-known, add-text, config, opens, tell-model, empty-agrees}
+use Rattle.varisat.proofs.SolvedPasts.{solve}
 use Rattle.varisat.proofs.MoreClauses.{Carries, carries-all, carries-through, carries-one-more}
 
 abbrev pub done : Result (Unit {0}) SolverError
@@ -91,7 +92,8 @@ took n p q (c ∷ P) o (inl (mid, (v, past.Accepted u l e), rest)) =
     let (order, own) = stay-in-order n p.naming c o in
     let clauses : (accept c p).clauses ≡ p.clauses ++ c ∷ [] = ap (λ x. p.clauses ++ x ∷ []) own in
     let counted : (accept c p).counted ≡ join_counted p.counted (map variable_of c) = ap (λ x. join_counted p.counted (map variable_of x)) own in
-    let r = took (count_with n c) (accept c p) q P order (subst (λ (x : Past). additions.AddsAll past.adding x P done q) e rest) in
+    let joined : Past = past.retold mid.told (accept c p) in
+    let r = took (count_with n c) joined q P order (subst (λ (x : Past). additions.AddsAll past.adding x P done q) e.same rest) in
     record {
       more = λ a h. satisfies_fewer a p.clauses (c ∷ []) (subst (SatisfiesAll a) clauses (r.more a h));
       part = λ a x y. r.part a (subst (SatisfiesAll a) (sym clauses) (satisfies-one-more a p.clauses P c x y)) (λ d h. y d (inr h));
@@ -227,7 +229,7 @@ limited-agrees limit =
 -- of a proof that was just opened, that no search ran under it
 abbrev pub unsearched : {W : Type 0} → (W → Taken) → ProofFormat → Option W → Option PastProof
 unsearched taken format None = None
-unsearched taken format (Some target) = Some (record { format = format; first = (taken target).bytes; searched = false })
+unsearched taken format (Some target) = Some (record { format = format; first = (taken target).bytes; searched = false; interrupted_steps = 0 })
 
 pub prepared-agrees : {W : Type 0} (taken : W → Taken) (format : ProofFormat) (limit : Option ℕ) (target : Option W) →
     Agrees (begun (unsearched taken format target) limit) (prepared taken format limit target)
@@ -283,7 +285,7 @@ module _ (proof : Option PastProof) (limit : Option ℕ) (old new : Stand) (s t 
   found-none : (u : State) → state.Solves t (Ok false) u → Found (Decided None)
   found-none u f =
       let (q, x, g) = text-taken in
-      let (z, (v, n, few, e), h) = solve q t u (Ok false) g f in
+      let (z, (v, n, few, told, refuted, e), h) = solve q t u (Ok false) g f in
       let w = takes old new (begun proof limit) q x in
       let r = begun-took proof limit q (dimacs w.read.text).clauses w.all in (
         record {
@@ -299,7 +301,7 @@ module _ (proof : Option PastProof) (limit : Option ℕ) (old new : Stand) (s t 
   found-unknown : (u : State) → state.Solves t (Err Interrupted) u → Found Unknown
   found-unknown u f =
       let (q, x, g) = text-taken in
-      let (z, (v, o, few, e), h) = solve q t u (Err Interrupted) g f in
+      let (z, (v, o, few, told, e), h) = solve q t u (Err Interrupted) g f in
       let w = takes old new (begun proof limit) q x in
       let r = begun-took proof limit q (dimacs w.read.text).clauses w.all in
       let names = named_variables [] (dimacs w.read.text).clauses in
@@ -321,7 +323,7 @@ module _ (proof : Option PastProof) (limit : Option ℕ) (old new : Stand) (s t 
   found-model : (model : List Literal) (u v : State) → state.Solves t (Ok true) u → state.TellsModel u (Ok (Some model)) v → Found (Decided (Some model))
   found-model model u v f d =
       let (q, x, g) = text-taken in
-      let (z, (w, s, few, e), h) = solve q t u (Ok true) g f in
+      let (z, (w, s, few, told, e), h) = solve q t u (Ok true) g f in
       let k = takes old new (begun proof limit) q x in
       let r = begun-took proof limit q (dimacs k.read.text).clauses k.all in (
         record { read = k.read; ended = k.ended; fine = k.fine; found = outcome q (dimacs k.read.text).clauses r.whole (s.0, s.1) z e h },
@@ -329,8 +331,7 @@ module _ (proof : Option PastProof) (limit : Option ℕ) (old new : Stand) (s t 
       )
     where
       outcome : (q : Past) (P : List Clause) → (IsSatisfiable q.clauses → ⊥) ⊎ ((q.clauses ≡ P) × AreInOrder (count-all 0 P) q.naming) →
-          IsSatisfiable q.clauses → (z : Past) → z ≡ record (past.with_steps z.steps (past.once_searched q))
-          { has_model = true; has_core = false } → Agrees z u → IsModel P model
+          IsSatisfiable q.clauses → (z : Past) → z ≡ record (past.once_searched 0 q z) { has_model = true; has_core = false } → Agrees z u → IsModel P model
       outcome q P (inl n) s z e h = absurd (n s)
       outcome q P (inr (clauses, order)) s z e h =
           let (y, (x, i, o, same_past), j) = tell-model z u v (Ok (Some model)) h d in

@@ -44,6 +44,7 @@ ends-well s t (Ok b) h v = record {
   rest = like-searched _ t h.rest;
   told = h.told;
   refuted = h.refuted;
+  core = h.core;
 }
 ends-well s t (Err Interrupted) h v = record {
   valid = h.valid;

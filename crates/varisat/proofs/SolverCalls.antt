@@ -1,5 +1,5 @@
 -- What the solver's calls do to the states that it stands for.
-use Rattle.std.proofs.Common.{Result, Ok, Err, Vec, ◌≡◌, ◌↔◌, if◌then◌else◌, ℕ, zero, suc, ◌+◌, ◌-◌, ◌*◌, ◌^◌, ◌<◌, ◌≤◌, Bool, true, false, Option, Some, None, List, [], ◌∷◌, ◌++◌, ◌⊎◌, inl, inr, ⊎_elim, length, map, get_or, sym, ap, ◌∙◌, subst, refl, arith, append_assoc}
+use Rattle.std.proofs.Common.{Result, Ok, Err, Vec, ◌≡◌, ◌≢◌, ◌↔◌, if◌then◌else◌, ℕ, zero, suc, ◌+◌, ◌-◌, ◌*◌, ◌^◌, ◌<◌, ◌≤◌, Bool, true, false, Option, Some, None, List, [], ◌∷◌, ◌++◌, ◌⊎◌, inl, inr, ⊎_elim, length, map, get_or, sym, ap, ◌∙◌, subst, refl, arith, append_assoc}
 use Rattle.varisat_theory.specs.Membership.{◌∈◌}
 use Rattle.varisat_theory.specs.Literals.{Literal, Clause, Assignment, variable_of, literal_of, IsSatisfiableWith, IsFailedCore}
 use Rattle.varisat_literals.specs.Numbers.{polarity_of}
@@ -556,6 +556,14 @@ pub told-refuted : (g : Summary) (s : State) → StandsFor g s → g.ledger.vali
 told-refuted g s st v e = let (w, k) = st.fits v in unsat-told w.identity (spaces g).model (translation w (spaces g) s.told)
     (spaces g).search.fixed k.holds.held (spaces g).outcome s.verdict e k.verdict k.holds.told
 
+-- a core is not empty
+pub core-not-empty : (id : ℕ → Option ℕ) (m : ℕ → Bool) (o : Outcome) (x : Verdict) (list : List Literal) → x ≡ UnsatUnderAssumptions list →
+    VerdictFits id m o x → list ≢ []
+core-not-empty id m outcome.Unknown x list e f = absurd (subst (VerdictFits id m outcome.Unknown) e f)
+core-not-empty id m (outcome.Sat found) x list e f = absurd (subst (VerdictFits id m (outcome.Sat found)) e f)
+core-not-empty id m outcome.Unsat x list e f = absurd (subst (VerdictFits id m outcome.Unsat) e f)
+core-not-empty id m (outcome.UnsatUnder found) x list e f = subst (VerdictFits id m (outcome.UnsatUnder found)) e f
+
 pub known-told : (g : Summary) (s : State) (b : Bool) → StandsFor g s → g.ledger.valid ≡ true → answer_at g.sat_state ≡ Some b → TellsVerdict s b s
 known-told g s b st v e =
     let a = answers-alike g s st v ∙ e in
@@ -583,6 +591,7 @@ known-told g s b st v e =
       };
       told = let z : 0 ≡ s.ledger.steps - s.ledger.steps = omega arith in subst (λ n. TellsMore n s.told s.told) z (tells-nothing s.told);
       refuted = told-refuted g s st v;
+      core = λ list h. let (w, k) = st.fits v in core-not-empty w.identity (spaces g).model (spaces g).outcome s.verdict list h k.verdict;
     }
 
 pub false-right : (g : Summary) (s : State) → StandsFor g s → g.ledger.valid ≡ true → answer_at g.sat_state ≡ Some false →

@@ -46,7 +46,7 @@ use Rattle.varisat.proofs.OpenProofs.{goes-on-none, open-before}
 use Rattle.varisat.proofs.PlainTables.{assumed-named}
 use Rattle.varisat.proofs.PlainTold.{proof-quiet, proof-through}
 use Rattle.varisat.proofs.SearchVerdicts.{kept-on}
-use Rattle.varisat.proofs.SolverCalls.{comes-made, answers-fit, unsat-told}
+use Rattle.varisat.proofs.SolverCalls.{comes-made, answers-fit, unsat-told, core-not-empty}
 use Rattle.varisat.proofs.ToldEntries.{tells-nothing, stays-nothing}
 use Rattle.varisat.proofs.VariablesInUse.{same-in-use}
 use Rattle.varisat.proofs.VerdictAnswers.{right-false}
@@ -282,6 +282,8 @@ module _ {A : Type 0} {k : ℕ} {s : State} {p q : ProofParts} (m : Tables) (y :
     rest = like-grown (after-solve c.told c.verdict n s.proof s) now grows;
     told = subst (λ j. TellsMore j s.told c.told) made c.more;
     refuted = comes-refuted m y c;
+    core = λ list e. let (w, l) = c.fits in
+        core-not-empty w.identity (spaces_with m q.checker y).model (spaces_with m q.checker y).outcome c.verdict list e l.verdict;
   }
 
   pub comes-interrupted : IsValid s → s.verdict ≡ Unknown → CountsSteps

@@ -119,6 +119,7 @@ proof-of g s st v p e =
     record {
       lines = w.lines;
       written = w.bytes;
+      same = λ h. sym (w.all h);
       derives = λ h. subst (IsDerivation s.clauses) (w.all h) (j.derives h);
       refutes = λ h a. subst (Refutes s.clauses) (w.all h) (j.refutes h (open-refuted g s st v (p, e) a));
     }

@@ -246,6 +246,8 @@ pub record TellsVerdict (s : State) (b : Bool) (t : State) : Type 0 where
   pub told : TellsMore (t.ledger.steps - s.ledger.steps) s.told t.told
   -- under Unsat propagation over what is held conflicts
   pub refuted : t.verdict ≡ Unsat → ToldConflict t.told
+  -- a core that was found is not empty
+  pub core : (list : List Literal) → t.verdict ≡ UnsatUnderAssumptions list → list ≢ []
 
 -- The steps are spent before a verdict is known. The search can go on from there.
 pub record IsInterrupted (s t : State) : Type 0 where

@@ -2,12 +2,17 @@
 use Rattle.std.specs.Prelude.{◌≡◌, ℕ, ◌+◌, ◌-◌, ◌<◌, ◌≤◌, Bool, true, false, Option, Some, None, List, [], ◌∷◌, ◌++◌, Result, Ok, Err, map, length, ◌⊎◌}
 use Rattle.std.specs.declared.alloc.AllocError.{AllocError}
 use Rattle.varisat_theory.specs.Literals.{Literal, Clause, variable_of, IsSatisfiable, IsSatisfiableWith, IsFailedCore}
+use Rattle.varisat_theory.specs.Counted.{added}
+use Rattle.varisat_theory.specs.NewClauses.{GoesOnAdding}
+use Rattle.varisat_theory.specs.Journals.{Entry, NoneLeaves}
+use Rattle.varisat_theory.specs.Journals as entry
 use Rattle.varisat_formula.specs.Streams.{Stand, Taken}
 use Rattle.varisat_proof.specs.declared.proof.format.ProofFormat.{ProofFormat}
 use Rattle.varisat_names.specs.declared.config.SolverConfigUpdate.{SolverConfigUpdate}
 use Rattle.varisat_names.specs.Settings.{Settings, default_settings, updated_settings}
 use Rattle.varisat.specs.Names.{Naming, no_names, name_one, name_all, through_names, IsLeastFree, IsFirstWitness}
 use Rattle.varisat.specs.States.{join_counted}
+use Rattle.varisat.specs.Journals.{TellsMore, ToldConflict}
 use Rattle.varisat.specs.ProofBytes.{AreBytesOfProof}
 use Rattle.varisat.specs.Budgets.{CountsSteps}
 use Rattle.varisat.specs.Models.{IsCompletable, AreNamesInUse}
@@ -18,11 +23,13 @@ use Rattle.varisat.specs.declared.solver.SolverError.{SolverError}
 use Rattle.varisat.specs.declared.solver.SolverError.TheVariants.{Interrupted, ProofIoError, OutOfMemory, Invalid, ClauseStoreFull, WitnessVar, VariableLimit, ClauseAfterSolve, ProofOpen, ProofTooLate}
 use Rattle.varisat_literals.specs.Numbers.{variable_limit}
 
--- An open proof: its format, the bytes that its target had when it was opened, and whether `solve` was called under it.
+-- An open proof: its format, the bytes that its target had when it was opened, whether `solve` was called under it, and how many
+-- steps such calls made that were interrupted.
 pub record PastProof : Type 0 where
   pub format : ProofFormat
   pub first : List ℕ
   pub searched : Bool
+  pub interrupted_steps : ℕ
 
 -- Clauses and assumptions are kept over identities, as the names that were in use carried them when they were given: a name that
 -- becomes free may come back for another variable, and what was said before still speaks of the first.
@@ -32,7 +39,8 @@ pub record PastProof : Type 0 where
 -- last. `counted`: the different identities that these clauses and all lists of assumptions so far name. `has_model`: `solve`
 -- returned true, and no clause was accepted and nothing assumed since. `has_core`: it returned false, and nothing was assumed
 -- since. `steps`: how many steps were made in all. `since`: how many of them since the last call that was not refused and did more
--- than to solve or to tell something. `settings`: those by which further steps are made. `proof`: the proof that is open.
+-- than to solve or to tell something. `settings`: those by which further steps are made. `told`: what a proof that was opened at
+-- the beginning would have been told, over identities, as long as `valid`. `proof`: the proof that is open.
 pub record Past : Type 0 where
   pub valid : Bool
   pub started : Bool
@@ -46,6 +54,7 @@ pub record Past : Type 0 where
   pub steps : ℕ
   pub since : ℕ
   pub settings : Settings
+  pub told : List Entry
   pub proof : Option PastProof
 
 -- before the first call
@@ -63,6 +72,7 @@ empty_past = record {
   steps = 0;
   since = 0;
   settings = default_settings;
+  told = [];
   proof = None;
 }
 
@@ -82,7 +92,21 @@ HasOpenProof p = (o : PastProof) × (p.proof ≡ Some o)
 abbrev pub count_anew : Past → Past
 count_anew p = record p { since = 0 }
 
--- The names of the clause come into use, and it is accepted as they carry it to identities.
+-- the same past once more was told
+abbrev pub retold : List Entry → Past → Past
+retold told p = record p { told = told }
+
+-- The past q is p, but for what a call tells beside, entries that add no clause that counts. Variables left only where they may.
+pub record IsLikeButLeft (may_leave : Bool) (p q : Past) : Type 0 where
+  pub same : q ≡ retold q.told p
+  pub told : TellsMore 0 p.told q.told
+  pub stays : may_leave ≡ false → NoneLeaves told.entries
+
+-- so it is, and none left
+abbrev pub IsLike : Past → Past → Type 0
+IsLike p q = IsLikeButLeft false p q
+
+-- The names of the clause come into use, and it is accepted, and told so, as they carry it to identities.
 abbrev pub accept : Clause → Past → Past
 accept c p =
     let named : Naming = name_all c p.naming in
@@ -94,6 +118,7 @@ accept c p =
       counted = join_counted p.counted (map variable_of carried);
       has_model = false;
       since = 0;
+      told = p.told ++ entry.Accepts carried ∷ [];
     }
 
 -- `solve` was called under an open proof
@@ -102,7 +127,7 @@ IsSearched p = (o : PastProof) × (p.proof ≡ Some o) × (o.searched ≡ true)
 
 -- A clause is taken: it is accepted; or nothing changes, but that steps are counted anew; this happens only once no assignment satisfies those before it.
 pub data TakesClause (p : Past) (c : Clause) (q : Past) : Type 0 where
-  Accepted : (IsSearched p → ⊥) → MayConstrain p.naming c → q ≡ accept c p → TakesClause p c q
+  Accepted : (IsSearched p → ⊥) → MayConstrain p.naming c → IsLike (accept c p) q → TakesClause p c q
   Ignored : (IsSatisfiable p.clauses → ⊥) → q ≡ count_anew p → TakesClause p c q
 
 -- The clause is taken; or it is refused, for its names and before anything changes, or with an error after which nothing more is accepted.
@@ -133,7 +158,7 @@ AddsDimacs p old r new q = additions.AddsText adding p old r new q
 abbrev pub MakesVar : Past → Result ℕ SolverError → Past → Type 0
 MakesVar p (Ok u) q =
     (p.valid ≡ true) × IsLeastFree p.naming u × (u < variable_limit)
-    × (q ≡ record p { started = true; naming = name_one u p.naming; since = 0 })
+    × IsLike (record p { started = true; naming = name_one u p.naming; since = 0 }) q
 MakesVar p (Err Invalid) q = (p.valid ≡ false) × (q ≡ p)
 MakesVar p (Err VariableLimit) q = (p.valid ≡ true) × ((u : ℕ) × IsLeastFree p.naming u × ((variable_limit ≤ u) ⊎ IsCrowded (name_one u p.naming))) × (q ≡ p)
 MakesVar p (Err OutOfMemory) q = Invalidates p q
@@ -148,11 +173,11 @@ named = record {
   assumptions = λ p. p.assumptions;
   with_naming = λ m p. record p { naming = m; since = 0 };
   once_hidden = λ p. record p { ever_hidden = true };
-  like = λ _ p q. q ≡ p;
+  like = IsLikeButLeft;
   invalidates = Invalidates;
 }
 
--- The names of the list come into use, and it is assumed as they carry it to identities, in place of the one before.
+-- The names of the list come into use, and it is assumed, and told so, as they carry it to identities, in place of the one before.
 abbrev pub assume : List Literal → Past → Past
 assume list p =
     let named : Naming = name_all list p.naming in
@@ -165,11 +190,12 @@ assume list p =
       has_model = false;
       has_core = false;
       since = 0;
+      told = p.told ++ entry.Assumes carried ∷ [];
     }
 
 -- The list is assumed in place of the one before; or it is refused as a clause is, and the one before stays.
 abbrev pub Assumes : Past → List Literal → Result (Unit {0}) SolverError → Past → Type 0
-Assumes p list (Ok _) q = (p.valid ≡ true) × (p.proof ≡ None) × MayConstrain p.naming list × (q ≡ assume list p)
+Assumes p list (Ok _) q = (p.valid ≡ true) × (p.proof ≡ None) × MayConstrain p.naming list × IsLike (assume list p) q
 Assumes p list (Err Invalid) q = (p.valid ≡ false) × (q ≡ p)
 Assumes p list (Err ProofOpen) q = (p.valid ≡ true) × HasOpenProof p × (q ≡ p)
 Assumes p list (Err VariableLimit) q = (p.valid ≡ true) × (p.proof ≡ None) × (IsPastLimit list ⊎ IsCrowded (name_all list p.naming)) × (q ≡ p)
@@ -182,10 +208,11 @@ pub record IsUndecided (p : Past) : Type 0 where
   pub no_model : p.has_model ≡ false
   pub no_core : p.has_core ≡ false
 
--- the open proof, if any, as one under which `solve` was called
-abbrev pub searched_under : Option PastProof → Option PastProof
-searched_under None = None
-searched_under (Some o) = Some (record o { searched = true })
+-- The open proof, if any, as one under which `solve` was called. The number is how many steps the call made if it was
+-- interrupted, and else 0.
+abbrev pub searched_under : ℕ → Option PastProof → Option PastProof
+searched_under interrupted None = None
+searched_under interrupted (Some o) = Some (record o { searched = true; interrupted_steps = o.interrupted_steps + interrupted })
 
 -- how the steps are counted that a call makes before the verdict is known, by its answer
 abbrev pub CountsCall : Past → Result Bool SolverError → Past → Type 0
@@ -201,25 +228,35 @@ pub data CountsIfUnknown (p : Past) (r : Result Bool SolverError) (q : Past) : T
   Known : (p.has_model ≡ true) ⊎ ((p.has_core ≡ true) ⊎ (IsSatisfiable p.clauses → ⊥)) → q.steps ≡ p.steps → CountsIfUnknown p r q
   Searched : IsUndecided p → CountsCall p r q → CountsIfUnknown p r q
 
--- the same past, in which `solve` was called under an open proof
-abbrev pub once_searched : Past → Past
-once_searched p = record p { proof = searched_under p.proof }
+-- The past p once `solve` was called, which made the steps of q and told what q was told; the number is the open proof's.
+abbrev pub once_searched : ℕ → Past → Past → Past
+once_searched interrupted p q = retold q.told (with_steps q.steps (record p { proof = searched_under interrupted p.proof }))
+
+-- Of the clauses that an interrupted call told to be added at most as many count as it made steps, and at least as many are new: no
+-- clause that was held just before is a part of them. It tells nothing where it made no step.
+pub record IsInterrupted (p q : Past) : Type 0 where
+  pub told : TellsMore (q.steps - p.steps) p.told q.told
+  pub adds : GoesOnAdding (q.steps - p.steps) p.told told.entries
+  pub still : q.steps ≡ p.steps → q.told ≡ p.told
 
 -- True is returned only if some assignment satisfies the clauses and the assumptions, false only if none does. A call is
--- interrupted only where its steps are spent, and neither a model nor a core was found last. An open proof is one then under
--- which `solve` was called. Its target may fail in a step, or as it is flushed.
+-- interrupted only where its steps are spent, and neither a model nor a core was found last. Of the clauses that it tells to be
+-- added at most as many count as it made steps; where it returns false and nothing is assumed propagation over what is held then
+-- conflicts. An open proof is one then under which `solve` was called. Its target may fail in a step, or as it is flushed.
 abbrev pub Solves : Past → Result Bool SolverError → Past → Type 0
 Solves p (Ok true) q =
     (p.valid ≡ true) × IsSatisfiableWith p.clauses p.assumptions × CountsIfUnknown p (Ok true) q
-    × (q ≡ record (with_steps q.steps (once_searched p)) { has_model = true; has_core = false })
+    × TellsMore (q.steps - p.steps) p.told q.told × (q ≡ record (once_searched 0 p q) { has_model = true; has_core = false })
 Solves p (Ok false) q =
     (p.valid ≡ true) × (IsSatisfiableWith p.clauses p.assumptions → ⊥) × CountsIfUnknown p (Ok false) q
-    × (q ≡ record (with_steps q.steps (once_searched p)) { has_model = false; has_core = true })
+    × TellsMore (q.steps - p.steps) p.told q.told × (p.assumptions ≡ [] → ToldConflict q.told)
+    × (q ≡ record (once_searched 0 p q) { has_model = false; has_core = true })
 Solves p (Err Invalid) q = (p.valid ≡ false) × (q ≡ p)
 Solves p (Err OutOfMemory) q = IsUndecided p × CountsCall p (Err OutOfMemory) q × Invalidates (with_steps q.steps p) q
 Solves p (Err ClauseStoreFull) q = IsUndecided p × CountsCall p (Err ClauseStoreFull) q × Invalidates (with_steps q.steps p) q
 Solves p (Err (ProofIoError cause)) q = HasOpenProof p × CountsIfUnknown p (Err (ProofIoError cause)) q × Invalidates (with_steps q.steps p) q
-Solves p (Err Interrupted) q = (p.valid ≡ true) × IsUndecided p × CountsCall p (Err Interrupted) q × (q ≡ with_steps q.steps (once_searched p))
+Solves p (Err Interrupted) q =
+    (p.valid ≡ true) × IsUndecided p × CountsCall p (Err Interrupted) q × IsInterrupted p q × (q ≡ once_searched (q.steps - p.steps) p q)
 Solves p (Err _) q = ⊥
 
 -- A model is told where one was found last, and nothing in an invalid solver: exactly the names in use, such that some assignment
@@ -244,7 +281,7 @@ with_update u p = record p { since = 0; settings = updated_settings p.settings u
 
 -- a proof is open now, whose target has these bytes
 abbrev pub opened : ProofFormat → List ℕ → Past → Past
-opened format first p = record p { proof = Some (record { format = format; first = first; searched = false }); since = 0 }
+opened format first p = record p { proof = Some (record { format = format; first = first; searched = false; interrupted_steps = 0 }); since = 0 }
 
 -- A proof opens before anything is accepted. Each refusal hands the target back, and changes nothing.
 abbrev pub ProofOpens : {W : Type 0} → (W → Taken) → W → ProofFormat → Past → Result (Unit {0}) (SolverError × W) → Past → Type 0
@@ -259,13 +296,15 @@ abbrev pub closed : Past → Past
 closed p = record p { proof = None; since = 0 }
 
 -- What a target took is what it had when the open proof was opened, and behind it the bytes of lines. As long as nothing was ever
--- hidden these lines are a derivation from the accepted clauses, and where `solve` returned false last they refute them.
+-- hidden these are all lines that were told, a derivation from the accepted clauses, and where `solve` returned false last they
+-- refute them; and at least as many of them add a clause as steps were made by interrupted calls since then.
 pub record HandsBack (p : Past) (taken : List ℕ) : Type 0 where
   pub opened : PastProof
   pub is_open : p.proof ≡ Some opened
   pub bytes : List ℕ
   pub behind : taken ≡ opened.first ++ bytes
-  pub proof : AreBytesOfProof opened.format bytes p.ever_hidden p.clauses (p.has_core ≡ true)
+  pub proof : AreBytesOfProof opened.format bytes p.ever_hidden p.told p.clauses (p.has_core ≡ true)
+  pub enough : p.ever_hidden ≡ false → opened.interrupted_steps ≤ added proof.lines
 
 -- where a proof is open its target comes back, and else none
 abbrev pub HandsBackIf : {W : Type 0} → (W → Taken) → Past → Option W → Type 0

@@ -1,0 +1,232 @@
+-- What an answer of `solve` says of the state that a solver is in.
+use Rattle.std.proofs.Common.{◌≡◌, ◌≢◌, ℕ, ◌+◌, ◌-◌, ap₂, Bool, true, false, not, List, [], ◌∷◌, ◌⊎◌, inl, inr, ⊎_elim, sym, ap, ◌∙◌, subst, refl, Some, None, Result, Ok, Err, length}
+use Rattle.std.proofs.lemmas.Bool.{not-true, false_from_ne_true}
+use Rattle.varisat_theory.specs.Membership.{◌⊆◌}
+use Rattle.varisat_theory.specs.Literals.{Literal, SatisfiesAll, MakesTrue, IsSatisfiable, IsSatisfiableWith}
+use Rattle.varisat_theory.specs.NewClauses.{GoesOnAdding}
+use Rattle.varisat_names.specs.Settings.{Settings}
+use Rattle.varisat.specs.OpenProofs.{searched_under}
+use Rattle.varisat.specs.States.{State, Verdict, Unknown, Sat, Unsat, UnsatUnderAssumptions, IsRight}
+use Rattle.varisat.specs.Calls as state
+use Rattle.varisat.specs.Calls.{with_steps, answer_of}
+use Rattle.varisat.specs.Journals.{TellsMore, ToldConflict}
+use Rattle.varisat.specs.Budgets.{CountsSteps}
+use Rattle.varisat.specs.Pasts as past
+use Rattle.varisat.specs.Pasts.{Past, IsUndecided}
+use Rattle.varisat.specs.declared.solver.SolverError.{SolverError}
+use Rattle.varisat.specs.declared.solver.SolverError.TheVariants.{Interrupted, ProofIoError, OutOfMemory, Invalid, ClauseStoreFull, WitnessVar, VariableLimit, AssumedVar, ClauseAfterSolve, ProofOpen, ProofTooLate, ConfigOutOfRange, Dimacs}
+use Rattle.varisat.proofs.VerdictAnswers.{is-unknown-or-not, answer-sat, right-false}
+use Rattle.varisat.proofs.PastJournals.{told-more, told-searched, told-interrupted, from-said, interrupted-past}
+use Rattle.varisat.proofs.Pasts.{IsCapped, Knows, Agrees, Leads, knows-of, stays, refuted, has-open, right-like}
+
+-- the steps since the last change
+since-told : (p : Past) (s t : State) → Agrees p s → t.ledger.since ≡ s.ledger.since + (t.ledger.steps - s.ledger.steps) →
+    t.ledger.since ≡ p.since + (t.ledger.steps - p.steps)
+since-told p s t g e = e ∙ ap₂ (λ x y. x + (t.ledger.steps - y)) g.since g.steps
+
+-- the past behind a call that made so many steps and was interrupted, or none of those
+abbrev searched : ℕ → Past → State → Past
+searched n p t = past.retold t.told (past.with_steps t.ledger.steps (record p { proof = past.searched_under n p.proof }))
+
+-- the past behind an answer, where the state has the verdict that was told
+solved : (p : Past) (s t : State) (b : Bool) → Agrees p s → Knows p s → state.TellsVerdict (state.once_searched s) b t →
+    Agrees (record (searched 0 p t) { has_model = b; has_core = not b }) t
+solved p s t b g k r =
+    let e = r.rest in
+    record {
+      valid = ap (λ x. x.valid) e.ledger ∙ g.valid;
+      started = ap (λ x. x.started) e.ledger ∙ g.started;
+      steps = refl;
+      since = since-told p s t g (ap (λ x. x.since) e.ledger);
+      settings = ap (λ x. x.settings) e.ledger ∙ g.settings;
+      knows = λ _. record {
+        naming = e.naming ∙ k.naming;
+        hidden = e.ever_hidden ∙ k.hidden;
+        capped = subst IsCapped (sym e.naming) k.capped;
+        clauses = e.clauses ∙ k.clauses;
+        assumed = e.assumptions ∙ k.assumed;
+        counted = e.counted ∙ k.counted;
+        model = λ x. r.answer ∙ ap Some x;
+        found = λ x. told-true b (sym r.answer ∙ x);
+        failed = λ x. r.answer ∙ ap Some (not-true b x);
+        core = λ l h. told-false b (sym r.answer ∙ ap answer_of h);
+        told = told-more (t.ledger.steps - s.ledger.steps) s.told t.told p.told (searched_under s.proof) t.proof (past.searched_under 0 p.proof)
+            (told-searched s.told s.proof p.told p.proof k.told) r.told e.proof;
+        right = r.right;
+      };
+    }
+  where
+    told-true : (b : Bool) → Some b ≡ Some true → b ≡ true
+    told-true b e = cc
+
+    told-false : (b : Bool) → Some b ≡ Some false → not b ≡ true
+    told-false b e = let z : b ≡ false = cc in ap not z
+
+-- the steps of a call under the verdict Unknown
+counts : (p : Past) (s t : State) (r : Result Bool SolverError) → Agrees p s → Knows p s → state.CountsCall s r t →
+    CountsSteps (length p.counted) p.settings.max_steps p.since p.steps t.ledger.steps r
+counts p s t r g k c =
+    subst (λ (xs : List ℕ). CountsSteps (length xs) p.settings.max_steps p.since p.steps t.ledger.steps r) k.counted
+    (subst (λ (x : Settings). CountsSteps (length s.counted) x.max_steps p.since p.steps t.ledger.steps r) g.settings
+    (subst (λ x. CountsSteps (length s.counted) s.ledger.settings.max_steps x p.steps t.ledger.steps r) g.since
+    (subst (λ x. CountsSteps (length s.counted) s.ledger.settings.max_steps s.ledger.since x t.ledger.steps r) g.steps c)))
+
+-- neither a model nor a core was found last where the verdict is unknown
+no-model-yet : (p : Past) (s : State) → Knows p s → s.verdict ≡ Unknown → p.has_model ≡ false
+no-model-yet p s k u = false_from_ne_true p.has_model (λ e. let z : None ≡ Some true = ap answer_of (sym u) ∙ k.model e in cc)
+
+no-core-yet : (p : Past) (s : State) → Knows p s → s.verdict ≡ Unknown → p.has_core ≡ false
+no-core-yet p s k u = false_from_ne_true p.has_core (λ e. let z : None ≡ Some false = ap answer_of (sym u) ∙ k.failed e in cc)
+
+undecided : (p : Past) (s : State) → Knows p s → s.verdict ≡ Unknown → IsUndecided p
+undecided p s k u = record { no_model = no-model-yet p s k u; no_core = no-core-yet p s k u }
+
+-- and where it is known a model or a core was, or no assignment satisfies the clauses
+known-by : (p : Past) (s : State) → Knows p s → s.verdict ≢ Unknown → (p.has_model ≡ true) ⊎ ((p.has_core ≡ true) ⊎ (IsSatisfiable p.clauses → ⊥))
+known-by p s k n = go s.verdict refl
+  where
+    go : (v : Verdict) → s.verdict ≡ v → (p.has_model ≡ true) ⊎ ((p.has_core ≡ true) ⊎ (IsSatisfiable p.clauses → ⊥))
+    go Unknown e = absurd (n e)
+    go (Sat a) e = inl (k.found (ap answer_of e))
+    go Unsat e = inr (inr (refuted p s k e))
+    go (UnsatUnderAssumptions core) e = inr (inl (k.core core e))
+
+-- how the steps are counted of a call whether or not the verdict is known
+counted-if : (p q : Past) (s t : State) (r : Result Bool SolverError) → Agrees p s → Knows p s → q.steps ≡ t.ledger.steps →
+    (s.verdict ≢ Unknown → t.ledger.steps ≡ s.ledger.steps) → (s.verdict ≡ Unknown → state.CountsCall s r t) → past.CountsIfUnknown p r q
+counted-if p q s t r g k e known unknown =
+    ⊎_elim
+    (λ u. past.Searched (undecided p s k u)
+    (subst (λ n. CountsSteps (length p.counted) p.settings.max_steps p.since p.steps n r) (sym e) (counts p s t r g k (unknown u))))
+    (λ n. past.Known (known-by p s k n) (e ∙ known n ∙ g.steps))
+    (is-unknown-or-not s.verdict)
+
+-- some assignment satisfies the clauses and the assumptions where true is returned
+some-with : (p : Past) (s t : State) → Knows p s → state.TellsVerdict (state.once_searched s) true t → IsSatisfiableWith p.clauses p.assumptions
+some-with p s t k r =
+    let (a, e) = answer-sat t.verdict r.answer in
+    let right = subst (IsRight t.clauses t.assumptions t.counted) e r.right in
+    (a, subst (SatisfiesAll a) (r.rest.clauses ∙ k.clauses) right.0, subst (MakesTrue a) (r.rest.assumptions ∙ k.assumed) right.1)
+
+-- what was told refutes where false is returned and nothing assumed
+conflict-told : (p : Past) (s t : State) → Knows p s → state.TellsVerdict (state.once_searched s) false t → p.assumptions ≡ [] → ToldConflict t.told
+conflict-told p s t k r n = go t.verdict refl
+  where
+    none : (list : List Literal) → list ⊆ [] → list ≡ []
+    none [] h = refl
+    none (l ∷ list) h = absurd (h l (inl refl))
+
+    go : (v : Verdict) → t.verdict ≡ v → ToldConflict t.told
+    go Unknown e = absurd (let z : None ≡ Some false = ap answer_of (sym e) ∙ r.answer in cc)
+    go (Sat a) e = absurd (let z : Some true ≡ Some false = ap answer_of (sym e) ∙ r.answer in let y : true ≡ false = cc in cc)
+    go Unsat e = r.refuted e
+    go (UnsatUnderAssumptions list) e =
+        let fails = subst (IsRight t.clauses t.assumptions t.counted) e r.right in
+        absurd (r.core list e (none list (subst (λ A. list ⊆ A) (r.rest.assumptions ∙ k.assumed ∙ n) fails.0)))
+
+-- and none does where false is
+none-with : (p : Past) (s t : State) → Knows p s → state.TellsVerdict (state.once_searched s) false t → IsSatisfiableWith p.clauses p.assumptions → ⊥
+none-with p s t k r =
+    subst (λ P. IsSatisfiableWith P p.assumptions → ⊥) (r.rest.clauses ∙ k.clauses)
+    (subst (λ A. IsSatisfiableWith t.clauses A → ⊥) (r.rest.assumptions ∙ k.assumed) (right-false t.clauses t.assumptions t.counted t.verdict r.answer r.right))
+
+-- no way leads back, and steps were counted
+breaks-after : (p : Past) (s t : State) → Agrees p s → state.Invalidates (with_steps t.ledger.steps s) t →
+    past.Invalidates (past.with_steps t.ledger.steps p) (record (past.with_steps t.ledger.steps p) { valid = false })
+    × Agrees (record (past.with_steps t.ledger.steps p) { valid = false }) t
+breaks-after p s t g b = (
+  (sym g.valid ∙ b.valid, refl),
+  record {
+    valid = ap (λ x. x.valid) b.ledger;
+    started = ap (λ x. x.started) b.ledger
+        ∙ g.started;
+    steps = refl;
+    since = since-told p s t g (ap (λ x. x.since) b.ledger);
+    settings = ap (λ x. x.settings) b.ledger
+        ∙ g.settings;
+    knows = λ e. absurd cc;
+  },
+)
+
+-- as many clauses count as steps were made, by the past's own numbers
+steps-told : (p : Past) (s t : State) → Agrees p s → Knows p s → TellsMore (t.ledger.steps - s.ledger.steps) s.told t.told →
+    TellsMore (t.ledger.steps - p.steps) p.told t.told
+steps-told p s t g k m = from-said (t.ledger.steps - s.ledger.steps) (t.ledger.steps - p.steps) s.told t.told p.told k.told.same
+    (ap (λ n. t.ledger.steps - n) g.steps) m
+
+-- a call is interrupted
+interrupted : (p : Past) (s t : State) → Knows p s → (made : ℕ) → t.ledger.steps - s.ledger.steps ≡ made → state.IsInterrupted (state.once_searched s) t →
+    Knows (searched made p t) t
+interrupted p s t k made z r =
+    let e = r.rest in
+    record {
+      naming = e.naming ∙ k.naming;
+      hidden = e.ever_hidden ∙ k.hidden;
+      capped = subst IsCapped (sym e.naming) k.capped;
+      clauses = e.clauses ∙ k.clauses;
+      assumed = e.assumptions ∙ k.assumed;
+      counted = e.counted ∙ k.counted;
+      model = λ x. ap answer_of e.verdict ∙ k.model x;
+      found = λ x. k.found (sym (ap answer_of e.verdict) ∙ x);
+      failed = λ x. ap answer_of e.verdict ∙ k.failed x;
+      core = λ l h. k.core l (sym e.verdict ∙ h);
+      told = told-interrupted made (t.ledger.steps - s.ledger.steps) s.told t.told p.told s.proof t.proof p.proof k.told r.told
+          (subst (λ n. GoesOnAdding n s.told r.told.entries) z r.adds) e.proof;
+      right = right-like t s.clauses s.assumptions s.counted s.verdict e.clauses e.assumptions e.counted e.verdict k.right;
+    }
+
+-- and tells its lines
+interrupted-told : (p : Past) (s t : State) (n : ℕ) → Agrees p s → Knows p s → state.IsInterrupted (state.once_searched s) t →
+    past.IsInterrupted p (searched n p t)
+interrupted-told p s t n g k r = interrupted-past p (searched n p t) (t.ledger.steps - s.ledger.steps) s.told k.told.same
+    (ap (λ n. t.ledger.steps - n) g.steps) r.told r.adds (λ e. ap (λ (x : State). x.told) (r.still (e ∙ sym g.steps)) ∙ k.told.same)
+
+pub solve : (p : Past) (s t : State) (r : Result Bool SolverError) → Agrees p s → state.Solves s r t → Leads (past.Solves p r) t
+solve p s t (Ok true) g r =
+    let v = sym g.valid ∙ r.valid in
+    let k = g.knows v in
+    let q : Past = record (searched 0 p t) { has_model = true; has_core = false } in
+    let few = counted-if p q s t (Ok true) g k refl (λ n. (r.known n).1) r.steps in
+    (q, (v, some-with p s t k r, few, steps-told p s t g k r.told, refl), solved p s t true g k r)
+solve p s t (Ok false) g r =
+    let v = sym g.valid ∙ r.valid in
+    let k = g.knows v in
+    let q : Past = record (searched 0 p t) { has_model = false; has_core = true } in
+    let few = counted-if p q s t (Ok false) g k refl (λ n. (r.known n).1) r.steps in
+    (q, (v, none-with p s t k r, few, steps-told p s t g k r.told, conflict-told p s t k r, refl), solved p s t false g k r)
+solve p s t (Err OutOfMemory) g (u, c, b) =
+    let k = knows-of p s g b.valid in
+    let (invalid, h) = breaks-after p s t g b in
+    (record (past.with_steps t.ledger.steps p) { valid = false }, (undecided p s k u, counts p s t (Err OutOfMemory) g k c, invalid), h)
+solve p s t (Err ClauseStoreFull) g (u, c, b) =
+    let k = knows-of p s g b.valid in
+    let (invalid, h) = breaks-after p s t g b in
+    (record (past.with_steps t.ledger.steps p) { valid = false }, (undecided p s k u, counts p s t (Err ClauseStoreFull) g k c, invalid), h)
+solve p s t (Err (ProofIoError cause)) g (o, c, b) =
+    let k = knows-of p s g b.valid in
+    let (invalid, h) = breaks-after p s t g b in
+    let q = record (past.with_steps t.ledger.steps p) { valid = false } in
+    (q, (has-open p s k o, counted-if p q s t (Err (ProofIoError cause)) g k refl c.known c.unknown, invalid), h)
+solve p s t (Err Interrupted) g r =
+    let k = knows-of p s g r.valid in
+    let made = t.ledger.steps - p.steps in (
+      searched made p t,
+      (sym g.valid ∙ r.valid, undecided p s k r.unknown, counts p s t (Err Interrupted) g k r.steps, interrupted-told p s t made g k r, refl),
+      record {
+        valid = ap (λ x. x.valid) r.rest.ledger ∙ g.valid;
+        started = ap (λ x. x.started) r.rest.ledger ∙ g.started;
+        steps = refl;
+        since = since-told p s t g (ap (λ x. x.since) r.rest.ledger);
+        settings = ap (λ x. x.settings) r.rest.ledger ∙ g.settings;
+        knows = λ v. interrupted p s t k made (ap (λ n. t.ledger.steps - n) g.steps) r;
+      },
+    )
+solve p s t (Err (WitnessVar u)) g r = absurd r
+solve p s t (Err (AssumedVar u)) g r = absurd r
+solve p s t (Err ClauseAfterSolve) g r = absurd r
+solve p s t (Err ProofOpen) g r = absurd r
+solve p s t (Err ProofTooLate) g r = absurd r
+solve p s t (Err (ConfigOutOfRange field)) g r = absurd r
+solve p s t (Err Invalid) g r = (p, (sym g.valid ∙ r.0, refl), stays p s t r.1 g)
+solve p s t (Err VariableLimit) g r = absurd r
+solve p s t (Err (Dimacs cause)) g r = absurd r

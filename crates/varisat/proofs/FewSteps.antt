@@ -163,7 +163,7 @@ module _ {X : Type 0} (by : CallRules X) (keeps : KeepsFew by) where
   along seen taken [] [] s h (suc k) t r = same s t r h
   along seen taken [] (a ∷ answers) s h (suc k) t r = absurd r
   along seen taken (c ∷ calls) [] s h (suc k) t r = absurd r
-  along seen taken (c ∷ calls) (a ∷ answers) s h (suc k) t (mid, m, r) = along seen taken calls answers mid (call-keeps seen taken c a s mid m h) k t r
+  along seen taken (c ∷ calls) (a ∷ answers) s h (suc k) t (mid, m, holds, r) = along seen taken calls answers mid (call-keeps seen taken c a s mid m h) k t r
 
 -- 2. States.
 

@@ -1,5 +1,5 @@
 -- What a run says of the answers alone.
-use Rattle.std.proofs.Common.{List, [], ◌∷◌, refl, ◌∙◌, Result, Ok, Err}
+use Rattle.std.proofs.Common.{◌≡◌, true, List, [], ◌∷◌, sym, ap, subst, refl, ◌∙◌, Result, Ok, Err}
 use Rattle.std.specs.Result.{IfOk}
 use Rattle.varisat_formula.specs.Streams.{Stand, Taken}
 use Rattle.varisat.specs.declared.session.Call.{Call}
@@ -7,6 +7,10 @@ use Rattle.varisat.specs.declared.session.Answer.{Answer}
 use Rattle.varisat.specs.declared.session.Call.TheVariants as call
 use Rattle.varisat.specs.declared.session.Answer.TheVariants as answer
 use Rattle.varisat.specs.States.{State, empty_state}
+use Rattle.varisat_theory.specs.Journals.{NoneLeaves, accepted_of}
+use Rattle.varisat.specs.Journals.{IsJournal}
+use Rattle.varisat.specs.Calls.{IsValid}
+use Rattle.varisat.specs.Pasts as past
 use Rattle.varisat.specs.Told.{told_list, told_vars}
 use Rattle.varisat.specs.Names.{Sample, Witness}
 use Rattle.varisat.specs.Runs.{MakesCall, Run}
@@ -44,15 +48,25 @@ is-true seen taken call.CloseProof (answer.CloseProof r) p s t g m = close taken
 is-true seen taken call.EnableSelfChecking (answer.EnableSelfChecking r) p s t g m = enable-checking p s t r g m
 is-true seen taken _ _ p s t g m = absurd m
 
+-- what was told is the past's journal, as it is the state's
+past-journal : (p : Past) (s : State) → Agrees p s → (IsValid s → IsJournal s) → p.valid ≡ true → past.IsJournal p
+past-journal p s g told v =
+    let k = g.knows v in
+    let j = told (g.valid ∙ v) in
+    record {
+      accepted = ap accepted_of (sym k.told.same) ∙ j.accepted ∙ k.clauses;
+      stays = λ n. subst NoneLeaves k.told.same (j.stays (k.hidden ∙ n));
+    }
+
 are-true : {W S A : Type 0} (seen : S → Stand) (taken : W → Taken) (calls : List (Call W S A)) (answers : List (Answer W S A)) (p : Past)
     (s t : State) → Agrees p s → Run seen taken s calls answers t → AreTrue seen taken p calls answers
 are-true seen taken [] [] p s t g r = (p, refl)
 are-true seen taken [] (a ∷ answers) p s t g r = absurd r
 are-true seen taken (c ∷ calls) [] p s t g r = absurd r
-are-true seen taken (c ∷ calls) (a ∷ answers) p s t g (mid, m, r) =
+are-true seen taken (c ∷ calls) (a ∷ answers) p s t g (mid, m, told, r) =
     let (q, x, h) = is-true seen taken c a p s mid g m in
     let (last, rest) = are-true seen taken calls answers q mid t h r in
-    (last, (q, x, rest))
+    (last, (q, x, past-journal q mid h told, rest))
 
 -- each run of a new solver gives answers that are true
 pub run-is-true : {W S A : Type 0} (seen : S → Stand) (taken : W → Taken) (calls : List (Call W S A)) (answers : List (Answer W S A)) (t : State) →

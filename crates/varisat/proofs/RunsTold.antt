@@ -243,7 +243,7 @@ pub run-tells : {W S A : Type 0} (seen : S → Stand) (taken : W → Taken) (cal
 run-tells seen taken [] [] s t r w = tells-same s t r w
 run-tells seen taken [] (a ∷ answers) s t r w = absurd r
 run-tells seen taken (c ∷ calls) [] s t r w = absurd r
-run-tells seen taken (c ∷ calls) (a ∷ answers) s t (mid, m, r) w =
+run-tells seen taken (c ∷ calls) (a ∷ answers) s t (mid, m, told, r) w =
     let second = run-tells seen taken calls answers mid t r w in
     through s mid t (call-tells seen taken c a s mid m second.valid) second
 

@@ -1,16 +1,17 @@
 -- What the answers of a new solver say, with no state in between.
-use Rattle.std.specs.Prelude.{List}
+use Rattle.std.specs.Prelude.{◌≡◌, true, List}
 use Rattle.varisat_formula.specs.Streams.{Stand, Taken}
-use Rattle.varisat.specs.Pasts.{Past, adding, named, MakesVar, Assumes, Solves, TellsModel, TellsCore, with_update, ProofOpens, ProofCloses}
+use Rattle.varisat.specs.Pasts.{Past, IsJournal, adding, named, MakesVar, Assumes, Solves, TellsModel, TellsCore, with_update, ProofOpens, ProofCloses}
 use Rattle.varisat.specs.Turns.{CallRules, Makes, MakesInTurn}
 use Rattle.varisat.specs.declared.session.Call.{Call}
 use Rattle.varisat.specs.declared.session.Answer.{Answer}
 
--- what calls and their answers say
+-- what calls and their answers say; behind each call what was told is a journal of the past, as long as that is valid
 abbrev pub telling : CallRules Past
 telling = record {
   adding = adding;
   named = named;
+  holds = λ p. p.valid ≡ true → IsJournal p;
   makes_var = MakesVar;
   assumes = Assumes;
   solves = Solves;

@@ -4,7 +4,7 @@ use Rattle.std.specs.declared.alloc.AllocError.{AllocError}
 use Rattle.varisat_theory.specs.Literals.{Literal, Clause, variable_of, IsSatisfiable, IsSatisfiableWith, IsFailedCore}
 use Rattle.varisat_theory.specs.Counted.{added}
 use Rattle.varisat_theory.specs.NewClauses.{GoesOnAdding}
-use Rattle.varisat_theory.specs.Journals.{Entry, NoneLeaves}
+use Rattle.varisat_theory.specs.Journals.{Entry, NoneLeaves, accepted_of}
 use Rattle.varisat_theory.specs.Journals as entry
 use Rattle.varisat_formula.specs.Streams.{Stand, Taken}
 use Rattle.varisat_proof.specs.declared.proof.format.ProofFormat.{ProofFormat}
@@ -75,6 +75,11 @@ empty_past = record {
   told = [];
   proof = None;
 }
+
+-- The clauses that were told to be accepted are those accepted, in order. Where nothing was ever hidden no variable left.
+pub record IsJournal (p : Past) : Type 0 where
+  pub accepted : accepted_of p.told ≡ p.clauses
+  pub stays : p.ever_hidden ≡ false → NoneLeaves p.told
 
 -- whether no call failed from which there is no way back
 abbrev pub is_valid : Past → Bool

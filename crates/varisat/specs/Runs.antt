@@ -2,7 +2,8 @@
 use Rattle.std.specs.Prelude.{◌-◌, ◌^◌, ◌<◌, List, [], ◌∷◌}
 use Rattle.varisat_formula.specs.Streams.{Stand, Taken}
 use Rattle.varisat.specs.States.{State}
-use Rattle.varisat.specs.Calls.{adding, MakesVar, Assumes, Solves, TellsModel, TellsCore, with_update}
+use Rattle.varisat.specs.Journals.{IsJournal}
+use Rattle.varisat.specs.Calls.{adding, IsValid, MakesVar, Assumes, Solves, TellsModel, TellsCore, with_update}
 use Rattle.varisat.specs.OpenProofs.{IsDrat}
 use Rattle.varisat.specs.ProofCalls.{OpensProof, ClosesProof}
 use Rattle.varisat.specs.VariableCalls.{named}
@@ -11,11 +12,12 @@ use Rattle.varisat.specs.declared.session.Call.{Call}
 use Rattle.varisat.specs.declared.session.Answer.{Answer}
 use Rattle.varisat.specs.declared.session.Call.TheVariants as call
 
--- the calls of a solver
+-- the calls of a solver; behind each what was told is right, as long as the state is valid
 abbrev pub calling : CallRules State
 calling = record {
   adding = adding;
   named = named;
+  holds = λ s. IsValid s → IsJournal s;
   makes_var = MakesVar;
   assumes = Assumes;
   solves = Solves;

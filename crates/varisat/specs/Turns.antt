@@ -18,13 +18,14 @@ use Rattle.varisat.specs.declared.session.Answer.{Answer}
 use Rattle.varisat.specs.declared.session.Call.TheVariants as call
 use Rattle.varisat.specs.declared.session.Answer.TheVariants as answer
 
--- How calls move something, and with which answers: how clauses are added to it, how its names are used, and each further call
--- that can be refused; what an update of the settings makes of it, whether a clause, a variable or a list of assumptions was
--- accepted, how many steps were made, how many of them since the last change, and which variables are counted; and how a proof
--- opens and closes, where it is known what each target took.
+-- How calls move something, and with which answers: how clauses are added to it, how its names are used, what holds behind each
+-- call, and each further call that can be refused; what an update of the settings makes of it, whether a clause, a variable or a
+-- list of assumptions was accepted, how many steps were made, how many of them since the last change, and which variables are
+-- counted; and how a proof opens and closes, where it is known what each target took.
 pub record CallRules (X : Type 0) : Type 1 where
   pub adding : additions.Adding X
   pub named : usage.Named X
+  pub holds : X → Type 0
   pub makes_var : X → Result ℕ SolverError → X → Type 0
   pub assumes : X → List Literal → Result (Unit {0}) SolverError → X → Type 0
   pub solves : X → Result Bool SolverError → X → Type 0
@@ -64,8 +65,8 @@ module _ {X : Type 0} (by : CallRules X) where
       EnablesChecking by.adding.valid by.started by.adding.count_anew s r t
   Makes seen taken s _ _ t = ⊥
 
-  -- the calls in turn get the answers in turn, one each, and lead to t
+  -- the calls in turn get the answers in turn, one each, and lead to t; behind each of them what `holds` says is so
   abbrev pub MakesInTurn : {W S A : Type 0} → (S → Stand) → (W → Taken) → X → List (Call W S A) → List (Answer W S A) → X → Type 0
   MakesInTurn seen taken s [] [] t = t ≡ s
-  MakesInTurn seen taken s (c ∷ cs) (a ∷ answers) t = (mid : X) × Makes seen taken s c a mid × MakesInTurn seen taken mid cs answers t
+  MakesInTurn seen taken s (c ∷ cs) (a ∷ answers) t = (mid : X) × Makes seen taken s c a mid × by.holds mid × MakesInTurn seen taken mid cs answers t
   MakesInTurn seen taken s _ _ t = ⊥

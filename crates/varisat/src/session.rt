@@ -102,9 +102,10 @@ pub fn make_call<W: ProofTarget, S: ByteSource, A: Allocator + Copy>(
     }
 }
 
-/// Makes the calls in turn, and returns their answers in this order. At each moment fewer than 2^(2n+3) steps were made
-/// since the last change, where n variables are counted, if it was so before the first call. Err comes only before that
-/// call, where the list of answers was refused. Of what the calls are given the same is asked as by `make_call`.
+/// Makes the calls in turn, and returns their answers in this order. Behind each call what was told is right, as long as
+/// the solver is valid. At each moment fewer than 2^(2n+3) steps were made since the last change, where n variables are
+/// counted, if it was so before the first call. Err comes only before that call, where the list of answers was refused.
+/// Of what the calls are given the same is asked as by `make_call`.
 pub fn run<W: ProofTarget, S: ByteSource, A: Allocator + Copy>(
     solver: &mut Solver<W, A>,
     calls: Vec<Call<W, S, A>, A>,
@@ -124,8 +125,9 @@ pub fn run<W: ProofTarget, S: ByteSource, A: Allocator + Copy>(
 }
 
 /// The answers of a new solver to the calls. Each is true of what the calls and answers before it say: of the clauses
-/// that were accepted until then, those of formulas and texts among them, of the names in use, and of the steps since
-/// the last change, of which few were made at each moment. Of what the calls are given the same is asked as by `run`.
+/// that were accepted until then, those of formulas and texts among them, of the names in use, of what a proof would have
+/// been told, and of the steps since the last change, of which few were made at each moment. Of what the calls are given
+/// the same is asked as by `run`.
 pub fn answers_of<W: ProofTarget, S: ByteSource, A: Allocator + Copy>(
     calls: Vec<Call<W, S, A>, A>,
 ) -> Result<Vec<Answer<W, S, A>, A>, AllocError>

@@ -1,7 +1,9 @@
 use Rattle.std.proofs.Common.{◌≡◌, refl, ◌++◌, ◌∷◌, [], sym, ◌∙◌, ap, subst, arith, length, append_assoc, rules}
 use Rattle.std.proofs.lemmas.List.{nil_from_length, append-nil}
 use Rattle.std.specs.Vec.Iter.{into_iter_items}
+use Rattle.varisat.specs.States.{Ledger}
 use Rattle.varisat.specs.Runs.{Run, AreReady}
+use Rattle.varisat.proofs.ToldJournals.{journal-of}
 use Rattle.varisat.proofs.Runs.{run-push, ready-next}
 use Rattle.varisat.proofs.FewSteps.{run-stays-few}
 use Rattle.varisat.proofs.session.run.Goals as goal
@@ -29,8 +31,12 @@ pub loop-call-preserved : goal.loop-call-preserved
 loop-call-preserved g c = record {
   so_far = λ s st.
       let (t, r, q) = c.loop-call.invariant.so_far s st in
-      let (u, p, w) = c.make_call.ensures t q in
-      (u, rw c.push_reserved.ensures.items (run-push _ _ s t u c.loop-call.yielded c.loop-call.answers.items c.in-Some.call c.make_call.result r p), w);
+      let (u, p, w) = c.make_call.ensures t q in (
+        u,
+        rw c.push_reserved.ensures.items (run-push _ _ s t u c.loop-call.yielded c.loop-call.answers.items c.in-Some.call c.make_call.result r p
+            (λ v. journal-of _ u w (ap (λ (l : Ledger). l.valid) (sym w.ledger) ∙ v))),
+        w,
+      );
   room = omega (arith, c.loop-call.invariant.room, c.in-Some.ensures.steps.1, c.push_reserved.ensures.len, c.push_reserved.ensures.capacity);
   left = let e = ap length c.in-Some.ensures.steps.0 in omega (arith, e, c.loop-call.invariant.left, c.in-Some.ensures.steps.1);
   whole = append_assoc c.loop-call.yielded (c.in-Some.call ∷ []) _ ∙ ap (λ xs. c.loop-call.yielded ++ xs) (sym c.in-Some.ensures.steps.0)

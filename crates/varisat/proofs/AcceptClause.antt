@@ -18,17 +18,17 @@ use Rattle.varisat_search.specs.Seen.{search_of, outcome_of}
 use Rattle.varisat_search.specs.AssumptionParts.{AssumptionParts}
 use Rattle.varisat_search.specs.Loading.{loaded_outcome}
 use Rattle.varisat_search.specs.Steps.{assignment_of, reopened_state}
-use Rattle.varisat_names.specs.Maps.{chain}
+use Rattle.varisat_names.specs.Maps.{chain, updated}
 use Rattle.varisat_names.specs.VarMap.{at}
 use Rattle.varisat_names.specs.VarData.{fresh, kept_at}
 use Rattle.varisat_names.specs.Variables.{Tables, IsGiven, AreNextGiven, IsNamed, InUse, Free, Above, IsTaken}
 use Rattle.varisat_names.proofs.Maps.{updated-at, updated-other, updated-all, chain-some, chain-none, is-some}
 use Rattle.varisat_names.proofs.VarMap.{at-inside}
-use Rattle.varisat.specs.States.{State, Ledger, join_counted, Verdict, Unknown, Sat, Unsat, UnsatUnderAssumptions, IsRight}
+use Rattle.varisat.specs.States.{State, with_variables, Ledger, join_counted, Verdict, Unknown, Sat, Unsat, UnsatUnderAssumptions, IsRight}
 use Rattle.varisat.specs.Names.{Naming, bring, bring_next, bring_if_free, name_one, through_names}
 use Rattle.varisat.specs.Calls.{with_naming, VerdictAfter, Refuted, Reopened, append_clause, reopened_verdict, with_verdict}
 use Rattle.varisat.specs.Carried.{carry, value_or}
-use Rattle.varisat.specs.Spaces.{Spaces, Carrying, IsWide, translation, SearchHolds, CoreFits, without_core, VerdictFits, Links, SpacesFit}
+use Rattle.varisat.specs.Spaces.{Spaces, Carrying, IsWide, translation, SearchHolds, CoreFits, without_core, VerdictFits, Links, SpacesFit, FitWithNew}
 use Rattle.varisat_theory.specs.Journals.{Entry, Accepts, written}
 use Rattle.varisat_proof.specs.Calls.{CheckerState}
 use Rattle.varisat_proof.specs.Proving.{IsCheckedIf}
@@ -41,6 +41,7 @@ use Rattle.varisat.specs.Accepting.{HasSolver, AreJoined}
 use Rattle.varisat.proofs.SpacesMoves.{give, take_solver, count, solver_literal, accept}
 use Rattle.varisat.proofs.KeptCounts.{given-most}
 use Rattle.varisat.proofs.NewNames.{given}
+use Rattle.varisat.proofs.ToldProofs.{AreToldAs}
 use Rattle.varisat.proofs.Counted.{counted, join-more, join-only, join-once}
 use Rattle.varisat.proofs.AcceptSolverVariables.{taken}
 use Rattle.varisat.proofs.SearchLinks.{relinked}
@@ -56,8 +57,10 @@ with_tables t g = record g { tables = t }
 -- 1. Names.
 
 pub given-spaces : (g : Summary) (s : State) (new : Tables) (u x : ℕ) → SpacesFit (spaces g) s → at g.tables.users.forward u ≡ None →
-    IsGiven g.tables new u x → SpacesFit (spaces (with_tables new g)) (with_naming (bring u s.naming) s)
+    IsGiven g.tables new u x → FitWithNew (spaces (with_tables new g)) s (with_naming (bring u s.naming) s)
 given-spaces g s new u x (w, k) free n =
+    let made = s.naming.made in
+    let variables = updated s.variables made (Some x) in
     let p = spaces g in
     let q = spaces (with_tables new g) in
     let f = assignment_of g.search in
@@ -65,7 +68,7 @@ given-spaces g s new u x (w, k) free n =
     (λ (v, e). let (i, r, m) = k.solvers.live v x (k.solvers.one_to_one.there x v e) in let z : true ≡ false = sym n.unused.0
     ∙ k.identities.live x i r in absurd cc) (is-some (at g.tables.solvers.forward x)) in
     let solver = λ (y : ℕ). ap (λ m. at m.forward y) n.solvers in
-    maps-same (give u x p) q (with_naming (bring u s.naming) s) (record {
+    let fits = maps-same (give u x p) q (with_variables variables (with_naming (bring u s.naming) s)) (record {
       global_from_user = n.users.forward.at_each;
       user_from_global = n.users.backward.at_each;
       watermark = n.users.forward.watermark;
@@ -79,17 +82,19 @@ given-spaces g s new u x (w, k) free n =
           y
           (λ m. ap (λ d. value_or d.unit f (at new.solvers.forward y)) (n.kept.at_each y ∙ updated-other (kept_at g.tables.kept) x fresh y m)
           ∙ ap (value_or (kept_at g.tables.kept y).unit f) (solver y));
-    }) refl (given w p s u x k free n.unused.0 n.unused.1)
+    }) refl (given w p s u x k free n.unused.0 n.unused.1) in
+    (variables, λ i b. updated-other s.variables made (Some x) i (λ e. absurd (omega (arith, b, e))), fits)
 
 pub next-spaces : (k : ℕ) (g : Summary) (s : State) (new : Tables) → SpacesFit (spaces g) s → AreNextGiven k g.tables new →
-    SpacesFit (spaces (with_tables new g)) (with_naming (bring_next k s.naming) s)
-next-spaces zero g s new f e = subst (λ t. SpacesFit (spaces (with_tables t g)) s) (sym e) f
+    FitWithNew (spaces (with_tables new g)) s (with_naming (bring_next k s.naming) s)
+next-spaces zero g s new f e = (s.variables, λ i b. refl, subst (λ t. SpacesFit (spaces (with_tables t g)) s) (sym e) f)
 next-spaces (suc k) g s new f (mid, x, n, rest) =
     let u = f.1.watermark in
-    next-spaces k (with_tables mid g) (with_naming (bring s.naming.watermark s.naming) s) new
-    (subst (λ v. SpacesFit (spaces (with_tables mid g)) (with_naming (bring v s.naming) s)) (sym u)
-    (given-spaces g s mid (length g.tables.users.forward) x f (f.1.names.free (length g.tables.users.forward) (omega (arith, u))) n))
-    rest
+    let (first, keep, fits) = subst (λ v. FitWithNew (spaces (with_tables mid g)) s (with_naming (bring v s.naming) s)) (sym u)
+    (given-spaces g s mid (length g.tables.users.forward) x f (f.1.names.free (length g.tables.users.forward) (omega (arith, u))) n) in
+    let (last, further, all) = next-spaces k (with_tables mid g)
+    (with_variables first (with_naming (bring s.naming.watermark s.naming) s)) new fits rest in
+    (last, λ i b. further i (omega (arith, b)) ∙ keep i b, all)
 
 not-below : (a b : ℕ) → b ≤ a → nat_lt a b ≡ false
 not-below a b h = search (rules, h)
@@ -104,7 +109,7 @@ name-above u m h = ap (λ c. if c then bring_if_free u (m.names u) m else bring_
 
 -- a name is named: it was in use, or comes into use alone, or with those from the watermark up to it
 pub named-one : (g : Summary) (s : State) (new : Tables) (u : ℕ) → SpacesFit (spaces g) s → IsNamed u g.tables new →
-    SpacesFit (spaces (with_tables new g)) (with_naming (name_one u s.naming) s)
+    FitWithNew (spaces (with_tables new g)) s (with_naming (name_one u s.naming) s)
 named-one g s new u f (InUse x e same) =
     let (w, k) = f in
     let m = k.watermark in
@@ -112,17 +117,18 @@ named-one g s new u f (InUse x e same) =
     let (i, r) = k.names.live u x e in
     let named : s.naming.names u ≡ Some i = k.names.agree u ∙ chain-some (at g.tables.users.forward) w.identity u x e ∙ r in
     let stays = name-below u s.naming (omega (arith, inside, m)) ∙ ap (λ o. bring_if_free u o s.naming) named in
-    subst (SpacesFit (spaces (with_tables new g))) (sym (ap (λ n. with_naming n s) stays)) (subst (λ t. SpacesFit (spaces (with_tables t g)) s) (sym same) f)
+    subst (λ n. FitWithNew (spaces (with_tables new g)) s (with_naming n s)) (sym stays)
+    (s.variables, λ i b. refl, subst (λ t. SpacesFit (spaces (with_tables t g)) s) (sym same) f)
 named-one g s new u f (Free x b free n) =
     let (w, k) = f in
     let m = k.watermark in
     let none : s.naming.names u ≡ None = k.names.agree u ∙ chain-none (at g.tables.users.forward) w.identity u free in
     let brings = name-below u s.naming (omega (arith, b, m)) ∙ ap (λ o. bring_if_free u o s.naming) none in
-    subst (SpacesFit (spaces (with_tables new g))) (sym (ap (λ n. with_naming n s) brings)) (given-spaces g s new u x f free n)
+    subst (λ n. FitWithNew (spaces (with_tables new g)) s (with_naming n s)) (sym brings) (given-spaces g s new u x f free n)
 named-one g s new u f (Above b e) =
     let m = f.1.watermark in
     let z : u + 1 - length g.tables.users.forward ≡ suc u - s.naming.watermark = omega (arith, m) in
-    subst (SpacesFit (spaces (with_tables new g))) (sym (ap (λ n. with_naming n s) (name-above u s.naming (omega (arith, b, m)))))
+    subst (λ n. FitWithNew (spaces (with_tables new g)) s (with_naming n s)) (sym (name-above u s.naming (omega (arith, b, m))))
     (next-spaces (suc u - s.naming.watermark) g s new f (subst (λ c. AreNextGiven c g.tables new) z e))
 
 -- 2. Solver variables, where no model is told.
@@ -340,7 +346,7 @@ pub clause-accepted : (g : Summary) (n : State) (d : Clause) (joined : Tables) (
     SpacesFit (spaces g) (count (join_counted n.counted (map variable_of (map (through_names n.naming) d))) n) →
     (x : Verdict) × (told : List Entry) × VerdictAfter n.clauses (map (through_names n.naming) d) n.verdict x
     × TellsStaying 0 (n.told ++ Accepts (map (through_names n.naming) d) ∷ []) told
-    × (n.ever_hidden ≡ false → told ≡ n.told ++ told_as (global_literal g.tables)
+    × AreToldAs n.variables n.told told (told_as (global_literal g.tables)
     (Accepts (map (carry (chain (at joined.users.forward) (at joined.solvers.forward))) d) ∷ written t.lines))
     × SpacesFit (spaces_of joined checker new parts after) (retold told (append_clause (map (through_names n.naming) d) x n))
 clause-accepted g n d joined new parts after checker t checks (w1, k1) =
@@ -356,7 +362,7 @@ clause-accepted g n d joined new parts after checker t checks (w1, k1) =
     let same-literals : map (carry (chain (at joined.users.forward) (at joined.solvers.forward))) d ≡ map (solver_literal p) d =
     ap₂ (λ (a b : BiMap). map (carry (chain (at a.forward) (at b.forward))) d) j.users j.solvers in
     let q = spaces_of joined checker new parts after in
-    let (x, told, v, more, plain, k6) = loaded w1 p s3 d k5 t.all (kept_at joined.kept)
+    let (x, told, v, more, told-as, k6) = loaded w1 p s3 d k5 t.all (kept_at joined.kept)
     (record { rest = j.rest; fallen = j.fallen; wide = λ wide l x h e. j.joined (several d wide) l x h e })
     (search_of new) (loaded_outcome after) q.model checker t.lines
     (subst (λ e. IsCheckedIf g.checker (told_as (global_literal g.tables) (Accepts e ∷ written t.lines)) checker) same-literals checks) refl
@@ -369,7 +375,7 @@ clause-accepted g n d joined new parts after checker t checks (w1, k1) =
       told,
       u,
       more,
-      λ shown. plain shown ∙ ap (λ e. n.told ++ told_as (global_literal g.tables) (Accepts e ∷ written t.lines)) (sym same-literals),
+      subst (λ e. AreToldAs n.variables n.told told (told_as (global_literal g.tables) (Accepts e ∷ written t.lines))) (sym same-literals) told-as,
       spaces-same (record p6 { outcome = outcome_of new parts.failed_core after }) q (retold told (append_clause c y n)) (record {
         maps = record {
           global_from_user = λ u. ap (λ m. at m.forward u) j.users;

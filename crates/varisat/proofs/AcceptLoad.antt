@@ -39,7 +39,7 @@ use Rattle.varisat.proofs.CheckedHeld.{checker-on, checker-still, told-carried, 
 use Rattle.varisat_theory.proofs.Journals.{written_stays}
 use Rattle.varisat_tracer.specs.Carried.{told_as}
 use Rattle.varisat_tracer.specs.Carried as global
-use Rattle.varisat.proofs.PlainTold.{plain-literals, plain-lines}
+use Rattle.varisat.proofs.ToldProofs.{AreToldAs}
 use Rattle.varisat.proofs.SearchHeld.{answers-covers, fixed-on, refuted}
 
 module _ (w : Carrying) (p : Spaces) (s : State) (d : Clause) (k : Links w p s) (taken : AreTaken p d) where
@@ -290,16 +290,40 @@ module _ (w : Carrying) (p : Spaces) (s : State) (d : Clause) (k : Links w p s) 
           checked = checks;
         })
 
-    -- where nothing was ever hidden the clause and the lines are told as they are over global variables
-    plain-told : (lines : List Line) → s.ever_hidden ≡ false → (s.told ++ Accepts (map (through_names s.naming) d) ∷ []) ++ told_lines
-        (translation w p s.told) lines ≡ s.told ++ told_as (global.carry p.global_from_solver) (Accepts (map (solver_literal p) d) ∷ written lines)
+    -- the clause and the lines, by any map that gives live identities their global variables
+    clause-carried : (m : ℕ → Option ℕ) → ((i x : ℕ) → w.global i ≡ Some x → m i ≡ Some x) → (lines : List Line) →
+        SpeakOf (IsLiteralOfEither p.search (map (solver_literal p) d)) lines →
+        told_as (carry m) (Accepts (map (through_names s.naming) d) ∷ told_lines (translation w p s.told) lines) ≡ told_as
+        (global.carry p.global_from_solver) (Accepts (map (solver_literal p) d) ∷ written lines)
     unfolding c e r
-    plain-told lines shown =
+    clause-carried m leads lines speaks =
+        let to = carry (translation w p s.told).identity in
+        let g = carry m in
+        let h = global.carry p.global_from_solver in
         let ls = told_lines (translation w p s.told) lines in
-        append_assoc s.told (Accepts (map (through_names s.naming) d) ∷ []) ls
-        ∙ ap (λ (y : Clause). s.told ++ Accepts y ∷ ls) (sym same-clause ∙ plain-literals w p s k shown (map (solver_literal p) d))
-        ∙ ap (λ (es : List Entry). s.told ++ Accepts (map (global.carry p.global_from_solver) (map (solver_literal p) d)) ∷ es)
-        (plain-lines w p s k shown lines)
+        let one : map g (map (through_names s.naming) d) ≡ map h (map (solver_literal p) d) = ap (map g) (sym same-clause)
+        ∙ map-map g to h (map (solver_literal p) d) (λ l i. global-carried w p s k m leads l (of-clause l i)) in
+        ap (λ (y : Clause). Accepts y ∷ told_as g ls) one
+        ∙ ap (λ es. Accepts (map h (map (solver_literal p) d)) ∷ es)
+        (told-carried to g h (IsLiteralOfEither p.search (map (solver_literal p) d)) lines
+        (λ l. elim [
+          | inl a ↦ global-carried w p s k m leads l (k.holds.within l a)
+          | inr a ↦ global-carried w p s k m leads l (of-clause l a)
+        ]) speaks)
+
+    -- what a proof is told of them
+    clause-told-as : (lines : List Line) → SpeakOf (IsLiteralOfEither p.search (map (solver_literal p) d)) lines →
+        AreToldAs s.variables s.told ((s.told ++ Accepts (map (through_names s.naming) d) ∷ []) ++ told_lines (translation w p s.told) lines)
+        (told_as (global.carry p.global_from_solver) (Accepts (map (solver_literal p) d) ∷ written lines))
+    unfolding c e r
+    clause-told-as lines speaks =
+        let ls = told_lines (translation w p s.told) lines in
+        record {
+          entries = Accepts (map (through_names s.naming) d) ∷ ls;
+          joined = append_assoc s.told (Accepts (map (through_names s.naming) d) ∷ []) ls;
+          stays = written_stays (map (rename_line (carry (translation w p s.told).identity)) lines);
+          same = clause-carried s.variables k.variables lines speaks;
+        }
 
     -- the checker took the clause and the lines
     clause-checked : (checker : Option CheckerState) (lines : List Line) →
@@ -309,16 +333,8 @@ module _ (w : Carrying) (p : Spaces) (s : State) (d : Clause) (k : Links w p s) 
     unfolding c e r
     clause-checked checker lines checks o speaks =
         let to = carry (translation w p s.told).identity in
-        let g = carry w.global in
-        let h = global.carry p.global_from_solver in
         let ls = told_lines (translation w p s.told) lines in
-        let one : map g (map (through_names s.naming) d) ≡ map h (map (solver_literal p) d) = ap (map g) (sym same-clause)
-        ∙ map-map g to h (map (solver_literal p) d) (λ l i. global-carried w p s k l (of-clause l i)) in
-        let all : told_as g (Accepts (map (through_names s.naming) d) ∷ ls) ≡ told_as h (Accepts (map (solver_literal p) d) ∷ written lines) =
-        ap (λ (y : Clause). Accepts y ∷ told_as g ls) one
-        ∙ ap (λ es. Accepts (map h (map (solver_literal p) d)) ∷ es)
-        (told-carried to g h (IsLiteralOfEither p.search (map (solver_literal p) d)) lines
-        (λ l. elim [ inl a ↦ global-carried w p s k l (k.holds.within l a) | inr a ↦ global-carried w p s k l (of-clause l a) ]) speaks) in
+        let all = clause-carried w.global (λ i x q. q) lines speaks in
         subst (λ es. CheckerFits w.global es checker) (sym (append_assoc s.told (Accepts (map (through_names s.naming) d) ∷ []) ls))
         (checker-on w.global s.told (Accepts (map (through_names s.naming) d) ∷ ls) p.checker checker (written_stays (map (rename_line to) lines))
         (subst (λ es. IsCheckedIf p.checker es checker) (sym all) checks)
@@ -329,8 +345,8 @@ module _ (w : Carrying) (p : Spaces) (s : State) (d : Clause) (k : Links w p s) 
         p.outcome ≡ outcome.Unknown → AreLong p.search → AreLong t → AreInUse p t → Loads p.search t (map (solver_literal p) d) v lines →
         (x : Verdict) × (told : List Entry) × VerdictAfter s.clauses (map (through_names s.naming) d) Unknown x
         × TellsStaying 0 (s.told ++ Accepts (map (through_names s.naming) d) ∷ []) told
-        × (s.ever_hidden ≡ false → told ≡ s.told ++ told_as (global.carry p.global_from_solver)
-        (Accepts (map (solver_literal p) d) ∷ written lines)) × Links w
+        × AreToldAs s.variables s.told told (told_as (global.carry p.global_from_solver) (Accepts (map (solver_literal p) d) ∷ written lines))
+        × Links w
         (record p { kept = after; search = t; outcome = v; model = m; checker = checker })
         (retold told (accept (map (through_names s.naming) d) x s))
     unfolding c e r
@@ -345,7 +361,7 @@ module _ (w : Carrying) (p : Spaces) (s : State) (d : Clause) (k : Links w p s) 
           written_stays
               (map (rename_line (carry (translation w p s.told).identity)) lines),
         ) in
-        let plainly = plain-told lines in
+        let told-as = clause-told-as lines loads.speaks in
         let to = (translation w p s.told).identity in
         let spoken = spoken-renamed (IsLiteralOfEither p.search (map (solver_literal p) d)) (IsCounted s.counted) (carry to) lines
         (λ l. elim [
@@ -364,7 +380,7 @@ module _ (w : Carrying) (p : Spaces) (s : State) (d : Clause) (k : Links w p s) 
           told,
           Refuted refl none,
           tells',
-          plainly,
+          told-as,
           stands told is-told t v m checker Unsat (λ _. follows)
               (subst (SearchHolds (s.clauses ++ map (through_names s.naming) d ∷ []) after' t) (u ∙ sym (ap without_core u)) more)
               (subst (λ y. VerdictFits w.identity m y Unsat) (sym u) tt) tt none,
@@ -374,7 +390,7 @@ module _ (w : Carrying) (p : Spaces) (s : State) (d : Clause) (k : Links w p s) 
           told,
           Reopened refl (λ z. q (contradicted h long-before z)),
           tells',
-          plainly,
+          told-as,
           stands told is-told t v m checker Unknown
               (λ _. follows) (subst (SearchHolds (s.clauses ++ map (through_names s.naming) d ∷ []) after' t) (u ∙ sym (ap without_core u)) more)
               (subst (λ y. VerdictFits w.identity m y Unknown) (sym u) tt) tt tt,

@@ -4,13 +4,13 @@ use Rattle.varisat_theory.specs.Literals.{Clause}
 use Rattle.varisat_search.specs.declared.error.StepError.{StepError}
 use Rattle.varisat_search.specs.declared.error.StepError.TheVariants as step
 use Rattle.varisat_names.specs.Settings.{Settings}
-use Rattle.varisat.specs.States.{State, Ledger, IsWellFormed, FlagsFit, Unknown}
+use Rattle.varisat.specs.States.{State, with_variables, Ledger, IsWellFormed, FlagsFit, Unknown}
 use Rattle.varisat_search.specs.StepErrors.{step_faults}
 use Rattle.varisat.specs.Refusals.{step_refusal}
 use Rattle.varisat.specs.Calls.{IsLikeButLeft, IsLike, IsValid, Invalidates, MayConstrain, IsExtensible, AddsClause, CountsCall, Searches, with_steps}
 use Rattle.varisat_theory.specs.Journals.{Entry}
-use Rattle.varisat.specs.Journals.{retold, TellsMore, TellsStaying}
-use Rattle.varisat.specs.OpenProofs.{OpenProof, IsOpen, GoesOnWriting, ProofFits}
+use Rattle.varisat.specs.Journals.{TellsMore, TellsStaying}
+use Rattle.varisat.specs.OpenProofs.{OpenProof, IsOpen, lines_over, GoesOnWriting, ProofFits}
 use Rattle.varisat.proofs.OpenProofs.{goes-on-none, open-before}
 use Rattle.varisat.proofs.ToldEntries.{stays-nothing}
 use Rattle.varisat.specs.Spaces.{SpacesFit}
@@ -28,6 +28,7 @@ like-refl s = record {
   told =
       (stays-nothing s.told).0;
   stays = λ _. (stays-nothing s.told).1;
+  alike = refl;
   proof = goes-on-none s.proof;
 }
 
@@ -44,41 +45,61 @@ like-grown s proof g = record {
       refl;
   told = (stays-nothing s.told).0;
   stays = λ _. (stays-nothing s.told).1;
+  alike = refl;
   proof = g;
 }
 
--- and that more was told
-pub like-told : (s : State) (told : List Entry) (proof : Option OpenProof) → TellsStaying 0 s.told told → GoesOnWriting s.proof proof →
-    IsLike s (record s { told = told; proof = proof })
-like-told s told proof (m, n) g =
-    record {
-      naming = refl;
-      ever_hidden = refl;
-      clauses = refl;
-      assumptions = refl;
-      counted = refl;
-      verdict = refl;
-      ledger = refl;
-      told = m;
-      stays =
-          λ _. n;
-      proof = g;
-    }
-
--- the same, but that more was told, maybe that variables left
-pub like-retold : (s : State) (told : List Entry) → TellsMore 0 s.told told → IsLikeButLeft true s (retold told s)
-like-retold s told m = record {
+-- the same, but that identities have other variables than before, as which no line was written
+pub like-varied : (s : State) (variables : ℕ → Option ℕ) → lines_over variables s.told ≡ lines_over s.variables s.told →
+    IsLike s (with_variables variables s)
+like-varied s variables same = record {
   naming = refl;
   ever_hidden = refl;
   clauses = refl;
   assumptions = refl;
   counted = refl;
   verdict = refl;
-  ledger =
-      refl;
+  ledger = refl;
+  told = (stays-nothing s.told).0;
+  stays = λ _. (stays-nothing s.told).1;
+  alike = same;
+  proof = goes-on-none s.proof;
+}
+
+-- and that more was told, and an open proof has further bytes
+pub like-told : (s : State) (told : List Entry) (variables : ℕ → Option ℕ) (proof : Option OpenProof) → TellsStaying 0 s.told told →
+    lines_over variables s.told ≡ lines_over s.variables s.told → GoesOnWriting s.proof proof →
+    IsLike s (record s { told = told; variables = variables; proof = proof })
+like-told s told variables proof (m, n) same g = record {
+  naming = refl;
+  ever_hidden = refl;
+  clauses = refl;
+  assumptions = refl;
+  counted = refl;
+  verdict = refl;
+  ledger = refl;
+  told = m;
+  stays = λ _. n;
+  alike = same;
+  proof = g;
+}
+
+-- so it is where variables may have left
+pub like-retold : (s : State) (told : List Entry) (variables : ℕ → Option ℕ) (proof : Option OpenProof) → TellsMore 0 s.told told →
+    lines_over variables s.told ≡ lines_over s.variables s.told → GoesOnWriting s.proof proof →
+    IsLikeButLeft true s (record s { told = told; variables = variables; proof = proof })
+like-retold s told variables proof m same g = record {
+  naming = refl;
+  ever_hidden = refl;
+  clauses = refl;
+  assumptions = refl;
+  counted = refl;
+  verdict = refl;
+  ledger = refl;
   told = m;
   stays = λ e. absurd (let z : true ≡ false = e in cc);
-  proof = goes-on-none s.proof;
+  alike = same;
+  proof = g;
 }
 
 -- a ledger by what it tells
@@ -116,7 +137,7 @@ pub record Begins (g : Summary) (s : State) : Type 0 where
   pub valid : IsValid s
   pub ledger : s.ledger ≡ g.ledger
   pub fits : SpacesFit (spaces g) s
-  pub proof : ProofFits g.opened s.ever_hidden s.told s.proof
+  pub proof : ProofFits g.opened s.variables s.told s.proof
   pub flags : FlagsFit s
 
 pub begins : {g : Summary} {s : State} → StandsFor g s → g.ledger.valid ≡ true → Begins g s

@@ -36,7 +36,7 @@ use Rattle.varisat.specs.Spaces.{Spaces, Carrying, translation, without_core, Ar
 use Rattle.varisat.specs.States.{State}
 use Rattle.varisat.specs.Summaries.{spaces_of}
 use Rattle.varisat.proofs.Carried.{carry-at, carry-sign}
-use Rattle.varisat.proofs.PlainTold.{same-carry}
+use Rattle.varisat.proofs.ToldProofs.{same-carry}
 use Rattle.varisat.proofs.ReachedHeld.{left-apart, told-live}
 use Rattle.varisat.proofs.SpacesAgree.{map-map, carry-same, rename-same}
 
@@ -156,16 +156,17 @@ told-carried f g h are (Delete c ∷ lines) e (s, w) =
     ∙ ap (λ es. Writes (Delete (map h c)) ∷ es) (told-carried f g h are lines e w)
 
 module _ (w : Carrying) (p : Spaces) (s : State) (k : Links w p s) where
-  -- a literal over a solver variable in use
-  pub global-carried : (l : Literal) → (i : ℕ) × ((translation w p s.told).identity (variable_of l) ≡ Some i) →
-      carry w.global (carry (translation w p s.told).identity l) ≡ global.carry p.global_from_solver l
-  global-carried l (i, e) =
+  -- a literal over a solver variable in use, by any map that gives live identities their global variables
+  pub global-carried : (m : ℕ → Option ℕ) → ((i x : ℕ) → w.global i ≡ Some x → m i ≡ Some x) → (l : Literal) →
+      (i : ℕ) × ((translation w p s.told).identity (variable_of l) ≡ Some i) →
+      carry m (carry (translation w p s.told).identity l) ≡ global.carry p.global_from_solver l
+  global-carried m leads l (i, e) =
       let to = (translation w p s.told).identity in
       let (x, f, g) = chain-through p.global_from_solver w.identity (variable_of l) i e in
-      let there : w.global (variable_of (carry to l)) ≡ Some x = ap w.global (carry-at to l i e) ∙ k.identities.one_to_one.there x i g in
-      same-literal (carry w.global (carry to l)) (carry p.global_from_solver l)
-      (carry-at w.global (carry to l) x there ∙ sym (carry-at p.global_from_solver l x f))
-      (carry-sign w.global (carry to l) ∙ carry-sign to l ∙ sym (carry-sign p.global_from_solver l))
+      let there : m (variable_of (carry to l)) ≡ Some x = ap m (carry-at to l i e) ∙ leads i x (k.identities.one_to_one.there x i g) in
+      same-literal (carry m (carry to l)) (carry p.global_from_solver l)
+      (carry-at m (carry to l) x there ∙ sym (carry-at p.global_from_solver l x f))
+      (carry-sign m (carry to l) ∙ carry-sign to l ∙ sym (carry-sign p.global_from_solver l))
       ∙ same-carry p.global_from_solver l
 
   -- 3. What a search may rely on.
@@ -194,7 +195,7 @@ module _ (w : Carrying) (p : Spaces) (s : State) (k : Links w p s) where
       renamed [] inside = refl
       renamed (c ∷ P) inside =
           let one = map-map (carry w.global) (carry (translation w p s.told).identity) (global.carry p.global_from_solver) c
-          (λ l i. global-carried l (inside c l (inl refl) i)) in
+          (λ l i. global-carried w.global (λ j x e. e) l (inside c l (inl refl) i)) in
           ap (λ (d : Clause). d ∷ rename (carry w.global) (rename (carry (translation w p s.told).identity) P)) one
           ∙ ap (λ ds. map (global.carry p.global_from_solver) c ∷ ds) (renamed P (λ d l h i. inside d l (inr h) i))
 

@@ -104,6 +104,7 @@ counted w p s is k m b d = record {
   few = let n = length-distinct s.counted is k.well_formed.once m in let f = k.few in omega (arith, n, f);
   shown = k.shown;
   plain = k.plain;
+  variables = k.variables;
   told = told-counted s.told s.clauses s.counted is s.ever_hidden m k.told;
   checked = k.checked;
 }

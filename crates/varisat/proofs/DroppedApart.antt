@@ -35,7 +35,7 @@ apart-left w p s v x t k unknown pair unassumed f = let (i, at, c) = k.solvers.l
 pub apart-recycled : (w : Carrying) (p : Spaces) (s : State) (v x : ℕ) (t : Search) → Links w p s → p.outcome ≡ outcome.Unknown →
     p.global_from_solver v ≡ Some x → (p.kept x).assumed ≡ false → p.user_from_global x ≡ None → (p.kept x).isolated ≡ true →
     IsWithout v None p.search t → (checker : Option CheckerState) → IsCheckedIf p.checker (Leaves x ∷ []) checker →
-    IsGone (record (leave_all v x t p) { checker = checker }) s
+    IsGone x (record (leave_all v x t p) { checker = checker }) s
 apart-recycled w p s v x t k unknown pair unassumed unnamed alone f checker told =
     let (i, at, c) = k.solvers.live v x pair in
     left-recycled (record w { forced = updated w.forced i None }) p s v x i t (p.kept x)

@@ -24,7 +24,7 @@ use Rattle.varisat_proof.specs.Proving.{IsCheckedIf}
 use Rattle.varisat_theory.specs.Journals.{Leaves}
 use Rattle.varisat.specs.Journals.{retold}
 use Rattle.varisat.proofs.VariableMoves.{leave_search, leave_all, recycle}
-use Rattle.varisat.proofs.RecycledGlobals.{was-hidden, recycled}
+use Rattle.varisat.proofs.RecycledGlobals.{recycled}
 use Rattle.varisat.proofs.DroppedSolvers.{IsWithout, left}
 
 -- A literal that is held as a unit clause is true under each assignment that satisfies the accepted clauses.
@@ -42,23 +42,23 @@ proved-value w p s v x i l k unknown pair at over proved a m =
     sym (ap (λ o. a (identity_of o)) (ap to over ∙ chain-some p.global_from_solver w.identity v x pair ∙ at))
     ∙ ap (λ m. read (variable_of m)) (sym same) ∙ true-value read n z ∙ ap polarity_of same
 
--- An identity is gone from the state, in which something was hidden before, and the spaces stand for what is left.
-pub record IsGone (p : Spaces) (s : State) : Type 0 where
+-- The identity that a proof writes as x is gone from the state, and the spaces stand for what is left.
+pub record IsGone (x : ℕ) (p : Spaces) (s : State) : Type 0 where
   pub identity : ℕ
-  pub was_hidden : s.ever_hidden ≡ false → ⊥
+  pub variable : s.variables identity ≡ Some x
   pub fits : SpacesFit p (retold (s.told ++ Leaves identity ∷ []) s)
 
 -- whatever is kept in between of the isolated global variable
 pub left-recycled : (w : Carrying) (p : Spaces) (s : State) (v x i : ℕ) (t : Search) (d : VarData) → Links w (leave_search v x t d p) s →
     p.outcome ≡ outcome.Unknown → w.identity x ≡ Some i → p.user_from_global x ≡ None → d.isolated ≡ true → (checker : Option CheckerState) →
-    IsCheckedIf p.checker (Leaves x ∷ []) checker → IsGone (record (leave_all v x t p) { checker = checker }) s
+    IsCheckedIf p.checker (Leaves x ∷ []) checker → IsGone x (record (leave_all v x t p) { checker = checker }) s
 left-recycled w p s v x i t d k unknown at unnamed alone checker told =
     let mid = leave_search v x t d p in
     let unsolved = updated-at p.solver_from_global x None in
     let isolated = ap (λ (a : VarData). a.isolated) (updated-at p.kept x d) ∙ alone in
     record {
       identity = i;
-      was_hidden = was-hidden w mid s x i k at unnamed unsolved isolated;
+      variable = k.variables i x (k.identities.one_to_one.there x i at);
       fits =
           maps-same (record (recycle x mid) { checker = checker }) (record (leave_all v x t p) { checker = checker })
           (retold (s.told ++ Leaves i ∷ []) s)
@@ -87,7 +87,7 @@ module _ (w : Carrying) (p : Spaces) (s : State) (v x : ℕ) (b : Bool) (t : Sea
 
   -- a hidden one may be used again
   pub fixed-left : p.user_from_global x ≡ None → (checker : Option CheckerState) → IsCheckedIf p.checker (Leaves x ∷ []) checker →
-      IsGone (record (leave_all v x t p) { checker = checker }) s
+      IsGone x (record (leave_all v x t p) { checker = checker }) s
   fixed-left unnamed checker told =
       let (i, at, c) = k.solvers.live v x pair in
       left-recycled (record w { forced = updated w.forced i (Some b) }) p s v x i t (fixed_to b (p.kept x))

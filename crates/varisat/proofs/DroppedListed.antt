@@ -177,12 +177,12 @@ module _ {A : Type 0} {p q : TracerState} {x y : Context A} {gone : List Bool}
   pub stands-dropped : IsSettledDown (view x) → AreDroppedAlone (unassumed_among p.tables x.trail.literals) p q →
       search_of (view y) ≡ search_without gone (search_of (view x)) → (s : State) →
       SpacesFit (spaces_of p.tables p.proof.checker (view x) x.assumptions verdict.Unknown) s →
-      (told : List Entry) × TellsLeaving s.ever_hidden s.told told p.proof q.proof
+      (told : List Entry) × TellsLeaving s.variables s.told told p.proof q.proof
       × SpacesFit (spaces_of q.tables q.proof.checker (view y) y.assumptions verdict.Unknown) (retold told s)
   stands-dropped d a seen s fit =
       let m = p.tables in
       let known : ℕ → Option Bool = (λ v. slice_index_or x.assignment.current v None) in
-      subst (λ (as' : AssumptionParts). (told : List Entry) × TellsLeaving s.ever_hidden s.told told p.proof q.proof
+      subst (λ (as' : AssumptionParts). (told : List Entry) × TellsLeaving s.variables s.told told p.proof q.proof
       × SpacesFit (spaces_of q.tables q.proof.checker (view y) as' verdict.Unknown) (retold told s)) (sym h.assumptions)
       (variables-left known (map variable_of (unassumed_among m x.trail.literals)) p q (view x) (view y) x.assumptions s
       (left-alone known (unassumed_among m x.trail.literals) p q

@@ -30,7 +30,7 @@ use Rattle.varisat.specs.States.{State}
 use Rattle.varisat.specs.Carried.{carry, is_forced}
 use Rattle.varisat_theory.specs.Journals.{Entry, Leaves}
 use Rattle.varisat.specs.Journals.{retold, TellsLeaving}
-use Rattle.varisat.proofs.PlainTold.{leaving-none, leaving-nothing, leaving-one, leaving-through}
+use Rattle.varisat.proofs.ToldProofs.{leaving-none, leaving-nothing, leaving-one, leaving-through}
 use Rattle.varisat.specs.Spaces.{Spaces, Carrying, Translation, SearchHolds, translation, Links, SpacesFit}
 use Rattle.varisat.specs.Summaries.{spaces_of}
 use Rattle.varisat.specs.Dropping.{fixed_to, LosesSolverVar}
@@ -150,15 +150,15 @@ module _ (old new : Tables) (p q : ProofParts) (search : View) (assumed : Assump
   gone : LosesSolver old new x v (unless_unused (at old.users.backward x) d) → IsTold p (leaves_if_deleted new x) q → d.deleted ≡ false →
       SpacesFit (leave_search v x t d (between old p.checker search assumed u)) s →
       (at old.users.backward x ≡ None → d.isolated ≡ true → (checker : Option CheckerState) → IsCheckedIf p.checker (Leaves x ∷ []) checker →
-      IsGone (record (leave_all v x t (between old p.checker search assumed u)) { checker = checker }) s) →
-      (told : List Entry) × TellsLeaving s.ever_hidden s.told told p q × SpacesFit (between new q.checker search assumed t) (retold told s)
+      IsGone x (record (leave_all v x t (between old p.checker search assumed u)) { checker = checker }) s) →
+      (told : List Entry) × TellsLeaving s.variables s.told told p q × SpacesFit (between new q.checker search assumed t) (retold told s)
   gone n h live stays recycled = go (at old.users.backward x) d.isolated refl refl
     where
-      stay : LosesSolver old new x v d → (told : List Entry) × TellsLeaving s.ever_hidden s.told told p q
+      stay : LosesSolver old new x v d → (told : List Entry) × TellsLeaving s.variables s.told told p q
           × SpacesFit (between new q.checker search assumed t) (retold told s)
       stay l = (
         s.told,
-        leaving-none s.ever_hidden s.told p q (leaves_if_deleted new x) (none-told l live) h,
+        leaving-none s.variables s.told p q (leaves_if_deleted new x) (none-told l live) h,
         moved s.told d
             (between old p.checker search assumed u).model q.checker l
             (subst (λ o. SpacesFit (record (leave_search v x t d (between old p.checker search assumed u)) { checker = o }) s)
@@ -166,14 +166,14 @@ module _ (old new : Tables) (p q : ProofParts) (search : View) (assumed : Assump
       )
 
       go : (o : Option ℕ) (b : Bool) → at old.users.backward x ≡ o → d.isolated ≡ b → (told : List Entry)
-          × TellsLeaving s.ever_hidden s.told told p q × SpacesFit (between new q.checker search assumed t) (retold told s)
+          × TellsLeaving s.variables s.told told p q × SpacesFit (between new q.checker search assumed t) (retold told s)
       go (Some y) b e i = stay (subst (λ o. LosesSolver old new x v (unless_unused o d)) e n)
       go None true e i =
           let lost : LosesSolver old new x v dead = subst (λ c. LosesSolver old new x v (if c then dead else d)) i
           (subst (λ o. LosesSolver old new x v (unless_unused o d)) e n) in
           let r = recycled e i q.checker (subst (λ es. IsCheckedIf p.checker es q.checker) (one-told lost) h.checked) in (
             s.told ++ Leaves r.identity ∷ [],
-            leaving-one s.ever_hidden s.told r.identity p q (leaves_if_deleted new x) r.was_hidden h,
+            leaving-one s.variables s.told r.identity x p q (leaves_if_deleted new x) r.variable (one-told lost) h,
             moved (s.told ++ Leaves r.identity ∷ []) dead (leave_all v x t (between old p.checker search assumed u)).model q.checker lost r.fits,
           )
       go None false e i = stay (subst (λ c. LosesSolver old new x v (if c then dead else d)) i (subst (λ o. LosesSolver old new x v (unless_unused o d)) e n))
@@ -181,7 +181,7 @@ module _ (old new : Tables) (p q : ProofParts) (search : View) (assumed : Assump
 one-left : (known : Option Bool) (v : ℕ) (a b : TracerState) (search : View) (assumed : AssumptionParts) (s : State) (u t : Search) →
     IsLeft known a b v → IsWithout v known u t → ((x : ℕ) → at a.tables.solvers.backward v ≡ Some x → (kept_at a.tables.kept x).assumed ≡ false) →
     SpacesFit (between a.tables a.proof.checker search assumed u) s →
-    (told : List Entry) × TellsLeaving s.ever_hidden s.told told a.proof b.proof × SpacesFit (between b.tables b.proof.checker search assumed t) (retold told s)
+    (told : List Entry) × TellsLeaving s.variables s.told told a.proof b.proof × SpacesFit (between b.tables b.proof.checker search assumed t) (retold told s)
 one-left (Some b) v p q search assumed s u t a f free (w, k) =
     let (x, n, h) = loses (Some b) p q v a in
     let old = between p.tables p.proof.checker search assumed u in
@@ -303,7 +303,7 @@ all-left : (known : ℕ → Option Bool) (vs : List ℕ) (p q : TracerState) (se
     AreLeft known vs p q → AreWithout known vs u t →
     ((v x : ℕ) → v ∈ vs → at p.tables.solvers.backward v ≡ Some x → (kept_at p.tables.kept x).assumed ≡ false) →
     SpacesFit (between p.tables p.proof.checker search assumed u) s →
-    (told : List Entry) × TellsLeaving s.ever_hidden s.told told p.proof q.proof × SpacesFit (between q.tables q.proof.checker search assumed t) (retold told s)
+    (told : List Entry) × TellsLeaving s.variables s.told told p.proof q.proof × SpacesFit (between q.tables q.proof.checker search assumed t) (retold told s)
 all-left known [] p q search assumed s u t e f free (w, k) =
     let old = between p.tables p.proof.checker search assumed u in
     let same : AreWithout (λ v. None) [] u t =
@@ -317,7 +317,7 @@ all-left known [] p q search assumed s u t e f free (w, k) =
       units = λ v b i. absurd i;
     } in (
       s.told,
-      subst (λ (a : TracerState). TellsLeaving s.ever_hidden s.told s.told p.proof a.proof) (sym e) (leaving-nothing s.ever_hidden s.told p.proof),
+      subst (λ (a : TracerState). TellsLeaving s.variables s.told s.told p.proof a.proof) (sym e) (leaving-nothing s.variables s.told p.proof),
       subst (λ (a : TracerState). SpacesFit (between a.tables a.proof.checker search assumed t) s) (sym e) (
         w,
         relinked w old (between p.tables p.proof.checker search assumed t) s s k (record {
@@ -344,14 +344,14 @@ all-left known (v ∷ vs) p q search assumed s u t (mid, a, rest) f free fit =
     let (last, further, fits) = all-left known vs mid q search assumed (retold first s) (forget_variable v u) t rest (without-others known v vs u t once f)
     (λ y x i e. still-free (known v) old mid.tables v g n x (free y x (inr i) (pair-before old mid.tables v y x g d n e).0))
     mid-fits in
-    (last, leaving-through s.ever_hidden s.told first last p.proof mid.proof q.proof more further, fits)
+    (last, leaving-through s.variables s.told first last p.proof mid.proof q.proof more further, fits)
 
 -- Variables that are not assumed left the search, and their solver variables the tables: what is held stands for the same state as before.
 pub variables-left : (known : ℕ → Option Bool) (vs : List ℕ) (p q : TracerState) (search after : View) (assumed : AssumptionParts) (s : State) →
     AreLeft known vs p q → AreWithout known vs (search_of search) (search_of after) → length after.values ≡ length search.values →
     ((v x : ℕ) → v ∈ vs → at p.tables.solvers.backward v ≡ Some x → (kept_at p.tables.kept x).assumed ≡ false) →
     SpacesFit (spaces_of p.tables p.proof.checker search assumed verdict.Unknown) s →
-    (told : List Entry) × TellsLeaving s.ever_hidden s.told told p.proof q.proof
+    (told : List Entry) × TellsLeaving s.variables s.told told p.proof q.proof
     × SpacesFit (spaces_of q.tables q.proof.checker after assumed verdict.Unknown) (retold told s)
 variables-left known vs p q search after assumed s a f count free fit =
     let new = q.tables in

@@ -40,7 +40,7 @@ use Rattle.varisat.proofs.DroppedKept.{true-or-not, HaveLeft, values-left, kept-
 use Rattle.varisat.proofs.DroppedTables.{AreLeft, AreWithout, variables-left}
 use Rattle.varisat.proofs.PlainTables.{there-is}
 use Rattle.varisat.proofs.SearchViews.{of-kept}
-use Rattle.varisat.proofs.PlainTold.{leaving-nothing}
+use Rattle.varisat.proofs.ToldProofs.{leaving-nothing}
 
 -- a variable without a name stands there
 pub hidden-global : (m : Tables) (o : Option ℕ) → leads_to_hidden m o ≡ true → (x : ℕ) × (o ≡ Some x) × (at m.users.backward x ≡ None)
@@ -74,7 +74,7 @@ none-leaves p x k = record {
   count = refl;
   given = ([], told-none p.proof);
   stands =
-      λ s fit. (s.told, leaving-nothing s.ever_hidden s.told p.proof, fit);
+      λ s fit. (s.told, leaving-nothing s.variables s.told p.proof, fit);
 }
 
 -- several were dropped in turn, and then one more
@@ -196,7 +196,7 @@ module _ {A : Type 0} {p q : TracerState} {x y : Context A} {mentioned gone : Li
     (h : HaveLeft p.tables q.tables x y gone ls (length mentioned)) where
   pub stands-released : AreReleased ls p q → search_of (view y) ≡ search_without gone (search_of (view x)) → (s : State) →
       SpacesFit (spaces_of p.tables p.proof.checker (view x) x.assumptions verdict.Unknown) s →
-      (told : List Entry) × TellsLeaving s.ever_hidden s.told told p.proof q.proof
+      (told : List Entry) × TellsLeaving s.variables s.told told p.proof q.proof
       × SpacesFit (spaces_of q.tables q.proof.checker (view y) y.assumptions verdict.Unknown) (retold told s)
   stands-released a seen s (c, links) =
       let m = p.tables in
@@ -205,7 +205,7 @@ module _ {A : Type 0} {p q : TracerState} {x y : Context A} {mentioned gone : Li
       let (l, g, r) = links.marks.only z t in
       let (j, k, o) = map-∈ variable_of v ls i in
       not-named m mentioned ls u j z (variable_of l) k (ap (at m.solvers.backward) (sym o) ∙ e) (h.linked.users.there (variable_of l) z r))) in
-      subst (λ (as' : AssumptionParts). (told : List Entry) × TellsLeaving s.ever_hidden s.told told p.proof q.proof
+      subst (λ (as' : AssumptionParts). (told : List Entry) × TellsLeaving s.variables s.told told p.proof q.proof
       × SpacesFit (spaces_of q.tables q.proof.checker (view y) as' verdict.Unknown) (retold told s)) (sym h.assumptions)
       (variables-left (λ v. None) (map variable_of ls) p q (view x) (view y) x.assumptions s (released-left ls p q a)
       (without-unneeded m mentioned ls u (view x) gone f h.flags (view y) over free seen) (values-left h) free (c, links))

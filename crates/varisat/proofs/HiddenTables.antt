@@ -27,7 +27,7 @@ use Rattle.varisat_search.specs.Seen.{outcome_of}
 use Rattle.varisat_search.specs.declared.state.SatState.{SatState}
 use Rattle.varisat_search.specs.declared.state.SatState.TheVariants as verdict
 use Rattle.varisat.specs.Journals.{retold, TellsLeaving}
-use Rattle.varisat.proofs.PlainTold.{leaving-none, leaving-one}
+use Rattle.varisat.proofs.ToldProofs.{leaving-none, leaving-one}
 use Rattle.varisat.specs.Spaces.{Spaces, Carrying, ModeFits, without_core, Links, SpacesFit}
 use Rattle.varisat.specs.Summaries.{Summary, spaces}
 use Rattle.varisat.proofs.Carried.{carry-at}
@@ -39,7 +39,7 @@ use Rattle.varisat.proofs.VariableMoves.{in_mode, set_mode, hide, show, recycle}
 use Rattle.varisat.proofs.HiddenStates.{field-same, one-name, identity-named, hidden}
 use Rattle.varisat_proof.specs.Calls.{CheckerState}
 use Rattle.varisat.proofs.CheckedHeld.{checked-nothing}
-use Rattle.varisat.proofs.RecycledGlobals.{was-hidden, recycled}
+use Rattle.varisat.proofs.RecycledGlobals.{recycled}
 use Rattle.varisat.proofs.ModeStates.{mode-set}
 use Rattle.varisat.proofs.ShownStates.{no-name, shown}
 
@@ -227,28 +227,32 @@ module _ (g : Summary) (s : State) (new : Tables) (x : ℕ) (w : Carrying) (k : 
       }) refl (recycled w (spaces g) s x i k is unnamed unsolved alone (undecided g.search g.assumed.failed_core g.sat_state unsettled) q.checker
       (subst (λ o. IsCheckedIf o (Leaves x ∷ []) q.checker) same (subst (λ es. IsCheckedIf p.checker es q.checker) one told.checked)))
 
+  -- the proof is told so
+  gone : unused (at g.tables.solvers.forward x) (kept_at g.tables.kept x) ≡ true → leaves_if_deleted new x ≡ Leaves x ∷ []
+  gone e = ap (λ (b : Bool). if b then Leaves x ∷ [] else [])
+      (ap (λ (d : VarData). d.deleted) ((kept-as true e).at_each x ∙ updated-at (kept_at g.tables.kept) x dead))
+
   by-use : (b : Bool) → unused (at g.tables.solvers.forward x) (kept_at g.tables.kept x) ≡ b → (after : List Entry)
-      × TellsLeaving s.ever_hidden s.told after p q × SpacesFit (spaces (with_checker q.checker (with_tables new g))) (retold after s)
+      × TellsLeaving s.variables s.told after p q × SpacesFit (spaces (with_checker q.checker (with_tables new g))) (retold after s)
   by-use true e =
       let (unsolved, alone) = is-unused (at g.tables.solvers.forward x) (kept_at g.tables.kept x) e in
       let (i, is) = linked w (spaces g) s x k live in (
         s.told ++ Leaves i ∷ [],
-        leaving-one s.ever_hidden s.told i p q (leaves_if_deleted new x) (was-hidden w (spaces g) s x i k is unnamed unsolved alone) told,
-        goes (kept-as true e) (ap (λ (b : Bool). if b then Leaves x ∷ [] else [])
-            (ap (λ (d : VarData). d.deleted) ((kept-as true e).at_each x ∙ updated-at (kept_at g.tables.kept) x dead))) unsolved alone i is,
+        leaving-one s.variables s.told i x p q (leaves_if_deleted new x) (k.variables i x (k.identities.one_to_one.there x i is)) (gone e) told,
+        goes (kept-as true e) (gone e) unsolved alone i is,
       )
   by-use false e =
       let kept = kept-as false e in
       let none = ap (λ (b : Bool). if b then Leaves x ∷ [] else [])
       (ap (λ (d : VarData). d.deleted) (kept.at_each x ∙ updated-at (kept_at g.tables.kept) x (kept_at g.tables.kept x)) ∙ live) in
-      (s.told, leaving-none s.ever_hidden s.told p q (leaves_if_deleted new x) none told, stays-live kept none)
+      (s.told, leaving-none s.variables s.told p q (leaves_if_deleted new x) none told, stays-live kept none)
 
-  links-left : (after : List Entry) × TellsLeaving s.ever_hidden s.told after p q
+  links-left : (after : List Entry) × TellsLeaving s.variables s.told after p q
       × SpacesFit (spaces (with_checker q.checker (with_tables new g))) (retold after s)
   links-left = by-use (unused (at g.tables.solvers.forward x) (kept_at g.tables.kept x)) refl
 
 pub left-spaces : (g : Summary) (s : State) (new : Tables) (x : ℕ) (p q : ProofParts) → SpacesFit (spaces g) s →
     (kept_at g.tables.kept x).deleted ≡ false → at g.tables.users.backward x ≡ None → g.sat_state ≢ verdict.Unsat →
     IsDeletedIfUnused g.tables new x → p.checker ≡ g.checker → IsTold p (leaves_if_deleted new x) q →
-    (after : List Entry) × TellsLeaving s.ever_hidden s.told after p q × SpacesFit (spaces (with_checker q.checker (with_tables new g))) (retold after s)
+    (after : List Entry) × TellsLeaving s.variables s.told after p q × SpacesFit (spaces (with_checker q.checker (with_tables new g))) (retold after s)
 left-spaces g s new x p q (w, k) live unnamed unsettled n same told = links-left g s new x w k live unnamed unsettled n p q same told

@@ -40,7 +40,7 @@ pub mod PlainTables
 pub mod ProgramDecides
 pub mod ProgramProves
 pub mod ToldEntries
-pub mod PlainTold
+pub mod ToldProofs
 pub mod OpenProofs
 pub mod ReachedHeld
 pub mod ReadPlaces
@@ -76,3 +76,5 @@ pub mod VariableStates
 pub mod VariablesInUse
 pub mod VerdictAnswers
 pub mod SolversInTurn
+pub mod WrittenVariables
+pub mod ClauseJoins

@@ -77,6 +77,7 @@ module _ (w : Carrying) (p : Spaces) (s : State) (u x : ℕ) (k : Links w p s) (
         few = k.few;
         shown = λ e y h. field-same (λ a. a.deleted) p.kept x d refl y ∙ k.shown e y h;
         plain = k.plain;
+        variables = k.variables;
         told = k.told;
         checked = k.checked;
       }

@@ -9,7 +9,7 @@ use Rattle.varisat_names.specs.Maps.{updated, onward, chain}
 use Rattle.varisat_names.specs.VarData.{fresh}
 use Rattle.varisat_names.specs.declared.variables.data.VarData.{VarData}
 use Rattle.varisat_names.specs.declared.variables.data.SamplingMode.TheVariants as sampling
-use Rattle.varisat.specs.States.{State, Verdict, Sat, IsRight, IsWellFormed}
+use Rattle.varisat.specs.States.{State, with_variables, Verdict, Sat, IsRight, IsWellFormed}
 use Rattle.varisat.specs.Names.{Sample, bring}
 use Rattle.varisat.specs.Calls.{with_naming}
 use Rattle.varisat.specs.Carried.{carry}
@@ -48,6 +48,17 @@ bring-well u s f = record {
   accepted = λ c l h i. let b = f.accepted c l h i in omega (arith, b);
   assumed = λ l h. let b = f.assumed l h in omega (arith, b);
   counted = λ i h. let b = f.counted i h in omega (arith, b);
+  once = f.once;
+}
+
+varied-well : (variables : ℕ → Option ℕ) (s : State) → IsWellFormed s → IsWellFormed (with_variables variables s)
+varied-well variables s f = record {
+  one_to_one = f.one_to_one;
+  free = f.free;
+  named = f.named;
+  accepted = f.accepted;
+  assumed = f.assumed;
+  counted = f.counted;
   once = f.once;
 }
 
@@ -245,7 +256,7 @@ module _ (w : Carrying) (p : Spaces) (s : State) (u x : ℕ) (k : Links w p s) (
         (k.told.left i).1 (omega (arith, h, apart), sym (updated-other w.global s.naming.made (Some x) i apart) ∙ e),
   )
 
-  pub given : SpacesFit (give u x p) (with_naming (bring u s.naming) s)
+  pub given : SpacesFit (give u x p) (with_variables (updated s.variables s.naming.made (Some x)) (with_naming (bring u s.naming) s))
   unfolding id' kept'
   given = (
     record { identity = id'; global = updated w.global s.naming.made (Some x); forced = w.forced },
@@ -290,11 +301,13 @@ module _ (w : Carrying) (p : Spaces) (s : State) (u x : ℕ) (k : Links w p s) (
           (λ n h. f y i h ∙ sym (updated-other p.model x false y n)))
           k.verdict;
       right = k.right;
-      well_formed = bring-well u s k.well_formed;
+      well_formed = varied-well (updated s.variables s.naming.made (Some x)) (with_naming (bring u s.naming) s) (bring-well u s k.well_formed);
       few = k.few;
       shown = λ e y. updated-all (λ y o. o ≡ None → (kept' y).deleted ≡ true) p.user_from_global x (Some u) (λ q. absurd cc) y
           (λ n h. ap (λ d. d.deleted) (updated-other p.kept x fresh y n) ∙ k.shown e y h);
       plain = λ e. new-plain (k.plain e);
+      variables = λ i y. updated-all (λ i o. o ≡ Some y → updated s.variables s.naming.made (Some x) i ≡ Some y) w.global s.naming.made (Some x)
+          (λ e. updated-at s.variables s.naming.made (Some x) ∙ e) i (λ n e. updated-other s.variables s.naming.made (Some x) i n ∙ k.variables i y e);
       told = record { accepted = k.told.accepted; spoken = k.told.spoken; left = new-gone; stays = k.told.stays };
       checked = λ n. checker-alike w.global (updated w.global s.naming.made (Some x)) s.told p.checker
           (λ held led c l h i. let (y, e) = all-live w p s k n held led c l h i in

@@ -1,10 +1,11 @@
 -- An open proof as entries are told.
-use Rattle.std.proofs.Common.{◌≡◌, ℕ, Bool, true, false, Option, Some, None, List, [], ◌∷◌, ◌++◌, Ok, Err, refl, sym, ap, ◌∙◌, subst, arith, append_assoc}
+use Rattle.std.proofs.Common.{◌≡◌, ℕ, map, Bool, true, false, Option, Some, None, List, [], ◌∷◌, ◌++◌, Ok, Err, refl, sym, ap, ◌∙◌, subst, arith, append_assoc}
 use Rattle.std.specs.Prelude.{flat_map, is_some}
 use Rattle.std.proofs.lemmas.List.{append-nil, map-append}
-use Rattle.varisat_theory.specs.Literals.{Literal}
+use Rattle.varisat_theory.specs.Literals.{Literal, Clause}
 use Rattle.varisat_theory.specs.Derivations.{Line}
-use Rattle.varisat_theory.specs.Journals.{Entry, Accepts, Writes, Assumes, Fails, Leaves, lines_of}
+use Rattle.varisat_theory.specs.Renaming.{rename_line}
+use Rattle.varisat_theory.specs.Journals.{Entry, Accepts, Writes, Assumes, Fails, Leaves, lines_of, rename_entry}
 use Rattle.varisat_theory.proofs.Journals.{lines_append}
 use Rattle.varisat_formula.specs.Streams.{Taken}
 use Rattle.varisat_proof.specs.declared.proof.format.ProofFormat.{ProofFormat}
@@ -17,7 +18,8 @@ use Rattle.varisat_proof.specs.Proving.{OpenState, ProofParts, told, is_searched
 use Rattle.varisat_proof.specs.Proving as proving
 use Rattle.varisat_tracer.specs.Tracing.{BreaksProof}
 use Rattle.varisat_tracer.proofs.Telling.{unopened-unbroken}
-use Rattle.varisat.specs.OpenProofs.{OpenProof, opened_state, IsOpen, IsDrat, IsWrittenIf, ProofFits, GoesOnWriting, IsSearched, searched_under, first_proof, taken_of}
+use Rattle.varisat.specs.Carried.{carry}
+use Rattle.varisat.specs.OpenProofs.{OpenProof, opened_state, IsOpen, IsDrat, lines_over, IsWrittenIf, ProofFits, GoesOnWriting, IsSearched, searched_under, first_proof, taken_of}
 use Rattle.varisat.specs.Journals.{TellsProof}
 
 -- 1. Bytes of lines.
@@ -56,16 +58,34 @@ goes-on-through (Some p) q r (more, e) h =
     (more ++ further, f ∙ ap (λ (xs : List ℕ). let q : OpenProof = record p { bytes = xs } in Some q) (append_assoc p.bytes more further))
 
 -- 3. What fits.
+pub lines-renamed : (f : Literal → Literal) (es : List Entry) → lines_of (map (rename_entry f) es) ≡ map (rename_line f) (lines_of es)
+lines-renamed f [] = refl
+lines-renamed f (Accepts c ∷ es) = lines-renamed f es
+lines-renamed f (Writes line ∷ es) = ap (λ ls. rename_line f line ∷ ls) (lines-renamed f es)
+lines-renamed f (Assumes a ∷ es) = lines-renamed f es
+lines-renamed f (Fails core ∷ es) = lines-renamed f es
+lines-renamed f (Leaves v ∷ es) = lines-renamed f es
+
+-- lines that are written behind others
+pub lines-behind : (variables : ℕ → Option ℕ) (before entries : List Entry) → lines_over variables (before ++ entries) ≡ lines_over variables before
+    ++ lines_over variables entries
+lines-behind variables before entries = ap (map (rename_line (carry variables))) (lines_append before entries)
+    ∙ map-append (rename_line (carry variables)) (lines_of before) (lines_of entries)
+
 -- entries were told to it
-on-told : (hidden : Bool) (before after given : List Entry) (proof : Option OpenProof) (new : Option OpenState) → IsWrittenIf hidden before proof →
-    proving.IsWrittenIf (opened_state proof) (told given) new → (hidden ≡ false → after ≡ before ++ given) →
-    (now : Option OpenProof) × GoesOnWriting proof now × ProofFits new hidden after now
-on-told hidden before after given None new w e plain = (None, refl, record { same = e; written = tt })
-on-told hidden before after given (Some p) None w e plain = absurd e
-on-told hidden before after given (Some p) (Some o) w e plain =
+on-told : (variables : ℕ → Option ℕ) (before after entries : List Entry) (proof : Option OpenProof) (new : Option OpenState) →
+    IsWrittenIf variables before proof →
+    proving.IsWrittenIf (opened_state proof) (told (map (rename_entry (carry variables)) entries)) new → after ≡ before ++ entries →
+    (now : Option OpenProof) × GoesOnWriting proof now × ProofFits new variables after now
+on-told variables before after entries None new w e joined = (None, refl, record { same = e; written = tt })
+on-told variables before after entries (Some p) None w e joined = absurd e
+on-told variables before after entries (Some p) (Some o) w e joined =
+    let given = map (rename_entry (carry variables)) entries in
+    let first = lines_over variables before in
+    let further = lines_over variables entries in
     let more = lines_written (encoding_of p.format) (lines_told (encoding_of p.format) given) in
     let now : OpenProof = record p { bytes = p.bytes ++ more } in
-    let plainer = plainly-told p.format w.drat given in (
+    let plainer = plainly-told p.format w.drat given ∙ ap plain_lines (lines-renamed (carry variables) entries) in (
       Some now,
       (more, refl),
       record {
@@ -76,56 +96,54 @@ on-told hidden before after given (Some p) (Some o) w e plain =
             ∙ ap (λ (n : ℕ). let t : Taken = record { bytes = p.first ++ (p.bytes ++ more); faults = n } in t) e.faults);
         written = record {
           drat = w.drat;
-          lines = w.lines ++ lines_of given;
           bytes = ap (λ xs. xs ++ more) w.bytes
-              ∙ ap (λ ls. lines_written (encoding_of p.format) (plain_lines w.lines) ++ lines_written (encoding_of p.format) ls) plainer
-              ∙ sym (bytes-more p.format w.lines (lines_of given));
-          all = λ h. ap lines_of (plain h) ∙ lines_append before given ∙ ap (λ ls. ls ++ lines_of given) (w.all h);
+              ∙ ap (λ ls. lines_written (encoding_of p.format) (plain_lines first) ++ lines_written (encoding_of p.format) ls) plainer
+              ∙ sym (bytes-more p.format first further)
+              ∙ ap (λ ls. lines_written (encoding_of p.format) (plain_lines ls))
+              (sym (ap (lines_over variables) joined ∙ lines-behind variables before entries));
         };
       },
     )
 
-pub proof-goes-on : (p q : ProofParts) (hidden : Bool) (before after : List Entry) (proof : Option OpenProof) →
-    ProofFits p.opened hidden before proof → TellsProof hidden before after p q → (now : Option OpenProof) × GoesOnWriting proof now
-    × ProofFits q.opened hidden after now
-proof-goes-on p q hidden before after proof f t = on-told hidden before after t.given proof q.opened f.written
-    (subst (λ (o : Option OpenState). proving.IsWrittenIf o (told t.given) q.opened) f.same t.told.written) t.plain
+-- the lines told before are written as they were
+other-told : (old new : ℕ → Option ℕ) (before after : List Entry) (proof : Option OpenProof) → lines_over new after ≡ lines_over old before →
+    IsWrittenIf old before proof → IsWrittenIf new after proof
+other-told old new before after None e w = tt
+other-told old new before after (Some p) e w =
+    record { drat = w.drat; bytes = w.bytes ∙ ap (λ ls. lines_written (encoding_of p.format) (plain_lines ls)) (sym e) }
+
+pub fits-alike : (o : Option OpenState) (old new : ℕ → Option ℕ) (before after : List Entry) (proof : Option OpenProof) →
+    lines_over new after ≡ lines_over old before → ProofFits o old before proof → ProofFits o new after proof
+fits-alike o old new before after proof e f = record { same = f.same; written = other-told old new before after proof e f.written }
+
+pub proof-goes-on : (p q : ProofParts) (old new : ℕ → Option ℕ) (before after : List Entry) (proof : Option OpenProof) →
+    ProofFits p.opened old before proof → lines_over new before ≡ lines_over old before → TellsProof new before after p q →
+    (now : Option OpenProof) × GoesOnWriting proof now × ProofFits q.opened new after now
+proof-goes-on p q old new before after proof f same t =
+    on-told new before after t.entries proof q.opened (other-told old new before before proof same f.written)
+    (subst (λ (o : Option OpenState). proving.IsWrittenIf o (told (map (rename_entry (carry new)) t.entries)) q.opened) f.same t.told.written) t.joined
 
 -- no line was told
-other-told : (hidden : Bool) (before after : List Entry) (proof : Option OpenProof) → (hidden ≡ false → lines_of after ≡ lines_of before) →
-    IsWrittenIf hidden before proof → IsWrittenIf hidden after proof
-other-told hidden before after None e w = tt
-other-told hidden before after (Some p) e w = record { drat = w.drat; lines = w.lines; bytes = w.bytes; all = λ h. e h ∙ w.all h }
+pub lines-assumed : (variables : ℕ → Option ℕ) (told : List Entry) (a : List Literal) → lines_over variables (told ++ Assumes a ∷ []) ≡ lines_over
+    variables told
+lines-assumed variables told a = ap (map (rename_line (carry variables))) (lines_append told (Assumes a ∷ []) ∙ append-nil (lines_of told))
 
-pub assumed-fits : (o : Option OpenState) (hidden : Bool) (told : List Entry) (a : List Literal) (proof : Option OpenProof) →
-    ProofFits o hidden told proof → ProofFits o hidden (told ++ Assumes a ∷ []) proof
-assumed-fits o hidden told a proof f =
-    record {
-      same = f.same;
-      written = other-told hidden told (told ++ Assumes a ∷ []) proof
-          (λ h. lines_append told (Assumes a ∷ []) ∙ append-nil (lines_of told)) f.written;
-    }
-
--- something was hidden
-once-hidden : (hidden : Bool) (before after : List Entry) (proof : Option OpenProof) → IsWrittenIf hidden before proof → IsWrittenIf true after proof
-once-hidden hidden before after None w = tt
-once-hidden hidden before after (Some p) w = record { drat = w.drat; lines = w.lines; bytes = w.bytes; all = λ h. absurd cc }
-
-pub hidden-fits : (o : Option OpenState) (hidden : Bool) (before after : List Entry) (proof : Option OpenProof) → ProofFits o hidden before proof →
-    ProofFits o true after proof
-hidden-fits o hidden before after proof f = record { same = f.same; written = once-hidden hidden before after proof f.written }
+pub lines-accepted : (variables : ℕ → Option ℕ) (told : List Entry) (c : Clause) → lines_over variables (told ++ Accepts c ∷ []) ≡ lines_over
+    variables told
+lines-accepted variables told c = ap (map (rename_line (carry variables))) (lines_append told (Accepts c ∷ []) ∙ append-nil (lines_of told))
 
 -- where something holds a proof, one is open
-pub open-there : (o : Option OpenState) (hidden : Bool) (told : List Entry) (proof : Option OpenProof) (b : Bool) → ProofFits o hidden told proof →
+pub open-there : (o : Option OpenState) (variables : ℕ → Option ℕ) (told : List Entry) (proof : Option OpenProof) (b : Bool) →
+    ProofFits o variables told proof →
     b ≡ is_some o → b ≡ true → IsOpen proof
-open-there o hidden told None b f e t = let z : true ≡ false = sym t ∙ e ∙ ap (λ (x : Option OpenState). is_some x) f.same in absurd cc
-open-there o hidden told (Some p) b f e t = (p, refl)
+open-there o variables told None b f e t = let z : true ≡ false = sym t ∙ e ∙ ap (λ (x : Option OpenState). is_some x) f.same in absurd cc
+open-there o variables told (Some p) b f e t = (p, refl)
 
 -- so it is where a target failed
-pub broken-open : (p q : ProofParts) (hidden : Bool) (told : List Entry) (proof : Option OpenProof) → ProofFits p.opened hidden told proof →
+pub broken-open : (p q : ProofParts) (variables : ℕ → Option ℕ) (told : List Entry) (proof : Option OpenProof) → ProofFits p.opened variables told proof →
     BreaksProof p 1 q → IsOpen proof
-broken-open p q hidden told None f b = absurd (let z = unopened-unbroken p q 1 f.same b in omega (arith, z))
-broken-open p q hidden told (Some o) f b = (o, refl)
+broken-open p q variables told None f b = absurd (let z = unopened-unbroken p q 1 f.same b in omega (arith, z))
+broken-open p q variables told (Some o) f b = (o, refl)
 
 -- 4. How a proof opens and closes.
 
@@ -134,9 +152,12 @@ pub first-same : (f : ProofFormat) (t : Taken) → (let o : OpenState = record {
 first-same f t = ap (λ (xs : List ℕ). let o : OpenState =
     record { format = f; taken = record { bytes = xs; faults = t.faults }; searched = false } in Some o) (sym (append-nil t.bytes))
 
-pub first-written : (hidden : Bool) (f : ProofFormat) (t : Taken) (told : List Entry) → IsDrat f → lines_of told ≡ [] →
-    IsWrittenIf hidden told (Some (first_proof f t))
-first-written hidden f t told d none = record { drat = d; lines = []; bytes = refl; all = λ h. none }
+pub first-written : (variables : ℕ → Option ℕ) (f : ProofFormat) (t : Taken) (told : List Entry) → IsDrat f → lines_of told ≡ [] →
+    IsWrittenIf variables told (Some (first_proof f t))
+first-written variables f t told d none = record {
+  drat = d;
+  bytes = ap (λ ls. lines_written (encoding_of f) (plain_lines (map (rename_line (carry variables)) ls))) (sym none);
+}
 
 -- what comes back as a proof closes, whatever errors may be
 pub closed-back : {W : Type 0} (D E : Type 0) (taken : W → Taken) (opened : Option OpenState) (back : Option W) →
@@ -166,21 +187,23 @@ pub searched-state : (o : Option OpenProof) → marked_searched (opened_state o)
 searched-state None = refl
 searched-state (Some p) = refl
 
-searched-written : (hidden : Bool) (told : List Entry) (o : Option OpenProof) → IsWrittenIf hidden told o → IsWrittenIf hidden told (searched_under o)
-searched-written hidden told None w = tt
-searched-written hidden told (Some p) w = record { drat = w.drat; lines = w.lines; bytes = w.bytes; all = w.all }
+searched-written : (variables : ℕ → Option ℕ) (told : List Entry) (o : Option OpenProof) → IsWrittenIf variables told o →
+    IsWrittenIf variables told (searched_under o)
+searched-written variables told None w = tt
+searched-written variables told (Some p) w = record { drat = w.drat; bytes = w.bytes }
 
-pub searched-fits : (o : Option OpenState) (hidden : Bool) (told : List Entry) (proof : Option OpenProof) → ProofFits o hidden told proof →
-    ProofFits (marked_searched o) hidden told (searched_under proof)
-searched-fits o hidden told proof f = record { same = ap marked_searched f.same ∙ searched-state proof; written = searched-written hidden told proof f.written }
+pub searched-fits : (o : Option OpenState) (variables : ℕ → Option ℕ) (told : List Entry) (proof : Option OpenProof) → ProofFits o variables told proof →
+    ProofFits (marked_searched o) variables told (searched_under proof)
+searched-fits o variables told proof f =
+    record { same = ap marked_searched f.same ∙ searched-state proof; written = searched-written variables told proof f.written }
 
 -- some proof fitted before it was marked
-pub fitted-before : (o : Option OpenState) (hidden : Bool) (told : List Entry) (proof : Option OpenProof) →
-    ProofFits (marked_searched o) hidden told proof → (before : Option OpenProof) × ProofFits o hidden told before
-fitted-before o hidden told proof f = go o proof f.same f.written
+pub fitted-before : (o : Option OpenState) (variables : ℕ → Option ℕ) (told : List Entry) (proof : Option OpenProof) →
+    ProofFits (marked_searched o) variables told proof → (before : Option OpenProof) × ProofFits o variables told before
+fitted-before o variables told proof f = go o proof f.same f.written
   where
-    go : (o : Option OpenState) (proof : Option OpenProof) → marked_searched o ≡ opened_state proof → IsWrittenIf hidden told proof →
-        (before : Option OpenProof) × ProofFits o hidden told before
+    go : (o : Option OpenState) (proof : Option OpenProof) → marked_searched o ≡ opened_state proof → IsWrittenIf variables told proof →
+        (before : Option OpenProof) × ProofFits o variables told before
     go None proof e w = (None, record { same = refl; written = tt })
     go (Some a) None e w = absurd cc
     go (Some a) (Some p) e w =
@@ -192,7 +215,7 @@ fitted-before o hidden told proof f = go o proof f.same f.written
           Some q,
           record {
             same = ap (λ (x : OpenState). let y : OpenState = record x { searched = a.searched } in Some y) same;
-            written = record { drat = w.drat; lines = w.lines; bytes = w.bytes; all = w.all };
+            written = record { drat = w.drat; bytes = w.bytes };
           },
         )
 
@@ -209,11 +232,11 @@ open-marked None (o, e) = absurd cc
 open-marked (Some p) o = (p, refl)
 
 -- an open proof that was not marked yet is one that was
-pub open-fitted : (o : Option OpenState) (hidden : Bool) (told : List Entry) (before proof : Option OpenProof) → ProofFits o hidden told before →
-    ProofFits (marked_searched o) hidden told proof → IsOpen before → IsOpen proof
-open-fitted o hidden told before None f g (p, e) =
+pub open-fitted : (o : Option OpenState) (variables : ℕ → Option ℕ) (told : List Entry) (before proof : Option OpenProof) → ProofFits o variables told before →
+    ProofFits (marked_searched o) variables told proof → IsOpen before → IsOpen proof
+open-fitted o variables told before None f g (p, e) =
     let z : None ≡ marked_searched (opened_state (Some p)) = sym (g.same) ∙ ap marked_searched (f.same ∙ ap opened_state e) in absurd cc
-open-fitted o hidden told before (Some p) f g h = (p, refl)
+open-fitted o variables told before (Some p) f g h = (p, refl)
 
 -- whether `solve` was called under the open proof
 searched-same : (o : Option OpenProof) → IsSearched o → is_searched (opened_state o) ≡ true
@@ -224,10 +247,10 @@ same-searched : (o : Option OpenProof) → is_searched (opened_state o) ≡ true
 same-searched None e = absurd cc
 same-searched (Some p) e = ap Some e
 
-pub searched-there : (o : Option OpenState) (hidden : Bool) (told : List Entry) (proof : Option OpenProof) (b : Bool) →
-    ProofFits o hidden told proof → b ≡ is_searched o → b ≡ true → IsSearched proof
-searched-there o hidden told proof b f e t = same-searched proof (ap is_searched (sym f.same) ∙ sym e ∙ t)
+pub searched-there : (o : Option OpenState) (variables : ℕ → Option ℕ) (told : List Entry) (proof : Option OpenProof) (b : Bool) →
+    ProofFits o variables told proof → b ≡ is_searched o → b ≡ true → IsSearched proof
+searched-there o variables told proof b f e t = same-searched proof (ap is_searched (sym f.same) ∙ sym e ∙ t)
 
-pub unsearched-there : (o : Option OpenState) (hidden : Bool) (told : List Entry) (proof : Option OpenProof) (b : Bool) →
-    ProofFits o hidden told proof → b ≡ is_searched o → b ≡ false → IsSearched proof → ⊥
-unsearched-there o hidden told proof b f e n s = let z : false ≡ true = sym n ∙ e ∙ ap is_searched f.same ∙ searched-same proof s in cc
+pub unsearched-there : (o : Option OpenState) (variables : ℕ → Option ℕ) (told : List Entry) (proof : Option OpenProof) (b : Bool) →
+    ProofFits o variables told proof → b ≡ is_searched o → b ≡ false → IsSearched proof → ⊥
+unsearched-there o variables told proof b f e n s = let z : false ≡ true = sym n ∙ e ∙ ap is_searched f.same ∙ searched-same proof s in cc

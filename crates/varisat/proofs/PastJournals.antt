@@ -1,6 +1,8 @@
 -- What a past says of the journal and of an open proof.
-use Rattle.std.proofs.Common.{◌≡◌, ℕ, ◌+◌, ◌-◌, ◌≤◌, Bool, true, false, Option, Some, None, List, [], ◌++◌, sym, ap, ◌∙◌, subst, refl, arith}
-use Rattle.varisat_theory.specs.Literals.{Clause}
+use Rattle.std.proofs.Common.{◌≡◌, ℕ, suc, ◌+◌, ◌-◌, ◌≤◌, Bool, true, false, Option, Some, None, List, [], ◌∷◌, ◌++◌, map, sym, ap, ◌∙◌, subst, refl, arith}
+use Rattle.varisat_theory.specs.Literals.{Literal, Clause}
+use Rattle.varisat_theory.specs.Derivations.{Line, Add, Delete}
+use Rattle.varisat_theory.specs.Renaming.{rename_line}
 use Rattle.varisat_theory.specs.Counted.{added}
 use Rattle.varisat_theory.specs.Journals.{Entry, Leads, NoneLeaves, lines_of, GoesOn}
 use Rattle.varisat_theory.specs.NewClauses.{GoesOnAdding}
@@ -10,7 +12,8 @@ use Rattle.varisat_theory.proofs.StepStands.{added_append}
 use Rattle.varisat_formula.specs.Streams.{Taken}
 use Rattle.varisat_proof.specs.declared.proof.format.ProofFormat.{ProofFormat}
 use Rattle.varisat.specs.Journals.{TellsMore}
-use Rattle.varisat.specs.OpenProofs.{OpenProof, IsSearched, GoesOnWriting, searched_under, first_proof}
+use Rattle.varisat.specs.OpenProofs.{OpenProof, IsSearched, GoesOnWriting, searched_under, first_proof, lines_over}
+use Rattle.varisat.specs.Carried.{carry}
 use Rattle.varisat.specs.Pasts as past
 use Rattle.varisat.specs.Pasts.{Past, PastProof}
 
@@ -62,6 +65,17 @@ led-on a b es held after e d l = subst (λ xs. Leads [] xs after) (sym e) (leads
 
 added-on : (a b es : List Entry) → b ≡ a ++ es → added (lines_of b) ≡ added (lines_of a) + added (lines_of es)
 added-on a b es e = ap (λ xs. added (lines_of xs)) e ∙ ap added (lines_append a es) ∙ added_append (lines_of a) (lines_of es)
+
+-- under other names for the variables as many lines add a clause
+added-over : (f : Literal → Literal) (lines : List Line) → added (map (rename_line f) lines) ≡ added lines
+added-over f [] = refl
+added-over f (Add c ∷ lines) = ap suc (added-over f lines)
+added-over f (Delete c ∷ lines) = added-over f lines
+
+pub enough-over : (variables : ℕ → Option ℕ) (told said : List Entry) (n : ℕ) → told ≡ said → n ≤ added (lines_of told) →
+    n ≤ added (lines_over variables said)
+enough-over variables told said n e few = subst (λ k. n ≤ k) (sym (added-over (carry variables) (lines_of said)))
+    (subst (λ es. n ≤ added (lines_of es)) e few)
 
 -- further entries are told, and an open proof has further bytes
 pub told-more : (n : ℕ) (a b said : List Entry) (u w : Option OpenProof) (o : Option PastProof) → KnowsTold a u said o → TellsMore n a b →

@@ -10,7 +10,9 @@ use Rattle.varisat_formula.specs.Dimacs.{Reading}
 use Rattle.varisat_formula.specs.Streams.{Stand, Taken}
 use Rattle.varisat_proof.specs.declared.proof.format.ProofFormat.{ProofFormat}
 use Rattle.varisat_proof.specs.Proving.{IsClosed}
-use Rattle.varisat.specs.OpenProofs.{OpenProof, opened_state, IsOpen, IsSearched, first_proof}
+use Rattle.varisat_proof.specs.Lines.{encoding_of, plain_lines}
+use Rattle.varisat_proof.specs.Steps.{lines_written}
+use Rattle.varisat.specs.OpenProofs.{OpenProof, opened_state, IsOpen, IsSearched, first_proof, lines_over, HaveOwnVariables}
 use Rattle.varisat.specs.ProofCalls.{with_proof, HasProof, OpensProof, EnablesChecking, ClosesProof}
 use Rattle.varisat.specs.SelfChecking as checking
 use Rattle.varisat_names.specs.declared.config.SolverConfigUpdate.{SolverConfigUpdate}
@@ -36,7 +38,7 @@ use Rattle.varisat.specs.declared.solver.SolverError.{SolverError}
 use Rattle.varisat.specs.declared.solver.SolverError.TheVariants.{Interrupted, ProofIoError, OutOfMemory, Invalid, ClauseStoreFull, WitnessVar, VariableLimit, AssumedVar, ClauseAfterSolve, ProofOpen, ProofTooLate, ConfigOutOfRange, Dimacs}
 use Rattle.varisat_literals.specs.Numbers.{variable_limit}
 use Rattle.varisat.proofs.ToldEntries.{tells, tells-through, accepts-goes, assumes-goes}
-use Rattle.varisat.proofs.PastJournals.{past_proof, KnowsTold, searched-past, searched-state, told-more, told-opened, told-closed, like-past}
+use Rattle.varisat.proofs.PastJournals.{past_proof, KnowsTold, searched-past, searched-state, told-more, told-opened, told-closed, enough-over, like-past}
 use Rattle.varisat.proofs.VerdictAnswers.{told-fails, core-answer, no-core, reopened-core, assumed-no-core, reopened-not-true, reopened-false, right-reopened, assumed-not-true, right-assumed}
 use Rattle.varisat.proofs.ModelsFit.{completable}
 
@@ -610,13 +612,17 @@ handed p s o taken k e h has =
       bytes = o.bytes;
       behind = h;
       proof = record {
-        lines = a.lines;
-        written = a.written;
-        same = λ n. a.same (k.hidden ∙ n) ∙ ap lines_of k.told.same;
-        derives = λ n. subst (λ P. IsDerivation P a.lines) k.clauses (a.derives (k.hidden ∙ n));
-        refutes = λ n c. subst (λ P. Refutes P a.lines) k.clauses (a.refutes (k.hidden ∙ n) (k.failed c));
+        variables = a.variables;
+        written = subst (λ es. o.bytes ≡ lines_written (encoding_of o.format) (plain_lines (lines_over a.variables es))) k.told.same a.written;
+        apart = subst (HaveOwnVariables a.variables p.naming.made) k.told.same
+            (subst (λ (m : Naming). HaveOwnVariables a.variables m.made s.told) k.naming a.apart);
+        plain = λ n. subst (λ es. lines_over a.variables es ≡ lines_of es) k.told.same (a.plain (k.hidden ∙ n));
+        derives = λ n. subst (λ es. IsDerivation p.clauses (lines_of es)) k.told.same
+            (subst (λ P. IsDerivation P (lines_of s.told)) k.clauses (a.derives (k.hidden ∙ n)));
+        refutes = λ n c. subst (λ es. Refutes p.clauses (lines_of es)) k.told.same
+            (subst (λ P. Refutes P (lines_of s.told)) k.clauses (a.refutes (k.hidden ∙ n) (k.failed c)));
       };
-      enough = λ n. subst (λ ls. k.told.interrupted ≤ added ls) (sym (a.same (k.hidden ∙ n))) k.told.enough;
+      enough = enough-over a.variables s.told p.told k.told.interrupted k.told.same k.told.enough;
     }
 
 hands-back : {W : Type 0} (taken : W → Taken) (p : Past) (s : State) (proof : Option OpenProof) (back : Option W) → s.proof ≡ proof → Knows p s →

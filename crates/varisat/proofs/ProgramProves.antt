@@ -1,6 +1,9 @@
 -- What deciding a text leaves in the target of a proof, and how it fails.
 use Rattle.std.proofs.Common.{◌≡◌, ℕ, Bool, true, false, List, [], ◌∷◌, ◌++◌, inl, inr, sym, ap, ◌∙◌, subst, refl, Option, Some, None, Ok, Err, append_assoc}
 use Rattle.varisat_theory.specs.Literals.{Clause}
+use Rattle.varisat_theory.specs.Journals.{lines_of}
+use Rattle.varisat_proof.specs.Lines.{encoding_of, plain_lines}
+use Rattle.varisat_proof.specs.Steps.{lines_written}
 use Rattle.varisat_formula.specs.Dimacs.{Reading, dimacs}
 use Rattle.varisat_formula.specs.Streams.{Stand, Taken}
 use Rattle.varisat_proof.specs.declared.proof.format.ProofFormat.{ProofFormat}
@@ -127,11 +130,12 @@ proven-bytes : {W : Type 0} (taken : W → Taken) (format : ProofFormat) (target
 proven-bytes taken format target back u bytes P c e h has carries none same =
     let b = has (record (first_proof format (taken target)) { bytes = bytes; searched = true }) e in
     record {
-      lines = b.lines;
-      bytes = ap (λ (x : Taken). x.bytes) same ∙ ap (λ xs. (taken target).bytes ++ xs) b.written;
+      lines = lines_of u.told;
+      bytes = ap (λ (x : Taken). x.bytes) same
+          ∙ ap (λ xs. (taken target).bytes ++ xs) (b.written ∙ ap (λ ls. lines_written (encoding_of format) (plain_lines ls)) (b.plain h));
       faults = ap (λ (x : Taken). x.faults) same;
-      derives = carries.derives b.lines (b.derives h);
-      refutes = λ n. carries.refutes b.lines (b.refutes h (none n));
+      derives = carries.derives (lines_of u.told) (b.derives h);
+      refutes = λ n. carries.refutes (lines_of u.told) (b.refutes h (none n));
     }
 
 pub proven : {W : Type 0} (taken : W → Taken) (format : ProofFormat) (limit : Option ℕ) (old new : Stand) (target back : Option W) (t u : State)

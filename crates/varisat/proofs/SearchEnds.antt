@@ -30,6 +30,7 @@ like-searched s t k = record {
   ledger = k.ledger;
   told = k.told;
   stays = k.stays;
+  alike = k.alike;
   proof = goes-on-searched s.proof t.proof k.proof;
 }
 
@@ -112,7 +113,7 @@ pub stands-searched : (g : Summary) (s : State) → StandsFor g s → StandsFor 
 stands-searched g s st = record {
   ledger = st.ledger;
   fits = λ v. let (w, k) = st.fits v in (w, proof-free w (spaces g) s (searched_under s.proof) k);
-  proof = λ v. searched-fits g.opened s.ever_hidden s.told s.proof (st.proof v);
+  proof = λ v. searched-fits g.opened s.variables s.told s.proof (st.proof v);
   flags = λ v. flags-alike s (once_searched s) (st.flags v) refl refl refl refl (open-marked s.proof);
 }
 
@@ -120,14 +121,14 @@ stands-searched g s st = record {
 pub stood-before : (g : Summary) (s : State) → g.ledger.valid ≡ true → StandsFor (record g { opened = marked_searched g.opened }) s →
     (proof : Option OpenProof) × StandsFor g (with_proof proof s)
 stood-before g s v st =
-    let (before, f) = fitted-before g.opened s.ever_hidden s.told s.proof (st.proof v) in (
+    let (before, f) = fitted-before g.opened s.variables s.told s.proof (st.proof v) in (
       before,
       record {
         ledger = st.ledger;
         fits = λ v. let (w, k) = st.fits v in (w, proof-free w (spaces g) s before k);
         proof = λ _. f;
         flags = λ v. flags-alike s (with_proof before s) (st.flags v) refl refl refl refl
-            (λ o. open-fitted g.opened s.ever_hidden s.told before s.proof f (st.proof v) o);
+            (λ o. open-fitted g.opened s.variables s.told before s.proof f (st.proof v) o);
       },
     )
 
@@ -154,7 +155,7 @@ pub solve-fails : (g h : Summary) (s t : State) (r : Result Bool SolverError) (e
 solve-fails g h s t r (ProofIoError cause) k st v (o, e) = (
   broken t,
   ends-badly s t r cause k (stands-valid g t st v)
-      (open-there g.opened t.ever_hidden t.told t.proof true (st.proof v) (sym (flushed-open g.opened h.opened cause o)) refl) (st.fits v).1.well_formed,
+      (open-there g.opened t.variables t.told t.proof true (st.proof v) (sym (flushed-open g.opened h.opened cause o)) refl) (st.fits v).1.well_formed,
   stands-broken g h t e st,
 )
 solve-fails g h s t r e k st v f = absurd f

@@ -56,6 +56,7 @@ relinked w p q s t k l = record {
   few = l.few;
   shown = k.shown;
   plain = k.plain;
+  variables = k.variables;
   told = l.told;
   checked = l.checked;
 }
@@ -99,6 +100,7 @@ relinked-marks w p q s t k a isolation marks well l = record {
   few = l.few;
   shown = λ o y h. a.deleted y ∙ k.shown o y h;
   plain = k.plain;
+  variables = k.variables;
   told = l.told;
   checked = l.checked;
 }

@@ -56,6 +56,6 @@ stands-checking tables p q started changed_at anew x s n e fresh st =
     record {
       ledger = t.ledger;
       fits = λ v. let f = t.flags v in spaces-checking tables p q x (count_anew s) e (f.clauses fresh) (f.counted fresh) (t.fits v);
-      proof = λ v. subst (λ (o : Option OpenState). ProofFits o s.ever_hidden s.told s.proof) (sym (same-opened p q e)) (t.proof v);
+      proof = λ v. subst (λ (o : Option OpenState). ProofFits o s.variables s.told s.proof) (sym (same-opened p q e)) (t.proof v);
       flags = t.flags;
     }

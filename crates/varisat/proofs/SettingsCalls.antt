@@ -76,7 +76,7 @@ stands-anew parts started changed_at anew x s n st = record {
 -- the same solver with another proof, or none, and the same checker, where steps are counted anew
 pub stands-with-proof : {A : Type 0} (tables : Tables) (p q : ProofParts) (started : Bool) (changed_at anew : ℕ) (x : Context A) (s : State)
     (proof : Option OpenProof) → anew ≡ x.schedule.steps → q.checker ≡ p.checker → q.opened ≡ opened_state proof →
-    IsWrittenIf s.ever_hidden s.told proof → (IsOpen proof → s.assumptions ≡ []) →
+    IsWrittenIf s.variables s.told proof → (IsOpen proof → s.assumptions ≡ []) →
     StandsFor (summary_of (record { tables = tables; proof = p }) started changed_at x) s →
     StandsFor (summary_of (record { tables = tables; proof = q }) started anew x) (count_anew (with_proof proof s))
 stands-with-proof tables p q started changed_at anew x s proof n checker e f unassumed st = record {

@@ -137,6 +137,7 @@ module _ (w : Carrying) (p : Spaces) (s : State) (u x i : ℕ) (k : Links w p s)
     shown = λ e y. updated-all (λ y o. o ≡ None → (kept' y).deleted ≡ true) p.user_from_global x (Some u) (λ q. absurd cc) y
         (λ n h. ap (λ a. a.deleted) (updated-other p.kept x d y n) ∙ k.shown e y h);
     plain = k.plain;
+    variables = k.variables;
     told = k.told;
     checked = k.checked;
   }

@@ -29,10 +29,12 @@ use Rattle.varisat.specs.States.{State, Verdict, Unknown, Sat, Unsat, UnsatUnder
 use Rattle.varisat.specs.Names.{identity_of}
 use Rattle.varisat.specs.Calls.{with_verdict}
 use Rattle.varisat.specs.Carried.{carry, is_forced, value_or}
-use Rattle.varisat.specs.Spaces.{Spaces, Carrying, Translation, translation, CheckerFits, IsCounted, IsTold, SearchHolds, AssumptionsFit, MarksFit, WorkingFits, CoreFits, without_core, VerdictFits, Links, SpacesFit, IsGone, SharesHeld, HeldFits}
-use Rattle.varisat.specs.Journals.{retold, TellsMore, ToldConflict}
+use Rattle.varisat.specs.Spaces.{Spaces, Carrying, Translation, translation, CheckerFits, IsCounted, IsTold, SearchHolds, AssumptionsFit, MarksFit, WorkingFits, CoreFits, without_core, VerdictFits, Links, SpacesFit, IsGone}
+use Rattle.varisat.specs.Journals.{retold, TellsMore}
 use Rattle.varisat.proofs.SpacesMoves.{AreLong, AreInUse}
 use Rattle.varisat.proofs.CheckedHeld.{checker-on, told-carried, global-carried}
+use Rattle.varisat.proofs.ToldProofs.{AreToldAs}
+use Rattle.std.proofs.lemmas.List.{append-nil}
 use Rattle.varisat_proof.specs.Calls.{CheckerState}
 use Rattle.varisat_proof.specs.Proving.{IsCheckedIf}
 use Rattle.varisat_tracer.specs.Carried.{told_as}
@@ -215,6 +217,21 @@ module _ (w : Carrying) (p : Spaces) (s : State) (k : Links w p s) (unknown : p.
       (covered_by_more (rename f after) all (λ c h. ∈-append_right c before.told.forgotten (rename f after) h)) (λ l h. h)
       (conflicts_renamed f (carry-opposite (translation w p s.told).identity) after found (subst (Holds after t) e o).1)))
 
+  -- the lines, by any map that gives live identities their global variables
+  lines-carried : (m : ℕ → Option ℕ) → ((i x : ℕ) → w.global i ≡ Some x → m i ≡ Some x) →
+      told_as (carry m) (told_lines (translation w p s.told) lines) ≡ told_as (global.carry p.global_from_solver) (written lines)
+  lines-carried m leads = told-carried (carry (translation w p s.told).identity) (carry m) (global.carry p.global_from_solver)
+      (IsLiteralOf p.search) lines (λ l h. global-carried w p s k m leads l (k.holds.within l h)) made.speaks
+
+  -- what a proof is told of them
+  pub steps-told-as : AreToldAs s.variables s.told (told-with w p s lines) (told_as (global.carry p.global_from_solver) (written lines ++ []))
+  steps-told-as = record {
+    entries = told_lines (translation w p s.told) lines;
+    joined = refl;
+    stays = written_stays (map (rename_line (carry (translation w p s.told).identity)) lines);
+    same = lines-carried s.variables k.variables ∙ ap (told_as (global.carry p.global_from_solver)) (sym (append-nil (written lines)));
+  }
+
   -- the checker that took the lines
   pub steps-checked : (checker : Option CheckerState) → IsCheckedIf p.checker
       (told_as (global.carry p.global_from_solver) (written lines)) checker → CheckerFits w.global (told-with w p s lines) checker
@@ -222,8 +239,7 @@ module _ (w : Carrying) (p : Spaces) (s : State) (k : Links w p s) (unknown : p.
       let r = translation w p s.told in
       checker-on w.global s.told (told_lines r lines) p.checker checker (written_stays (map (rename_line (carry r.identity)) lines))
       (subst (λ es. IsCheckedIf p.checker es checker)
-      (sym (told-carried (carry r.identity) (carry w.global) (global.carry p.global_from_solver) (IsLiteralOf p.search) lines
-      (λ l h. global-carried w p s k l (k.holds.within l h)) made.speaks)) c)
+      (sym (lines-carried w.global (λ i x e. e))) c)
       (k.checked (known-unknown p.outcome unknown))
 
   module _ (x y : AssumptionParts) (same : p.working ≡ x.working) (keeps : KeepsAssumptions p.search v x y) (checker : Option CheckerState) where
@@ -253,6 +269,39 @@ module _ (w : Carrying) (p : Spaces) (s : State) (k : Links w p s) (unknown : p.
     core-tells found told e same-core = tells-also n s.told (told-with w p s lines) (Fails (map (carry s.naming.names) told) ∷ []) steps-tell
         (λ held d. (held, (held, (subst (Conflicts held) (sym same-core) (core-conflicts found e held d), refl), inl (tt, refl))))
 
+    -- the lines and the core
+    core-carried : (m : ℕ → Option ℕ) → ((i x : ℕ) → w.global i ≡ Some x → m i ≡ Some x) → (found told : List Literal) →
+        v ≡ outcome.UnsatUnder found → map (carry s.naming.names) told ≡ map (carry (translation w p s.told).identity) found →
+        told_as (carry m) (told_lines (translation w p s.told) lines ++ Fails (map (carry s.naming.names) told) ∷ []) ≡ told_as
+        (global.carry p.global_from_solver) (written lines ++ Fails found ∷ [])
+    core-carried m leads found told e same-core =
+        let to = carry (translation w p s.told).identity in
+        let g = carry m in
+        let h = global.carry p.global_from_solver in
+        let ls = told_lines (translation w p s.told) lines in
+        let used = λ (l : Literal) (i : l ∈ found). k.working.used l (subst (λ ws. l ∈ ws) (sym same) ((keeps.core found e).0 l i)) in
+        let one : map g (map (carry s.naming.names) told) ≡ map h found = ap (map g) same-core
+        ∙ map-map g to h found (λ l i. global-carried w p s k m leads l (used l i)) in
+        told_as-append g ls (Fails (map (carry s.naming.names) told) ∷ [])
+        ∙ ap (λ es. es ++ Fails (map g (map (carry s.naming.names) told)) ∷ []) (lines-carried m leads)
+        ∙ ap (λ (ms : List Literal). told_as h (written lines) ++ Fails ms ∷ []) one
+        ∙ sym (told_as-append h (written lines) (Fails found ∷ []))
+
+    -- what a proof is told of them
+    pub core-told-as : (found told : List Literal) → v ≡ outcome.UnsatUnder found →
+        map (carry s.naming.names) told ≡ map (carry (translation w p s.told).identity) found →
+        AreToldAs s.variables s.told (told-with w p s lines ++ Fails (map (carry s.naming.names) told) ∷ [])
+        (told_as (global.carry p.global_from_solver) (written lines ++ Fails found ∷ []))
+    core-told-as found told e same-core =
+        let ls = told_lines (translation w p s.told) lines in
+        record {
+          entries = ls ++ Fails (map (carry s.naming.names) told) ∷ [];
+          joined = append_assoc s.told ls (Fails (map (carry s.naming.names) told) ∷ []);
+          stays = stays_append ls (Fails (map (carry s.naming.names) told) ∷ [])
+              (written_stays (map (rename_line (carry (translation w p s.told).identity)) lines)) tt;
+          same = core-carried s.variables k.variables found told e same-core;
+        }
+
     core-checked : (found told : List Literal) → IsCheckedIf p.checker
         (told_as (global.carry p.global_from_solver) (written lines ++ Fails found ∷ [])) checker → v ≡ outcome.UnsatUnder found →
         map (carry s.naming.names) told ≡ map (carry (translation w p s.told).identity) found →
@@ -260,18 +309,8 @@ module _ (w : Carrying) (p : Spaces) (s : State) (k : Links w p s) (unknown : p.
     core-checked found told c e same-core =
         let r = translation w p s.told in
         let to = carry r.identity in
-        let g = carry w.global in
-        let h = global.carry p.global_from_solver in
         let ls = told_lines r lines in
-        let used = λ (l : Literal) (i : l ∈ found). k.working.used l (subst (λ ws. l ∈ ws) (sym same) ((keeps.core found e).0 l i)) in
-        let one : map g (map (carry s.naming.names) told) ≡ map h found = ap (map g) same-core
-        ∙ map-map g to h found (λ l i. global-carried w p s k l (used l i)) in
-        let all : told_as g (ls ++ Fails (map (carry s.naming.names) told) ∷ []) ≡ told_as h (written lines ++ Fails found ∷ []) =
-        told_as-append g ls (Fails (map (carry s.naming.names) told) ∷ [])
-        ∙ ap (λ es. es ++ Fails (map g (map (carry s.naming.names) told)) ∷ [])
-        (told-carried to g h (IsLiteralOf p.search) lines (λ l i. global-carried w p s k l (k.holds.within l i)) made.speaks)
-        ∙ ap (λ (ms : List Literal). told_as h (written lines) ++ Fails ms ∷ []) one
-        ∙ sym (told_as-append h (written lines) (Fails found ∷ [])) in
+        let all = core-carried w.global (λ i x q. q) found told e same-core in
         subst (λ es. CheckerFits w.global es checker) (sym (append_assoc s.told ls (Fails (map (carry s.naming.names) told) ∷ [])))
         (checker-on w.global s.told (ls ++ Fails (map (carry s.naming.names) told) ∷ []) p.checker checker
         (stays_append ls (Fails (map (carry s.naming.names) told) ∷ []) (written_stays (map (rename_line to) lines)) tt)
@@ -483,6 +522,7 @@ spaces-same p q s e (w, k) = (
     few = subst (λ n. n ≤ length s.counted) (sym e.var_count) k.few;
     shown = λ h x n. ap (λ y. y.deleted) (e.maps.kept x) ∙ k.shown h x (sym (e.maps.user_from_global x) ∙ n);
     plain = k.plain;
+    variables = k.variables;
     told = k.told;
     checked = λ n. subst (CheckerFits w.global s.told) (sym e.checker) (k.checked (λ z. n (ap without_core e.outcome ∙ z)));
   },

@@ -1,5 +1,5 @@
 -- What the solver's calls do to the states that it stands for.
-use Rattle.std.proofs.Common.{Result, Ok, Err, Vec, ◌≡◌, ◌≢◌, ◌↔◌, if◌then◌else◌, ℕ, zero, suc, ◌+◌, ◌-◌, ◌*◌, ◌^◌, ◌<◌, ◌≤◌, Bool, true, false, Option, Some, None, List, [], ◌∷◌, ◌++◌, ◌⊎◌, inl, inr, ⊎_elim, length, map, get_or, sym, ap, ◌∙◌, subst, refl, arith, append_assoc}
+use Rattle.std.proofs.Common.{Result, Ok, Err, Vec, ◌≡◌, ◌≢◌, ◌↔◌, if◌then◌else◌, ℕ, zero, suc, ◌+◌, ◌-◌, ◌*◌, ◌^◌, ◌<◌, ◌≤◌, Bool, true, false, Option, Some, None, List, [], ◌∷◌, ◌++◌, ◌⊎◌, inl, inr, ⊎_elim, length, map, get_or, sym, ap, ◌∙◌, subst, refl, arith}
 use Rattle.varisat_theory.specs.Membership.{◌∈◌}
 use Rattle.varisat_theory.specs.Literals.{Literal, Clause, Assignment, variable_of, literal_of, IsSatisfiableWith, IsFailedCore}
 use Rattle.varisat_literals.specs.Numbers.{polarity_of}
@@ -47,20 +47,17 @@ use Rattle.std.proofs.lemmas.List.{append-nil}
 use Rattle.varisat_theory.specs.Journals.{Entry, Fails, written}
 use Rattle.varisat_trace.specs.Traces.{TakesStep}
 use Rattle.varisat_tracer.specs.Carried.{told_as}
-use Rattle.varisat_tracer.specs.Carried as global
-use Rattle.varisat_tracer.specs.Told.{told_as-append}
-use Rattle.varisat.proofs.ReachedHeld.{told_lines}
-use Rattle.varisat.proofs.PlainTold.{plain-literals, plain-lines, proof-told}
+use Rattle.varisat.proofs.ToldProofs.{proof-told}
 use Rattle.varisat.specs.Journals.{retold, TellsMore, ToldConflict}
 use Rattle.varisat.proofs.OpenProofs.{goes-on-none}
 use Rattle.varisat.proofs.ToldEntries.{tells-nothing, stays-nothing}
-use Rattle.varisat.specs.Spaces.{Spaces, Carrying, Translation, HeldFits, translation, without_core, CoreFits, VerdictFits, Links, SpacesFit, list_globals}
+use Rattle.varisat.specs.Spaces.{Carrying, Translation, HeldFits, translation, without_core, CoreFits, VerdictFits, Links, SpacesFit, FitWithNew, list_globals}
 use Rattle.varisat.specs.Summaries.{Summary, IsKept, StandsFor, spaces, spaces_of, list_tables}
 use Rattle.varisat.proofs.SpacesAgree.{map-map}
 use Rattle.varisat.proofs.CallStates.{ledger-is, none-more}
 use Rattle.varisat.proofs.VerdictAnswers.{right-false, right-core, core-answer}
 use Rattle.varisat.proofs.Carried.{carry-at, carry-sign}
-use Rattle.varisat.proofs.SolveVerdict.{told-with, steps-tell, steps-add, core-tells, maps-alike, recount, spaces-same, sat-found, unsat-found, core-found, found, went-on}
+use Rattle.varisat.proofs.SolveVerdict.{told-with, steps-tell, steps-add, steps-told-as, core-tells, core-told-as, maps-alike, recount, spaces-same, sat-found, unsat-found, core-found, found, went-on}
 use Rattle.varisat.proofs.ModelsFit.{told, is-sat, is-unsat, is-core, is-unknown}
 use Rattle.varisat.proofs.AcceptClause.{with_tables, name-below, name-above, given-spaces}
 use Rattle.varisat.proofs.SearchViews.{view-long}
@@ -160,6 +157,7 @@ first-spaces s e n =
         few = omega (arith, n);
         shown = λ o x h. refl;
         plain = λ o. record { all = λ i h. absurd (omega (arith, h)); only = λ x i e. absurd (let z : None ≡ Some i = e in cc) };
+        variables = λ i x e. absurd (let z : None ≡ Some x = e in cc);
         told = record { accepted = refl; spoken = tt; left = λ i. (λ h. absurd h, λ (h, e). absurd (omega (arith, h))); stays = λ e. tt };
         checked = λ n held led. tt;
       },
@@ -194,11 +192,11 @@ named-alone u m free near =
     below-or u n = grind arith
 
 pub new-named : (g : Summary) (s : State) (new : Tables) (u x : ℕ) → SpacesFit (spaces g) s → IsLeastUnmapped g.tables.users.forward u →
-    u ≤ length g.tables.users.forward → IsGiven g.tables new u x → SpacesFit (spaces (with_tables new g)) (with_naming (name_one u s.naming) s)
+    u ≤ length g.tables.users.forward → IsGiven g.tables new u x → FitWithNew (spaces (with_tables new g)) s (with_naming (name_one u s.naming) s)
 new-named g s new u x f least b t =
     let m = f.1.watermark in
-    subst (SpacesFit (spaces (with_tables new g)))
-    (sym (ap (λ n. with_naming n s) (named-alone u s.naming (least-free g s u f least).0 (omega (arith, b, m))))) (given-spaces g s new u x f least.0 t)
+    subst (λ n. FitWithNew (spaces (with_tables new g)) s (with_naming n s))
+    (sym (named-alone u s.naming (least-free g s u f least).0 (omega (arith, b, m)))) (given-spaces g s new u x f least.0 t)
 
 -- 3. A verdict.
 
@@ -291,21 +289,6 @@ module _ (g : Summary) (s : State) (w : Carrying) (k : Links w (spaces g) s)
         (carry-sign s.naming.names (carry f m) ∙ carry-sign f m ∙ sym (carry-sign to m))),
   )
 
--- where nothing was ever hidden that is what the journal is told
-plain-with : (w : Carrying) (p : Spaces) (s : State) → Links w p s → s.ever_hidden ≡ false → (lines : List Line) →
-    told-with w p s lines ≡ s.told ++ told_as (global.carry p.global_from_solver) (written lines ++ [])
-plain-with w p s k shown lines =
-    ap (λ es. s.told ++ es) (plain-lines w p s k shown lines ∙ ap (told_as (global.carry p.global_from_solver)) (sym (append-nil (written lines))))
-
-plain-core : (w : Carrying) (p : Spaces) (s : State) → Links w p s → s.ever_hidden ≡ false → (lines : List Line) (found told : List Literal) →
-    told ≡ map (carry (translation w p s.told).identity) found →
-    told-with w p s lines ++ Fails told ∷ [] ≡ s.told ++ told_as (global.carry p.global_from_solver) (written lines ++ Fails found ∷ [])
-plain-core w p s k shown lines found told e =
-    append_assoc s.told (told_lines (translation w p s.told) lines) (Fails told ∷ [])
-    ∙ ap (λ (c : List Literal). s.told ++ (told_lines (translation w p s.told) lines ++ Fails c ∷ [])) (e ∙ plain-literals w p s k shown found)
-    ∙ ap (λ es. s.told ++ (es ++ Fails (map (global.carry p.global_from_solver) found) ∷ [])) (plain-lines w p s k shown lines)
-    ∙ ap (λ es. s.told ++ es) (sym (told_as-append (global.carry p.global_from_solver) (written lines) (Fails found ∷ [])))
-
 -- what the search is as steps begin
 abbrev searching : TracerState → View → AssumptionParts → State → Summary
 searching p search assumed s = record {
@@ -341,7 +324,8 @@ comes-made p q search assumed s t y z verdict.Unknown n lines (w, k) v takes =
       told = told;
       more = steps-tell w (spaces g) s k refl (search_of t) outcome.Unknown n lines v.steps long v.in_use;
       adds = λ e. steps-add w (spaces g) s k refl (search_of t) outcome.Unknown n lines v.steps long v.in_use refl;
-      proof = proof-told p q (written lines ++ []) s.ever_hidden s.told told takes (λ shown. plain-with w (spaces g) s k shown lines);
+      proof = proof-told p q (written lines ++ []) s.variables s.told told takes
+          (steps-told-as w (spaces g) s k refl (search_of t) outcome.Unknown n lines v.steps long v.in_use);
       fits = left-spaces g q.proof.checker (retold told (with_verdict Unknown s)) t y z verdict.Unknown v (w, links);
     }
 comes-made p q search assumed s t y z verdict.Sat n lines (w, k) v takes =
@@ -356,7 +340,8 @@ comes-made p q search assumed s t y z verdict.Sat n lines (w, k) v takes =
       told = told;
       more = steps-tell w (spaces g) s k refl (search_of t) (outcome.Sat (assignment_of t)) n lines v.steps long v.in_use;
       adds = λ e. absurd (let z : Sat a ≡ Unknown = e in cc);
-      proof = proof-told p q (written lines ++ []) s.ever_hidden s.told told takes (λ shown. plain-with w (spaces g) s k shown lines);
+      proof = proof-told p q (written lines ++ []) s.variables s.told told takes
+          (steps-told-as w (spaces g) s k refl (search_of t) (outcome.Sat (assignment_of t)) n lines v.steps long v.in_use);
       fits = left-spaces g q.proof.checker (retold told (with_verdict (Sat a) s)) t y z verdict.Sat v (w, links);
     }
 comes-made p q search assumed s t y z verdict.Unsat n lines (w, k) v takes =
@@ -370,7 +355,8 @@ comes-made p q search assumed s t y z verdict.Unsat n lines (w, k) v takes =
       told = told;
       more = steps-tell w (spaces g) s k refl (search_of t) outcome.Unsat n lines v.steps long v.in_use;
       adds = λ e. absurd (let z : Unsat ≡ Unknown = e in cc);
-      proof = proof-told p q (written lines ++ []) s.ever_hidden s.told told takes (λ shown. plain-with w (spaces g) s k shown lines);
+      proof = proof-told p q (written lines ++ []) s.variables s.told told takes
+          (steps-told-as w (spaces g) s k refl (search_of t) outcome.Unsat n lines v.steps long v.in_use);
       fits = left-spaces g q.proof.checker (retold told (with_verdict Unsat s)) t y z verdict.Unsat v (w, links);
     }
 comes-made p q search assumed s t y z verdict.UnsatUnderAssumptions n lines (w, k) v takes =
@@ -388,8 +374,9 @@ comes-made p q search assumed s t y z verdict.UnsatUnderAssumptions n lines (w, 
       more = core-tells w (spaces g) s k refl (search_of t) (outcome.UnsatUnder y.failed_core) n lines v.steps long v.in_use assumed y refl
           v.assumes q.proof.checker y.failed_core z.user_core refl same;
       adds = λ e. absurd (let z : UnsatUnderAssumptions core ≡ Unknown = e in cc);
-      proof = proof-told p q (written lines ++ Fails y.failed_core ∷ []) s.ever_hidden s.told told takes
-          (λ shown. plain-core w (spaces g) s k shown lines y.failed_core core same);
+      proof = proof-told p q (written lines ++ Fails y.failed_core ∷ []) s.variables s.told told takes
+          (core-told-as w (spaces g) s k refl (search_of t) (outcome.UnsatUnder y.failed_core) n lines v.steps long v.in_use assumed y refl
+          v.assumes q.proof.checker y.failed_core z.user_core refl same);
       fits = left-spaces g q.proof.checker (retold told (with_verdict (UnsatUnderAssumptions core) s)) t y z verdict.UnsatUnderAssumptions v (w, links);
     }
 
@@ -586,6 +573,7 @@ known-told g s b st v e =
             (none-more s.ledger.since s.ledger.steps) refl;
         told = (stays-nothing s.told).0;
         stays = λ _. (stays-nothing s.told).1;
+        alike = refl;
         proof =
             goes-on-none s.proof;
       };

@@ -37,14 +37,14 @@ use Rattle.varisat.specs.Journals.{retold, TellsMore, TellsLeaving, ToldConflict
 use Rattle.varisat.specs.OpenProofs.{OpenProof, GoesOnWriting}
 use Rattle.varisat.specs.Searches.{answer_at, TellsSome, ComesTo, ComesOn, MakesNamedStep}
 use Rattle.varisat.specs.Spaces.{Spaces, translation, VerdictFits, SpacesFit}
-use Rattle.varisat.specs.States.{State, Verdict, Unknown, Unsat, UnsatUnderAssumptions, HasRightVerdict, IsRight, FlagsFit}
+use Rattle.varisat.specs.States.{State, Verdict, Unknown, Unsat, HasRightVerdict, IsRight, FlagsFit}
 use Rattle.varisat.specs.Summaries.{IsKept, spaces_of, spaces_with, undecided_spaces}
 use Rattle.varisat.proofs.AcceptClause.{ledger-free, proof-free}
 use Rattle.varisat.proofs.CallStates.{ledger-is, none-more, like-grown}
 use Rattle.varisat.proofs.ModelsFit.{is-sat, is-unknown}
 use Rattle.varisat.proofs.OpenProofs.{goes-on-none, open-before}
 use Rattle.varisat.proofs.PlainTables.{assumed-named}
-use Rattle.varisat.proofs.PlainTold.{proof-quiet, proof-through}
+use Rattle.varisat.proofs.ToldProofs.{proof-quiet, proof-through}
 use Rattle.varisat.proofs.SearchVerdicts.{kept-on}
 use Rattle.varisat.proofs.SolverCalls.{comes-made, answers-fit, unsat-told, core-not-empty}
 use Rattle.varisat.proofs.ToldEntries.{tells-nothing, stays-nothing}
@@ -67,7 +67,7 @@ comes-nowhere n s p after e f =
       told = s.told;
       more = more;
       adds = λ u. subst (λ m. GoesOnAdding m s.told more.entries) (sym e) (goes_adding_none n s.told more.entries more.goes);
-      proof = proof-quiet s.ever_hidden s.told s.told p (λ h. refl);
+      proof = proof-quiet s.variables s.told p;
       fits = f;
     }
 
@@ -91,13 +91,13 @@ comes-through n m k p q r before mid last sum unknown first second s fit =
       };
       adds = λ e. subst (λ j. GoesOnAdding j s.told (es ++ more)) sum
           (goes_adding_further n m s.told es more (a.adds (unknown t a.fits)) (subst (λ xs. GoesOnAdding m xs more) a.more.joined (b.adds e)));
-      proof = proof-through s.ever_hidden s.told a.told b.told p q r a.proof b.proof;
+      proof = proof-through s.variables s.told a.told b.told p q r a.proof b.proof;
       fits = b.fits;
     }
 
 -- variables leave, and what is gone is told
 pub leaving-comes : (p q : ProofParts) (before after : Spaces) →
-    ((s : State) → SpacesFit before s → (told : List Entry) × TellsLeaving s.ever_hidden s.told told p q × SpacesFit after (retold told s)) →
+    ((s : State) → SpacesFit before s → (told : List Entry) × TellsLeaving s.variables s.told told p q × SpacesFit after (retold told s)) →
     ComesOn 0 before after p q
 leaving-comes p q before after leave s fit =
     let (told, t, f) = leave s fit in
@@ -304,6 +304,7 @@ module _ {A : Type 0} {k : ℕ} {s : State} {p q : ProofParts} (m : Tables) (y :
       ledger = refl;
       told = (stays-nothing c.told).0;
       stays = λ _. (stays-nothing c.told).1;
+      alike = refl;
       proof = grows;
     };
     told = record { entries = c.more.entries; joined = c.more.joined; goes = subst (λ j. GoesOn j s.told c.more.entries) made c.more.goes };
@@ -333,6 +334,7 @@ interrupted-still s valid was counts =
             (none-more s.ledger.since s.ledger.steps) refl;
         told = (stays-nothing s.told).0;
         stays = λ _. (stays-nothing s.told).1;
+        alike = refl;
         proof =
             goes-on-none s.proof;
       };

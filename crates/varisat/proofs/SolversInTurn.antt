@@ -28,11 +28,11 @@ use Rattle.varisat_names.specs.Variables.{Tables, AreLinked}
 use Rattle.varisat_names.proofs.Maps.{updated-other, chain-some, chain-through}
 use Rattle.varisat_names.proofs.VarMap.{at-inside}
 use Rattle.varisat_proof.specs.Calls.{CheckerState}
-use Rattle.varisat.specs.States.{State, join_one, join_counted}
+use Rattle.varisat.specs.States.{State, with_variables, join_one, join_counted}
 use Rattle.varisat.specs.Names.{Naming, name_one, name_all, through_names}
 use Rattle.varisat.specs.Calls.{IsPastLimit, with_naming}
 use Rattle.varisat.specs.Carried.{carry}
-use Rattle.varisat.specs.Spaces.{Spaces, SpacesFit}
+use Rattle.varisat.specs.Spaces.{Spaces, SpacesFit, FitWithNew}
 use Rattle.varisat.specs.Summaries.{Summary, spaces, spaces_of, IsKept}
 use Rattle.varisat.specs.Accepting.{naming_of, CanBeNamed, HasNames}
 use Rattle.varisat.proofs.SpacesMoves.{count}
@@ -223,9 +223,8 @@ module _ {A : Type 0} (l : Literal) (old new : Searched A) (v : ℕ) (none : old
 
   pub turn-spaces : (checker : Option CheckerState) (s : State) → length old.context.assignment.current ≡ length old.tables.solvers.backward →
       SpacesFit (spaces_at checker old old.context.solver_state.sat_state) s →
-      SpacesFit (spaces_at checker new new.context.solver_state.sat_state) (with_names (l ∷ []) s)
+      FitWithNew (spaces_at checker new new.context.solver_state.sat_state) s (with_names (l ∷ []) s)
   turn-spaces checker s before f =
-      let n = with_naming (name_one (variable_of l) s.naming) s in
       let first : Summary = record {
         tables = old.tables;
         opened = None;
@@ -237,10 +236,15 @@ module _ {A : Type 0} (l : Literal) (old new : Searched A) (v : ℕ) (none : old
         words = 0;
         ledger = s.ledger;
       } in
-      let named = named-one first s h.mid (variable_of l) f h.named in
+      let (variables, keep, named) = named-one first s h.mid (variable_of l) f h.named in
+      let n = with_variables variables (with_naming (name_one (variable_of l) s.naming) s) in
       let same = ap (λ (b : BiMap). length b.backward) (one-keeps (variable_of l) old.tables h.mid h.named).solvers in
-      subst (λ y. SpacesFit (spaces_at checker new y) (with_names (l ∷ []) s)) (sym (ap (λ (x : SolverState). x.sat_state) turn-verdict.state))
-      (case-spaces checker l h.global (record old { tables = h.mid }) new v n none h.leads h.live (before ∙ sym same) h.variables h.solver named)
+      let fits = case-spaces checker l h.global (record old { tables = h.mid }) new v n none h.leads h.live (before ∙ sym same) h.variables h.solver named in (
+        variables,
+        keep,
+        subst (λ y. SpacesFit (spaces_at checker new y) (with_variables variables (with_names (l ∷ []) s)))
+            (sym (ap (λ (x : SolverState). x.sat_state) turn-verdict.state)) fits,
+      )
 
   pub turn-kept : AreLinked old.tables → IsKept old.tables old.context → IsKept new.tables new.context
   turn-kept linked k =
@@ -274,13 +278,13 @@ pub record HaveSolvers {A : Type 0} (d : List Literal) (old new : Searched A) : 
   pub kept : IsKept new.tables new.context
   pub verdict : KeepsVerdict old.context new.context
   pub stands : (checker : Option CheckerState) (s : State) → SpacesFit (spaces_at checker old old.context.solver_state.sat_state) s →
-      SpacesFit (spaces_at checker new new.context.solver_state.sat_state) (with_names d s)
+      FitWithNew (spaces_at checker new new.context.solver_state.sat_state) s (with_names d s)
 
 pub have-solvers : {A : Type 0} (d : List Literal) (old new : Searched A) → old.context.solver_state.sat_state ≢ verdict.Sat →
     AreLinked old.tables → IsKept old.tables old.context → HaveSolversInTurn d old new → HaveSolvers d old new
 have-solvers {A = A} [] old new none linked k e =
     subst (λ (y : Searched A). HaveSolvers [] old y) (sym e)
-    (record { kept = k; verdict = record { state = refl; assumptions = refl }; stands = λ checker s f. f })
+    (record { kept = k; verdict = record { state = refl; assumptions = refl }; stands = λ checker s f. (s.variables, λ i b. refl, f) })
 have-solvers (l ∷ d) old new none linked k (mid, v, h, rest) =
     let t = turn-verdict l old mid v none h in
     let sat = ap (λ (x : SolverState). x.sat_state) t.state in
@@ -294,7 +298,8 @@ have-solvers (l ∷ d) old new none linked k (mid, v, h, rest) =
       stands = λ checker s f.
           let m = name_one (variable_of l) s.naming in
           let all = name_all d m in
-          let first = turn-spaces l old mid v none h checker s k.count f in
+          let (variables, keep, first) = turn-spaces l old mid v none h checker s k.count f in
+          let made = (all-made (l ∷ []) s.naming).0 in
           -- the name keeps its identity as the others come into use
           let users = (case-same h.global (record old { tables = h.mid }) mid v h.solver).0 in
           let here = ap (λ (b : BiMap). at b.forward (variable_of l)) users ∙ h.leads in
@@ -305,9 +310,13 @@ have-solvers (l ∷ d) old new none linked k (mid, v, h, rest) =
           let w = first.1.watermark in
           let stays : all.names (variable_of l) ≡ Some i = all-stay d (variable_of l) i m (omega (arith, inside, w)) named in
           let same : variable_of (through_names m l) ≡ variable_of (through_names all l) = carry-at m.names l i named ∙ sym (carry-at all.names l i stays) in
-          subst (λ j. SpacesFit (spaces_at checker new new.context.solver_state.sat_state)
-          (count (join_counted (join_one j s.counted) (map variable_of (map (through_names all) d))) (with_naming all s))) same
-          (more.stands checker (with_names (l ∷ []) s) first);
+          let (last, further, fits) = more.stands checker (with_variables variables (with_names (l ∷ []) s)) first in (
+            last,
+            λ i b. further i (omega (arith, b, made)) ∙ keep i b,
+            subst (λ j. SpacesFit (spaces_at checker new new.context.solver_state.sat_state)
+                (with_variables last (count (join_counted (join_one j s.counted) (map variable_of (map (through_names all) d)))
+                (with_naming all s)))) same fits,
+          );
     }
 
 -- 5. Before and after.

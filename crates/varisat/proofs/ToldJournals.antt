@@ -13,7 +13,8 @@ use Rattle.varisat_theory.proofs.Journals.{leads_derives, leads_refutes}
 use Rattle.varisat.specs.States.{State, Verdict, Unknown, Sat, Unsat, UnsatUnderAssumptions, IsRight}
 use Rattle.varisat.specs.Calls.{answer_of}
 use Rattle.varisat.specs.Journals.{IsJournal}
-use Rattle.varisat.specs.OpenProofs.{IsOpen, IsWrittenAs, IsWrittenIf}
+use Rattle.varisat.specs.OpenProofs.{IsOpen, lines_over, IsWrittenAs, IsWrittenIf}
+use Rattle.varisat.proofs.WrittenVariables.{there-present, there-apart, written-plain}
 use Rattle.varisat.specs.ProofCalls.{HasProof}
 use Rattle.varisat.specs.Carried.{carry}
 use Rattle.varisat.specs.Spaces.{Spaces, Carrying, Links, Translation, IsCounted, HeldFits, VerdictFits, without_core}
@@ -39,6 +40,8 @@ journal-of g s st v =
       led = led;
       accepted = k.told.accepted;
       written = (st.proof v).written;
+      apart = record { present = there-present w (spaces g) s k; apart = there-apart w (spaces g) s k };
+      plain = written-plain w (spaces g) s k;
       stays = k.told.stays;
       derives = λ e.
           let (last, d, same) = leads_derives [] s.told held (k.told.stays e) led in
@@ -115,11 +118,12 @@ open-refuted g s st v o e =
 pub proof-of : (g : Summary) (s : State) → StandsFor g s → g.ledger.valid ≡ true → HasProof s
 proof-of g s st v p e =
     let j = journal-of g s st v in
-    let w : IsWrittenAs s.ever_hidden s.told p = subst (IsWrittenIf s.ever_hidden s.told) e j.written in
+    let w : IsWrittenAs s.variables s.told p = subst (IsWrittenIf s.variables s.told) e j.written in
     record {
-      lines = w.lines;
+      variables = s.variables;
       written = w.bytes;
-      same = λ h. sym (w.all h);
-      derives = λ h. subst (IsDerivation s.clauses) (w.all h) (j.derives h);
-      refutes = λ h a. subst (Refutes s.clauses) (w.all h) (j.refutes h (open-refuted g s st v (p, e) a));
+      apart = j.apart;
+      plain = j.plain;
+      derives = j.derives;
+      refutes = λ h a. j.refutes h (open-refuted g s st v (p, e) a);
     }

@@ -1,5 +1,5 @@
 -- What the calls that set modes, hide and show variables do to the states that the solver stands for.
-use Rattle.std.proofs.Common.{◌≡◌, ◌≢◌, ℕ, Bool, true, false, Result, Err, Some, None, List, [], ◌∷◌, inl, inr, ⊎_elim, length, sym, ap, ◌∙◌, subst, refl}
+use Rattle.std.proofs.Common.{◌≡◌, ◌≢◌, ℕ, Bool, true, false, Result, Err, Option, Some, None, List, [], ◌∷◌, inl, inr, ⊎_elim, length, sym, ap, ◌∙◌, subst, refl}
 use Rattle.std.specs.Option.{is_some}
 use Rattle.varisat_theory.specs.Literals.{variable_of, literal_of}
 use Rattle.varisat_search.proofs.StepOutcome.{variable-literal}
@@ -11,7 +11,7 @@ use Rattle.varisat_names.specs.Variables.{Tables, AreLinked}
 use Rattle.varisat_names.specs.declared.variables.data.SamplingMode.{SamplingMode}
 use Rattle.varisat_names.specs.declared.variables.data.SamplingMode.TheVariants as sampling
 use Rattle.varisat_names.proofs.Maps.{chain-none, is-some, some-of}
-use Rattle.varisat.specs.States.{State}
+use Rattle.varisat.specs.States.{State, with_variables}
 use Rattle.varisat.specs.Names.{Mode, Naming, name_one, give_name}
 use Rattle.varisat.specs.Calls.{IsCrowded, with_naming}
 use Rattle.varisat.specs.Usage.{AreAllShown, ChangesVar, SetsMode, name_var}
@@ -25,8 +25,8 @@ use Rattle.varisat_proof.specs.Proving.{ProofParts}
 use Rattle.varisat_tracer.specs.Tracing.{TracerState}
 use Rattle.varisat_search.specs.declared.state.SatState.TheVariants as verdict
 use Rattle.varisat.specs.Journals.{retold, TellsLeaving}
-use Rattle.varisat.proofs.PlainTold.{leaving-nothing}
-use Rattle.varisat.specs.Spaces.{Carrying, ModeFits, Links, SpacesFit}
+use Rattle.varisat.proofs.ToldProofs.{leaving-nothing}
+use Rattle.varisat.specs.Spaces.{Carrying, ModeFits, Links, SpacesFit, KeepVariables, FitWithNew}
 use Rattle.varisat.specs.Summaries.{Summary, IsKept, spaces}
 use Rattle.varisat.specs.declared.solver.SolverError.{SolverError}
 use Rattle.varisat.specs.declared.solver.SolverError.TheVariants.{OutOfMemory, VariableLimit, AssumedVar}
@@ -84,23 +84,25 @@ not-hide sampling.Witness n fit e = cc
 not-hide sampling.Hide n fit e = absurd fit
 
 pub mode-state : (g : Summary) (s : State) (new : Tables) (u x : ℕ) (m : SamplingMode) (n : Mode) → SpacesFit (spaces g) s → ModeFits m n →
-    SetsNamedMode u m g.tables x new → SpacesFit (spaces (with_tables new g)) (with_mode u n (name_var named u s))
+    SetsNamedMode u m g.tables x new → FitWithNew (spaces (with_tables new g)) s (with_mode u n (name_var named u s))
 mode-state g s new u x m n b fit c =
-    mode-spaces (with_tables c.mid g) (with_naming (name_one u s.naming) s) new u x m n (named-one g s c.mid u b c.named.named) c.named.leads fit
-    (c.changed (not-hide m n fit))
+    let (variables, keep, fits) = named-one g s c.mid u b c.named.named in
+    let t = with_variables variables (with_naming (name_one u s.naming) s) in
+    (variables, keep, mode-spaces (with_tables c.mid g) t new u x m n fits c.named.leads fit (c.changed (not-hide m n fit)))
 
 -- the name is free, and its variable left or not
-module _ (g : Summary) (s : State) (u : ℕ) (p : ProofParts) (q : TracerState) (same : p.checker ≡ g.checker) (b : SpacesFit (spaces g) s)
-    (h : HidesNamed u g.sat_state (record { tables = g.tables; proof = p }) q) where
+module _ (g : Summary) (s : State) (u : ℕ) (p : ProofParts) (q : TracerState) (same : p.checker ≡ g.checker)
+    (h : HidesNamed u g.sat_state (record { tables = g.tables; proof = p }) q) (variables : ℕ → Option ℕ)
+    (b : SpacesFit (spaces (with_tables h.set.mid g)) (with_variables variables (with_naming (name_one u s.naming) s))) where
   after : State
-  after = hide_name u (name_var named u s)
+  after = with_variables variables (hide_name u (name_var named u s))
 
   freed : SpacesFit (spaces (with_tables h.mid g)) after
   unfolding after
-  freed = let c = h.set in hidden-spaces (with_tables c.mid g) (with_naming (name_one u s.naming) s) h.mid u h.global
-      (named-one g s c.mid u b c.named.named) c.named.leads c.named.unassumed (c.hidden refl)
+  freed = let c = h.set in hidden-spaces (with_tables c.mid g) (with_variables variables (with_naming (name_one u s.naming) s)) h.mid u h.global
+      b c.named.leads c.named.unassumed (c.hidden refl)
 
-  gone : g.sat_state ≢ verdict.Unsat → (told : List Entry) × TellsLeaving true s.told told p q.proof
+  gone : g.sat_state ≢ verdict.Unsat → (told : List Entry) × TellsLeaving variables s.told told p q.proof
       × SpacesFit (spaces (with_checker q.proof.checker (with_tables q.tables g))) (retold told after)
   unfolding after
   gone n =
@@ -110,15 +112,26 @@ module _ (g : Summary) (s : State) (u : ℕ) (p : ProofParts) (q : TracerState) 
       (hidden-keeps (λ (d : VarData). d.deleted) h.set.mid h.mid u h.global refl hides ∙ h.set.named.live)
       (hidden-unnamed h.set.mid h.mid u h.global hides) n l.deleted same l.told
 
-  pub hide-state : (told : List Entry) × TellsLeaving true s.told told p q.proof
-      × SpacesFit (spaces (with_checker q.proof.checker (with_tables q.tables g))) (retold told (hide_name u (name_var named u s)))
+  left-or-not : (told : List Entry) × TellsLeaving variables s.told told p q.proof
+      × SpacesFit (spaces (with_checker q.proof.checker (with_tables q.tables g)))
+      (with_variables variables (retold told (hide_name u (name_var named u s))))
   unfolding after
-  hide-state = ⊎_elim
-      (λ e. subst (λ (t : TracerState). (told : List Entry) × TellsLeaving true s.told told p t.proof
+  left-or-not = ⊎_elim
+      (λ e. subst (λ (t : TracerState). (told : List Entry) × TellsLeaving variables s.told told p t.proof
       × SpacesFit (spaces (with_checker t.proof.checker (with_tables t.tables g))) (retold told after)) (sym (h.stays e))
-      (s.told, leaving-nothing true s.told p, subst (λ o. SpacesFit (spaces (with_checker o (with_tables h.mid g))) after) (sym same) freed))
+      (s.told, leaving-nothing variables s.told p, subst (λ o. SpacesFit (spaces (with_checker o (with_tables h.mid g))) after) (sym same) freed))
       (λ n. gone n)
       (unsat-or-not g.sat_state)
+
+pub hide-state : (g : Summary) (s : State) (u : ℕ) (p : ProofParts) (q : TracerState) → p.checker ≡ g.checker → SpacesFit (spaces g) s →
+    HidesNamed u g.sat_state (record { tables = g.tables; proof = p }) q →
+    (variables : ℕ → Option ℕ) × (told : List Entry) × KeepVariables s.naming.made s.variables variables × TellsLeaving variables s.told told p q.proof
+    × SpacesFit (spaces (with_checker q.proof.checker (with_tables q.tables g)))
+    (with_variables variables (retold told (hide_name u (name_var named u s))))
+hide-state g s u p q same b h =
+    let (variables, keep, fits) = named-one g s h.set.mid u b h.set.named.named in
+    let (told, more, all) = left-or-not g s u p q same h variables fits in
+    (variables, told, keep, more, all)
 
 turns-state : (us : List ℕ) (g : Summary) (s : State) (new : Tables) → SpacesFit (spaces g) s → AreShownInTurn us g.tables new →
     HaveShown us (with_tables new g) s

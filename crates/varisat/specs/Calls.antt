@@ -11,7 +11,7 @@ use Rattle.varisat_theory.specs.Literals.{Literal, Clause, variable_of, opposite
 use Rattle.varisat_theory.specs.NewClauses.{GoesOnAdding}
 use Rattle.varisat_theory.specs.Journals as entry
 use Rattle.varisat.specs.Journals.{retold, TellsMore, ToldConflict}
-use Rattle.varisat.specs.OpenProofs.{IsOpen, IsSearched, searched_under, GoesOnWriting}
+use Rattle.varisat.specs.OpenProofs.{IsOpen, IsSearched, searched_under, lines_over, GoesOnWriting}
 use Rattle.varisat_formula.specs.Dimacs.{Reading}
 use Rattle.varisat_formula.specs.Streams.{Stand}
 use Rattle.varisat.specs.States.{State, join_counted, Verdict, Unknown, Sat, Unsat, UnsatUnderAssumptions, HasRightVerdict, IsWellFormed}
@@ -37,7 +37,7 @@ abbrev pub IsValid : State → Type 0
 IsValid s = is_valid s ≡ true
 
 -- What a user can know in t is what it is in s, but for what a call tells beside, entries that add no clause that counts, and for
--- further bytes of an open proof. Variables left only where they may.
+-- further bytes of an open proof. Variables left only where they may, and the lines told before are written as they were.
 pub record IsLikeButLeft (may_leave : Bool) (s t : State) : Type 0 where
   pub naming : t.naming ≡ s.naming
   pub ever_hidden : t.ever_hidden ≡ s.ever_hidden
@@ -48,6 +48,7 @@ pub record IsLikeButLeft (may_leave : Bool) (s t : State) : Type 0 where
   pub ledger : t.ledger ≡ s.ledger
   pub told : TellsMore 0 s.told t.told
   pub stays : may_leave ≡ false → entry.NoneLeaves told.entries
+  pub alike : lines_over t.variables s.told ≡ lines_over s.variables s.told
   pub proof : GoesOnWriting s.proof t.proof
 
 -- so it is, and none left

@@ -117,4 +117,4 @@ pub record LetsLeave {A : Type 0} (p : TracerState) (x : Context A) (q : TracerS
   pub count : length y.assignment.current ≡ length x.assignment.current
   pub given : (entries : List Entry) × IsTold p.proof entries q.proof
   pub stands : (s : State) → SpacesFit (undecided_spaces p.tables p.proof.checker x) s →
-      (told : List Entry) × TellsLeaving s.ever_hidden s.told told p.proof q.proof × SpacesFit (undecided_spaces q.tables q.proof.checker y) (retold told s)
+      (told : List Entry) × TellsLeaving s.variables s.told told p.proof q.proof × SpacesFit (undecided_spaces q.tables q.proof.checker y) (retold told s)

@@ -1,11 +1,12 @@
 -- What a call tells: entries that go on from what was told before.
-use Rattle.std.specs.Prelude.{◌≡◌, ℕ, Bool, false, List, [], ◌++◌}
+use Rattle.std.specs.Prelude.{◌≡◌, ℕ, false, Option, List, [], ◌++◌, map}
 use Rattle.varisat_theory.specs.Literals.{Clause}
 use Rattle.varisat_theory.specs.Propagation.{Conflicts}
-use Rattle.varisat_theory.specs.Journals.{Entry, Leads, LeadsBy, NoneLeaves, accepted_of, lines_of, GoesOn}
+use Rattle.varisat_theory.specs.Journals.{Entry, Leads, LeadsBy, NoneLeaves, accepted_of, lines_of, rename_entry, GoesOn}
 use Rattle.varisat_theory.specs.Derivations.{IsDerivation, Refutes}
 use Rattle.varisat_proof.specs.Proving.{ProofParts, IsTold}
-use Rattle.varisat.specs.OpenProofs.{IsWrittenIf}
+use Rattle.varisat.specs.Carried.{carry}
+use Rattle.varisat.specs.OpenProofs.{lines_over, IsWrittenIf, HaveOwnVariables}
 use Rattle.varisat.specs.States.{State, Unsat}
 
 -- the same state once more was told
@@ -23,29 +24,31 @@ pub record TellsMore (n : ℕ) (before after : List Entry) : Type 0 where
 abbrev pub TellsStaying : ℕ → List Entry → List Entry → Type 0
 TellsStaying n before after = (m : TellsMore n before after) × NoneLeaves m.entries
 
--- An open proof, and a checker, were told entries over global variables. As long as nothing was ever hidden these are the further entries themselves.
-pub record TellsProof (hidden : Bool) (before after : List Entry) (old new : ProofParts) : Type 0 where
-  pub given : List Entry
-  pub told : IsTold old given new
-  pub plain : hidden ≡ false → after ≡ before ++ given
+-- An open proof, and a checker, were told the further entries, each identity as its variable.
+pub record TellsProof (variables : ℕ → Option ℕ) (before after : List Entry) (old new : ProofParts) : Type 0 where
+  pub entries : List Entry
+  pub joined : after ≡ before ++ entries
+  pub told : IsTold old (map (rename_entry (carry variables)) entries) new
 
--- Entries are told as variables leave, and to the proof which global variables are gone.
-pub record TellsLeaving (hidden : Bool) (before after : List Entry) (old new : ProofParts) : Type 0 where
+-- Entries are told as variables leave, and to the proof as well.
+pub record TellsLeaving (variables : ℕ → Option ℕ) (before after : List Entry) (old new : ProofParts) : Type 0 where
   pub more : TellsMore 0 before after
-  pub proof : TellsProof hidden before after old new
+  pub proof : TellsProof variables before after old new
 
 -- what was told leads to clauses over which propagation conflicts
 abbrev pub ToldConflict : List Entry → Type 0
 ToldConflict told = (held : List Clause) × Leads [] told held × Conflicts held []
 
--- What was told is right, entry by entry, and an open proof has its lines since it was opened, as long as nothing was ever
--- hidden. Its clauses are those accepted, in order. Where nothing was ever hidden no variable leaves, and its lines are a
--- derivation from these, and under Unsat they refute them.
+-- What was told is right, entry by entry, and an open proof has all its lines, each identity as its variable: no two that have not
+-- left have the same. Its clauses are those accepted, in order. Where nothing was ever hidden each line is written as it is, no
+-- variable leaves, and its lines are a derivation from these, and under Unsat they refute them.
 pub record IsJournal (s : State) : Type 0 where
   pub held : List Clause
   pub led : Leads [] s.told held
   pub accepted : accepted_of s.told ≡ s.clauses
-  pub written : IsWrittenIf s.ever_hidden s.told s.proof
+  pub written : IsWrittenIf s.variables s.told s.proof
+  pub apart : HaveOwnVariables s.variables s.naming.made s.told
+  pub plain : s.ever_hidden ≡ false → lines_over s.variables s.told ≡ lines_of s.told
   pub stays : s.ever_hidden ≡ false → NoneLeaves s.told
   pub derives : s.ever_hidden ≡ false → IsDerivation s.clauses (lines_of s.told)
   pub refutes : s.ever_hidden ≡ false → s.verdict ≡ Unsat → Refutes s.clauses (lines_of s.told)

@@ -1,13 +1,16 @@
 -- What a user can know of an open DRAT proof, and what a call makes of it.
-use Rattle.std.specs.Prelude.{◌≡◌, ℕ, Bool, true, false, Option, Some, None, List, [], ◌++◌}
+use Rattle.std.specs.Prelude.{◌≡◌, ℕ, ◌<◌, Bool, true, false, Option, Some, None, List, [], ◌++◌, map}
+use Rattle.varisat_theory.specs.Membership.{◌∈◌}
 use Rattle.varisat_theory.specs.Derivations.{Line}
+use Rattle.varisat_theory.specs.Renaming.{rename_line}
 use Rattle.varisat_formula.specs.Streams.{Taken}
-use Rattle.varisat_theory.specs.Journals.{Entry, lines_of}
+use Rattle.varisat_theory.specs.Journals.{Entry, Leaves, lines_of}
 use Rattle.varisat_proof.specs.declared.proof.format.ProofFormat.{ProofFormat}
 use Rattle.varisat_proof.specs.declared.proof.format.ProofFormat.TheVariants.{Drat, BinaryDrat, Marked}
 use Rattle.varisat_proof.specs.Lines.{encoding_of, plain_lines}
 use Rattle.varisat_proof.specs.Steps.{lines_written}
 use Rattle.varisat_proof.specs.Proving.{OpenState}
+use Rattle.varisat.specs.Carried.{carry}
 
 -- `format`: how its lines are written. `faults`: how often the target failed in all. `first`: the bytes that the target had when
 -- the proof was opened, and `bytes`: those since then. `searched`: whether `solve` was called since it was opened.
@@ -37,22 +40,33 @@ IsDrat Drat = Unit {0}
 IsDrat BinaryDrat = Unit {0}
 IsDrat Marked = ⊥
 
--- The bytes are those of lines. As long as nothing was ever hidden these are all lines that were told: before a proof opens none is.
-pub record IsWrittenAs (hidden : Bool) (told : List Entry) (p : OpenProof) : Type 0 where
+-- the lines that were told, as a proof writes them
+abbrev pub lines_over : (ℕ → Option ℕ) → List Entry → List Line
+lines_over variables told = map (rename_line (carry variables)) (lines_of told)
+
+-- the identity was made, and was not told to have left
+abbrev pub IsThere : ℕ → List Entry → ℕ → Type 0
+IsThere made told i = (i < made) × (Leaves i ∈ told → ⊥)
+
+-- Each identity that was made and has not left has a variable of its own.
+pub record HaveOwnVariables (variables : ℕ → Option ℕ) (made : ℕ) (told : List Entry) : Type 0 where
+  pub present : (i : ℕ) → IsThere made told i → (x : ℕ) × (variables i ≡ Some x)
+  pub apart : (i j x : ℕ) → IsThere made told i → IsThere made told j → variables i ≡ Some x → variables j ≡ Some x → i ≡ j
+
+-- The bytes are those of all lines that were told, each identity as its variable: before a proof opens no line is told.
+pub record IsWrittenAs (variables : ℕ → Option ℕ) (told : List Entry) (p : OpenProof) : Type 0 where
   pub drat : IsDrat p.format
-  pub lines : List Line
-  pub bytes : p.bytes ≡ lines_written (encoding_of p.format) (plain_lines lines)
-  pub all : hidden ≡ false → lines_of told ≡ lines
+  pub bytes : p.bytes ≡ lines_written (encoding_of p.format) (plain_lines (lines_over variables told))
 
 -- so it is where a proof is open
-abbrev pub IsWrittenIf : Bool → List Entry → Option OpenProof → Type 0
-IsWrittenIf hidden told None = Unit {0}
-IsWrittenIf hidden told (Some p) = IsWrittenAs hidden told p
+abbrev pub IsWrittenIf : (ℕ → Option ℕ) → List Entry → Option OpenProof → Type 0
+IsWrittenIf variables told None = Unit {0}
+IsWrittenIf variables told (Some p) = IsWrittenAs variables told p
 
 -- What holds the proof fits what a user knows of it.
-pub record ProofFits (opened : Option OpenState) (hidden : Bool) (told : List Entry) (proof : Option OpenProof) : Type 0 where
+pub record ProofFits (opened : Option OpenState) (variables : ℕ → Option ℕ) (told : List Entry) (proof : Option OpenProof) : Type 0 where
   pub same : opened ≡ opened_state proof
-  pub written : IsWrittenIf hidden told proof
+  pub written : IsWrittenIf variables told proof
 
 -- A proof that is open stays so, with further bytes.
 abbrev pub GoesOnWriting : Option OpenProof → Option OpenProof → Type 0

@@ -13,6 +13,7 @@ use Rattle.varisat_names.specs.Settings.{Settings, default_settings, updated_set
 use Rattle.varisat.specs.Names.{Naming, no_names, name_one, name_all, through_names, IsLeastFree, IsFirstWitness}
 use Rattle.varisat.specs.States.{join_counted}
 use Rattle.varisat.specs.Journals.{TellsMore, ToldConflict}
+use Rattle.varisat.specs.OpenProofs.{lines_over}
 use Rattle.varisat.specs.ProofBytes.{AreBytesOfProof}
 use Rattle.varisat.specs.Budgets.{CountsSteps}
 use Rattle.varisat.specs.Models.{IsCompletable, AreNamesInUse}
@@ -308,8 +309,8 @@ pub record HandsBack (p : Past) (taken : List ℕ) : Type 0 where
   pub is_open : p.proof ≡ Some opened
   pub bytes : List ℕ
   pub behind : taken ≡ opened.first ++ bytes
-  pub proof : AreBytesOfProof opened.format bytes p.ever_hidden p.told p.clauses (p.has_core ≡ true)
-  pub enough : p.ever_hidden ≡ false → opened.interrupted_steps ≤ added proof.lines
+  pub proof : AreBytesOfProof opened.format bytes p.ever_hidden p.naming.made p.told p.clauses (p.has_core ≡ true)
+  pub enough : opened.interrupted_steps ≤ added (lines_over proof.variables p.told)
 
 -- where a proof is open its target comes back, and else none
 abbrev pub HandsBackIf : {W : Type 0} → (W → Taken) → Past → Option W → Type 0

@@ -32,7 +32,8 @@ EnablesChecking s r t = checking.EnablesChecking is_valid (λ s. s.ledger.starte
 -- from the accepted clauses, and they refute them where the answer of `solve` is false.
 abbrev pub HasProof : State → Type 0
 HasProof s =
-    (p : OpenProof) → s.proof ≡ Some p → AreBytesOfProof p.format p.bytes s.ever_hidden s.told s.clauses (answer_of s.verdict ≡ Some false)
+    (p : OpenProof) → s.proof ≡ Some p →
+    AreBytesOfProof p.format p.bytes s.ever_hidden s.naming.made s.told s.clauses (answer_of s.verdict ≡ Some false)
 
 -- The target of the open proof comes back, with the bytes of the proof behind those that it had before, and nothing where none is
 -- open. It comes back too where it can't be flushed, which makes the solver invalid. What an invalid state says of its proof need

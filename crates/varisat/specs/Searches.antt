@@ -25,10 +25,10 @@ use Rattle.varisat_search.specs.SettledUnits.{FixesByLearning}
 use Rattle.varisat.specs.Calls.{with_verdict}
 use Rattle.varisat.specs.Carried.{carry}
 use Rattle.varisat.specs.Dropping.{LeavesNeeded, LeavesInTime, HasLetLeave}
-use Rattle.varisat.specs.Journals.{retold, TellsMore, TellsProof, ToldConflict}
+use Rattle.varisat.specs.Journals.{retold, TellsMore, TellsProof}
 use Rattle.varisat.specs.SinceChange.{GoesOnSince, BeginsWithin}
 use Rattle.varisat.specs.Spaces.{Spaces, SpacesFit}
-use Rattle.varisat.specs.States.{State, Verdict, Unknown, UnsatUnderAssumptions}
+use Rattle.varisat.specs.States.{State, Verdict, Unknown}
 use Rattle.varisat.specs.Summaries.{undecided_spaces, spaces_with, IsKept}
 
 -- what is returned at the verdict, if it is known
@@ -49,7 +49,7 @@ pub record ComesTo (n : ℕ) (s : State) (p q : ProofParts) (after : Spaces) : T
   pub told : List Entry
   pub more : TellsMore n s.told told
   pub adds : verdict ≡ Unknown → GoesOnAdding n s.told more.entries
-  pub proof : TellsProof s.ever_hidden s.told told p q
+  pub proof : TellsProof s.variables s.told told p q
   pub fits : SpacesFit after (retold told (with_verdict verdict s))
 
 -- so it does from each state for which the spaces before stand

@@ -19,7 +19,7 @@ use Rattle.varisat_proof.specs.Proving.{MayHold}
 use Rattle.varisat_names.specs.declared.variables.data.SamplingMode.{SamplingMode}
 use Rattle.varisat_names.specs.declared.variables.data.SamplingMode.TheVariants as sampling
 use Rattle.varisat_names.specs.declared.variables.data.VarData.{VarData}
-use Rattle.varisat.specs.States.{State, Verdict, Unknown, Sat, Unsat, UnsatUnderAssumptions, HasRightVerdict, IsWellFormed}
+use Rattle.varisat.specs.States.{State, with_variables, Verdict, Unknown, Sat, Unsat, UnsatUnderAssumptions, HasRightVerdict, IsWellFormed}
 use Rattle.varisat.specs.Names.{Mode, Sample, Witness}
 use Rattle.varisat.specs.Models.{put_name}
 use Rattle.varisat.specs.Journals.{ToldConflict}
@@ -254,6 +254,8 @@ pub record Links (w : Carrying) (p : Spaces) (s : State) : Type 0 where
   pub shown : s.ever_hidden ≡ false → (x : ℕ) → p.user_from_global x ≡ None → (p.kept x).deleted ≡ true
   -- and stands for the identity of its number
   pub plain : s.ever_hidden ≡ false → IsPlain w.identity s.naming.made
+  -- a proof writes each live identity as its global variable
+  pub variables : (i x : ℕ) → w.global i ≡ Some x → s.variables i ≡ Some x
   pub told : IsTold s.told s.clauses s.counted s.ever_hidden (IsGone w s)
   -- under Unsat the checker is told nothing more, and nothing is said of it
   pub checked : without_core p.outcome ≢ outcome.Unsat → CheckerFits w.global s.told p.checker
@@ -261,6 +263,14 @@ pub record Links (w : Carrying) (p : Spaces) (s : State) : Type 0 where
 -- the spaces stand for the state
 abbrev pub SpacesFit : Spaces → State → Type 0
 SpacesFit p s = (w : Carrying) × Links w p s
+
+-- identities below the bound have the same variables
+abbrev pub KeepVariables : ℕ → (ℕ → Option ℕ) → (ℕ → Option ℕ) → Type 0
+KeepVariables made old new = (i : ℕ) → i < made → new i ≡ old i
+
+-- The spaces stand for the second state, in which identities are new, once these have variables.
+abbrev pub FitWithNew : Spaces → State → State → Type 0
+FitWithNew p s t = (variables : ℕ → Option ℕ) × KeepVariables s.naming.made s.variables variables × SpacesFit p (with_variables variables t)
 
 -- they stand for some state
 abbrev pub FitSome : Spaces → Type 0

@@ -29,7 +29,8 @@ pub record Ledger : Type 0 where
 -- `naming`: which identity each name has. `ever_hidden`: whether a name was ever freed while its variable lived on. `clauses`:
 -- those accepted, over identities. `assumptions`: the list as given, over identities. `counted`: the identities that accepted
 -- clauses and assumption lists have named so far, each once. `told`: what a proof that was opened at the beginning would have
--- been told, over identities. `proof`: the proof that is open.
+-- been told, over identities. `variables`: as which variable a proof writes each identity that was made; another identity has the
+-- same one only once this one has left. `proof`: the proof that is open.
 pub record State : Type 0 where
   pub naming : Naming
   pub ever_hidden : Bool
@@ -39,6 +40,7 @@ pub record State : Type 0 where
   pub verdict : Verdict
   pub ledger : Ledger
   pub told : List Entry
+  pub variables : ℕ → Option ℕ
   pub proof : Option OpenProof
 
 -- whether the number is one of the list
@@ -66,8 +68,13 @@ empty_state = record {
   verdict = Unknown;
   ledger = record { valid = true; started = false; steps = 0; since = 0; settings = default_settings };
   told = [];
+  variables = λ i. None;
   proof = None;
 }
+
+-- the same state with other variables for its identities
+abbrev pub with_variables : (ℕ → Option ℕ) → State → State
+with_variables variables s = record s { variables = variables }
 
 -- What is true of each state: names stand for different identities, none is in use from the watermark on, identities that are
 -- spoken of were made, and none is counted twice.

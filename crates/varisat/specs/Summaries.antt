@@ -115,7 +115,7 @@ pub record IsKeptSince {A : Type 0} (tables : Tables) (proof : ProofParts) (sear
 pub record StandsFor (g : Summary) (s : State) : Type 0 where
   pub ledger : s.ledger ≡ g.ledger
   pub fits : g.ledger.valid ≡ true → SpacesFit (spaces g) s
-  pub proof : g.ledger.valid ≡ true → ProofFits g.opened s.ever_hidden s.told s.proof
+  pub proof : g.ledger.valid ≡ true → ProofFits g.opened s.variables s.told s.proof
   pub flags : g.ledger.valid ≡ true → FlagsFit s
 
 -- A search ends in a valid solver: an open proof is one under which `solve` was called. Where it can't be flushed the solver is invalid.

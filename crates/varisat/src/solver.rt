@@ -284,8 +284,8 @@ impl<W: ProofTarget, A: Allocator + Copy> Solver<W, A> {
     }
 
     /// Does nothing when it runs. Its contract says of a valid solver that what a proof would have been told so far is
-    /// right, and that where no variable was ever hidden its lines are a derivation from the accepted clauses, which
-    /// refutes them once they are known to be unsatisfiable.
+    /// right, and that an open proof has just its lines. Where no variable was ever hidden these are a derivation from
+    /// the accepted clauses, which refutes them once they are known to be unsatisfiable.
     pub fn prove_journal(&self)
         ensures { (s : State) → StandsFor self.now s → IsValid s → IsJournal s }
     {

@@ -18,7 +18,7 @@ use Rattle.varisat_tracer.specs.Carried.{told_as}
 use Rattle.varisat_tracer.specs.Carried as global
 use Rattle.varisat_tracer.specs.Tracing.{TracerState, parts_of, global_literal, CanTell, BreaksProof}
 use Rattle.varisat_tracer.specs.TracerLaws.{takes-more, relies-after}
-use Rattle.varisat.proofs.PlainTold.{proof-told}
+use Rattle.varisat.proofs.ToldProofs.{AreToldAs, proof-told}
 use Rattle.varisat_tracer.proofs.Telling.{relies-alike, tells-on, breaks-proof, proof-unbroken, proof-breaks-on}
 use Rattle.varisat_search.specs.declared.state.SatState.TheVariants as verdict
 use Rattle.varisat_search.specs.declared.state.SolverState.{SolverState}
@@ -31,8 +31,8 @@ use Rattle.varisat.specs.Names.{name_all, through_names}
 use Rattle.varisat.specs.Calls.{with_naming, append_clause, reopened_verdict, with_verdict}
 use Rattle.varisat.specs.Journals.{retold}
 use Rattle.varisat_proof.specs.Proving.{IsCheckedIf}
-use Rattle.varisat.specs.States.{State}
-use Rattle.varisat.specs.Spaces.{SpacesFit}
+use Rattle.varisat.specs.States.{State, with_variables}
+use Rattle.varisat.specs.Spaces.{SpacesFit, FitWithNew}
 use Rattle.varisat.specs.Summaries.{Summary, spaces_of, spaces_with, IsKept}
 use Rattle.varisat.proofs.ReturnedVariables.{reopened-not, no-model-reopened, reopened-spaces, verdict-after}
 use Rattle.varisat.proofs.SolversInTurn.{with_names, HaveSolvers, have-solvers-then, has-variables, can-have-room, over-leads, over-carried, all-named, literals-within, literals-decidable}
@@ -93,7 +93,7 @@ opened g c e =
 -- the solver stands for the state once the names have solver variables
 all-named-in : (g : Over) (c : In_ok-solver_from_user_lits g) (s : State) →
     SpacesFit (spaces_with c.args.tracer.now.variables c.args.tracer.now.proof.checker c.args.ctx.now) s →
-    SpacesFit (spaces_with c.solver_from_user_lits.new.variables c.args.tracer.now.proof.checker c.solver_from_user_lits.new.ctx)
+    FitWithNew (spaces_with c.solver_from_user_lits.new.variables c.args.tracer.now.proof.checker c.solver_from_user_lits.new.ctx) s
     (with_names c.args.clause.now (with_verdict (reopened_verdict s.verdict) s))
 all-named-in g c s f =
     let old = c.args.ctx.now in
@@ -122,8 +122,9 @@ load_clause-requires-clause-holds g c n =
     let p = c.args.tracer.now.proof in
     let lits = c.as_slice-lits.result.now in
     let (s, f) = c.requires.stands in
+    let (variables, keep, named) = all-named-in g here s f in
     let (held, relies, fits) = relied-open m p (view mid) mid.assumptions mid.solver_state.sat_state (opened g here) c.requires.tells
-    (_, all-named-in g here s f) in
+    (_, named) in
     let before : TracerState = record { tables = c.mark_joined.new.variables; proof = p } in (
       held,
       relies-after before (parts_of c.tell_clause.new.tracer) (Accepts lits ∷ []) held (held ++ lits ∷ [])
@@ -208,8 +209,9 @@ returns-clause-accepted g c s f =
     let after = parts_of c.load_clause.new.proof in
     let taken = takes-more before (parts_of c.tell_clause.new.tracer) after (Accepts c.as_slice-lits.result.now ∷ []) (written lines)
     (c.in_ok-tell_clause.ensures {u = tt}).told (r.lines (opened g here)).written in
-    let n2 = with_verdict (reopened_verdict s.verdict) n in
-    let (x, told, v, more, plain, k) =
+    let (variables, keep, named) = all-named-in g here s f in
+    let n2 = with_variables variables (with_verdict (reopened_verdict s.verdict) n) in
+    let (x, told, v, more, told-as, k) =
     clause-accepted (record {
       tables = m;
       opened = None;
@@ -241,19 +243,22 @@ returns-clause-accepted g c s f =
     (ap (λ (b : BiMap). told_as (global.carry (at b.backward)) (Accepts c.as_slice-lits.result.now ∷ written lines)) c.mark_joined.ensures.solvers
     ∙ ap (λ (ls : List Literal). told_as (global_literal m) (Accepts ls ∷ written lines)) items)
     taken.told.checked)
-    (all-named-in g here s f) in (
+    named in (
       x,
       told,
+      variables,
       verdict-after s.clauses (map (through_names n.naming) list) s.verdict x v,
       more,
+      keep,
       proof-told before after
-          (Accepts c.as_slice-lits.result.now ∷ written lines) s.ever_hidden s.told told taken
-          (λ e. plain e ∙ ap (λ (ls : List Literal). s.told ++ told_as (global_literal m) (Accepts ls ∷ written lines)) (sym items)
-          ∙ ap (λ (b : BiMap). s.told ++ told_as (global.carry (at b.backward)) (Accepts c.as_slice-lits.result.now ∷ written lines))
-          (sym c.mark_joined.ensures.solvers)),
+          (Accepts c.as_slice-lits.result.now ∷ written lines) variables s.told told taken
+          (subst (λ (b : BiMap). AreToldAs variables s.told told
+          (told_as (global.carry (at b.backward)) (Accepts c.as_slice-lits.result.now ∷ written lines))) (sym c.mark_joined.ensures.solvers)
+          (subst (λ (ls : List Literal). AreToldAs variables s.told told (told_as (global_literal m) (Accepts ls ∷ written lines))) (sym items)
+          told-as)),
       subst
           (λ (t : Tables). SpacesFit (spaces_of t after.proof.checker (view new) new.assumptions new.solver_state.sat_state)
-          (retold told (append_clause (map (through_names n.naming) list) x n))) (sym (same-tables g c)) k,
+          (with_variables variables (retold told (append_clause (map (through_names n.naming) list) x n)))) (sym (same-tables g c)) k,
     )
 
 pub returns-in_err-solver_from_user_lits-clause-broken : goal.returns-in_err-solver_from_user_lits-clause-broken

@@ -14,6 +14,7 @@ use Rattle.varisat.specs.Calls.{with_naming, assumed_verdict, with_assumptions, 
 use Rattle.varisat_theory.specs.Journals.{Assumes}
 use Rattle.varisat.specs.Journals.{retold}
 use Rattle.varisat.specs.Spaces.{SpacesFit}
+use Rattle.varisat.specs.States.{with_variables}
 use Rattle.varisat.specs.Summaries.{Summary, spaces_of}
 use Rattle.varisat.proofs.AssumeList.{forgets, list-assumed}
 use Rattle.varisat.proofs.ReturnedVariables.{no-model-assumed, assumed-again}
@@ -142,10 +143,11 @@ returns-clause-assumed g c s checker f =
     (with_verdict (assumed_verdict s.verdict) s)) (sym (ap (λ (x : SolverState). x.sat_state) c.assume.ensures))
     (w, forgets w first s old.solver_state.sat_state s.verdict k) in
     let n = with_naming (name_all list s.naming) s in
-    let n2 = with_verdict (assumed_verdict s.verdict) n in
-    subst (λ v. SpacesFit (spaces_of c.mark_assumed-2.new.variables checker (view new) new.assumptions new.solver_state.sat_state)
-    (with_verdict v (retold (s.told ++ Assumes (map (through_names n.naming) list) ∷ [])
-    (with_assumptions (map (through_names n.naming) list) n)))) (assumed-again s.verdict)
+    let (variables, keep, named) = all.stands checker (with_verdict (assumed_verdict s.verdict) s) begins in
+    let n2 = with_variables variables (with_verdict (assumed_verdict s.verdict) n) in
+    let fits = subst (λ v. SpacesFit (spaces_of c.mark_assumed-2.new.variables checker (view new) new.assumptions new.solver_state.sat_state)
+    (with_variables variables (with_verdict v (retold (s.told ++ Assumes (map (through_names n.naming) list) ∷ [])
+    (with_assumptions (map (through_names n.naming) list) n))))) (assumed-again s.verdict)
     (list-assumed (record {
       tables = m;
       opened = None;
@@ -168,4 +170,5 @@ returns-clause-assumed g c s checker f =
           (c.deref.ensures.value ∙ over-carried to list c.solver_from_user_lits.new.solver_lits.items over);
       verdict = ap (λ (x : SolverState). x.sat_state) r.state;
     })
-    (all.stands checker (with_verdict (assumed_verdict s.verdict) s) begins))
+    named) in
+    (variables, keep, fits)

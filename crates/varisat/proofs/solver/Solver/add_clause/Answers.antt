@@ -1,25 +1,25 @@
-use Rattle.std.proofs.Common.{◌-◌, Err, subst, ◌∙◌, not, refl, sym, ap, map, true}
+use Rattle.std.proofs.Common.{◌-◌, Err, subst, ◌∙◌, not, refl, sym, ap}
 use Rattle.varisat_search.specs.declared.state.SolverState.{SolverState}
-use Rattle.varisat_search.specs.Contexts.{view}
 use Rattle.varisat_schedule.specs.Plans.{Plan}
-use Rattle.varisat.specs.Summaries.{spaces_of}
-use Rattle.varisat.specs.States.{Ledger}
-use Rattle.varisat.specs.Names.{name_all, through_names}
-use Rattle.varisat.specs.Journals.{retold}
-use Rattle.varisat.specs.Calls.{with_naming, start, append_clause, count_anew, IsExtensible, Ignored, Accepted, AddsClause}
-use Rattle.varisat.proofs.CallStates.{ledger-is, none-since, stands-valid, flags-started, like-told, broken, broken-invalid, adds-broken}
-use Rattle.varisat.proofs.AcceptClause.{ledger-free, proof-free, not-refuted}
-use Rattle.varisat_tracer.specs.Tracing.{BreaksProof}
+use Rattle.varisat.specs.States.{State, Ledger}
+use Rattle.varisat.specs.Calls.{count_anew, IsExtensible, Ignored, Accepted, AddsClause}
+use Rattle.varisat.proofs.CallStates.{ledger-is, none-since, stands-valid, broken, broken-invalid, adds-broken}
+use Rattle.varisat.proofs.AcceptClause.{not-refuted}
+use Rattle.varisat_tracer.specs.Tracing.{parts_of, BreaksProof}
 use Rattle.varisat.specs.Refusals.{told_faults}
-use Rattle.varisat.specs.Summaries.{Summary}
+use Rattle.varisat.specs.Summaries.{Summary, StandsFor, spaces_with}
 use Rattle.varisat.specs.Targets.{WritesAll, WritesUpTo}
 use Rattle.varisat.specs.declared.solver.SolverError.TheVariants.{ClauseStoreFull, Invalid, ClauseAfterSolve}
 use Rattle.varisat.proofs.Targets.{writes-nothing, refused-unwritten, tells-writes, breaks-writes, names-unwritten, names-not-full, refused-full, same-error}
-use Rattle.varisat.proofs.OpenProofs.{proof-goes-on, broken-open, searched-there, unsearched-there}
+use Rattle.varisat.proofs.OpenProofs.{broken-open, searched-there, unsearched-there}
+use Rattle.varisat.proofs.ClauseJoins.{ClauseJoins, clause-joins}
+use Rattle.varisat.proofs.SettingsCalls.{summary_of}
 use Rattle.varisat.proofs.Additions.{told-error}
 use Rattle.varisat.proofs.SolverCalls.{unsat-known}
 use Rattle.varisat.proofs.SinceSteps.{since-now}
 use Rattle.varisat.proofs.RefusedNames.{may-constrain, clause-refused}
+use Rattle.varisat.proofs.solver.Solver.add_clause.Given.{Over}
+use Rattle.varisat.proofs.solver.Solver.add_clause.Goals.{In-Ok}
 use Rattle.varisat.proofs.solver.Solver.add_clause.Goals as goal
 
 pub accept_clause-requires-clause-names : goal.accept_clause-requires-clause-names
@@ -32,7 +32,7 @@ pub invariant_of-self : goal.invariant_of-self
 invariant_of-self g c _ =
     let e = c.in-Ok.ensures {u = tt} in
     let (s, fits, fresh) = (c.self.invariant c.if-self.false).stands in
-    let (x, told, v, more, proof, now) = e.accepted s fits in
+    let (x, told, variables, v, more, keep, proof, now) = e.accepted s fits in
     record {
       stands = (_, now, λ e. absurd cc);
       kept = e.kept;
@@ -47,7 +47,7 @@ returns-in_err-check_names-clause-call g c s st =
     let ok = ap not c.if-self.false in
     let bad : IsExtensible s = record {
       unrefuted = not-refuted _ s q ok c.in_default.not-Unsat;
-      unsearched = unsearched-there _ s.ever_hidden s.told s.proof c.is_searched.result (q.proof ok) c.is_searched.ensures c.if-is_searched.false;
+      unsearched = unsearched-there _ s.variables s.told s.proof c.is_searched.result (q.proof ok) c.is_searched.ensures c.if-is_searched.false;
     } in
     let refused = told-error c.from_residual.result c.in_err-check_names.field-0.0 c.from_residual.ensures in (
       s,
@@ -56,42 +56,49 @@ returns-in_err-check_names-clause-call g c s st =
       st,
     )
 
+-- the state in which the clause is accepted
+joins : (g : Over) (c : In-Ok g) (s : State) → StandsFor
+    (summary_of (parts_of c.self.inside.tracer) c.self.inside.started c.self.inside.changed_at c.self.inside.ctx) s →
+    ClauseJoins s c.args.clause.now
+    (spaces_with c.accept_clause.new.tracer.variables c.accept_clause.new.tracer.proof.checker c.accept_clause.new.ctx)
+    c.accept_clause.new.tracer.proof.opened
+joins g c s st =
+    let e = c.in-Ok.ensures {u = tt} in
+    let ok = ap not c.if-self.false in
+    let old = c.self.inside in
+    let new = c.accept_clause.new in
+    let (x, told, variables, v, more, keep, proof, now) = e.accepted s (st.fits ok) in
+    clause-joins s c.args.clause.now (spaces_with old.tracer.variables old.tracer.proof.checker old.ctx)
+    (spaces_with new.tracer.variables new.tracer.proof.checker new.ctx) old.tracer.proof new.tracer.proof x told variables (st.fits ok) (st.proof ok) v more
+    keep proof now
+
 pub returns-in-Ok-clause-call : goal.returns-in-Ok-clause-call
 returns-in-Ok-clause-call g c s st =
     let q = rw (← c.self.view_is) at st in
     let e = c.in-Ok.ensures {u = tt} in
-    let (x, told, v, more, proof, (w, k)) = e.accepted s (q.fits (ap not c.if-self.false)) in
     let ok = ap not c.if-self.false in
     let bad : IsExtensible s = record {
       unrefuted = not-refuted _ s q ok c.in_default.not-Unsat;
-      unsearched = unsearched-there _ s.ever_hidden s.told s.proof c.is_searched.result (q.proof ok) c.is_searched.ensures c.if-is_searched.false;
+      unsearched = unsearched-there _ s.variables s.told s.proof c.is_searched.result (q.proof ok) c.is_searched.ensures c.if-is_searched.false;
     } in
-    let n = name_all c.args.clause.now s.naming in
-    let k' = c.accept_clause.ensures.schedule in
-    let u = append_clause (map (through_names n) c.args.clause.now) x (with_naming n s) in
-    let (now, grows, goes) = proof-goes-on c.self.inside.tracer.proof c.accept_clause.new.tracer.proof s.ever_hidden s.told told s.proof
-    (q.proof (ap not c.if-self.false)) proof in
-    let t = record (retold told u) { proof = now } in (
-      start t,
+    let plan = c.accept_clause.ensures.schedule in
+    let j = joins g (goal.at.returns-in-Ok-clause-call g c).In-Ok s q in (
+      j.state,
       (
-        stands-valid _ s q (ap not c.if-self.false),
+        stands-valid _ s q ok,
         Accepted bad
-            (may-constrain _ s q (ap not c.if-self.false) c.args.clause.now c.in_ok-check_names.ensures.0 c.in_ok-check_names.ensures.1)
-            (x, v, like-told (start u) told now more grows),
+            (may-constrain _ s q ok c.args.clause.now c.in_ok-check_names.ensures.0 c.in_ok-check_names.ensures.1)
+            j.accepts,
       ),
       record {
-        ledger = ledger-is _ _ _ _ _ _ (ap (λ (x : Ledger). x.valid) q.ledger ∙ ap (λ (x : SolverState). not x.state_is_invalid) (sym e.state)) refl
-            (ap (λ (x : Ledger). x.steps) q.ledger ∙ sym (ap (λ (x : Plan). x.steps) k'.schedule))
+        ledger = j.ledger
+            ∙ ledger-is _ _ _ _ _ _ (ap (λ (x : Ledger). x.valid) q.ledger ∙ ap (λ (x : SolverState). not x.state_is_invalid) (sym e.state)) refl
+            (ap (λ (x : Ledger). x.steps) q.ledger ∙ sym (ap (λ (x : Plan). x.steps) plan.schedule))
             (none-since c.steps-self-inside.result c.accept_clause.new.ctx.schedule.steps c.steps-self-inside.ensures.steps)
-            (ap (λ (x : Ledger). x.settings) q.ledger ∙ sym k'.solver_config);
-        fits = λ _. (
-          w,
-          ledger-free w (spaces_of c.accept_clause.new.tracer.variables c.accept_clause.new.tracer.proof.checker
-              (view c.accept_clause.new.ctx) c.accept_clause.new.ctx.assumptions c.accept_clause.new.ctx.solver_state.sat_state) t
-              (record t.ledger { started = true; since = 0 }) (proof-free w _ (retold told u) now k),
-        );
-        proof = λ _. goes;
-        flags = λ _. flags-started s (start t) (q.flags ok) refl refl grows;
+            (ap (λ (x : Ledger). x.settings) q.ledger ∙ sym plan.solver_config);
+        fits = λ _. j.fits;
+        proof = λ _. j.proof;
+        flags = λ _. j.flags (q.flags ok);
       },
     )
 
@@ -101,13 +108,13 @@ returns-in-Err-clause-call g c s st =
     let ok = ap not c.if-self.false in
     let bad : IsExtensible s = record {
       unrefuted = not-refuted _ s q ok c.in_default.not-Unsat;
-      unsearched = unsearched-there _ s.ever_hidden s.told s.proof c.is_searched.result (q.proof ok) c.is_searched.ensures c.if-is_searched.false;
+      unsearched = unsearched-there _ s.variables s.told s.proof c.is_searched.result (q.proof ok) c.is_searched.ensures c.if-is_searched.false;
     } in
     let k = c.accept_clause.ensures.schedule in (
       broken s,
       subst (λ e. AddsClause s c.args.clause.now (Err e) (broken s)) (sym c.from.ensures)
           (adds-broken c.in-Err.error s (broken s) c.args.clause.now
-          (λ f. broken-open c.self.inside.tracer.proof c.accept_clause.new.tracer.proof s.ever_hidden s.told s.proof (q.proof ok)
+          (λ f. broken-open c.self.inside.tracer.proof c.accept_clause.new.tracer.proof s.variables s.told s.proof (q.proof ok)
           (subst (λ n. BreaksProof c.self.inside.tracer.proof n c.accept_clause.new.tracer.proof) f c.in-Err.ensures.broken)) bad
           (may-constrain _ s q (ap not c.if-self.false) c.args.clause.now c.in_ok-check_names.ensures.0 c.in_ok-check_names.ensures.1)
           (broken-invalid s (stands-valid _ s q (ap not c.if-self.false)) (q.fits (ap not c.if-self.false)).1.well_formed)),
@@ -138,7 +145,7 @@ returns-then-is_searched-clause-call g c s st =
       (
         stands-valid _ s q ok,
         not-refuted _ s q ok c.in_default.not-Unsat,
-        searched-there _ s.ever_hidden s.told s.proof c.is_searched.result
+        searched-there _ s.variables s.told s.proof c.is_searched.result
             (q.proof ok) c.is_searched.ensures c.if-is_searched.true,
         refl,
       ),

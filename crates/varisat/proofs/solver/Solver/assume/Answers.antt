@@ -3,13 +3,14 @@ use Rattle.varisat_search.specs.declared.state.SolverState.{SolverState}
 use Rattle.varisat_search.specs.Contexts.{view}
 use Rattle.varisat_schedule.specs.Plans.{Plan}
 use Rattle.varisat.specs.Summaries.{spaces_of}
-use Rattle.varisat.specs.States.{Ledger}
+use Rattle.varisat.specs.States.{Ledger, with_variables}
 use Rattle.varisat.specs.Names.{name_all, through_names}
 use Rattle.varisat.specs.Journals.{retold}
 use Rattle.varisat_theory.specs.Journals.{Assumes as Assumed}
 use Rattle.varisat.specs.Calls.{with_naming, start, with_assumptions, Assumes}
-use Rattle.varisat.proofs.OpenProofs.{assumed-fits, none-there, open-there}
-use Rattle.varisat.proofs.CallStates.{ledger-is, none-since, stands-valid, flags-assumed, like-refl, broken, broken-invalid}
+use Rattle.varisat.proofs.OpenProofs.{lines-assumed, fits-alike, none-there, open-there}
+use Rattle.varisat.proofs.WrittenVariables.{written-alike}
+use Rattle.varisat.proofs.CallStates.{ledger-is, none-since, stands-valid, flags-assumed, like-varied, broken, broken-invalid}
 use Rattle.varisat.proofs.AcceptClause.{ledger-free}
 use Rattle.varisat.proofs.Additions.{told-error}
 use Rattle.varisat.proofs.SinceSteps.{since-now}
@@ -24,7 +25,7 @@ invariant_of-self g c _ =
     let e = c.in-Ok.ensures {u = tt} in
     let (s, fits, fresh) = (c.self.invariant c.if-self.false).stands in
     record {
-      stands = (_, e.assumed s c.self.inside.tracer.proof.checker fits, λ e. absurd cc);
+      stands = let (variables, keep, now) = e.assumed s c.self.inside.tracer.proof.checker fits in (_, now, λ e. absurd cc);
       kept = e.kept;
       tells =
           (c.self.invariant c.if-self.false).tells;
@@ -48,12 +49,16 @@ pub returns-in-Ok : goal.returns-in-Ok
 returns-in-Ok g c s st =
     let q = rw (← c.self.view_is) at st in
     let e = c.in-Ok.ensures {u = tt} in
-    let (w, k) = e.assumed s c.self.inside.tracer.proof.checker (q.fits (ap not c.if-self.false)) in
+    let (before, links) = q.fits (ap not c.if-self.false) in
+    let (variables, keep, (w, k)) = e.assumed s c.self.inside.tracer.proof.checker (before, links) in
+    let alike = written-alike before _ s links variables keep in
     let n = name_all c.args.lits.now s.naming in
     let plan = c.assume_list.ensures.schedule in
     let new = c.assume_list.new.ctx in
-    let t = retold (s.told ++ Assumed (map (through_names n) c.args.lits.now) ∷ [])
-    (with_assumptions (map (through_names n) c.args.lits.now) (with_naming n s)) in (
+    let carried = map (through_names n) c.args.lits.now in
+    let u = retold (s.told ++ Assumed carried ∷ []) (with_assumptions carried (with_naming n s)) in
+    let t = with_variables variables u in
+    let same = lines-assumed variables s.told carried ∙ alike in (
       start t,
       (
         stands-valid _ s q (ap not c.if-self.false),
@@ -61,7 +66,7 @@ returns-in-Ok g c s st =
             (sym c.is_open.ensures ∙ c.if-is_open.false),
         may-constrain _ s q
             (ap not c.if-self.false) c.args.lits.now c.in_ok-check_names.ensures.0 c.in_ok-check_names.ensures.1,
-        like-refl (start t),
+        like-varied (start u) variables (same ∙ sym (lines-assumed s.variables s.told carried)),
       ),
       record {
         ledger = ledger-is _ _ _ _ _ _ (ap (λ (x : Ledger). x.valid) q.ledger ∙ ap (λ (x : SolverState). not x.state_is_invalid) (sym e.state)) refl
@@ -73,7 +78,7 @@ returns-in-Ok g c s st =
           ledger-free w (spaces_of c.assume_list.new.variables c.self.inside.tracer.proof.checker
               (view new) new.assumptions new.solver_state.sat_state) t (record t.ledger { started = true; since = 0 }) k,
         );
-        proof = λ v. assumed-fits _ s.ever_hidden s.told (map (through_names n) c.args.lits.now) s.proof (q.proof (ap not c.if-self.false));
+        proof = λ v. fits-alike _ s.variables variables s.told (s.told ++ Assumed carried ∷ []) s.proof same (q.proof (ap not c.if-self.false));
         flags = λ _. flags-assumed (start t) refl (none-there _ s.proof (q.proof (ap not c.if-self.false)).same (sym c.is_open.ensures ∙ c.if-is_open.false));
       },
     )
@@ -105,4 +110,4 @@ pub returns-then-is_open : goal.returns-then-is_open
 returns-then-is_open g c s st =
     let q = rw (← c.self.view_is) at st in
     let ok = ap not c.if-self.false in
-    (s, (stands-valid _ s q ok, open-there _ s.ever_hidden s.told s.proof c.is_open.result (q.proof ok) c.is_open.ensures c.if-is_open.true, refl), st)
+    (s, (stands-valid _ s q ok, open-there _ s.variables s.told s.proof c.is_open.result (q.proof ok) c.is_open.ensures c.if-is_open.true, refl), st)

@@ -1,14 +1,14 @@
-use Rattle.std.proofs.Common.{not, subst, sym, ap, refl, true, false, Option}
-use Rattle.varisat_proof.specs.Proving.{OpenState}
+use Rattle.std.proofs.Common.{not, subst, sym, ap, refl, true, false}
 use Rattle.varisat_tracer.specs.Tracing.{parts_of}
 use Rattle.varisat_tracer.proofs.Telling.{tells-told}
-use Rattle.varisat.specs.OpenProofs.{ProofFits}
 use Rattle.varisat.proofs.VariableChanges.{hides-stay, hides-told}
-use Rattle.varisat.specs.States.{Ledger}
+use Rattle.varisat.specs.States.{Ledger, with_variables}
 use Rattle.varisat.specs.Journals.{retold}
 use Rattle.varisat.specs.Usage.{name_var}
 use Rattle.varisat.specs.VariableCalls.{named, hide_name, HidesVar}
-use Rattle.varisat.proofs.OpenProofs.{hidden-fits}
+use Rattle.varisat.proofs.AcceptClause.{proof-free}
+use Rattle.varisat.proofs.OpenProofs.{proof-goes-on, open-before}
+use Rattle.varisat.proofs.WrittenVariables.{written-alike}
 use Rattle.varisat.proofs.CallStates.{ledger-is, none-since, begins, like-retold, broken, broken-invalid}
 use Rattle.varisat.proofs.Additions.{told-error}
 use Rattle.varisat.proofs.SettingsCalls.{summary_of}
@@ -27,7 +27,7 @@ invariant_of-self g c v =
           (parts_of c.hide_named.new.tracer) (c.in-Ok.ensures {u = tt}) in
           tells-told c.self.inside.tracer.proof c.hide_named.new.tracer.proof given told (c.self.invariant c.if-self.false).tells;
       stands = let (s, f, fresh) = (c.self.invariant c.if-self.false).stands in
-          let (told, more, fits) = hide-state
+          let (variables, told, keep, more, fits) = hide-state
           (summary_of (parts_of c.self.inside.tracer) c.self.inside.started c.self.inside.changed_at c.self.inside.ctx) s c.args.var
           c.self.inside.tracer.proof (parts_of c.hide_named.new.tracer) refl f (c.in-Ok.ensures {u = tt}) in (_, fits, fresh);
       counts = since-now c.steps-self-inside.result c.self.inside.ctx c.steps-self-inside.ensures.steps k.ready c.steps-self-inside.ensures.plan;
@@ -50,25 +50,30 @@ returns-in-Ok g c s st =
     let q = parts_of c.hide_named.new.tracer in
     let v = c.self.inside.ctx.solver_state.sat_state in
     let hides = c.in-Ok.ensures {u = tt} in
-    let (told, more, fits) = hide-state
+    let (before, links) = k.fits in
+    let (variables, told, keep, more, (w, left)) = hide-state
     (summary_of (parts_of c.self.inside.tracer) c.self.inside.started c.self.inside.changed_at c.self.inside.ctx) s c.args.var p q refl k.fits hides in
-    let (given, was_told, same) = hides-told c.args.var v (parts_of c.self.inside.tracer) q hides in
+    let alike = written-alike before _ s links variables keep in
+    let (now, grows, goes) = proof-goes-on p q.proof s.variables variables s.told told s.proof k.proof alike more.proof in
     let u = hide_name c.args.var (name_var named c.args.var s) in
-    let t = retold told u in
+    let t = record u { told = told; variables = variables; proof = now } in
     let may = c.in_ok-check_change.ensures in (
       t,
-      (k.valid, may.in_range, unassumed-state c.args.var k may.unassumed, like-retold u told more.more),
+      (k.valid, may.in_range, unassumed-state c.args.var k may.unassumed, like-retold u told variables now more.more alike grows),
       record {
         ledger = ledger-is _ _ _ _ _ _ (ap (λ (x : Ledger). x.valid) k.ledger) (ap (λ (x : Ledger). x.started) k.ledger)
             (ap (λ (x : Ledger). x.steps) k.ledger)
             (none-since c.steps-self-inside.result c.self.inside.ctx.schedule.steps c.steps-self-inside.ensures.steps)
             (ap (λ (x : Ledger). x.settings) k.ledger);
-        fits = λ _. fits;
-        proof =
-            λ _. subst (λ (o : Option OpenState). ProofFits o true told s.proof) (sym same)
-            (hidden-fits _ s.ever_hidden s.told told s.proof k.proof);
+        fits = λ _. (w, proof-free w _ (with_variables variables (retold told u)) now left);
+        proof = λ _. goes;
         flags = λ _. let f = k.flags in
-            record { clauses = f.clauses; assumptions = f.assumptions; counted = f.counted; unassumed = f.unassumed };
+            record {
+              clauses = f.clauses;
+              assumptions = f.assumptions;
+              counted = f.counted;
+              unassumed = λ o. f.unassumed (open-before s.proof now grows o);
+            };
       },
     )
 

@@ -5,15 +5,16 @@ use Rattle.varisat_search.specs.Contexts.{view}
 use Rattle.varisat_search.proofs.NamedVariables.{unmapped-near, unmapped-same}
 use Rattle.varisat_tracer.specs.Tracing.{parts_of}
 use Rattle.varisat.specs.Summaries.{spaces}
-use Rattle.varisat.specs.States.{Ledger}
+use Rattle.varisat.specs.States.{Ledger, with_variables}
 use Rattle.varisat.specs.Names.{Naming, name_one}
 use Rattle.varisat.specs.Calls.{with_naming, start}
 use Rattle.varisat.proofs.AcceptClause.{with_tables, ledger-free}
 use Rattle.varisat_search.proofs.KeptNames.{given-keeps}
 use Rattle.varisat.proofs.PlainTables.{is-there, there-is, assumed-keeps, marked-keeps}
 use Rattle.varisat.proofs.KeptCounts.{given-most}
-use Rattle.varisat.proofs.CallStates.{ledger-is, none-since, stands-valid, flags-started, like-refl, broken, broken-invalid}
-use Rattle.varisat.proofs.OpenProofs.{goes-on-none}
+use Rattle.varisat.proofs.CallStates.{ledger-is, none-since, stands-valid, flags-started, like-varied, broken, broken-invalid}
+use Rattle.varisat.proofs.OpenProofs.{goes-on-none, fits-alike}
+use Rattle.varisat.proofs.WrittenVariables.{written-alike}
 use Rattle.varisat.proofs.SettingsCalls.{summary_of}
 use Rattle.varisat.proofs.SolverCalls.{least-free, named-alone, new-named}
 use Rattle.varisat.proofs.SinceSteps.{since-now}
@@ -50,12 +51,11 @@ invariant_of-self g c v =
             marked-keeps old new (variable_of l) y z c.prove_linked.ensures keeps e (k.marked l z h e) f;
         working = λ l h. assumed-keeps old new (variable_of l) c.prove_linked.ensures keeps (k.working l h);
       };
-      stands = let (s, f, fresh) = (c.self.invariant c.if-self.false).stands in (
-        _,
-        new-named (summary_of (parts_of c.self.inside.tracer) c.self.inside.started c.self.inside.changed_at c.self.inside.ctx) s new u x f
-            least.least (unmapped-near old.users.forward u least.least) t,
-        λ e. absurd cc,
-      );
+      stands = let (s, f, fresh) = (c.self.invariant c.if-self.false).stands in
+          let (variables, keep, fits) = new-named
+          (summary_of (parts_of c.self.inside.tracer) c.self.inside.started c.self.inside.changed_at c.self.inside.ctx) s new u x f
+          least.least (unmapped-near old.users.forward u least.least) t in
+          (_, fits, λ e. absurd cc);
       tells = (c.self.invariant c.if-self.false).tells;
       counts = since-now c.steps-self-inside.result c.self.inside.ctx c.steps-self-inside.ensures.steps k.ready c.steps-self-inside.ensures.plan;
     }
@@ -69,14 +69,17 @@ returns-in-Ok g c s st =
     let new = c.new_user_var.new.variables in
     let t = (c.in-Ok.ensures {u = tt}).given in
     let same = unmapped-same old.tables.users.forward u c.next_unmapped_user-next.result t.least c.next_unmapped_user-next.ensures.least in
-    let (w, n) = new-named old s new u t.global f t.least (unmapped-near old.tables.users.forward u t.least) t.given in (
-      start (with_naming (name_one u s.naming) s),
+    let (before, links) = f in
+    let (variables, keep, (w, n)) = new-named old s new u t.global f t.least (unmapped-near old.tables.users.forward u t.least) t.given in
+    let alike = written-alike before _ s links variables keep in
+    let named = with_naming (name_one u s.naming) s in (
+      start (with_variables variables named),
       (
         stands-valid _ s q (ap not c.if-self.false),
         least-free old s u f t.least,
         omega
             (arith, same, c.index.ensures.index, c.max_count.ensures, c.if-index-max_count.false),
-        like-refl (start (with_naming (name_one u s.naming) s)),
+        like-varied (start named) variables alike,
       ),
       record {
         ledger = ledger-is _ _ _ _ _ _ (ap (λ (x : Ledger). x.valid) q.ledger) refl (ap (λ (x : Ledger). x.steps) q.ledger)
@@ -84,11 +87,10 @@ returns-in-Ok g c s st =
             (ap (λ (x : Ledger). x.settings) q.ledger);
         fits = λ _. (
           w,
-          ledger-free w (spaces (with_tables new old)) (with_naming (name_one u s.naming) s)
-              (record (with_naming (name_one u s.naming) s).ledger { started = true; since = 0 }) n,
+          ledger-free w (spaces (with_tables new old)) (with_variables variables named) (record s.ledger { started = true; since = 0 }) n,
         );
-        proof = q.proof;
-        flags = λ v. flags-started s (start (with_naming (name_one u s.naming) s)) (q.flags v) refl refl (goes-on-none s.proof);
+        proof = λ v. fits-alike _ s.variables variables s.told s.told s.proof alike (q.proof v);
+        flags = λ v. flags-started s (start (with_variables variables named)) (q.flags v) refl refl (goes-on-none s.proof);
       },
     )
 

@@ -64,8 +64,8 @@ module _ {A : Type 0} {p q : TracerState} {started : Bool} {changed_at : ℕ} {x
       let e = k.count in
       more-since changed_at s.ledger.steps y.schedule.steps s.ledger.since (omega (arith, low, steps)) (omega (arith, e)) (omega (arith, since, steps))
 
-  goes-on : (now : Option OpenProof) × GoesOnWriting s.proof now × ProofFits q.proof.opened s.ever_hidden comes.told now
-  goes-on = proof-goes-on p.proof q.proof s.ever_hidden s.told comes.told s.proof (d.stood.proof d.valid) comes.proof
+  goes-on : (now : Option OpenProof) × GoesOnWriting s.proof now × ProofFits q.proof.opened s.variables comes.told now
+  goes-on = proof-goes-on p.proof q.proof s.variables s.variables s.told comes.told s.proof (d.stood.proof d.valid) refl comes.proof
 
   -- the solver stands for the state that it came to
   stands-after : {r : Result Bool SolverError} → CountsSteps (length s.counted) s.ledger.settings.max_steps s.ledger.since s.ledger.steps
@@ -280,7 +280,7 @@ returns-in-Err-clause-call g c s st =
       broken (with_steps n s),
       subst (λ e. Searches s (Err e) (broken (with_steps n s))) (sym c.from.ensures)
           (searches-broken c.in-Err.error s (broken (with_steps n s))
-          (λ f. broken-open c.self.inside.tracer.proof c.find_verdict.new.tracer.proof s.ever_hidden s.told s.proof (q.proof ok)
+          (λ f. broken-open c.self.inside.tracer.proof c.find_verdict.new.tracer.proof s.variables s.told s.proof (q.proof ok)
           (subst (λ k. BreaksProof c.self.inside.tracer.proof k c.find_verdict.new.tracer.proof) f c.in-Err.ensures.broken)) was counts
           (broken-invalid (with_steps n s) (stands-valid _ s q ok) (told-well s (with_steps n s) (q.fits ok).1.well_formed))),
       record {

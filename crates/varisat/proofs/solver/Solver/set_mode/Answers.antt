@@ -1,10 +1,12 @@
 use Rattle.std.proofs.Common.{not, subst, sym, ap, false}
-use Rattle.varisat.specs.States.{Ledger}
+use Rattle.varisat.specs.States.{Ledger, with_variables}
 use Rattle.varisat.specs.Accepting.{mode_of}
 use Rattle.varisat.specs.Usage.{name_var, SetsMode}
 use Rattle.varisat.specs.VariableCalls.{named, with_mode}
-use Rattle.varisat.proofs.CallStates.{ledger-is, none-since, begins, like-refl, broken, broken-invalid}
+use Rattle.varisat.proofs.CallStates.{ledger-is, none-since, begins, like-varied, broken, broken-invalid}
 use Rattle.varisat.proofs.Additions.{told-error}
+use Rattle.varisat.proofs.OpenProofs.{fits-alike}
+use Rattle.varisat.proofs.WrittenVariables.{written-alike}
 use Rattle.varisat.proofs.SettingsCalls.{summary_of}
 use Rattle.varisat_tracer.specs.Tracing.{parts_of}
 use Rattle.varisat.proofs.SinceSteps.{since-now}
@@ -16,12 +18,11 @@ invariant_of-self g c v =
     let k = (c.self.invariant c.if-self.false).kept in
     record {
       kept = kept-after c.self.inside.ctx c.self.inside.tracer.variables c.set_named_mode.new.variables k (c.in-Ok.ensures {u = tt}).set.stays;
-      stands = let (s, f, fresh) = (c.self.invariant c.if-self.false).stands in (
-        _,
-        mode-state (summary_of (parts_of c.self.inside.tracer) c.self.inside.started c.self.inside.changed_at c.self.inside.ctx) s
-            c.set_named_mode.new.variables c.args.var c.in-Ok.field-0 c.args.mode (mode_of c.args.mode) f c.requires (c.in-Ok.ensures {u = tt}).set,
-        fresh,
-      );
+      stands = let (s, f, fresh) = (c.self.invariant c.if-self.false).stands in
+          let (variables, keep, fits) = mode-state
+          (summary_of (parts_of c.self.inside.tracer) c.self.inside.started c.self.inside.changed_at c.self.inside.ctx) s
+          c.set_named_mode.new.variables c.args.var c.in-Ok.field-0 c.args.mode (mode_of c.args.mode) f c.requires (c.in-Ok.ensures {u = tt}).set in
+          (_, fits, fresh);
       tells = (c.self.invariant c.if-self.false).tells;
       counts = since-now c.steps-self-inside.result c.self.inside.ctx c.steps-self-inside.ensures.steps k.ready c.steps-self-inside.ensures.plan;
     }
@@ -43,19 +44,21 @@ returns-in-Ok g c s st =
     let u = c.args.var in
     let m = c.args.mode in
     let may = c.in_ok-check_change.ensures in
-    let t = with_mode u (mode_of m) (name_var named u s) in (
-      t,
-      ((k.valid, may.in_range, unassumed-state u k may.unassumed, like-refl t), λ e. absurd cc),
+    let t = with_mode u (mode_of m) (name_var named u s) in
+    let (w, links) = k.fits in
+    let (variables, keep, fits) = mode-state
+    (summary_of (parts_of c.self.inside.tracer) c.self.inside.started c.self.inside.changed_at c.self.inside.ctx) s
+    c.set_named_mode.new.variables u c.in-Ok.field-0 m (mode_of m) k.fits c.requires (c.in-Ok.ensures {u = tt}).set in
+    let alike = written-alike w _ s links variables keep in (
+      with_variables variables t,
+      ((k.valid, may.in_range, unassumed-state u k may.unassumed, like-varied t variables alike), λ e. absurd cc),
       record {
         ledger = ledger-is _ _ _ _ _ _ (ap (λ (x : Ledger). x.valid) k.ledger) (ap (λ (x : Ledger). x.started) k.ledger)
             (ap (λ (x : Ledger). x.steps) k.ledger)
             (none-since c.steps-self-inside.result c.self.inside.ctx.schedule.steps c.steps-self-inside.ensures.steps)
             (ap (λ (x : Ledger). x.settings) k.ledger);
-        fits = λ _. mode-state
-            (summary_of (parts_of c.self.inside.tracer) c.self.inside.started c.self.inside.changed_at c.self.inside.ctx) s
-            c.set_named_mode.new.variables u c.in-Ok.field-0 m (mode_of m) k.fits c.requires (c.in-Ok.ensures {u = tt}).set;
-        proof =
-            λ _. k.proof;
+        fits = λ _. fits;
+        proof = λ _. fits-alike _ s.variables variables s.told s.told s.proof alike k.proof;
         flags = λ _. let f = k.flags in
             record { clauses = f.clauses; assumptions = f.assumptions; counted = f.counted; unassumed = f.unassumed };
       },

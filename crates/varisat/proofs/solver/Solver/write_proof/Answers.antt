@@ -37,6 +37,6 @@ returns g c s st =
           c.self.inside.changed_at c.steps-self-inside.result c.self.inside.ctx s (Some first) c.steps-self-inside.ensures.steps
           (ap (λ (p : ProofParts). p.checker) c.write_proof.ensures)
           (ap (λ (p : ProofParts). p.opened) c.write_proof.ensures ∙ first-same c.args.format (g.W.ProofTarget.taken c.args.target))
-          (first-written s.ever_hidden c.args.format (g.W.ProofTarget.taken c.args.target) s.told c.requires.format (no-lines _ s q ok fresh))
+          (first-written s.variables c.args.format (g.W.ProofTarget.taken c.args.target) s.told c.requires.format (no-lines _ s q ok fresh))
           (λ _. (q.flags ok).assumptions fresh) q,
     )

@@ -8,7 +8,7 @@ use Rattle.varisat.specs.declared.session.Call.TheVariants as call
 use Rattle.varisat.specs.declared.session.Answer.TheVariants as answer
 use Rattle.varisat.specs.States.{State, empty_state}
 use Rattle.varisat_theory.specs.Journals.{NoneLeaves, accepted_of}
-use Rattle.varisat.specs.Journals.{IsJournal}
+use Rattle.varisat.specs.Journals.{IsJournal, IsToldWithin}
 use Rattle.varisat.specs.Calls.{IsValid}
 use Rattle.varisat.specs.Pasts as past
 use Rattle.varisat.specs.Told.{told_list, told_vars}
@@ -18,6 +18,7 @@ use Rattle.varisat.specs.Pasts.{Past, empty_past}
 use Rattle.varisat.specs.Histories.{IsTrue, AreTrue}
 use Rattle.varisat.proofs.Pasts.{Agrees, Leads, add-clause, add-formula, add-text, make-var, set-usage, hide, observe, assume-list, tell-model, tell-core, config, tell-since, open-proof, close, enable-checking, stays, empty-agrees}
 use Rattle.varisat.proofs.SolvedPasts.{solve}
+use Rattle.varisat.proofs.RunsTold.{call-within}
 
 -- what holds of each value with P
 pub of-ok : {X E : Type 0} (r : Result X E) (P Q : X → Type 0) → ((x : X) → P x → Q x) → IfOk r P → IfOk r Q
@@ -49,26 +50,29 @@ is-true seen taken call.EnableSelfChecking (answer.EnableSelfChecking r) p s t g
 is-true seen taken _ _ p s t g m = absurd m
 
 -- what was told is the past's journal, as it is the state's
-past-journal : (p : Past) (s : State) → Agrees p s → (IsValid s → IsJournal s) → p.valid ≡ true → past.IsJournal p
-past-journal p s g told v =
+past-journal : (p : Past) (s : State) → Agrees p s → (IsValid s → IsJournal s) → (IsValid s → IsToldWithin s.ledger.steps s.told) → p.valid ≡ true →
+    past.IsJournal p
+past-journal p s g told within v =
     let k = g.knows v in
     let j = told (g.valid ∙ v) in
     record {
+      within = subst (λ n. IsToldWithin n p.told) g.steps (subst (IsToldWithin s.ledger.steps) k.told.same (within (g.valid ∙ v)));
       accepted = ap accepted_of (sym k.told.same) ∙ j.accepted ∙ k.clauses;
       stays = λ n. subst NoneLeaves k.told.same (j.stays (k.hidden ∙ n));
     }
 
 are-true : {W S A : Type 0} (seen : S → Stand) (taken : W → Taken) (calls : List (Call W S A)) (answers : List (Answer W S A)) (p : Past)
-    (s t : State) → Agrees p s → Run seen taken s calls answers t → AreTrue seen taken p calls answers
-are-true seen taken [] [] p s t g r = (p, refl)
-are-true seen taken [] (a ∷ answers) p s t g r = absurd r
-are-true seen taken (c ∷ calls) [] p s t g r = absurd r
-are-true seen taken (c ∷ calls) (a ∷ answers) p s t g (mid, m, told, r) =
+    (s t : State) → Agrees p s → (IsValid s → IsToldWithin s.ledger.steps s.told) → Run seen taken s calls answers t → AreTrue seen taken p calls answers
+are-true seen taken [] [] p s t g w r = (p, refl)
+are-true seen taken [] (a ∷ answers) p s t g w r = absurd r
+are-true seen taken (c ∷ calls) [] p s t g w r = absurd r
+are-true seen taken (c ∷ calls) (a ∷ answers) p s t g w (mid, m, told, r) =
     let (q, x, h) = is-true seen taken c a p s mid g m in
-    let (last, rest) = are-true seen taken calls answers q mid t h r in
-    (last, (q, x, past-journal q mid h told, rest))
+    let within = call-within seen taken c a s mid m w in
+    let (last, rest) = are-true seen taken calls answers q mid t h within r in
+    (last, (q, x, past-journal q mid h told within, rest))
 
 -- each run of a new solver gives answers that are true
 pub run-is-true : {W S A : Type 0} (seen : S → Stand) (taken : W → Taken) (calls : List (Call W S A)) (answers : List (Answer W S A)) (t : State) →
     Run seen taken empty_state calls answers t → AreTrue seen taken empty_past calls answers
-run-is-true seen taken calls answers t r = are-true seen taken calls answers empty_past empty_state t empty-agrees r
+run-is-true seen taken calls answers t r = are-true seen taken calls answers empty_past empty_state t empty-agrees (λ v. ([], refl)) r

@@ -22,9 +22,10 @@ use Rattle.varisat_formula.specs.declared.dimacs.error.DimacsError.{DimacsError}
 use Rattle.varisat.specs.VariableCalls as variables
 use Rattle.varisat_proof.specs.declared.proof.format.ProofFormat.{ProofFormat}
 use Rattle.varisat.specs.ProofCalls.{OpensProof, EnablesChecking, ClosesProof}
-use Rattle.varisat.specs.Journals.{TellsMore}
+use Rattle.varisat.specs.Journals.{TellsMore, IsToldWithin}
 use Rattle.varisat.specs.declared.solver.SolverError.{SolverError}
 use Rattle.varisat.specs.declared.solver.SolverError.TheVariants.{OutOfMemory, Invalid, ProofIoError, ClauseStoreFull, WitnessVar, AssumedVar, VariableLimit, ClauseAfterSolve, ProofOpen, ProofTooLate, Interrupted, ConfigOutOfRange}
+use Rattle.varisat_theory.proofs.Journals.{by_leads, by_leads_append}
 use Rattle.varisat.proofs.VerdictAnswers.{is-unknown-or-not}
 use Rattle.varisat.proofs.ToldEntries.{tells-nothing, tells-through, tells, accepts-goes, assumes-goes}
 
@@ -63,6 +64,13 @@ through s m t a b = record {
   count = let x = a.count in let y = b.count in omega (arith, x, y);
   told = tells-through a.made b.made s.told m.told t.told a.told b.told;
 }
+
+-- so in all as many count at most as steps were made
+within-on : (s t : State) → TellsOn s t → IsToldWithin s.ledger.steps s.told → IsToldWithin t.ledger.steps t.told
+within-on s t o (held, d) =
+    let (after, e) = o.told.goes held (by_leads s.ledger.steps [] s.told held d) in
+    let both = by_leads_append s.ledger.steps o.made [] s.told held o.told.entries after d e in
+    (after, subst (λ n. LeadsBy n [] t.told after) (sym o.count) (subst (λ es. LeadsBy (s.ledger.steps + o.made) [] es after) (sym o.told.joined) both))
 
 no-way : (s t : State) → state.Invalidates s t → state.IsValid t → ⊥
 no-way s t b v = let z : false ≡ true = sym (ap (λ (x : Ledger). x.valid) b.ledger) ∙ v in cc
@@ -237,6 +245,11 @@ call-tells seen taken (call.WriteProof target format) (answer.WriteProof r) s t 
 call-tells seen taken call.CloseProof (answer.CloseProof r) s t m w = close taken s t r m w
 call-tells seen taken call.EnableSelfChecking (answer.EnableSelfChecking r) s t m w = enable-checking s t r m w
 call-tells seen taken _ _ s t m w = absurd m
+
+-- what is told in all, from call to call
+pub call-within : {W S A : Type 0} (seen : S → Stand) (taken : W → Taken) (c : Call W S A) (a : Answer W S A) (s t : State) →
+    MakesCall seen taken s c a t → (state.IsValid s → IsToldWithin s.ledger.steps s.told) → state.IsValid t → IsToldWithin t.ledger.steps t.told
+call-within seen taken c a s t m w v = let on = call-tells seen taken c a s t m v in within-on s t on (w on.valid)
 
 pub run-tells : {W S A : Type 0} (seen : S → Stand) (taken : W → Taken) (calls : List (Call W S A)) (answers : List (Answer W S A)) (s t : State) →
     Run seen taken s calls answers t → state.IsValid t → TellsOn s t

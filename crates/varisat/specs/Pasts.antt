@@ -12,7 +12,7 @@ use Rattle.varisat_names.specs.declared.config.SolverConfigUpdate.{SolverConfigU
 use Rattle.varisat_names.specs.Settings.{Settings, default_settings, updated_settings}
 use Rattle.varisat.specs.Names.{Naming, no_names, name_one, name_all, through_names, IsLeastFree, IsFirstWitness}
 use Rattle.varisat.specs.States.{join_counted}
-use Rattle.varisat.specs.Journals.{TellsMore, ToldConflict}
+use Rattle.varisat.specs.Journals.{TellsMore, ToldConflict, IsToldWithin}
 use Rattle.varisat.specs.OpenProofs.{lines_over}
 use Rattle.varisat.specs.ProofBytes.{AreBytesOfProof}
 use Rattle.varisat.specs.Budgets.{CountsSteps}
@@ -77,8 +77,10 @@ empty_past = record {
   proof = None;
 }
 
--- The clauses that were told to be accepted are those accepted, in order. Where nothing was ever hidden no variable left.
+-- What was told is right, entry by entry, and at most as many of the clauses that its lines add count as steps were made in all.
+-- The clauses that it accepts are those accepted, in order. Where nothing was ever hidden no variable left.
 pub record IsJournal (p : Past) : Type 0 where
+  pub within : IsToldWithin p.steps p.told
   pub accepted : accepted_of p.told ≡ p.clauses
   pub stays : p.ever_hidden ≡ false → NoneLeaves p.told
 

@@ -30,42 +30,72 @@ fn words_of(rt: &HostRuntime, line: &str) -> Result<Vec<String>, Fail> {
     Ok(words)
 }
 
-// What options of `solve` are read as: the proof, whether it is binary, and the limit of steps.
-type Options = Option<(Option<&'static str>, bool, Option<u64>)>;
+// What options of `solve` are read as: the proof, whether it is binary, whether the search is checked, and the limit of
+// steps.
+type Options = Option<(Option<&'static str>, bool, bool, Option<u64>)>;
 
 #[test]
 fn options_are_read(rt: HostRuntime) -> Result<(), Fail> {
-    let rows: [(&str, Options); 19] = [
-        ("", Some((None, false, None))),
-        ("--max-steps 0", Some((None, false, Some(0)))),
+    let rows: [(&str, Options); 27] = [
+        ("", Some((None, false, false, None))),
+        ("--max-steps 0", Some((None, false, false, Some(0)))),
         (
             "--max-steps 18446744073709551615",
-            Some((None, false, Some(u64::MAX))),
+            Some((None, false, false, Some(u64::MAX))),
         ),
         ("--max-steps 18446744073709551616", None),
         ("--max-steps 012", None),
         ("--max-steps", None),
         ("--steps 1", None),
         ("--max-steps 1 --max-steps 1", None),
-        ("--proof p", Some((Some("p"), false, None))),
-        ("--proof p --binary", Some((Some("p"), true, None))),
-        ("--binary --proof p", Some((Some("p"), true, None))),
+        ("--proof p", Some((Some("p"), false, false, None))),
+        ("--proof p --binary", Some((Some("p"), true, false, None))),
+        ("--binary --proof p", Some((Some("p"), true, false, None))),
         (
             "--binary --max-steps 7 --proof p",
-            Some((Some("p"), true, Some(7))),
+            Some((Some("p"), true, false, Some(7))),
         ),
-        ("--max-steps 7 --proof p", Some((Some("p"), false, Some(7)))),
+        (
+            "--max-steps 7 --proof p",
+            Some((Some("p"), false, false, Some(7))),
+        ),
         ("--proof", None),
         ("--binary", None),
         ("--binary --proof", None),
         ("--proof p --proof q", None),
         ("--proof p --binary --binary", None),
         ("p", None),
+        ("--check", Some((None, false, true, None))),
+        (
+            "--check --max-steps 7 --proof p --binary",
+            Some((Some("p"), true, true, Some(7))),
+        ),
+        (
+            "--proof p --check --binary",
+            Some((Some("p"), true, true, None)),
+        ),
+        ("--max-steps 7 --check", Some((None, false, true, Some(7)))),
+        // What stands behind `--proof` is a file.
+        (
+            "--proof --check",
+            Some((Some("--check"), false, false, None)),
+        ),
+        ("--check --check", None),
+        ("--check 1", None),
+        ("--check --binary", None),
     ];
     for (line, wanted) in rows {
         let words = words_of(&rt, line)?;
         let found = solve_words(words.as_slice());
-        let found = found.map(|found| (found.proof, found.is_binary, found.max_steps));
+        let found = found.map(|found| {
+            let options = found.options();
+            (
+                found.proof,
+                found.is_binary,
+                options.check,
+                options.max_steps,
+            )
+        });
         assert!(rt; found == wanted, "{line}");
     }
     Ok(())

@@ -74,10 +74,10 @@ const PROOFS: [(&str, Printed, Printed); 5] = [
 fn proofs_are_verified(rt: HostRuntime) {
     let alloc = rt.alloc();
     for (text, printed, checked) in PROOFS {
-        for is_binary in [false, true] {
+        for (is_binary, check) in [(false, false), (true, false), (false, true), (true, true)] {
             let format = drat_format(is_binary);
             let options = SolveOptions {
-                check: false,
+                check,
                 max_steps: None,
                 format,
             };
@@ -160,16 +160,18 @@ const TARGETS: [(&str, Option<u64>, u64, u64, Printed); 12] = [
 fn faults_of_targets_are_told(rt: HostRuntime) {
     let alloc = rt.alloc();
     for (text, max_steps, writes, flushes, printed) in TARGETS {
-        let options = SolveOptions {
-            check: false,
-            max_steps,
-            format: ProofFormat::Drat,
-        };
-        let mut proof = Some(IoTarget::new(CutWriter { writes, flushes }));
-        assert!(rt;
-            solve_prints(alloc, text, &mut proof, options, printed),
-            "{text}"
-        );
+        for check in [false, true] {
+            let options = SolveOptions {
+                check,
+                max_steps,
+                format: ProofFormat::Drat,
+            };
+            let mut proof = Some(IoTarget::new(CutWriter { writes, flushes }));
+            assert!(rt;
+                solve_prints(alloc, text, &mut proof, options, printed),
+                "{text}"
+            );
+        }
     }
 }
 

@@ -38,8 +38,8 @@ fn are_lines(alloc: Global, answers: &[TextAnswer], wanted: &[u8]) -> bool {
     is_written & (out.as_slice() == wanted)
 }
 
-// A small session: settings, a clause, a formula, a text that breaks off, a variable, a setting, the question, the steps,
-// the model, the flag, and the end of a proof that is not open.
+// A small session: settings, a checker inside, a clause, a formula, a text that breaks off, a variable, a setting, the
+// question, the steps, the model, the flag, and the end of a proof that is not open.
 fn calls(alloc: Global, settings: SolverConfigUpdate) -> Option<Vec<TextCall>>
     ensures { IfSome result (λ calls. AreReady (λ s. s) (λ t. t) calls.items) }
 {
@@ -48,6 +48,7 @@ fn calls(alloc: Global, settings: SolverConfigUpdate) -> Option<Vec<TextCall>>
     let text = in_pieces(b"6 0\n-2 0\n2", 3, false);
     let calls = [
         Call::Config(settings),
+        Call::EnableSelfChecking,
         Call::AddClause(clause),
         Call::AddFormula(formula),
         Call::AddDimacsCnf(ReadSource::new(text)),
@@ -71,9 +72,9 @@ fn bad_update() -> SolverConfigUpdate {
     update
 }
 
-// A session of refusals behind settings: a text with a fault in its middle and a good one, a formula with a name past the
-// limit and settings out of range. What stands before a fault stays, and refused settings change nothing, so the budget is
-// not spent.
+// A session of refusals behind settings: a text with a fault in its middle and a good one, a checker that would come too
+// late, a formula with a name past the limit and settings out of range. What stands before a fault stays, and refused
+// settings change nothing, so the budget is not spent.
 fn refused_calls(alloc: Global, settings: SolverConfigUpdate) -> Option<Vec<TextCall>>
     ensures { IfSome result (λ calls. AreReady (λ s. s) (λ t. t) calls.items) }
 {
@@ -83,6 +84,7 @@ fn refused_calls(alloc: Global, settings: SolverConfigUpdate) -> Option<Vec<Text
     let calls = [
         Call::Config(settings),
         Call::AddDimacsCnf(ReadSource::new(fault)),
+        Call::EnableSelfChecking,
         Call::AddDimacsCnf(ReadSource::new(comment)),
         Call::Solve,
         Call::Model,
@@ -151,8 +153,9 @@ fn answers_formula_calls(
 #[test]
 fn calls_are_answered(rt: HostRuntime) {
     let answers =
-        b"ok\nok\nok\nerr 13\nok 7\nok\nok true\nok 1\nok -1 -2 -3 -4 -5 6 -7 0\nok true\nok none\n";
-    let refused = b"ok\nerr 13\nok\nok true\nok 1 -2 3 0\nerr 7\nerr 12\nok true\nok 1 2 3 0\n";
+        b"ok\nok\nok\nok\nerr 13\nok 7\nok\nok true\nok 1\nok -1 -2 -3 -4 -5 6 -7 0\nok true\nok none\n";
+    let refused =
+        b"ok\nerr 13\nerr 11\nok\nok true\nok 1 -2 3 0\nerr 7\nerr 12\nok true\nok 1 2 3 0\n";
     let of_formula = b"ok\nok\nok true\nok -1 -2 3 0\n";
     for settings in rare_and_frequent() {
         assert!(rt; answers_formula_calls(rt.alloc(), settings, of_formula) == Some(true));

@@ -123,6 +123,11 @@ const OTHER_TEXTS: &[&[u8]] = &[
     b"hide1",
     b"observe 1",
     b"Observe",
+    b"selfcheck ",
+    b"selfcheck 1",
+    b"selfchecks",
+    b"self check",
+    b"Selfcheck",
     b"solve ",
     b" solve",
     b"Solve",
@@ -246,6 +251,11 @@ fn answers_are_written(rt: HostRuntime) {
             Answer::ObserveInternalVars(Err(SolverError::VariableLimit)),
             b"err 7",
         ),
+        writes(
+            alloc,
+            Answer::EnableSelfChecking(Err(SolverError::Invalid)),
+            b"err 4",
+        ),
         writes(alloc, Answer::Model(Err(AllocError)), b"err 3"),
         writes(alloc, Answer::FailedCore(Err(AllocError)), b"err 3"),
         writes(alloc, Answer::Steps(u64::MAX), b"ok 18446744073709551615"),
@@ -254,5 +264,5 @@ fn answers_are_written(rt: HostRuntime) {
         matches!(writes_model(alloc), Ok(true)),
         matches!(fits_only_whole(alloc), Ok(true)),
     ];
-    assert!(rt; outcomes == [true; 11], "{outcomes:?}");
+    assert!(rt; outcomes == [true; 12], "{outcomes:?}");
 }

@@ -11,12 +11,13 @@ use varisat_literals::lits;
 type Outcome = ([u8; 4], bool, Option<bool>);
 
 // What can happen: once memory ran out in a call that changes the solver, it is invalid. Where a step had room for the
-// lists of variables that leave, a model has room for its list.
-const OUTCOMES: [Outcome; 4] = [
+// lists of variables that leave, a model has room for its list, unless a checker inside took that.
+const OUTCOMES: [Outcome; 5] = [
     ([3, 4, 4, 4], false, Some(false)),
     ([0, 3, 4, 4], false, Some(false)),
     ([0, 0, 3, 4], false, Some(false)),
     ([0, 0, 0, 0], true, Some(true)),
+    ([0, 0, 0, 0], true, None),
 ];
 
 // The number of the refusal, or 0.
@@ -51,24 +52,39 @@ fn outcome<A: Allocator + Copy>(solver: &mut Solver<MemoryTarget<A>, A>, text: &
     )
 }
 
-fn outcome_in<A: Allocator + Copy>(alloc: A, text: &str) -> Outcome {
+// A new solver, in which a checker runs if that is wanted. It begins without memory.
+fn new_solver<A: Allocator + Copy>(alloc: A, is_checked: bool) -> Solver<MemoryTarget<A>, A> {
     let mut solver = Solver::new_in(alloc);
+    if is_checked {
+        let _ = solver.enable_self_checking();
+    }
+    solver
+}
+
+fn outcome_in<A: Allocator + Copy>(alloc: A, is_checked: bool, text: &str) -> Outcome {
+    let mut solver = new_solver(alloc, is_checked);
     let outcome = outcome(&mut solver, text);
     drop(solver);
     outcome
 }
 
 // The place in the table of what happens on a heap of that many times 16 bytes.
-fn place_with(alloc: Global, room: u16, text: &str) -> Result<Option<usize>, AllocError> {
+fn place_with(
+    alloc: Global,
+    room: u16,
+    is_checked: bool,
+    text: &str,
+) -> Result<Option<usize>, AllocError> {
     let heap = LocalHeap::new(alloc, 16 * usize::from(room))?;
-    let outcome = outcome_in(&heap, text);
+    let outcome = outcome_in(&heap, is_checked, text);
     Ok(OUTCOMES.iter().position(|row| *row == outcome))
 }
 
 // A text of which the third clause is deleted as it is loaded. By its unit the clause before it loses a literal.
 const TEXT_UNDER_PROOF: &str = "1 -2 0\n3 0\n4 3 0\n";
 
-// What can happen under a proof in memory: a line that its target has no room for is the target's failure.
+// What can happen under a proof in memory: a line that its target has no room for is the target's failure. A checker inside
+// takes more of the text before its deletion than the target takes for that, so the third row is not for one.
 const OUTCOMES_UNDER_PROOF: [Outcome; 6] = [
     ([3, 4, 4, 4], false, Some(false)),
     ([0, 3, 4, 4], false, Some(false)),
@@ -96,8 +112,11 @@ fn outcome_under_proof<A: Allocator + Copy>(
 }
 
 // The same in a new solver.
-fn outcome_under_proof_in<A: Allocator + Copy>(alloc: A) -> (Outcome, Option<MemoryTarget<A>>) {
-    let mut solver = Solver::new_in(alloc);
+fn outcome_under_proof_in<A: Allocator + Copy>(
+    alloc: A,
+    is_checked: bool,
+) -> (Outcome, Option<MemoryTarget<A>>) {
+    let mut solver = new_solver(alloc, is_checked);
     let outcome = outcome_under_proof(alloc, &mut solver);
     drop(solver);
     outcome
@@ -106,7 +125,7 @@ fn outcome_under_proof_in<A: Allocator + Copy>(alloc: A) -> (Outcome, Option<Mem
 // The bytes of the whole proof: a deletion, a clause that lost a literal and the deletion of the longer one, a unit that a
 // conflict teaches, and the deletions of both clauses that it satisfies.
 fn whole_proof(alloc: Global) -> Option<Vec<u8>> {
-    let (_, target) = outcome_under_proof_in(alloc);
+    let (_, target) = outcome_under_proof_in(alloc, false);
     let bytes = Vec::from_slice(alloc, target?.bytes()).ok()?;
     let is_right = bytes.starts_with(b"d 3 4 0\n") & (bytes.len() == 46);
     is_right.then_some(bytes)
@@ -117,10 +136,11 @@ fn whole_proof(alloc: Global) -> Option<Vec<u8>> {
 fn place_under_proof_with(
     alloc: Global,
     room: u16,
+    is_checked: bool,
     whole: &[u8],
 ) -> Result<Option<usize>, AllocError> {
     let heap = LocalHeap::new(alloc, 16 * usize::from(room))?;
-    let (outcome, target) = outcome_under_proof_in(&heap);
+    let (outcome, target) = outcome_under_proof_in(&heap, is_checked);
     let is_beginning = match &target {
         Some(target) => whole.starts_with(target.bytes()),
         None => false,
@@ -131,16 +151,21 @@ fn place_under_proof_with(
 
 #[test]
 fn each_growth_may_be_refused(rt: HostRuntime) {
-    let mut reached = [false; 4];
-    for text in TEXTS {
-        for room in 0..400 {
-            match place_with(rt.alloc(), room, text) {
-                Ok(Some(place)) if place < 4 => reached[place] = true,
-                _ => panic!(rt; "with {room}"),
+    for is_checked in [false, true] {
+        let mut reached = [false; 5];
+        for text in TEXTS {
+            for room in 0..400 {
+                match place_with(rt.alloc(), room, is_checked, text) {
+                    Ok(Some(place)) if place < 5 => reached[place] = true,
+                    _ => panic!(rt; "with {room}, checked: {is_checked}"),
+                }
             }
         }
+        assert!(rt;
+            reached == [true, true, true, true, is_checked],
+            "{reached:?}"
+        );
     }
-    assert!(rt; reached == [true; 4], "{reached:?}");
 }
 
 #[test]
@@ -148,14 +173,19 @@ fn each_growth_under_a_proof_may_be_refused(rt: HostRuntime) {
     let Some(whole) = whole_proof(rt.alloc()) else {
         panic!(rt; "the whole proof");
     };
-    let mut reached = [false; 6];
-    for room in 0..400 {
-        match place_under_proof_with(rt.alloc(), room, &whole) {
-            Ok(Some(place)) if place < 6 => reached[place] = true,
-            _ => panic!(rt; "with {room}"),
+    for is_checked in [false, true] {
+        let mut reached = [false; 6];
+        for room in 0..400 {
+            match place_under_proof_with(rt.alloc(), room, is_checked, &whole) {
+                Ok(Some(place)) if place < 6 => reached[place] = true,
+                _ => panic!(rt; "with {room}, checked: {is_checked}"),
+            }
         }
+        assert!(rt;
+            reached == [true, true, !is_checked, true, true, true],
+            "{reached:?}"
+        );
     }
-    assert!(rt; reached == [true; 6], "{reached:?}");
 }
 
 // Blocks of a heap, until it has none left.

@@ -32,13 +32,18 @@ fn session_prints<R: Read + Drop>(alloc: Global, input: R, wanted: Printed) -> b
     are_printed(&out, &err, status, wanted)
 }
 
-// What each session stands behind in turn: nothing, and settings by which learned clauses are reduced at each step.
-const SETTINGS: [Exchange; 2] = [
+// A checker that runs inside the solver.
+const SELF_CHECKING: Exchange = ("selfcheck\n", "ok\n");
+
+// What each session stands behind in turn: nothing, settings by which learned clauses are reduced at each step, and a
+// checker inside.
+const SETTINGS: [Exchange; 3] = [
     ("", ""),
     (
         "config reduce_locals_interval 1\nconfig reduce_mids_interval 1\n",
         "ok\nok\n",
     ),
+    SELF_CHECKING,
 ];
 
 // Whether the answers of both are printed in turn, with no fault.
@@ -61,6 +66,7 @@ fn is_answered(alloc: Global, settings: Exchange, session: Exchange) -> bool {
 fn solve_prints<S: ByteSource>(
     alloc: Global,
     cnf: &mut S,
+    check: bool,
     max_steps: Option<u64>,
     wanted: Printed,
 ) -> bool
@@ -69,7 +75,7 @@ fn solve_prints<S: ByteSource>(
     let mut out = Vec::new(alloc);
     let mut err = Vec::new(alloc);
     let options = SolveOptions {
-        check: false,
+        check,
         max_steps,
         format: ProofFormat::Drat,
     };
@@ -79,8 +85,13 @@ fn solve_prints<S: ByteSource>(
 }
 
 // Sessions that take little memory.
-const SESSIONS: [Exchange; 16] = [
+const SESSIONS: [Exchange; 17] = [
     ("add 3\nsolve\nmodel\n", "ok\nok true\nok -1 -2 3 0\n"),
+    // A checker begins before a clause, and an invalid solver refuses it otherwise.
+    (
+        "selfcheck\nadd 1 2\nselfcheck\nsolve\nselfcheck\n",
+        "ok\nok\nerr 11\nok true\nerr 11\n",
+    ),
     ("solve\nmodel\n", "ok true\nok 0\n"),
     (
         "add 1 -2\nadd 3\nsolve\nmodel\n",
@@ -150,7 +161,7 @@ const PROOF_SESSIONS: [Exchange; 3] = [
 
 // Sessions with ample memory alone: they ask for the steps, which an invalid solver tells too, have settings, or take
 // much memory.
-const AMPLE_SESSIONS: [Exchange; 25] = [
+const AMPLE_SESSIONS: [Exchange; 28] = [
     (
         "steps\nsolve\nsteps\nsolve\nsteps\n",
         "ok 0\nok true\nok 1\nok true\nok 1\n",
@@ -244,14 +255,29 @@ const AMPLE_SESSIONS: [Exchange; 25] = [
         "solve\nproof text\nsince\nadd 1 2\nsolve\nsince\nassume 1\nadd 3\nproof text\nsince\nclose\nsince\n",
         "ok true\nok\nok 0\nok\nok true\nok 1\nerr 10\nerr 9\nerr 10\nok 1\nok\nok 0\n",
     ),
+    // Self checking may be switched on again, also after `solve` and under a proof, until something is accepted. That sets
+    // the steps since the last change to 0, and a refusal leaves them.
+    (
+        "selfcheck\nselfcheck\nsolve\nsince\nselfcheck\nsince\nproof text\nselfcheck\nadd 1 2\nsolve\nsince\nselfcheck\nsince\nclose\nselfcheck\n",
+        "ok\nok\nok true\nok 1\nok\nok 0\nok\nok\nok\nok true\nok 1\nerr 11\nok 1\nok\nerr 11\n",
+    ),
+    (
+        "new\nselfcheck\nselfcheck 1\nselfcheck \nSelfcheck\nself check\nsolve\n",
+        "ok 1\nerr 11\nbad line\nbad line\nbad line\nbad line\nok true\n",
+    ),
+    // Settings and a refused clause are none that come before it, a list of assumptions is.
+    (
+        "config max_steps 9\nadd 268435457\nselfcheck\nassume\nselfcheck\n",
+        "ok\nerr 7\nok\nok\nerr 11\n",
+    ),
     (
         "assume\nproof text\nproof\nproof marked\nproof  text\nproof text \nPROOF text\n",
         "ok\nerr 11\nbad line\nbad line\nbad line\nbad line\nbad line\n",
     ),
     // Calls in an odd order.
     (
-        "solve\nmodel\nhide 2\nmodel\nnew\nassume 1\nsample 1\nwitness 2\nassume 2\nsolve\nmodel\nsteps\nadd 2 1\nproof text\nadd\ncore\nnew\nadd 9\nassume 1\nconfig max_steps 0\nsolve\nsteps\nmodel\nclose\nadd 01\nadd  1\n",
-        "ok true\nok 0\nok\nok -1 0\nok 2\nok\nerr 8\nok\nerr 6\nok true\nok 1 -2 0\nok 2\nerr 6\nerr 11\nok\nok 0\nok 3\nok\nok\nok\nok false\nok 2\nok none\nok none\nbad line\nbad line\n",
+        "solve\nmodel\nhide 2\nmodel\nnew\nassume 1\nsample 1\nwitness 2\nassume 2\nsolve\nmodel\nsteps\nadd 2 1\nselfcheck\nproof text\nadd\ncore\nnew\nadd 9\nassume 1\nconfig max_steps 0\nsolve\nsteps\nmodel\nclose\nadd 01\nadd  1\n",
+        "ok true\nok 0\nok\nok -1 0\nok 2\nok\nerr 8\nok\nerr 6\nok true\nok 1 -2 0\nok 2\nerr 6\nerr 11\nerr 11\nok\nok 0\nok 3\nok\nok\nok\nok false\nok 2\nok none\nok none\nbad line\nbad line\n",
     ),
     // Names that no clause names have no variable in the search.
     (
@@ -369,9 +395,12 @@ const TEXTS: [(&str, Option<u64>, Printed); 10] = [
     ),
 ];
 
+// Whether the text is decided so, without a checker inside and with one.
 fn text_prints(alloc: Global, text: &'static str, max_steps: Option<u64>, wanted: Printed) -> bool {
-    let mut source = ReadSource::new(Cursor::new(text));
-    solve_prints(alloc, &mut source, max_steps, wanted)
+    [false, true].iter().all(|check| {
+        let mut source = ReadSource::new(Cursor::new(text));
+        solve_prints(alloc, &mut source, *check, max_steps, wanted)
+    })
 }
 
 // Whether some assignment satisfies the text, found with the settings.
@@ -401,8 +430,55 @@ fn status_with_reductions(alloc: Global, text: &'static str, max_steps: Option<u
     }
 }
 
+// The status for a text without a model, decided in a heap of that many times 16 bytes.
+fn status_with(alloc: Global, room: u16, check: bool) -> Result<u8, AllocError> {
+    let heap = LocalHeap::new(alloc, 16 * usize::from(room))?;
+    Ok(status_in(alloc, &heap, check))
+}
+
+fn status_in(alloc: Global, heap: &LocalHeap, check: bool) -> u8 {
+    let mut out = Vec::new(alloc);
+    let mut err = Vec::new(alloc);
+    let mut source = ReadSource::new(Cursor::new("1 2 0 -1 2 0 1 -2 0 -1 -2 0\n"));
+    let options = SolveOptions {
+        check,
+        max_steps: None,
+        format: ProofFormat::Drat,
+    };
+    let mut no_proof: Option<MemoryTarget<Global>> = None;
+    solve_lines(
+        heap,
+        &mut source,
+        &mut no_proof,
+        options,
+        &mut out,
+        &mut err,
+    )
+}
+
+// The least room in which it is decided. In a smaller one that is refused.
+fn least_room(alloc: Global, check: bool) -> Option<u16> {
+    for room in 0..400 {
+        match status_with(alloc, room, check) {
+            Ok(20) => return Some(room),
+            Ok(2) => {}
+            _ => return None,
+        }
+    }
+    None
+}
+
+// Whether a checker inside takes memory of its own.
+fn takes_more(alloc: Global) -> bool {
+    match (least_room(alloc, false), least_room(alloc, true)) {
+        (Some(alone), Some(checked)) => alone < checked,
+        _ => false,
+    }
+}
+
 #[test]
 fn texts_are_decided(rt: HostRuntime) {
+    assert!(rt; takes_more(rt.alloc()));
     for (text, max_steps, wanted) in &TEXTS {
         let status = status_with_reductions(rt.alloc(), *text, *max_steps);
         assert!(rt;
@@ -414,7 +490,7 @@ fn texts_are_decided(rt: HostRuntime) {
 
 fn cut_file_prints(alloc: Global, wanted: Printed) -> bool {
     let mut source = ReadSource::new(in_pieces(b"1 0\n2", 100, true));
-    solve_prints(alloc, &mut source, None, wanted)
+    solve_prints(alloc, &mut source, true, None, wanted)
 }
 
 fn is_fault(err: &[u8], status: u8) -> bool {
@@ -478,41 +554,72 @@ fn is_complete(
     }
 }
 
+// The same behind settings. With the least memory a session ends before its first line.
+fn is_complete_behind(
+    out: &[u8],
+    err: &[u8],
+    status: u8,
+    settings: Exchange,
+    session: Exchange,
+) -> Option<bool> {
+    let is_under_proof = session.0.starts_with("proof");
+    match out.strip_prefix(settings.1.as_bytes()) {
+        Some(rest) => is_complete(rest, err, status, session.1, is_under_proof),
+        None if out.is_empty() => is_complete(out, err, status, session.1, is_under_proof),
+        None => None,
+    }
+}
+
 // The same of a session in the heap.
-fn is_complete_in(alloc: Global, heap: &LocalHeap, lines: &str, wanted: &str) -> Option<bool> {
+fn is_complete_in(
+    alloc: Global,
+    heap: &LocalHeap,
+    settings: Exchange,
+    session: Exchange,
+) -> Option<bool> {
     let mut out = Vec::new(alloc);
     let mut err = Vec::new(alloc);
-    let status = session_lines(heap, Cursor::new(lines), &mut out, &mut err);
-    is_complete(&out, &err, status, wanted, lines.starts_with("proof"))
+    let input = Cursor::new(settings.0).chain(Cursor::new(session.0));
+    let status = session_lines(heap, input, &mut out, &mut err);
+    is_complete_behind(&out, &err, status, settings, session)
 }
 
-// The same with that many times 16 bytes beside the reader's buffer.
+// The same with so many bytes beside the reader's buffer.
 fn is_complete_with(
     alloc: Global,
-    room: u8,
-    lines: &str,
-    wanted: &str,
+    room: u16,
+    settings: Exchange,
+    session: Exchange,
 ) -> Result<Option<bool>, AllocError> {
-    let heap = LocalHeap::new(alloc, 8192 + 16 * usize::from(room))?;
-    Ok(is_complete_in(alloc, &heap, lines, wanted))
+    let heap = LocalHeap::new(alloc, 8192 + usize::from(room))?;
+    Ok(is_complete_in(alloc, &heap, settings, session))
 }
 
-// Whether each growth of the session may be refused, and at last none is.
-fn ends(alloc: Global, lines: &str, wanted: &str) -> bool {
+// Whether each growth of the session may be refused, and at last none is, in rooms that rise by so many bytes.
+fn ends(alloc: Global, step: u16, settings: Exchange, session: Exchange) -> bool {
+    let mut room: u16 = 0;
     let mut ended = false;
-    for room in 0..160 {
-        match is_complete_with(alloc, room, lines, wanted) {
+    for _ in 0..160 {
+        match is_complete_with(alloc, room, settings, session) {
             Ok(Some(all)) => ended |= all,
             _ => return false,
         }
+        room = room.saturating_add(step);
     }
     ended
 }
 
 #[test]
 fn each_growth_may_be_refused(rt: HostRuntime) {
-    for (lines, wanted) in SESSIONS.iter().chain(&MODE_SESSIONS).chain(&PROOF_SESSIONS) {
-        assert!(rt; ends(rt.alloc(), lines, wanted), "{lines}");
+    for session in SESSIONS.iter().chain(&MODE_SESSIONS).chain(&PROOF_SESSIONS) {
+        for (step, settings) in [(16, SETTINGS[0]), (64, SELF_CHECKING)] {
+            assert!(rt;
+                ends(rt.alloc(), step, settings, *session),
+                "{}{}",
+                settings.0,
+                session.0
+            );
+        }
     }
 }
 

@@ -2,7 +2,6 @@
 use Rattle.std.proofs.Common.{◌≡◌, ◌≢◌, List, Result, Ok, Err, MatchResult, true, false, inl, inr, ⊎_elim, sym, subst}
 use Rattle.std.specs.Result.{IsErr}
 use Rattle.varisat_theory.specs.Derivations.{Line}
-use Rattle.varisat_theory.specs.Literals.{Literal}
 use Rattle.varisat_names.specs.Variables.{Tables}
 use Rattle.varisat_search.specs.declared.context.Context.{Context}
 use Rattle.varisat_search.specs.declared.state.SatState.TheVariants as verdict

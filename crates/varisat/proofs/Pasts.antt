@@ -24,7 +24,6 @@ use Rattle.varisat.specs.Models.{list_names, model_of, AreNamesInUse, IsCompleta
 use Rattle.varisat.specs.Additions as additions
 use Rattle.varisat.specs.Additions.{Gave, AllAdded, OneRefused, RefusedAtOnce, NoFault, MemoryFault, Fault, ClauseRefused, ClausesAdded, RefusedEarly, FaultInText, Whole, MemoryRanOut, SourceFailed, Read, Unread}
 use Rattle.varisat.specs.Calls as state
-use Rattle.varisat_theory.specs.Counted.{added}
 use Rattle.varisat_theory.specs.Journals.{Accepts, Assumes, lines_of}
 use Rattle.varisat.specs.Calls.{IsPastLimit, MayConstrain, IsCrowded, IsLikeButLeft, IsLike, with_naming, start, with_steps, answer_of, reopened_verdict, assumed_verdict, VerdictAfter}
 use Rattle.varisat.specs.Budgets.{TellsSince}

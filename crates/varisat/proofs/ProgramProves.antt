@@ -9,7 +9,7 @@ use Rattle.varisat_formula.specs.Streams.{Stand, Taken}
 use Rattle.varisat_proof.specs.declared.proof.format.ProofFormat.{ProofFormat}
 use Rattle.varisat_proof.specs.Proving.{OpenState, IsClosed}
 use Rattle.varisat.specs.OpenProofs.{OpenProof, opened_state, GoesOnWriting, searched_under, first_proof}
-use Rattle.varisat.specs.States.{State, Ledger, Unknown}
+use Rattle.varisat.specs.States.{State, Ledger}
 use Rattle.varisat.specs.ProofCalls.{HasProof}
 use Rattle.varisat.specs.Calls as state
 use Rattle.varisat.specs.Calls.{IsValid, TellsVerdict}

@@ -1,5 +1,5 @@
 -- What is told further, and what it makes of what was told.
-use Rattle.std.proofs.Common.{◌≡◌, ℕ, ◌+◌, Bool, false, List, [], ◌∷◌, ◌++◌, inl, sym, ap, ◌∙◌, subst, refl, map, append_assoc, arith, ◌≤◌, ◌⊎◌, ◌↔◌, inr, ⊎_elim}
+use Rattle.std.proofs.Common.{◌≡◌, ℕ, ◌+◌, Bool, false, List, [], ◌∷◌, ◌++◌, inl, sym, ap, ◌∙◌, subst, refl, map, append_assoc, arith, ◌⊎◌, ◌↔◌, inr, ⊎_elim}
 use Rattle.std.proofs.lemmas.List.{append-nil}
 use Rattle.varisat_theory.specs.Membership.{◌∈◌, ◌⊆◌}
 use Rattle.varisat_theory.specs.Literals.{Literal, Clause, Assignment, variable_of, SatisfiesAll}

@@ -13,7 +13,7 @@ use Rattle.varisat_theory.proofs.Journals.{leads_derives, leads_refutes}
 use Rattle.varisat.specs.States.{State, Verdict, Unknown, Sat, Unsat, UnsatUnderAssumptions, IsRight}
 use Rattle.varisat.specs.Calls.{answer_of}
 use Rattle.varisat.specs.Journals.{IsJournal}
-use Rattle.varisat.specs.OpenProofs.{IsOpen, lines_over, IsWrittenAs, IsWrittenIf}
+use Rattle.varisat.specs.OpenProofs.{IsOpen, IsWrittenAs, IsWrittenIf}
 use Rattle.varisat.proofs.WrittenVariables.{there-present, there-apart, written-plain}
 use Rattle.varisat.specs.ProofCalls.{HasProof}
 use Rattle.varisat.specs.Carried.{carry}

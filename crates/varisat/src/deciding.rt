@@ -69,7 +69,7 @@ fn new_solver<W: ProofTarget, A: Allocator + Copy>(alloc: A, is_checked: bool) -
     solver
 }
 
-/// The same in a new solver.
+/// The same in a new solver, inside which a checker runs where that is wanted.
 fn decide_in<W: ProofTarget, A: Allocator + Copy, S: ByteSource>(
     solver: &mut Solver<W, A>,
     cnf: &mut S,
@@ -77,6 +77,7 @@ fn decide_in<W: ProofTarget, A: Allocator + Copy, S: ByteSource>(
     options: SolveOptions,
 ) -> Result<Report<A>, SolverError>
     requires new { StandsFor solver.old empty_state }
+    requires checks { options.check ≡ true → IsSome solver.old.checker }
     requires faults { (S.stand cnf.old).faults < 2 ^ 64 - 1 }
     requires format { IsDrat options.format }
     requires room { CanCountFault W.taken target.old }

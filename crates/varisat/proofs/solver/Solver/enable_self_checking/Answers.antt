@@ -1,4 +1,4 @@
-use Rattle.std.proofs.Common.{◌∙◌, not, refl, sym, ap}
+use Rattle.std.proofs.Common.{◌∙◌, not, refl, ap}
 use Rattle.varisat.specs.States.{Ledger}
 use Rattle.varisat.specs.Calls.{count_anew}
 use Rattle.varisat.proofs.CallStates.{stands-valid}

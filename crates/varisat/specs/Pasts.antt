@@ -303,9 +303,9 @@ ProofOpens taken target format p (Err _) q = ⊥
 abbrev pub closed : Past → Past
 closed p = record p { proof = None; since = 0 }
 
--- What a target took is what it had when the open proof was opened, and behind it the bytes of lines. As long as nothing was ever
--- hidden these are all lines that were told, a derivation from the accepted clauses, and where `solve` returned false last they
--- refute them; and at least as many of them add a clause as steps were made by interrupted calls since then.
+-- What a target took is what it had when the open proof was opened, and behind it the bytes of all lines that were told, of which
+-- at least as many add a clause as steps were made by interrupted calls since then. As long as nothing was ever hidden they are a
+-- derivation from the accepted clauses, and where `solve` returned false last they refute them.
 pub record HandsBack (p : Past) (taken : List ℕ) : Type 0 where
   pub opened : PastProof
   pub is_open : p.proof ≡ Some opened

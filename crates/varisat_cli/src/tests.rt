@@ -34,57 +34,60 @@ fn words_of(rt: &HostRuntime, line: &str) -> Result<Vec<String>, Fail> {
 // steps.
 type Options = Option<(Option<&'static str>, bool, bool, Option<u64>)>;
 
+/// Words behind `solve`, and the options that they are read as.
+const OPTIONS: &[(&str, Options)] = &[
+    ("", Some((None, false, false, None))),
+    ("--max-steps 0", Some((None, false, false, Some(0)))),
+    (
+        "--max-steps 18446744073709551615",
+        Some((None, false, false, Some(u64::MAX))),
+    ),
+    ("--max-steps 18446744073709551616", None),
+    ("--max-steps 012", None),
+    ("--max-steps", None),
+    ("--steps 1", None),
+    ("--max-steps 1 --max-steps 1", None),
+    ("--proof p", Some((Some("p"), false, false, None))),
+    ("--proof p --binary", Some((Some("p"), true, false, None))),
+    ("--binary --proof p", Some((Some("p"), true, false, None))),
+    (
+        "--binary --max-steps 7 --proof p",
+        Some((Some("p"), true, false, Some(7))),
+    ),
+    (
+        "--max-steps 7 --proof p",
+        Some((Some("p"), false, false, Some(7))),
+    ),
+    ("--proof", None),
+    ("--binary", None),
+    ("--binary --proof", None),
+    ("--proof p --proof q", None),
+    ("--proof p --binary --binary", None),
+    ("p", None),
+    ("--check", Some((None, false, true, None))),
+    (
+        "--check --max-steps 7 --proof p --binary",
+        Some((Some("p"), true, true, Some(7))),
+    ),
+    (
+        "--proof p --check --binary",
+        Some((Some("p"), true, true, None)),
+    ),
+    ("--max-steps 7 --check", Some((None, false, true, Some(7)))),
+    // What stands behind `--proof` is a file.
+    (
+        "--proof --check",
+        Some((Some("--check"), false, false, None)),
+    ),
+    ("--check --check", None),
+    ("--check 1", None),
+    ("--check --binary", None),
+];
+
 #[test]
 fn options_are_read(rt: HostRuntime) -> Result<(), Fail> {
-    let rows: [(&str, Options); 27] = [
-        ("", Some((None, false, false, None))),
-        ("--max-steps 0", Some((None, false, false, Some(0)))),
-        (
-            "--max-steps 18446744073709551615",
-            Some((None, false, false, Some(u64::MAX))),
-        ),
-        ("--max-steps 18446744073709551616", None),
-        ("--max-steps 012", None),
-        ("--max-steps", None),
-        ("--steps 1", None),
-        ("--max-steps 1 --max-steps 1", None),
-        ("--proof p", Some((Some("p"), false, false, None))),
-        ("--proof p --binary", Some((Some("p"), true, false, None))),
-        ("--binary --proof p", Some((Some("p"), true, false, None))),
-        (
-            "--binary --max-steps 7 --proof p",
-            Some((Some("p"), true, false, Some(7))),
-        ),
-        (
-            "--max-steps 7 --proof p",
-            Some((Some("p"), false, false, Some(7))),
-        ),
-        ("--proof", None),
-        ("--binary", None),
-        ("--binary --proof", None),
-        ("--proof p --proof q", None),
-        ("--proof p --binary --binary", None),
-        ("p", None),
-        ("--check", Some((None, false, true, None))),
-        (
-            "--check --max-steps 7 --proof p --binary",
-            Some((Some("p"), true, true, Some(7))),
-        ),
-        (
-            "--proof p --check --binary",
-            Some((Some("p"), true, true, None)),
-        ),
-        ("--max-steps 7 --check", Some((None, false, true, Some(7)))),
-        // What stands behind `--proof` is a file.
-        (
-            "--proof --check",
-            Some((Some("--check"), false, false, None)),
-        ),
-        ("--check --check", None),
-        ("--check 1", None),
-        ("--check --binary", None),
-    ];
-    for (line, wanted) in rows {
+    for row in OPTIONS {
+        let (line, wanted) = *row;
         let words = words_of(&rt, line)?;
         let found = solve_words(words.as_slice());
         let found = found.map(|found| {

@@ -61,7 +61,7 @@ fn are_listed<A: Allocator + Copy>(lists: &BinaryClauses<A>) -> bool {
         & implies(lists, lit!(-4), &[])
 }
 
-/// Keeps three clauses, and gives the first variable a value.
+/// Keeps four clauses, and makes the first variable true and the fourth one false.
 fn add_and_assign<A: Allocator + Copy>(
     lists: &mut BinaryClauses<A>,
     assignment: &mut Assignment<A>,
@@ -69,14 +69,18 @@ fn add_and_assign<A: Allocator + Copy>(
     requires lists { lists.old ≡ [] }
     requires assignment { assignment.old ≡ no_values }
 {
-    lists.set_var_count(3)?;
-    add_all(lists, &[lits![1, -2], lits![3, 1], lits![-2, 3]])?;
-    assignment.set_var_count(3)?;
+    lists.set_var_count(4)?;
+    add_all(
+        lists,
+        &[lits![1, -2], lits![3, 1], lits![-2, 3], lits![-4, 2]],
+    )?;
+    assignment.set_var_count(4)?;
     assignment.assign_lit(lit!(1));
+    assignment.assign_lit(lit!(-4));
     Ok(())
 }
 
-/// Whether only the clause without the first variable is left once that one has a value.
+/// Whether only the clause without the first variable and the fourth one is left once these have values.
 fn drops_pairs<A: Allocator + Copy>(
     lists: &mut BinaryClauses<A>,
     assignment: &mut Assignment<A>,
@@ -85,14 +89,15 @@ fn drops_pairs<A: Allocator + Copy>(
     requires assignment { assignment.old ≡ no_values }
 {
     add_and_assign(lists, assignment)?;
-    if lists.len() > 6 {
+    if lists.len() > 8 {
         return Ok(false);
     }
     lists.simplify(assignment);
     Ok(
         implies(lists, lit!(-1), &[])
             & implies(lists, lit!(2), &lits![3])
-            & implies(lists, lit!(-3), &lits![-2]),
+            & implies(lists, lit!(-3), &lits![-2])
+            & implies(lists, lit!(-2), &[]),
     )
 }
 

@@ -27,7 +27,7 @@ type Row = (
     &'static [(&'static [i8], Layout)],
 );
 
-const ROWS: [Row; 2] = [
+const ROWS: [Row; 3] = [
     // Six words of 18 are garbage, and nothing is collected; 12 of 18 are, and the reason follows the clause.
     (
         8,
@@ -48,6 +48,16 @@ const ROWS: [Row; 2] = [
             (&[-7, -8], (21, 0, true, Some(14))),
             (&[4], (21, 6, true, Some(14))),
             (&[1], (7, 0, true, Some(0))),
+        ],
+    ),
+    // Twelve words of 24 are garbage, no more than half, and nothing is collected.
+    (
+        11,
+        &[&[1, 2, 3], &[4, 5, 6], &[7, 8, 9], &[10, 11, 12]],
+        &[-10, -11],
+        &[
+            (&[1, 4], (24, 12, true, Some(18))),
+            (&[7], (6, 0, true, Some(0))),
         ],
     ),
 ];
@@ -74,6 +84,13 @@ fn has_layout<A: Allocator + Copy>(ctx: &Context<A>, index: usize, wanted: Layou
         & (reason_of(ctx, index) == place.map(ClauseRef::from_offset))
 }
 
+/// Whether the first clause is marked.
+fn is_first_marked<A: Allocator + Copy>(ctx: &Context<A>) -> bool
+    requires { IsReady ctx.now }
+{
+    ctx.clause_alloc.len() > 0 && ctx.clause_alloc.header(ctx.clause_alloc.place(0)).mark()
+}
+
 /// Makes the literals true at level 0 and a step, and collects garbage where that is due.
 fn satisfy<A: Allocator + Copy>(ctx: &mut Context<A>, units: &[i8]) -> Result<(), StepError>
     requires { IsReady ctx.old }
@@ -87,7 +104,7 @@ fn satisfy<A: Allocator + Copy>(ctx: &mut Context<A>, units: &[i8]) -> Result<()
     Ok(())
 }
 
-/// Whether each group of units leaves its layout.
+/// Whether each group of units leaves its layout, and no mark.
 fn are_laid_out<A: Allocator + Copy>(ctx: &mut Context<A>, row: &Row) -> Result<bool, StepError>
     requires { IsReady ctx.old }
 {
@@ -96,7 +113,7 @@ fn are_laid_out<A: Allocator + Copy>(ctx: &mut Context<A>, row: &Row) -> Result<
     for group in groups {
         let (units, wanted) = *group;
         satisfy(ctx, units)?;
-        if !has_layout(ctx, index, wanted) {
+        if !has_layout(ctx, index, wanted) || is_first_marked(ctx) {
             return Ok(false);
         }
     }

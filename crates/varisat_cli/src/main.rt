@@ -1,12 +1,12 @@
 //! The program: opens what the command line names, and hands it to the command.
 #![tactic(auto)]
 
-ghost use Rattle.std.specs.Prelude.{◌≡◌, ◌↔◌, ◌⊎◌, ◌-◌, ◌^◌, ◌<◌, IsErr, IfOk};
+ghost use Rattle.std.specs.Prelude.{◌≡◌, ◌≢◌, ◌↔◌, ◌⊎◌, ◌-◌, ◌^◌, ◌<◌, IsErr, IfOk, MatchBool, MatchOption};
 ghost use Rattle.std.specs.Fs.{file_type, IsDir};
 ghost use Rattle.varisat.specs.OpenProofs.{IsDrat};
 ghost use Rattle.varisat.specs.Decided.{Conclusion, StatusIsTrue, allowed_steps, conclusion_status};
 ghost use Rattle.varisat.specs.Proven.{CanCountFault, DecidesProven, taken_by_writer};
-ghost use Rattle.varisat_proof.specs.Verified.{GivesUnsatisfiable, fault_status};
+ghost use Rattle.varisat_proof.specs.Verified.{GivesUnsatisfiable, EndsCheck, sources_of, fault_status};
 
 use std::fs::{File, Metadata};
 use std::io::{self, BufWriter, ErrorKind, Write};
@@ -112,7 +112,8 @@ impl<'a> SolveWords<'a> {
 
 // How a proof is written.
 fn drat_format(is_binary: bool) -> ProofFormat
-    ensures { IsDrat result }
+    ensures drat { IsDrat result }
+    ensures binary { MatchBool is_binary (result ≡ ProofFormat.BinaryDrat) (result ≡ ProofFormat.Drat) }
 {
     if is_binary {
         ProofFormat::BinaryDrat
@@ -189,7 +190,8 @@ fn solve(rt: &HostRuntime, path: &str, words: &SolveWords<'_>) -> u8 {
 
 // Makes the file of a proof, or empties the one that is there, if a proof is wanted.
 fn create_target(rt: &HostRuntime, path: Option<&str>) -> io::Result<Option<FileTarget>>
-    ensures { IfOk result (λ proof. CanCountFault taken_by_writer proof) }
+    ensures room { IfOk result (λ proof. CanCountFault taken_by_writer proof) }
+    ensures wanted { IfOk result (λ proof. MatchOption path.entry (proof ≡ None) (λ _. proof ≢ None)) }
 {
     match path {
         Some(path) => {
@@ -252,7 +254,9 @@ fn check_files<W: Write, E: Write>(
 ) -> u8
     requires cnf_faults { cnf.old.faults < 2 ^ 64 - 1 }
     requires proof_faults { proof.old.faults < 2 ^ 64 - 1 }
-    ensures { result ≡ 0 → GivesUnsatisfiable cnf.old cnf.new }
+    ensures outcome { EndsCheck format (sources_of cnf.old proof.old) (sources_of cnf.new proof.new)
+        result (W.contents out.old) (W.contents out.new) }
+    ensures truth { result ≡ 0 → GivesUnsatisfiable cnf.old cnf.new }
 {
     check_lines(rt.alloc(), cnf, proof, format, out, err)
 }

@@ -462,8 +462,16 @@ const REDUCED: [(bool, [bool; 5]); 2] = [
 /// The tiers of an active Mid clause and another one once they are reduced.
 const MIDS: [Option<(Tier, bool)>; 2] = [Some((Tier::Mid, false)), Some((Tier::Local, false))];
 
-/// What is right of flags, tiers, counts of tiers, layouts, reductions of both kinds and activities, in this order.
-fn are_right(alloc: Global) -> [bool; 7] {
+/// Whether a new store has room for a clause of 2^32 - 1 words with its header, and for none of more.
+fn has_room_for_longest(alloc: Global) -> bool {
+    let store = ClauseAlloc::new_in(alloc);
+    let is_right = store.has_room(0xffff_fffc) & !store.has_room(0xffff_fffd);
+    drop(store);
+    is_right
+}
+
+/// What is right of flags, tiers, counts of tiers, layouts, reductions of both kinds, activities and room, in this order.
+fn are_right(alloc: Global) -> [bool; 8] {
     let tiers = [Tier::from_index(3), Tier::from_index(4)];
     [
         local_flags() == (2035, 63),
@@ -473,13 +481,14 @@ fn are_right(alloc: Global) -> [bool; 7] {
         [reduced(alloc, false), reduced(alloc, true)] == REDUCED,
         mids(alloc) == (true, MIDS),
         activities(alloc) == (true, ([Some(1024), Some(4096)], 1025)),
+        has_room_for_longest(alloc),
     ]
 }
 
 #[test]
 fn the_store_keeps_what_it_should(rt: HostRuntime) {
     let are_right = are_right(rt.alloc());
-    assert!(rt; are_right == [true; 7], "{are_right:?}");
+    assert!(rt; are_right == [true; 8], "{are_right:?}");
 }
 
 /// How many clauses are not deleted.

@@ -109,18 +109,22 @@ fn show_two<A: Allocator + Copy>(
     Ok([shown, again, second])
 }
 
-/// Whether the global variable is live, as a witness.
-fn is_witness<A: Allocator + Copy>(variables: &LinkedVariables<A>, global: Var) -> bool {
-    is_live(variables, global)
-        && variables.var_data_global(global).sampling_mode == SamplingMode::Witness
+/// Whether the global variable is live, with the mode.
+fn has_mode<A: Allocator + Copy>(
+    variables: &LinkedVariables<A>,
+    global: Var,
+    mode: SamplingMode,
+) -> bool {
+    is_live(variables, global) && variables.var_data_global(global).sampling_mode == mode
 }
 
 /// Whether a hidden variable that clauses hold gets the least free name as a witness.
 fn is_shown<A: Allocator + Copy>(variables: &mut LinkedVariables<A>) -> Result<bool, AllocError> {
-    let hidden = hide_two(variables)?;
+    let hidden = hide_two(variables)? & has_mode(variables, var!(3), SamplingMode::Hide);
     let names = show_two(variables)?;
     let is_listed = listed(variables.variables()) == ([1, 2, 0], [1, 3, 0]);
-    Ok(hidden & (names == [2, 0, 0]) & is_listed & is_witness(variables, var!(3)))
+    let is_witness = has_mode(variables, var!(3), SamplingMode::Witness);
+    Ok(hidden & (names == [2, 0, 0]) & is_listed & is_witness)
 }
 
 /// Whether names are hidden and used again.

@@ -68,8 +68,13 @@ pub const MODE_SESSIONS: [Exchange; 12] = [
 ];
 
 /// Sessions that bring hidden variables back.
-pub const OBSERVING_SESSIONS: [Exchange; 5] = [
+pub const OBSERVING_SESSIONS: [Exchange; 6] = [
     ("observe\nhide 1\nobserve\n", "ok 0\nok\nok 0\n"),
+    // One whose value follows from the clauses alone leaves in a step, and does not come back.
+    (
+        "add 1 2\nhide 1\nadd -2\nsolve\nobserve\n",
+        "ok\nok\nok\nok true\nok 0\n",
+    ),
     // A variable that comes back is a witness.
     (
         "add 1 2\nhide 2\nobserve\nadd 2 3\nassume -1\nsolve\nmodel\n",

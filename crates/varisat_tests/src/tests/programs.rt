@@ -161,7 +161,7 @@ const PROOF_SESSIONS: [Exchange; 3] = [
 
 // Sessions with ample memory alone: they ask for the steps, which an invalid solver tells too, have settings, or take
 // much memory.
-const AMPLE_SESSIONS: [Exchange; 28] = [
+const AMPLE_SESSIONS: [Exchange; 30] = [
     (
         "steps\nsolve\nsteps\nsolve\nsteps\n",
         "ok 0\nok true\nok 1\nok true\nok 1\n",
@@ -232,6 +232,11 @@ const AMPLE_SESSIONS: [Exchange; 28] = [
         "proof binary\nadd 63\nadd 63 -64\nclose\nclose\n",
         "ok\nok\nok\nok 647e810100\nok none\n",
     ),
+    // Of the variables that are free a name gets the least: `d 1 -2 0`.
+    (
+        "proof text\nnew\nnew\nhide 2\nhide 1\nadd 3\nadd 3 -4\nclose\n",
+        "ok\nok 1\nok 2\nok\nok\nok\nok\nok 642031202d3220300a\n",
+    ),
     // A proof begins before all else, and is the only one.
     (
         "proof text\nproof binary\nclose\nproof binary\nclose\nnew\nproof text\n",
@@ -278,6 +283,11 @@ const AMPLE_SESSIONS: [Exchange; 28] = [
     (
         "solve\nmodel\nhide 2\nmodel\nnew\nassume 1\nsample 1\nwitness 2\nassume 2\nsolve\nmodel\nsteps\nadd 2 1\nselfcheck\nproof text\nadd\ncore\nnew\nadd 9\nassume 1\nconfig max_steps 0\nsolve\nsteps\nmodel\nclose\nadd 01\nadd  1\n",
         "ok true\nok 0\nok\nok -1 0\nok 2\nok\nerr 8\nok\nerr 6\nok true\nok 1 -2 0\nok 2\nerr 6\nerr 11\nerr 11\nok\nok 0\nok 3\nok\nok\nok\nok false\nok 2\nok none\nok none\nbad line\nbad line\n",
+    ),
+    // Once 2 has left, a checker inside still has the clauses of 1.
+    (
+        "add 2 3\nhide 2\nadd -3\nadd 1 4\nsolve\nadd 1 -4\nadd -1 5\nadd -1 -5\nsolve\n",
+        "ok\nok\nok\nok\nok true\nok\nok\nok\nok false\n",
     ),
     // Names that no clause names have no variable in the search.
     (
@@ -345,8 +355,24 @@ const ASSUMING_SESSIONS: [Exchange; 13] = [
     ),
 ];
 
+// Each of seven pigeons is in one of six holes, and no two are in the same one. Where learned clauses are reduced at each
+// step, some 3,000 steps refute that.
+const PIGEONS: &str = "p cnf 42 133
+1 2 3 4 5 6 0 7 8 9 10 11 12 0 13 14 15 16 17 18 0 19 20 21 22 23 24 0 25 26 27 28 29 30 0 31 32 33 34 35 36 0 37 38 39 40 41 42 0 -1 -7 0 -1 -13 0
+-7 -13 0 -1 -19 0 -7 -19 0 -13 -19 0 -1 -25 0 -7 -25 0 -13 -25 0 -19 -25 0 -1 -31 0 -7 -31 0 -13 -31 0 -19 -31 0 -25 -31 0 -1 -37 0 -7 -37 0 -13 -37 0
+-19 -37 0 -25 -37 0 -31 -37 0 -2 -8 0 -2 -14 0 -8 -14 0 -2 -20 0 -8 -20 0 -14 -20 0 -2 -26 0 -8 -26 0 -14 -26 0 -20 -26 0 -2 -32 0 -8 -32 0 -14 -32 0
+-20 -32 0 -26 -32 0 -2 -38 0 -8 -38 0 -14 -38 0 -20 -38 0 -26 -38 0 -32 -38 0 -3 -9 0 -3 -15 0 -9 -15 0 -3 -21 0 -9 -21 0 -15 -21 0 -3 -27 0 -9 -27 0
+-15 -27 0 -21 -27 0 -3 -33 0 -9 -33 0 -15 -33 0 -21 -33 0 -27 -33 0 -3 -39 0 -9 -39 0 -15 -39 0 -21 -39 0 -27 -39 0 -33 -39 0 -4 -10 0 -4 -16 0
+-10 -16 0 -4 -22 0 -10 -22 0 -16 -22 0 -4 -28 0 -10 -28 0 -16 -28 0 -22 -28 0 -4 -34 0 -10 -34 0 -16 -34 0 -22 -34 0 -28 -34 0 -4 -40 0 -10 -40 0
+-16 -40 0 -22 -40 0 -28 -40 0 -34 -40 0 -5 -11 0 -5 -17 0 -11 -17 0 -5 -23 0 -11 -23 0 -17 -23 0 -5 -29 0 -11 -29 0 -17 -29 0 -23 -29 0 -5 -35 0
+-11 -35 0 -17 -35 0 -23 -35 0 -29 -35 0 -5 -41 0 -11 -41 0 -17 -41 0 -23 -41 0 -29 -41 0 -35 -41 0 -6 -12 0 -6 -18 0 -12 -18 0 -6 -24 0 -12 -24 0
+-18 -24 0 -6 -30 0 -12 -30 0 -18 -30 0 -24 -30 0 -6 -36 0 -12 -36 0 -18 -36 0 -24 -36 0 -30 -36 0 -6 -42 0 -12 -42 0 -18 -42 0 -24 -42 0 -30 -42 0
+-36 -42 0
+";
+
 // DIMACS texts with the limits of steps, and what is printed for them.
-const TEXTS: [(&str, Option<u64>, Printed); 10] = [
+const TEXTS: [(&str, Option<u64>, Printed); 11] = [
+    (PIGEONS, None, ("s UNSATISFIABLE\n", "", 20)),
     (
         "p cnf 5 2\n1 2 0\n-1 0\n",
         None,
@@ -609,8 +635,19 @@ fn ends(alloc: Global, step: u16, settings: Exchange, session: Exchange) -> bool
     ended
 }
 
+// Sessions that want more memory than there is, where no name is past the limit: the second has room for one variable, and
+// the name 1, which stands in its clause three times, wants just one.
+const HIGH_SESSIONS: [Exchange; 2] = [
+    ("add 268435456\n", "ok\n"),
+    ("add 1 2\nhide 1\nadd 1 1 1 268435455\n", "ok\nok\nok\n"),
+];
+
 #[test]
 fn each_growth_may_be_refused(rt: HostRuntime) {
+    for session in HIGH_SESSIONS {
+        let answered = is_complete_with(rt.alloc(), 4096, SETTINGS[0], session);
+        assert!(rt; matches!(answered, Ok(Some(false))), "{}", session.0);
+    }
     for session in SESSIONS.iter().chain(&MODE_SESSIONS).chain(&PROOF_SESSIONS) {
         for (step, settings) in [(16, SETTINGS[0]), (64, SELF_CHECKING)] {
             assert!(rt;

@@ -23,7 +23,7 @@ use Rattle.varisat_search.specs.declared.state.SatState.{SatState}
 use Rattle.varisat_search.specs.declared.state.SatState.TheVariants as verdict
 use Rattle.varisat.specs.Names.{Naming, bring, bring_next, bring_if_free, name_one}
 use Rattle.varisat.specs.Accepting.{AreBounded, naming_of}
-use Rattle.varisat_search.specs.NamesAndModes.{MovesName, SetsModeOf, LosesName, GetsName, OtherwiseSet, AreShownInTurn}
+use Rattle.varisat_names.specs.NamesAndModes.{MovesName, SetsModeOf, LosesName, GetsName, OtherwiseSet, AreShownInTurn}
 use Rattle.varisat.specs.VariableChanges.{IsMarkedAssumed, CanBeChanged, StaysKept, IsNamedAs, SetsNamedMode, LeavesIfUnused, HidesNamed}
 use Rattle.varisat_search.proofs.TakenSolvers.{few, below, below-count, ∈-below}
 use Rattle.varisat.proofs.KeptCounts.{given-most}

@@ -16,7 +16,7 @@ use Rattle.varisat.specs.Names.{Mode, Naming, name_one, give_name}
 use Rattle.varisat.specs.Calls.{IsCrowded, with_naming}
 use Rattle.varisat.specs.Usage.{AreAllShown, ChangesVar, SetsMode, name_var}
 use Rattle.varisat.specs.VariableCalls.{named, IsAssumed, with_mode, hide_name}
-use Rattle.varisat_search.specs.NamesAndModes.{AreShownInTurn, ShowsAllHidden}
+use Rattle.varisat_names.specs.NamesAndModes.{AreShownInTurn, ShowsAllHidden}
 use Rattle.varisat.specs.VariableChanges.{IsMarkedAssumed, IsMarkedName, ChecksChange, StaysKept, SetsNamedMode, HidesNamed}
 use Rattle.varisat.specs.Accepting.{AreBounded, naming_of}
 use Rattle.varisat_theory.specs.Journals.{Entry}

@@ -72,13 +72,15 @@ pub mod search {
 
 /// The maps between names, global variables and solver variables, and what is kept of global variables.
 pub mod variables {
+    pub use varisat_names::variables::naming::{
+        global_from_user, new_user_var, observe_internal_vars, set_sampling_mode,
+    };
     pub use varisat_names::variables::{
         Direction, GlobalVars, LinkedVariables, SamplingMode, UserVars, VarBiMap, VarBiMapMut,
         VarData, VarMap, Variables,
     };
-    pub use varisat_search::variables::{
-        global_from_user, initialize_solver_var, new_user_var, observe_internal_vars,
-        remove_solver_var, set_sampling_mode, solver_from_global, solver_from_user,
+    pub use varisat_search::solver_variables::{
+        initialize_solver_var, remove_solver_var, solver_from_global, solver_from_user,
         solver_from_user_lits,
     };
 }

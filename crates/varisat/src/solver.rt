@@ -18,6 +18,7 @@ use varisat_literals::{Lit, Var};
 use varisat_names::config::{ConfigField, SolverConfigUpdate};
 use varisat_names::variables::LinkedVariables;
 use varisat_names::variables::data::SamplingMode;
+use varisat_names::variables::naming::{new_user_var, observe_internal_vars};
 use varisat_proof::checker::Checker;
 pub use varisat_proof::proof::ProofFormat;
 use varisat_proof::proof::{close_proof, solve_finished, take_target};
@@ -26,7 +27,6 @@ use varisat_search::context::Context;
 use varisat_search::error::StepError;
 use varisat_search::model::reconstruct_global_model;
 use varisat_search::state::SatState;
-use varisat_search::variables::{new_user_var, observe_internal_vars};
 use varisat_tracer::SolverTracer;
 
 /// How many bytes of a text are asked for at a time.

@@ -14,8 +14,8 @@ use varisat_formula::io::ProofTarget;
 use varisat_literals::Var;
 use varisat_names::variables::LinkedVariables;
 use varisat_names::variables::data::SamplingMode;
+use varisat_names::variables::naming::{global_from_user, set_sampling_mode};
 use varisat_search::state::SatState;
-use varisat_search::variables::{global_from_user, set_sampling_mode};
 use varisat_tracer::SolverTracer;
 
 /// Whether the variable of the name, if it is in use, is assumed.

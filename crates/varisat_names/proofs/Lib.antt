@@ -3,3 +3,4 @@ pub mod VarMap
 pub mod Tables
 pub mod Linked
 pub mod LinkedCalls
+pub mod NamedVariables

@@ -3,5 +3,6 @@ pub mod VarMap
 pub mod VarBiMap
 pub mod VarData
 pub mod Variables
+pub mod NamesAndModes
 pub mod Settings
 pub mod Lending

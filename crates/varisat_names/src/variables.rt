@@ -15,6 +15,7 @@ mod globals;
 pub mod iter;
 pub mod linked;
 mod names;
+pub mod naming;
 pub mod var_map;
 
 pub use data::{SamplingMode, VarData};

@@ -72,7 +72,6 @@ pub mod ForgottenClauses
 pub mod GlobalValues
 pub mod KeptNames
 pub mod MentionedFlags
-pub mod NamedVariables
 pub mod SolverVariables
 pub mod TakenSolvers
 pub mod TracedUnits

@@ -17,6 +17,5 @@ pub mod Simplifications
 pub mod Deletions
 pub mod SettledUnits
 pub mod GlobalModels
-pub mod NamesAndModes
 pub mod SolverVariables
 pub mod StepErrors

@@ -19,6 +19,5 @@ pub mod solver_variables;
 pub mod state;
 mod trace;
 pub mod unit_simplify;
-pub mod variables;
 
 pub use varisat_analysis::{analyze_conflict, glue, tmp};

@@ -18,10 +18,10 @@ ghost use Rattle.varisat_search.specs.SolverVariables.{HasRoom, HasRoomFor, HasV
 use crate::context::Context;
 use crate::decision::{add_variables, make_available, remove_var};
 use crate::load::resurrect_unit;
-use crate::variables::global_from_user;
 use std::alloc::{AllocError, Allocator};
 use varisat_literals::{Lit, Var};
 use varisat_names::variables::LinkedVariables;
+use varisat_names::variables::naming::global_from_user;
 
 /// Makes the solver variable, which was just taken, available for decisions. Where it stands for a variable that left
 /// the search with a value, the unit clause for that value is held again.

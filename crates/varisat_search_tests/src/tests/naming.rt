@@ -8,13 +8,14 @@ use super::searches::loaded;
 use linked_list_allocator::LocalHeap;
 use std::alloc::{AllocError, Allocator, Global};
 use varisat_literals::{Lit, Var, lit, var};
+use varisat_names::variables::naming::{
+    global_from_user, new_user_var, observe_internal_vars, set_sampling_mode,
+};
 use varisat_names::variables::{LinkedVariables, SamplingMode};
 use varisat_search::context::Context;
 use varisat_search::error::StepError;
 use varisat_search::model::{Model, reconstruct_global_model};
-use varisat_search::variables::{
-    global_from_user, new_user_var, observe_internal_vars, remove_solver_var, set_sampling_mode,
-};
+use varisat_search::solver_variables::remove_solver_var;
 
 /// Whether the global variable is live.
 fn is_live<A: Allocator + Copy>(variables: &LinkedVariables<A>, global: Var) -> bool

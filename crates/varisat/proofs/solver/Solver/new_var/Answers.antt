@@ -2,7 +2,7 @@ use Rattle.std.proofs.Common.{◌∙◌, inl, inr, refl, not, sym, ap, arith, tr
 use Rattle.varisat_theory.specs.Literals.{variable_of}
 use Rattle.varisat_names.specs.VarMap.{at}
 use Rattle.varisat_search.specs.Contexts.{view}
-use Rattle.varisat_search.proofs.NamedVariables.{unmapped-near, unmapped-same}
+use Rattle.varisat_names.proofs.NamedVariables.{unmapped-near, unmapped-same}
 use Rattle.varisat_tracer.specs.Tracing.{parts_of}
 use Rattle.varisat.specs.Summaries.{spaces}
 use Rattle.varisat.specs.States.{Ledger, with_variables}

@@ -2,9 +2,9 @@ use Rattle.std.proofs.Common.{[], ◌∷◌, ◌≡◌, None, false, ◌∙◌, 
 use Rattle.varisat_names.specs.VarMap.{at}
 use Rattle.varisat_names.specs.VarData.{kept_at}
 use Rattle.varisat_names.proofs.Maps.{is_none-none}
-use Rattle.varisat_search.specs.NamesAndModes.{Shown}
-use Rattle.varisat_search.proofs.NamedVariables.{shown-refused}
-use Rattle.varisat_search.proofs.variables.show_if_hidden.Goals as goal
+use Rattle.varisat_names.specs.NamesAndModes.{Shown}
+use Rattle.varisat_names.proofs.NamedVariables.{shown-refused}
+use Rattle.varisat_names.proofs.variables.naming.show_if_hidden.Goals as goal
 
 pub returns-in_err-push-clause-refused : goal.returns-in_err-push-clause-refused
 returns-in_err-push-clause-refused g c =

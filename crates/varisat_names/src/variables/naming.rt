@@ -3,16 +3,12 @@ ghost use Rattle.std.specs.Prelude.{◌≡◌, ◌≤◌, ◌<◌, ◌^◌, ◌+
 ghost use Rattle.varisat_names.specs.VarMap.{at};
 ghost use Rattle.varisat_names.specs.VarData.{kept_at};
 ghost use Rattle.varisat_names.specs.Variables.{AreNextGiven, IsNamed};
-ghost use Rattle.varisat_search.specs.NamesAndModes.{IsLeastGiven, MovesName, SetsModeOf, AreShownInTurn, ShowsAllHidden, ShowsOne};
+ghost use Rattle.varisat_names.specs.NamesAndModes.{IsLeastGiven, MovesName, SetsModeOf, AreShownInTurn, ShowsAllHidden, ShowsOne};
 
-pub use crate::solver_variables::{
-    initialize_solver_var, remove_solver_var, solver_from_global, solver_from_user,
-    solver_from_user_lits,
-};
+use crate::variables::data::SamplingMode;
+use crate::variables::linked::LinkedVariables;
 use std::alloc::{AllocError, Allocator};
 use varisat_literals::Var;
-use varisat_names::variables::LinkedVariables;
-use varisat_names::variables::data::SamplingMode;
 
 /// Names the name, and returns its global variable. A free name comes into use, above the watermark with all names up
 /// to it. Where memory is refused, which it isn't for a name in use, some of these are in use.

@@ -1,7 +1,7 @@
 use Rattle.std.proofs.Common.{sym, ap, ◌∙◌, refl, ⊎_elim}
 use Rattle.varisat_names.specs.VarMap.{at}
-use Rattle.varisat_search.specs.NamesAndModes.{LosesName, GetsName}
-use Rattle.varisat_search.proofs.variables.set_sampling_mode.Goals as goal
+use Rattle.varisat_names.specs.NamesAndModes.{LosesName, GetsName}
+use Rattle.varisat_names.proofs.variables.naming.set_sampling_mode.Goals as goal
 
 pub returns-in-Hide-clause-set : goal.returns-in-Hide-clause-set
 returns-in-Hide-clause-set g c = LosesName c.in-Some.user c.in-Hide.is

@@ -1,8 +1,8 @@
 use Rattle.std.proofs.lemmas.Grind.{common_steps}
 use Rattle.std.proofs.Common.{subst, arith}
-use Rattle.varisat_search.specs.NamesAndModes.{ShowsOne}
-use Rattle.varisat_search.proofs.NamedVariables.{one-more-below, shown-refused}
-use Rattle.varisat_search.proofs.variables.observe_internal_vars.Goals as goal
+use Rattle.varisat_names.specs.NamesAndModes.{ShowsOne}
+use Rattle.varisat_names.proofs.NamedVariables.{one-more-below, shown-refused}
+use Rattle.varisat_names.proofs.variables.naming.observe_internal_vars.Goals as goal
 
 pub returns-in_err-show_if_hidden-clause-refused : goal.returns-in_err-show_if_hidden-clause-refused
 returns-in_err-show_if_hidden-clause-refused g c =

@@ -10,7 +10,7 @@ use Rattle.varisat_names.specs.declared.variables.data.SamplingMode.TheVariants 
 use Rattle.varisat_names.proofs.Maps.{updated-at, updated-other}
 use Rattle.varisat_names.proofs.VarMap.{at-past}
 use Rattle.varisat_names.proofs.Tables.{live-inside, kept-past, named-in-use}
-use Rattle.varisat_search.specs.NamesAndModes.{AreShownInTurn, ShowsAllHidden, ShowsOne, Passed, Shown}
+use Rattle.varisat_names.specs.NamesAndModes.{AreShownInTurn, ShowsAllHidden, ShowsOne, Passed, Shown}
 
 -- a name that was named is in use
 pub named-here : (u : ℕ) (old new : Tables) → IsNamed u old new → (x : ℕ) × (at new.users.forward u ≡ Some x)

@@ -2,8 +2,8 @@ use Rattle.std.proofs.Common.{sym, ap, ◌∙◌, subst, refl}
 use Rattle.std.specs.Option.{IsSome}
 use Rattle.varisat_names.specs.VarMap.{at}
 use Rattle.varisat_names.specs.Variables.{InUse}
-use Rattle.varisat_search.proofs.NamedVariables.{named-here}
-use Rattle.varisat_search.proofs.variables.global_from_user.Goals as goal
+use Rattle.varisat_names.proofs.NamedVariables.{named-here}
+use Rattle.varisat_names.proofs.variables.naming.global_from_user.Goals as goal
 
 pub returns-in-Some-clause-named : goal.returns-in-Some-clause-named
 returns-in-Some-clause-named g c = InUse c.in-Some.global (sym (c.in-Some.ensures ∙ ap (λ m. at m c.args.user) c.global_from_user.ensures)) refl

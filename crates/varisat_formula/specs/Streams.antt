@@ -1,5 +1,5 @@
 -- How sources stand and what reading does to them, and what targets took.
-use Rattle.std.specs.Prelude.{◌≡◌, ℕ, ◌≤◌, List, ◌++◌, length, take, nat_lt, Bool, true, false, if◌then◌else◌, Option, Result, Ok, Err, MatchResult}
+use Rattle.std.specs.Prelude.{◌≡◌, ℕ, zero, suc, ◌+◌, ◌-◌, ◌^◌, ◌≤◌, min, max, List, ◌++◌, length, take, nat_lt, Bool, true, false, if◌then◌else◌, Option, Result, Ok, Err, MatchResult}
 use Rattle.std.specs.Io.KnownBytes.{Consumes, IsAtEnd}
 
 -- the bytes that were given; those that are left, where they are known; how many pieces may still come; how many faults there
@@ -15,10 +15,14 @@ pub record Stand : Type 0 where
 abbrev pub FillsFrom : {E : Type 0} → List ℕ → List ℕ → Result ℕ E → List ℕ → Type 0
 FillsFrom old new r buffer = MatchResult r (λ n. new ≡ old ++ take n buffer) (λ _. new ≡ old)
 
--- Whether a source told its end, after a call that returned r for a buffer: bytes say that it has not ended, no bytes for a
--- buffer that is not empty say that it has, and else it is as before.
+-- Whether a source told its end, after it gave n bytes for a buffer: bytes say that it has not ended, no bytes for a buffer that
+-- is not empty say that it has, and else it is as before.
+abbrev pub ended_at : Bool → ℕ → List ℕ → Bool
+ended_at before n buffer = if nat_lt 0 n then false else (if nat_lt 0 (length buffer) then true else before)
+
+-- the same after a call that returned r, which may have failed
 abbrev pub ended_after : {E : Type 0} → Bool → Result ℕ E → List ℕ → Bool
-ended_after before (Ok n) buffer = if nat_lt 0 n then false else (if nat_lt 0 (length buffer) then true else before)
+ended_after before (Ok n) buffer = ended_at before n buffer
 ended_after before (Err e) buffer = before
 
 -- between s and t just this text was read of the source
@@ -42,3 +46,36 @@ pub record Output : Type 0 where
   pub bytes : List ℕ
   pub faults : ℕ
   pub contents : Option (List ℕ)
+
+-- one call more; a count stays at 2^64-1 once it is there
+abbrev pub counted : ℕ → ℕ
+counted n = min (n + 1) (2 ^ 64 - 1)
+
+-- A target for tests: what it took, its faults, how often each of its calls was made, which call of each fails, and how many
+-- bytes the failing `put` takes at most.
+pub record CutTaken : Type 0 where
+  pub bytes : List ℕ
+  pub faults : ℕ
+  pub puts : ℕ
+  pub flushes : ℕ
+  pub failing_put : ℕ
+  pub failing_flush : ℕ
+  pub part : ℕ
+
+-- A source for tests: its text, how much of that it gave, how large its first and its other pieces are at most, how often it was
+-- asked, which call fails, its faults, and whether it told its end.
+pub record CutText : Type 0 where
+  pub text : List ℕ
+  pub place : ℕ
+  pub first : ℕ
+  pub size : ℕ
+  pub fills : ℕ
+  pub failing_fill : ℕ
+  pub faults : ℕ
+  pub ended : Bool
+
+-- how large the next piece is at most, which is one byte at least
+abbrev pub piece_size : ℕ → ℕ → ℕ → ℕ
+piece_size zero (suc first) size = suc first
+piece_size zero zero size = max size 1
+piece_size (suc place) first size = max size 1

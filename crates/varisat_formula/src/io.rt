@@ -2,10 +2,12 @@
 ghost use Rattle.std.specs.Prelude.{◌≡◌, ℕ, ◌+◌, ◌-◌, ◌<◌, ◌≤◌, ◌^◌, List, [], ◌++◌, OnOk, OnErr, take};
 ghost use Rattle.varisat_formula.specs.Streams.{Taken};
 
+pub mod cut;
 pub mod history;
 pub mod output;
 pub mod source;
 
+pub use cut::{CutSource, CutTarget};
 pub use output::IoTarget;
 pub use source::{ByteSource, ReadSource};
 use std::alloc::Allocator;

@@ -74,7 +74,7 @@ def search_both(folder, formula, repetitions):
     formulas.write(whole, formula)
     formulas.write(refuted, formulas.refuted(formula))
     ours, minisat = programs.ours(), programs.learning_minisat()
-    conflicts = [programs.count_conflicts(formula.clauses, None).conflicts, programs.decide(minisat, whole, None).conflicts]
+    conflicts = [programs.count_conflicts(whole, None), programs.decide(minisat, whole, None).conflicts]
     runs = [(program, path) for program in (ours, minisat) for path in (whole, refuted)]
     our_run, our_reading, their_run, their_reading = median_times(runs, repetitions)
     return [Searched(time, count) for time, count in zip((our_run - our_reading, their_run - their_reading), conflicts)]

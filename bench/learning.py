@@ -8,6 +8,7 @@ from dataclasses import dataclass
 from typing import Optional
 
 import formulas
+import plot
 import programs
 
 SUMMARY = "times deciding hard formulas beside minisat and cadical"
@@ -41,15 +42,18 @@ FORMULAS = {
     "factoring-32-sat": lambda: formulas.factoring(18, 65521 * 65519),
     "factoring-30-unsat": lambda: formulas.factoring(16, 1073741789),
 }
+PICTURE = f"{programs.ROOT}/bench/learning.svg"
 VERDICTS = {programs.SATISFIABLE: "sat", programs.UNSATISFIABLE: "unsat"}
 # The columns of a row: what stands above each, in two lines, and where it is aligned.
 COLUMNS = [
     ("", "formula", "<19"),
     ("", "verdict", ">7"),
     ("ms", "varisat", ">10"),
+    ("", "defaults", ">10"),
     ("", "minisat", ">10"),
     ("", "cadical", ">10"),
     ("conflicts", "varisat", ">10"),
+    ("", "defaults", ">9"),
     ("", "minisat", ">9"),
     ("µs a conflict", "varisat", ">14"),
     ("", "minisat", ">9"),
@@ -95,6 +99,7 @@ def positive(text):
 def add_arguments(command):
     command.add_argument("--limit", type=positive, default=LIMIT, metavar="SECONDS", help=f"seconds of the processor for a run ({LIMIT})")
     command.add_argument("--only", action="append", choices=FORMULAS, metavar="NAME", help=f"this formula, and others named so: {', '.join(FORMULAS)}")
+    command.add_argument("--plot", action="store_true", help="draw formulas decided against time into bench/learning.svg; the Rust crate too, where its program varisat is installed")
     command.add_argument("--repetitions", type=positive, default=REPETITIONS, help=f"runs of each program on each formula, where they take less than {SHORT:.0f} s ({REPETITIONS})")
 
 
@@ -116,12 +121,12 @@ def result_of(program, path, run):
 
 
 def measure_formula(every, path, clauses, arguments):
-    """The result of each program, and the verdict of our session, which tells our conflicts."""
+    """The result of each program, and that of our session, which decides with the settings of a new solver."""
     runs = decide_all(every, path, arguments.limit, arguments.repetitions)
     results = [result_of(program, path, run) for program, run in zip(every, runs)]
-    counted = programs.count_conflicts(clauses, arguments.limit)
-    results[0].conflicts = counted.conflicts
-    return results, counted.verdict
+    results[0].conflicts = programs.count_conflicts(path, arguments.limit)
+    session = programs.decide_by_session(clauses, arguments.limit)
+    return results, Result(session.verdict, None if session.verdict is None else session.taken.processor, session.conflicts)
 
 
 def ratio_of(ours, theirs, part):
@@ -149,15 +154,15 @@ def verdicts_told(verdicts):
     return "/".join(sorted({VERDICTS[verdict] for verdict in verdicts if verdict is not None})) or "-"
 
 
-def print_formula(name, results, limit):
-    """Prints the row of a formula, from the results of our program, minisat and cadical."""
-    compared = results[:2]
+def print_formula(name, results, defaults, limit):
+    """Prints the row of a formula, from the results of our program, minisat and cadical, and ours by default."""
+    ours, minisat, cadical = results[:3]
     cells = [name, verdicts_told(result.verdict for result in results)]
-    cells += [f"> {limit} s" if result.time is None else f"{result.time * 1e3:,.1f}" for result in results]
-    cells += [number_told(result.conflicts, ",") for result in compared]
-    cells += [number_told(result.time_per_conflict(), ",.1f", 1e6) for result in compared]
-    cells += [number_told(result.memory, ",.1f", 1 / 1024) for result in compared]
-    cells += [number_told(ratio_of(*compared, part), ",.2f") for _, part, _ in RATIOS]
+    cells += [f"> {limit} s" if result.time is None else f"{result.time * 1e3:,.1f}" for result in (ours, defaults, minisat, cadical)]
+    cells += [number_told(result.conflicts, ",") for result in (ours, defaults, minisat)]
+    cells += [number_told(result.time_per_conflict(), ",.1f", 1e6) for result in (ours, minisat)]
+    cells += [number_told(result.memory, ",.1f", 1 / 1024) for result in (ours, minisat)]
+    cells += [number_told(ratio_of(ours, minisat, part), ",.2f") for _, part, _ in RATIOS]
     print_row(COLUMNS, cells)
 
 
@@ -167,41 +172,54 @@ def print_mean(title, ratios, after=""):
     print(f"{title}: {mean} over {len(known)} of {len(ratios)} formulas{after}")
 
 
-def print_means(every):
+def print_means(every, defaults):
     """Prints the geometric means of the ratios, for the results of each formula."""
     print("\ngeometric means")
     for title, part, aim in RATIOS:
-        ratios = [ratio_of(ours, minisat, part) for ours, minisat, _ in every]
+        ratios = [ratio_of(ours, minisat, part) for ours, minisat, *_ in every]
         print_mean(f"  {title}, ours / minisat's", ratios, f", aim at most {aim:.1f}")
     title, part, _ = RATIOS[0]
-    print_mean(f"  {title}, ours / cadical's", [ratio_of(ours, cadical, part) for ours, _, cadical in every])
+    print_mean(f"  {title}, ours / cadical's", [ratio_of(ours, cadical, part) for ours, _, cadical, *_ in every])
+    print_mean(f"  {title}, ours / ours by default", [ratio_of(ours, default, part) for (ours, *_), default in zip(every, defaults)])
 
 
 def differing(name, verdicts):
     """Whether two verdicts on the formula differ, which is told."""
     if len({*verdicts} - {None}) < 2:
         return False
-    told = zip(["varisat", "minisat", "cadical", "varisat session"], verdicts)
+    told = zip(["varisat session", "varisat", "minisat", "cadical", "varisat in Rust"], verdicts)
     print(f"bench: {name}: {', '.join(f'{who} says {VERDICTS.get(verdict)}' for who, verdict in told)}", file=sys.stderr)
     return True
 
 
+def draw(every, all_results):
+    """Draws a curve for each program, from the results of each formula."""
+    times = [[results[place].time for results in all_results] for place in range(len(every))]
+    plot.draw(PICTURE, len(all_results), [(program.name, [time for time in known if time is not None]) for program, known in zip(every, times)])
+
+
 def run(arguments):
-    programs.check_tools(*programs.PACKAGES)
+    programs.check_tools(*programs.PACKAGES, *(programs.DRAWING if arguments.plot else ()))
     programs.build_ours()
     every = [programs.ours(), programs.learning_minisat(), programs.cadical()]
+    # The table is of the first three.
+    crate = programs.rust_crate() if arguments.plot else None
+    every += [crate] if crate else []
     print(f"{datetime.date.today()}, {programs.machine()}")
     print(f"the median of {arguments.repetitions} runs, or of one where a run takes {SHORT:.0f} s; times are the processor's; minisat runs with -no-pre\n")
     print_heads(COLUMNS)
-    all_results, status = [], 0
+    all_results, all_defaults, status = [], [], 0
     with tempfile.TemporaryDirectory() as folder:
         for name in (name for name in FORMULAS if not arguments.only or name in arguments.only):
             formula, path = FORMULAS[name](), f"{folder}/{name}.cnf"
             formulas.write(path, formula)
-            results, counted = measure_formula(every, path, formula.clauses, arguments)
-            print_formula(name, results, arguments.limit)
+            results, defaults = measure_formula(every, path, formula.clauses, arguments)
+            print_formula(name, results, defaults, arguments.limit)
             all_results.append(results)
-            if differing(name, [*(result.verdict for result in results), counted]):
+            all_defaults.append(defaults)
+            if differing(name, [result.verdict for result in (*results, defaults)]):
                 status = 1
-    print_means(all_results)
+    print_means(all_results, all_defaults)
+    if arguments.plot:
+        draw(every, all_results)
     return status

@@ -48,7 +48,7 @@ past_wrong P front rest line Q d p w =
     let s = derives_cut P front (line ∷ rest) r.0 r.1 in
     wrong_line Q s.0 line rest r.0 (present_unique P P front s.0 Q (same_clauses-self P) (derives_present P front s.0 s.1) p) w s.2
 
-wrong_no_derivation : (P : List Clause) (lines : List Line) (n : ℕ) (line : Line) → IsFirstWrong P lines n line → IsDerivation P lines → ⊥
+pub wrong_no_derivation : (P : List Clause) (lines : List Line) (n : ℕ) (line : Line) → IsFirstWrong P lines n line → IsDerivation P lines → ⊥
 wrong_no_derivation P lines n line w d = past_wrong P w.front w.back line w.present (subst (IsDerivation P) w.split d) w.is_present w.wrong
 
 -- where two cuts agree on a beginning, or the other goes past a line

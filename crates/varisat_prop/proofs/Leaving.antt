@@ -1,5 +1,5 @@
 -- What is left where variables leave, and its places.
-use Rattle.std.proofs.Common.{◌≡◌, ℕ, zero, suc, ◌+◌, ◌-◌, ◌^◌, Bool, true, false, not, List, [], ◌∷◌, length, get_or, set, take, min, refl, sym, ap, ap₂, ◌∙◌}
+use Rattle.std.proofs.Common.{◌≡◌, ℕ, zero, suc, Bool, true, false, not, List, [], ◌∷◌, length, get_or, set, take, refl, sym, ap, ◌∙◌}
 use Rattle.std.specs.Prelude.{if◌then◌else◌}
 use Rattle.varisat_theory.specs.Membership.{◌∈◌}
 use Rattle.varisat_theory.specs.Literals.{Literal, variable_of}
@@ -8,25 +8,14 @@ use Rattle.varisat_prop.specs.Leaving.{leaves, staying, cleared}
 use Rattle.varisat_prop.proofs.SimplifiedPairs.{filter-∈, ∈-filter}
 
 -- 1. The trail.
-pub trail-left : (t : TrailParts) (gone : List Bool) (ls : List Literal) (n m q u : ℕ) → ls ≡ staying gone t.literals → n ≡ length t.literals →
-    m ≡ length ls → q ≡ length ls → u ≡ min (t.units_removed + (n - m)) (2 ^ 64 - 1) →
-    record { literals = ls; queue_head = q; decisions = t.decisions; units_removed = u } ≡ record t {
+pub trail-left : (t : TrailParts) (gone : List Bool) (ls : List Literal) (q : ℕ) → ls ≡ staying gone t.literals → q ≡ length ls →
+    record { literals = ls; queue_head = q; decisions = t.decisions } ≡ record t {
       literals = staying gone t.literals;
       queue_head = length (staying gone t.literals);
-      units_removed =
-          min (t.units_removed + (length t.literals - length (staying gone t.literals))) (2 ^ 64 - 1);
     }
-trail-left t gone ls n m q u e a b c d =
-    ap (λ (x : ℕ). record { literals = ls; queue_head = x; decisions = t.decisions; units_removed = u }) c
-    ∙ ap (λ (x : ℕ). record { literals = ls; queue_head = length ls; decisions = t.decisions; units_removed = x })
-    (d ∙ ap₂ (λ x y. min (t.units_removed + (x - y)) (2 ^ 64 - 1)) a b)
-    ∙ ap (λ (x : List Literal). record {
-      literals = x;
-      queue_head = length x;
-      decisions = t.decisions;
-      units_removed =
-          min (t.units_removed + (length t.literals - length x)) (2 ^ 64 - 1);
-    }) e
+trail-left t gone ls q e a =
+    ap (λ (x : ℕ). record { literals = ls; queue_head = x; decisions = t.decisions }) a
+    ∙ ap (λ (x : List Literal). record { literals = x; queue_head = length x; decisions = t.decisions }) e
 
 not-true : (b : Bool) → not b ≡ true → b ≡ false
 not-true true e = absurd (let f : false ≡ true = e in cc)

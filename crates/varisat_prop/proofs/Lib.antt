@@ -3,7 +3,6 @@ pub mod ClauseOrder
 mod CountedPairs
 pub mod DistinctPlaces
 pub mod EnqueueAssignment
-mod FalseFlags
 pub mod KeptPairs
 pub mod Leaving
 pub mod LiteralValues
@@ -18,6 +17,7 @@ pub mod ReadElements
 pub mod SimplifiedClauses
 pub mod SimplifiedPairs
 pub mod SimplifiedView
+mod ToldValues
 pub mod TrailExtend
 pub mod TrailValues
 pub mod ViewGrowth

@@ -1,12 +1,10 @@
 -- Literals, and the values of their variables.
-use Rattle.std.proofs.Common.{◌≡◌, ℕ, zero, suc, ◌%◌, ◌<◌, Bool, true, false, not, Option, Some, None, List, [], ◌∷◌, ◌⊎◌, inl, inr, ⊎_elim, ◌↔◌, length, get_or, set, refl, sym, ap, ◌∙◌, arith, get_or-set_same, get_or-set_other}
-use Rattle.std.specs.Bool.{beq, IsTrue}
-use Rattle.std.specs.Option.{option_eq, option_map}
+use Rattle.std.proofs.Common.{◌≡◌, ℕ, zero, suc, ◌%◌, ◌<◌, Bool, true, false, not, Option, Some, None, List, [], ◌∷◌, ◌⊎◌, inl, inr, ⊎_elim, length, get_or, set, refl, sym, ap, ◌∙◌, arith, get_or-set_same, get_or-set_other}
 use Rattle.varisat_theory.specs.Literals.{Literal, variable_of, opposite}
 use Rattle.varisat_theory.proofs.Members.{equal_or_not}
 use Rattle.varisat_theory.proofs.Values.{parity}
 use Rattle.varisat_literals.specs.Numbers.{polarity_of}
-use Rattle.varisat_prop.specs.Parts.{IsMadeTrue, value_in}
+use Rattle.varisat_prop.specs.Parts.{IsMadeTrue}
 
 pub same-variable : (l m : Literal) → variable_of l ≡ variable_of m → (l ≡ m) ⊎ (l ≡ opposite m)
 unfolding opposite
@@ -73,17 +71,6 @@ made-none vs l a b = go (get_or vs (variable_of l) None) (polarity_of l) a
 
 pub none-made : (vs : List (Option Bool)) (l m : Literal) → get_or vs (variable_of l) None ≡ None → variable_of m ≡ variable_of l → IsMadeTrue vs m → ⊥
 none-made vs l m n e h = let f : get_or vs (variable_of m) None ≡ None = ap (λ v. get_or vs v None) e ∙ n in cc
-
--- what the value of the variable makes of the literal is false just where the opposite is true
-pub false-value : (vs : List (Option Bool)) (l : Literal) (b : Bool) → b ≡ option_eq beq (value_in vs l) (Some false) → IsTrue b ↔ IsMadeTrue vs (opposite l)
-false-value vs l b e = rw (variable-opposite l, polarity-opposite l, e) (go (get_or vs (variable_of l) None) (polarity_of l))
-  where
-    go : (o : Option Bool) (p : Bool) → (option_eq beq (option_map (λ x. beq x p) o) (Some false) ≡ true) ↔ (o ≡ Some (not p))
-    go None p = ((λ e. absurd cc), (λ e. absurd cc))
-    go (Some true) true = ((λ e. absurd cc), (λ e. absurd cc))
-    go (Some true) false = ((λ e. refl), (λ e. refl))
-    go (Some false) true = ((λ e. refl), (λ e. refl))
-    go (Some false) false = ((λ e. absurd cc), (λ e. absurd cc))
 
 -- one more literal is made true
 module _ (vs : List (Option Bool)) (l : Literal) (inside : variable_of l < length vs) (free : get_or vs (variable_of l) None ≡ None) where

@@ -312,7 +312,7 @@ module _ (p : SearchParts) {W : Watches} {l : Literal} {w : Watch} (g : IsWatchO
           IsVisitedAs (with_lists p W) (with_lists q V) l i v
       back V v h =
           let h' = subst (λ x. IsVisited s x W V i × IsVisit x l i v) (sym is-reordered) h in
-          record { visited = h'.0; visit = h'.1; keeps = record { last = refl; head = refl; units = refl; store = r.store } }
+          record { visited = h'.0; visit = h'.1; keeps = record { last = refl; head = refl; store = r.store } }
 
     pub code-stale : {store : Store} → IsReorderedAt p.store store p.values.current i m found.Stale →
         IsVisitedAs (with_lists p W) (with_lists (record p { store = store }) W) l i visit.Dropped

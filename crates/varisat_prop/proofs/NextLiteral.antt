@@ -111,7 +111,6 @@ pub record QueueGoesOn (p q : SearchParts) (V : Watches) : Type 0 where
   pub propagates : Propagates (view_of_parts p) (view_of_parts q)
   pub watched : IsWatched V (view_of_parts q) q.trail.queue_head
   pub last : q.values.last ≡ p.values.last
-  pub units : q.trail.units_removed ≡ p.trail.units_removed
   pub store : KeepsShapes p.store q.store
 
 -- a literal was propagated
@@ -120,7 +119,6 @@ queue-more {p = p} {q = q} {r = r} a g = record {
   propagates = propagates-trans (view_of_parts p) (view_of_parts q) (view_of_parts r) a.propagates g.propagates;
   watched = g.watched;
   last = g.keeps.last ∙ a.last;
-  units = g.keeps.units ∙ a.units;
   store = g.keeps.store ∙ a.store;
 }
 
@@ -147,7 +145,6 @@ module _ {W V : Watches} {q r : SearchParts} {l : Literal} {o : Option ℕ} (tr 
         propagates = propagates-next (view_of_parts p) (view_of_parts r) r.trail.queue_head b.propagates refl within;
         watched = watched-next V (view_of_parts r) r.trail.queue_head g.watched within st.0 st.1;
         last = b.last;
-        units = b.units;
         store = b.store;
       }
 

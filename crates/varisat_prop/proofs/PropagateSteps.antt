@@ -12,7 +12,7 @@ pub propagates-trans : (s t u : View) → Propagates s t → Propagates t u → 
 propagates-trans s t u g h = record { well = h.well; grows = grows-trans s t u g.grows h.grows; decisions = h.decisions ∙ g.decisions }
 
 pub keeps-refl : (p : SearchParts) → KeepsParts p p
-keeps-refl p = record { last = refl; head = refl; units = refl; store = refl }
+keeps-refl p = record { last = refl; head = refl; store = refl }
 
 pub keeps-trans : {p q r : SearchParts} → KeepsParts p q → KeepsParts q r → KeepsParts p r
-keeps-trans a b = record { last = b.last ∙ a.last; head = b.head ∙ a.head; units = b.units ∙ a.units; store = b.store ∙ a.store }
+keeps-trans a b = record { last = b.last ∙ a.last; head = b.head ∙ a.head; store = b.store ∙ a.store }

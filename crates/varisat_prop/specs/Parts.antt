@@ -1,9 +1,10 @@
 -- What contracts see of the parts.
-use Rattle.std.specs.Prelude.{◌≡◌, ℕ, ◌+◌, Bool, false, Option, Some, None, List, [], length, option_map, slice_index_or}
+use Rattle.std.specs.Prelude.{◌≡◌, ℕ, Bool, true, false, Option, Some, None, List, [], length, option_map, slice_index_or}
 use Rattle.std.specs.Bool.{beq}
-use Rattle.std.specs.Option.{option_eq}
 use Rattle.varisat_theory.specs.Literals.{Literal, variable_of}
 use Rattle.varisat_literals.specs.Numbers.{polarity_of}
+use Rattle.varisat_prop.specs.declared.prop.lit_value.LitValue.{LitValue}
+use Rattle.varisat_prop.specs.declared.prop.lit_value.LitValue.TheVariants as lit_value
 
 -- For each variable the value that it has, and the value that `release_var` remembered last, false at first.
 pub record Values : Type 0 where
@@ -22,26 +23,37 @@ IsMadeTrue values l = slice_index_or values (variable_of l) None ≡ Some (polar
 abbrev pub value_in : List (Option Bool) → Literal → Option Bool
 value_in values l = option_map (λ b. beq b (polarity_of l)) (slice_index_or values (variable_of l) None)
 
--- the flags say of each literal whether it is false
-abbrev pub TellsFalse : List (Option Bool) → List Bool → Type 0
-TellsFalse values flags = (l : Literal) → slice_index_or flags l false ≡ option_eq beq (value_in values l) (Some false)
+-- the value of a literal, where its variable makes this of it
+abbrev pub literal_value : Option Bool → LitValue
+literal_value None = lit_value.Unknown
+literal_value (Some true) = lit_value.True
+literal_value (Some false) = lit_value.False
+
+-- the value of the opposite literal
+abbrev pub negated : LitValue → LitValue
+negated lit_value.Unknown = lit_value.Unknown
+negated lit_value.True = lit_value.False
+negated lit_value.False = lit_value.True
+
+-- the list tells of each literal its value
+abbrev pub TellsValues : List (Option Bool) → List LitValue → Type 0
+TellsValues values told = (l : Literal) → slice_index_or told l lit_value.Unknown ≡ literal_value (value_in values l)
 
 -- the variable has a value, and is true
 abbrev pub is_true_value : Option Bool → Bool
 is_true_value None = false
 is_true_value (Some b) = b
 
--- The true literals, oldest first; how many of them were propagated; the places of the decisions, oldest first; and how many units were taken off.
+-- The true literals, oldest first; how many of them were propagated; and the places of the decisions, oldest first.
 pub record TrailParts : Type 0 where
   pub literals : List Literal
   pub queue_head : ℕ
   pub decisions : List ℕ
-  pub units_removed : ℕ
 
 -- before the first literal
 abbrev pub empty_trail : TrailParts
-empty_trail = record { literals = []; queue_head = 0; decisions = []; units_removed = 0 }
+empty_trail = record { literals = []; queue_head = 0; decisions = [] }
 
--- how many literals stand before the first decision, those that were taken off counted too
+-- how many literals stand before the first decision
 abbrev pub top_level_count : TrailParts → ℕ
-top_level_count t = slice_index_or t.decisions 0 (length t.literals) + t.units_removed
+top_level_count t = slice_index_or t.decisions 0 (length t.literals)

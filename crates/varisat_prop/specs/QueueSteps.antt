@@ -46,12 +46,11 @@ view_of_parts p =
       nodes = p.nodes;
     }
 
--- The queue's head stays, and so does what the view doesn't show: the values that were remembered, how many units were
--- taken off, and of the stored clauses all but the order of literals.
+-- The queue's head stays, and so does what the view doesn't show: the values that were remembered, and of the stored
+-- clauses all but the order of literals.
 pub record KeepsParts (p q : SearchParts) : Type 0 where
   pub last : q.values.last ≡ p.values.last
   pub head : q.trail.queue_head ≡ p.trail.queue_head
-  pub units : q.trail.units_removed ≡ p.trail.units_removed
   pub store : KeepsShapes p.store q.store
 
 -- The literal is the next of the queue, and the lists watch the clauses.

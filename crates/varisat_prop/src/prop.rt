@@ -4,6 +4,7 @@ pub mod assignment;
 pub mod binary;
 pub mod enqueue;
 pub mod graph;
+mod lit_value;
 pub mod long;
 pub mod propagation;
 pub mod trail;

@@ -2,7 +2,7 @@
 use Rattle.std.proofs.Common.{◌≡◌, ℕ, suc, ◌+◌, ◌-◌, ◌*◌, ◌^◌, ◌<◌, ◌≤◌, Bool, List, length, ◌⊎◌, ⊎_elim, inl, inr, subst, ap, ◌∙◌, arith}
 use Rattle.std.proofs.lemmas.Bool.{cases_lt}
 use Rattle.varisat_theory.specs.Rank.{rank}
-use Rattle.varisat_theory.specs.CallBounds.{CallSetting, CallProgress}
+use Rattle.varisat_theory.specs.CallBounds.{AreFew, CallSetting, CallProgress}
 use Rattle.varisat_theory.proofs.Ranks.{rank_bound}
 use Rattle.varisat_theory.proofs.IntervalBounds.{total_bound}
 use Rattle.varisat_theory.proofs.CallBounds.{progress_start, progress_rises, progress_restarts, progress_bound}
@@ -27,12 +27,12 @@ begins c trail i = record {
 
 -- the bound holds with one step more
 pub is-short : (c : PlannedCall) (q : Plan) (trail : List Bool) (n : ℕ) → 0 < c.scale → length trail ≤ c.variables → c.variables ≤ n →
-    HasComeTo c q trail → suc (steps_since c.begins q) < 2 ^ (2 * n + 3)
+    HasComeTo c q trail → AreFew n (suc (steps_since c.begins q))
 is-short c q trail n h l v r =
     let b = rank_bound n trail (omega (arith, l, v)) in
     let p = progress_bound (over n c) (steps_since c.begins q) (rank n trail) h b (r.progress n v) in
     let t = total_bound n in
-    omega (arith, p, t)
+    (p, omega (arith, p, t))
 
 pub due-or-not : (q : Plan) → IsDue q ⊎ (IsDue q → ⊥)
 due-or-not q =

@@ -1,8 +1,8 @@
 -- Steps by a schedule where units leave the trail in between.
-use Rattle.std.proofs.Common.{◌≡◌, ℕ, zero, suc, pred, ◌+◌, ◌-◌, ◌*◌, ◌^◌, ◌<◌, ◌≤◌, Bool, true, List, ◌∷◌, ◌++◌, length, replicate, sym, ap, ◌∙◌, subst, arith, append_assoc, pow_pos}
+use Rattle.std.proofs.Common.{◌≡◌, ℕ, zero, suc, pred, ◌+◌, ◌-◌, ◌^◌, ◌<◌, ◌≤◌, Bool, true, List, ◌∷◌, ◌++◌, length, replicate, sym, ap, ◌∙◌, subst, arith, append_assoc, pow_pos}
 use Rattle.std.proofs.lemmas.List.{length-append, length-replicate, replicate-append-replicate}
 use Rattle.varisat_theory.specs.Rank.{rank, with_units}
-use Rattle.varisat_theory.specs.CallBounds.{CallSetting, CallProgress, HasRestarted, BeforeRestart, AfterRestart}
+use Rattle.varisat_theory.specs.CallBounds.{AreFew, CallSetting, CallProgress, HasRestarted, BeforeRestart, AfterRestart}
 use Rattle.varisat_theory.proofs.Ranks.{rank_grows}
 use Rattle.varisat_schedule.specs.Plans.{Plan, IsPlan, next_plan, PlannedCall, setting_of}
 use Rattle.varisat_schedule.specs.CallSteps.{steps_since, IsPlannedStep, HasComeTo, HasComeWithout}
@@ -87,6 +87,6 @@ units-may-leave c q units left stay r = record {
 }
 
 pub is-short-without : (c : PlannedCall) (q : Plan) (units : ℕ) (trail : List Bool) (n : ℕ) → 0 < c.scale → c.variables ≤ n →
-    HasComeWithout c q units trail → suc (steps_since c.begins q) < 2 ^ (2 * n + 3)
+    HasComeWithout c q units trail → AreFew n (suc (steps_since c.begins q))
 is-short-without c q units trail n h v r =
     is-short c q (with_units units trail) n h (let a = length-with-units units trail in let k = r.short in omega (arith, a, k)) v r.come

@@ -1,7 +1,7 @@
 -- How many steps a call makes by a schedule, against the rank of the trail.
 use Rattle.std.specs.Prelude.{◌≡◌, ℕ, suc, ◌+◌, ◌-◌, ◌*◌, ◌^◌, ◌<◌, ◌≤◌, Bool, true, List, ◌++◌, length, replicate, ◌⊎◌}
 use Rattle.varisat_theory.specs.Rank.{rank, with_units}
-use Rattle.varisat_theory.specs.CallBounds.{CallProgress}
+use Rattle.varisat_theory.specs.CallBounds.{AreFew, CallProgress}
 use Rattle.varisat_schedule.specs.Plans.{Plan, IsPlan, IsDue, next_plan, plan_after, PlannedCall, setting_of}
 
 -- how many steps lead from one plan to a later one
@@ -64,14 +64,14 @@ UnitsMayLeave =
     HasComeWithout c q units (replicate (left + stay) true) →
     HasComeWithout c q (units + left) (replicate stay true)
 
--- so over however many calls fewer than 2^(2n+3) steps are made, even with one step more
+-- so over however many calls few steps are made, even with one step more
 abbrev pub IsShortWithout : Type 0
 IsShortWithout =
     (c : PlannedCall) (q : Plan) (units : ℕ) (trail : List Bool) (n : ℕ) →
     0 < c.scale →
     c.variables ≤ n →
     HasComeWithout c q units trail →
-    suc (steps_since c.begins q) < 2 ^ (2 * n + 3)
+    AreFew n (suc (steps_since c.begins q))
 
 -- as many steps were made since the first plan as a call may make, or no more can be counted
 abbrev pub AreSpent : ℕ → Plan → Plan → Type 0

@@ -37,7 +37,7 @@ pub fn units_may_leave()
     ensures { UnitsMayLeave }
 {}
 
-/// So many interrupted calls make fewer than 2^(2n+3) steps together.
+/// So many interrupted calls make fewer than (n+2)*2^(n+2) steps together, and so than 2^(2n+3).
 pub fn is_short_without()
     ensures { IsShortWithout }
 {}

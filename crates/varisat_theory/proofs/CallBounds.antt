@@ -3,7 +3,7 @@ use Rattle.std.proofs.Common.{◌≡◌, ℕ, zero, suc, ◌+◌, ◌-◌, ◌*�
 use Rattle.std.proofs.lemmas.Bool.{cases_lt}
 use Rattle.varisat_theory.specs.Rank.{rank}
 use Rattle.varisat_theory.specs.Luby.{luby, sum_from, saturated}
-use Rattle.varisat_theory.specs.CallBounds.{CallSetting, call_point, IsCallStep, Rises, Restarts, IsCall, HasRestarted, CallProgress, BeforeRestart, AfterRestart}
+use Rattle.varisat_theory.specs.CallBounds.{AreFew, CallSetting, call_point, IsCallStep, Rises, Restarts, IsCall, HasRestarted, CallProgress, BeforeRestart, AfterRestart}
 use Rattle.varisat_theory.proofs.Ranks.{rank_bound}
 use Rattle.varisat_theory.proofs.Luby.{sum_from-split}
 use Rattle.varisat_theory.proofs.IntervalBounds.{intervals_bound}
@@ -147,6 +147,14 @@ progress_restarts c t top next i e h b p (BeforeRestart l) =
     AfterRestart (made_first c t next i (unsaturated (c.first + c.scale * sum_from luby (suc c.term) i) (c.start + t) e h) (omega arith) p)
 progress_restarts c t top next i e h b p (AfterRestart m) =
     AfterRestart (made_later c t top next i (unsaturated (c.first + c.scale * sum_from luby (suc c.term) i) (c.start + t) e h) b p m)
+
+-- fewer than few are few
+pub few_below : (n k m : ℕ) → k ≤ m → AreFew n m → AreFew n k
+few_below n k m h (a, b) = (omega (arith, h, a), omega (arith, h, b))
+
+-- so is none
+pub few_none : (n : ℕ) → AreFew n 0
+few_none n = (small_call n 0 (omega arith), pow_pos (2 * n + 3))
 
 -- so with one step more the bound still holds
 pub progress_bound : (c : CallSetting) (t top : ℕ) → 0 < c.scale → top + 2 ≤ 2 ^ suc c.variables → CallProgress c t top →

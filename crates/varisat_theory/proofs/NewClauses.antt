@@ -1,84 +1,152 @@
 -- Entries that add new clauses.
-use Rattle.std.proofs.Common.{◌≡◌, ℕ, zero, suc, ◌+◌, ◌≤◌, List, [], ◌∷◌, ◌++◌, inl, inr, ⊎_elim, sym, ap, ◌∙◌, subst, refl, map, arith}
+use Rattle.std.proofs.Common.{◌≡◌, ℕ, zero, suc, ◌+◌, ◌≤◌, List, [], ◌∷◌, ◌++◌, inl, inr, ⊎_elim, sym, ap, ◌∙◌, subst, refl, map, append_assoc, arith}
 use Rattle.std.proofs.lemmas.List.{map-append, append-nil}
 use Rattle.varisat_theory.specs.Membership.{◌∈◌, ◌⊆◌}
-use Rattle.varisat_theory.specs.Literals.{Literal, Clause}
+use Rattle.varisat_theory.specs.Literals.{Literal, Clause, opposite}
 use Rattle.varisat_theory.specs.Derivations.{Line, Add, Delete, TakesOut, IsPresentAfter, SpeakOf}
 use Rattle.varisat_theory.specs.Held.{SameClauses}
-use Rattle.varisat_theory.specs.Counted.{IsNew, DerivesBy, AddsManyNew, added}
-use Rattle.varisat_theory.specs.Journals.{Entry, Accepts, Writes, Assumes, Fails, Leaves, Leads, LeadsBy, lines_of, written, GoesOn}
-use Rattle.varisat_theory.specs.NewClauses.{AddsNewTo, LeadsAdding, GoesOnAdding}
+use Rattle.varisat_theory.specs.Counted.{IsNew, IsAmong, DerivesBy, AddsNew, AddsManyNew, added}
+use Rattle.varisat_theory.specs.Journals.{Entry, Writes, Leads, LeadsBy, lines_of, written, GoesOn}
+use Rattle.varisat_theory.specs.NewClauses.{LeadsToNew, LeadsAdding, GoesOnAdding}
 use Rattle.varisat_theory.specs.Renaming.{KeepsOpposites, rename, rename_line}
 use Rattle.varisat_theory.proofs.Members.{∈-append_left, ∈-append_right, ∈-append_cases}
-use Rattle.varisat_theory.specs.Searches.{Search, IsSettled, Fits}
-use Rattle.varisat_theory.proofs.Held.{same_set-self, same_clauses-self, same_clauses-back}
+use Rattle.varisat_theory.specs.Searches.{Search, IsTautology, IsSettled, Fits}
+use Rattle.varisat_theory.proofs.Held.{same_set-self, same_clauses-self, same_clauses-back, same_clauses_find, takes_out_unique}
 use Rattle.varisat_theory.proofs.SearchFits.{fits_same}
 use Rattle.varisat_theory.proofs.StepEnds.{fits_settled}
-use Rattle.varisat_theory.proofs.Renaming.{∈-map, map-∈}
+use Rattle.varisat_theory.proofs.StepStands.{added_append}
+use Rattle.varisat_theory.proofs.Renaming.{∈-map, map-∈, map-⊆}
 use Rattle.varisat_theory.proofs.Lines.{present_unique, derives_present}
-use Rattle.varisat_theory.proofs.StepCounts.{by_derives, new_same}
-use Rattle.varisat_theory.proofs.Journals.{leads_append, by_leads, follow_same, leads_unique, written_by, by_renamed, by_beside}
+use Rattle.varisat_theory.proofs.StepCounts.{by_derives, new_same, among_same}
+use Rattle.varisat_theory.proofs.Journals.{leads_append, leads_same, by_leads, leads_unique, lines_append, written_by, by_renamed, by_beside}
 
 -- 1. What new clauses add up to.
 
+to_new_leads : (P : List Clause) (es : List Entry) (Q : List Clause) → LeadsToNew P es Q → Leads P es Q
+to_new_leads P es Q n = subst (λ xs. Leads P xs Q) (sym n.split) (leads_append P n.front n.before (Writes (Add n.clause) ∷ n.back) Q n.leads n.on)
+
 pub adding_leads : (k : ℕ) (P : List Clause) (es : List Entry) (Q : List Clause) → LeadsAdding k P es Q → Leads P es Q
-adding_leads k P [] Q (z, d) = d
-adding_leads k P (e ∷ es) Q (R, f, inl d) = (R, f, adding_leads k R es Q d)
-adding_leads k P (e ∷ es) Q (R, f, inr (m, q, n, d)) = (R, f, adding_leads m R es Q d)
+adding_leads zero P es Q d = d
+adding_leads (suc k) P es Q (first, last, R, e, a, n) =
+    subst (λ xs. Leads P xs Q) (sym e) (leads_append P first R last Q (adding_leads k P first R a) (to_new_leads R last Q n))
 
--- whatever leads on adds none at least
-pub leads_adding : (P : List Clause) (es : List Entry) (Q : List Clause) → Leads P es Q → LeadsAdding 0 P es Q
-leads_adding P [] Q d = (refl, d)
-leads_adding P (e ∷ es) Q (R, f, d) = (R, f, inl (leads_adding R es Q d))
+-- entries before the one that adds it
+to_new_after : (P : List Clause) (first : List Entry) (Q : List Clause) (last : List Entry) (R : List Clause) → Leads P first Q →
+    LeadsToNew Q last R → LeadsToNew P (first ++ last) R
+to_new_after P first Q last R d n = record {
+  front = first ++ n.front;
+  clause = n.clause;
+  back = n.back;
+  before = n.before;
+  split = ap (λ xs. first ++ xs) n.split ∙ sym (append_assoc first n.front (Writes (Add n.clause) ∷ n.back));
+  leads = leads_append P first Q n.front n.before d n.leads;
+  is_new = n.is_new;
+  on = n.on;
+  stays = n.stays;
+}
 
+-- the first of the parts that come after may have more entries before it
 pub adding_append : (k m : ℕ) (P : List Clause) (es : List Entry) (Q : List Clause) (fs : List Entry) (R : List Clause) → LeadsAdding k P es Q →
-    LeadsAdding m Q fs R → LeadsAdding (k + m) P (es ++ fs) R
-adding_append k m P [] Q fs R (z, d) e =
-    let sum : m ≡ k + m = omega (arith, z) in
-    subst (λ j. LeadsAdding j P fs R) sum (subst (λ S. LeadsAdding m S fs R) (sym d) e)
-adding_append k m P (x ∷ es) Q fs R (S, f, inl d) e = (S, f, inl (adding_append k m S es Q fs R d e))
-adding_append k m P (x ∷ es) Q fs R (S, f, inr (j, q, n, d)) e = (S, f, inr (j + m, omega (arith, q), n, adding_append j m S es Q fs R d e))
+    LeadsAdding (suc m) Q fs R → LeadsAdding (k + suc m) P (es ++ fs) R
+adding_append k zero P es Q fs R a (first, last, S, e, d, n) =
+    let sum : suc k ≡ k + 1 = omega arith in
+    let new = subst (λ xs. LeadsToNew Q xs R) (sym e) (to_new_after Q first S last R d n) in
+    subst (λ j. LeadsAdding j P (es ++ fs) R) sum (es, fs, Q, refl, a, new)
+adding_append k (suc m) P es Q fs R a (first, last, S, e, d, n) =
+    let sum : suc (k + suc m) ≡ k + suc (suc m) = omega arith in
+    let split : es ++ fs ≡ (es ++ first) ++ last = ap (λ xs. es ++ xs) e ∙ sym (append_assoc es first last) in
+    subst (λ j. LeadsAdding j P (es ++ fs) R) sum (es ++ first, last, S, split, adding_append k m P es Q first S a d, n)
 
-new_to_same : (P P' : List Clause) (e : Entry) → SameClauses P P' → AddsNewTo P e → AddsNewTo P' e
-new_to_same P P' (Accepts c) s n = absurd n
-new_to_same P P' (Writes (Add c)) s n = new_same P P' c s n
-new_to_same P P' (Writes (Delete c)) s n = absurd n
-new_to_same P P' (Assumes a) s n = absurd n
-new_to_same P P' (Fails core) s n = absurd n
-new_to_same P P' (Leaves v) s n = absurd n
+pub to_new_same : (P P' : List Clause) (es : List Entry) (Q : List Clause) → SameClauses P P' → LeadsToNew P es Q → (Q' : List Clause)
+    × LeadsToNew P' es Q' × SameClauses Q Q'
+to_new_same P P' es Q s n =
+    let (R, d, t) = leads_same P P' n.front n.before s n.leads in
+    let (Q', e, u) = leads_same n.before R (Writes (Add n.clause) ∷ n.back) Q t n.on in (
+      Q',
+      record {
+        front = n.front;
+        clause = n.clause;
+        back = n.back;
+        before = R;
+        split = n.split;
+        leads = d;
+        is_new = new_same n.before R n.clause t n.is_new;
+        on = e;
+        stays = among_same Q Q' n.clause u n.stays;
+      },
+      u,
+    )
 
 pub adding_same : (k : ℕ) (P P' : List Clause) (es : List Entry) (Q : List Clause) → SameClauses P P' → LeadsAdding k P es Q → (Q' : List Clause)
     × LeadsAdding k P' es Q' × SameClauses Q Q'
-adding_same k P P' [] Q s (z, d) = (P', (z, refl), subst (λ x. SameClauses x P') d s)
-adding_same k P P' (e ∷ es) Q s (R, f, inl d) =
-    let (R', g, t) = follow_same P P' e R s f in
-    let (Q', h, u) = adding_same k R R' es Q t d in
-    (Q', (R', g, inl h), u)
-adding_same k P P' (e ∷ es) Q s (R, f, inr (m, q, n, d)) =
-    let (R', g, t) = follow_same P P' e R s f in
-    let (Q', h, u) = adding_same m R R' es Q t d in
-    (Q', (R', g, inr (m, q, new_to_same P P' e s n, h)), u)
+adding_same zero P P' es Q s d = leads_same P P' es Q s d
+adding_same (suc k) P P' es Q s (first, last, R, e, a, n) =
+    let (R', b, t) = adding_same k P P' first R s a in
+    let (Q', m, u) = to_new_same R R' last Q t n in
+    (Q', (first, last, R', e, b, m), u)
 
 -- many new clauses are many added ones
+to_new_adds : (P : List Clause) (es : List Entry) (Q : List Clause) → LeadsToNew P es Q → 1 ≤ added (lines_of es)
+to_new_adds P es Q n =
+    let g = ap (λ xs. added (lines_of xs)) n.split in
+    let h = ap added (lines_append n.front (Writes (Add n.clause) ∷ n.back)) in
+    let i = added_append (lines_of n.front) (Add n.clause ∷ lines_of n.back) in
+    omega (arith, g, h, i)
+
 pub adding_adds : (k : ℕ) (P : List Clause) (es : List Entry) (Q : List Clause) → LeadsAdding k P es Q → k ≤ added (lines_of es)
-adding_adds k P [] Q (z, d) = omega (arith, z)
-adding_adds k P (Accepts c ∷ es) Q (R, f, inl d) = adding_adds k R es Q d
-adding_adds k P (Writes (Add c) ∷ es) Q (R, f, inl d) = let a = adding_adds k R es Q d in omega (arith, a)
-adding_adds k P (Writes (Add c) ∷ es) Q (R, f, inr (m, q, n, d)) = let a = adding_adds m R es Q d in omega (arith, a, q)
-adding_adds k P (Writes (Delete c) ∷ es) Q (R, f, inl d) = adding_adds k R es Q d
-adding_adds k P (Assumes a ∷ es) Q (R, f, inl d) = adding_adds k R es Q d
-adding_adds k P (Fails core ∷ es) Q (R, f, inl d) = adding_adds k R es Q d
-adding_adds k P (Leaves v ∷ es) Q (R, f, inl d) = adding_adds k R es Q d
-adding_adds k P (Accepts c ∷ es) Q (R, f, inr (m, q, n, d)) = absurd n
-adding_adds k P (Writes (Delete c) ∷ es) Q (R, f, inr (m, q, n, d)) = absurd n
-adding_adds k P (Assumes a ∷ es) Q (R, f, inr (m, q, n, d)) = absurd n
-adding_adds k P (Fails core ∷ es) Q (R, f, inr (m, q, n, d)) = absurd n
-adding_adds k P (Leaves v ∷ es) Q (R, f, inr (m, q, n, d)) = absurd n
+adding_adds zero P es Q d = omega arith
+adding_adds (suc k) P es Q (first, last, R, e, a, n) =
+    let g = ap (λ xs. added (lines_of xs)) e in
+    let h = ap added (lines_append first last) in
+    let i = added_append (lines_of first) (lines_of last) in
+    let j = adding_adds k P first R a in
+    let l = to_new_adds R last Q n in
+    omega (arith, g, h, i, j, l)
+
+abbrev tail_of : List Entry → List Entry
+tail_of [] = []
+tail_of (e ∷ es) = es
+
+abbrev clause_of : List Entry → Clause
+clause_of (Writes (Add c) ∷ es) = c
+clause_of _ = []
+
+-- where the first entry alone adds a clause by a line, that one is new
+new_first : (P : List Clause) (c : Clause) (more : List Entry) (Q : List Clause) (front : List Entry) (d : Clause) (back : List Entry)
+    (before : List Clause) → added (lines_of more) ≡ 0 → Writes (Add c) ∷ more ≡ front ++ (Writes (Add d) ∷ back) → Leads P front before →
+    IsNew before d → IsAmong Q d → IsNew P c × IsAmong Q c
+new_first P c more Q [] d back before z s l n i =
+    let e : c ≡ d = ap clause_of s in
+    (subst (λ X. IsNew X c) (sym l) (subst (IsNew before) (sym e) n), subst (IsAmong Q) (sym e) i)
+new_first P c more Q (x ∷ front) d back before z s l n i =
+    let g = ap (λ xs. added (lines_of (tail_of xs))) s in
+    let h = ap added (lines_append front (Writes (Add d) ∷ back)) in
+    let j = added_append (lines_of front) (Add d ∷ lines_of back) in
+    absurd (omega (arith, z, g, h, j))
+
+one_adds : (P : List Clause) (c : Clause) (more : List Entry) (Q : List Clause) → added (lines_of more) ≡ 0 →
+    LeadsAdding 1 P (Writes (Add c) ∷ more) Q → IsNew P c × IsAmong Q c
+one_adds P c more Q z (first, last, R, e, d, n) =
+    let m = to_new_after P first R last Q d n in
+    new_first P c more Q m.front m.clause m.back m.before z (e ∙ m.split) m.leads m.is_new m.stays
 
 -- a clause that is held already is not new
 pub copy_adds_none : (P : List Clause) (c : Clause) (Q : List Clause) → c ∈ P → LeadsAdding 1 P (Writes (Add c) ∷ []) Q → ⊥
-copy_adds_none P c Q h (R, f, inl (z, d)) = absurd (omega (arith, z))
-copy_adds_none P c Q h (R, f, inr (m, q, n, d)) = n c h (λ l i. i)
+copy_adds_none P c Q h a = let (n, i) = one_adds P c [] Q refl a in n.1 c h (λ l i. i)
+
+-- nor is a tautology
+pub tautology_adds_none : (P : List Clause) (c : Clause) (Q : List Clause) → IsTautology c → LeadsAdding 1 P (Writes (Add c) ∷ []) Q → ⊥
+tautology_adds_none P c Q t a = let (n, i) = one_adds P c [] Q refl a in n.0 t
+
+-- and none that is deleted at once is held then
+pub blank_adds_none : (P : List Clause) (c : Clause) (Q : List Clause) → LeadsAdding 1 P (Writes (Add c) ∷ Writes (Delete c) ∷ []) Q → ⊥
+blank_adds_none P c Q a =
+    let (n, (d, h, i)) = one_adds P c (Writes (Delete c) ∷ []) Q refl a in
+    let (R, (f, r), (S, t, q)) = adding_leads 1 P (Writes (Add c) ∷ Writes (Delete c) ∷ []) Q a in
+    let back : TakesOut (P ++ c ∷ []) c P = (P, c, [], refl, same_set-self c, sym (append-nil P)) in
+    let same = takes_out_unique (P ++ c ∷ []) (P ++ c ∷ []) c S P (same_clauses-self (P ++ c ∷ [])) (subst (λ X. TakesOut X c S) r t) back in
+    let (e, j, k) = same_clauses_find S P same d (subst (λ X. d ∈ X) (sym q) h) in
+    n.1 e j (λ x o. i.0 x (k.0 x o))
 
 -- 2. Entries that go on.
 
@@ -89,10 +157,17 @@ goes_adding k told es held after d a other f =
     (Q, g)
 
 pub goes_adding_none : (n : ℕ) (told es : List Entry) → GoesOn n told es → GoesOnAdding 0 told es
-goes_adding_none n told es g held d = let (after, a) = g held d in (after, leads_adding held es after (by_leads n held es after a))
+goes_adding_none n told es g held d = let (after, a) = g held d in (after, by_leads n held es after a)
 
-pub goes_adding_further : (k m : ℕ) (told es fs : List Entry) → GoesOnAdding k told es → GoesOnAdding m (told ++ es) fs → GoesOnAdding (k + m) told (es ++ fs)
-goes_adding_further k m told es fs g h held d =
+-- steps may follow whatever came before them, and what is no step only what is none
+pub goes_adding_further : (k m : ℕ) (told es fs : List Entry) → (m ≡ 0 → k ≡ 0) → GoesOnAdding k told es → GoesOnAdding m (told ++ es) fs →
+    GoesOnAdding (k + m) told (es ++ fs)
+goes_adding_further k zero told es fs z g h held d =
+    let (mid, a) = g held d in
+    let (last, b) = h mid (leads_append [] told held es mid d (adding_leads k held es mid a)) in
+    let none : 0 ≡ k + 0 = let e = z refl in omega (arith, e) in
+    (last, subst (λ j. LeadsAdding j held (es ++ fs) last) none (leads_append held es mid fs last (adding_leads k held es mid a) b))
+goes_adding_further k (suc m) told es fs z g h held d =
     let (mid, a) = g held d in
     let (last, b) = h mid (leads_append [] told held es mid d (adding_leads k held es mid a)) in
     (last, adding_append k m held es mid fs last a b)
@@ -146,59 +221,84 @@ spoken_cut are (Delete c ∷ first) second (f, p) = let (a, b) = spoken_cut are 
 
 -- The names are one-to-one on some literals. Of each clause of `more` that is a part of a clause over these, by its names, a part
 -- stands among the copies.
-module _ (f : Literal → Literal) (keeps : KeepsOpposites f) (are : Literal → Type 0) (one : (l m : Literal) → are l → are m → f l ≡ f m → l ≡ m)
+module _ (f : Literal → Literal) (keeps : KeepsOpposites f) (are : Literal → Type 0) (turned : (l : Literal) → are l → are (opposite l)) (one : (l m : Literal) → are l → are m → f l ≡ f m → l ≡ m)
     (more copies : List Clause) (copied : (d c : Clause) → d ∈ more → ((l : Literal) → l ∈ c → are l) → d ⊆ map f c → (e : Clause) × (e ∈ copies)
     × (e ⊆ c)) where
   -- what is new beside the copies is so, by its names, beside the others
   new_renamed : (P : List Clause) (c : Clause) → AreOver are P → ((l : Literal) → l ∈ c → are l) → IsNew (copies ++ P) c → IsNew (more ++ rename f P) (map f c)
-  new_renamed P c over of n d h i =
-      ⊎_elim
-      (λ a. let (e, j, w) = copied d c a of i in n e (∈-append_left e copies P j) w)
-      (λ a. let (x, j, q) = map-∈ (map f) d P a in n x (∈-append_right x copies P j) (back x j (λ l b. i l (subst (λ y. l ∈ y) (sym q) b))))
-      (∈-append_cases d more (rename f P) h)
+  new_renamed P c over of (a, n) = (
+    λ (l, i, j).
+        let (m, o, e) = map-∈ f l c i in
+        let (k, q, g) = map-∈ f (opposite l) c j in
+        let same : opposite m ≡ k = one (opposite m) k (turned m (of m o)) (of k q) (keeps m ∙ ap opposite (sym e) ∙ g) in
+        a (m, o, subst (λ y. y ∈ c) (sym same) q),
+    λ d h i. ⊎_elim
+        (λ a. let (e, j, w) = copied d c a of i in n e (∈-append_left e copies P j) w)
+        (λ a. let (x, j, q) = map-∈ (map f) d P a in n x (∈-append_right x copies P j) (back x j (λ l b. i l (subst (λ y. l ∈ y) (sym q) b))))
+        (∈-append_cases d more (rename f P) h),
+  )
     where
       back : (x : Clause) → x ∈ P → map f x ⊆ map f c → x ⊆ c
       back x j w l b = let (m, o, e) = map-∈ f (f l) c (w (f l) (∈-map f l x b)) in subst (λ y. y ∈ c) (sym (one l m (over x l j b) (of m o) e)) o
+
+  -- what stays beside the copies does so, by its names, beside the others, where none of the copies is a part of it
+  among_renamed : (P Q : List Clause) (c : Clause) → IsNew (copies ++ P) c → IsAmong (copies ++ Q) c → IsAmong (more ++ rename f Q) (map f c)
+  among_renamed P Q c (a, n) (d, h, i) =
+      ⊎_elim
+      (λ j. absurd (n d (∈-append_left d copies P j) i.0))
+      (λ j. (map f d, ∈-append_right (map f d) more (rename f Q) (∈-map (map f) d Q j), (map-⊆ f d c i.0, map-⊆ f c d i.1)))
+      (∈-append_cases d copies Q h)
 
   beside : (n : ℕ) (P : List Clause) (lines : List Line) (Q : List Clause) → DerivesBy n P lines Q →
       LeadsBy n (more ++ rename f P) (written (map (rename_line f) lines)) (more ++ rename f Q)
   beside n P lines Q d = written_by n (more ++ rename f P) (map (rename_line f) lines) (more ++ rename f Q)
       (by_beside more n (rename f P) (map (rename_line f) lines) (rename f Q) (by_renamed f keeps n P lines Q d))
 
-  -- a line adds a new clause, behind others
-  behind : (k n : ℕ) (P : List Clause) (front : List Line) (c : Clause) (back : List Line) (Q present : List Clause) →
-      AreOver are P →
-      SpeakOf are (front ++ (Add c ∷ back)) →
-      DerivesBy n P (front ++ (Add c ∷ back)) Q →
-      IsPresentAfter (copies ++ P) front present →
-      IsNew present c →
-      ((m : ℕ) (mid : List Clause) → DerivesBy m P front mid → LeadsAdding k (more ++ rename f P) (written (map (rename_line f) front))
-      (more ++ rename f mid)) →
-      LeadsAdding (suc k) (more ++ rename f P) (written (map (rename_line f) (front ++ (Add c ∷ back)))) (more ++ rename f Q)
-  behind k n P front c back Q present over speak d before new first =
+  -- what lines beside the copies come to is determined
+  same_beside : (P : List Clause) (lines : List Line) (Q R : List Clause) (n : ℕ) → IsPresentAfter (copies ++ P) lines R → DerivesBy n P lines Q →
+      SameClauses R (copies ++ Q)
+  same_beside P lines Q R n present d =
+      present_unique (copies ++ P) (copies ++ P) lines R (copies ++ Q) (same_clauses-self (copies ++ P)) present
+      (derives_present (copies ++ P) lines (copies ++ Q) (by_derives n (copies ++ P) lines (copies ++ Q) (by_beside copies n P lines Q d)))
+
+  -- lines of which one adds a new clause
+  last_renamed : (n : ℕ) (P R : List Clause) (lines : List Line) (Q : List Clause) → AreOver are P → SpeakOf are lines → DerivesBy n P lines Q →
+      SameClauses R (copies ++ P) → AddsNew R lines → LeadsToNew (more ++ rename f P) (written (map (rename_line f) lines)) (more ++ rename f Q)
+  last_renamed n P R lines Q over speak d same new =
       let r = rename_line f in
-      let (mid, m, j, a, b) = by_cut n P front (Add c ∷ back) Q d in
-      let (s, (t, u)) = spoken_cut are front (Add c ∷ back) speak in
-      let same = present_unique (copies ++ P) (copies ++ P) front present (copies ++ mid) (same_clauses-self (copies ++ P)) before
-      (derives_present (copies ++ P) front (copies ++ mid) (by_derives m (copies ++ P) front (copies ++ mid) (by_beside copies m P front mid a))) in
-      let (R, g, rest) = by_leads j (more ++ rename f mid) (written (map r (Add c ∷ back))) (more ++ rename f Q) (beside j mid (Add c ∷ back) Q b) in
-      let is_new = new_renamed mid c (over_after m are P front mid a over s) t (new_same present (copies ++ mid) c same new) in
-      let last : LeadsAdding 1 (more ++ rename f mid) (written (map r (Add c ∷ back))) (more ++ rename f Q) =
-      (R, g, inr (0, refl, is_new, leads_adding R (written (map r back)) (more ++ rename f Q) rest)) in
-      let all = adding_append k 1 (more ++ rename f P) (written (map r front)) (more ++ rename f mid) (written (map r (Add c ∷ back)))
-      (more ++ rename f Q) (first m mid a) last in
-      let names : written (map r front) ++ written (map r (Add c ∷ back)) ≡ written (map r (front ++ (Add c ∷ back))) =
-      sym (ap written (map-append r front (Add c ∷ back)) ∙ map-append Writes (map r front) (map r (Add c ∷ back))) in
-      let sum : k + 1 ≡ suc k = omega arith in
-      subst (λ i. LeadsAdding i (more ++ rename f P) (written (map r (front ++ (Add c ∷ back)))) (more ++ rename f Q)) sum
-      (subst (λ es. LeadsAdding (k + 1) (more ++ rename f P) es (more ++ rename f Q)) names all)
+      let c = new.clause in
+      let rest = Add c ∷ new.back in
+      let (mid, m, j, a, b) = by_cut n P new.front rest Q (subst (λ ls. DerivesBy n P ls Q) new.split d) in
+      let (s, (t, u)) = spoken_cut are new.front rest (subst (SpeakOf are) new.split speak) in
+      let begun = present_unique R (copies ++ P) new.front new.before (copies ++ mid) same new.is_before
+      (derives_present (copies ++ P) new.front (copies ++ mid) (by_derives m (copies ++ P) new.front (copies ++ mid)
+      (by_beside copies m P new.front mid a))) in
+      let ended = present_unique new.before (copies ++ mid) rest new.after (copies ++ Q) begun new.is_after
+      (derives_present (copies ++ mid) rest (copies ++ Q) (by_derives j (copies ++ mid) rest (copies ++ Q) (by_beside copies j mid rest Q b))) in
+      let is_new = new_same new.before (copies ++ mid) c begun new.is_new in
+      record {
+        front = written (map r new.front);
+        clause = map f c;
+        back = written (map r new.back);
+        before = more ++ rename f mid;
+        split = ap (λ ls. written (map r ls)) new.split ∙ ap written (map-append r new.front rest) ∙ map-append Writes (map r new.front) (map r rest);
+        leads = by_leads m (more ++ rename f P) (written (map r new.front)) (more ++ rename f mid) (beside m P new.front mid a);
+        is_new = new_renamed mid c (over_after m are P new.front mid a over s) t is_new;
+        on = by_leads j (more ++ rename f mid) (written (map r rest)) (more ++ rename f Q) (beside j mid rest Q b);
+        stays = among_renamed mid Q c is_new (among_same new.after (copies ++ Q) c ended new.stays);
+      }
 
   pub lines_add_new : (k n : ℕ) (P : List Clause) (lines : List Line) (Q : List Clause) → AreOver are P → SpeakOf are lines →
       DerivesBy n P lines Q → AddsManyNew k (copies ++ P) lines → LeadsAdding k (more ++ rename f P) (written (map (rename_line f) lines)) (more ++ rename f Q)
-  lines_add_new zero n P lines Q over speak d a = leads_adding _ _ _ (by_leads n _ _ _ (beside n P lines Q d))
-  lines_add_new (suc k) n P lines Q over speak d (front, a, rest) =
-      let w = subst (λ ls. DerivesBy n P ls Q) a.split d in
-      let p = subst (SpeakOf are) a.split speak in
-      subst (λ ls. LeadsAdding (suc k) (more ++ rename f P) (written (map (rename_line f) ls)) (more ++ rename f Q)) (sym a.split)
-      (behind k n P front a.clause a.back Q a.present over p w a.is_present a.is_new
-      (λ m mid b. lines_add_new k m P front mid over (spoken_cut are front (Add a.clause ∷ a.back) p).0 b rest))
+  lines_add_new zero n P lines Q over speak d a = by_leads n _ _ _ (beside n P lines Q d)
+  lines_add_new (suc k) n P lines Q over speak d (first, last, R, e, present, many, new) =
+      let r = rename_line f in
+      let (mid, m, j, a, b) = by_cut n P first last Q (subst (λ ls. DerivesBy n P ls Q) e d) in
+      let (s, t) = spoken_cut are first last (subst (SpeakOf are) e speak) in (
+        written (map r first),
+        written (map r last),
+        more ++ rename f mid,
+        ap (λ ls. written (map r ls)) e ∙ ap written (map-append r first last) ∙ map-append Writes (map r first) (map r last),
+        lines_add_new k m P first mid over s a many,
+        last_renamed j mid R last Q (over_after m are P first mid a over s) t b (same_beside P first mid R m present a) new,
+      )

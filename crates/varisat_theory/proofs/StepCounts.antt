@@ -3,8 +3,9 @@ use Rattle.std.proofs.Common.{ℕ, ◌+◌, List, [], ◌∷◌, ◌++◌, inl, 
 use Rattle.varisat_theory.specs.Literals.{Clause}
 use Rattle.varisat_theory.specs.Derivations.{Line, Add, Delete, IsPresentAfter, Derives}
 use Rattle.varisat_theory.specs.Held.{SameClauses}
+use Rattle.varisat_theory.proofs.Members.{∈-append_left}
 use Rattle.varisat_theory.proofs.Held.{same_set-self, same_add, same_delete, same_clauses_find, same_clauses-back, follows_same}
-use Rattle.varisat_theory.specs.Counted.{IsMinor, IsNew, DerivesBy, AddsNewBehind}
+use Rattle.varisat_theory.specs.Counted.{IsMinor, IsNew, IsAmong, DerivesBy, AddsNew, DeletesNone}
 
 -- what counts is a derivation
 pub by_derives : (n : ℕ) (P : List Clause) (lines : List Line) (Q : List Clause) → DerivesBy n P lines Q → Derives P lines Q
@@ -31,7 +32,10 @@ minor_same P Q c s (inl u) = inl u
 minor_same P Q c s (inr (d, h, i)) = let (e, j, t) = same_clauses_find P Q s d h in inr (e, j, λ x k. t.1 x (i x k))
 
 pub new_same : (P Q : List Clause) (c : Clause) → SameClauses P Q → IsNew P c → IsNew Q c
-new_same P Q c s n d h i = let (e, j, t) = same_clauses_find Q P (same_clauses-back P Q s) d h in n e j (λ x k. i x (t.0 x k))
+new_same P Q c s (a, n) = (a, λ d h i. let (e, j, t) = same_clauses_find Q P (same_clauses-back P Q s) d h in n e j (λ x k. i x (t.0 x k)))
+
+pub among_same : (P Q : List Clause) (c : Clause) → SameClauses P Q → IsAmong P c → IsAmong Q c
+among_same P Q c s (d, h, i) = let (e, k, t) = same_clauses_find P Q s d h in (e, k, (λ x o. i.0 x (t.0 x o), λ x o. t.1 x (i.1 x o)))
 
 -- the same lines from the same clauses
 pub by_same : (n : ℕ) (P P' : List Clause) (lines : List Line) (Q : List Clause) → SameClauses P P' → DerivesBy n P lines Q → (Q' : List Clause)
@@ -54,27 +58,56 @@ present_append P [] Q more R d e = subst (λ S. IsPresentAfter S more R) (sym d)
 present_append P (Add c ∷ lines) Q more R d e = present_append (P ++ c ∷ []) lines Q more R d.1 e
 present_append P (Delete c ∷ lines) Q more R d e = (d.0, d.1, present_append d.0 lines Q more R d.2 e)
 
--- a new clause stays new whatever lines come behind it
-pub new_before : (P : List Clause) (front lines more : List Line) → AddsNewBehind P front lines → AddsNewBehind P front (lines ++ more)
-new_before P front lines more n = record {
-  clause = n.clause;
-  back = n.back ++ more;
-  present = n.present;
-  split = ap (λ l. l ++ more) n.split ∙ append_assoc front (Add n.clause ∷ n.back) more;
-  is_present = n.is_present;
-  is_new = n.is_new;
-}
+-- where lines delete nothing, what was there stays
+stays_present : (P : List Clause) (lines : List Line) (Q : List Clause) (c : Clause) → DeletesNone lines → IsPresentAfter P lines Q → IsAmong P c →
+    IsAmong Q c
+stays_present P [] Q c n e a = subst (λ S. IsAmong S c) e a
+stays_present P (Add d ∷ lines) Q c n e (x, h, i) = stays_present (P ++ d ∷ []) lines Q c n e (x, ∈-append_left x P (d ∷ []) h, i)
+stays_present P (Delete d ∷ lines) Q c n e a = absurd n
+
+-- such lines come after any clauses
+present_after : (P : List Clause) (lines : List Line) → DeletesNone lines → (Q : List Clause) × IsPresentAfter P lines Q
+present_after P [] n = (P, refl)
+present_after P (Add c ∷ lines) n = present_after (P ++ c ∷ []) lines n
+present_after P (Delete c ∷ lines) n = absurd n
+
+present_on : (P : List Clause) (lines : List Line) (Q : List Clause) (more : List Line) (R : List Clause) → IsPresentAfter P lines Q →
+    IsPresentAfter Q more R → IsPresentAfter P (lines ++ more) R
+present_on P [] Q more R d e = subst (λ S. IsPresentAfter S more R) (sym d) e
+present_on P (Add c ∷ lines) Q more R d e = present_on (P ++ c ∷ []) lines Q more R d e
+present_on P (Delete c ∷ lines) Q more R d e = (d.0, d.1, present_on d.0 lines Q more R d.2 e)
+
+-- a new clause stays new, and stays, where lines come behind it that delete nothing
+pub new_before : (P : List Clause) (lines more : List Line) → DeletesNone more → AddsNew P lines → AddsNew P (lines ++ more)
+new_before P lines more none n =
+    let (Q, e) = present_after n.after more none in
+    record {
+      front = n.front;
+      clause = n.clause;
+      back = n.back ++ more;
+      before = n.before;
+      after = Q;
+      split = ap (λ l. l ++ more) n.split ∙ append_assoc n.front (Add n.clause ∷ n.back) more;
+      is_before = n.is_before;
+      is_new = n.is_new;
+      is_after = present_on (n.before ++ n.clause ∷ []) n.back n.after more Q n.is_after e;
+      stays = stays_present n.after more Q n.clause none e n.stays;
+    }
 
 -- and is new behind the lines that led to what is present before it
-pub new_after : (P : List Clause) (lines : List Line) (Q : List Clause) (front more : List Line) →
+pub new_after : (P : List Clause) (lines : List Line) (Q : List Clause) (more : List Line) →
     Derives P lines Q →
-    AddsNewBehind Q front more →
-    AddsNewBehind P (lines ++ front) (lines ++ more)
-new_after P lines Q front more d n = record {
+    AddsNew Q more →
+    AddsNew P (lines ++ more)
+new_after P lines Q more d n = record {
+  front = lines ++ n.front;
   clause = n.clause;
   back = n.back;
-  present = n.present;
-  split = ap (λ l. lines ++ l) n.split ∙ sym (append_assoc lines front (Add n.clause ∷ n.back));
-  is_present = present_append P lines Q front n.present d n.is_present;
+  before = n.before;
+  after = n.after;
+  split = ap (λ l. lines ++ l) n.split ∙ sym (append_assoc lines n.front (Add n.clause ∷ n.back));
+  is_before = present_append P lines Q n.front n.before d n.is_before;
   is_new = n.is_new;
+  is_after = n.is_after;
+  stays = n.stays;
 }

@@ -19,15 +19,18 @@ use Rattle.varisat_theory.proofs.StepChanges.{settled_more, more_units, more_set
 
 -- no held clause is a part of a fresh one
 pub fresh_is_new : (s : Search) (c : Clause) → IsFresh s c → IsNewTo s c
-fresh_is_new s c n held f d h w =
-    let (e, i, q) = same_clauses_find held (clauses_of s.kept ++ f.others) f.same d h in
-    ⊎_elim
-    (λ a. let (k, j, g) = clause_from s.kept e a in n.kept k j (λ x o. w x (q.0 x (subst (λ y. x ∈ y) g o))))
-    (λ a. ⊎_elim
-    (λ (l, o, p). n.tautology (l, w l (q.0 l o), w (opposite l) (q.0 (opposite l) p)))
-    (λ (l, o, p). n.fixed l (w l (q.0 l o)) p)
-    (f.settled e a))
-    (∈-append_cases e (clauses_of s.kept) f.others i)
+fresh_is_new s c n held f = (
+  n.tautology,
+  λ d h w.
+      let (e, i, q) = same_clauses_find held (clauses_of s.kept ++ f.others) f.same d h in
+      ⊎_elim
+      (λ a. let (k, j, g) = clause_from s.kept e a in n.kept k j (λ x o. w x (q.0 x (subst (λ y. x ∈ y) g o))))
+      (λ a. ⊎_elim
+      (λ (l, o, p). n.tautology (l, w l (q.0 l o), w (opposite l) (q.0 (opposite l) p)))
+      (λ (l, o, p). n.fixed l (w l (q.0 l o)) p)
+      (f.settled e a))
+      (∈-append_cases e (clauses_of s.kept) f.others i),
+)
 
 -- a clause is kept in addition
 pub fits_kept : (s : Search) (held : List Clause) (c : Clause) (k : KeptClause) → SameSet k.clause c → Fits held s →
@@ -76,7 +79,18 @@ covers_unit s l P v d h =
     ⊎_elim (λ a. inl (settled_more s (with_unit s l) d (λ x i. ∈-append_left x s.fixed (l ∷ []) i) a)) inr (v d h)
 
 new_line : (held : List Clause) (c : Clause) → IsNew held c → AddsNew held (Add c ∷ [])
-new_line held c n = ([], record { clause = c; back = []; present = held; split = refl; is_present = refl; is_new = n })
+new_line held c n = record {
+  front = [];
+  clause = c;
+  back = [];
+  before = held;
+  after = held ++ c ∷ [];
+  split = refl;
+  is_before = refl;
+  is_new = n;
+  is_after = refl;
+  stays = (c, ∈-append_right c held (c ∷ []) (inl refl), same_set-self c);
+}
 
 pub learned_kept : (s : Search) (c : Clause) (k : KeptClause) → SameSet k.clause c → FollowsFrom s c → IsNewTo s c →
     ((l : Literal) → l ∈ c → IsLiteralOf s l) → Steps s (record s { kept = s.kept ++ k ∷ [] }) Unknown (Add c ∷ [])

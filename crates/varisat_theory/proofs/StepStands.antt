@@ -6,7 +6,7 @@ use Rattle.varisat_theory.proofs.Members.{∈-append_left, ∈-append_right}
 use Rattle.varisat_theory.proofs.Growth.{conflicts_more, covered_by_more}
 use Rattle.varisat_theory.proofs.Sound.{derives_sound, conflicts_sound}
 use Rattle.varisat_theory.proofs.Assigned.{satisfies_more, satisfies_fewer}
-use Rattle.varisat_theory.specs.Counted.{DerivesBy, AddsNewBehind, AddsNew, AddsManyNew, added}
+use Rattle.varisat_theory.specs.Counted.{DerivesBy, AddsNew, AddsManyNew, DeletesNone, added}
 use Rattle.varisat_theory.specs.Searches.{Search, Fits, Covers, IsLiteralOf}
 use Rattle.varisat_theory.specs.Outcomes.{Outcome, Unknown, Sat, Unsat, UnsatUnder, Holds, Answers, Proves, Steps, Loads, Stands}
 use Rattle.varisat_theory.proofs.StepCounts.{by_derives, by_append, new_before, new_after}
@@ -20,8 +20,7 @@ part_step s t u v first second p q = record {
         after,
         by_append 0 1 held first mid second after d e,
         h,
-        λ y. let (front, m) = n y in
-            (first ++ front, new_after held first mid front second (by_derives 0 held first mid d) m),
+        λ y. new_after held first mid second (by_derives 0 held first mid d) (n y),
       );
   answers = λ P c. q.answers P (p.covers P c);
   speaks = spoken_after (IsLiteralOf t) (IsLiteralOf s) first second p.within p.speaks q.speaks;
@@ -32,12 +31,13 @@ part_step s t u v first second p q = record {
 pub unknown_is_open : Unknown ≢ Unsat
 unknown_is_open e = absurd (let y : Unknown ≡ Unsat = e in cc)
 
-pub step_part : (s t u : Search) (first second : List Line) → Steps s t Unknown first → Proves 0 t u second → Steps s u Unknown (first ++ second)
-step_part s t u first second p q = record {
+pub step_part : (s t u : Search) (first second : List Line) → Steps s t Unknown first → Proves 0 t u second → DeletesNone second →
+    Steps s u Unknown (first ++ second)
+step_part s t u first second p q none = record {
   holds = λ held f.
       let (mid, d, g, n) = p.holds held f in
       let (after, e, h) = q.holds mid g in
-      (after, by_append 1 0 held first mid second after d e, h, λ y. let (front, m) = n y in (front, new_before held front first second m));
+      (after, by_append 1 0 held first mid second after d e, h, λ y. new_before held first second none (n y));
   answers = λ P c. q.covers P (p.answers P c);
   speaks = spoken_after (IsLiteralOf t) (IsLiteralOf s) first second (p.within unknown_is_open) p.speaks q.speaks;
   within = λ n l h. p.within unknown_is_open l (q.within l h);
@@ -56,21 +56,20 @@ added_append [] second = omega arith
 added_append (Add c ∷ first) second = let e = added_append first second in omega (arith, e)
 added_append (Delete c ∷ first) second = added_append first second
 
-new_is_added : (P : List Clause) (front lines : List Line) → AddsNewBehind P front lines → suc (added front) ≤ added lines
-new_is_added P front lines n =
+adds_one : (P : List Clause) (lines : List Line) → AddsNew P lines → 1 ≤ added lines
+adds_one P lines n =
     let g = ap added n.split in
-    let h = added_append front (Add n.clause ∷ n.back) in
+    let h = added_append n.front (Add n.clause ∷ n.back) in
     omega (arith, g, h)
 
 pub new_are_added : (k : ℕ) (P : List Clause) (lines : List Line) → AddsManyNew k P lines → k ≤ added lines
 new_are_added zero P lines n = omega arith
-new_are_added (suc k) P lines (front, n, more) =
-    let g = new_is_added P front lines n in
-    let h = new_are_added k P front more in
-    omega (arith, g, h)
-
-adds_one : (P : List Clause) (lines : List Line) → AddsNew P lines → 1 ≤ added lines
-adds_one P lines (front, n) = let g = new_is_added P front lines n in omega (arith, g)
+new_are_added (suc k) P lines (first, last, Q, e, present, more, n) =
+    let g = ap added e in
+    let h = added_append first last in
+    let i = new_are_added k P first more in
+    let j = adds_one Q last n in
+    omega (arith, g, h, i, j)
 
 pub step_adds : (s t : Search) (lines : List Line) (held : List Clause) → Steps s t Unknown lines → Fits held s → 1 ≤ added lines
 step_adds s t lines held p f = adds_one held lines ((p.holds held f).3 refl)

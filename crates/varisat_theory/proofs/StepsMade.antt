@@ -1,23 +1,24 @@
 -- What k steps of a call give together.
-use Rattle.std.proofs.Common.{◌≡◌, ℕ, zero, suc, ◌+◌, ◌<◌, Bool, true, false, List, [], ◌∷◌, ◌++◌, inl, inr, sym, ap, ◌∙◌, subst, refl, arith}
+use Rattle.std.proofs.Common.{◌≡◌, ℕ, zero, suc, ◌+◌, ◌<◌, Bool, true, false, List, [], ◌∷◌, ◌++◌, inl, inr, sym, ap, ◌∙◌, subst, refl, append_assoc, arith}
 use Rattle.std.proofs.lemmas.List.{append-nil}
 use Rattle.varisat_theory.specs.Membership.{◌∈◌}
 use Rattle.varisat_theory.specs.Literals.{Literal, Clause, Assignment, value, Satisfies, SatisfiesAll}
 use Rattle.varisat_theory.specs.Derivations.{Line, Derives, Refutes}
-use Rattle.varisat_theory.specs.Counted.{DerivesBy, AddsNew, AddsManyNew}
+use Rattle.varisat_theory.specs.Counted.{DerivesBy, AddsNew, AddsManyNew, DeletesNone}
 use Rattle.varisat_theory.specs.Searches.{KeptClause, Search, Fits, Covers, IsCoveredBySearch, Tautology, KnownTrue, FixedTrue, Kept, CoversBy, IsLiteralOf}
 use Rattle.varisat_theory.specs.Outcomes.{Outcome, Unknown, Sat, Unsat, UnsatUnder, Proves, Steps, MakesSteps, Stands}
 use Rattle.varisat_theory.specs.StepLaws.{joined}
 use Rattle.varisat_theory.proofs.Assigned.{tautology_satisfied}
-use Rattle.varisat_theory.proofs.Lines.{refutes_from}
-use Rattle.varisat_theory.proofs.StepCounts.{by_derives, by_append, new_before, new_after}
+use Rattle.varisat_theory.proofs.Lines.{refutes_from, derives_present}
+use Rattle.varisat_theory.proofs.StepCounts.{by_derives, by_append, new_before, present_append}
 use Rattle.varisat_theory.proofs.StepStands.{unknown_is_open, stands_after}
 use Rattle.varisat_theory.proofs.Spoken.{spoken_after}
 
--- new clauses stay new whatever lines come behind them
-many_before : (k : ℕ) (P : List Clause) (lines more : List Line) → AddsManyNew k P lines → AddsManyNew k P (lines ++ more)
-many_before zero P lines more n = tt
-many_before (suc k) P lines more (front, n, m) = (front, new_before P front lines more n, m)
+-- new clauses stay new where lines come behind them that delete nothing
+many_before : (k : ℕ) (P : List Clause) (lines more : List Line) → DeletesNone more → AddsManyNew k P lines → AddsManyNew k P (lines ++ more)
+many_before zero P lines more none n = tt
+many_before (suc k) P lines more none (first, last, Q, e, present, m, n) =
+    (first, last ++ more, Q, ap (λ l. l ++ more) e ∙ append_assoc first last more, present, m, new_before Q last more none n)
 
 -- those of later lines are new behind the earlier lines
 many_after : (k : ℕ) (P : List Clause) (lines : List Line) (Q : List Clause) (more : List Line) →
@@ -25,8 +26,15 @@ many_after : (k : ℕ) (P : List Clause) (lines : List Line) (Q : List Clause) (
     AddsManyNew k Q more →
     AddsManyNew k P (lines ++ more)
 many_after zero P lines Q more d n = tt
-many_after (suc k) P lines Q more d (front, n, m) =
-    (lines ++ front, new_after P lines Q front more d n, many_after k P lines Q front d m)
+many_after (suc k) P lines Q more d (first, last, R, e, present, m, n) = (
+  lines ++ first,
+  last,
+  R,
+  ap (λ l. lines ++ l) e ∙ sym (append_assoc lines first last),
+  present_append P lines Q first R d present,
+  many_after k P lines Q first d m,
+  n,
+)
 
 -- one more behind them
 many_and_one : (k : ℕ) (P : List Clause) (lines : List Line) (Q : List Clause) (more : List Line) →
@@ -34,11 +42,14 @@ many_and_one : (k : ℕ) (P : List Clause) (lines : List Line) (Q : List Clause)
     AddsManyNew k P lines →
     AddsNew Q more →
     AddsManyNew (suc k) P (lines ++ more)
-many_and_one k P lines Q more d m (front, n) =
-    (lines ++ front, new_after P lines Q front more d n, many_before k P lines front m)
+many_and_one k P lines Q more d m n = (lines, more, Q, refl, derives_present P lines Q d, m, n)
 
 pub none_made : (s : Search) → MakesSteps 0 s s Unknown []
 none_made s = record { holds = λ held f. (held, refl, f); answers = λ P c. c; adds = λ held f e. tt; speaks = tt; within = λ n l h. h }
+
+-- a part of which nothing counts is no step
+pub part_made : (s t : Search) (lines : List Line) → Proves 0 s t lines → MakesSteps 0 s t Unknown lines
+part_made s t lines p = record { holds = p.holds; answers = p.covers; adds = λ held f e. tt; speaks = p.speaks; within = λ n. p.within }
 
 pub one_more_made : (k : ℕ) (s t u : Search) (v : Outcome) (first second : List Line) → MakesSteps k s t Unknown first → Steps t u v second →
     MakesSteps (suc k) s u v (first ++ second)
@@ -89,11 +100,11 @@ after_made k held t u first second (mid, d, g) q =
     (after, subst (λ m. DerivesBy m held (first ++ second) after) sum (by_append k 0 held first mid second after d e), h)
 
 pub part_after_made : (k : ℕ) (s t u : Search) (first second : List Line) → MakesSteps k s t Unknown first → Proves 0 t u second →
-    MakesSteps k s u Unknown (first ++ second)
-part_after_made k s t u first second p q = record {
+    DeletesNone second → MakesSteps k s u Unknown (first ++ second)
+part_after_made k s t u first second p q none = record {
   holds = λ held f. after_made k held t u first second (p.holds held f) q;
   answers = λ P c. q.covers P (p.answers P c);
-  adds = λ held f y. many_before k held first second (p.adds held f y);
+  adds = λ held f y. many_before k held first second none (p.adds held f y);
   speaks = spoken_after (IsLiteralOf t) (IsLiteralOf s) first second (p.within unknown_is_open) p.speaks q.speaks;
   within = λ n l h. p.within unknown_is_open l (q.within l h);
 }

@@ -3,6 +3,10 @@ use Rattle.std.specs.Prelude.{◌≡◌, ℕ, suc, ◌+◌, ◌*◌, ◌^◌, �
 use Rattle.varisat_theory.specs.Rank.{rank}
 use Rattle.varisat_theory.specs.Luby.{luby, sum_from, saturated}
 
+-- k steps are few for n variables
+abbrev pub AreFew : ℕ → ℕ → Type 0
+AreFew n k = (k < (n + 2) * 2 ^ (n + 2)) × (k < 2 ^ (2 * n + 3))
+
 -- A call over that many variables, whose first step has the number `start`. Its first restart point is whatever was computed
 -- before it, and each further one is later by the scale times the next term, from `term` + 1 on.
 pub record CallSetting : Type 0 where

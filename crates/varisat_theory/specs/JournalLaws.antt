@@ -1,12 +1,13 @@
 -- The laws that the functions of `laws/journals` state.
-use Rattle.std.specs.Prelude.{◌≡◌, ℕ, ◌+◌, ◌≤◌, List, [], ◌∷◌, ◌++◌, map}
+use Rattle.std.specs.Prelude.{◌≡◌, ℕ, suc, ◌+◌, ◌≤◌, List, [], ◌∷◌, ◌++◌, map}
 use Rattle.varisat_theory.specs.Membership.{◌∈◌}
 use Rattle.varisat_theory.specs.Literals.{Literal, Clause, Assignment, SatisfiesAll}
 use Rattle.varisat_theory.specs.Propagation.{Conflicts}
-use Rattle.varisat_theory.specs.Derivations.{Add, Refutes, Derives}
+use Rattle.varisat_theory.specs.Derivations.{Add, Delete, Refutes, Derives}
 use Rattle.varisat_theory.specs.Held.{SameClauses}
 use Rattle.varisat_theory.specs.Renaming.{KeepsOpposites, IsOneToOneOn, IsWithin, rename}
 use Rattle.varisat_theory.specs.Counted.{added}
+use Rattle.varisat_theory.specs.Searches.{IsTautology}
 use Rattle.varisat_theory.specs.NewClauses.{LeadsAdding}
 use Rattle.varisat_theory.specs.Journals.{Entry, Writes, Leads, LeadsBy, accepted_of, lines_of, NoneLeaves, rename_entry, AreWithin}
 
@@ -38,12 +39,12 @@ pub record JournalIsDetermined : Type 0 where
       (Q' : List Clause) × LeadsBy n P' es Q' × SameClauses Q Q'
 
 -- What new clauses add up to: entries in turn add those of each, also from equal clauses, and many new clauses are many added ones.
--- One that is held already is not new.
+-- A clause that is held already adds none, a tautology neither, nor one that is deleted at once.
 pub record JournalAddsNew : Type 0 where
   pub join : (k m : ℕ) (P : List Clause) (es : List Entry) (Q : List Clause) (fs : List Entry) (R : List Clause) →
       LeadsAdding k P es Q →
-      LeadsAdding m Q fs R →
-      LeadsAdding (k + m) P (es ++ fs) R
+      LeadsAdding (suc m) Q fs R →
+      LeadsAdding (k + suc m) P (es ++ fs) R
   pub same : (k : ℕ) (P P' : List Clause) (es : List Entry) (Q : List Clause) →
       SameClauses P P' →
       LeadsAdding k P es Q →
@@ -51,6 +52,8 @@ pub record JournalAddsNew : Type 0 where
   pub leads : (k : ℕ) (P : List Clause) (es : List Entry) (Q : List Clause) → LeadsAdding k P es Q → Leads P es Q
   pub added : (k : ℕ) (P : List Clause) (es : List Entry) (Q : List Clause) → LeadsAdding k P es Q → k ≤ added (lines_of es)
   pub copy : (P : List Clause) (c : Clause) (Q : List Clause) → c ∈ P → LeadsAdding 1 P (Writes (Add c) ∷ []) Q → ⊥
+  pub tautology : (P : List Clause) (c : Clause) (Q : List Clause) → IsTautology c → LeadsAdding 1 P (Writes (Add c) ∷ []) Q → ⊥
+  pub blank : (P : List Clause) (c : Clause) (Q : List Clause) → LeadsAdding 1 P (Writes (Add c) ∷ Writes (Delete c) ∷ []) Q → ⊥
 
 -- Where no variable leaves, the lines are a derivation from the clauses held at first and all that are accepted, and where
 -- propagation conflicts in the end they refute these. A clause that is accepted later spoils no line before it.

@@ -37,7 +37,7 @@ pub record Proves (n : ℕ) (s t : Search) (lines : List Line) : Type 0 where
   pub within : (l : Literal) → IsLiteralOf t l → IsLiteralOf s l
 
 -- What a step with the lines gives, by the verdict after it: at most one of the added clauses counts, and under Unknown one
--- is new. The lines speak of literals of s alone, and t has no others. Under Unsat nothing more is asked of t.
+-- is new and stays. The lines speak of literals of s alone, and t has no others. Under Unsat nothing more is asked of t.
 pub record Steps (s t : Search) (v : Outcome) (lines : List Line) : Type 0 where
   pub holds : (held : List Clause) → Fits held s →
       (after : List Clause) × DerivesBy 1 held lines after × Holds after t v × (v ≡ Unknown → AddsNew held lines)
@@ -45,8 +45,8 @@ pub record Steps (s t : Search) (v : Outcome) (lines : List Line) : Type 0 where
   pub speaks : SpeakOf (IsLiteralOf s) lines
   pub within : v ≢ Unsat → (l : Literal) → IsLiteralOf t l → IsLiteralOf s l
 
--- What k steps of a call give together: at most k of the added clauses count, and where the last verdict is Unknown at least
--- k new ones are added. Of the literals the same holds.
+-- What k steps of a call give together: at most k of the added clauses count, and where the last verdict is Unknown the lines are
+-- k parts in turn, each of which adds a new one that stays to its end. Of the literals the same holds.
 pub record MakesSteps (k : ℕ) (s t : Search) (v : Outcome) (lines : List Line) : Type 0 where
   pub holds : (held : List Clause) → Fits held s → (after : List Clause) × DerivesBy k held lines after × Holds after t v
   pub answers : (P : List Clause) → Covers P s → Answers P t v

@@ -7,7 +7,7 @@ use Rattle.varisat_theory.specs.Derivations.{Line, Add, Delete, Derives, Refutes
 use Rattle.varisat_theory.specs.Held.{SameClauses, mentions, without}
 use Rattle.varisat_theory.specs.Analysis.{Implied}
 use Rattle.varisat_theory.specs.Renaming.{KeepsOpposites}
-use Rattle.varisat_theory.specs.Counted.{IsNew, DerivesBy, AddsManyNew, added}
+use Rattle.varisat_theory.specs.Counted.{IsNew, DerivesBy, AddsManyNew, DeletesNone, added}
 use Rattle.varisat_theory.specs.Searches.{KeptClause, Search, clauses_of, IsTautology, IsSettled, Fits, Covers, CoversBy, IsLiteralOf}
 use Rattle.varisat_theory.specs.Outcomes.{Outcome, Unknown, Sat, Unsat, UnsatUnder, Proves, Steps, Loads, IsContradicted, Stands, MakesSteps}
 
@@ -17,11 +17,12 @@ use Rattle.varisat_theory.specs.Outcomes.{Outcome, Unknown, Sat, Unsat, UnsatUnd
 abbrev pub PartsJoin : Type 0
 PartsJoin = (m n : ℕ) (s t u : Search) (first second : List Line) → Proves m s t first → Proves n t u second → Proves (m + n) s u (first ++ second)
 
--- parts of which nothing counts may come before a step, and after one that goes on
+-- parts of which nothing counts may come before a step, and such as delete nothing after one that goes on
 abbrev pub PartsJoinStep : Type 0
 PartsJoinStep =
     ((s t u : Search) (v : Outcome) (first second : List Line) → Proves 0 s t first → Steps t u v second → Steps s u v (first ++ second))
-    × ((s t u : Search) (first second : List Line) → Steps s t Unknown first → Proves 0 t u second → Steps s u Unknown (first ++ second))
+    × ((s t u : Search) (first second : List Line) → Steps s t Unknown first → Proves 0 t u second → DeletesNone second →
+    Steps s u Unknown (first ++ second))
 
 -- A step that goes on is a part that counts once, and adds a clause at least; so k steps of a call count k times at most and add k clauses at least.
 abbrev pub StepIsPart : Type 0
@@ -211,12 +212,13 @@ StepsOfCall =
     (k : ℕ) (s : ℕ → Search) (lines : ℕ → List Line) → ((i : ℕ) → i < k → Steps (s i) (s (suc i)) Unknown (lines i)) →
     MakesSteps k (s 0) (s k) Unknown (joined k lines)
 
--- parts of which nothing counts may come before the steps, and after such as go on or find an assignment
+-- Parts of which nothing counts may come before the steps, and after such as find an assignment. After such as go on come parts
+-- that delete nothing.
 abbrev pub PartsJoinSteps : Type 0
 PartsJoinSteps =
     ((k : ℕ) (s t u : Search) (v : Outcome) (first second : List Line) → Proves 0 s t first → MakesSteps k t u v second →
     MakesSteps k s u v (first ++ second)) × ((k : ℕ) (s t u : Search) (first second : List Line) → MakesSteps k s t Unknown first →
-    Proves 0 t u second → MakesSteps k s u Unknown (first ++ second))
+    Proves 0 t u second → DeletesNone second → MakesSteps k s u Unknown (first ++ second))
     × ((k : ℕ) (s t u : Search) (found : Assignment) (first second : List Line) → MakesSteps k s t (Sat found) first → Proves 0 t u second →
     MakesSteps k s u (Sat found) (first ++ second))
 

@@ -1,5 +1,5 @@
 -- Activities and the increment stay below the limit, and a shift keeps the order.
-use Rattle.std.proofs.Common.{◌≡◌, ℕ, zero, suc, ◌*◌, ◌/◌, ◌^◌, ◌<◌, ◌≤◌, List, [], ◌∷◌, ◌++◌, length, get_or, set, map, Bool, true, false, refl, sym, ap, ◌∙◌, inl, inr, arith}
+use Rattle.std.proofs.Common.{◌≡◌, ℕ, zero, suc, ◌+◌, ◌*◌, ◌/◌, ◌^◌, ◌<◌, ◌≤◌, List, [], ◌∷◌, ◌++◌, length, get_or, set, map, Bool, true, false, refl, sym, ap, ◌∙◌, inl, inr, arith}
 use Rattle.std.proofs.Common.{get_or-set_same, get_or-set_other}
 use Rattle.std.proofs.lemmas.Bool.Decides.{eqb_tells, nat_tests}
 use Rattle.std.proofs.lemmas.List.{length-map}
@@ -8,7 +8,7 @@ use Rattle.std.proofs.Math.Nat.{div-le_self}
 use Rattle.std.proofs.Math.ListN.{get_or-map}
 use Rattle.std.specs.Prelude.{nat_le, max}
 use Rattle.varisat_vsids.specs.Heaps.{IsHeap, key}
-use Rattle.varisat_vsids.specs.Activities.{AreWithinLimits, activity_limit, least_increment, reaches_limit, shifted, shifted_increment, rescaled, decayed}
+use Rattle.varisat_vsids.specs.Activities.{AreWithinLimits, activity_limit, least_increment, reaches_limit, shifted, shifted_increment, rescaled, bumped, decayed}
 use Rattle.varisat_vsids.proofs.HeapOrder.{IsOrdered-map}
 use Rattle.varisat_vsids.proofs.HeapView.{activities_with}
 
@@ -33,12 +33,21 @@ rescaled_is : (full : Bool) (activity : List ℕ) (available : List Bool) (i d :
 rescaled_is full activity available i d r = ap (λ (b : Bool). activities_with (shifted b activity) available (shifted_increment b i) d) (sym r)
 
 -- what one activity that was set reaches decides
-pub set_is : (full : Bool) (activity : List ℕ) (available : List Bool) (v i d x : ℕ) → AreWithinLimits activity i d → v < length activity →
+set_is : (full : Bool) (activity : List ℕ) (available : List Bool) (v i d x : ℕ) → AreWithinLimits activity i d → v < length activity →
     nat_le activity_limit x ≡ full
     → activities_with (shifted full (set activity v x)) available (shifted_increment full i) d ≡ rescaled (activities_with (set activity v x) available i d)
 set_is full activity available v i d x w h f =
     let r : reaches_limit (i ∷ set activity v x) ≡ full = rw (under i w.small) (one_reaches activity v x w.below h ∙ f) in
     rescaled_is full (set activity v x) available i d r
+
+-- the same of a bump, where r is the activity that was read
+pub bumped_is : (full : Bool) (activity : List ℕ) (available : List Bool) (v i d r : ℕ) → AreWithinLimits activity i d → v < length activity →
+    r ≡ get_or activity v 0 → nat_le activity_limit (r + i) ≡ full
+    → activities_with (shifted full (set activity v (r + i))) available (shifted_increment full i) d ≡ bumped v (activities_with activity available i d)
+bumped_is full activity available v i d r w h e f = rw e (set_is full activity available v i d (get_or activity v 0 + i) w h (rw e at f))
+
+pub bumped_small : (activity : List ℕ) (v i d r : ℕ) → AreWithinLimits activity i d → r ≡ get_or activity v 0 → r + i < 2 ^ 61
+bumped_small activity v i d r w e = let b : get_or activity v 0 < activity_limit = w.below v in omega (arith, b, e, w.small)
 
 -- what the increment reaches decides
 pub decayed_is : (full : Bool) (activity : List ℕ) (available : List Bool) (i d : ℕ) → AreWithinLimits activity i d →

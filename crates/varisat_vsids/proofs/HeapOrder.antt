@@ -1,7 +1,7 @@
 -- The order of a heap: two places are exchanged, all keys are mapped, nothing is greater than the root.
 use Rattle.std.proofs.Common.{◌≡◌, ◌≢◌, ℕ, zero, suc, ◌<◌, ◌≤◌, ap, ◌∙◌, inl, inr, arith}
 use Rattle.std.proofs.lemmas.Bool.Decides.{eqb_tells}
-use Rattle.varisat_vsids.specs.Heaps.{parent, IsOrdered, IsOrderedBut, IsOrderedUnder, IsGreaterChild}
+use Rattle.varisat_vsids.specs.Heaps.{parent, IsOrdered, IsOrderedBut, IsOrderedUnder, IsNoChildGreater, IsGreaterChild}
 
 up_parent : (key new : ℕ → ℕ) (n k : ℕ) → 0 < k → k < n → IsOrderedBut key n k → key (parent k) < key k
     → new k ≡ key (parent k) → new (parent k) ≡ key k → ((j : ℕ) → j ≢ k → j ≢ parent k → new j ≡ key j)
@@ -37,8 +37,21 @@ pub up : (key new : ℕ → ℕ) (n k p : ℕ) → p ≡ parent k → 0 < k → 
 up key new n k p e positive below o less at_k at_p others =
     rw e (up_parent key new n k positive below o (rw e at less) (rw e at at_k) (rw e at at_p) (λ j jk jp. others j jk (λ q. jp (q ∙ e))))
 
+-- then no child of p is greater
+pub children_up : (key new : ℕ → ℕ) (n k p : ℕ) → p ≡ parent k → 0 < k → IsOrderedBut key n k → key p < key k
+    → new k ≡ key p → new p ≡ key k → ((j : ℕ) → j ≢ k → j ≢ p → new j ≡ key j)
+    → IsNoChildGreater new n p
+children_up key new n k p e positive o less at_k at_p others j j0 jn jp =
+    elim (eqb_tells j k) [
+      | inl t ↦ rw (t.1, at_k, at_p) (omega arith)
+      | inr t ↦
+          let apart : parent j ≢ k = λ q. absurd (omega (arith, q, jp, e, positive)) in
+          let below : key j ≤ key p = rw jp at (o.order j j0 jn t.1 apart) in
+          rw (others j t.1 (omega (arith, jp)), at_p) (omega (arith, below))
+    ]
+
 -- the place k and its greatest child c are exchanged
-pub down : (key new : ℕ → ℕ) (n k c : ℕ) → IsOrderedUnder key n k → IsGreaterChild key n k c
+pub down : (key new : ℕ → ℕ) (n k c : ℕ) → IsOrderedUnder key n k → IsGreaterChild key n k (key k) c
     → new k ≡ key c → new c ≡ key k → ((j : ℕ) → j ≢ k → j ≢ c → new j ≡ key j)
     → IsOrderedUnder new n c
 down key new n k c o g at_k at_c others =

@@ -15,7 +15,7 @@ length-moved : (heap position : List ℕ) (i j : ℕ) → length (moved heap pos
 length-moved heap position i j = length-set (set position (get_or heap i 0) j) (get_or heap j 0) i ∙ length-set position (get_or heap i 0) j
 
 -- a variable stands at one place
-one_place : (heap position : List ℕ) (i j : ℕ) → IsLinked heap position → i < length heap → j < length heap → get_or heap i 0 ≡ get_or heap j 0 → i ≡ j
+pub one_place : (heap position : List ℕ) (i j : ℕ) → IsLinked heap position → i < length heap → j < length heap → get_or heap i 0 ≡ get_or heap j 0 → i ≡ j
 one_place heap position i j l hi hj e = sym (l.placed i hi) ∙ ap (λ (v : ℕ). get_or position v 0) e ∙ l.placed j hj
 
 moved_second : (heap position : List ℕ) (i j : ℕ) → IsLinked heap position → j < length heap → get_or (moved heap position i j) (get_or heap j 0) 0 ≡ i

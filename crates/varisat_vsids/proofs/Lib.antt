@@ -1,5 +1,6 @@
 pub mod HeapOrder
 pub mod HeapPlaces
+pub mod HeapHoles
 pub mod HeapView
 pub mod HeapGrowth
 pub mod ActivityLimits

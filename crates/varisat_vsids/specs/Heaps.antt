@@ -37,12 +37,16 @@ pub record IsOrderedUnder (key : ℕ → ℕ) (n k : ℕ) : Type 0 where
   pub order : (j : ℕ) → 0 < j → j < n → parent j ≢ k → key j ≤ key (parent j)
   pub over : 0 < k → (j : ℕ) → 0 < j → j < n → parent j ≡ k → key j ≤ key (parent k)
 
--- c is a greatest child of k, and greater than k
-pub record IsGreaterChild (key : ℕ → ℕ) (n k c : ℕ) : Type 0 where
+-- no child of the place k has a greater key
+abbrev pub IsNoChildGreater : (ℕ → ℕ) → ℕ → ℕ → Type 0
+IsNoChildGreater key n k = (j : ℕ) → 0 < j → j < n → parent j ≡ k → key j ≤ key k
+
+-- c is a greatest child of k, and greater than the value
+pub record IsGreaterChild (key : ℕ → ℕ) (n k value c : ℕ) : Type 0 where
   pub below : c < n
   pub positive : 0 < c
   pub child : parent c ≡ k
-  pub greater : key k < key c
+  pub greater : value < key c
   pub greatest : (j : ℕ) → 0 < j → j < n → parent j ≡ k → key j ≤ key c
 
 -- the first n variables are a heap
@@ -58,3 +62,10 @@ pub record IsHeapBut (activity heap position : List ℕ) (n k : ℕ) : Type 0 wh
   pub known : length activity ≡ length heap
   pub part : n ≤ length heap
   pub order : IsOrderedBut (key activity heap) n k
+
+-- the first n variables are a heap but for the children of the place k
+pub record IsHeapUnder (activity heap position : List ℕ) (n k : ℕ) : Type 0 where
+  pub linked : IsLinked heap position
+  pub known : length activity ≡ length heap
+  pub part : n ≤ length heap
+  pub order : IsOrderedUnder (key activity heap) n k

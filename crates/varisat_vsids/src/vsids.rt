@@ -7,7 +7,7 @@ ghost use Rattle.std.specs.Prelude.{◌≡◌, ℕ, ◌+◌, ◌/◌, ◌<◌, �
 ghost use Rattle.varisat_literals.specs.Numbers.{variable_limit};
 ghost use Rattle.varisat_vsids.specs.Activities.{Activities, no_activities, activity_limit, least_increment, is_available, rescaled, bumped, decayed, with_available, raised_to, IsGreatest, TakesGreatest, available_count, AreWithinLimits};
 
-use crate::heap::{put_in, reorder, take_out};
+use crate::heap::{put_in, reorder_fallen, reorder_risen, take_out};
 use std::alloc::{AllocError, Allocator};
 use std::marker::Model;
 use varisat_literals::Var;
@@ -109,15 +109,16 @@ impl<A: Allocator + Copy> Vsids<A> {
         self.decay = decay;
     }
 
-    /// Gives the variable the activity. Where that reaches the limit, all are shifted.
-    fn set_activity(&mut self, var: Var, value: u64)
-        requires known { var < length self.old.activity }
-        requires small { value < 2 ^ 61 }
-        ensures set { self.new ≡ rescaled (record self.old { activity = slice_set self.old.activity var value }) }
-        ensures below { value < activity_limit → self.new ≡ record self.old { activity = slice_set self.old.activity var value } }
+    /// Raises the activity of the variable by the increment.
+    pub fn bump(&mut self, var: Var)
+        requires { var < length self.old.activity }
+        ensures bumped { self.new ≡ bumped var self.old }
+        ensures count { length self.new.activity ≡ length self.old.activity }
     {
-        self.activity[var.index()] = value;
-        reorder(
+        let index = var.index();
+        let value = self.activity[index] + self.increment;
+        self.activity[index] = value;
+        reorder_risen(
             &self.activity,
             &mut self.heap,
             &mut self.position,
@@ -127,16 +128,6 @@ impl<A: Allocator + Copy> Vsids<A> {
         if value >= ACTIVITY_LIMIT {
             self.increment = rescale(&mut self.activity, self.increment);
         }
-    }
-
-    /// Raises the activity of the variable by the increment.
-    pub fn bump(&mut self, var: Var)
-        requires { var < length self.old.activity }
-        ensures bumped { self.new ≡ bumped var self.old }
-        ensures count { length self.new.activity ≡ length self.old.activity }
-    {
-        let value = self.activity[var.index()] + self.increment;
-        self.set_activity(var, value);
     }
 
     /// Makes what later bumps add greater in proportion to what earlier ones have added.
@@ -156,7 +147,14 @@ impl<A: Allocator + Copy> Vsids<A> {
         requires { var < length self.old.activity }
         ensures { self.new ≡ record self.old { activity = slice_set self.old.activity var 0 } }
     {
-        self.set_activity(var, 0);
+        self.activity[var.index()] = 0;
+        reorder_fallen(
+            &self.activity,
+            &mut self.heap,
+            &mut self.position,
+            self.len,
+            var,
+        );
     }
 
     /// Makes the variable unavailable.

@@ -86,7 +86,7 @@ fn state(trail: &Trail<Global>) -> (bool, isize, usize) {
 /// Whether a trail of a literal and a decision is told as it is, and which literals are propagated.
 fn is_pushed(trail: &mut Trail<Global>) -> Result<bool, AllocError>
     requires { trail.old ≡ empty_trail }
-    ensures { OnOk result (trail.new ≡ record { literals = 4 ∷ 1 ∷ []; queue_head = 1; decisions = 1 ∷ []; units_removed = 0 }) }
+    ensures { OnOk result (trail.new ≡ record { literals = 4 ∷ 1 ∷ []; queue_head = 1; decisions = 1 ∷ [] }) }
 {
     let empty = state(trail);
     trail.push(lit!(3))?;
@@ -99,8 +99,8 @@ fn is_pushed(trail: &mut Trail<Global>) -> Result<bool, AllocError>
 
 /// Whether the queue of that trail ends and begins again.
 fn is_queued(trail: &mut Trail<Global>) -> bool
-    requires { trail.old ≡ record { literals = 4 ∷ 1 ∷ []; queue_head = 1; decisions = 1 ∷ []; units_removed = 0 } }
-    ensures { trail.new ≡ record { literals = 4 ∷ 1 ∷ []; queue_head = 0; decisions = 1 ∷ []; units_removed = 0 } }
+    requires { trail.old ≡ record { literals = 4 ∷ 1 ∷ []; queue_head = 1; decisions = 1 ∷ [] } }
+    ensures { trail.new ≡ record { literals = 4 ∷ 1 ∷ []; queue_head = 0; decisions = 1 ∷ [] } }
 {
     let last = number(trail.pop_queue());
     let ended = state(trail);
@@ -112,7 +112,7 @@ fn is_queued(trail: &mut Trail<Global>) -> bool
 
 /// Whether that trail is taken off down to its level 0, and then whole.
 fn is_taken_off(trail: &mut Trail<Global>) -> bool
-    requires { trail.old ≡ record { literals = 4 ∷ 1 ∷ []; queue_head = 0; decisions = 1 ∷ []; units_removed = 0 } }
+    requires { trail.old ≡ record { literals = 4 ∷ 1 ∷ []; queue_head = 0; decisions = 1 ∷ [] } }
 {
     let places = [trail.top_level_assignment_count(), trail.level_end(0)];
     trail.truncate(0);
@@ -120,7 +120,7 @@ fn is_taken_off(trail: &mut Trail<Global>) -> bool
     trail.clear();
     let is_clear = trail.trail().is_empty() & trail.fully_propagated();
     let count = trail.top_level_assignment_count();
-    (places == [1, 1]) & is_cut & is_clear & (count == 1)
+    (places == [1, 1]) & is_cut & is_clear & (count == 0)
 }
 
 fn keeps_trail(trail: &mut Trail<Global>) -> Result<bool, AllocError>

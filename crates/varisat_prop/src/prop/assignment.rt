@@ -4,33 +4,34 @@ ghost use Rattle.varisat_theory.specs.Literals.{variable_of, opposite};
 ghost use Rattle.varisat_literals.specs.Numbers.{polarity_of};
 ghost use Rattle.varisat_prop.specs.Parts.{IsMadeTrue, value_in, no_values, is_true_value};
 
+use crate::prop::lit_value::LitValue;
 use std::alloc::{AllocError, Allocator};
 use std::marker::Model;
 use varisat_literals::{Lit, Var};
 
 /// The value of each variable, if it has one, and the value that it had before.
-// Propagation asks of nearly each literal that it meets whether it is false. The variable's value answers that in two bytes,
-// whether there is one and which, after a shift for the variable and a test of the literal's sign: two branches that can't be
-// predicted. So there is also a byte for each literal that says just this. It stands at the literal's code, and is read with
-// one look at memory and one branch. Writing a value costs two bytes more, but values are read far more often.
+// Propagation asks of nearly each literal that it meets whether it is false, or true. The variable's value answers that in two
+// bytes, whether there is one and which, after a shift for the variable and a test of the literal's sign: two branches that
+// can't be predicted. So there is also a byte for each literal that says just this. It stands at the literal's code, and is
+// read with one look at memory. Writing a value costs two bytes more, but values are read far more often.
 #[derive(Drop)]
 pub struct Assignment<A: Allocator + Copy> {
     assignment: Vec<Option<bool>, A>,
     last_value: Vec<bool, A>,
-    // For each literal, at its code, whether it is false. `set_var` alone writes it, together with the value.
-    false_lits: Vec<bool, A>,
+    // For each literal, at its code, its value. `set_var` alone writes it, together with the variable's value.
+    lit_values: Vec<LitValue, A>,
 }
 
 impl<A: Allocator + Copy> Model for Assignment<A> {
     ghost use Rattle.std.specs.Prelude.{◌≡◌, ◌*◌, length};
-    ghost use Rattle.varisat_prop.specs.Parts.{Values, TellsFalse};
+    ghost use Rattle.varisat_prop.specs.Parts.{Values, TellsValues};
 
     ghost Value = { Values };
 
     ghost view = { λ a. record { current = a.assignment.items; last = a.last_value.items } };
 
-    ghost invariant = { λ a. (length a.last_value.items ≡ length a.assignment.items) × (length a.false_lits.items ≡ 2 * length a.assignment.items)
-        × TellsFalse a.assignment.items a.false_lits.items };
+    ghost invariant = { λ a. (length a.last_value.items ≡ length a.assignment.items) × (length a.lit_values.items ≡ 2 * length a.assignment.items)
+        × TellsValues a.assignment.items a.lit_values.items };
 }
 
 impl<A: Allocator + Copy> Assignment<A> {
@@ -41,7 +42,7 @@ impl<A: Allocator + Copy> Assignment<A> {
         Assignment {
             assignment: Vec::new(alloc),
             last_value: Vec::new(alloc),
-            false_lits: Vec::new(alloc),
+            lit_values: Vec::new(alloc),
         }
     }
 
@@ -63,7 +64,7 @@ impl<A: Allocator + Copy> Assignment<A> {
             self.assignment.truncate(old_count);
             return Err(error);
         }
-        if let Err(error) = self.false_lits.resize(2 * count, false) {
+        if let Err(error) = self.lit_values.resize(2 * count, LitValue::Unknown) {
             self.assignment.truncate(old_count);
             self.last_value.truncate(old_count);
             return Err(error);
@@ -129,8 +130,7 @@ impl<A: Allocator + Copy> Assignment<A> {
         requires { variable_of lit < length self.now.current }
         ensures { IsTrue result ↔ IsMadeTrue self.now.current lit }
     {
-        // The opposite's flag, so that this too reads one byte.
-        self.lit_is_false(!lit)
+        self.lit_values[lit.code()].is_true()
     }
 
     /// Whether the literal is false.
@@ -138,7 +138,7 @@ impl<A: Allocator + Copy> Assignment<A> {
         requires { variable_of lit < length self.now.current }
         ensures { IsTrue result ↔ IsMadeTrue self.now.current (opposite lit) }
     {
-        self.false_lits[lit.code()]
+        self.lit_values[lit.code()].is_false()
     }
 
     /// Whether the literal's variable has no value.
@@ -171,7 +171,8 @@ impl<A: Allocator + Copy> Assignment<A> {
         ensures { self.new ≡ record self.old { current = slice_set self.old.current var assignment } }
     {
         self.assignment[var.index()] = assignment;
-        self.false_lits[var.positive().code()] = assignment == Some(false);
-        self.false_lits[var.negative().code()] = assignment == Some(true);
+        let value = LitValue::from_option(assignment);
+        self.lit_values[var.positive().code()] = value;
+        self.lit_values[var.negative().code()] = value.negated();
     }
 }

@@ -24,7 +24,6 @@ pub fn enqueue_assignment<A: Allocator + Copy>(
         view_of clauses binary assignment.new trail.new impl_graph.new ≡ enqueued
         (view_of clauses binary assignment.old trail.old impl_graph.old) lit reason) }
     ensures last { OnOk result (assignment.new.last ≡ assignment.old.last) }
-    ensures units { OnOk result (trail.new.units_removed ≡ trail.old.units_removed) }
 {
     trail.push(lit)?;
     assignment.assign_lit(lit);

@@ -135,7 +135,7 @@ fn reorder_clause<A: Allocator + Copy>(
     reorder(lits, assignment, false_lit)
 }
 
-/// Looks at a watch of the literal, which became true.
+/// Looks at the clause of a watch of the literal, which became true.
 fn visit_watch<A: Allocator + Copy>(
     assignment: &mut Assignment<A>,
     clause_alloc: &mut ClauseAlloc<A>,
@@ -151,9 +151,6 @@ fn visit_watch<A: Allocator + Copy>(
         (with_lists (parts_of clause_alloc.old binary_clauses.now assignment.old trail.old impl_graph.old) watchlists.old)
         (with_lists (parts_of clause_alloc.new binary_clauses.now assignment.new trail.new impl_graph.new) watchlists.new) lit watch.cref visit) }
 {
-    if assignment.lit_is_true(watch.blocking) {
-        return Ok(Visit::Keep(watch.blocking));
-    }
     let cref = watch.cref;
     match reorder_clause(clause_alloc, assignment, cref, !lit) {
         Found::Stale => Ok(Visit::Dropped),
@@ -213,6 +210,13 @@ fn visit_watches<A: Allocator + Copy>(
     let mut read = 0;
     while read < list.len() {
         let watch = list[read];
+        // Where the blocking literal is true the clause needs no look, and the watch stays as it is.
+        if assignment.lit_is_true(watch.blocking) {
+            list[write] = watch;
+            write += 1;
+            read += 1;
+            continue;
+        }
         let cref = watch.cref;
         match visit_watch(
             assignment,

@@ -111,7 +111,6 @@ pub fn propagate<A: Allocator + Copy>(
         × (trail.new.queue_head ≡ length trail.new.literals))
         (λ conflict. IsConflicting (view_of clause_alloc.new binary_clauses.now assignment.new trail.new impl_graph.new) conflict)) }
     ensures last { OnOk result (assignment.new.last ≡ assignment.old.last) }
-    ensures units { OnOk result (trail.new.units_removed ≡ trail.old.units_removed) }
     // Of the store of clauses only the order of literals changes, also where a clause is deleted.
     ensures store { OnOk result (KeepsShapes clause_alloc.old clause_alloc.new) }
 {

@@ -1,5 +1,5 @@
 //! The trail: what was decided and propagated, in that order.
-ghost use Rattle.std.specs.Prelude.{◌≡◌, ◌<◌, ◌≤◌, ◌+◌, ◌-◌, ◌++◌, ◌∷◌, ◌^◌, ◌↔◌, IsTrue, [], length, min, take, slice_index, slice_get, Option, Some, None, MatchOption, OnOk, not};
+ghost use Rattle.std.specs.Prelude.{◌≡◌, ◌<◌, ◌≤◌, ◌+◌, ◌++◌, ◌∷◌, ◌↔◌, IsTrue, [], length, take, slice_index, slice_get, Option, Some, None, MatchOption, OnOk, not};
 ghost use Rattle.varisat_theory.specs.Literals.{variable_of};
 ghost use Rattle.varisat_prop.specs.Parts.{empty_trail, top_level_count};
 ghost use Rattle.varisat_prop.specs.Leaving.{leaves, staying};
@@ -14,8 +14,6 @@ pub struct Trail<A: Allocator + Copy> {
     trail: Vec<Lit, A>,
     queue_head_pos: usize,
     decisions: Vec<usize, A>,
-    // How many literals `clear` and `remove_units` took off.
-    units_removed: usize,
 }
 
 impl<A: Allocator + Copy> Model for Trail<A> {
@@ -24,7 +22,7 @@ impl<A: Allocator + Copy> Model for Trail<A> {
 
     ghost Value = { TrailParts };
 
-    ghost view = { λ t. record { literals = t.trail.items; queue_head = t.queue_head_pos; decisions = t.decisions.items; units_removed = t.units_removed } };
+    ghost view = { λ t. record { literals = t.trail.items; queue_head = t.queue_head_pos; decisions = t.decisions.items } };
 
     ghost invariant = { λ t. t.queue_head_pos ≤ length t.trail.items };
 }
@@ -45,7 +43,6 @@ impl<A: Allocator + Copy> Trail<A> {
             trail: Vec::new(alloc),
             queue_head_pos: 0,
             decisions: Vec::new(alloc),
-            units_removed: 0,
         }
     }
 
@@ -80,31 +77,25 @@ impl<A: Allocator + Copy> Trail<A> {
         self.trail.as_slice()
     }
 
-    /// Takes all literals off, and counts them as units. No decision may stand.
+    /// Takes all literals off. No decision may stand.
     pub fn clear(&mut self)
-        requires undecided { self.old.decisions ≡ [] }
-        requires small { self.old.units_removed + length self.old.literals < 2 ^ 64 }
-        ensures { self.new ≡ record { literals = []; queue_head = 0; decisions = []; units_removed = self.old.units_removed + length self.old.literals } }
+        requires { self.old.decisions ≡ [] }
+        ensures { self.new ≡ empty_trail }
     {
-        self.units_removed += self.trail.len();
         self.reset_queue();
         self.trail.clear();
     }
 
-    /// Takes off the literals of the variables that leave, and counts them as units, of which no more are counted than
-    /// there are numbers. No decision may stand. All that is left counts as propagated.
+    /// Takes off the literals of the variables that leave. No decision may stand. All that is left counts as propagated.
     pub fn remove_units(&mut self, gone: &[bool])
         requires { self.old.decisions ≡ [] }
         ensures { self.new ≡ record self.old {
           literals = staying gone.now self.old.literals;
           queue_head = length (staying gone.now self.old.literals);
-          units_removed = min (self.old.units_removed + (length self.old.literals - length (staying gone.now self.old.literals))) (2 ^ 64 - 1);
         } }
     {
-        let count = self.trail.len();
         self.trail.retain(|lit| stays(gone, *lit));
         self.queue_head_pos = self.trail.len();
-        self.units_removed = self.units_removed.saturating_add(count - self.trail.len());
     }
 
     /// Begins a level. Its decision is the next literal.
@@ -122,16 +113,21 @@ impl<A: Allocator + Copy> Trail<A> {
         self.decisions.len()
     }
 
-    /// How many literals became true at level 0.
+    /// How many of the literals are true at level 0. Those that were taken off are not counted.
     pub fn top_level_assignment_count(&self) -> usize
-        requires { top_level_count self.now < 2 ^ 64 }
         ensures { result ≡ top_level_count self.now }
     {
-        let count = match self.decisions.first() {
+        match self.decisions.first() {
             Some(place) => *place,
             None => self.trail.len(),
-        };
-        count + self.units_removed
+        }
+    }
+
+    /// How many literals were propagated.
+    pub fn propagated_count(&self) -> usize
+        ensures { result ≡ self.now.queue_head }
+    {
+        self.queue_head_pos
     }
 
     /// Whether each literal was propagated.

@@ -4,7 +4,7 @@ use Rattle.varisat_vsids.proofs.heap.take_out.Goals as goal
 
 pub returns-then-place-last-clause-available : goal.returns-then-place-last-clause-available
 returns-then-place-last-clause-available c =
-    c.sift.ensures.available ∙ rw c.exchange.ensures.position
+    c.sink.ensures.available ∙ c.rise-risen.ensures.available ∙ rw c.exchange.ensures.position
     (taken_out c.args.heap.now c.args.position.now c.args.place c.args.len (c.args.len - 1) c.requires.heap.linked c.requires.place
     (omega (arith, c.requires.place)) c.requires.heap.part)
 
@@ -13,5 +13,5 @@ returns-else-place-last-clause-available c =
     rw c.exchange.ensures.position (taken_out c.args.heap.now c.args.position.now c.args.place c.args.len
     (c.args.len - 1) c.requires.heap.linked c.requires.place (omega (arith, c.requires.place)) c.requires.heap.part)
 
-pub sift-requires-clause-heap : goal.sift-requires-clause-heap
-sift-requires-clause-heap c = grind arith
+pub rise-risen-requires-clause-heap : goal.rise-risen-requires-clause-heap
+rise-risen-requires-clause-heap c = grind arith

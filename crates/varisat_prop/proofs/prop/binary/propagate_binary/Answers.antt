@@ -42,7 +42,7 @@ loop-entry-preserved g c =
       implying = implying-new c.loop-entry.invariant.implying c.implied-entry-items.ensures c.loop-entry-test.true c.entry-item.is
           (λ h. let b = c.if-lit_is_true.ensures.1 h in cc) (λ h. let b = c.if-lit_is_false.ensures.1 h in cc) c.not-in-loop-entry.ensures view;
       keeps = keeps-trans c.loop-entry.invariant.keeps
-          record { last = enters.last; head = ap (λ (v : View). v.queue_head) view; units = enters.units; store = refl };
+          record { last = enters.last; head = ap (λ (v : View). v.queue_head) view; store = refl };
     }
 
 pub returns-clause-ends : goal.returns-clause-ends

@@ -1,13 +1,9 @@
-use Rattle.std.proofs.Common.{refl, ap}
+use Rattle.std.proofs.Common.{ap}
 use Rattle.varisat_clause.proofs.StoreSound.{is-sound}
 use Rattle.varisat_prop.specs.View.{View}
 use Rattle.varisat_prop.specs.QueueSteps.{parts_of}
-use Rattle.varisat_prop.proofs.LongVisited.{blocking-range, watch-long, watch-range, watch-false, code-blocking, code-stale, code-true, code-false, other-listed, code-other, code-assignable, code-implied}
+use Rattle.varisat_prop.proofs.LongVisited.{watch-long, watch-range, watch-false, code-stale, code-true, code-false, other-listed, code-other, code-assignable, code-implied}
 use Rattle.varisat_prop.proofs.prop.long.visit_watch.Goals as goal
-
-pub lit_is_true-requires : goal.lit_is_true-requires
-lit_is_true-requires g c = blocking-range
-    (parts_of c.args.clause_alloc.now c.args.binary_clauses.now c.args.assignment.now c.args.trail.now c.args.impl_graph.now) c.requires
 
 pub reorder_clause-requires : goal.reorder_clause-requires
 reorder_clause-requires g c =
@@ -29,11 +25,6 @@ pub enqueue_assignment-requires : goal.enqueue_assignment-requires
 enqueue_assignment-requires g c =
     let p = parts_of c.args.clause_alloc.now c.args.binary_clauses.now c.args.assignment.now c.args.trail.now c.args.impl_graph.now in
     code-assignable p c.requires c.not.ensures c.in-Implied.ensures
-
-pub returns-then-lit_is_true : goal.returns-then-lit_is_true
-returns-then-lit_is_true g c =
-    let p = parts_of c.args.clause_alloc.now c.args.binary_clauses.now c.args.assignment.now c.args.trail.now c.args.impl_graph.now in
-    code-blocking p c.requires (c.if-lit_is_true.ensures.0 refl)
 
 pub returns-in-Stale : goal.returns-in-Stale
 returns-in-Stale g c =
@@ -63,4 +54,4 @@ returns-in_ok-enqueue_assignment-in-Implied g c =
     code-implied p c.requires c.not.ensures c.in-Implied.ensures
     (parts_of c.reorder_clause.new.clause_alloc c.args.binary_clauses.now c.enqueue_assignment.new.assignment c.enqueue_assignment.new.trail
     c.enqueue_assignment.new.impl_graph) view
-    record { last = enters.last; head = ap (λ (v : View). v.queue_head) view; units = enters.units; store = c.in-Implied.ensures.store }
+    record { last = enters.last; head = ap (λ (v : View). v.queue_head) view; store = c.in-Implied.ensures.store }

@@ -30,7 +30,6 @@ queue-init g c =
       watched = watched-enabled c.args.watchlists.now c.enable_watchlists.new.watchlists s c.requires.well c.requires.propagated e.enabled e.count
           e.same e.watching;
       last = refl;
-      units = refl;
       store = refl;
     }
 

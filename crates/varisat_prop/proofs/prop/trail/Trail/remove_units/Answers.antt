@@ -9,15 +9,7 @@ pub returns : goal.returns
 returns g c =
     let gone = c.args.gone.now in
     let kept = filter_same _ (λ l. not (leaves gone (variable_of l))) _ (λ x b after called. search rules) _ _ c.retain.ensures.filtered in
-    let n : c.len-count.result ≡ length c.self.inside.trail.items = omega (arith, c.len-count.ensures) in
     let q : c.len-self-inside.result ≡ length c.retain.new.self.items = omega (arith, c.len-self-inside.ensures) in
-    let m : c.len.result ≡ length c.retain.new.self.items = omega (arith, c.len.ensures) in
     rw (← c.self.view_is) (trail-left
-    record {
-      literals = c.self.inside.trail.items;
-      queue_head = c.self.inside.queue_head_pos;
-      decisions =
-          c.self.inside.decisions.items;
-      units_removed = c.self.inside.units_removed;
-    } gone c.retain.new.self.items c.len-count.result
-    c.len.result c.len-self-inside.result c.saturating_add-self-inside.result kept n m q c.saturating_add-self-inside.ensures)
+    record { literals = c.self.inside.trail.items; queue_head = c.self.inside.queue_head_pos; decisions = c.self.inside.decisions.items }
+    gone c.retain.new.self.items c.len-self-inside.result kept q)

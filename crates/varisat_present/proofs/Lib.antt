@@ -1,4 +1,5 @@
 pub mod Elements
+pub mod MarkedLists
 pub mod Mentions
 pub mod KnownPlaces
 pub mod PlacedClauses

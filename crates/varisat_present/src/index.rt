@@ -2,13 +2,40 @@
 use std::alloc::{AllocError, Allocator};
 use varisat_literals::Lit;
 
-/// A number that is the same for clauses with the same literals in whatever order, if none stands twice.
+/// A number that looks like a random one.
+fn mixed(number: u32, factor: u32) -> u32 {
+    let product = number.wrapping_add(1).wrapping_mul(factor);
+    (product ^ (product >> 15)).wrapping_mul(0x85eb_ca77)
+}
+
+/// A number that is the same for clauses that are equal as sets: literals in another order, or repeated, do not change it.
+// So it may add up nothing: it takes the least and the greatest of two random numbers of each literal.
 pub fn key_of(clause: &[Lit]) -> u32 {
-    let mut sum: u32 = 0;
+    let mut least: u32 = 0xffff_ffff;
+    let mut greatest: u32 = 0;
+    let mut other_least: u32 = 0xffff_ffff;
+    let mut other_greatest: u32 = 0;
     for l in clause {
-        let code = (l.code() as u32).wrapping_add(1).wrapping_mul(0x9e37_79b1);
-        sum = sum.wrapping_add((code ^ (code >> 15)).wrapping_mul(0x85eb_ca77));
+        let code = l.code() as u32;
+        let one = mixed(code, 0x9e37_79b1);
+        let other = mixed(code, 0xc2b2_ae35);
+        if one < least {
+            least = one;
+        }
+        if one > greatest {
+            greatest = one;
+        }
+        if other < other_least {
+            other_least = other;
+        }
+        if other > other_greatest {
+            other_greatest = other;
+        }
     }
+    let sum = mixed(least, 0x9e37_79b1)
+        .wrapping_add(mixed(greatest, 0xc2b2_ae35))
+        .wrapping_add(mixed(other_least, 0x27d4_eb2f))
+        .wrapping_add(mixed(other_greatest, 0x1656_67b1));
     sum ^ (sum >> 16)
 }
 

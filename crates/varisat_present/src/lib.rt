@@ -4,10 +4,12 @@
 
 pub mod clause;
 mod index;
-mod known;
+pub mod known;
 mod places;
 pub mod present;
 mod propagation;
+pub mod sets;
 mod watches;
 
+pub use known::Known;
 pub use present::PresentClauses;

@@ -6,7 +6,8 @@ ghost use Rattle.varisat_theory.specs.Literals.{Clause};
 ghost use Rattle.varisat_theory.specs.Membership.{SameSet};
 ghost use Rattle.varisat_present.specs.Places.{present, present_at};
 
-use crate::clause::{is_same_set, mentions};
+use crate::clause::mentions;
+use crate::sets::is_equal_set;
 use std::alloc::Allocator;
 use varisat_literals::{Lit, Var};
 
@@ -39,6 +40,7 @@ pub fn has_clause<A: Allocator + Copy>(places: &[Option<Vec<Lit, A>>], place: us
 
 /// Whether a clause that is equal as a set is at the place.
 pub fn is_equal_at<A: Allocator + Copy>(
+    alloc: A,
     places: &[Option<Vec<Lit, A>>],
     place: usize,
     clause: &[Lit],
@@ -48,7 +50,7 @@ pub fn is_equal_at<A: Allocator + Copy>(
 {
     match clause_at(places, place) {
         None => false,
-        Some(held) => is_same_set(held, clause),
+        Some(held) => is_equal_set(alloc, held, clause),
     }
 }
 
@@ -65,13 +67,14 @@ fn mentions_at<A: Allocator + Copy>(places: &[Option<Vec<Lit, A>>], place: usize
 
 /// The place of a clause that is equal as a set, looked for at all places.
 pub fn find_place<A: Allocator + Copy>(
+    alloc: A,
     places: &[Option<Vec<Lit, A>>],
     clause: &[Lit],
 ) -> Option<usize>
     ensures { MatchOption result (IsAbsent (present places.now) clause.now) (λ i. (c : Clause) × (present_at places.now i ≡ Some c) × SameSet c clause.now) }
 {
     for place in 0..places.len() {
-        if is_equal_at(places, place, clause) {
+        if is_equal_at(alloc, places, place, clause) {
             return Some(place);
         }
     }

@@ -50,6 +50,7 @@ impl<A: Allocator + Copy> Model for PresentClauses<A> {
 
 /// The place of a clause that is equal as a set, if the index leads to one.
 fn find_indexed<A: Allocator + Copy>(
+    alloc: A,
     places: &[Option<Vec<Lit, A>>],
     index: &ClauseIndex<A>,
     clause: &[Lit],
@@ -62,7 +63,7 @@ fn find_indexed<A: Allocator + Copy>(
             return None;
         }
         let place = next as usize - 1;
-        if is_equal_at(places, place, clause) {
+        if is_equal_at(alloc, places, place, clause) {
             return Some(place);
         }
         next = index.after(place);
@@ -72,27 +73,29 @@ fn find_indexed<A: Allocator + Copy>(
 
 /// The place of a clause that is equal as a set.
 fn find_equal<A: Allocator + Copy>(
+    alloc: A,
     places: &[Option<Vec<Lit, A>>],
     index: &ClauseIndex<A>,
     clause: &[Lit],
 ) -> Option<usize>
     ensures { MatchOption result (IsAbsent (present places.now) clause.now) (λ i. (c : Clause) × (present_at places.now i ≡ Some c) × SameSet c clause.now) }
 {
-    match find_indexed(places, index, clause) {
+    match find_indexed(alloc, places, index, clause) {
         Some(place) => Some(place),
-        None => find_place(places, clause),
+        None => find_place(alloc, places, clause),
     }
 }
 
 /// Whether the index leads to a clause of the literal alone.
 fn has_unit<A: Allocator + Copy>(
+    alloc: A,
     places: &[Option<Vec<Lit, A>>],
     index: &ClauseIndex<A>,
     literal: Lit,
 ) -> bool
     ensures { result ≡ true → (c : Clause) × (c ∈ present places.now) × IsUnit literal c }
 {
-    match find_indexed(places, index, &[literal]) {
+    match find_indexed(alloc, places, index, &[literal]) {
         None => false,
         Some(_) => true,
     }
@@ -110,6 +113,7 @@ fn is_settled_with<A: Allocator + Copy>(is_settled: bool, known: &Known<A>, clau
 
 /// Whether propagation was at its end, and the clause that left the places changed nothing of what they imply.
 fn is_spare<A: Allocator + Copy>(
+    alloc: A,
     is_settled: bool,
     places: &[Option<Vec<Lit, A>>],
     index: &ClauseIndex<A>,
@@ -123,7 +127,7 @@ fn is_spare<A: Allocator + Copy>(
     }
     match status_of(known, clause) {
         ClauseStatus::False => false,
-        ClauseStatus::Leaves(code) => has_unit(places, index, Lit::from_code(code as usize)),
+        ClauseStatus::Leaves(code) => has_unit(alloc, places, index, Lit::from_code(code as usize)),
         ClauseStatus::Open => true,
     }
 }
@@ -219,7 +223,7 @@ impl<A: Allocator + Copy> PresentClauses<A> {
         ensures yes { result ≡ true → (c : Clause) × (c ∈ self.now) × SameSet c clause.now }
         ensures no { result ≡ false → IsAbsent self.now clause.now }
     {
-        match find_equal(&self.places, &self.index, clause) {
+        match find_equal(self.alloc, &self.places, &self.index, clause) {
             None => false,
             Some(_) => true,
         }
@@ -231,12 +235,13 @@ impl<A: Allocator + Copy> PresentClauses<A> {
         ensures absent { result ≡ false → IsAbsent self.old clause.now }
         ensures stays { result ≡ false → self.new ≡ self.old }
     {
-        let place = match find_equal(&self.places, &self.index, clause) {
+        let place = match find_equal(self.alloc, &self.places, &self.index, clause) {
             None => return false,
             Some(place) => place,
         };
         self.places[place] = None;
         if is_spare(
+            self.alloc,
             self.is_settled,
             &self.places,
             &self.index,

@@ -10,6 +10,8 @@ pub mod CheckedSources
 pub mod PlainResults
 pub mod MarkedReports
 pub mod MarkedOnce
+pub mod MarkedJournals
+pub mod PassingJournals
 pub mod CheckResults
 pub mod RightResults
 pub mod CheckedSteps

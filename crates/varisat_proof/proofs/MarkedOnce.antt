@@ -1,5 +1,6 @@
 -- A check of lines has one result, and they told one thing.
 use Rattle.std.proofs.Common.{◌≡◌, ℕ, suc, List, [], ◌∷◌, ◌++◌, length, refl, sym, ap, subst, ◌∙◌, ⊎_elim, ◌⊎◌, inl, inr, Option, Some, None, Result, Ok, Err}
+use Rattle.std.proofs.lemmas.List.{append-nil}
 use Rattle.varisat_theory.specs.Membership.{◌⊆◌}
 use Rattle.varisat_theory.specs.Literals.{Clause}
 use Rattle.varisat_theory.specs.Propagation.{Conflicts}
@@ -17,7 +18,7 @@ use Rattle.varisat_proof.specs.declared.checker.error.CheckerError.{CheckerError
 use Rattle.varisat_proof.specs.declared.checker.error.CheckerError.TheVariants.{CheckFailed, NoSuchClause, CoreNotAssumed, Parse}
 use Rattle.varisat_proof.specs.Lines.{ProofLine, step_number}
 use Rattle.varisat_proof.specs.Machine.{Parsed, parsed}
-use Rattle.varisat_proof.specs.Marked.{MarkedTold, ProofState, TakesKind, Takes, IsWrongKind, IsWrongBy, Goes, StopsBefore, Stops, CheckOnce}
+use Rattle.varisat_proof.specs.Marked.{MarkedTold, ProofState, TakesKind, Takes, IsWrongKind, IsWrongBy, Goes, TakesAll, GoesThrough, StopsBefore, Stops, CheckOnce, CheckGoesThrough}
 use Rattle.varisat_proof.proofs.CheckedLines.{error_of}
 use Rattle.varisat_proof.proofs.TokenLines.{only_parsed}
 
@@ -177,3 +178,46 @@ check_once e = λ s bytes r q t u a b.
     let w = walk a.fault (length a.front) (length b.front) a.front b.front a.back b.back r q s s t u self a.goes b.goes (sym a.splits ∙ p.0 ∙ b.splits) x y in
     let z = subst (λ k. Halts a.fault k u a.back q) (ap length (sym w.0)) (subst (λ k. Halts a.fault (length b.front) u k q) (sym w.1) y) in
     (return_same a.fault (length a.front) t u a.back r q w.2 x z, w.2.told)
+
+-- 3. Lines that are all right, one after the other.
+
+at_end : (fault : Option ℕ) (n : ℕ) (back : List ProofLine) (r : Result CheckVerdict CheckerError) (t s u : ProofState) → Same t s →
+    TakesAll s back u → Halts fault n t back r → (r ≡ refuted_result fault)
+    ⊎ ((r ≡ ended_result fault) × (Conflicts u.present [] → ⊥) × (t.told ≡ u.told))
+at_end fault n back r t s u w a (Refuted k e) = inl e
+at_end fault n back r t s u w a (AtEnd k z e) =
+    let same : s ≡ u = subst (λ ls. TakesAll s ls u) z a in
+    let back' = subst (λ (x : ProofState). SameClauses x.present t.present) same (same_clauses-back t.present s.present w.present) in
+    inr (e, (λ c. k (conflicts_same u.present t.present [] back' c)), w.told ∙ ap (λ (x : ProofState). x.told) same)
+at_end fault n back r t s u w a (AtLine k line lines z status i e) =
+    let b : TakesAll s (line ∷ lines) u = subst (λ ls. TakesAll s ls u) z a in
+    absurd (wrong_taken t s line.kind line.clause status b.0 w i b.1)
+
+taken_through : (fault : Option ℕ) (n : ℕ) (front back : List ProofLine) (r : Result CheckVerdict CheckerError) (s s' t u : ProofState) → Same s s' →
+    Goes s front t → TakesAll s' (front ++ back) u → Halts fault n t back r → (r ≡ refuted_result fault)
+    ⊎ ((r ≡ ended_result fault) × (Conflicts u.present [] → ⊥) × (t.told ≡ u.told))
+taken_through fault n [] back r s s' t u w g a h = at_end fault n back r t s' u (same_by t s' s s' (sym g) refl w) a h
+taken_through fault n (l ∷ f) back r s s' t u w g a h =
+    taken_through fault n f back r g.1 a.0 t u (same_taken s s' l.kind l.clause g.1 a.0 w g.2 a.1) g.3 a.2 h
+
+through : (s : ProofState) (lines front back : List ProofLine) (u : ProofState) (r : Result CheckVerdict CheckerError) (t : ProofState)
+    (fault : Option ℕ) → lines ≡ front ++ back → Goes s front t → Stops fault (length front) t back r →
+    ((r ≡ Ok Refutation) ⊎ ((r ≡ Ok Derivation) × (Conflicts u.present [] → ⊥) × (t.told ≡ u.told))) →
+    GoesThrough s lines r t × (Conflicts u.present [] → r ≡ Ok Refutation)
+through s lines front back u (Ok Refutation) t fault e g k x = ((front, back, e, g, k.1), λ _. refl)
+through s lines front back u (Ok Derivation) t fault e g k x = (
+  (subst (λ ls. Goes s ls t) (sym (e ∙ ap (λ ls. front ++ ls) k.1 ∙ append-nil front)) g, k.2),
+  λ c. ⊎_elim (λ q. q) (λ (q, none, told). absurd (none c)) x,
+)
+through s lines front back u (Err error) t fault e g k x = absurd (⊎_elim
+    (λ q. let z : Err error ≡ Ok Refutation = q in cc)
+    (λ (q, none, told). let z : Err error ≡ Ok Derivation = q in cc)
+    x)
+
+pub check_through : (e : Encoding) → CheckGoesThrough e
+check_through e = λ s bytes lines u r t m a k.
+    let p = same_parsed lines k.lines None k.fault (parsed e bytes) (only_parsed e bytes lines None m) (only_parsed e bytes k.lines k.fault k.means) in
+    let h = subst (λ f. Halts f (length k.front) t k.back r) (sym p.1) (halts k.fault (length k.front) t k.back r k.stops) in
+    let self : Same s s = record { present = same_clauses-self s.present; told = refl } in
+    through s lines k.front k.back u r t k.fault (p.0 ∙ k.splits) k.goes k.stops
+    (taken_through None (length k.front) k.front k.back r s s t u self k.goes (subst (λ ls. TakesAll s ls u) (p.0 ∙ k.splits) a) h)

@@ -1,13 +1,20 @@
 -- The result of a check is the one right one.
-use Rattle.std.proofs.Common.{◌≡◌, ℕ, List, [], ◌∷◌, refl, sym, ap, subst, ◌∙◌, Option}
-use Rattle.varisat_theory.specs.Derivations.{Line, Add, Delete}
+use Rattle.std.proofs.Common.{◌≡◌, ℕ, List, [], ◌∷◌, inl, inr, refl, sym, ap, subst, ◌∙◌, Option, None, Result}
+use Rattle.varisat_theory.specs.Literals.{Clause}
+use Rattle.varisat_theory.specs.Derivations.{Line, Add, Delete, IsDerivation}
 use Rattle.varisat_plain.specs.Checking.{IsVerdict}
-use Rattle.varisat_plain.proofs.Checking.{exact}
+use Rattle.varisat_plain.specs.declared.checker.PlainVerdict.{PlainVerdict}
+use Rattle.varisat_plain.specs.declared.checker.PlainVerdict.TheVariants as plain
+use Rattle.varisat_plain.proofs.Checking.{exact, wrong_no_derivation}
+use Rattle.varisat_proof.specs.declared.checker.error.CheckVerdict.{CheckVerdict}
+use Rattle.varisat_proof.specs.declared.checker.error.CheckerError.{CheckerError}
+use Rattle.varisat_proof.specs.declared.proof.format.Encoding.{Encoding}
 use Rattle.varisat_proof.specs.declared.proof.format.ProofFormat.{ProofFormat}
-use Rattle.varisat_proof.specs.Lines.{ProofLine, plain_line, plain_lines, plain_encoding}
+use Rattle.varisat_proof.specs.Lines.{ProofLine, plain_line, plain_lines, plain_encoding, HasKinds}
 use Rattle.varisat_proof.specs.Machine.{Parsed, parsed}
-use Rattle.varisat_proof.specs.Results.{result_of, ResultOnce}
+use Rattle.varisat_proof.specs.Results.{result_of, IsAccepted, DerivationIsAccepted, ResultOnce}
 use Rattle.varisat_proof.proofs.TokenLines.{only_parsed}
+use Rattle.varisat_proof.proofs.WrittenLines.{written_accepted}
 
 -- plain lines are those of one list
 line_same : (l m : Line) → plain_line l ≡ plain_line m → l ≡ m
@@ -35,3 +42,25 @@ result_once f = λ P bytes r q Q R a b.
     let v : a.verdict ≡ b.verdict = (exact P a.lines a.verdict a.is_verdict b.verdict).1
     (subst (λ l. IsVerdict P l b.verdict) (sym (plain_same a.lines b.lines t.0)) b.is_verdict) in
     a.result_is ∙ ap (λ x. result_of x a.verdict) t.1 ∙ ap (λ x. result_of b.fault x) v ∙ sym b.result_is
+
+plain_kinds : (e : Encoding) (lines : List Line) → HasKinds e (plain_lines lines)
+plain_kinds e [] = tt
+plain_kinds e (Add c ∷ lines) = (refl, plain_kinds e lines)
+plain_kinds e (Delete c ∷ lines) = (refl, plain_kinds e lines)
+
+-- a derivation is accepted
+by_verdict : (P : List Clause) (lines : List Line) (v : PlainVerdict) (r : Result CheckVerdict CheckerError) → IsDerivation P lines →
+    IsVerdict P lines v → r ≡ result_of None v → IsAccepted P lines r
+by_verdict P lines plain.Refutation r d h e = inl (h, e)
+by_verdict P lines plain.Derivation r d h e = inr (h.1, e)
+by_verdict P lines (plain.DoesNotFollow n) r d (c, w) e = absurd (wrong_no_derivation P lines n (Add c) w d)
+by_verdict P lines (plain.DeletesNothing n) r d (c, w) e = absurd (wrong_no_derivation P lines n (Delete c) w d)
+
+pub derivation_accepted : (f : ProofFormat) → DerivationIsAccepted f
+derivation_accepted f = λ P lines bytes r Q d range w a.
+    let e = plain_encoding f in
+    let t = same_parsed (plain_lines a.lines) (plain_lines lines) a.fault None (parsed e bytes)
+    (only_parsed e bytes (plain_lines a.lines) a.fault a.means)
+    (only_parsed e bytes (plain_lines lines) None (written_accepted e (plain_lines lines) bytes (plain_kinds e lines) range w)) in
+    by_verdict P lines a.verdict r d (subst (λ l. IsVerdict P l a.verdict) (plain_same a.lines lines t.0) a.is_verdict)
+    (a.result_is ∙ ap (λ x. result_of x a.verdict) t.1)

@@ -47,10 +47,12 @@ taken-step checker old new step (Ok u) is (t, a, b) = subst (λ k. IsCheckedIf k
     (taken_left old.clauses step new.clauses t, b ∙ sym a)
 
 -- an error of a step that is right spends the checker
-pub spent-step : (old new : CheckerState) (step : ProofStep) (r : Result (Unit {0}) CheckerError) → IfErr r (λ e. e ≡ OutOfMemory) →
-    IsStep old step r new → IfErr r (λ e. IsSpent (Some new))
-spent-step old new step (Ok u) m h = tt
-spent-step old new step (Err e) m h = let w : IsStep old step (Err OutOfMemory) new = subst (λ x. IsStep old step (Err x) new) m h in w.1
+pub spent-step : (checker : Option CheckerState) (old new : CheckerState) (step : ProofStep) (r : Result (Unit {0}) CheckerError) →
+    checker ≡ Some old → IfErr r (λ e. e ≡ OutOfMemory) → IsStep old step r new → IfErr r (λ e. IsSpent checker (Some new))
+spent-step checker old new step (Ok u) is m h = tt
+spent-step checker old new step (Err e) is m h =
+    let w : IsStep old step (Err OutOfMemory) new = subst (λ x. IsStep old step (Err x) new) m h in
+    subst (λ k. IsSpent k (Some new)) (sym is) w.1
 
 -- 2. A step that is right is not answered to be wrong.
 wrong_line : (Q R : List Clause) (line : Line) (rest : List Line) (S : List Clause) → SameClauses R Q → IsWrong Q line → Derives R (line ∷ rest) S → ⊥
@@ -132,5 +134,5 @@ tells-ok old parts new entries r e is w k = subst (λ x. Tells old entries x new
     (subst (λ p. IsTold p entries new) e record { written = w; checked = k })
 
 pub tells-spent : (old parts new : ProofParts) (entries : List Entry) (r : Result (Unit {0}) TraceError) → parts ≡ old → r ≡ Err Memory →
-    IsWrittenIf parts.opened (told entries) new.opened → IsSpent new.checker → Tells old entries r new
+    IsWrittenIf parts.opened (told entries) new.opened → IsSpent parts.checker new.checker → Tells old entries r new
 tells-spent old parts new entries r e is w k = subst (λ x. Tells old entries x new) (sym is) (subst (λ (p : ProofParts). RunsOut p entries new) e (inr (w, k)))

@@ -12,5 +12,7 @@ pub mod Checks
 pub mod Mapping
 pub mod Verified
 pub mod Telling
+pub mod Assumed
+pub mod Passing
 pub mod Present
 pub mod Proving

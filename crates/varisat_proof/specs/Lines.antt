@@ -39,6 +39,12 @@ plain_encoding Drat = Text false
 plain_encoding BinaryDrat = Binary
 plain_encoding Marked = Text false
 
+-- whether a format also has lines for what was given: clauses, assumptions and cores
+abbrev pub has_marks : ProofFormat → Bool
+has_marks Drat = false
+has_marks BinaryDrat = false
+has_marks Marked = true
+
 -- whether there are lines of the kind: some are only in marked text
 abbrev pub has_kind : Encoding → LineKind → Bool
 has_kind e Adds = true

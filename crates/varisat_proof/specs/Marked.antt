@@ -71,6 +71,11 @@ abbrev pub Goes : ProofState → List ProofLine → ProofState → Type 0
 Goes s [] t = s ≡ t
 Goes s (line ∷ lines) t = (Conflicts s.present [] → ⊥) × (r : ProofState) × Takes s line r × Goes r lines t
 
+-- The lines are taken one after the other, also those before which propagation conflicts.
+abbrev pub TakesAll : ProofState → List ProofLine → ProofState → Type 0
+TakesAll s [] t = s ≡ t
+TakesAll s (line ∷ lines) t = (r : ProofState) × Takes s line r × TakesAll r lines t
+
 -- behind so many lines the next one is looked at, is wrong, and has this number
 abbrev pub StopsBefore : LineStatus → ℕ → ProofState → List ProofLine → ℕ → Type 0
 StopsBefore status before t [] step = ⊥
@@ -105,3 +110,19 @@ abbrev pub CheckOnce : Encoding → Type 0
 CheckOnce encoding =
     (s : ProofState) (bytes : List ℕ) (r q : Result CheckVerdict CheckerError) (t u : ProofState)
     → IsCheckOf encoding s bytes r t → IsCheckOf encoding s bytes q u → (r ≡ q) × (t.told ≡ u.told)
+
+-- A check from s on that finds no line wrong. It stops behind the first lines behind which propagation conflicts, and refutes; or it
+-- comes to the end of all, where it does not conflict.
+abbrev pub GoesThrough : ProofState → List ProofLine → Result CheckVerdict CheckerError → ProofState → Type 0
+GoesThrough s lines (Ok Refutation) t =
+    (front : List ProofLine) × (back : List ProofLine) × (lines ≡ front ++ back) × Goes s front t × Conflicts t.present []
+GoesThrough s lines (Ok Derivation) t = Goes s lines t × (Conflicts t.present [] → ⊥)
+GoesThrough s lines (Err error) t = ⊥
+
+-- Where all lines that the bytes mean are right one after the other, a check finds none wrong, whichever of the present clauses that
+-- are equal as sets its deletions take out; and if propagation conflicts behind them it refutes.
+abbrev pub CheckGoesThrough : Encoding → Type 0
+CheckGoesThrough encoding =
+    (s : ProofState) (bytes : List ℕ) (lines : List ProofLine) (u : ProofState) (r : Result CheckVerdict CheckerError) (t : ProofState)
+    → BytesMean encoding bytes lines None → TakesAll s lines u → IsCheckOf encoding s bytes r t
+    → GoesThrough s lines r t × (Conflicts u.present [] → r ≡ Ok Refutation)

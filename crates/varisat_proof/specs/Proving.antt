@@ -1,5 +1,5 @@
 -- What telling entries makes of an open proof, of which only the bytes and the count of faults change, and of the checker in a solver.
-use Rattle.std.specs.Prelude.{◌≡◌, ◌⊎◌, ℕ, ◌+◌, ◌-◌, ◌<◌, ◌^◌, Bool, true, false, ◌||◌, List, [], ◌∷◌, ◌++◌, flat_map, take, Option, Some, None, Result, Ok, Err}
+use Rattle.std.specs.Prelude.{◌≡◌, ◌⊎◌, ℕ, ◌+◌, ◌-◌, ◌<◌, ◌^◌, Bool, true, false, not, ◌&&◌, ◌||◌, List, [], ◌∷◌, ◌++◌, flat_map, take, Option, Some, None, Result, Ok, Err}
 use Rattle.varisat_theory.specs.Literals.{Clause}
 use Rattle.varisat_theory.specs.Held.{SameClauses}
 use Rattle.varisat_formula.specs.Streams.{Taken}
@@ -10,7 +10,7 @@ use Rattle.varisat_proof.specs.declared.proof.format.ProofFormat.{ProofFormat}
 use Rattle.varisat_proof.specs.Calls.{CheckerState}
 use Rattle.varisat_proof.specs.Present.{IsLeftAfter}
 use Rattle.varisat_proof.specs.declared.proof.format.Encoding.{Encoding}
-use Rattle.varisat_proof.specs.Lines.{ProofLine, encoding_of}
+use Rattle.varisat_proof.specs.Lines.{ProofLine, encoding_of, has_marks}
 use Rattle.varisat_proof.specs.Steps.{lines_written}
 use Rattle.varisat_proof.specs.Telling.{lines_told}
 
@@ -81,17 +81,17 @@ pub record IsTold (old : ProofParts) (entries : List Entry) (new : ProofParts) :
   pub written : IsWrittenIf old.opened (told entries) new.opened
   pub checked : IsCheckedIf old.checker entries new.checker
 
--- a checker that ran out of memory
-abbrev pub IsSpent : Option CheckerState → Type 0
-IsSpent None = ⊥
-IsSpent (Some c) = c.spent ≡ true
+-- a checker that ran and runs ran out of memory
+abbrev pub IsSpent : Option CheckerState → Option CheckerState → Type 0
+IsSpent (Some old) (Some new) = new.spent ≡ true
+IsSpent _ _ = ⊥
 
 -- Memory ran out: for a line, so that a beginning of the lines was written and the checker was told nothing; or in the checker, behind all
 -- the lines.
 abbrev pub RunsOut : ProofParts → List Entry → ProofParts → Type 0
 RunsOut old entries new =
     (IsBegunIf old.opened (told entries) 0 new.opened × (new.checker ≡ old.checker))
-    ⊎ (IsWrittenIf old.opened (told entries) new.opened × IsSpent new.checker)
+    ⊎ (IsWrittenIf old.opened (told entries) new.opened × IsSpent old.checker new.checker)
 
 -- What telling entries returns and leaves. Where the target failed, a beginning of the lines was written and the checker was told nothing.
 abbrev pub Tells : ProofParts → List Entry → Result (Unit {0}) TraceError → ProofParts → Type 0
@@ -116,10 +116,15 @@ IsUsable None = Unit {0}
 IsUsable (Some c) = c.spent ≡ false
 
 -- 4. How a search ends under a proof, and how that closes.
--- whether a proof is open under which a search ran
-abbrev pub is_searched : Option OpenState → Bool
-is_searched None = false
-is_searched (Some p) = p.searched
+-- whether an open proof bars further clauses: a search ran under it, and its format has no lines for them
+abbrev pub bars_clauses : Option OpenState → Bool
+bars_clauses None = false
+bars_clauses (Some p) = p.searched && not (has_marks p.format)
+
+-- whether it bars assumptions: its format has no lines for them
+abbrev pub bars_assumptions : Option OpenState → Bool
+bars_assumptions None = false
+bars_assumptions (Some p) = not (has_marks p.format)
 
 -- the open proof, if any, as one under which a search ran
 abbrev pub marked_searched : Option OpenState → Option OpenState

@@ -1,7 +1,7 @@
 -- The one right result of a check, over all bytes of a proof.
-use Rattle.std.specs.Prelude.{◌≡◌, ℕ, suc, List, [], ◌++◌, length, Option, Some, None, Result, Ok, Err}
+use Rattle.std.specs.Prelude.{◌≡◌, ℕ, suc, ◌⊎◌, List, [], ◌++◌, length, Option, Some, None, Result, Ok, Err}
 use Rattle.varisat_theory.specs.Literals.{Clause}
-use Rattle.varisat_theory.specs.Derivations.{Line, Derives}
+use Rattle.varisat_theory.specs.Derivations.{Line, Derives, IsDerivation, Refutes}
 use Rattle.varisat_theory.specs.Propagation.{Conflicts}
 use Rattle.varisat_plain.specs.Checking.{IsVerdict}
 use Rattle.varisat_plain.specs.declared.checker.PlainVerdict.{PlainVerdict}
@@ -13,6 +13,7 @@ use Rattle.varisat_proof.specs.declared.checker.error.CheckerError.{CheckerError
 use Rattle.varisat_proof.specs.declared.checker.error.CheckerError.TheVariants.{CheckFailed, NoSuchClause, Parse}
 use Rattle.varisat_proof.specs.Lines.{plain_lines, plain_encoding, step_number}
 use Rattle.varisat_proof.specs.Means.{BytesMean}
+use Rattle.varisat_proof.specs.Written.{Written, AreInRange}
 
 -- A wrong line is returned first, and then a fault of the bytes.
 abbrev pub result_of : Option ℕ → PlainVerdict → Result CheckVerdict CheckerError
@@ -47,6 +48,17 @@ pub record IsResult (format : ProofFormat) (P : List Clause) (bytes : List ℕ) 
   pub is_verdict : IsVerdict P lines verdict
   pub leaves : LeavesPresent P lines verdict Q
   pub result_is : result ≡ result_of fault verdict
+
+-- The result is Refutation where the lines refute, and Derivation else.
+abbrev pub IsAccepted : List Clause → List Line → Result CheckVerdict CheckerError → Type 0
+IsAccepted P lines result = (Refutes P lines × (result ≡ Ok Refutation)) ⊎ ((Refutes P lines → ⊥) × (result ≡ Ok Derivation))
+
+-- so it is of what is written for a derivation with variables up to 2^28
+abbrev pub DerivationIsAccepted : ProofFormat → Type 0
+DerivationIsAccepted format =
+    (P : List Clause) (lines : List Line) (bytes : List ℕ) (result : Result CheckVerdict CheckerError) (Q : List Clause) → IsDerivation P lines →
+    AreInRange (plain_lines lines) → Written (plain_encoding format) (plain_lines lines) bytes → IsResult format P bytes result Q →
+    IsAccepted P lines result
 
 -- all bytes have one result
 abbrev pub ResultOnce : ProofFormat → Type 0

@@ -1,8 +1,9 @@
 //! What the formats promise: each is the contract of a function with an empty body.
 ghost use Rattle.varisat_proof.specs.Laws.{WrittenIsAccepted, AcceptedOnce, AcceptedOrFaulty, NotBoth, FaultyOnce};
 ghost use Rattle.varisat_proof.specs.Lines.{encoding_of};
-ghost use Rattle.varisat_proof.specs.Marked.{CheckOnce};
-ghost use Rattle.varisat_proof.specs.Results.{ResultOnce};
+ghost use Rattle.varisat_proof.specs.Marked.{CheckOnce, CheckGoesThrough};
+ghost use Rattle.varisat_proof.specs.Passing.{JournalsPass};
+ghost use Rattle.varisat_proof.specs.Results.{DerivationIsAccepted, ResultOnce};
 
 use crate::proof::format::ProofFormat;
 
@@ -21,8 +22,26 @@ pub fn one_result_is_right(_format: ProofFormat)
     ensures { ResultOnce _format }
 {}
 
+/// What is written for a derivation whose variables have numbers up to 2^28 is accepted as a refutation where it refutes,
+/// and else as a derivation.
+pub fn derivation_is_accepted(_format: ProofFormat)
+    ensures { DerivationIsAccepted _format }
+{}
+
 /// Over all bytes just one result of a check of marked lines is right, and the clauses and cores that were told up to
 /// where it stops are determined.
 pub fn one_check_is_right(_format: ProofFormat)
     ensures { CheckOnce (encoding_of _format) }
+{}
+
+/// A check of lines that are right one after the other finds none wrong, whichever present clauses the deletions take
+/// out: it refutes as soon as propagation conflicts, or comes to their end.
+pub fn right_lines_pass(_format: ProofFormat)
+    ensures { CheckGoesThrough (encoding_of _format) }
+{}
+
+/// A check from no clause finds nothing wrong in the marked proof of a right journal, and tells its clauses and its cores,
+/// up to where propagation first conflicts.
+pub fn right_journals_pass()
+    ensures { JournalsPass }
 {}

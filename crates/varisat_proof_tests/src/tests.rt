@@ -6,4 +6,5 @@ mod marked;
 mod programs;
 mod proofs;
 mod random;
+mod random_marked;
 mod steps;

@@ -12,9 +12,10 @@ use Rattle.varisat_trace.proofs.Traced.{lines-lead}
 use Rattle.varisat_trace.specs.declared.tracer.TraceError.{TraceError}
 use Rattle.varisat_trace.specs.declared.tracer.TraceError.TheVariants.{Memory, Target}
 use Rattle.varisat_proof.specs.declared.proof.format.Encoding.{Encoding}
+use Rattle.varisat_proof.specs.Calls.{CheckerState}
 use Rattle.varisat_proof.specs.Lines.{ProofLine, encoding_of}
 use Rattle.varisat_proof.specs.Steps.{lines_written}
-use Rattle.varisat_proof.specs.Proving.{OpenState, ProofParts, IsTold, IsWrittenIf, IsBegunIf, Tells, MayHold, told}
+use Rattle.varisat_proof.specs.Proving.{OpenState, ProofParts, is_there, IsSpent, IsTold, IsWrittenIf, IsBegunIf, Tells, MayHold, told}
 use Rattle.varisat_tracer.specs.Carried.{told_as}
 use Rattle.varisat_tracer.specs.Tracing.{TracerState, global_literal, Relies, TakesGlobally, BreaksGlobally, TellsGlobally}
 use Rattle.varisat_tracer.specs.TracerLaws.{leads-globally}
@@ -124,16 +125,28 @@ begun-told : (p q : ProofParts) (entries : List Entry) (e : TraceError) → Tell
 begun-told p q entries Memory h = ⊎_elim (λ b. b.0) (λ w. all-begun p.opened q.opened (told entries) w.0) h
 begun-told p q entries (Target cause) h = h.0
 
+spent-runs : (o p : Option CheckerState) → IsSpent o p → is_there p ≡ is_there o
+spent-runs None p h = absurd h
+spent-runs (Some a) None h = absurd h
+spent-runs (Some a) (Some b) h = refl
+
+runs-told : (p q : ProofParts) (entries : List Entry) (e : TraceError) → Tells p entries (Err e) q → is_there q.checker ≡ is_there p.checker
+runs-told p q entries Memory h =
+    ⊎_elim (λ b. ap (λ (k : Option CheckerState). is_there k) b.1) (λ w. spent-runs p.checker q.checker w.1) h
+runs-told p q entries (Target cause) h = ap (λ (k : Option CheckerState). is_there k) h.1
+
 pub breaks-told : (x y : TracerState) (entries others : List Entry) (e : TraceError) → y.tables ≡ x.tables →
     others ≡ told_as (global_literal x.tables) entries →
     Tells x.proof others (Err e) y.proof → BreaksGlobally x entries (faults_of e) y
 breaks-told x y entries others e t o h = record {
   tables = t;
   begun = subst (λ es. IsBegunIf x.proof.opened (told es) (faults_of e) y.proof.opened) o (begun-told x.proof y.proof others e h);
+  runs = runs-told x.proof y.proof others e h;
 }
 
 pub breaks-before : (x : TracerState) (entries : List Entry) → BreaksGlobally x entries 0 x
-breaks-before x entries = record { tables = refl; begun = nothing-begun x.proof.opened (told (told_as (global_literal x.tables) entries)) }
+breaks-before x entries =
+    record { tables = refl; begun = nothing-begun x.proof.opened (told (told_as (global_literal x.tables) entries)); runs = refl }
 
 -- as an accepted clause or list is told
 pub breaks-told-globally : (x y : TracerState) (entries : List Entry) (e : TraceError) → TellsGlobally x entries (Err e) y →

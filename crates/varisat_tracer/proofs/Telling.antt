@@ -1,17 +1,17 @@
 -- A tracer that can be told of entries goes on so.
-use Rattle.std.proofs.Common.{◌≡◌, ℕ, List, [], ◌++◌, sym, subst, None}
+use Rattle.std.proofs.Common.{◌≡◌, ℕ, List, [], ◌++◌, sym, ap, ◌∙◌, subst, refl, Option, None}
 use Rattle.varisat_theory.specs.Literals.{Clause}
 use Rattle.varisat_theory.specs.Journals.{Entry}
 use Rattle.varisat_theory.specs.Renaming.{rename}
 use Rattle.varisat_names.specs.VarBiMap.{BiMap}
 use Rattle.varisat_names.specs.VarMap.{at}
 use Rattle.varisat_names.specs.Variables.{Tables}
-use Rattle.varisat_proof.specs.Proving.{ProofParts, IsBegunIf, IsTold, MayHold, told}
+use Rattle.varisat_proof.specs.Proving.{OpenState, ProofParts, is_there, IsBegunIf, IsTold, MayHold, told}
 use Rattle.varisat_trace.specs.Traces.{BreaksOff}
 use Rattle.varisat_tracer.specs.Told.{begun-none, begun-behind}
 use Rattle.varisat_tracer.specs.Carried.{carry, told_as}
-use Rattle.varisat_tracer.specs.Tracing.{TracerState, global_literal, Relies, TakesGlobally, BreaksGlobally, BreaksProof, CanTell}
-use Rattle.varisat_tracer.specs.TracerLaws.{room-stays, usable-stays}
+use Rattle.varisat_tracer.specs.Tracing.{TracerState, OpenParts, open_parts, global_literal, Relies, TakesGlobally, BreaksGlobally, BreaksProof, CanTell}
+use Rattle.varisat_tracer.specs.TracerLaws.{checked-runs, room-stays, usable-stays}
 
 pub tells-told : (p q : ProofParts) (entries : List Entry) → IsTold p entries q → CanTell p → CanTell q
 tells-told p q entries h t = record {
@@ -22,19 +22,36 @@ tells-told p q entries h t = record {
 pub tells-on : (x y : TracerState) (entries : List Entry) → TakesGlobally x entries y → CanTell x.proof → CanTell y.proof
 tells-on x y entries h t = tells-told x.proof y.proof (told_as (global_literal x.tables) entries) h.told t
 
--- What stands in the target of an open proof after an error.
+-- What stands in the target of an open proof after an error; and a checker runs where one ran.
 pub breaks-proof : (x y : TracerState) (faults : ℕ) → BreaksOff BreaksGlobally x faults y → BreaksProof x.proof faults y.proof
-breaks-proof x y faults (entries, b) = (told_as (global_literal x.tables) entries, b.begun)
+breaks-proof x y faults (entries, b) = (told_as (global_literal x.tables) entries, b.begun, b.runs)
 
 pub proof-unbroken : (p : ProofParts) → BreaksProof p 0 p
-proof-unbroken p = ([], begun-none p.opened)
+proof-unbroken p = ([], begun-none p.opened, refl)
 
 pub proof-breaks-on : (p q r : ProofParts) (entries : List Entry) (faults : ℕ) → IsTold p entries q → BreaksProof q faults r → BreaksProof p faults r
-proof-breaks-on p q r entries faults t (more, b) = (entries ++ more, begun-behind p.opened q.opened r.opened entries more faults t.written b)
+proof-breaks-on p q r entries faults t (more, b, runs) = (
+  entries ++ more,
+  begun-behind p.opened q.opened r.opened entries more faults t.written b,
+  runs ∙ checked-runs p.checker q.checker entries t.checked,
+)
+
+-- what is open stays
+pub same-open : (p q : ProofParts) → q.opened ≡ p.opened → is_there q.checker ≡ is_there p.checker → open_parts q ≡ open_parts p
+same-open p q e r =
+    ap (λ (o : Option OpenState). let x : OpenParts = record { opened = o; checking = is_there q.checker } in x) e
+    ∙ ap (λ b. let x : OpenParts = record { opened = p.opened; checking = b } in x) r
+
+pub open-unbroken : (p q : ProofParts) → open_parts q ≡ open_parts p → BreaksProof p 0 q
+open-unbroken p q e = (
+  [],
+  subst (λ o. IsBegunIf p.opened (told []) 0 o) (sym (ap (λ (x : OpenParts). x.opened) e)) (begun-none p.opened),
+  ap (λ (x : OpenParts). x.checking) e,
+)
 
 -- where no proof is open the target does not fail
 pub unopened-unbroken : (p q : ProofParts) (faults : ℕ) → p.opened ≡ None → BreaksProof p faults q → faults ≡ 0
-unopened-unbroken p q faults e (entries, b) = (subst (λ o. IsBegunIf o (told entries) faults q.opened) e b).1
+unopened-unbroken p q faults e (entries, b, _) = (subst (λ o. IsBegunIf o (told entries) faults q.opened) e b).1
 
 -- what may be relied on depends on the solver variables alone
 pub relies-alike : (t u : Tables) (p : ProofParts) (held : List Clause) → u.solvers ≡ t.solvers → Relies (record { tables = t; proof = p }) held →

@@ -1,7 +1,7 @@
 -- The laws of a solver's tracer, as `ProofTracer` asks for them: it takes nothing, takes entries in turn, passes them where it is idle, and what
 -- a search may rely on follows them.
 use Rattle.std.specs.Prelude.{◌≡◌, ℕ, ◌<◌, ◌-◌, ◌^◌, false, List, [], ◌++◌, Option, Some, None, refl}
-use Rattle.std.proofs.Common.{sym, ◌∙◌, subst}
+use Rattle.std.proofs.Common.{sym, ap, ◌∙◌, subst}
 use Rattle.varisat_theory.specs.Literals.{Literal, Clause}
 use Rattle.varisat_theory.specs.Renaming.{KeepsOpposites, rename}
 use Rattle.varisat_theory.proofs.Held.{same_clauses-self, same_clauses-through}
@@ -9,7 +9,7 @@ use Rattle.varisat_theory.specs.Journals.{Entry, Leads}
 use Rattle.varisat_names.specs.VarMap.{at}
 use Rattle.varisat_names.specs.Variables.{Tables}
 use Rattle.varisat_proof.specs.Calls.{CheckerState}
-use Rattle.varisat_proof.specs.Proving.{OpenState, is_telling, IsWrittenIf, IsCheckedIf, IsTold, IsBegunIf, HasRoom, IsUsable, MayHold, told}
+use Rattle.varisat_proof.specs.Proving.{OpenState, is_there, is_telling, IsWrittenIf, IsCheckedIf, IsTold, IsBegunIf, HasRoom, IsUsable, MayHold, told}
 use Rattle.varisat_tracer.specs.Carried.{told_as}
 use Rattle.varisat_tracer.specs.Tracing.{TracerState, global_literal, Relies, TakesGlobally, BreaksGlobally}
 use Rattle.varisat_tracer.specs.Told.{told_as-append, told-none, told-more, told-idle, begun-none, begun-behind, begun-idle}
@@ -30,8 +30,14 @@ takes-more x y z first second h k = record {
 pub takes-idle : (x : TracerState) (entries : List Entry) → is_telling x.proof ≡ false → TakesGlobally x entries x
 takes-idle x entries h = record { tables = refl; told = told-idle x.proof (told_as (global_literal x.tables) entries) h }
 
+-- a checker that is told entries runs on
+pub checked-runs : (o p : Option CheckerState) (entries : List Entry) → IsCheckedIf o entries p → is_there p ≡ is_there o
+checked-runs None p entries e = ap (λ (k : Option CheckerState). is_there k) e
+checked-runs (Some a) None entries k = absurd k
+checked-runs (Some a) (Some b) entries k = refl
+
 pub breaks-none : (x : TracerState) → BreaksGlobally x [] 0 x
-breaks-none x = record { tables = refl; begun = begun-none x.proof.opened }
+breaks-none x = record { tables = refl; begun = begun-none x.proof.opened; runs = refl }
 
 pub breaks-behind : (x y z : TracerState) (first second : List Entry) (faults : ℕ) → TakesGlobally x first y → BreaksGlobally y second faults z →
     BreaksGlobally x (first ++ second) faults z
@@ -42,6 +48,7 @@ breaks-behind x y z first second faults h k = record {
       (begun-behind x.proof.opened y.proof.opened z.proof.opened (told_as (global_literal x.tables) first) (told_as (global_literal x.tables) second) faults
       h.told.written
       (subst (λ (t : Tables). IsBegunIf y.proof.opened (told (told_as (global_literal t) second)) faults z.proof.opened) h.tables k.begun));
+  runs = k.runs ∙ checked-runs x.proof.checker y.proof.checker (told_as (global_literal x.tables) first) h.told.checked;
 }
 
 pub breaks-idle : (x y : TracerState) (entries : List Entry) (faults : ℕ) → is_telling x.proof ≡ false → BreaksGlobally x entries faults y → faults ≡ 0

@@ -1,5 +1,5 @@
 -- What a solver's tracer holds and takes.
-use Rattle.std.specs.Prelude.{◌≡◌, ℕ, if◌then◌else◌, List, [], ◌∷◌, ◌++◌, Result, Ok, Err}
+use Rattle.std.specs.Prelude.{◌≡◌, ℕ, Bool, Option, if◌then◌else◌, List, [], ◌∷◌, ◌++◌, Result, Ok, Err}
 use Rattle.std.specs.List.Sorted.{IsNonDecreasingBy}
 use Rattle.varisat_theory.specs.Literals.{Literal, Clause}
 use Rattle.varisat_theory.specs.Renaming.{rename}
@@ -8,7 +8,7 @@ use Rattle.varisat_trace.specs.declared.tracer.TraceError.{TraceError}
 use Rattle.varisat_names.specs.VarMap.{at}
 use Rattle.varisat_names.specs.VarData.{kept_at}
 use Rattle.varisat_names.specs.Variables.{Tables}
-use Rattle.varisat_proof.specs.Proving.{ProofParts, IsTold, IsBegunIf, Tells, told, HasRoom, IsUsable, MayHold}
+use Rattle.varisat_proof.specs.Proving.{OpenState, ProofParts, is_there, IsTold, IsBegunIf, Tells, told, HasRoom, IsUsable, MayHold}
 use Rattle.varisat_tracer.specs.declared.tracer.SolverTracer.{SolverTracer}
 use Rattle.varisat_tracer.specs.Carried.{carry, told_as}
 
@@ -43,15 +43,25 @@ pub record TakesGlobally (x : TracerState) (entries : List Entry) (y : TracerSta
   pub told : IsTold x.proof (told_as (global_literal x.tables) entries) y.proof
 
 -- It broke off in the entries: a beginning of their lines stands behind what the target had taken, and it has counted so many faults more.
--- Names and variables stay.
+-- Names and variables stay, and a checker runs where one ran.
 pub record BreaksGlobally (x : TracerState) (entries : List Entry) (faults : ℕ) (y : TracerState) : Type 0 where
   pub tables : y.tables ≡ x.tables
   pub begun : IsBegunIf x.proof.opened (told (told_as (global_literal x.tables) entries)) faults y.proof.opened
+  pub runs : is_there y.proof.checker ≡ is_there x.proof.checker
 
 -- So much of it as concerns the proof: a beginning of some entries' lines stands behind what the target had taken, and it has counted so many
--- faults more. Where no proof is open there are none.
+-- faults more. Where no proof is open there are none. A checker runs where one ran.
 abbrev pub BreaksProof : ProofParts → ℕ → ProofParts → Type 0
-BreaksProof p faults q = (entries : List Entry) × IsBegunIf p.opened (told entries) faults q.opened
+BreaksProof p faults q =
+    (entries : List Entry) × IsBegunIf p.opened (told entries) faults q.opened × (is_there q.checker ≡ is_there p.checker)
+
+-- the proof that is open, and whether a checker runs
+pub record OpenParts : Type 0 where
+  pub opened : Option OpenState
+  pub checking : Bool
+
+abbrev pub open_parts : ProofParts → OpenParts
+open_parts p = record { opened = p.opened; checking = is_there p.checker }
 
 -- What telling entries over global variables returns and leaves. Names and variables stay also after an error.
 abbrev pub TellsGlobally : TracerState → List Entry → Result (Unit {0}) TraceError → TracerState → Type 0

@@ -6,7 +6,7 @@ ghost use Rattle.varisat_names.specs.Variables.{no_variables};
 ghost use Rattle.varisat_tracer.specs.Carried.{carry, variable_or_first};
 ghost use Rattle.varisat_theory.specs.Journals.{Accepts, Assumes};
 ghost use Rattle.varisat_proof.specs.Proving.{HasRoom, IsUsable, IsTold};
-ghost use Rattle.varisat_tracer.specs.Tracing.{global_literal, parts_of, TellsGlobally, leaves_if_deleted};
+ghost use Rattle.varisat_tracer.specs.Tracing.{global_literal, parts_of, open_parts, TellsGlobally, leaves_if_deleted};
 
 use std::alloc::{AllocError, Allocator};
 use varisat_formula::io::ProofTarget;
@@ -112,7 +112,7 @@ impl<W: ProofTarget, A: Allocator + Copy> SolverTracer<W, A> {
         requires { global < length self.old.variables.kept }
         ensures variables { self.new.variables ≡ self.old.variables }
         ensures told { IsTold self.old.proof (leaves_if_deleted self.old.variables global) self.new.proof }
-        ensures opened { self.new.proof.opened ≡ self.old.proof.opened }
+        ensures opened { open_parts self.new.proof ≡ open_parts self.old.proof }
     {
         if self.variables.var_data_global(global).deleted {
             delete_var(&mut self.proof, global);

@@ -1,6 +1,6 @@
 //! What marked lines tell beside the clauses that are present.
 ghost use Rattle.std.specs.Prelude.{◌≡◌, List, ◌∷◌, [], ◌++◌, length, ◌↔◌, IsTrue, OnOk, IfOk};
-ghost use Rattle.varisat_theory.specs.Membership.{◌⊆◌};
+ghost use Rattle.varisat_theory.specs.Membership.{◌⊆◌, SameSet};
 ghost use Rattle.varisat_formula.specs.Formulas.{with_one_more};
 ghost use Rattle.varisat_proof.specs.Calls.{core_lists};
 ghost use Rattle.varisat_proof.specs.Marked.{nothing_told};
@@ -10,7 +10,8 @@ use std::alloc::{AllocError, Allocator};
 use std::marker::Model;
 use varisat_formula::formula::CnfFormula;
 use varisat_literals::Lit;
-use varisat_present::clause::is_part;
+use varisat_present::Known;
+use varisat_present::sets::{are_marked, mark_all};
 
 /// What a marked proof is, and what its lines gave.
 #[derive(Drop)]
@@ -28,17 +29,38 @@ pub struct MarkedReport<A: Allocator + Copy> {
 pub struct ReportBuilder<A: Allocator + Copy> {
     alloc: A,
     assumed: Vec<Lit, A>,
+    /// The literals of `assumed`, each once, so that one is found without a look at all.
+    marks: Known<A>,
     inputs: CnfFormula<A>,
     cores: Vec<(usize, Vec<Lit, A>), A>,
 }
 
 impl<A: Allocator + Copy> Model for ReportBuilder<A> {
+    ghost use Rattle.varisat_theory.specs.Membership.{SameSet};
     ghost use Rattle.varisat_proof.specs.Marked.{MarkedTold};
     ghost use Rattle.varisat_proof.specs.Calls.{core_lists};
 
     ghost Value = { MarkedTold };
 
     ghost view = { λ j. record { assumed = j.assumed.items; inputs = j.inputs; cores = core_lists j.cores.items } };
+
+    ghost invariant = { λ j. SameSet j.marks j.assumed.items };
+}
+
+/// Lists the literals and marks them, where none is listed or marked.
+fn list_all<A: Allocator + Copy>(
+    assumed: &mut Vec<Lit, A>,
+    marks: &mut Known<A>,
+    literals: &[Lit],
+) -> Result<(), AllocError>
+    requires assumed { assumed.old.items ≡ [] }
+    requires marks { marks.old ≡ [] }
+    ensures listed { OnOk result (assumed.new.items ≡ literals.now) }
+    ensures marked { OnOk result (SameSet marks.new literals.now) }
+{
+    assumed.extend_from_slice(literals)?;
+    mark_all(marks, literals)?;
+    Ok(())
 }
 
 impl<A: Allocator + Copy> ReportBuilder<A> {
@@ -49,6 +71,7 @@ impl<A: Allocator + Copy> ReportBuilder<A> {
         ReportBuilder {
             alloc,
             assumed: Vec::new(alloc),
+            marks: Known::new_in(alloc),
             inputs: CnfFormula::new_in(alloc),
             cores: Vec::new(alloc),
         }
@@ -58,7 +81,7 @@ impl<A: Allocator + Copy> ReportBuilder<A> {
     pub fn assumes(&self, literals: &[Lit]) -> bool
         ensures { IsTrue result ↔ (literals.now ⊆ self.now.assumed) }
     {
-        is_part(literals, &self.assumed)
+        are_marked(&self.marks, literals)
     }
 
     /// A clause is given.
@@ -76,8 +99,15 @@ impl<A: Allocator + Copy> ReportBuilder<A> {
         ensures { OnOk result (self.new ≡ record self.old { assumed = literals.now }) }
     {
         self.assumed.clear();
-        self.assumed.extend_from_slice(literals)?;
-        Ok(())
+        self.marks.cut(0);
+        match list_all(&mut self.assumed, &mut self.marks, literals) {
+            Ok(()) => Ok(()),
+            Err(error) => {
+                self.assumed.clear();
+                self.marks.cut(0);
+                Err(error)
+            }
+        }
     }
 
     /// A core is reported.

@@ -1,6 +1,6 @@
 //! The formats of proofs, and the kinds of their lines.
 ghost use Rattle.std.specs.Prelude.{◌≡◌, Option};
-ghost use Rattle.varisat_proof.specs.Lines.{encoding_of, plain_encoding, letter_kind};
+ghost use Rattle.varisat_proof.specs.Lines.{encoding_of, plain_encoding, has_marks, letter_kind};
 
 /// How the lines of a proof are written.
 #[derive(Clone, Copy, Debug, PartialEq, Eq)]
@@ -41,6 +41,16 @@ impl ProofFormat {
         match self {
             ProofFormat::Drat | ProofFormat::Marked => Encoding::Text { marked: false },
             ProofFormat::BinaryDrat => Encoding::Binary,
+        }
+    }
+
+    /// Whether it also has lines for what was given: clauses, assumptions and cores.
+    pub fn has_marks(self) -> bool
+        ensures { result ≡ has_marks self }
+    {
+        match self {
+            ProofFormat::Drat | ProofFormat::BinaryDrat => false,
+            ProofFormat::Marked => true,
         }
     }
 }

@@ -9,7 +9,7 @@ ghost use Rattle.varisat_proof.specs.Lines.{encoding_of, line_of_kind};
 ghost use Rattle.varisat_proof.specs.Steps.{PutsLines};
 ghost use Rattle.varisat_proof.specs.Telling.{marked_line, lines_told};
 ghost use Rattle.varisat_proof.specs.Present.{IsLeftAfter};
-ghost use Rattle.varisat_proof.specs.Proving.{is_telling, is_searched, marked_searched, WritesLines, told, Tells, Flushes, HasRoom, MayHold, IsUsable, IsCheckedIf, IsTold, IsSpent, IsClosed};
+ghost use Rattle.varisat_proof.specs.Proving.{is_telling, bars_clauses, bars_assumptions, marked_searched, WritesLines, told, Tells, Flushes, HasRoom, MayHold, IsUsable, IsCheckedIf, IsTold, IsSpent, IsClosed};
 
 use crate::checker::{Checker, CheckerError};
 use crate::proof::format::{LineKind, ProofFormat};
@@ -124,7 +124,7 @@ fn check_step_if<A: Allocator + Copy>(
     requires right { CanTakeStep (MayHold checker.old) step.now }
     ensures taken { OnOk result (IsCheckedIf checker.old (entries_of step.now) checker.new) }
     ensures right { IfErr result (λ e. e ≡ OutOfMemory) }
-    ensures spent { IfErr result (λ e. IsSpent checker.new) }
+    ensures spent { IfErr result (λ e. IsSpent checker.old checker.new) }
 {
     let Some(checker) = checker else {
         return Ok(());
@@ -140,7 +140,7 @@ fn keep_clause_if<A: Allocator + Copy>(
     requires usable { IsUsable checker.old }
     ensures taken { OnOk result (IsCheckedIf checker.old (Accepts clause.now ∷ []) checker.new) }
     ensures right { IfErr result (λ e. e ≡ OutOfMemory) }
-    ensures spent { IfErr result (λ e. IsSpent checker.new) }
+    ensures spent { IfErr result (λ e. IsSpent checker.old checker.new) }
 {
     let Some(checker) = checker else {
         return Ok(());
@@ -214,12 +214,23 @@ impl<W: ProofTarget, A: Allocator + Copy> Proof<W, A> {
         self.open.is_some()
     }
 
-    /// Whether a proof is open under which a search ran.
-    pub fn is_searched(&self) -> bool
-        ensures { result ≡ is_searched self.now.opened }
+    /// Whether further clauses would be no part of the proof: one is open under which a search ran, and its format has no
+    /// lines for them.
+    pub fn bars_clauses(&self) -> bool
+        ensures { result ≡ bars_clauses self.now.opened }
     {
         match &self.open {
-            Some(open) => open.searched,
+            Some(open) => open.searched && !open.format.has_marks(),
+            None => false,
+        }
+    }
+
+    /// Whether assumptions would be no part of the proof: one is open, and its format has no lines for them.
+    pub fn bars_assumptions(&self) -> bool
+        ensures { result ≡ bars_assumptions self.now.opened }
+    {
+        match &self.open {
+            Some(open) => !open.format.has_marks(),
             None => false,
         }
     }

@@ -11,7 +11,7 @@ returns-clause-right g c = right-step c.args.checker.now c.in-Some.checker c.che
 
 pub returns-clause-spent : goal.returns-clause-spent
 returns-clause-spent g c =
-    spent-step c.in-Some.checker c.check_step.new.self c.args.step.now c.check_step.result
+    spent-step c.args.checker.now c.in-Some.checker c.check_step.new.self c.args.step.now c.check_step.result c.in-Some.is
     (right-step c.args.checker.now c.in-Some.checker c.check_step.new.self c.args.step.now c.check_step.result c.in-Some.is c.requires.usable
     c.requires.right c.check_step.ensures)
     c.check_step.ensures

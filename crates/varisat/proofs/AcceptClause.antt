@@ -24,7 +24,8 @@ use Rattle.varisat_names.specs.VarData.{fresh, kept_at}
 use Rattle.varisat_names.specs.Variables.{Tables, IsGiven, AreNextGiven, IsNamed, InUse, Free, Above, IsTaken}
 use Rattle.varisat_names.proofs.Maps.{updated-at, updated-other, updated-all, chain-some, chain-none, is-some}
 use Rattle.varisat_names.proofs.VarMap.{at-inside}
-use Rattle.varisat.specs.States.{State, with_variables, Ledger, join_counted, Verdict, Unknown, Sat, Unsat, UnsatUnderAssumptions, IsRight}
+use Rattle.varisat_prop.proofs.DistinctPlaces.{distinct-below}
+use Rattle.varisat.specs.States.{State, with_variables, with_words, Ledger, join_counted, Verdict, Unknown, Sat, Unsat, UnsatUnderAssumptions, IsRight}
 use Rattle.varisat.specs.Names.{Naming, bring, bring_next, bring_if_free, name_one, through_names}
 use Rattle.varisat.specs.Calls.{with_naming, VerdictAfter, Refuted, Reopened, append_clause, reopened_verdict, with_verdict}
 use Rattle.varisat.specs.Carried.{carry, value_or}
@@ -220,6 +221,30 @@ proof-free w p s proof k =
       told = k.told;
       checked = k.checked;
     })
+
+-- nor does the size of the clause store
+pub words-free : (w : Carrying) (p : Spaces) (s : State) (words : ℕ) → Links w p s → Links w p (with_words words s)
+words-free w p s words k =
+    relinked w p p s (with_words words s) k
+    (record {
+      solvers = k.solvers;
+      holds = k.holds;
+      assumptions = k.assumptions;
+      working = k.working;
+      verdict = k.verdict;
+      core = k.core;
+      right = k.right;
+      few = k.few;
+      told = k.told;
+      checked = k.checked;
+    })
+
+-- the search has no more variables than identities were made
+pub few-made : (w : Carrying) (p : Spaces) (s : State) → Links w p s → p.var_count ≤ s.naming.made
+few-made w p s k =
+    let a = k.few in
+    let b = distinct-below s.counted s.naming.made k.well_formed.once k.well_formed.counted in
+    omega (arith, a, b)
 
 -- the names of a clause that are in use are counted with it
 pub counted-spaces : (g : Summary) (s : State) (d : Clause) → SpacesFit (spaces g) s →

@@ -32,7 +32,7 @@ use Rattle.varisat.proofs.SpacesAgree.{map-map, holds-same, isolation-same, mark
 use Rattle.varisat.proofs.Carried.{carry-at, carry-sign, carry-opposite, map-empty, satisfied-carried, forced-value, wide-back}
 use Rattle.varisat.proofs.AcceptSolverVariables.{one-literal}
 use Rattle.varisat.proofs.ReachedHeld.{told_lines, with_told, IsInUse, lines-lead, shares-after, shares-joined, told-quiet, counted-literal}
-use Rattle.varisat.proofs.ToldEntries.{told-written, told-accepted, told-assumed, spoken-renamed}
+use Rattle.varisat.proofs.ToldEntries.{written-derived, told-written, told-accepted, told-assumed, spoken-renamed}
 use Rattle.varisat_proof.specs.Calls.{CheckerState}
 use Rattle.varisat_proof.specs.Proving.{IsCheckedIf}
 use Rattle.varisat.proofs.CheckedHeld.{checker-on, checker-still, told-carried, global-carried}
@@ -100,6 +100,14 @@ module _ (w : Carrying) (p : Spaces) (s : State) (d : Clause) (k : Links w p s) 
   unfolding e
   of-clause m h = let (l, a, q) = map-∈ (solver_literal p) m d h in let z = where-to l a in
       (z.i, ap (λ y. r.identity (variable_of y)) q ∙ ap r.identity z.solver ∙ z.there)
+
+  -- and of it over identities
+  counted-clause : (l : Literal) → l ∈ c → IsCounted s.counted l
+  unfolding c
+  counted-clause l h =
+      let (m, a, q) = map-∈ (through_names s.naming) l d h in
+      let z = where-to m a in
+      subst (λ i. i ∈ s.counted) (sym (ap variable_of q ∙ carry-at s.naming.names m z.i z.name)) z.known
 
   -- what is carried to one literal is one literal
   one-carried : (m n : Literal) (i : ℕ) → r.identity (variable_of m) ≡ Some i → (j : ℕ) → r.identity (variable_of n) ≡ Some j →
@@ -250,7 +258,7 @@ module _ (w : Carrying) (p : Spaces) (s : State) (d : Clause) (k : Links w p s) 
             (∈-or_not i (map variable_of (map (through_names s.naming) d)))
         go (Forced b e) = Forced b e
 
-    stands : (told : List Entry) → IsTold told (s.clauses ++ c ∷ []) s.counted s.ever_hidden (IsGone w s) →
+    stands : (told : List Entry) → IsTold told (s.clauses ++ c ∷ []) s.assumptions s.counted s.ever_hidden (IsGone w s) →
         (t : Search) (v : Outcome) (m : ℕ → Bool) (checker : Option CheckerState) (x : Verdict) →
         (without_core v ≢ outcome.Unsat → CheckerFits w.global told checker) →
         SearchHolds (s.clauses ++ c ∷ []) (with_told told r) t (without_core v) → VerdictFits w.identity m v x →
@@ -360,6 +368,7 @@ module _ (w : Carrying) (p : Spaces) (s : State) (d : Clause) (k : Links w p s) 
           record { entries = ls; joined = refl; goes = goes-more h t v lines loads long in-use },
           written_stays
               (map (rename_line (carry (translation w p s.told).identity)) lines),
+          written-derived (map (rename_line (carry (translation w p s.told).identity)) lines),
         ) in
         let told-as = clause-told-as lines loads.speaks in
         let to = (translation w p s.told).identity in
@@ -370,8 +379,8 @@ module _ (w : Carrying) (p : Spaces) (s : State) (d : Clause) (k : Links w p s) 
               counted-literal w p s k l i b
         ]) loads.speaks in
         let is-told = told-written (s.told ++ Accepts (map (through_names s.naming) d) ∷ [])
-        (s.clauses ++ map (through_names s.naming) d ∷ []) s.counted s.ever_hidden (map (rename_line (carry to)) lines) spoken
-        (told-accepted s.told s.clauses s.counted s.ever_hidden (map (through_names s.naming) d) k.told) in
+        (s.clauses ++ map (through_names s.naming) d ∷ []) s.assumptions s.counted s.ever_hidden (map (rename_line (carry to)) lines) spoken
+        (told-accepted s.told s.clauses s.assumptions s.counted s.ever_hidden (map (through_names s.naming) d) counted-clause k.told) in
         let follows = clause-checked checker lines checks o loads.speaks in
         ⊎_elim
         (λ (q, u). let none = refuted (s.clauses ++ map (through_names s.naming) d ∷ []) after' t
@@ -396,6 +405,13 @@ module _ (w : Carrying) (p : Spaces) (s : State) (d : Clause) (k : Links w p s) 
               (subst (λ y. VerdictFits w.identity m y Unknown) (sym u) tt) tt tt,
         ))
         loads.verdict
+
+  -- what a proof is told of the list
+  pub list-carried : map (carry s.variables) (map (through_names s.naming) d) ≡ map (global.carry p.global_from_solver) (map (solver_literal p) d)
+  unfolding c e r
+  list-carried = ap (map (carry s.variables)) (sym same-clause)
+      ∙ map-map (carry s.variables) (carry (translation w p s.told).identity) (global.carry p.global_from_solver) (map (solver_literal p) d)
+      (λ l i. global-carried w p s k s.variables k.variables l (of-clause l i))
 
   -- The list is assumed, of which the search has the literals. No verdict on the assumptions before is left.
   module _ (after : ℕ → VarData) (marks : IsMarkedFor p d after) where
@@ -442,6 +458,6 @@ module _ (w : Carrying) (p : Spaces) (s : State) (d : Clause) (k : Links w p s) 
               (λ q. subst (IsRight s.clauses (map (through_names s.naming) d) s.counted) (sym q) (subst (IsRight s.clauses s.assumptions s.counted) q k.right))
               cases;
           few = k.few;
-          told = told-assumed s.told s.clauses s.counted s.ever_hidden (map (through_names s.naming) d) k.told;
+          told = told-assumed s.told s.clauses s.assumptions s.counted s.ever_hidden (map (through_names s.naming) d) counted-clause k.told;
           checked = λ n. checker-still w.global s.told (map (through_names s.naming) d) p.checker (k.checked n);
         })

@@ -23,7 +23,8 @@ use Rattle.varisat.specs.Spaces.{Carrying, MarksFit, Links, SpacesFit}
 use Rattle.varisat.specs.Summaries.{Summary, spaces, spaces_of}
 use Rattle.varisat.specs.Accepting.{HasSolver, AreMarked}
 use Rattle.varisat.proofs.SpacesMoves.{IsMarkedFor, count, solver_literal}
-use Rattle.varisat.proofs.AcceptLoad.{assumed}
+use Rattle.varisat_tracer.specs.Carried as global
+use Rattle.varisat.proofs.AcceptLoad.{list-carried, assumed}
 use Rattle.varisat.proofs.AcceptClause.{raised}
 use Rattle.varisat.proofs.SolveVerdict.{forgotten, spaces-same}
 
@@ -94,6 +95,15 @@ pub record Assuming (g : Summary) (list : List Literal) (cleared marked : Tables
   pub same_count : length new.values ≡ length g.search.values
   pub parts_are : parts ≡ newly_assumed list (map (carry (chain (at g.tables.users.forward) (at g.tables.solvers.forward))) list)
   pub verdict : after ≡ assumed_state g.sat_state
+
+-- a proof is told of it over global variables
+pub list-told : (g : Summary) (n : State) (list : List Literal) (cleared marked : Tables) (new : View) (parts : AssumptionParts)
+    (after : SatState) → Assuming g list cleared marked new parts after →
+    SpacesFit (spaces g) (count (join_counted n.counted (map variable_of (map (through_names n.naming) list))) n) →
+    map (carry n.variables) (map (through_names n.naming) list) ≡ map (global.carry (at g.tables.solvers.backward))
+    (map (carry (chain (at g.tables.users.forward) (at g.tables.solvers.forward))) list)
+list-told g n list cleared marked new parts after t (w, k) =
+    list-carried w (spaces g) (count (join_counted n.counted (map variable_of (map (through_names n.naming) list))) n) list k t.all
 
 -- the identities of the list are counted before it is assumed
 pub list-assumed : (g : Summary) (n : State) (list : List Literal) (cleared marked : Tables) (new : View) (parts : AssumptionParts)

@@ -1,17 +1,19 @@
 -- States after a call that changed nothing more, and after one that ran out of memory.
-use Rattle.std.proofs.Common.{◌≡◌, ◌∙◌, ◌+◌, ◌-◌, ◌≤◌, arith, ℕ, Bool, true, false, Option, Some, None, List, Err, refl, sym, ap}
-use Rattle.varisat_theory.specs.Literals.{Clause}
+use Rattle.std.proofs.Common.{◌≡◌, ◌≢◌, ◌∙◌, ◌+◌, ◌-◌, ◌≤◌, arith, ℕ, Bool, true, false, Option, Some, None, List, Err, refl, sym, ap, subst}
+use Rattle.varisat_theory.specs.Literals.{Literal, Clause}
 use Rattle.varisat_search.specs.declared.error.StepError.{StepError}
 use Rattle.varisat_search.specs.declared.error.StepError.TheVariants as step
 use Rattle.varisat_names.specs.Settings.{Settings}
-use Rattle.varisat.specs.States.{State, with_variables, Ledger, IsWellFormed, FlagsFit, Unknown}
+use Rattle.varisat.specs.States.{State, with_variables, with_words, Ledger, IsWellFormed, FlagsFit, Unknown}
 use Rattle.varisat_search.specs.StepErrors.{step_faults}
 use Rattle.varisat.specs.Refusals.{step_refusal}
-use Rattle.varisat.specs.Calls.{IsLikeButLeft, IsLike, IsValid, Invalidates, MayConstrain, IsExtensible, AddsClause, CountsCall, Searches, with_steps}
+use Rattle.varisat.specs.Calls.{IsLikeButLeft, IsLike, IsValid, Invalidates, IsFull, MayConstrain, IsExtensible, AddsClause, CountsCall, Searches, with_steps, Assumes}
 use Rattle.varisat_theory.specs.Journals.{Entry}
-use Rattle.varisat.specs.Journals.{TellsMore, TellsStaying}
-use Rattle.varisat.specs.OpenProofs.{OpenProof, IsOpen, lines_over, GoesOnWriting, ProofFits}
-use Rattle.varisat.proofs.OpenProofs.{goes-on-none, open-before}
+use Rattle.varisat.specs.Journals.{TellsMore, TellsStaying, AreDerived}
+use Rattle.varisat.specs.Names.{name_all}
+use Rattle.varisat.specs.OpenProofs.{OpenProof, IsOpen, lines_over, GoesOnWriting, GoesOnFailing, ProofFits, BarsAssumptions}
+use Rattle.varisat.proofs.OpenProofs.{goes-on-none, goes-on-unfailed, barred-before}
+use Rattle.varisat_proof.specs.Assumed.{lists_of}
 use Rattle.varisat.proofs.ToldEntries.{stays-nothing}
 use Rattle.varisat.specs.Spaces.{SpacesFit}
 use Rattle.varisat.specs.Summaries.{Summary, spaces, StandsFor}
@@ -27,14 +29,15 @@ like-refl s = record {
   ledger = refl;
   told =
       (stays-nothing s.told).0;
+  derived = (stays-nothing s.told).2;
   stays = λ _. (stays-nothing s.told).1;
   alike = refl;
   proof = goes-on-none s.proof;
 }
 
--- the same, but that an open proof has further bytes
-pub like-grown : (s : State) (proof : Option OpenProof) → GoesOnWriting s.proof proof → IsLike s (record s { proof = proof })
-like-grown s proof g = record {
+-- the same, but that an open proof has further bytes, and the clause store another size
+pub like-grown : (s : State) (proof : Option OpenProof) (words : ℕ) → GoesOnWriting s.proof proof → IsLike s (record s { proof = proof; words = words })
+like-grown s proof words g = record {
   naming = refl;
   ever_hidden = refl;
   clauses = refl;
@@ -44,15 +47,16 @@ like-grown s proof g = record {
   ledger =
       refl;
   told = (stays-nothing s.told).0;
+  derived = (stays-nothing s.told).2;
   stays = λ _. (stays-nothing s.told).1;
   alike = refl;
   proof = g;
 }
 
 -- the same, but that identities have other variables than before, as which no line was written
-pub like-varied : (s : State) (variables : ℕ → Option ℕ) → lines_over variables s.told ≡ lines_over s.variables s.told →
-    IsLike s (with_variables variables s)
-like-varied s variables same = record {
+pub like-varied : (s : State) (variables : ℕ → Option ℕ) (words : ℕ) → lines_over variables s.told ≡ lines_over s.variables s.told →
+    IsLike s (with_words words (with_variables variables s))
+like-varied s variables words same = record {
   naming = refl;
   ever_hidden = refl;
   clauses = refl;
@@ -61,16 +65,17 @@ like-varied s variables same = record {
   verdict = refl;
   ledger = refl;
   told = (stays-nothing s.told).0;
+  derived = (stays-nothing s.told).2;
   stays = λ _. (stays-nothing s.told).1;
   alike = same;
   proof = goes-on-none s.proof;
 }
 
 -- and that more was told, and an open proof has further bytes
-pub like-told : (s : State) (told : List Entry) (variables : ℕ → Option ℕ) (proof : Option OpenProof) → TellsStaying 0 s.told told →
+pub like-told : (s : State) (told : List Entry) (variables : ℕ → Option ℕ) (proof : Option OpenProof) (words : ℕ) → TellsStaying 0 s.told told →
     lines_over variables s.told ≡ lines_over s.variables s.told → GoesOnWriting s.proof proof →
-    IsLike s (record s { told = told; variables = variables; proof = proof })
-like-told s told variables proof (m, n) same g = record {
+    IsLike s (record s { told = told; variables = variables; proof = proof; words = words })
+like-told s told variables proof words (m, n, d) same g = record {
   naming = refl;
   ever_hidden = refl;
   clauses = refl;
@@ -79,16 +84,17 @@ like-told s told variables proof (m, n) same g = record {
   verdict = refl;
   ledger = refl;
   told = m;
+  derived = d;
   stays = λ _. n;
   alike = same;
   proof = g;
 }
 
 -- so it is where variables may have left
-pub like-retold : (s : State) (told : List Entry) (variables : ℕ → Option ℕ) (proof : Option OpenProof) → TellsMore 0 s.told told →
-    lines_over variables s.told ≡ lines_over s.variables s.told → GoesOnWriting s.proof proof →
+pub like-retold : (s : State) (told : List Entry) (variables : ℕ → Option ℕ) (proof : Option OpenProof) → (m : TellsMore 0 s.told told) →
+    AreDerived m.entries → lines_over variables s.told ≡ lines_over s.variables s.told → GoesOnWriting s.proof proof →
     IsLikeButLeft true s (record s { told = told; variables = variables; proof = proof })
-like-retold s told variables proof m same g = record {
+like-retold s told variables proof m d same g = record {
   naming = refl;
   ever_hidden = refl;
   clauses = refl;
@@ -97,20 +103,22 @@ like-retold s told variables proof m same g = record {
   verdict = refl;
   ledger = refl;
   told = m;
+  derived = d;
   stays = λ e. absurd (let z : true ≡ false = e in cc);
   alike = same;
   proof = g;
 }
 
 -- a ledger by what it tells
-abbrev pub ledger_of : Bool → Bool → ℕ → ℕ → Settings → Ledger
-ledger_of v b n k c = record { valid = v; started = b; steps = n; since = k; settings = c }
+abbrev pub ledger_of : Bool → Bool → ℕ → ℕ → Settings → Bool → Ledger
+ledger_of v b n k c r = record { valid = v; started = b; steps = n; since = k; settings = c; checking = r }
 
-pub ledger-is : (l : Ledger) (v b : Bool) (n k : ℕ) (c : Settings) → l.valid ≡ v → l.started ≡ b → l.steps ≡ n → l.since ≡ k → l.settings ≡ c →
-    l ≡ ledger_of v b n k c
-ledger-is l v b n k c d e f h g =
-    ap (λ x. ledger_of x l.started l.steps l.since l.settings) d ∙ ap (λ x. ledger_of v x l.steps l.since l.settings) e
-    ∙ ap (λ x. ledger_of v b x l.since l.settings) f ∙ ap (λ x. ledger_of v b n x l.settings) h ∙ ap (λ x. ledger_of v b n k x) g
+pub ledger-is : (l : Ledger) (v b : Bool) (n k : ℕ) (c : Settings) (r : Bool) → l.valid ≡ v → l.started ≡ b → l.steps ≡ n → l.since ≡ k →
+    l.settings ≡ c → l.checking ≡ r → l ≡ ledger_of v b n k c r
+ledger-is l v b n k c r d e f h g i =
+    ap (λ x. ledger_of x l.started l.steps l.since l.settings l.checking) d ∙ ap (λ x. ledger_of v x l.steps l.since l.settings l.checking) e
+    ∙ ap (λ x. ledger_of v b x l.since l.settings l.checking) f ∙ ap (λ x. ledger_of v b n x l.settings l.checking) h
+    ∙ ap (λ x. ledger_of v b n k x l.checking) g ∙ ap (λ x. ledger_of v b n k c x) i
 
 -- where steps are counted anew, none was made since
 pub none-since : (changed_at steps : ℕ) → changed_at ≡ steps → 0 ≡ steps - changed_at
@@ -132,24 +140,31 @@ same-since changed_at before after since e h = omega (arith, e, h)
 pub stands-valid : (g : Summary) (s : State) → StandsFor g s → g.ledger.valid ≡ true → IsValid s
 stands-valid g s st v = ap (λ x. x.valid) st.ledger ∙ v
 
+-- its proof fits what is known of it
+pub proof-fits : {g : Summary} {s : State} → StandsFor g s → g.ledger.valid ≡ true → ProofFits g.opened s.variables s.told s.proof
+proof-fits st v = record { same = st.same; written = st.written v }
+
 -- What is known as a call begins on a solver that is valid.
 pub record Begins (g : Summary) (s : State) : Type 0 where
   pub valid : IsValid s
   pub ledger : s.ledger ≡ g.ledger
+  pub words : s.words ≡ g.words
   pub fits : SpacesFit (spaces g) s
   pub proof : ProofFits g.opened s.variables s.told s.proof
   pub flags : FlagsFit s
 
 pub begins : {g : Summary} {s : State} → StandsFor g s → g.ledger.valid ≡ true → Begins g s
-begins {g} {s} st v = record { valid = stands-valid g s st v; ledger = st.ledger; fits = st.fits v; proof = st.proof v; flags = st.flags v }
+begins {g} {s} st v = record { valid = stands-valid g s st v; ledger = st.ledger; words = st.words; fits = st.fits v; proof = proof-fits st v; flags = st.flags v }
 
--- What two flags say of a state, they say of one with the same clauses and assumptions, in which no other proof is open.
+-- What two flags say of a state, they say of one with the same clauses and assumptions, to which nothing more was told, and whose
+-- proof bars no other assumptions.
 pub flags-alike : (s t : State) → FlagsFit s → t.ledger.started ≡ s.ledger.started → t.clauses ≡ s.clauses → t.assumptions ≡ s.assumptions →
-    t.counted ≡ s.counted → (IsOpen t.proof → IsOpen s.proof) → FlagsFit t
-flags-alike s t f b p a c o = record {
+    t.counted ≡ s.counted → t.told ≡ s.told → (BarsAssumptions t.proof → BarsAssumptions s.proof) → FlagsFit t
+flags-alike s t f b p a c n o = record {
   clauses = λ e. p ∙ f.clauses (sym b ∙ e);
   assumptions = λ e. a ∙ f.assumptions (sym b ∙ e);
   counted = λ e. c ∙ f.counted (sym b ∙ e);
+  unlisted = λ e. ap lists_of n ∙ f.unlisted (sym b ∙ e);
   unassumed = λ h. a ∙ f.unassumed (o h);
 }
 
@@ -159,21 +174,23 @@ flags-started s t f b a g = record {
   clauses = λ e. absurd (let z : true ≡ false = sym b ∙ e in cc);
   assumptions = λ e. absurd (let z : true ≡ false = sym b ∙ e in cc);
   counted = λ e. absurd (let z : true ≡ false = sym b ∙ e in cc);
-  unassumed = λ h. a ∙ f.unassumed (open-before s.proof t.proof g h);
+  unlisted = λ e. absurd (let z : true ≡ false = sym b ∙ e in cc);
+  unassumed = λ h. a ∙ f.unassumed (barred-before s.proof t.proof g h);
 }
 
--- a list was assumed, where no proof is open
-pub flags-assumed : (t : State) → t.ledger.started ≡ true → t.proof ≡ None → FlagsFit t
+-- a list was assumed, where no open proof bars it
+pub flags-assumed : (t : State) → t.ledger.started ≡ true → (BarsAssumptions t.proof → ⊥) → FlagsFit t
 flags-assumed t b n = record {
   clauses = λ e. absurd (let z : true ≡ false = sym b ∙ e in cc);
   assumptions = λ e. absurd (let z : true ≡ false = sym b ∙ e in cc);
   counted = λ e. absurd (let z : true ≡ false = sym b ∙ e in cc);
-  unassumed = λ (p, e). let z : None ≡ Some p = sym n ∙ e in absurd cc;
+  unlisted = λ e. absurd (let z : true ≡ false = sym b ∙ e in cc);
+  unassumed = λ h. absurd (n h);
 }
 
--- the state, with the verdict, the flags, what was told and the open proof of another
+-- the state, with the verdict, the flags, what was told, the open proof and the words of another
 abbrev pub told_as : State → State → State
-told_as t s = record s { verdict = t.verdict; ledger = t.ledger; told = t.told; proof = t.proof }
+told_as t s = record s { verdict = t.verdict; ledger = t.ledger; told = t.told; proof = t.proof; words = t.words }
 
 pub told-well : (s t : State) → IsWellFormed s → IsWellFormed (told_as t s)
 told-well s t w = record {
@@ -187,23 +204,36 @@ told-well s t w = record {
   once = w.once;
 }
 
--- the state, made invalid
-abbrev pub broken : State → State
-broken s = record s { ledger = record s.ledger { valid = false } }
+-- the state, made invalid, with its open proof and the words of the clause store as they are then
+abbrev pub broken : Option OpenProof → ℕ → State → State
+broken proof words s = record s { ledger = record s.ledger { valid = false }; proof = proof; words = words }
 
-pub broken-invalid : (s : State) → s.ledger.valid ≡ true → IsWellFormed s → Invalidates s (broken s)
-broken-invalid s v w = record { valid = v; ledger = refl; well_formed = told-well s (broken s) w }
+pub broken-invalid : (faults : ℕ) (s : State) (proof : Option OpenProof) (words : ℕ) → s.ledger.valid ≡ true → GoesOnFailing faults s.proof proof →
+    IsWellFormed s → Invalidates faults s (broken proof words s)
+broken-invalid faults s proof words v o w = record { valid = v; ledger = refl; proof = o; well_formed = told-well s (broken proof words s) w }
+
+-- so it is where memory ran out before the proof was told anything
+pub broken-untold : (s : State) (words : ℕ) → s.ledger.valid ≡ true → IsWellFormed s → Invalidates 0 s (broken s.proof words s)
+broken-untold s words v w = broken-invalid 0 s s.proof words v (goes-on-unfailed s.proof) w
 
 -- a clause could not be kept
 pub adds-broken : (e : StepError) (s t : State) (d : Clause) → (step_faults e ≡ 1 → IsOpen s.proof) → IsExtensible s → MayConstrain s.naming d →
-    Invalidates s t → AddsClause s d (Err (step_refusal e)) t
-adds-broken step.Full s t d o n l i = (n, l, i)
-adds-broken step.Memory s t d o n l i = (n, l, i)
-adds-broken (step.Target cause) s t d o n l i = (o refl, n, l, i)
+    Invalidates (step_faults e) s t → (e ≡ step.Full → IsFull (name_all d s.naming).made t) → AddsClause s d (Err (step_refusal e)) t
+adds-broken step.Full s t d o n l i f = (n, l, i, f refl)
+adds-broken step.Memory s t d o n l i f = (n, l, i)
+adds-broken (step.Target cause) s t d o n l i f = (o refl, n, l, i)
+
+-- a list could not be kept; the clause store is not asked for room
+pub assumes-broken : (e : StepError) (s t : State) (list : List Literal) → e ≢ step.Full → (step_faults e ≡ 1 → IsOpen s.proof) →
+    (BarsAssumptions s.proof → ⊥) → MayConstrain s.naming list → Invalidates (step_faults e) s t → Assumes s list (Err (step_refusal e)) t
+assumes-broken step.Full s t list n o b l i = absurd (n refl)
+assumes-broken step.Memory s t list n o b l i = (b, l, i)
+assumes-broken (step.Target cause) s t list n o b l i = (o refl, b, l, i)
 
 -- so it is where a step came to no end
 pub searches-broken : (e : StepError) (s t : State) → (step_faults e ≡ 1 → IsOpen s.proof) → s.verdict ≡ Unknown →
-    CountsCall s (Err (step_refusal e)) t → Invalidates (with_steps t.ledger.steps s) t → Searches s (Err (step_refusal e)) t
-searches-broken step.Full s t o u c i = (u, c, i)
-searches-broken step.Memory s t o u c i = (u, c, i)
-searches-broken (step.Target cause) s t o u c i = (o refl, u, c, i)
+    CountsCall s (Err (step_refusal e)) t → Invalidates (step_faults e) (with_steps t.ledger.steps s) t →
+    (e ≡ step.Full → IsFull s.naming.made t) → Searches s (Err (step_refusal e)) t
+searches-broken step.Full s t o u c i f = (u, c, i, f refl)
+searches-broken step.Memory s t o u c i f = (u, c, i)
+searches-broken (step.Target cause) s t o u c i f = (o refl, u, c, i)

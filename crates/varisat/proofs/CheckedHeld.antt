@@ -91,6 +91,12 @@ checked-nothing None k' e = e
 checked-nothing (Some a) None e = absurd e
 checked-nothing (Some a) (Some b) (c, u) = ap₂ (λ (cs : List Clause) (s : Bool). Some (record { clauses = cs; spent = s })) (sym c) u
 
+-- nor does a list of assumptions change it
+pub checked-assumed : (k k' : Option CheckerState) (a : List Literal) → IsCheckedIf k (Assumes a ∷ []) k' → k' ≡ k
+checked-assumed None k' a e = e
+checked-assumed (Some x) None a e = absurd e
+checked-assumed (Some x) (Some y) a (c, u) = checked-nothing (Some x) (Some y) (c, u)
+
 -- Other names for the variables make no difference where they agree on what is held.
 pub checker-alike : (f g : ℕ → Option ℕ) (told : List Entry) (k : Option CheckerState) →
     ((held : List Clause) → Leads [] told held → (c : Clause) (l : Literal) → c ∈ held → l ∈ c → f (variable_of l) ≡ g (variable_of l)) →

@@ -11,38 +11,45 @@ use Rattle.varisat.specs.Names.{name_all}
 use Rattle.varisat.specs.OpenProofs.{ProofFits}
 use Rattle.varisat.specs.Spaces.{Spaces, KeepVariables, SpacesFit}
 use Rattle.varisat.specs.States.{State, with_variables, Verdict, FlagsFit}
-use Rattle.varisat.proofs.AcceptClause.{ledger-free, proof-free}
+use Rattle.varisat.proofs.AcceptClause.{ledger-free, proof-free, words-free}
 use Rattle.varisat.proofs.CallStates.{flags-started, like-told}
-use Rattle.varisat.proofs.OpenProofs.{proof-goes-on, lines-accepted}
+use Rattle.varisat.proofs.OpenProofs.{proof-goes-on, lines-of-entries, lines-accepted}
 use Rattle.varisat.proofs.WrittenVariables.{written-alike}
 
--- The spaces stand for a state in which the clause is accepted, and the open proof fits it.
-pub record ClauseJoins (s : State) (d : Clause) (after : Spaces) (opened : Option OpenState) : Type 0 where
+-- The spaces stand for a state in which the clause is accepted, and the open proof fits it, and so do the words of the clause store.
+pub record ClauseJoins (s : State) (d : Clause) (after : Spaces) (opened : Option OpenState) (words : ℕ) : Type 0 where
   pub state : State
   pub accepts : call.Accepts s d state
   pub ledger : state.ledger ≡ record s.ledger { started = true; since = 0 }
+  pub size : state.words ≡ words
   pub fits : SpacesFit after state
   pub proof : ProofFits opened state.variables state.told state.proof
   pub flags : FlagsFit s → FlagsFit state
 
-pub clause-joins : (s : State) (d : Clause) (before after : Spaces) (p q : ProofParts) (v : Verdict) (told : List Entry) (variables : ℕ → Option ℕ) →
-    SpacesFit before s → ProofFits p.opened s.variables s.told s.proof → VerdictAfter s.clauses (identity_literals s d) s.verdict v →
+pub clause-joins : (s : State) (d : Clause) (before after : Spaces) (p q : ProofParts) (v : Verdict) (told : List Entry) (variables : ℕ → Option ℕ)
+    (words : ℕ) → SpacesFit before s → ProofFits p.opened s.variables s.told s.proof → VerdictAfter s.clauses (identity_literals s d) s.verdict v →
     TellsStaying 0 (s.told ++ Accepts (identity_literals s d) ∷ []) told → KeepVariables s.naming.made s.variables variables →
     TellsProof variables s.told told p q → SpacesFit after
     (with_variables variables (retold told (append_clause (identity_literals s d) v (with_naming (name_all d s.naming) s)))) →
-    ClauseJoins s d after q.opened
-clause-joins s d before after p q v told variables (w, k) fitted verdict more keep proof (x, l) =
+    ClauseJoins s d after q.opened words
+clause-joins s d before after p q v told variables words (w, k) fitted verdict more keep proof (x, l) =
     let c = identity_literals s d in
     let alike = written-alike w before s k variables keep in
     let u = append_clause c v (with_naming (name_all d s.naming) s) in
     let (now, grows, goes) = proof-goes-on p q s.variables variables s.told told s.proof fitted alike proof in
-    let same = lines-accepted variables s.told c ∙ alike ∙ sym (lines-accepted s.variables s.told c) in
-    let t = record (retold told u) { variables = variables; proof = now } in
+    let same = lines-accepted variables s.told c ∙ lines-of-entries s.variables variables s.told alike ∙ sym (lines-accepted s.variables s.told c) in
+    let t = record (retold told u) { variables = variables; proof = now; words = words } in
     record {
       state = start t;
-      accepts = (v, verdict, like-told (start u) told variables now more same grows);
+      accepts = (v, verdict, like-told (start u) told variables now words more same grows);
       ledger = refl;
-      fits = (x, ledger-free x after t (record t.ledger { started = true; since = 0 }) (proof-free x after (with_variables variables (retold told u)) now l));
+      size = refl;
+      fits = (
+        x,
+        ledger-free x after t (record t.ledger { started = true; since = 0 })
+            (words-free x after (record (retold told u) { variables = variables; proof = now }) words
+            (proof-free x after (with_variables variables (retold told u)) now l)),
+      );
       proof = goes;
       flags = λ f. flags-started s (start t) f refl refl grows;
     }

@@ -105,6 +105,6 @@ counted w p s is k m b d = record {
   shown = k.shown;
   plain = k.plain;
   variables = k.variables;
-  told = told-counted s.told s.clauses s.counted is s.ever_hidden m k.told;
+  told = told-counted s.told s.clauses s.assumptions s.counted is s.ever_hidden m k.told;
   checked = k.checked;
 }

@@ -1,8 +1,9 @@
 -- At each moment of a run few steps were made since the last change.
 use Rattle.std.proofs.Common.{◌≡◌, ℕ, zero, suc, ◌+◌, ◌-◌, ◌*◌, ◌^◌, ◌<◌, Bool, true, false, List, [], ◌∷◌, length, Option, Some, None, inl, inr, ⊎_elim, Result, Ok, Err, sym, ap, ◌∙◌, subst, refl, arith}
-use Rattle.std.proofs.lemmas.Nat.{pow_pos}
 use Rattle.std.specs.declared.alloc.AllocError.{AllocError}
 use Rattle.varisat_theory.specs.Literals.{Literal, Clause}
+use Rattle.varisat_theory.specs.CallBounds.{AreFew}
+use Rattle.varisat_theory.proofs.CallBounds.{few_none}
 use Rattle.varisat_formula.specs.Dimacs.{Reading}
 use Rattle.varisat_formula.specs.Streams.{Stand, Taken}
 use Rattle.varisat_formula.specs.declared.dimacs.error.DimacsError.{DimacsError}
@@ -20,7 +21,7 @@ use Rattle.varisat.specs.Calls.{IsLike}
 use Rattle.varisat.specs.Pasts as past
 use Rattle.varisat.specs.Pasts.{Past, empty_past}
 use Rattle.varisat_proof.specs.declared.proof.format.ProofFormat.{ProofFormat}
-use Rattle.varisat.specs.ProofCalls.{OpensProof, ClosesProof}
+use Rattle.varisat.specs.ProofCalls.{with_proof, begin_checking, OpensProof, ClosesProof}
 use Rattle.varisat.specs.Told.{told_list, told_vars}
 use Rattle.varisat.specs.Turns.{CallRules, Makes}
 use Rattle.varisat.specs.Runs.{calling}
@@ -34,18 +35,19 @@ use Rattle.varisat.specs.declared.solver.SolverError.{SolverError}
 use Rattle.varisat.specs.declared.solver.SolverError.TheVariants.{OutOfMemory, Invalid, ProofIoError, ClauseStoreFull, WitnessVar, AssumedVar, VariableLimit, ClauseAfterSolve, ProofOpen, ProofTooLate, Interrupted, ConfigOutOfRange}
 use Rattle.varisat.proofs.VerdictAnswers.{is-unknown-or-not}
 
-none-is-few : (since n : ℕ) → since ≡ 0 → since < 2 ^ (2 * n + 3)
-none-is-few since n e = subst (λ k. k < 2 ^ (2 * n + 3)) (sym e) (pow_pos (2 * n + 3))
+none-is-few : (since n : ℕ) → since ≡ 0 → AreFew n since
+none-is-few since n e = subst (AreFew n) (sym e) (few_none n)
 
 -- the steps of a call join those before it
 joined-are-few : (n max_steps before now start end : ℕ) (r : Result Bool SolverError) → now ≡ before + (end - start) →
-    CountsSteps n max_steps before start end r → now < 2 ^ (2 * n + 3)
+    CountsSteps n max_steps before start end r → AreFew n now
 joined-are-few n max_steps before now start end r e c = let k = c.count in let b = c.bounded in
-    subst (λ x. x < 2 ^ (2 * n + 3)) (sym (e ∙ (let z : before + (end - start) ≡ before + c.made = omega (arith, k) in z))) b
+    subst (AreFew n) (sym (e ∙ (let z : before + (end - start) ≡ before + c.made = omega (arith, k) in z))) b
 
 -- 1. What each call keeps, whatever has the steps.
 record KeepsFew {X : Type 0} (by : CallRules X) : Type 1 where
   anew : (s : X) → HasFewSteps by (by.adding.count_anew s)
+  checking : (s : X) → HasFewSteps by (by.begins_checking s)
   broken : (s t : X) → by.adding.invalidates s t → HasFewSteps by t
   adds : (s t : X) (c : Clause) (r : Result (Unit {0}) SolverError) → by.adding.adds s c r t → HasFewSteps by s → HasFewSteps by t
   named : (f : Naming) (s t : X) → by.named.like false (by.named.with_naming f s) t → HasFewSteps by t
@@ -125,8 +127,8 @@ module _ {X : Type 0} (by : CallRules X) (keeps : KeepsFew by) where
   config s t u (Err e) a h = absurd a
 
   enable-checking : (s t : X) (r : Result (Unit {0}) SolverError) →
-      checking.EnablesChecking by.adding.valid by.started by.adding.count_anew s r t → HasFewSteps by s → HasFewSteps by t
-  enable-checking s t (Ok x) (v, b, e) h = anew-is s t e
+      checking.EnablesChecking by.adding.valid by.started by.begins_checking s r t → HasFewSteps by s → HasFewSteps by t
+  enable-checking s t (Ok x) (v, b, e) h = subst (HasFewSteps by) (sym e) (keeps.checking s)
   enable-checking s t (Err Invalid) a h = same s t a.1 h
   enable-checking s t (Err ProofTooLate) a h = same s t a.2 h
   enable-checking s t (Err e) a h = absurd a
@@ -170,7 +172,7 @@ module _ {X : Type 0} (by : CallRules X) (keeps : KeepsFew by) where
 begun-few : (s t : State) (l : Ledger) → t.ledger ≡ l → l.since ≡ 0 → HasFewSteps calling t
 begun-few s t l e z v = none-is-few t.ledger.since (length t.counted) (ap (λ (x : Ledger). x.since) e ∙ z)
 
-no-way : (s t : State) → state.Invalidates s t → HasFewSteps calling t
+no-way : {n : ℕ} (s t : State) → state.Invalidates n s t → HasFewSteps calling t
 no-way s t b v = absurd (let z : false ≡ true = sym (ap (λ (x : Ledger). x.valid) b.ledger) ∙ v in cc)
 
 state-same : (s t : State) → t ≡ s → HasFewSteps calling s → HasFewSteps calling t
@@ -199,6 +201,7 @@ state-assumes : (s t : State) (list : List Literal) (r : Result (Unit {0}) Solve
     HasFewSteps calling t
 state-assumes s t list (Ok u) (v, closed, lim, e) h = begun-few s t _ e.ledger refl
 state-assumes s t list (Err OutOfMemory) a h = no-way s t a.2
+state-assumes s t list (Err (ProofIoError cause)) a h = no-way s t a.3
 state-assumes s t list (Err Invalid) a h = state-same s t a.1 h
 state-assumes s t list (Err ProofOpen) a h = state-same s t a.2 h
 state-assumes s t list (Err VariableLimit) a h = state-same s t a.3 h
@@ -208,7 +211,7 @@ state-assumes s t list (Err e) a h = absurd a
 -- the steps of a call are counted, by which variables are counted before and after it
 state-joined : (s t : State) (r : Result Bool SolverError) → t.counted ≡ s.counted →
     t.ledger.since ≡ s.ledger.since + (t.ledger.steps - s.ledger.steps) → state.CountsCall s r t → HasFewSteps calling t
-state-joined s t r e k c v = subst (λ (xs : List ℕ). t.ledger.since < 2 ^ (2 * length xs + 3)) (sym e)
+state-joined s t r e k c v = subst (λ (xs : List ℕ). AreFew (length xs) t.ledger.since) (sym e)
     (joined-are-few (length s.counted) s.ledger.settings.max_steps s.ledger.since t.ledger.since s.ledger.steps t.ledger.steps r k c)
 
 -- no step is made
@@ -216,7 +219,7 @@ state-stays : (s t : State) → t.counted ≡ s.counted → t.ledger.valid ≡ s
     t.ledger.since ≡ s.ledger.since + (t.ledger.steps - s.ledger.steps) → t.ledger.steps ≡ s.ledger.steps → HasFewSteps calling s → HasFewSteps calling t
 state-stays s t e w k n h v =
     let z : t.ledger.since ≡ s.ledger.since = omega (arith, k, n) in
-    subst (λ (xs : List ℕ). t.ledger.since < 2 ^ (2 * length xs + 3)) (sym e) (subst (λ x. x < 2 ^ (2 * length s.counted + 3)) (sym z) (h (sym w ∙ v)))
+    subst (λ (xs : List ℕ). AreFew (length xs) t.ledger.since) (sym e) (subst (AreFew (length s.counted)) (sym z) (h (sym w ∙ v)))
 
 state-solves : (s t : State) (r : Result Bool SolverError) → state.Solves s r t → HasFewSteps calling s → HasFewSteps calling t
 state-solves s t (Ok b) r h =
@@ -226,8 +229,9 @@ state-solves s t (Ok b) r h =
     (λ n. state-stays s t r.rest.counted (ap (λ (x : Ledger). x.valid) l) (ap (λ (x : Ledger). x.since) l) (r.known n).1 h)
     (is-unknown-or-not s.verdict)
 state-solves s t (Err OutOfMemory) (u, c, b) h = no-way (state.with_steps t.ledger.steps s) t b
-state-solves s t (Err ClauseStoreFull) (u, c, b) h = no-way (state.with_steps t.ledger.steps s) t b
-state-solves s t (Err (ProofIoError cause)) (o, c, b) h = no-way (state.with_steps t.ledger.steps s) t b
+state-solves s t (Err ClauseStoreFull) (u, c, b, full) h = no-way (state.with_steps t.ledger.steps s) t b
+state-solves s t (Err (ProofIoError cause)) (o, c, inl (u, b)) h = no-way (state.with_steps t.ledger.steps s) t b
+state-solves s t (Err (ProofIoError cause)) (o, c, inr b) h = no-way (state.with_steps t.ledger.steps (state.once_searched s)) t b
 state-solves s t (Err Interrupted) r h = state-joined s t (Err Interrupted) r.rest.counted (ap (λ (x : Ledger). x.since) r.rest.ledger) r.steps
 state-solves s t (Err Invalid) a h = state-same s t a.1 h
 state-solves s t (Err e) a h = absurd a
@@ -249,13 +253,14 @@ state-opens taken target f s t (Err (ProofTooLate, back)) a h = state-same s t a
 state-opens taken target f s t (Err e) a h = absurd a
 
 state-closes : {W : Type 0} (taken : W → Taken) (s t : State) (r : Result (Option W) (SolverError × W)) → ClosesProof taken s r t → HasFewSteps calling t
-state-closes taken s t (Ok back) (h, e) = begun-few s t _ (ap (λ (x : State). x.ledger) e) refl
-state-closes taken s t (Err (ProofIoError cause, target)) (closed, has, b) = no-way s t b
+state-closes taken s t (Ok back) (h, has, e) = begun-few s t _ (ap (λ (x : State). x.ledger) e) refl
+state-closes taken s t (Err (ProofIoError cause, target)) (closed, has, b) = no-way (with_proof None s) t b
 state-closes taken s t (Err e) a = absurd a
 
 state-keeps : KeepsFew calling
 state-keeps = record {
   anew = λ s. begun-few s (state.count_anew s) _ refl refl;
+  checking = λ s. begun-few s (begin_checking s) _ refl refl;
   broken = no-way;
   adds = state-adds;
   named = λ f s t e. begun-few s t _ e.ledger refl;
@@ -282,18 +287,18 @@ run-stays-few seen taken calls answers s h = along calling state-keeps seen take
 past-few : (q r : Past) → q ≡ r → r.since ≡ 0 → HasFewSteps telling q
 past-few q r e z v = none-is-few q.since (length q.counted) (ap (λ (x : Past). x.since) e ∙ z)
 
-past-broken : (p q : Past) → past.Invalidates p q → HasFewSteps telling q
-past-broken p q b v = absurd (let z : false ≡ true = sym (ap (λ (x : Past). x.valid) b.1) ∙ v in cc)
+past-broken : (n : ℕ) (p q : Past) → past.Invalidates n p q → HasFewSteps telling q
+past-broken n p q b v = absurd (let z : false ≡ true = sym (ap (λ (x : Past). x.valid) b.1) ∙ v in cc)
 
 past-same : (p q : Past) → q ≡ p → HasFewSteps telling p → HasFewSteps telling q
 past-same p q e h = subst (HasFewSteps telling) (sym e) h
 
 past-adds : (p q : Past) (c : Clause) (r : Result (Unit {0}) SolverError) → past.AddsClause p c r q → HasFewSteps telling p → HasFewSteps telling q
-past-adds p q c (Ok u) (v, past.Accepted unsearched lim e) h = past-few q _ e.same refl
+past-adds p q c (Ok u) (v, past.Accepted unclosed lim e) h = past-few q _ e.same refl
 past-adds p q c (Ok u) (v, past.Ignored n e) h = past-few q (past.count_anew p) e refl
-past-adds p q c (Err OutOfMemory) a h = past-broken p q a.2
-past-adds p q c (Err ClauseStoreFull) a h = past-broken p q a.2
-past-adds p q c (Err (ProofIoError cause)) a h = past-broken p q a.3
+past-adds p q c (Err OutOfMemory) a h = past-broken 0 p q a.2
+past-adds p q c (Err ClauseStoreFull) a h = past-broken 0 p q a.2
+past-adds p q c (Err (ProofIoError cause)) a h = past-broken 1 p q a.3
 past-adds p q c (Err Invalid) a h = past-same p q a.1 h
 past-adds p q c (Err ClauseAfterSolve) a h = past-same p q a.2 h
 past-adds p q c (Err VariableLimit) a h = past-same p q a.3 h
@@ -302,14 +307,15 @@ past-adds p q c (Err e) a h = absurd a
 
 past-var : (p q : Past) (r : Result ℕ SolverError) → past.MakesVar p r q → HasFewSteps telling p → HasFewSteps telling q
 past-var p q (Ok u) (v, free, small, e) h = past-few q _ e.same refl
-past-var p q (Err OutOfMemory) a h = past-broken p q a
+past-var p q (Err OutOfMemory) a h = past-broken 0 p q a
 past-var p q (Err Invalid) a h = past-same p q a.1 h
 past-var p q (Err VariableLimit) a h = past-same p q a.2 h
 past-var p q (Err e) a h = absurd a
 
 past-assumes : (p q : Past) (list : List Literal) (r : Result (Unit {0}) SolverError) → past.Assumes p list r q → HasFewSteps telling p → HasFewSteps telling q
 past-assumes p q list (Ok u) (v, closed, lim, e) h = past-few q _ e.same refl
-past-assumes p q list (Err OutOfMemory) a h = past-broken p q a.2
+past-assumes p q list (Err OutOfMemory) a h = past-broken 0 p q a.2
+past-assumes p q list (Err (ProofIoError cause)) a h = past-broken 1 p q a.3
 past-assumes p q list (Err Invalid) a h = past-same p q a.1 h
 past-assumes p q list (Err ProofOpen) a h = past-same p q a.2 h
 past-assumes p q list (Err VariableLimit) a h = past-same p q a.3 h
@@ -319,7 +325,7 @@ past-assumes p q list (Err e) a h = absurd a
 past-joined : (p q : Past) (r : Result Bool SolverError) (n : ℕ) (m c : Bool) →
     q ≡ record (past.once_searched n p q) { has_model = m; has_core = c } → past.CountsCall p r q → HasFewSteps telling q
 past-joined p q r n m c e k v =
-    subst (λ (xs : List ℕ). q.since < 2 ^ (2 * length xs + 3)) (sym (ap (λ (x : Past). x.counted) e))
+    subst (λ (xs : List ℕ). AreFew (length xs) q.since) (sym (ap (λ (x : Past). x.counted) e))
     (joined-are-few (length p.counted) p.settings.max_steps p.since q.since p.steps q.steps r (ap (λ (x : Past). x.since) e) k)
 
 past-stays : (p q : Past) (m c : Bool) → q ≡ record (past.once_searched 0 p q) { has_model = m; has_core = c } →
@@ -327,20 +333,20 @@ past-stays : (p q : Past) (m c : Bool) → q ≡ record (past.once_searched 0 p 
 past-stays p q m c e n h v =
     let k : q.since ≡ p.since + (q.steps - p.steps) = ap (λ (x : Past). x.since) e in
     let z : q.since ≡ p.since = omega (arith, k, n) in
-    subst (λ (xs : List ℕ). q.since < 2 ^ (2 * length xs + 3)) (sym (ap (λ (x : Past). x.counted) e))
-    (subst (λ x. x < 2 ^ (2 * length p.counted + 3)) (sym z) (h (sym (ap (λ (x : Past). x.valid) e) ∙ v)))
+    subst (λ (xs : List ℕ). AreFew (length xs) q.since) (sym (ap (λ (x : Past). x.counted) e))
+    (subst (AreFew (length p.counted)) (sym z) (h (sym (ap (λ (x : Past). x.valid) e) ∙ v)))
 
 past-told : (p q : Past) (b m c : Bool) → q ≡ record (past.once_searched 0 p q) { has_model = m; has_core = c } →
     past.CountsIfUnknown p (Ok b) q → HasFewSteps telling p → HasFewSteps telling q
-past-told p q b m c e (past.Known w n) h = past-stays p q m c e n h
+past-told p q b m c e (past.Known w n same) h = past-stays p q m c e n h
 past-told p q b m c e (past.Searched w k) h = past-joined p q (Ok b) 0 m c e k
 
 past-solves : (p q : Past) (r : Result Bool SolverError) → past.Solves p r q → HasFewSteps telling p → HasFewSteps telling q
 past-solves p q (Ok true) (v, sat, few, told, e) h = past-told p q true true false e few h
 past-solves p q (Ok false) (v, sat, few, told, refuted, e) h = past-told p q false false true e few h
-past-solves p q (Err OutOfMemory) (n, c, b) h = past-broken (past.with_steps q.steps p) q b
-past-solves p q (Err ClauseStoreFull) (n, c, b) h = past-broken (past.with_steps q.steps p) q b
-past-solves p q (Err (ProofIoError cause)) (o, c, b) h = past-broken (past.with_steps q.steps p) q b
+past-solves p q (Err OutOfMemory) (n, c, b) h = past-broken 0 (past.with_steps q.steps p) q b
+past-solves p q (Err ClauseStoreFull) (n, c, b) h = past-broken 0 (past.with_steps q.steps p) q b
+past-solves p q (Err (ProofIoError cause)) (o, c, b) h = past-broken 1 (past.with_steps q.steps p) q b
 past-solves p q (Err Interrupted) (v, n, k, told, e) h = past-joined p q (Err Interrupted) (q.steps - p.steps) p.has_model p.has_core e k
 past-solves p q (Err Invalid) a h = past-same p q a.1 h
 past-solves p q (Err e) a h = absurd a
@@ -357,7 +363,7 @@ past-core p q (Err e) a = a.2
 
 past-opens : {W : Type 0} (taken : W → Taken) (target : W) (f : ProofFormat) (p q : Past) (r : Result (Unit {0}) (SolverError × W)) →
     past.ProofOpens taken target f p r q → HasFewSteps telling p → HasFewSteps telling q
-past-opens taken target f p q (Ok u) (v, closed, fresh, e) h = past-few q (past.opened f (taken target).bytes p) e refl
+past-opens taken target f p q (Ok u) (v, closed, fresh, e) h = past-few q (past.opened f (taken target) p) e refl
 past-opens taken target f p q (Err (Invalid, back)) a h = past-same p q a.2 h
 past-opens taken target f p q (Err (ProofOpen, back)) a h = past-same p q a.3 h
 past-opens taken target f p q (Err (ProofTooLate, back)) a h = past-same p q a.4 h
@@ -365,18 +371,19 @@ past-opens taken target f p q (Err e) a h = absurd a
 
 past-closes : {W : Type 0} (taken : W → Taken) (p q : Past) (r : Result (Option W) (SolverError × W)) → past.ProofCloses taken p r q → HasFewSteps telling q
 past-closes taken p q (Ok back) (h, e) = past-few q (past.closed p) e refl
-past-closes taken p q (Err (ProofIoError cause, target)) (o, b) = past-broken p q b
+past-closes taken p q (Err (ProofIoError cause, target)) (o, b) = past-broken 0 (record p { proof = None }) q b
 past-closes taken p q (Err e) a = absurd a
 
 past-keeps : KeepsFew telling
 past-keeps = record {
   anew = λ p. past-few (past.count_anew p) (past.count_anew p) refl refl;
-  broken = past-broken;
+  checking = λ p. past-few (past.count_anew p) (past.count_anew p) refl refl;
+  broken = past-broken 0;
   adds = past-adds;
   named = λ f p q e. past-few q _ e.same refl;
   moded = λ f g p q e. past-few q _ e.same refl;
   hidden = λ f p q e. past-few q _ e.same refl;
-  lost = past-broken;
+  lost = past-broken 0;
   makes_var = past-var;
   assumes = past-assumes;
   solves = past-solves;

@@ -4,6 +4,8 @@ use Rattle.std.specs.Result.{IsErr}
 use Rattle.varisat_search.specs.declared.error.StepError.{StepError}
 use Rattle.varisat_search.specs.declared.error.StepError.TheVariants as step
 use Rattle.std.proofs.lemmas.Bool.{cases_lt}
+use Rattle.varisat_theory.specs.CallBounds.{AreFew}
+use Rattle.varisat_theory.proofs.CallBounds.{few_below}
 use Rattle.varisat_names.specs.Settings.{Settings}
 use Rattle.varisat_search.specs.declared.context.Context.{Context}
 use Rattle.varisat_search.specs.declared.state.SatState.TheVariants as verdict
@@ -34,7 +36,7 @@ no-interrupt (step.Target cause) r p f = let z = sym p ∙ f in cc
 
 -- how steps are counted where one came to no end
 refused-counts : (n max_steps since before after made : ℕ) (e : StepError) → after ≡ before + made → made ≤ max_steps →
-    since + made < 2 ^ (2 * n + 3) → CountsSteps n max_steps since before after (Err (step_refusal e))
+    AreFew n (since + made) → CountsSteps n max_steps since before after (Err (step_refusal e))
 refused-counts n max_steps since before after made e count budget bounded = record {
   made = made;
   count = count;
@@ -72,24 +74,35 @@ module _ {A : Type 0} {x y : Context A} {max_steps : ℕ} (d : Searching x y max
   so-far = let k = not-less in omega (arith, k)
 
   -- the bound holds with one step more
-  few-made : suc (steps_since x.schedule y.schedule) < 2 ^ (2 * length x.assignment.current + 3)
+  few-made : AreFew (length x.assignment.current) (suc (steps_since x.schedule y.schedule))
   few-made = few-since (call_from x) y (length x.assignment.current) scaled-here (let e = d.count in omega (arith, e)) from-first
 
   module _ (changed_at : ℕ) (r : CountsSince changed_at x) where
-    few-here : (n : ℕ) → length x.assignment.current ≤ n → suc (y.schedule.steps - changed_at) < 2 ^ (2 * n + 3)
+    few-here : (n : ℕ) → length x.assignment.current ≤ n → AreFew n (suc (y.schedule.steps - changed_at))
     few-here n h =
         let (c, e, k) = r.come d.unknown in
-        let b = few-since c y n scaled-here (let q = d.count in omega (arith, q, h)) (d.made.since c k) in
-        omega (arith, b, e)
+        few_below n (suc (y.schedule.steps - changed_at)) (suc (steps_since c.begins y.schedule)) (omega (arith, e))
+        (few-since c y n scaled-here (let q = d.count in omega (arith, q, h)) (d.made.since c k))
 
-    few-both : (n : ℕ) → length x.assignment.current ≤ n → suc ((x.schedule.steps - changed_at) + steps_since x.schedule y.schedule) < 2 ^ (2 * n + 3)
-    few-both n h = let b = few-here n h in let l = r.low in let k = not-less in omega (arith, b, l, k)
+    few-both : (n : ℕ) → length x.assignment.current ≤ n →
+        AreFew n (suc ((x.schedule.steps - changed_at) + steps_since x.schedule y.schedule))
+    few-both n h =
+        let l = r.low in
+        let k = not-less in
+        few_below n (suc ((x.schedule.steps - changed_at) + steps_since x.schedule y.schedule)) (suc (y.schedule.steps - changed_at)) (omega (arith, l, k))
+        (few-here n h)
+
+    few-now : (n : ℕ) → length x.assignment.current ≤ n → AreFew n ((x.schedule.steps - changed_at) + steps_since x.schedule y.schedule)
+    few-now n h =
+        let k = (x.schedule.steps - changed_at) + steps_since x.schedule y.schedule in
+        few_below n k (suc k) (omega arith) (few-both n h)
 
     -- where it stops here it can go on
     pub since-stopped : CountsSince changed_at y
     since-stopped = record {
       low = let l = r.low in let k = not-less in omega (arith, l, k);
-      few = λ n h. let b = few-here n (let q = d.count in omega (arith, q, h)) in omega (arith, b);
+      few = λ n h. few_below n (y.schedule.steps - changed_at) (suc (y.schedule.steps - changed_at)) (omega arith)
+          (few-here n (let q = d.count in omega (arith, q, h)));
       come = λ u. let (c, e, k) = r.come d.unknown in (c, e, d.made.since c k);
     }
 
@@ -100,7 +113,7 @@ module _ {A : Type 0} {x y : Context A} {max_steps : ℕ} (d : Searching x y max
       made = steps_since x.schedule y.schedule;
       count = so-far;
       budget = d.made.budget;
-      bounded = let b = few-both n h in omega (arith, b);
+      bounded = few-now n h;
       found = λ b e. absurd cc;
       spent = λ _. s;
     }
@@ -109,7 +122,7 @@ module _ {A : Type 0} {x y : Context A} {max_steps : ℕ} (d : Searching x y max
     pub counts-refused : (error : StepError) (steps : ℕ) → steps ≡ y.schedule.steps → (n : ℕ) → length x.assignment.current ≤ n →
         CountsSteps n max_steps (x.schedule.steps - changed_at) x.schedule.steps steps (Err (step_refusal error))
     counts-refused error steps e n h = refused-counts n max_steps (x.schedule.steps - changed_at) x.schedule.steps steps
-        (steps_since x.schedule y.schedule) error (e ∙ so-far) d.made.budget (let b = few-both n h in omega (arith, b))
+        (steps_since x.schedule y.schedule) error (e ∙ so-far) d.made.budget (few-now n h)
 
 pub told-refused : (r : Result (Option Bool) StepError) → IsErr r → (e : StepError) × (told_verdict r ≡ Err (step_refusal e))
 told-refused (Ok x) h = absurd (let z : false ≡ true = h in cc)
@@ -162,7 +175,10 @@ module _ {A : Type 0} {x y z : Context A} {max_steps : ℕ} (d : Stepping x y z 
     made = suc (steps_since x.schedule y.schedule);
     count = let k = so-far d.searching in let e = counted in omega (arith, k, e);
     budget = within;
-    bounded = let k = few-both d.searching changed_at r n h in omega (arith, k);
+    bounded =
+        let k = (x.schedule.steps - changed_at) + steps_since x.schedule y.schedule in
+        few_below n ((x.schedule.steps - changed_at) + suc (steps_since x.schedule y.schedule)) (suc k) (omega arith)
+        (few-both d.searching changed_at r n h);
     found = λ a f. omega arith;
     spent = λ f. absurd cc;
   }
@@ -173,15 +189,15 @@ module _ {A : Type 0} {x y z : Context A} {max_steps : ℕ} (d : Stepping x y z 
     few = λ n h.
         let a = d.same_count in
         let q = d.searching.count in
-        let b = few-here d.searching changed_at r n (omega (arith, a, q, h)) in
         let e = counted in
-        omega (arith, b, e);
+        few_below n (z.schedule.steps - changed_at) (suc (y.schedule.steps - changed_at)) (omega (arith, e))
+        (few-here d.searching changed_at r n (omega (arith, a, q, h)));
     come = λ u. absurd (known u);
   }
 
   pub stepping-shortens : 2 ^ (2 * length x.assignment.current + 3) - steps_since x.schedule z.schedule < 2
       ^ (2 * length x.assignment.current + 3) - steps_since x.schedule y.schedule
   stepping-shortens =
-      let b = few-made d.searching in
+      let b = (few-made d.searching).1 in
       let k = one-more in
       omega (arith, b, k)

@@ -145,6 +145,13 @@ module _ (w : Carrying) (p : Spaces) (s : State) (u x : ℕ) (k : Links w p s) (
     shown = λ e. absurd cc;
     plain = λ e. absurd cc;
     variables = k.variables;
-    told = record { accepted = k.told.accepted; spoken = k.told.spoken; left = k.told.left; stays = λ e. absurd cc };
+    told = record {
+      accepted = k.told.accepted;
+      assumed = k.told.assumed;
+      cores = k.told.cores;
+      spoken = k.told.spoken;
+      left = k.told.left;
+      stays = λ e. absurd cc;
+    };
     checked = k.checked;
   }

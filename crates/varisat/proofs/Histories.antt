@@ -1,13 +1,17 @@
 -- What a run says of the answers alone.
-use Rattle.std.proofs.Common.{◌≡◌, true, List, [], ◌∷◌, sym, ap, subst, refl, ◌∙◌, Result, Ok, Err}
+use Rattle.std.proofs.Common.{false, ◌≡◌, true, List, [], ◌∷◌, sym, ap, subst, refl, ◌∙◌, Result, Ok, Err}
 use Rattle.std.specs.Result.{IfOk}
 use Rattle.varisat_formula.specs.Streams.{Stand, Taken}
+use Rattle.varisat_proof.specs.declared.proof.format.Encoding.TheVariants.{Text}
+use Rattle.varisat_proof.specs.Telling.{lines_told}
+use Rattle.varisat_proof.specs.Written.{AreInRange}
 use Rattle.varisat.specs.declared.session.Call.{Call}
 use Rattle.varisat.specs.declared.session.Answer.{Answer}
 use Rattle.varisat.specs.declared.session.Call.TheVariants as call
 use Rattle.varisat.specs.declared.session.Answer.TheVariants as answer
 use Rattle.varisat.specs.States.{State, empty_state}
 use Rattle.varisat_theory.specs.Journals.{NoneLeaves, accepted_of}
+use Rattle.varisat_proof.specs.Assumed.{lists_of, assumed_behind, CoresAreAssumed}
 use Rattle.varisat.specs.Journals.{IsJournal, IsToldWithin}
 use Rattle.varisat.specs.Calls.{IsValid}
 use Rattle.varisat.specs.Pasts as past
@@ -16,7 +20,7 @@ use Rattle.varisat.specs.Names.{Sample, Witness}
 use Rattle.varisat.specs.Runs.{MakesCall, Run}
 use Rattle.varisat.specs.Pasts.{Past, empty_past}
 use Rattle.varisat.specs.Histories.{IsTrue, AreTrue}
-use Rattle.varisat.proofs.Pasts.{Agrees, Leads, add-clause, add-formula, add-text, make-var, set-usage, hide, observe, assume-list, tell-model, tell-core, config, tell-since, open-proof, close, enable-checking, stays, empty-agrees}
+use Rattle.varisat.proofs.Pasts.{Agrees, Leads, add-clause, add-formula, add-text, make-var, set-usage, hide, observe, assume-list, tell-model, tell-core, config, tell-since, open-proof, close, enable-checking, stays, new-agrees}
 use Rattle.varisat.proofs.SolvedPasts.{solve}
 use Rattle.varisat.proofs.RunsTold.{call-within}
 
@@ -58,7 +62,11 @@ past-journal p s g told within v =
     record {
       within = subst (λ n. IsToldWithin n p.told) g.steps (subst (IsToldWithin s.ledger.steps) k.told.same (within (g.valid ∙ v)));
       accepted = ap accepted_of (sym k.told.same) ∙ j.accepted ∙ k.clauses;
+      lists = ap lists_of (sym k.told.same) ∙ k.lists;
+      assumed = ap (assumed_behind []) (sym k.told.same) ∙ j.assumed ∙ k.assumed;
+      cores = subst (CoresAreAssumed []) k.told.same j.cores;
       stays = λ n. subst NoneLeaves k.told.same (j.stays (k.hidden ∙ n));
+      in_range = λ n. subst (λ es. AreInRange (lines_told (Text true) es)) k.told.same (j.in_range (k.hidden ∙ n));
     }
 
 are-true : {W S A : Type 0} (seen : S → Stand) (taken : W → Taken) (calls : List (Call W S A)) (answers : List (Answer W S A)) (p : Past)
@@ -75,4 +83,4 @@ are-true seen taken (c ∷ calls) (a ∷ answers) p s t g w (mid, m, told, r) =
 -- each run of a new solver gives answers that are true
 pub run-is-true : {W S A : Type 0} (seen : S → Stand) (taken : W → Taken) (calls : List (Call W S A)) (answers : List (Answer W S A)) (t : State) →
     Run seen taken empty_state calls answers t → AreTrue seen taken empty_past calls answers
-run-is-true seen taken calls answers t r = are-true seen taken calls answers empty_past empty_state t empty-agrees (λ v. ([], refl)) r
+run-is-true seen taken calls answers t r = are-true seen taken calls answers empty_past empty_state t (new-agrees false) (λ v. ([], refl)) r

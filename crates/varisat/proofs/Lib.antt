@@ -2,11 +2,14 @@ pub mod AcceptClause
 pub mod AcceptLoad
 pub mod AcceptSolverVariables
 pub mod AddTexts
+pub mod AcceptedBytes
 pub mod Additions
 pub mod AssumeList
 pub mod CallStates
 pub mod Carried
 pub mod CheckedHeld
+pub mod CoresTold
+pub mod MarkedChecks
 pub mod Counted
 pub mod DroppedAlone
 pub mod DroppedApart
@@ -38,7 +41,9 @@ pub mod Pasts
 pub mod SolvedPasts
 pub mod PlainTables
 pub mod ProgramDecides
+pub mod FirstClauses
 pub mod ProgramProves
+pub mod GivenEntries
 pub mod ToldEntries
 pub mod ToldProofs
 pub mod OpenProofs
@@ -47,6 +52,7 @@ pub mod ReadPlaces
 pub mod RecycledGlobals
 pub mod RefusedNames
 pub mod SearchLinks
+pub mod SearchRounds
 pub mod ResurrectedVariables
 pub mod ReturnedVariables
 pub mod Runs
@@ -78,3 +84,4 @@ pub mod VerdictAnswers
 pub mod SolversInTurn
 pub mod WrittenVariables
 pub mod ClauseJoins
+pub mod ListJoins

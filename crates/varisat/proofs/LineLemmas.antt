@@ -16,14 +16,13 @@ use Rattle.std.proofs.lemmas.List.Splits.{slice_split_none, slice_split_at, join
 use Rattle.varisat_literals.specs.Numbers.{literal_number}
 use Rattle.varisat_literals.specs.Numbers.{literal_text, variable_text}
 use Rattle.varisat_formula.specs.Streams.{Stand, Taken}
-use Rattle.varisat.specs.OpenProofs.{IsDrat}
 use Rattle.varisat.specs.Runs.{IsReady}
 use Rattle.varisat.specs.declared.session.Call.{Call}
 use Rattle.varisat.specs.declared.session.Call.TheVariants as call
 use Rattle.varisat_names.specs.declared.config.ConfigField.{ConfigField}
 use Rattle.varisat_names.specs.declared.config.ConfigField.TheVariants.{VsidsDecay, ClauseActivityDecay, ReduceLocalsInterval, ReduceMidsInterval, LubyRestartIntervalScale, MaxSteps}
 use Rattle.varisat_names.specs.Settings.{field_text}
-use Rattle.varisat.specs.Lines.{Command, Add, Assume, New, Sample, Witness, Hide, Observe, Solve, Model, Core, Config, Steps, Since, ProofText, ProofBinary, Close, SelfCheck, MeansCommand, MeansOneCommand, HasNumbersInRange, AsksFor, words, words_of, spelling}
+use Rattle.varisat.specs.Lines.{Command, Add, Assume, New, Sample, Witness, Hide, Observe, Solve, Model, Core, Config, Steps, Since, ProofText, ProofBinary, ProofMarked, Close, SelfCheck, MeansCommand, MeansOneCommand, HasNumbersInRange, AsksFor, words, words_of, spelling}
 
 abbrev pub NoSpace : List ℕ → Type 0
 NoSpace word = All (λ b. (b == 32) ≡ false) word
@@ -146,6 +145,8 @@ words_have_no_space ProofText h =
     (no_space (codes "proof") (from_spaceless (codes "proof") refl), (no_space (codes "text") (from_spaceless (codes "text") refl), tt))
 words_have_no_space ProofBinary h =
     (no_space (codes "proof") (from_spaceless (codes "proof") refl), (no_space (codes "binary") (from_spaceless (codes "binary") refl), tt))
+words_have_no_space ProofMarked h =
+    (no_space (codes "proof") (from_spaceless (codes "proof") refl), (no_space (codes "marked") (from_spaceless (codes "marked") refl), tt))
 words_have_no_space Close h = (no_space (codes "close") (refl, (refl, (refl, (refl, (refl, tt))))), tt)
 words_have_no_space SelfCheck h = (no_space (codes "selfcheck") (from_spaceless (codes "selfcheck") refl), tt)
 
@@ -170,6 +171,7 @@ words_of_spelled Steps h = words_of_joined (codes "steps") [] (words_have_no_spa
 words_of_spelled Since h = words_of_joined (codes "since") [] (words_have_no_space Since h)
 words_of_spelled ProofText h = words_of_joined (codes "proof") (codes "text" ∷ []) (words_have_no_space ProofText h)
 words_of_spelled ProofBinary h = words_of_joined (codes "proof") (codes "binary" ∷ []) (words_have_no_space ProofBinary h)
+words_of_spelled ProofMarked h = words_of_joined (codes "proof") (codes "marked" ∷ []) (words_have_no_space ProofMarked h)
 words_of_spelled Close h = words_of_joined (codes "close") [] (words_have_no_space Close h)
 words_of_spelled SelfCheck h = words_of_joined (codes "selfcheck") [] (words_have_no_space SelfCheck h)
 
@@ -232,7 +234,12 @@ words_apart Since Since h k e = refl
 words_apart ProofText ProofText h k e = refl
 words_apart ProofText ProofBinary h k e = let n = ap (λ (word : List ℕ). length word) (second_same _ _ _ _ e) in absurd (omega (arith, n))
 words_apart ProofBinary ProofText h k e = let n = ap (λ (word : List ℕ). length word) (second_same _ _ _ _ e) in absurd (omega (arith, n))
+words_apart ProofText ProofMarked h k e = let n = ap (λ (word : List ℕ). length word) (second_same _ _ _ _ e) in absurd (omega (arith, n))
+words_apart ProofMarked ProofText h k e = let n = ap (λ (word : List ℕ). length word) (second_same _ _ _ _ e) in absurd (omega (arith, n))
+words_apart ProofBinary ProofMarked h k e = let n = ap (λ (word : List ℕ). get_or word 0 0) (second_same _ _ _ _ e) in absurd (omega (arith, n))
+words_apart ProofMarked ProofBinary h k e = let n = ap (λ (word : List ℕ). get_or word 0 0) (second_same _ _ _ _ e) in absurd (omega (arith, n))
 words_apart ProofBinary ProofBinary h k e = refl
+words_apart ProofMarked ProofMarked h k e = refl
 words_apart Close Close h k e = refl
 words_apart SelfCheck SelfCheck h k e = refl
 words_apart a b h k e = let n : first_word_number (words a) ≡ first_word_number (words b) = ap first_word_number e in absurd (omega arith)
@@ -467,10 +474,9 @@ hide_read text number v t d e h = record { spelled = ap (λ xs. codes "hide " ++
 
 -- what a command asks for reads no source, and opens a proof in memory
 pub asked-ready : {S A : Type 0} (seen : S → Stand) (c : Call Taken S A) (command : Command) → AsksFor c command → IsReady seen (λ t. t) c
-asked-ready seen (call.WriteProof target format) ProofText (e, f) =
-    (subst IsDrat (sym f) tt, subst (λ (t : Taken). t.faults < 2 ^ 64 - 1) (sym e) (omega arith))
-asked-ready seen (call.WriteProof target format) ProofBinary (e, f) =
-    (subst IsDrat (sym f) tt, subst (λ (t : Taken). t.faults < 2 ^ 64 - 1) (sym e) (omega arith))
+asked-ready seen (call.WriteProof target format) ProofText (e, f) = subst (λ (t : Taken). t.faults < 2 ^ 64 - 1) (sym e) (omega arith)
+asked-ready seen (call.WriteProof target format) ProofBinary (e, f) = subst (λ (t : Taken). t.faults < 2 ^ 64 - 1) (sym e) (omega arith)
+asked-ready seen (call.WriteProof target format) ProofMarked (e, f) = subst (λ (t : Taken). t.faults < 2 ^ 64 - 1) (sym e) (omega arith)
 asked-ready seen (call.WriteProof target format) command h = absurd h
 asked-ready seen (call.AddDimacsCnf source) command h = absurd h
 asked-ready seen c command h = tt

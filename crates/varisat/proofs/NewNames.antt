@@ -308,7 +308,14 @@ module _ (w : Carrying) (p : Spaces) (s : State) (u x : ℕ) (k : Links w p s) (
       plain = λ e. new-plain (k.plain e);
       variables = λ i y. updated-all (λ i o. o ≡ Some y → updated s.variables s.naming.made (Some x) i ≡ Some y) w.global s.naming.made (Some x)
           (λ e. updated-at s.variables s.naming.made (Some x) ∙ e) i (λ n e. updated-other s.variables s.naming.made (Some x) i n ∙ k.variables i y e);
-      told = record { accepted = k.told.accepted; spoken = k.told.spoken; left = new-gone; stays = k.told.stays };
+      told = record {
+        accepted = k.told.accepted;
+        assumed = k.told.assumed;
+        cores = k.told.cores;
+        spoken = k.told.spoken;
+        left = new-gone;
+        stays = k.told.stays;
+      };
       checked = λ n. checker-alike w.global (updated w.global s.naming.made (Some x)) s.told p.checker
           (λ held led c l h i. let (y, e) = all-live w p s k n held led c l h i in
           sym (updated-other w.global s.naming.made (Some x) (variable_of l) (λ q. let z : None ≡ Some y = sym unused ∙ ap w.global (sym q) ∙ e in cc)))

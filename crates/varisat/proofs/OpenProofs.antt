@@ -1,7 +1,8 @@
 -- An open proof as entries are told.
-use Rattle.std.proofs.Common.{◌≡◌, ℕ, map, Bool, true, false, Option, Some, None, List, [], ◌∷◌, ◌++◌, Ok, Err, refl, sym, ap, ◌∙◌, subst, arith, append_assoc}
-use Rattle.std.specs.Prelude.{flat_map, is_some}
+use Rattle.std.proofs.Common.{◌≡◌, ℕ, ◌+◌, map, Bool, true, false, Option, Some, None, List, [], ◌∷◌, ◌++◌, Ok, Err, refl, sym, ap, ◌∙◌, subst, arith, append_assoc}
+use Rattle.std.specs.Prelude.{flat_map, is_some, take, not, ◌&&◌}
 use Rattle.std.proofs.lemmas.List.{append-nil, map-append}
+use Rattle.std.specs.declared.io.Error.{Error}
 use Rattle.varisat_theory.specs.Literals.{Literal, Clause}
 use Rattle.varisat_theory.specs.Derivations.{Line}
 use Rattle.varisat_theory.specs.Renaming.{rename_line}
@@ -10,30 +11,31 @@ use Rattle.varisat_theory.proofs.Journals.{lines_append}
 use Rattle.varisat_formula.specs.Streams.{Taken}
 use Rattle.varisat_proof.specs.declared.proof.format.ProofFormat.{ProofFormat}
 use Rattle.varisat_proof.specs.declared.proof.format.ProofFormat.TheVariants.{Drat, BinaryDrat, Marked}
-use Rattle.varisat_proof.specs.Lines.{encoding_of, plain_line, plain_lines}
+use Rattle.varisat_proof.specs.declared.proof.format.Encoding.{Encoding}
+use Rattle.varisat_proof.specs.Lines.{encoding_of, plain_line, plain_lines, has_marks}
 use Rattle.varisat_proof.specs.Steps.{lines_written}
 use Rattle.varisat_proof.specs.Written.{line_written}
-use Rattle.varisat_proof.specs.Telling.{lines_told}
-use Rattle.varisat_proof.specs.Proving.{OpenState, ProofParts, told, is_searched, marked_searched}
+use Rattle.varisat_proof.specs.Telling.{lines_told, entry_lines, bytes_told}
+use Rattle.varisat_proof.specs.Proving.{OpenState, ProofParts, told, marked_searched, Flushes, bars_clauses, bars_assumptions}
 use Rattle.varisat_proof.specs.Proving as proving
 use Rattle.varisat_tracer.specs.Tracing.{BreaksProof}
 use Rattle.varisat_tracer.proofs.Telling.{unopened-unbroken}
 use Rattle.varisat.specs.Carried.{carry}
-use Rattle.varisat.specs.OpenProofs.{OpenProof, opened_state, IsOpen, IsDrat, lines_over, IsWrittenIf, ProofFits, GoesOnWriting, IsSearched, searched_under, first_proof, taken_of}
+use Rattle.varisat.specs.OpenProofs.{OpenProof, opened_state, IsOpen, lines_over, IsWrittenIf, ProofFits, GoesOnWriting, GoesOnFailing, searched_under, first_proof, taken_of, BarsClauses, BarsAssumptions, entries_over}
 use Rattle.varisat.specs.Journals.{TellsProof}
+use Rattle.varisat.proofs.ToldEntries.{OnlyLeave}
 
--- 1. Bytes of lines.
+-- 1. Bytes of entries.
 flat-append : {X Y : Type 0} (f : X → List Y) (xs ys : List X) → flat_map f (xs ++ ys) ≡ flat_map f xs ++ flat_map f ys
 flat-append f [] ys = refl
 flat-append f (x ∷ xs) ys = ap (λ zs. f x ++ zs) (flat-append f xs ys) ∙ sym (append_assoc (f x) (flat_map f xs) (flat_map f ys))
 
-bytes-more : (f : ProofFormat) (first more : List Line) → lines_written (encoding_of f) (plain_lines (first ++ more)) ≡ lines_written
-    (encoding_of f) (plain_lines first) ++ lines_written (encoding_of f) (plain_lines more)
-bytes-more f first more = ap (λ ls. flat_map (line_written (encoding_of f)) ls) (map-append plain_line first more)
-    ∙ flat-append (line_written (encoding_of f)) (plain_lines first) (plain_lines more)
+pub bytes-more : (f : ProofFormat) (first more : List Entry) → bytes_told f (first ++ more) ≡ bytes_told f first ++ bytes_told f more
+bytes-more f first more = ap (λ ls. flat_map (line_written (encoding_of f)) ls) (flat-append (entry_lines (encoding_of f)) first more)
+    ∙ flat-append (line_written (encoding_of f)) (lines_told (encoding_of f) first) (lines_told (encoding_of f) more)
 
--- in DRAT entries have no other lines
-plainly-told : (f : ProofFormat) → IsDrat f → (es : List Entry) → lines_told (encoding_of f) es ≡ plain_lines (lines_of es)
+-- in DRAT entries have no lines but those that add or delete a clause
+plainly-told : (f : ProofFormat) → has_marks f ≡ false → (es : List Entry) → lines_told (encoding_of f) es ≡ plain_lines (lines_of es)
 plainly-told f d [] = refl
 plainly-told f d (Writes l ∷ es) = ap (λ ls. plain_line l ∷ ls) (plainly-told f d es)
 plainly-told Drat d (Accepts c ∷ es) = plainly-told Drat d es
@@ -44,7 +46,12 @@ plainly-told BinaryDrat d (Accepts c ∷ es) = plainly-told BinaryDrat d es
 plainly-told BinaryDrat d (Assumes a ∷ es) = plainly-told BinaryDrat d es
 plainly-told BinaryDrat d (Fails core ∷ es) = plainly-told BinaryDrat d es
 plainly-told BinaryDrat d (Leaves v ∷ es) = plainly-told BinaryDrat d es
-plainly-told Marked d (e ∷ es) = absurd d
+plainly-told Marked d (e ∷ es) = absurd (let z : true ≡ false = d in cc)
+
+-- so the bytes of a DRAT proof are those of these lines
+pub plain-bytes : (f : ProofFormat) → has_marks f ≡ false → (es : List Entry) → bytes_told f es ≡ lines_written (encoding_of f)
+    (plain_lines (lines_of es))
+plain-bytes f d es = ap (lines_written (encoding_of f)) (plainly-told f d es)
 
 -- 2. Further bytes.
 pub goes-on-none : (p : Option OpenProof) → GoesOnWriting p p
@@ -56,6 +63,23 @@ goes-on-through None q r e h = subst (λ (x : Option OpenProof). GoesOnWriting x
 goes-on-through (Some p) q r (more, e) h =
     let (further, f) = subst (λ (x : Option OpenProof). GoesOnWriting x r) e h in
     (more ++ further, f ∙ ap (λ (xs : List ℕ). let q : OpenProof = record p { bytes = xs } in Some q) (append_assoc p.bytes more further))
+
+-- and its target failed
+pub goes-on-unfailed : (p : Option OpenProof) → GoesOnFailing 0 p p
+goes-on-unfailed None = (refl, refl)
+goes-on-unfailed (Some p) = (
+  [],
+  ap (λ (xs : List ℕ). let q : OpenProof = record p { bytes = xs } in Some q) (sym (append-nil p.bytes))
+      ∙ ap (λ (n : ℕ). let q : OpenProof = record p { bytes = p.bytes ++ []; faults = n } in Some q) (let z : p.faults ≡ p.faults + 0 = omega arith in z),
+)
+
+pub goes-on-failing : (n : ℕ) (p q r : Option OpenProof) → GoesOnWriting p q → GoesOnFailing n q r → GoesOnFailing n p r
+goes-on-failing n None q r e h = subst (λ (x : Option OpenProof). GoesOnFailing n x r) e h
+goes-on-failing n (Some p) q r (more, e) h =
+    let (further, f) = subst (λ (x : Option OpenProof). GoesOnFailing n x r) e h in (
+      more ++ further,
+      f ∙ ap (λ (xs : List ℕ). let o : OpenProof = record p { bytes = xs; faults = p.faults + n } in Some o) (append_assoc p.bytes more further),
+    )
 
 -- 3. What fits.
 pub lines-renamed : (f : Literal → Literal) (es : List Entry) → lines_of (map (rename_entry f) es) ≡ map (rename_line f) (lines_of es)
@@ -72,6 +96,15 @@ pub lines-behind : (variables : ℕ → Option ℕ) (before entries : List Entry
 lines-behind variables before entries = ap (map (rename_line (carry variables))) (lines_append before entries)
     ∙ map-append (rename_line (carry variables)) (lines_of before) (lines_of entries)
 
+entries-behind : (variables : ℕ → Option ℕ) (before entries : List Entry) → entries_over variables (before ++ entries) ≡ entries_over variables before
+    ++ entries_over variables entries
+entries-behind variables before entries = map-append (rename_entry (carry variables)) before entries
+
+-- where entries are told as they were, so are lines
+pub lines-of-entries : (old new : ℕ → Option ℕ) (told : List Entry) → entries_over new told ≡ entries_over old told → lines_over new told ≡ lines_over
+    old told
+lines-of-entries old new told e = sym (lines-renamed (carry new) told) ∙ ap lines_of e ∙ lines-renamed (carry old) told
+
 -- entries were told to it
 on-told : (variables : ℕ → Option ℕ) (before after entries : List Entry) (proof : Option OpenProof) (new : Option OpenState) →
     IsWrittenIf variables before proof →
@@ -80,12 +113,9 @@ on-told : (variables : ℕ → Option ℕ) (before after entries : List Entry) (
 on-told variables before after entries None new w e joined = (None, refl, record { same = e; written = tt })
 on-told variables before after entries (Some p) None w e joined = absurd e
 on-told variables before after entries (Some p) (Some o) w e joined =
-    let given = map (rename_entry (carry variables)) entries in
-    let first = lines_over variables before in
-    let further = lines_over variables entries in
-    let more = lines_written (encoding_of p.format) (lines_told (encoding_of p.format) given) in
-    let now : OpenProof = record p { bytes = p.bytes ++ more } in
-    let plainer = plainly-told p.format w.drat given ∙ ap plain_lines (lines-renamed (carry variables) entries) in (
+    let given = entries_over variables entries in
+    let more = bytes_told p.format given in
+    let now : OpenProof = record p { bytes = p.bytes ++ more } in (
       Some now,
       (more, refl),
       record {
@@ -94,33 +124,26 @@ on-told variables before after entries (Some p) (Some o) w e joined =
             ∙ ap (λ (x : Taken). let y : OpenState = record { format = p.format; taken = x; searched = p.searched } in Some y)
             (ap (λ (xs : List ℕ). let t : Taken = record { bytes = xs; faults = o.taken.faults } in t) (e.bytes ∙ append_assoc p.first p.bytes more)
             ∙ ap (λ (n : ℕ). let t : Taken = record { bytes = p.first ++ (p.bytes ++ more); faults = n } in t) e.faults);
-        written = record {
-          drat = w.drat;
-          bytes = ap (λ xs. xs ++ more) w.bytes
-              ∙ ap (λ ls. lines_written (encoding_of p.format) (plain_lines first) ++ lines_written (encoding_of p.format) ls) plainer
-              ∙ sym (bytes-more p.format first further)
-              ∙ ap (λ ls. lines_written (encoding_of p.format) (plain_lines ls))
-              (sym (ap (lines_over variables) joined ∙ lines-behind variables before entries));
-        };
+        written = ap (λ xs. xs ++ more) w ∙ sym (bytes-more p.format (entries_over variables before) given)
+            ∙ ap (bytes_told p.format) (sym (ap (entries_over variables) joined ∙ entries-behind variables before entries));
       },
     )
 
--- the lines told before are written as they were
-other-told : (old new : ℕ → Option ℕ) (before after : List Entry) (proof : Option OpenProof) → lines_over new after ≡ lines_over old before →
-    IsWrittenIf old before proof → IsWrittenIf new after proof
-other-told old new before after None e w = tt
-other-told old new before after (Some p) e w =
-    record { drat = w.drat; bytes = w.bytes ∙ ap (λ ls. lines_written (encoding_of p.format) (plain_lines ls)) (sym e) }
+-- what was told before is written as it was
+other-told : (old new : ℕ → Option ℕ) (told : List Entry) (proof : Option OpenProof) → entries_over new told ≡ entries_over old told →
+    IsWrittenIf old told proof → IsWrittenIf new told proof
+other-told old new told None e w = tt
+other-told old new told (Some p) e w = w ∙ ap (bytes_told p.format) (sym e)
 
-pub fits-alike : (o : Option OpenState) (old new : ℕ → Option ℕ) (before after : List Entry) (proof : Option OpenProof) →
-    lines_over new after ≡ lines_over old before → ProofFits o old before proof → ProofFits o new after proof
-fits-alike o old new before after proof e f = record { same = f.same; written = other-told old new before after proof e f.written }
+pub fits-alike : (o : Option OpenState) (old new : ℕ → Option ℕ) (told : List Entry) (proof : Option OpenProof) →
+    entries_over new told ≡ entries_over old told → ProofFits o old told proof → ProofFits o new told proof
+fits-alike o old new told proof e f = record { same = f.same; written = other-told old new told proof e f.written }
 
 pub proof-goes-on : (p q : ProofParts) (old new : ℕ → Option ℕ) (before after : List Entry) (proof : Option OpenProof) →
-    ProofFits p.opened old before proof → lines_over new before ≡ lines_over old before → TellsProof new before after p q →
+    ProofFits p.opened old before proof → entries_over new before ≡ entries_over old before → TellsProof new before after p q →
     (now : Option OpenProof) × GoesOnWriting proof now × ProofFits q.opened new after now
 proof-goes-on p q old new before after proof f same t =
-    on-told new before after t.entries proof q.opened (other-told old new before before proof same f.written)
+    on-told new before after t.entries proof q.opened (other-told old new before proof same f.written)
     (subst (λ (o : Option OpenState). proving.IsWrittenIf o (told (map (rename_entry (carry new)) t.entries)) q.opened) f.same t.told.written) t.joined
 
 -- no line was told
@@ -145,6 +168,29 @@ pub broken-open : (p q : ProofParts) (variables : ℕ → Option ℕ) (told : Li
 broken-open p q variables told None f b = absurd (let z = unopened-unbroken p q 1 f.same b in omega (arith, z))
 broken-open p q variables told (Some o) f b = (o, refl)
 
+-- what holds the proof, where it broke off in entries that it was told, is that of a proof with further bytes and so many faults more
+begun-on : (entries : List Entry) (faults : ℕ) (proof : Option OpenProof) (new : Option OpenState) →
+    proving.IsBegunIf (opened_state proof) (told entries) faults new → (now : Option OpenProof) × GoesOnFailing faults proof now
+    × (new ≡ opened_state now)
+begun-on entries faults None new (e, n) = (None, (refl, n), e)
+begun-on entries faults (Some p) None b = absurd b
+begun-on entries faults (Some p) (Some o) b =
+    let (n, e) = b.bytes in
+    let more = take n (lines_written (encoding_of p.format) (told entries (encoding_of p.format))) in
+    let now : OpenProof = record p { bytes = p.bytes ++ more; faults = p.faults + faults } in (
+      Some now,
+      (more, refl),
+      ap (λ (x : OpenState). Some x) b.rest
+          ∙ ap (λ (x : Taken). let y : OpenState = record { format = p.format; taken = x; searched = p.searched } in Some y)
+          (ap (λ (xs : List ℕ). let t : Taken = record { bytes = xs; faults = o.taken.faults } in t) (e ∙ append_assoc p.first p.bytes more)
+          ∙ ap (λ (k : ℕ). let t : Taken = record { bytes = p.first ++ (p.bytes ++ more); faults = k } in t) b.faults),
+    )
+
+pub broken-on : (p q : ProofParts) (faults : ℕ) (proof : Option OpenProof) → p.opened ≡ opened_state proof → BreaksProof p faults q →
+    (now : Option OpenProof) × GoesOnFailing faults proof now × (q.opened ≡ opened_state now)
+broken-on p q faults proof e (entries, b, _) =
+    begun-on entries faults proof q.opened (subst (λ (o : Option OpenState). proving.IsBegunIf o (told entries) faults q.opened) e b)
+
 -- 4. How a proof opens and closes.
 
 pub first-same : (f : ProofFormat) (t : Taken) → (let o : OpenState = record { format = f; taken = t; searched = false } in Some o) ≡ opened_state
@@ -152,12 +198,18 @@ pub first-same : (f : ProofFormat) (t : Taken) → (let o : OpenState = record {
 first-same f t = ap (λ (xs : List ℕ). let o : OpenState =
     record { format = f; taken = record { bytes = xs; faults = t.faults }; searched = false } in Some o) (sym (append-nil t.bytes))
 
-pub first-written : (variables : ℕ → Option ℕ) (f : ProofFormat) (t : Taken) (told : List Entry) → IsDrat f → lines_of told ≡ [] →
+-- that variables leave has no line
+pub leaves-unwritten : (variables : ℕ → Option ℕ) (e : Encoding) (told : List Entry) → OnlyLeave told → lines_told e (entries_over variables told) ≡ []
+leaves-unwritten variables e [] o = refl
+leaves-unwritten variables e (Accepts c ∷ es) o = absurd o
+leaves-unwritten variables e (Writes line ∷ es) o = absurd o
+leaves-unwritten variables e (Assumes a ∷ es) o = absurd o
+leaves-unwritten variables e (Fails core ∷ es) o = absurd o
+leaves-unwritten variables e (Leaves v ∷ es) o = leaves-unwritten variables e es o
+
+pub first-written : (variables : ℕ → Option ℕ) (f : ProofFormat) (t : Taken) (told : List Entry) → OnlyLeave told →
     IsWrittenIf variables told (Some (first_proof f t))
-first-written variables f t told d none = record {
-  drat = d;
-  bytes = ap (λ ls. lines_written (encoding_of f) (plain_lines (map (rename_line (carry variables)) ls))) (sym none);
-}
+first-written variables f t told o = ap (lines_written (encoding_of f)) (sym (leaves-unwritten variables (encoding_of f) told o))
 
 -- what comes back as a proof closes, whatever errors may be
 pub closed-back : {W : Type 0} (D E : Type 0) (taken : W → Taken) (opened : Option OpenState) (back : Option W) →
@@ -187,10 +239,10 @@ pub searched-state : (o : Option OpenProof) → marked_searched (opened_state o)
 searched-state None = refl
 searched-state (Some p) = refl
 
-searched-written : (variables : ℕ → Option ℕ) (told : List Entry) (o : Option OpenProof) → IsWrittenIf variables told o →
+pub searched-written : (variables : ℕ → Option ℕ) (told : List Entry) (o : Option OpenProof) → IsWrittenIf variables told o →
     IsWrittenIf variables told (searched_under o)
 searched-written variables told None w = tt
-searched-written variables told (Some p) w = record { drat = w.drat; bytes = w.bytes }
+searched-written variables told (Some p) w = w
 
 pub searched-fits : (o : Option OpenState) (variables : ℕ → Option ℕ) (told : List Entry) (proof : Option OpenProof) → ProofFits o variables told proof →
     ProofFits (marked_searched o) variables told (searched_under proof)
@@ -215,9 +267,21 @@ fitted-before o variables told proof f = go o proof f.same f.written
           Some q,
           record {
             same = ap (λ (x : OpenState). let y : OpenState = record x { searched = a.searched } in Some y) same;
-            written = record { drat = w.drat; bytes = w.bytes };
+            written = w;
           },
         )
+
+-- where it can't be flushed its target failed once more
+pub flushed-on : (o h : Option OpenState) (cause : Error) (proof : Option OpenProof) → o ≡ opened_state proof →
+    Flushes {E = Error} (marked_searched o) (Err cause) h → (now : Option OpenProof) × GoesOnFailing 1 (searched_under proof) now × (h ≡ opened_state now)
+flushed-on o h cause proof e f = go proof (subst (λ (x : Option OpenState). Flushes {E = Error} (marked_searched x) (Err cause) h) e f)
+  where
+    go : (proof : Option OpenProof) → Flushes {E = Error} (marked_searched (opened_state proof)) (Err cause) h →
+        (now : Option OpenProof) × GoesOnFailing 1 (searched_under proof) now × (h ≡ opened_state now)
+    go None f = absurd f
+    go (Some p) f =
+        let now : OpenProof = record p { searched = true; faults = p.faults + 1 } in
+        (Some now, ([], ap (λ (xs : List ℕ). let q : OpenProof = record now { bytes = xs } in Some q) (sym (append-nil p.bytes))), f)
 
 pub goes-on-searched : (p q : Option OpenProof) → GoesOnWriting p q → GoesOnWriting (searched_under p) (searched_under q)
 goes-on-searched None q e = ap searched_under e
@@ -227,30 +291,71 @@ pub open-before : (p q : Option OpenProof) → GoesOnWriting p q → IsOpen q �
 open-before None q e (o, is) = let z : None ≡ Some o = sym e ∙ is in absurd cc
 open-before (Some p) q e o = (p, refl)
 
-pub open-marked : (p : Option OpenProof) → IsOpen (searched_under p) → IsOpen p
-open-marked None (o, e) = absurd cc
-open-marked (Some p) o = (p, refl)
+-- 6. What an open proof bars.
+
+-- formats stay, so that assumptions are barred as they were
+pub barred-before : (p q : Option OpenProof) → GoesOnWriting p q → BarsAssumptions q → BarsAssumptions p
+barred-before None q g (o, e, b) = let z : None ≡ Some o = sym g ∙ e in absurd cc
+barred-before (Some p) q (more, g) (o, e, b) =
+    let now : OpenProof = record p { bytes = p.bytes ++ more } in
+    let some : Some now ≡ Some o = sym g ∙ e in
+    let same : now ≡ o = cc in
+    (p, refl, ap (λ (x : OpenProof). has_marks x.format) same ∙ b)
+
+pub barred-marked : (p : Option OpenProof) → BarsAssumptions (searched_under p) → BarsAssumptions p
+barred-marked None (o, e, b) = absurd cc
+barred-marked (Some p) (o, e, b) =
+    let now : OpenProof = record p { searched = true } in
+    let some : Some now ≡ Some o = e in
+    let same : now ≡ o = cc in
+    (p, refl, ap (λ (x : OpenProof). has_marks x.format) same ∙ b)
+
+bars-state : (proof : Option OpenProof) → BarsAssumptions proof → bars_assumptions (opened_state proof) ≡ true
+bars-state proof (o, e, b) = ap (λ (x : Option OpenProof). bars_assumptions (opened_state x)) e ∙ ap not b
+
+state-bars : (proof : Option OpenProof) → bars_assumptions (opened_state proof) ≡ true → BarsAssumptions proof
+state-bars None e = let z : false ≡ true = e in absurd cc
+state-bars (Some p) e = (p, refl, go (has_marks p.format) e)
+  where
+    go : (b : Bool) → not b ≡ true → b ≡ false
+    go true n = let z : false ≡ true = n in absurd cc
+    go false n = refl
 
 -- an open proof that was not marked yet is one that was
-pub open-fitted : (o : Option OpenState) (variables : ℕ → Option ℕ) (told : List Entry) (before proof : Option OpenProof) → ProofFits o variables told before →
-    ProofFits (marked_searched o) variables told proof → IsOpen before → IsOpen proof
-open-fitted o variables told before None f g (p, e) =
-    let z : None ≡ marked_searched (opened_state (Some p)) = sym (g.same) ∙ ap marked_searched (f.same ∙ ap opened_state e) in absurd cc
-open-fitted o variables told before (Some p) f g h = (p, refl)
+pub barred-fitted : (o : Option OpenState) (variables : ℕ → Option ℕ) (told : List Entry) (before proof : Option OpenProof) →
+    ProofFits o variables told before → ProofFits (marked_searched o) variables told proof → BarsAssumptions before → BarsAssumptions proof
+barred-fitted o variables told before proof f g b =
+    state-bars proof (ap bars_assumptions (sym g.same) ∙ marked o ∙ ap bars_assumptions f.same ∙ bars-state before b)
+  where
+    marked : (o : Option OpenState) → bars_assumptions (marked_searched o) ≡ bars_assumptions o
+    marked None = refl
+    marked (Some p) = refl
 
--- whether `solve` was called under the open proof
-searched-same : (o : Option OpenProof) → IsSearched o → is_searched (opened_state o) ≡ true
-searched-same None e = absurd cc
-searched-same (Some p) e = let z : Some p.searched ≡ Some true = e in cc
+-- what holds the proof bars what it bars
+pub barred-there : (o : Option OpenState) (variables : ℕ → Option ℕ) (told : List Entry) (proof : Option OpenProof) (b : Bool) →
+    ProofFits o variables told proof → b ≡ bars_assumptions o → b ≡ true → BarsAssumptions proof
+barred-there o variables told proof b f e t = state-bars proof (ap bars_assumptions (sym f.same) ∙ sym e ∙ t)
 
-same-searched : (o : Option OpenProof) → is_searched (opened_state o) ≡ true → IsSearched o
-same-searched None e = absurd cc
-same-searched (Some p) e = ap Some e
+pub unbarred-there : (o : Option OpenState) (variables : ℕ → Option ℕ) (told : List Entry) (proof : Option OpenProof) (b : Bool) →
+    ProofFits o variables told proof → b ≡ bars_assumptions o → b ≡ false → BarsAssumptions proof → ⊥
+unbarred-there o variables told proof b f e n s = let z : false ≡ true = sym n ∙ e ∙ ap bars_assumptions f.same ∙ bars-state proof s in cc
 
-pub searched-there : (o : Option OpenState) (variables : ℕ → Option ℕ) (told : List Entry) (proof : Option OpenProof) (b : Bool) →
-    ProofFits o variables told proof → b ≡ is_searched o → b ≡ true → IsSearched proof
-searched-there o variables told proof b f e t = same-searched proof (ap is_searched (sym f.same) ∙ sym e ∙ t)
+closed-state : (proof : Option OpenProof) → BarsClauses proof → bars_clauses (opened_state proof) ≡ true
+closed-state proof (o, e, s, b) = ap (λ (x : Option OpenProof). bars_clauses (opened_state x)) e ∙ ap (λ x. x && not (has_marks o.format)) s ∙ ap not b
 
-pub unsearched-there : (o : Option OpenState) (variables : ℕ → Option ℕ) (told : List Entry) (proof : Option OpenProof) (b : Bool) →
-    ProofFits o variables told proof → b ≡ is_searched o → b ≡ false → IsSearched proof → ⊥
-unsearched-there o variables told proof b f e n s = let z : false ≡ true = sym n ∙ e ∙ ap is_searched f.same ∙ searched-same proof s in cc
+state-closed : (proof : Option OpenProof) → bars_clauses (opened_state proof) ≡ true → BarsClauses proof
+state-closed None e = let z : false ≡ true = e in absurd cc
+state-closed (Some p) e = let (s, b) = go p.searched (has_marks p.format) e in (p, refl, s, b)
+  where
+    go : (a b : Bool) → (a && not b) ≡ true → (a ≡ true) × (b ≡ false)
+    go true true n = let z : false ≡ true = n in absurd cc
+    go true false n = (refl, refl)
+    go false b n = let z : false ≡ true = n in absurd cc
+
+pub closed-there : (o : Option OpenState) (variables : ℕ → Option ℕ) (told : List Entry) (proof : Option OpenProof) (b : Bool) →
+    ProofFits o variables told proof → b ≡ bars_clauses o → b ≡ true → BarsClauses proof
+closed-there o variables told proof b f e t = state-closed proof (ap bars_clauses (sym f.same) ∙ sym e ∙ t)
+
+pub unclosed-there : (o : Option OpenState) (variables : ℕ → Option ℕ) (told : List Entry) (proof : Option OpenProof) (b : Bool) →
+    ProofFits o variables told proof → b ≡ bars_clauses o → b ≡ false → BarsClauses proof → ⊥
+unclosed-there o variables told proof b f e n s = let z : false ≡ true = sym n ∙ e ∙ ap bars_clauses f.same ∙ closed-state proof s in cc

@@ -1,5 +1,6 @@
 -- What a past says of the journal and of an open proof.
 use Rattle.std.proofs.Common.{◌≡◌, ℕ, suc, ◌+◌, ◌-◌, ◌≤◌, Bool, true, false, Option, Some, None, List, [], ◌∷◌, ◌++◌, map, sym, ap, ◌∙◌, subst, refl, arith}
+use Rattle.std.proofs.lemmas.List.{append-nil}
 use Rattle.varisat_theory.specs.Literals.{Literal, Clause}
 use Rattle.varisat_theory.specs.Derivations.{Line, Add, Delete}
 use Rattle.varisat_theory.specs.Renaming.{rename_line}
@@ -11,8 +12,9 @@ use Rattle.varisat_theory.proofs.NewClauses.{adding_leads, adding_adds}
 use Rattle.varisat_theory.proofs.StepStands.{added_append}
 use Rattle.varisat_formula.specs.Streams.{Taken}
 use Rattle.varisat_proof.specs.declared.proof.format.ProofFormat.{ProofFormat}
-use Rattle.varisat.specs.Journals.{TellsMore}
-use Rattle.varisat.specs.OpenProofs.{OpenProof, IsSearched, GoesOnWriting, searched_under, first_proof, lines_over}
+use Rattle.varisat.specs.Journals.{TellsMore, AreDerived, EndWithCore}
+use Rattle.varisat.specs.OpenProofs.{OpenProof, GoesOnWriting, GoesOnFailing, searched_under, first_proof, lines_over, BarsClauses, BarsAssumptions}
+use Rattle.varisat_proof.specs.Lines.{has_marks}
 use Rattle.varisat.specs.Carried.{carry}
 use Rattle.varisat.specs.Pasts as past
 use Rattle.varisat.specs.Pasts.{Past, PastProof}
@@ -22,7 +24,7 @@ use Rattle.varisat.specs.Pasts.{Past, PastProof}
 -- what is said of it, where interrupted calls made so many steps since it was opened
 abbrev pub past_proof : ℕ → Option OpenProof → Option PastProof
 past_proof n None = None
-past_proof n (Some o) = Some (record { format = o.format; first = o.first; searched = o.searched; interrupted_steps = n })
+past_proof n (Some o) = Some (record { format = o.format; first = o.first; faults = o.faults; searched = o.searched; interrupted_steps = n })
 
 -- the same of one with more bytes
 same-proof : (n : ℕ) (p q : Option OpenProof) → GoesOnWriting p q → past_proof n q ≡ past_proof n p
@@ -33,20 +35,82 @@ searched-same : (n k : ℕ) (o : Option OpenProof) → past_proof (n + k) (searc
 searched-same n k None = refl
 searched-same n k (Some p) = refl
 
-pub searched-past : (n : ℕ) (proof : Option OpenProof) (p : Option PastProof) → past_proof n proof ≡ p → IsSearched proof → (o : PastProof) × (p ≡ Some o)
-    × (o.searched ≡ true)
-searched-past n None p e h = absurd cc
-searched-past n (Some q) p e h =
-    let z : Some q.searched ≡ Some true = h in
-    (record { format = q.format; first = q.first; searched = q.searched; interrupted_steps = n }, sym e, cc)
+-- it bars what it bars
+pub closed-past : (n : ℕ) (proof : Option OpenProof) (p : Option PastProof) → past_proof n proof ≡ p → BarsClauses proof → (o : PastProof) × (p ≡ Some o)
+    × (o.searched ≡ true) × (has_marks o.format ≡ false)
+closed-past n proof p e (q, is, searched, b) = (
+  record { format = q.format; first = q.first; faults = q.faults; searched = q.searched; interrupted_steps = n },
+  sym e ∙ ap (past_proof n) is,
+  searched,
+  b,
+)
 
-pub searched-state : (n : ℕ) (proof : Option OpenProof) (o : PastProof) → past_proof n proof ≡ Some o → o.searched ≡ true → IsSearched proof
-searched-state n None o e b = absurd cc
-searched-state n (Some q) o e b =
-    let is : PastProof = record { format = q.format; first = q.first; searched = q.searched; interrupted_steps = n } in
+pub closed-state : (n : ℕ) (proof : Option OpenProof) (o : PastProof) → past_proof n proof ≡ Some o → o.searched ≡ true → has_marks o.format ≡ false →
+    BarsClauses proof
+closed-state n None o e s b = absurd cc
+closed-state n (Some q) o e s b =
+    let is : PastProof = record { format = q.format; first = q.first; faults = q.faults; searched = q.searched; interrupted_steps = n } in
     let some : Some is ≡ Some o = e in
     let same : is ≡ o = cc in
-    ap (λ (x : PastProof). Some x.searched) same ∙ ap Some b
+    (q, refl, ap (λ (x : PastProof). x.searched) same ∙ s, ap (λ (x : PastProof). has_marks x.format) same ∙ b)
+
+pub barred-past : (n : ℕ) (proof : Option OpenProof) (p : Option PastProof) → past_proof n proof ≡ p → BarsAssumptions proof → (o : PastProof)
+    × (p ≡ Some o) × (has_marks o.format ≡ false)
+barred-past n proof p e (q, is, b) =
+    (record { format = q.format; first = q.first; faults = q.faults; searched = q.searched; interrupted_steps = n }, sym e ∙ ap (past_proof n) is, b)
+
+pub barred-state : (n : ℕ) (proof : Option OpenProof) (o : PastProof) → past_proof n proof ≡ Some o → has_marks o.format ≡ false → BarsAssumptions proof
+barred-state n None o e b = absurd cc
+barred-state n (Some q) o e b =
+    let is : PastProof = record { format = q.format; first = q.first; faults = q.faults; searched = q.searched; interrupted_steps = n } in
+    let some : Some is ≡ Some o = e in
+    let same : is ≡ o = cc in
+    (q, refl, ap (λ (x : PastProof). has_marks x.format) same ∙ b)
+
+-- What is known of the target of an open proof, also once no way led back: what it had when the proof was opened, and how often it failed.
+abbrev pub KnowsTarget : Option OpenProof → Option PastProof → Type 0
+KnowsTarget None None = Unit {0}
+KnowsTarget None (Some x) = ⊥
+KnowsTarget (Some o) None = ⊥
+KnowsTarget (Some o) (Some x) = (x.first ≡ o.first) × (x.faults ≡ o.faults)
+
+pub target-known : (n : ℕ) (u : Option OpenProof) (x : Option PastProof) → past_proof n u ≡ x → KnowsTarget u x
+target-known n u x e = subst (KnowsTarget u) e (go u)
+  where
+    go : (u : Option OpenProof) → KnowsTarget u (past_proof n u)
+    go None = tt
+    go (Some o) = (refl, refl)
+
+-- it has further bytes, and failed so many times more
+pub target-failed : (n : ℕ) (u w : Option OpenProof) (x : Option PastProof) → KnowsTarget u x → GoesOnFailing n u w → KnowsTarget w (past.failed n x)
+target-failed n None w None k (e, z) = subst (λ o. KnowsTarget o None) (sym e) tt
+target-failed n None w (Some x) k g = absurd k
+target-failed n (Some o) w None k g = absurd k
+target-failed n (Some o) w (Some x) (first, faults) (more, e) =
+    subst (λ p. KnowsTarget p (Some (record x { faults = x.faults + n }))) (sym e) (first, ap (λ m. m + n) faults)
+
+pub target-searched : (u : Option OpenProof) (x : Option PastProof) → KnowsTarget u x → KnowsTarget (searched_under u) x
+target-searched None None k = tt
+target-searched None (Some x) k = k
+target-searched (Some o) None k = k
+target-searched (Some o) (Some x) k = k
+
+-- a proof that is open is known
+pub target-there : (u : Option OpenProof) (o : OpenProof) (x : Option PastProof) → u ≡ Some o → KnowsTarget u x → (y : PastProof) × (x ≡ Some y)
+    × (y.first ≡ o.first) × (y.faults ≡ o.faults)
+target-there u o x e k = go x (subst (λ p. KnowsTarget p x) e k)
+  where
+    go : (x : Option PastProof) → KnowsTarget (Some o) x → (y : PastProof) × (x ≡ Some y) × (y.first ≡ o.first) × (y.faults ≡ o.faults)
+    go None k = absurd k
+    go (Some y) (first, faults) = (y, refl, first, faults)
+
+-- and where none is open none is known
+pub target-none : (u : Option OpenProof) (x : Option PastProof) → u ≡ None → KnowsTarget u x → x ≡ None
+target-none u x e k = go x (subst (λ p. KnowsTarget p x) e k)
+  where
+    go : (x : Option PastProof) → KnowsTarget None x → x ≡ None
+    go None k = refl
+    go (Some y) k = absurd k
 
 -- 2. What was told.
 
@@ -127,7 +191,7 @@ told-interrupted k n a b said u w o x m more g =
 -- a proof opens
 pub told-opened : (told : List Entry) (u : Option OpenProof) (said : List Entry) (o : Option PastProof) (f : ProofFormat) (taken : Taken) →
     KnowsTold told u said o →
-    KnowsTold told (Some (first_proof f taken)) said (Some (record { format = f; first = taken.bytes; searched = false; interrupted_steps = 0 }))
+    KnowsTold told (Some (first_proof f taken)) said (Some (past.first_proof f taken))
 told-opened told u said o f taken k =
     record { same = k.same; held = k.held; led = k.led; interrupted = 0; enough = omega arith; proof = refl }
 
@@ -140,28 +204,52 @@ told-closed told u said o k = record { same = k.same; held = k.held; led = k.led
 
 -- the same entries, from where the past says that they go on
 pub from-said : (n k : ℕ) (a b said : List Entry) → a ≡ said → n ≡ k → TellsMore n a b → TellsMore k said b
-from-said n k a b said e f m = subst (λ x. TellsMore x said b) f (subst (λ x. TellsMore n x b) e m)
+from-said n k a b said e f m = record {
+  entries = m.entries;
+  joined = m.joined ∙ ap (λ x. x ++ m.entries) e;
+  goes = subst (λ x. GoesOn x said m.entries) f (subst (λ x. GoesOn n x m.entries) e m.goes);
+}
+
+pub said-derived : (n k : ℕ) (a b said : List Entry) (e : a ≡ said) (f : n ≡ k) (m : TellsMore n a b) → AreDerived m.entries →
+    AreDerived (from-said n k a b said e f m).entries
+unfolding from-said
+said-derived n k a b said e f m d = d
+
+pub said-core : (n k : ℕ) (a b said : List Entry) (e : a ≡ said) (f : n ≡ k) (m : TellsMore n a b) (core : List Literal) → EndWithCore core m.entries →
+    EndWithCore core (from-said n k a b said e f m).entries
+unfolding from-said
+said-core n k a b said e f m core d = d
+
+-- nothing
+pub said-nothing : (n : ℕ) (a b : List Entry) → b ≡ a → TellsMore n a b
+said-nothing n a b e = record { entries = []; joined = e ∙ sym (append-nil a); goes = λ held d. (held, refl) }
+
+pub nothing-said : (n : ℕ) (a b : List Entry) (e : b ≡ a) → AreDerived (said-nothing n a b e).entries
+unfolding said-nothing
+nothing-said n a b e = tt
 
 pub like-past : (may_leave : Bool) (p q : Past) (before : List Entry) → before ≡ p.told → q ≡ past.retold q.told p → (m : TellsMore 0 before q.told) →
-    (may_leave ≡ false → NoneLeaves m.entries) → past.IsLikeButLeft may_leave p q
-like-past may_leave p q before e same m stays = record {
+    AreDerived m.entries → (may_leave ≡ false → NoneLeaves m.entries) → past.IsLikeButLeft may_leave p q
+like-past may_leave p q before e same m derived stays = record {
   same = same;
   told = record {
     entries = m.entries;
     joined = m.joined ∙ ap (λ x. x ++ m.entries) e;
     goes = subst (λ x. GoesOn 0 x m.entries) e m.goes;
   };
+  derived = derived;
   stays = stays;
 }
 
 pub interrupted-past : (p q : Past) (n : ℕ) (before : List Entry) → before ≡ p.told → n ≡ q.steps - p.steps → (m : TellsMore n before q.told) →
-    GoesOnAdding n before m.entries → (q.steps ≡ p.steps → q.told ≡ p.told) → past.IsInterrupted p q
-interrupted-past p q n before e f m more still = record {
+    GoesOnAdding n before m.entries → AreDerived m.entries → (q.steps ≡ p.steps → q.told ≡ p.told) → past.IsInterrupted p q
+interrupted-past p q n before e f m more derived still = record {
   told = record {
     entries = m.entries;
     joined = m.joined ∙ ap (λ x. x ++ m.entries) e;
     goes = subst (λ x. GoesOn x p.told m.entries) f (subst (λ x. GoesOn n x m.entries) e m.goes);
   };
   adds = subst (λ x. GoesOnAdding x p.told m.entries) f (subst (λ x. GoesOnAdding n x m.entries) e more);
+  derived = derived;
   still = still;
 }

@@ -2,23 +2,30 @@
 use Rattle.std.proofs.Common.{◌≡◌, ◌≢◌, ℕ, zero, suc, ◌<◌, ◌≤◌, ◌+◌, ◌-◌, ◌*◌, ◌^◌, nat_lt, if◌then◌else◌, Bool, true, false, List, [], ◌∷◌, ◌++◌, ◌⊎◌, inl, inr, ⊎_elim, sym, ap, ◌∙◌, subst, refl, Option, Some, None, Result, Ok, Err, map, arith, length}
 use Rattle.std.proofs.lemmas.Bool.{false_from_ne_true}
 use Rattle.std.specs.declared.alloc.AllocError.{AllocError}
-use Rattle.varisat_theory.specs.Membership.{◌∈◌}
+use Rattle.varisat_theory.specs.Membership.{◌∈◌, ◌⊆◌}
 use Rattle.varisat_theory.specs.Literals.{Literal, Clause, Assignment, variable_of, IsSatisfiable, IsFailedCore}
+use Rattle.varisat_theory.specs.CallBounds.{AreFew}
 use Rattle.varisat_theory.specs.Derivations.{IsDerivation, Refutes}
 use Rattle.varisat_formula.specs.declared.dimacs.error.DimacsError.{DimacsError}
 use Rattle.varisat_formula.specs.Dimacs.{Reading}
 use Rattle.varisat_formula.specs.Streams.{Stand, Taken}
 use Rattle.varisat_proof.specs.declared.proof.format.ProofFormat.{ProofFormat}
+use Rattle.varisat_proof.specs.declared.proof.format.ProofFormat.TheVariants.{Drat, BinaryDrat, Marked}
 use Rattle.varisat_proof.specs.Proving.{IsClosed}
 use Rattle.varisat_proof.specs.Lines.{encoding_of, plain_lines}
 use Rattle.varisat_proof.specs.Steps.{lines_written}
-use Rattle.varisat.specs.OpenProofs.{OpenProof, opened_state, IsOpen, IsSearched, first_proof, lines_over, HaveOwnVariables}
-use Rattle.varisat.specs.ProofCalls.{with_proof, HasProof, OpensProof, EnablesChecking, ClosesProof}
+use Rattle.varisat_proof.specs.declared.proof.format.Encoding.TheVariants.{Text}
+use Rattle.varisat_proof.specs.Marked.{state_of, nothing_told, TakesAll}
+use Rattle.varisat_proof.specs.Telling.{lines_told, bytes_told}
+use Rattle.varisat_proof.specs.Written.{AreInRange}
+use Rattle.varisat.specs.OpenProofs.{OpenProof, opened_state, IsOpen, BarsClauses, BarsAssumptions, first_proof, lines_over, entries_over, HaveOwnVariables}
+use Rattle.varisat.specs.ProofBytes.{IsMarkedDerivation}
+use Rattle.varisat.specs.ProofCalls.{with_proof, begin_checking, IsRefuted, HasProof, OpensProof, EnablesChecking, ClosesProof}
 use Rattle.varisat.specs.SelfChecking as checking
 use Rattle.varisat_names.specs.declared.config.SolverConfigUpdate.{SolverConfigUpdate}
 use Rattle.varisat_names.specs.Settings.{Settings, updated_settings}
 use Rattle.varisat_names.proofs.Maps.{updated-other, updated-all}
-use Rattle.varisat.specs.States.{State, Ledger, join_counted, Verdict, Unknown, Sat, Unsat, UnsatUnderAssumptions, empty_state, IsRight, HasRightVerdict}
+use Rattle.varisat.specs.States.{State, Ledger, join_counted, Verdict, Unknown, Sat, Unsat, UnsatUnderAssumptions, new_state, IsRight, HasRightVerdict}
 use Rattle.varisat.specs.Names.{Naming, Mode, bring, bring_next, bring_if_free, name_one, name_all, through_names, IsLeastFree, IsFirstWitness, free_name, set_mode, give_name, AreShown}
 use Rattle.varisat.specs.Models.{list_names, model_of, AreNamesInUse, IsCompletable, IsCoreToTell}
 use Rattle.varisat.specs.Additions as additions
@@ -36,8 +43,11 @@ use Rattle.varisat.specs.Pasts.{Past, PastProof, empty_past, accept, assume, IsU
 use Rattle.varisat.specs.declared.solver.SolverError.{SolverError}
 use Rattle.varisat.specs.declared.solver.SolverError.TheVariants.{Interrupted, ProofIoError, OutOfMemory, Invalid, ClauseStoreFull, WitnessVar, VariableLimit, AssumedVar, ClauseAfterSolve, ProofOpen, ProofTooLate, ConfigOutOfRange, Dimacs}
 use Rattle.varisat_literals.specs.Numbers.{variable_limit}
-use Rattle.varisat.proofs.ToldEntries.{tells, tells-through, accepts-goes, assumes-goes}
-use Rattle.varisat.proofs.PastJournals.{past_proof, KnowsTold, searched-past, searched-state, told-more, told-opened, told-closed, enough-over, like-past}
+use Rattle.varisat.proofs.ToldEntries.{tells-through, tells, accepts-goes, assumes-goes}
+use Rattle.varisat.proofs.PastJournals.{past_proof, KnowsTarget, target-known, target-failed, target-there, target-none, KnowsTold, told-more, told-opened, told-closed, enough-over, like-past, closed-past, closed-state, barred-past, barred-state}
+use Rattle.std.proofs.lemmas.List.{append-nil}
+use Rattle.varisat_proof.specs.Assumed.{lists_of, cores_of}
+use Rattle.varisat.proofs.GivenEntries.{lists-append, lists-derived, lists-on}
 use Rattle.varisat.proofs.VerdictAnswers.{told-fails, core-answer, no-core, reopened-core, assumed-no-core, reopened-not-true, reopened-false, right-reopened, assumed-not-true, right-assumed}
 use Rattle.varisat.proofs.ModelsFit.{completable}
 
@@ -87,11 +97,13 @@ pub record Knows (p : Past) (s : State) : Type 0 where
   pub capped : IsCapped s.naming
   pub clauses : s.clauses ≡ p.clauses
   pub assumed : s.assumptions ≡ p.assumptions
+  pub lists : lists_of s.told ≡ p.lists
   pub counted : s.counted ≡ p.counted
   pub model : p.has_model ≡ true → answer_of s.verdict ≡ Some true
   pub found : answer_of s.verdict ≡ Some true → p.has_model ≡ true
   pub failed : p.has_core ≡ true → answer_of s.verdict ≡ Some false
   pub core : (l : List Literal) → s.verdict ≡ UnsatUnderAssumptions l → p.has_core ≡ true
+  pub some : (l : List Literal) → s.verdict ≡ UnsatUnderAssumptions l → l ≢ []
   pub told : KnowsTold s.told s.proof p.told p.proof
   pub right : HasRightVerdict s
 
@@ -102,6 +114,7 @@ pub record Agrees (p : Past) (s : State) : Type 0 where
   pub steps : s.ledger.steps ≡ p.steps
   pub since : s.ledger.since ≡ p.since
   pub settings : s.ledger.settings ≡ p.settings
+  pub target : KnowsTarget s.proof p.proof
   pub knows : p.valid ≡ true → Knows p s
 
 -- what a call leads to
@@ -126,11 +139,13 @@ knows-still p s l u i c o told k = record {
   capped = k.capped;
   clauses = k.clauses;
   assumed = k.assumed;
+  lists = k.lists;
   counted = k.counted;
   model = k.model;
   found = k.found;
   failed = k.failed;
   core = k.core;
+  some = k.some;
   told = told;
   right = k.right;
 }
@@ -147,6 +162,7 @@ anew p s t e g = subst (Agrees (past.count_anew p)) (sym e) (record {
   steps = g.steps;
   since = refl;
   settings = g.settings;
+  target = g.target;
   knows = λ v. let k = g.knows v in knows-still p s (state.count_anew s).ledger s.proof 0 p.settings p.proof k.told k;
 })
 
@@ -159,13 +175,14 @@ agrees-still p q s t g e (v, b, c, n, u) k = record {
   steps = ap (λ x. x.steps) e ∙ g.steps ∙ sym c;
   since = ap (λ x. x.since) e ∙ sym n;
   settings = ap (λ x. x.settings) e ∙ g.settings ∙ sym u;
+  target = target-known k.told.interrupted t.proof q.proof k.told.proof;
   knows = λ _. k;
 }
 
 -- no way leads back
-breaks : (p : Past) (s t : State) → Agrees p s → state.Invalidates s t → Leads (past.Invalidates p) t
-breaks p s t g b = (
-  record p { valid = false },
+breaks : (faults : ℕ) (p : Past) (s t : State) → Agrees p s → state.Invalidates faults s t → Leads (past.Invalidates faults p) t
+breaks faults p s t g b = (
+  record p { valid = false; proof = past.failed faults p.proof },
   (sym g.valid ∙ b.valid, refl),
   record {
     valid = ap (λ x. x.valid) b.ledger;
@@ -174,6 +191,7 @@ breaks p s t g b = (
         ∙ g.steps;
     since = ap (λ x. x.since) b.ledger ∙ g.since;
     settings = ap (λ x. x.settings) b.ledger ∙ g.settings;
+    target = target-failed faults s.proof t.proof p.proof g.target b.proof;
     knows = λ e. absurd cc;
   },
 )
@@ -206,6 +224,7 @@ accepted p s t d n (w, after, e) g v =
       capped = subst IsCapped (sym e.naming) (capped-all d s.naming k.capped);
       clauses = e.clauses ∙ ap (λ P. P ++ c ∷ []) k.clauses ∙ ap (λ (m : Naming). p.clauses ++ map (through_names (name_all d m)) d ∷ []) k.naming;
       assumed = e.assumptions ∙ k.assumed;
+      lists = lists-on (s.told ++ Accepts c ∷ []) t.told e.told (lists-derived e.told.entries e.derived) ∙ lists-append s.told (Accepts c ∷ []) ∙ append-nil (lists_of s.told) ∙ k.lists;
       counted = e.counted ∙ ap (λ xs. join_counted xs (map variable_of c)) k.counted
           ∙ ap (λ (m : Naming). join_counted p.counted (map variable_of (map (through_names (name_all d m)) d))) k.naming;
       model = λ h. absurd cc;
@@ -213,11 +232,15 @@ accepted p s t d n (w, after, e) g v =
           (λ r. let z : Some false ≡ Some true = ap answer_of (sym (e.verdict ∙ r.0)) ∙ h in let y : false ≡ true = cc in cc)
           (λ r. reopened-not-true s.verdict (ap answer_of (sym (e.verdict ∙ r)) ∙ h)) cases);
       told = told-more 0 s.told t.told p.told s.proof t.proof p.proof k.told
-          (tells-through 0 0 s.told (s.told ++ Accepts c ∷ []) t.told (tells 0 s.told (Accepts c ∷ []) (accepts-goes s.told c)) e.told) e.proof;
+          (tells-through 0 0 s.told (s.told ++ Accepts c ∷ []) t.told (tells 0 s.told (Accepts c ∷ []) (accepts-goes s.told c)) e.told)
+          e.proof;
       failed = λ h. ⊎_elim (λ r. ap answer_of (e.verdict ∙ r.0)) (λ r. ap answer_of (e.verdict ∙ r) ∙ reopened-false s.verdict (k.failed h)) cases;
       core = λ l h. ⊎_elim
           (λ r. let z : Unsat ≡ UnsatUnderAssumptions l = sym (e.verdict ∙ r.0) ∙ h in absurd cc)
           (λ r. k.core l (reopened-core s.verdict l (sym (e.verdict ∙ r) ∙ h))) cases;
+      some = λ l h. ⊎_elim
+          (λ r. let z : Unsat ≡ UnsatUnderAssumptions l = sym (e.verdict ∙ r.0) ∙ h in absurd cc)
+          (λ r. k.some l (reopened-core s.verdict l (sym (e.verdict ∙ r) ∙ h))) cases;
       right = ⊎_elim
           (λ r. right-like t (s.clauses ++ c ∷ []) s.assumptions t.counted Unsat e.clauses e.assumptions refl (e.verdict ∙ r.0) r.1)
           (λ r. right-like t (s.clauses ++ c ∷ []) s.assumptions t.counted (reopened_verdict s.verdict) e.clauses e.assumptions refl (e.verdict ∙ r)
@@ -230,7 +253,7 @@ accepted-told p s t d (w, after, e) k =
     let c = map (through_names (name_all d s.naming)) d in
     like-past false (accept d p) (past.retold t.told (accept d p)) (s.told ++ Accepts c ∷ [])
     (ap (λ x. x ++ Accepts c ∷ []) k.told.same ∙ ap (λ (m : Naming). p.told ++ Accepts (map (through_names (name_all d m)) d) ∷ []) k.naming)
-    refl e.told e.stays
+    refl e.told e.derived e.stays
 
 -- under Unsat no assignment satisfies the clauses
 pub refuted : (p : Past) (s : State) → Knows p s → s.verdict ≡ Unsat → IsSatisfiable p.clauses → ⊥
@@ -251,9 +274,13 @@ crowded p s d k h = subst (λ (m : Naming). IsPastLimit d ⊎ IsCrowded (name_al
 pub has-open : (p : Past) (s : State) → Knows p s → IsOpen s.proof → past.HasOpenProof p
 has-open p s k (o, is) = (_, sym k.told.proof ∙ ap (past_proof k.told.interrupted) is)
 
--- none under which `solve` was called
-unsearched : (p : Past) (s : State) → Knows p s → (IsSearched s.proof → ⊥) → past.IsSearched p → ⊥
-unsearched p s k n (o, e, b) = n (searched-state k.told.interrupted s.proof o (k.told.proof ∙ e) b)
+-- none that bars clauses
+unclosed : (p : Past) (s : State) → Knows p s → (BarsClauses s.proof → ⊥) → past.BarsClauses p → ⊥
+unclosed p s k n (o, e, searched, b) = n (closed-state k.told.interrupted s.proof o (k.told.proof ∙ e) searched b)
+
+-- none that bars assumptions
+unbarred : (p : Past) (s : State) → Knows p s → (BarsAssumptions s.proof → ⊥) → past.BarsAssumptions p → ⊥
+unbarred p s k n (o, e, b) = n (barred-state k.told.interrupted s.proof o (k.told.proof ∙ e) b)
 
 -- and none at all
 none-open : (p : Past) (s : State) → Knows p s → s.proof ≡ None → p.proof ≡ None
@@ -267,25 +294,25 @@ add-clause p s t d (Ok u) g (v, state.Accepted n lim a) =
     let w = sym g.valid ∙ v in
     let k = g.knows w in (
       past.retold t.told (accept d p),
-      (w, past.Accepted (unsearched p s k n.unsearched) (may-constrain p s d k lim) (accepted-told p s t d a k)),
+      (w, past.Accepted (unclosed p s k n.unbarred) (may-constrain p s d k lim) (accepted-told p s t d a k)),
       accepted p s t d n.unrefuted a g w,
     )
 add-clause p s t d (Err OutOfMemory) g (n, lim, b) =
     let k = knows-of p s g b.valid in
-    let (q, c, h) = breaks p s t g b in (q, (unsearched p s k n.unsearched, may-constrain p s d k lim, c), h)
-add-clause p s t d (Err ClauseStoreFull) g (n, lim, b) =
+    let (q, c, h) = breaks 0 p s t g b in (q, (unclosed p s k n.unbarred, may-constrain p s d k lim, c), h)
+add-clause p s t d (Err ClauseStoreFull) g (n, lim, b, full) =
     let k = knows-of p s g b.valid in
-    let (q, c, h) = breaks p s t g b in (q, (unsearched p s k n.unsearched, may-constrain p s d k lim, c), h)
+    let (q, c, h) = breaks 0 p s t g b in (q, (unclosed p s k n.unbarred, may-constrain p s d k lim, c), h)
 add-clause p s t d (Err (ProofIoError cause)) g (o, n, lim, b) =
     let k = knows-of p s g b.valid in
-    let (q, c, h) = breaks p s t g b in (q, (has-open p s k o, unsearched p s k n.unsearched, may-constrain p s d k lim, c), h)
+    let (q, c, h) = breaks 1 p s t g b in (q, (has-open p s k o, unclosed p s k n.unbarred, may-constrain p s d k lim, c), h)
 add-clause p s t d (Err ClauseAfterSolve) g (v, n, is, e) =
-    let k = (knows-of p s g v).told in (p, (sym g.valid ∙ v, searched-past k.interrupted s.proof p.proof k.proof is, refl), stays p s t e g)
+    let k = (knows-of p s g v).told in (p, (sym g.valid ∙ v, closed-past k.interrupted s.proof p.proof k.proof is, refl), stays p s t e g)
 add-clause p s t d (Err Invalid) g a = (p, (sym g.valid ∙ a.0, refl), stays p s t a.1 g)
 add-clause p s t d (Err VariableLimit) g (v, n, over, e) =
-    let k = knows-of p s g v in (p, (sym g.valid ∙ v, unsearched p s k n.unsearched, crowded p s d k over, refl), stays p s t e g)
+    let k = knows-of p s g v in (p, (sym g.valid ∙ v, unclosed p s k n.unbarred, crowded p s d k over, refl), stays p s t e g)
 add-clause p s t d (Err (WitnessVar u)) g (v, n, within, is, e) =
-    let k = knows-of p s g v in (p, (sym g.valid ∙ v, unsearched p s k n.unsearched, within, first-witness p s d u k is, refl), stays p s t e g)
+    let k = knows-of p s g v in (p, (sym g.valid ∙ v, unclosed p s k n.unbarred, within, first-witness p s d u k is, refl), stays p s t e g)
 add-clause p s t d (Err e) g a = absurd a
 
 -- 4. Formulas and texts.
@@ -309,7 +336,7 @@ add-formula p s t P r g (RefusedAtOnce e (v, k)) = (p, RefusedAtOnce e (sym g.va
 tell-fault : (p : Past) (s t : State) (x : Option DimacsError) (r : Result (Unit {0}) SolverError) → Agrees p s → state.TellsFault x s r t →
     Leads (λ q. additions.TellsFault past.adding x p r q) t
 tell-fault p s t x r g (NoFault n e k) = (past.count_anew p, NoFault n e refl, anew p s t k g)
-tell-fault p s t x r g (MemoryFault y n m e b) = let (q, c, h) = breaks p s t g b in (q, MemoryFault y n m e c, h)
+tell-fault p s t x r g (MemoryFault y n m e b) = let (q, c, h) = breaks 0 p s t g b in (q, MemoryFault y n m e c, h)
 tell-fault p s t x r g (Fault y n m e k) = (p, Fault y n m e refl, stays p s t k g)
 
 add-reading : (p : Past) (s t : State) (R : Reading) (r : Result (Unit {0}) SolverError) → Agrees p s → additions.AddsReading state.adding s R r t →
@@ -345,11 +372,13 @@ knows-like p s t m b x d l e h f k = record {
   capped = subst IsCapped (sym e.naming) h;
   clauses = e.clauses ∙ k.clauses;
   assumed = e.assumptions ∙ k.assumed;
+  lists = lists-on s.told t.told e.told (lists-derived e.told.entries e.derived) ∙ k.lists;
   counted = e.counted ∙ k.counted;
   model = λ x. ap answer_of e.verdict ∙ k.model x;
   found = λ x. k.found (sym (ap answer_of e.verdict) ∙ x);
   failed = λ x. ap answer_of e.verdict ∙ k.failed x;
   core = λ l h. k.core l (sym e.verdict ∙ h);
+  some = λ l h. k.some l (sym e.verdict ∙ h);
   told = told-more 0 s.told t.told p.told s.proof t.proof p.proof k.told e.told e.proof;
   right = right-like t s.clauses s.assumptions s.counted s.verdict e.clauses e.assumptions e.counted e.verdict k.right;
 }
@@ -367,11 +396,11 @@ make-var p s t (Ok u) g (v, free, small, e) =
     let made : Past = record p { started = true; naming = name_one u p.naming; since = 0 } in
     let q : Past = past.retold t.told made in (
       q,
-      (w, subst (λ (m : Naming). IsLeastFree m u) k.naming free, small, like-past false made q s.told k.told.same refl e.told e.stays),
+      (w, subst (λ (m : Naming). IsLeastFree m u) k.naming free, small, like-past false made q s.told k.told.same refl e.told e.derived e.stays),
       agrees-still p q s t g e.ledger (refl, refl, refl, refl, refl)
           (named p s t u e k),
     )
-make-var p s t (Err OutOfMemory) g a = breaks p s t g a.1
+make-var p s t (Err OutOfMemory) g a = breaks 0 p s t g a.1
 make-var p s t (Err Invalid) g a = (p, (sym g.valid ∙ a.0, refl), stays p s t a.1 g)
 make-var p s t (Err VariableLimit) g (v, full, same) =
     let k = knows-of p s g v in (
@@ -397,6 +426,8 @@ renamed p s t m b x e c f g v = record {
   steps = ap (λ x. x.steps) e.ledger ∙ g.steps;
   since = ap (λ x. x.since) e.ledger;
   settings = ap (λ x. x.settings) e.ledger ∙ g.settings;
+  target = let k = knows-like p s t m b x p.started (record s.ledger { since = 0 }) e c f (g.knows v) in
+      target-known k.told.interrupted t.proof p.proof k.told.proof;
   knows = λ _. knows-like p s t m b x p.started (record s.ledger { since = 0 }) e c f (g.knows v);
 }
 
@@ -424,7 +455,7 @@ changes-var may_leave f b keeps p s t u (Ok x) g (v, small, free, e) =
         w,
         small,
         (λ h. free (assumed-state p s u k h)),
-        like-past may_leave (changed p.naming) q s.told k.told.same (ap (λ (n : Naming). past.retold t.told (changed n)) k.naming) e.told e.stays,
+        like-past may_leave (changed p.naming) q s.told k.told.same (ap (λ (n : Naming). past.retold t.told (changed n)) k.naming) e.told e.derived e.stays,
       ),
       renamed p s t m (b s.ever_hidden) (b p.ever_hidden) e (keeps (name_one u s.naming) (capped-one u s.naming k.capped)) (ap b k.hidden) g w,
     )
@@ -437,7 +468,7 @@ changes-var may_leave f b keeps p s t u (Err (AssumedVar x)) g (v, small, own, h
     (p, (sym g.valid ∙ v, small, own, assumed-past p s u k h, refl), stays p s t same g)
 changes-var may_leave f b keeps p s t u (Err OutOfMemory) g (small, free, broken) =
     let k = knows-of p s g broken.valid in
-    let (q, c, h) = breaks p s t g broken in
+    let (q, c, h) = breaks 0 p s t g broken in
     (q, (small, (λ z. free (assumed-state p s u k z)), c), h)
 changes-var may_leave f b keeps p s t u (Err e) g a = absurd a
 
@@ -462,11 +493,11 @@ observe p s t (Ok us) g (v, (m, shown, e)) =
     let shows = subst (λ P. AreAllShown us P p.naming m) k.clauses (subst (λ (n : Naming). AreAllShown us s.clauses n m) k.naming shown) in
     let shown-past : Past = record p { naming = m; since = 0 } in (
       past.retold t.told shown-past,
-      (w, (m, shows, like-past false shown-past (past.retold t.told shown-past) s.told k.told.same refl e.told e.stays)),
+      (w, (m, shows, like-past false shown-past (past.retold t.told shown-past) s.told k.told.same refl e.told e.derived e.stays)),
       renamed p s t m s.ever_hidden p.ever_hidden e (capped-shown us s.naming m shown.in_turn k.capped) k.hidden g w,
     )
 observe p s t (Err Invalid) g a = (p, (sym g.valid ∙ a.0, refl), stays p s t a.1 g)
-observe p s t (Err OutOfMemory) g a = breaks p s t g a
+observe p s t (Err OutOfMemory) g a = breaks 0 p s t g a
 observe p s t (Err e) g a = absurd a
 
 -- 7. Assumptions.
@@ -483,14 +514,18 @@ assumed-list p s t list e g v =
       capped = subst IsCapped (sym e.naming) (capped-all list s.naming k.capped);
       clauses = e.clauses ∙ k.clauses;
       assumed = e.assumptions ∙ ap (λ (m : Naming). map (through_names (name_all list m)) list) k.naming;
+      lists = lists-on (s.told ++ Assumes c ∷ []) t.told e.told (lists-derived e.told.entries e.derived) ∙ lists-append s.told (Assumes c ∷ []) ∙ ap (λ x. x ++ c ∷ []) k.lists
+          ∙ ap (λ (m : Naming). p.lists ++ map (through_names (name_all list m)) list ∷ []) k.naming;
       counted = e.counted ∙ ap (λ xs. join_counted xs (map variable_of c)) k.counted
           ∙ ap (λ (m : Naming). join_counted p.counted (map variable_of (map (through_names (name_all list m)) list))) k.naming;
       model = λ x. absurd cc;
       found = λ x. absurd (assumed-not-true s.verdict (sym (ap answer_of e.verdict) ∙ x));
       failed = λ x. absurd cc;
       core = λ l h. absurd (assumed-no-core s.verdict l (sym e.verdict ∙ h));
+      some = λ l h. absurd (assumed-no-core s.verdict l (sym e.verdict ∙ h));
       told = told-more 0 s.told t.told p.told s.proof t.proof p.proof k.told
-          (tells-through 0 0 s.told (s.told ++ Assumes c ∷ []) t.told (tells 0 s.told (Assumes c ∷ []) (assumes-goes s.told c)) e.told) e.proof;
+          (tells-through 0 0 s.told (s.told ++ Assumes c ∷ []) t.told (tells 0 s.told (Assumes c ∷ []) (assumes-goes s.told c)) e.told)
+          e.proof;
       right = right-like t s.clauses t.assumptions t.counted (assumed_verdict s.verdict) e.clauses refl refl e.verdict
           (right-assumed s.clauses s.assumptions t.assumptions s.counted t.counted s.verdict k.right);
     })
@@ -501,7 +536,7 @@ assumed-told p s t list e k =
     let c = map (through_names (name_all list s.naming)) list in
     like-past false (assume list p) (past.retold t.told (assume list p)) (s.told ++ Assumes c ∷ [])
     (ap (λ x. x ++ Assumes c ∷ []) k.told.same ∙ ap (λ (m : Naming). p.told ++ Assumes (map (through_names (name_all list m)) list) ∷ []) k.naming)
-    refl e.told e.stays
+    refl e.told e.derived e.stays
 
 pub assume-list : (p : Past) (s t : State) (list : List Literal) (r : Result (Unit {0}) SolverError) → Agrees p s → state.Assumes s list r t →
     Leads (past.Assumes p list r) t
@@ -509,16 +544,20 @@ assume-list p s t list (Ok u) g (v, n, lim, e) =
     let w = sym g.valid ∙ v in
     let k = g.knows w in
     let q = past.retold t.told (assume list p) in
-    (q, (w, none-open p s k n, may-constrain p s list k lim, assumed-told p s t list e k), assumed-list p s t list e g w)
+    (q, (w, unbarred p s k n, may-constrain p s list k lim, assumed-told p s t list e k), assumed-list p s t list e g w)
 assume-list p s t list (Err OutOfMemory) g (n, lim, b) =
     let k = knows-of p s g b.valid in
-    let (q, c, h) = breaks p s t g b in (q, (none-open p s k n, may-constrain p s list k lim, c), h)
+    let (q, c, h) = breaks 0 p s t g b in (q, (unbarred p s k n, may-constrain p s list k lim, c), h)
+assume-list p s t list (Err (ProofIoError cause)) g (o, n, lim, b) =
+    let k = knows-of p s g b.valid in
+    let (q, c, h) = breaks 1 p s t g b in (q, (has-open p s k o, unbarred p s k n, may-constrain p s list k lim, c), h)
 assume-list p s t list (Err Invalid) g a = (p, (sym g.valid ∙ a.0, refl), stays p s t a.1 g)
-assume-list p s t list (Err ProofOpen) g (v, o, e) = (p, (sym g.valid ∙ v, has-open p s (knows-of p s g v) o, refl), stays p s t e g)
+assume-list p s t list (Err ProofOpen) g (v, o, e) =
+    let k = (knows-of p s g v).told in (p, (sym g.valid ∙ v, barred-past k.interrupted s.proof p.proof k.proof o, refl), stays p s t e g)
 assume-list p s t list (Err VariableLimit) g (v, n, over, e) =
-    let k = knows-of p s g v in (p, (sym g.valid ∙ v, none-open p s k n, crowded p s list k over, refl), stays p s t e g)
+    let k = knows-of p s g v in (p, (sym g.valid ∙ v, unbarred p s k n, crowded p s list k over, refl), stays p s t e g)
 assume-list p s t list (Err (WitnessVar u)) g (v, n, within, is, e) =
-    let k = knows-of p s g v in (p, (sym g.valid ∙ v, none-open p s k n, within, first-witness p s list u k is, refl), stays p s t e g)
+    let k = knows-of p s g v in (p, (sym g.valid ∙ v, unbarred p s k n, within, first-witness p s list u k is, refl), stays p s t e g)
 assume-list p s t list (Err e) g a = absurd a
 
 -- 8. Other settings.
@@ -534,6 +573,7 @@ config p s t u (Ok x) g (v, n, e) = (
     steps = g.steps;
     since = refl;
     settings = ap (λ c. updated_settings c u) g.settings;
+    target = g.target;
     knows = λ w. let k = g.knows w in knows-still p s (state.with_update u s).ledger s.proof 0 (updated_settings p.settings u) p.proof k.told k;
   }),
 )
@@ -555,21 +595,22 @@ config p s t u (Err (Dimacs cause)) g r = absurd r
 pub tell-since : (p : Past) (s t : State) (n : ℕ) → Agrees p s → state.TellsSince s n t → Leads (TellsSince past.is_valid (λ p. p.since) (λ p. p.counted) p n) t
 tell-since p s t n g (e, few, same) = (
   p,
-  (e ∙ g.since, (λ v. subst (λ (xs : List ℕ). n < 2 ^ (2 * length xs + 3)) (g.knows v).counted (few (g.valid ∙ v))), refl),
+  (e ∙ g.since, (λ v. subst (λ (xs : List ℕ). AreFew (length xs) n) (g.knows v).counted (few (g.valid ∙ v))), refl),
   stays p s t same g,
 )
 
 -- A proof opens.
 pub opens : (p : Past) (s t : State) (f : ProofFormat) (taken : Taken) → Agrees p s →
-    t ≡ state.count_anew (with_proof (Some (first_proof f taken)) s) → Agrees (past.opened f taken.bytes p) t
-opens p s t f taken g e = subst (Agrees (past.opened f taken.bytes p)) (sym e) (record {
+    t ≡ state.count_anew (with_proof (Some (first_proof f taken)) s) → Agrees (past.opened f taken p) t
+opens p s t f taken g e = subst (Agrees (past.opened f taken p)) (sym e) (record {
   valid = g.valid;
   started = g.started;
   steps = g.steps;
   since = refl;
   settings = g.settings;
+  target = (refl, refl);
   knows = λ v. let k = g.knows v in
-      knows-still p s (state.count_anew s).ledger (Some (first_proof f taken)) 0 p.settings (past.opened f taken.bytes p).proof
+      knows-still p s (state.count_anew s).ledger (Some (first_proof f taken)) 0 p.settings (past.opened f taken p).proof
       (told-opened s.told s.proof p.told p.proof f taken k.told) k;
 })
 
@@ -577,7 +618,7 @@ pub open-proof : {W : Type 0} (taken : W → Taken) (target : W) (format : Proof
     (r : Result (Unit {0}) (SolverError × W)) → Agrees p s → OpensProof taken target format s r t → Leads (past.ProofOpens taken target format p r) t
 open-proof taken target format p s t (Ok x) g (v, n, b, e) =
     let w = sym g.valid ∙ v in (
-      past.opened format (taken target).bytes p,
+      past.opened format (taken target) p,
       (w, none-open p s (g.knows w) n, sym g.started ∙ b, refl),
       opens p s t format (taken target) g e,
     )
@@ -596,58 +637,128 @@ closes p s t g e = subst (Agrees (past.closed p)) (sym e) (record {
   steps = g.steps;
   since = refl;
   settings = g.settings;
+  target = tt;
   knows = λ v. let k = g.knows v in
       knows-still p s (state.count_anew s).ledger None 0 p.settings None (told-closed s.told s.proof p.told p.proof k.told) k;
 })
 
--- what the target of an open proof took
-handed : (p : Past) (s : State) (o : OpenProof) (taken : List ℕ) → Knows p s → s.proof ≡ Some o → taken ≡ o.first ++ o.bytes → HasProof s →
-    past.HandsBack p taken
-handed p s o taken k e h has =
+-- what the past claims of the clauses the state does
+claimed : (p : Past) (s : State) → Knows p s → (f : ProofFormat) → past.IsRefuted f p → IsRefuted f s.verdict
+claimed p s k Drat c = k.failed c
+claimed p s k BinaryDrat c = k.failed c
+claimed p s k Marked (c, none) = go s.verdict refl
+  where
+    nothing : (list : List Literal) → list ⊆ [] → list ≡ []
+    nothing [] h = refl
+    nothing (l ∷ list) h = absurd (h l (inl refl))
+
+    go : (v : Verdict) → s.verdict ≡ v → s.verdict ≡ Unsat
+    go Unknown e = let z : None ≡ Some false = ap answer_of (sym e) ∙ k.failed c in absurd cc
+    go (Sat a) e = let z : Some true ≡ Some false = ap answer_of (sym e) ∙ k.failed c in let y : true ≡ false = cc in absurd cc
+    go Unsat e = e
+    go (UnsatUnderAssumptions list) e =
+        let fails = subst (IsRight s.clauses s.assumptions s.counted) e k.right in
+        absurd (k.some list e (nothing list (subst (λ A. list ⊆ A) (k.assumed ∙ none) fails.0)))
+
+marked-handed : (p : Past) (s : State) → Knows p s → (f : ProofFormat) → IsMarkedDerivation s.told s.clauses s.assumptions (IsRefuted f s.verdict) →
+    IsMarkedDerivation p.told p.clauses p.assumptions (past.IsRefuted f p)
+marked-handed p s k f m = record {
+  after = m.after;
+  takes = subst (λ es. TakesAll (state_of [] nothing_told) (lines_told (encoding_of Marked) es) m.after) k.told.same m.takes;
+  inputs = m.inputs ∙ k.clauses;
+  assumed = m.assumed ∙ k.assumed;
+  cores = m.cores ∙ ap (cores_of 0) k.told.same;
+  refutes = λ c. m.refutes (claimed p s k f c);
+}
+
+-- what is known of the bytes of an open proof
+proof-known : (p : Past) (s : State) (o : OpenProof) (opened : PastProof) → Knows p s → s.proof ≡ Some o → p.proof ≡ Some opened → HasProof s →
+    past.HasProof p opened o.bytes
+proof-known p s o opened k e is has =
     let a = has o e in
-    record {
-      opened = record { format = o.format; first = o.first; searched = o.searched; interrupted_steps = k.told.interrupted };
-      is_open = sym k.told.proof ∙ ap (past_proof k.told.interrupted) e;
-      bytes = o.bytes;
-      behind = h;
+    let known : PastProof = record { format = o.format; first = o.first; faults = o.faults; searched = o.searched; interrupted_steps = k.told.interrupted } in
+    let both : Some known ≡ Some opened = sym (ap (past_proof k.told.interrupted) e) ∙ k.told.proof ∙ is in
+    let same : known ≡ opened = cc in
+    subst (λ (x : PastProof). past.HasProof p x o.bytes) same (record {
       proof = record {
         variables = a.variables;
-        written = subst (λ es. o.bytes ≡ lines_written (encoding_of o.format) (plain_lines (lines_over a.variables es))) k.told.same a.written;
+        written = subst (λ es. o.bytes ≡ bytes_told o.format (entries_over a.variables es)) k.told.same a.written;
+        drat = λ n. subst (λ es. o.bytes ≡ lines_written (encoding_of o.format) (plain_lines (lines_over a.variables es))) k.told.same (a.drat n);
         apart = subst (HaveOwnVariables a.variables p.naming.made) k.told.same
             (subst (λ (m : Naming). HaveOwnVariables a.variables m.made s.told) k.naming a.apart);
-        plain = λ n. subst (λ es. lines_over a.variables es ≡ lines_of es) k.told.same (a.plain (k.hidden ∙ n));
+        plain = λ n. subst (λ es. entries_over a.variables es ≡ es) k.told.same (a.plain (k.hidden ∙ n));
+        in_range = λ n. subst (λ es. AreInRange (lines_told (Text true) es)) k.told.same (a.in_range (k.hidden ∙ n));
         derives = λ n. subst (λ es. IsDerivation p.clauses (lines_of es)) k.told.same
             (subst (λ P. IsDerivation P (lines_of s.told)) k.clauses (a.derives (k.hidden ∙ n)));
         refutes = λ n c. subst (λ es. Refutes p.clauses (lines_of es)) k.told.same
-            (subst (λ P. Refutes P (lines_of s.told)) k.clauses (a.refutes (k.hidden ∙ n) (k.failed c)));
+            (subst (λ P. Refutes P (lines_of s.told)) k.clauses (a.refutes (k.hidden ∙ n) (claimed p s k o.format c)));
+        marked = λ n. marked-handed p s k o.format (a.marked (k.hidden ∙ n));
       };
       enough = enough-over a.variables s.told p.told k.told.interrupted k.told.same k.told.enough;
+    })
+
+-- what the target of an open proof took
+handed : (p : Past) (s : State) (o : OpenProof) (faults : ℕ) (taken : Taken) → Agrees p s → s.proof ≡ Some o → taken.bytes ≡ o.first ++ o.bytes →
+    taken.faults ≡ o.faults + faults → (state.IsValid s → HasProof s) → past.HandsBack p faults taken
+handed p s o faults taken g e bytes more has =
+    let (opened, is, first, failed) = target-there s.proof o p.proof e g.target in
+    record {
+      opened = opened;
+      is_open = is;
+      failed = more ∙ ap (λ n. n + faults) (sym failed);
+      bytes = o.bytes;
+      behind = bytes ∙ ap (λ xs. xs ++ o.bytes) (sym first);
+      whole = λ v. proof-known p s o opened (g.knows v) e is (has (g.valid ∙ v));
     }
 
-hands-back : {W : Type 0} (taken : W → Taken) (p : Past) (s : State) (proof : Option OpenProof) (back : Option W) → s.proof ≡ proof → Knows p s →
-    IsClosed {E = SolverError} taken (opened_state proof) (Ok back) → HasProof s → past.HandsBackIf taken p back
-hands-back taken p s None None e k h has = none-open p s k e
-hands-back taken p s None (Some w) e k h has = absurd h
-hands-back taken p s (Some o) None e k h has = absurd h
-hands-back taken p s (Some o) (Some w) e k h has = handed p s o (taken w).bytes k e (ap (λ (x : Taken). x.bytes) h) has
+hands-back : {W : Type 0} (taken : W → Taken) (p : Past) (s : State) (proof : Option OpenProof) (back : Option W) → s.proof ≡ proof → Agrees p s →
+    IsClosed {E = SolverError} taken (opened_state proof) (Ok back) → (state.IsValid s → HasProof s) → past.HandsBackIf taken p back
+hands-back taken p s None None e g h has = target-none s.proof p.proof e g.target
+hands-back taken p s None (Some w) e g h has = absurd h
+hands-back taken p s (Some o) None e g h has = absurd h
+hands-back taken p s (Some o) (Some w) e g h has =
+    handed p s o 0 (taken w) g e (ap (λ (x : Taken). x.bytes) h) (let z = ap (λ (x : Taken). x.faults) h in omega (arith, z)) has
 
 hands-back-failed : {W : Type 0} (taken : W → Taken) (p : Past) (s : State) (proof : Option OpenProof) (x : SolverError) (w : W) → s.proof ≡ proof →
-    Knows p s → IsClosed taken (opened_state proof) (Err (x, w)) → HasProof s → past.HandsBack p (taken w).bytes
-hands-back-failed taken p s None x w e k h has = absurd h
-hands-back-failed taken p s (Some o) x w e k h has = handed p s o (taken w).bytes k e (ap (λ (y : Taken). y.bytes) h) has
+    Agrees p s → IsClosed taken (opened_state proof) (Err (x, w)) → (state.IsValid s → HasProof s) → past.HandsBack p 1 (taken w)
+hands-back-failed taken p s None x w e g h has = absurd h
+hands-back-failed taken p s (Some o) x w e g h has = handed p s o 1 (taken w) g e (ap (λ (y : Taken). y.bytes) h) (ap (λ (y : Taken). y.faults) h) has
+
+-- the past without a proof agrees with the state without one
+unproven : (p : Past) (s : State) → Agrees p s → Agrees (record p { proof = None }) (with_proof None s)
+unproven p s g = record {
+  valid = g.valid;
+  started = g.started;
+  steps = g.steps;
+  since = g.since;
+  settings = g.settings;
+  target = tt;
+  knows = λ v. let k = g.knows v in knows-still p s s.ledger None p.since p.settings None (told-closed s.told s.proof p.told p.proof k.told) k;
+}
 
 pub close : {W : Type 0} (taken : W → Taken) (p : Past) (s t : State) (r : Result (Option W) (SolverError × W)) → Agrees p s →
     ClosesProof taken s r t → Leads (past.ProofCloses taken p r) t
-close taken p s t (Ok back) g (h, e) =
-    (past.closed p, ((λ w. let (closed, has) = h (g.valid ∙ w) in hands-back taken p s s.proof back refl (g.knows w) closed has), refl), closes p s t g e)
+close taken p s t (Ok back) g (closed, has, e) = (past.closed p, (hands-back taken p s s.proof back refl g closed has, refl), closes p s t g e)
 close taken p s t (Err (ProofIoError cause, target)) g (closed, has, b) =
-    let (q, c, h) = breaks p s t g b in (q, (hands-back-failed taken p s s.proof (ProofIoError cause) target refl (knows-of p s g b.valid) closed has, c), h)
+    let (q, c, h) = breaks 0 (record p { proof = None }) (with_proof None s) t (unproven p s g) b in
+    (q, (hands-back-failed taken p s s.proof (ProofIoError cause) target refl g closed (λ v. has), c), h)
 close taken p s t (Err e) g a = absurd a
 
 -- Self checking is switched on.
+begins-checking : (p : Past) (s t : State) → t ≡ begin_checking s → Agrees p s → Agrees (past.count_anew p) t
+begins-checking p s t e g = subst (Agrees (past.count_anew p)) (sym e) (record {
+  valid = g.valid;
+  started = g.started;
+  steps = g.steps;
+  since = refl;
+  settings = g.settings;
+  target = g.target;
+  knows = λ v. let k = g.knows v in knows-still p s (begin_checking s).ledger s.proof 0 p.settings p.proof k.told k;
+})
+
 pub enable-checking : (p : Past) (s t : State) (r : Result (Unit {0}) SolverError) → Agrees p s → EnablesChecking s r t →
     Leads (checking.EnablesChecking past.is_valid (λ p. p.started) past.count_anew p r) t
-enable-checking p s t (Ok x) g (v, b, e) = (past.count_anew p, (sym g.valid ∙ v, sym g.started ∙ b, refl), anew p s t e g)
+enable-checking p s t (Ok x) g (v, b, e) = (past.count_anew p, (sym g.valid ∙ v, sym g.started ∙ b, refl), begins-checking p s t e g)
 enable-checking p s t (Err Invalid) g (v, e) = (p, (sym g.valid ∙ v, refl), stays p s t e g)
 enable-checking p s t (Err ProofTooLate) g (v, b, e) = (p, (sym g.valid ∙ v, sym g.started ∙ b, refl), stays p s t e g)
 enable-checking p s t (Err e) g a = absurd a
@@ -723,24 +834,27 @@ tell-core p s t (Err e) g (v, x, same) =
 
 -- 11. Before the first call.
 
-pub empty-agrees : Agrees empty_past empty_state
-empty-agrees = record {
+pub new-agrees : (check : Bool) → Agrees empty_past (new_state check)
+new-agrees check = record {
   valid = refl;
   started = refl;
   steps = refl;
   since = refl;
   settings = refl;
+  target = tt;
   knows = λ _. record {
     naming = refl;
     hidden = refl;
     capped = λ u h. refl;
     clauses = refl;
     assumed = refl;
+    lists = refl;
     counted = refl;
     model = λ e. absurd cc;
     found = λ e. absurd cc;
     failed = λ e. absurd cc;
     core = λ l e. absurd cc;
+    some = λ l e. absurd cc;
     told = record { same = refl; held = []; led = refl; interrupted = 0; enough = omega arith; proof = refl };
     right = tt;
   };

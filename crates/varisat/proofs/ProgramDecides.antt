@@ -1,5 +1,5 @@
 -- A text that a new solver takes in, and what is found then.
-use Rattle.std.proofs.Common.{◌≡◌, ℕ, ◌+◌, ◌-◌, ◌*◌, ◌^◌, ◌<◌, ◌≤◌, max, min, length, ⊎_elim, Err, true, false, List, [], ◌∷◌, ◌++◌, ◌⊎◌, inl, inr, sym, ap, ◌∙◌, subst, refl, Option, Some, None, Result, Ok, map, append_assoc, append-nil, arith}
+use Rattle.std.proofs.Common.{Bool, ◌≡◌, ℕ, ◌+◌, ◌-◌, ◌*◌, ◌^◌, ◌<◌, ◌≤◌, max, min, length, ⊎_elim, Err, true, false, List, [], ◌∷◌, ◌++◌, ◌⊎◌, inl, inr, sym, ap, ◌∙◌, subst, refl, Option, Some, None, Result, Ok, map, append_assoc, append-nil, arith}
 use Rattle.std.proofs.lemmas.List.{append_cancel_left}
 use Rattle.std.proofs.Math.Pow.{pow_mono}
 use Rattle.varisat_theory.specs.Membership.{◌∈◌, ◌⊆◌, IsDistinct}
@@ -15,8 +15,8 @@ use Rattle.varisat_names.specs.declared.config.SolverConfigUpdate.{SolverConfigU
 use Rattle.varisat_names.specs.Settings.{Settings, no_update}
 use Rattle.varisat_proof.specs.declared.proof.format.ProofFormat.{ProofFormat}
 use Rattle.varisat.specs.ProofCalls.{OpensProof, EnablesChecking}
-use Rattle.varisat.specs.Proven.{limited, prepared, Finds}
-use Rattle.varisat.specs.States.{State, join_counted, empty_state}
+use Rattle.varisat.specs.Proven.{file_update, configured, prepared, Finds}
+use Rattle.varisat.specs.States.{State, join_counted, empty_state, new_state}
 use Rattle.varisat.specs.Names.{Naming, AreInOrder}
 use Rattle.varisat.specs.Models.{IsCompletable}
 use Rattle.varisat.specs.Counts.{count_with}
@@ -32,7 +32,7 @@ use Rattle.varisat.specs.declared.solver.SolverError.TheVariants.{Interrupted, I
 use Rattle.varisat.proofs.NamesInOrder.{stay-in-order, count-above, count-within, through-all}
 use Rattle.varisat.proofs.NameLaws.{none-in-order, in-use-below}
 use Rattle.varisat.proofs.Counted.{join-more, join-has, join-only, join-once}
-use Rattle.varisat.proofs.Pasts.{Agrees, clauses-known, add-text, config, opens, tell-model, empty-agrees}
+use Rattle.varisat.proofs.Pasts.{Agrees, clauses-known, add-text, config, opens, tell-model, new-agrees}
 use Rattle.varisat.proofs.SolvedPasts.{solve}
 use Rattle.varisat.proofs.MoreClauses.{Carries, carries-all, carries-through, carries-one-more}
 
@@ -44,7 +44,7 @@ closed-broken : (f : Option DimacsError) (x : DimacsErrorKind) (r : Reading) (n 
 closed-broken None x r n h e = cc
 closed-broken (Some d) x r n h e = let z : Some d ≡ None = sym h ∙ e in cc
 
-broken-fails : (x : DimacsErrorKind) (text : List ℕ) → (broken x text).fault ≡ None → ⊥
+pub broken-fails : (x : DimacsErrorKind) (text : List ℕ) → (broken x text).fault ≡ None → ⊥
 broken-fails x text e =
     let r : Reading = read nothing (items false 1 (lines text)) in closed-broken r.fault x r (last_line 1 (lines text)) refl e
 
@@ -211,9 +211,9 @@ takes : (old new : Stand) (p q : Past) → past.AddsDimacs p old done new q → 
 takes old new p q (Read v g a) = takes-given old new p q g a
 takes old new p q (Unread e k n) = absurd cc
 
--- the past of a new solver with a limit of steps, and a proof that is open, or none
+-- the past of a new solver with the settings for a file, and a proof that is open, or none
 abbrev begun : Option PastProof → Option ℕ → Past
-begun proof limit = record (past.with_update (record no_update { max_steps = limit }) empty_past) { proof = proof }
+begun proof limit = record (past.with_update (file_update limit) empty_past) { proof = proof }
 
 begun-took : (proof : Option PastProof) (limit : Option ℕ) (q : Past) (P : List Clause) → AddsWhole (begun proof limit) P q → Took 0 P (begun proof limit) q
 begun-took proof limit q P (m, a, e) = subst (Took 0 P (begun proof limit)) (sym e)
@@ -221,45 +221,54 @@ begun-took proof limit q P (m, a, e) = subst (Took 0 P (begun proof limit)) (sym
 
 -- How a new solver is prepared.
 
-limited-agrees : (limit : Option ℕ) → Agrees (begun None limit) (limited limit)
-limited-agrees limit =
-    let (p, (v, n, e), g) = config empty_past empty_state (limited limit) (record no_update { max_steps = limit }) done empty-agrees (refl, refl, refl) in
-    subst (λ p. Agrees p (limited limit)) e g
+configured-agrees : (check : Bool) (limit : Option ℕ) → Agrees (begun None limit) (configured check limit)
+configured-agrees check limit =
+    let (p, (v, n, e), g) = config empty_past (new_state check) (configured check limit) (file_update limit) done (new-agrees check) (refl, refl, refl) in
+    subst (λ p. Agrees p (configured check limit)) e g
 
 -- of a proof that was just opened, that no search ran under it
 abbrev pub unsearched : {W : Type 0} → (W → Taken) → ProofFormat → Option W → Option PastProof
 unsearched taken format None = None
-unsearched taken format (Some target) = Some (record { format = format; first = (taken target).bytes; searched = false; interrupted_steps = 0 })
+unsearched taken format (Some target) = Some (past.first_proof format (taken target))
 
-pub prepared-agrees : {W : Type 0} (taken : W → Taken) (format : ProofFormat) (limit : Option ℕ) (target : Option W) →
-    Agrees (begun (unsearched taken format target) limit) (prepared taken format limit target)
-prepared-agrees taken format limit None = limited-agrees limit
-prepared-agrees taken format limit (Some target) =
-    opens (begun None limit) (limited limit) (prepared taken format limit (Some target)) format (taken target) (limited-agrees limit) refl
+pub prepared-agrees : {W : Type 0} (taken : W → Taken) (format : ProofFormat) (check : Bool) (limit : Option ℕ) (target : Option W) →
+    Agrees (begun (unsearched taken format target) limit) (prepared taken format check limit target)
+prepared-agrees taken format check limit None = configured-agrees check limit
+prepared-agrees taken format check limit (Some target) =
+    opens (begun None limit) (configured check limit) (prepared taken format check limit (Some target)) format (taken target)
+    (configured-agrees check limit) refl
 
-pub limits : (limit : Option ℕ) (u : SolverConfigUpdate) (r : Result (Unit {0}) SolverError) (s : State) → u ≡ no_update →
-    state.Configures empty_state (record u { max_steps = limit }) r s → s ≡ limited limit
-limits limit u r s e h = go r (subst (λ (x : SolverConfigUpdate). state.Configures empty_state (record x { max_steps = limit }) r s) e h)
+-- the update is made of one that changes nothing
+pub configures-new : (check : Bool) (limit : Option ℕ) (u : SolverConfigUpdate) (r : Result (Unit {0}) SolverError) (s : State) → u ≡ no_update →
+    state.Configures (new_state check)
+    (record u { reduce_locals_interval = Some 2000; luby_restart_interval_scale = Some 64; max_steps = limit }) r s → s ≡ configured check limit
+configures-new check limit u r s e h =
+    go r
+    (subst
+    (λ (x : SolverConfigUpdate). state.Configures (new_state check)
+    (record x { reduce_locals_interval = Some 2000; luby_restart_interval_scale = Some 64; max_steps = limit }) r s) e h)
   where
-    go : (r : Result (Unit {0}) SolverError) → state.Configures empty_state (record no_update { max_steps = limit }) r s → s ≡ limited limit
+    go : (r : Result (Unit {0}) SolverError) → state.Configures (new_state check) (file_update limit) r s → s ≡ configured check limit
     go (Ok x) (v, n, k) = k
     go (Err Invalid) (v, k) = let z : true ≡ false = v in absurd cc
     go (Err (ConfigOutOfRange field)) (v, n, k) = let z : None ≡ Some field = n in absurd cc
     go (Err e) h = absurd h
 
-pub opens-limited : {W : Type 0} (taken : W → Taken) (target : W) (format : ProofFormat) (limit : Option ℕ) (s t : State)
-    (r : Result (Unit {0}) (SolverError × W)) → s ≡ limited limit → OpensProof taken target format s r t → t ≡ prepared taken format limit (Some target)
-opens-limited {W = W} taken target format limit s t r e h = go r (subst (λ x. OpensProof taken target format x r t) e h)
+pub opens-configured : {W : Type 0} (taken : W → Taken) (target : W) (format : ProofFormat) (check : Bool) (limit : Option ℕ) (s t : State)
+    (r : Result (Unit {0}) (SolverError × W)) → s ≡ configured check limit → OpensProof taken target format s r t →
+    t ≡ prepared taken format check limit (Some target)
+opens-configured {W = W} taken target format check limit s t r e h = go r (subst (λ x. OpensProof taken target format x r t) e h)
   where
-    go : (r : Result (Unit {0}) (SolverError × W)) → OpensProof taken target format (limited limit) r t → t ≡ prepared taken format limit (Some target)
+    go : (r : Result (Unit {0}) (SolverError × W)) → OpensProof taken target format (configured check limit) r t →
+        t ≡ prepared taken format check limit (Some target)
     go (Ok x) (v, n, b, k) = k
     go (Err (Invalid, back)) (h, (v, k)) = let z : true ≡ false = v in absurd cc
     go (Err (ProofOpen, back)) (h, v, (o, n), k) = let z : None ≡ Some o = n in absurd cc
     go (Err (ProofTooLate, back)) (h, v, n, b, k) = let z : false ≡ true = b in absurd cc
     go (Err (e, back)) h = absurd h
 
--- It does not refuse to switch self checking on, which changes nothing that a user knows.
-pub enables-new : (r : Result (Unit {0}) SolverError) (s : State) → EnablesChecking empty_state r s → (r ≡ Ok tt) × (s ≡ empty_state)
+-- It does not refuse to switch self checking on.
+pub enables-new : (r : Result (Unit {0}) SolverError) (s : State) → EnablesChecking empty_state r s → (r ≡ Ok tt) × (s ≡ new_state true)
 enables-new (Ok u) s (v, b, e) = (refl, e)
 enables-new (Err Invalid) s (v, e) = let z : true ≡ false = v in absurd cc
 enables-new (Err ProofTooLate) s (v, b, e) = let z : false ≡ true = b in absurd cc
@@ -316,7 +325,7 @@ module _ (proof : Option PastProof) (limit : Option ℕ) (old new : Stand) (s t 
       spent-early : (n max_steps own since before after : ℕ) → CountsSteps n own since before after (Err Interrupted) → own ≡ max_steps →
           before ≡ 0 → min max_steps (2 ^ 64 - 1) < 2 ^ (2 * n + 3)
       spent-early n max_steps own since before after k e z =
-          let b = k.bounded in
+          let b = k.bounded.1 in
           let d = k.count in
           ⊎_elim (λ (s : k.made ≡ own). omega (arith, s, e, b)) (λ (s : after ≡ 2 ^ 64 - 1). omega (arith, s, d, z, b)) (k.spent refl)
 

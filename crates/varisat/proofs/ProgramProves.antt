@@ -1,16 +1,18 @@
 -- What deciding a text leaves in the target of a proof, and how it fails.
-use Rattle.std.proofs.Common.{◌≡◌, ℕ, Bool, true, false, List, [], ◌∷◌, ◌++◌, inl, inr, sym, ap, ◌∙◌, subst, refl, Option, Some, None, Ok, Err, append_assoc}
-use Rattle.varisat_theory.specs.Literals.{Clause}
+use Rattle.std.proofs.lemmas.List.{append_cancel_left}
+use Rattle.std.proofs.Common.{◌≡◌, ◌≢◌, ℕ, Bool, true, false, List, [], ◌∷◌, ◌++◌, inl, inr, sym, ap, ◌∙◌, subst, refl, Option, Some, None, Ok, Err, append_assoc}
+use Rattle.varisat_theory.specs.Membership.{◌⊆◌}
+use Rattle.varisat_theory.specs.Literals.{Literal, Clause}
 use Rattle.varisat_theory.specs.Journals.{lines_of}
-use Rattle.varisat_proof.specs.Lines.{encoding_of, plain_lines}
-use Rattle.varisat_proof.specs.Steps.{lines_written}
+use Rattle.varisat_proof.specs.Telling.{bytes_told}
 use Rattle.varisat_formula.specs.Dimacs.{Reading, dimacs}
 use Rattle.varisat_formula.specs.Streams.{Stand, Taken}
 use Rattle.varisat_proof.specs.declared.proof.format.ProofFormat.{ProofFormat}
+use Rattle.varisat_proof.specs.declared.proof.format.ProofFormat.TheVariants.{Drat, BinaryDrat, Marked}
 use Rattle.varisat_proof.specs.Proving.{OpenState, IsClosed}
 use Rattle.varisat.specs.OpenProofs.{OpenProof, opened_state, GoesOnWriting, searched_under, first_proof}
-use Rattle.varisat.specs.States.{State, Ledger}
-use Rattle.varisat.specs.ProofCalls.{HasProof}
+use Rattle.varisat.specs.States.{State, Ledger, Verdict, Unknown, Sat, Unsat, UnsatUnderAssumptions, IsRight}
+use Rattle.varisat.specs.ProofCalls.{IsRefuted, HasProof}
 use Rattle.varisat.specs.Calls as state
 use Rattle.varisat.specs.Calls.{IsValid, TellsVerdict}
 use Rattle.varisat.specs.Additions as additions
@@ -20,32 +22,36 @@ use Rattle.varisat.specs.Decided.{Conclusion, allowed_steps}
 use Rattle.varisat.specs.Proven.{prepared, Finds, Reports, IsProven, IsProvenIf, DecidesProven, Fails, AsSearched, AsListed}
 use Rattle.varisat.specs.declared.solver.SolverError.{SolverError}
 use Rattle.varisat.specs.declared.solver.SolverError.TheVariants.{Interrupted, ProofIoError, OutOfMemory, Invalid, ClauseStoreFull, WitnessVar, VariableLimit, AssumedVar, ClauseAfterSolve, ProofOpen, ProofTooLate, ConfigOutOfRange, Dimacs}
-use Rattle.varisat.proofs.OpenProofs.{goes-on-none, goes-on-through}
+use Rattle.varisat.proofs.OpenProofs.{goes-on-none, goes-on-through, plain-bytes}
 use Rattle.varisat.proofs.MoreClauses.{Carries}
+use Rattle.varisat.proofs.NameLaws.{none-in-order}
+use Rattle.varisat.proofs.FirstClauses.{AreFirst, first-of-text, finds-refuted}
 use Rattle.varisat.proofs.ProgramDecides.{prepared-agrees, unsearched, done, found}
 
 -- 1. What adding a text keeps.
 
--- An open proof has more bytes, and nothing is hidden.
+-- An open proof has more bytes, nothing is hidden, and nothing is assumed.
 record Keeps (s t : State) : Type 0 where
   proof : GoesOnWriting s.proof t.proof
+  assumptions : t.assumptions ≡ s.assumptions
   hidden : t.ever_hidden ≡ s.ever_hidden
 
 keeps-all-of : (s : State) → Keeps s s
-keeps-all-of s = record { proof = goes-on-none s.proof; hidden = refl }
+keeps-all-of s = record { proof = goes-on-none s.proof; assumptions = refl; hidden = refl }
 
 keeps-anew : (s t : State) → t ≡ state.count_anew s → Keeps s t
-keeps-anew s t e = subst (Keeps s) (sym e) (record { proof = goes-on-none s.proof; hidden = refl })
+keeps-anew s t e = subst (Keeps s) (sym e) (record { proof = goes-on-none s.proof; assumptions = refl; hidden = refl })
 
 keeps-through : (s m t : State) → Keeps s m → Keeps m t → Keeps s t
 keeps-through s m t a b = record {
   proof = goes-on-through s.proof m.proof t.proof a.proof b.proof;
+  assumptions = b.assumptions ∙ a.assumptions;
   hidden = b.hidden ∙ a.hidden;
 }
 
 keeps-clause : (s t : State) (d : Clause) → state.AddsClause s d done t → Keeps s t
 keeps-clause s t d (v, state.Ignored n e) = keeps-anew s t e
-keeps-clause s t d (v, state.Accepted n lim (w, after, e)) = record { proof = e.proof; hidden = e.ever_hidden }
+keeps-clause s t d (v, state.Accepted n lim (w, after, e)) = record { proof = e.proof; assumptions = e.assumptions; hidden = e.ever_hidden }
 
 keeps-clauses : (s t : State) (P : List Clause) → state.AddsAll s P done t → Keeps s t
 keeps-clauses s t [] (u, e) = subst (Keeps s) (sym e) (keeps-all-of s)
@@ -74,6 +80,7 @@ keeps-text s t old new (Unread e k n) = absurd cc
 record Asks (t u : State) : Type 0 where
   valid : IsValid u
   proof : GoesOnWriting (searched_under t.proof) u.proof
+  assumptions : u.assumptions ≡ t.assumptions
   hidden : u.ever_hidden ≡ t.ever_hidden
   clauses : u.clauses ≡ t.clauses
 
@@ -81,6 +88,7 @@ asks-told : (t u : State) (b : Bool) → TellsVerdict (state.once_searched t) b 
 asks-told t u b r = record {
   valid = ap (λ (l : Ledger). l.valid) r.rest.ledger ∙ r.valid;
   proof = r.rest.proof;
+  assumptions = r.rest.assumptions;
   hidden = r.rest.ever_hidden;
   clauses = r.rest.clauses;
 }
@@ -89,6 +97,7 @@ asks : (t u : State) (c : Conclusion) → Finds t c u → Asks t u
 asks t u conclusion.Unknown r = record {
   valid = ap (λ (l : Ledger). l.valid) r.rest.ledger ∙ r.valid;
   proof = r.rest.proof;
+  assumptions = r.rest.assumptions;
   hidden = r.rest.ever_hidden;
   clauses = r.rest.clauses;
 }
@@ -98,11 +107,25 @@ asks t u (conclusion.Decided (Some model)) (r, m) = asks-told t u true r
 pub finds-valid : (t u : State) (c : Conclusion) → Finds t c u → IsValid u
 finds-valid t u c f = (asks t u c f).valid
 
--- where none was found the answer was false
-finds-none : (t u : State) (c : Conclusion) → Finds t c u → c ≡ conclusion.Decided None → state.answer_of u.verdict ≡ Some false
-finds-none t u conclusion.Unknown f e = absurd cc
-finds-none t u (conclusion.Decided None) f e = f.answer
-finds-none t u (conclusion.Decided (Some model)) f e = let z : Some model ≡ None = cc in absurd cc
+-- where none was found the answer was false, and as nothing was assumed it speaks of the clauses
+finds-none : (t u : State) (c : Conclusion) (f : ProofFormat) → Finds t c u → t.assumptions ≡ [] → c ≡ conclusion.Decided None → IsRefuted f u.verdict
+finds-none t u conclusion.Unknown f r n e = absurd cc
+finds-none t u (conclusion.Decided (Some model)) f r n e = let z : Some model ≡ None = cc in absurd cc
+finds-none t u (conclusion.Decided None) Drat r n e = r.answer
+finds-none t u (conclusion.Decided None) BinaryDrat r n e = r.answer
+finds-none t u (conclusion.Decided None) Marked r n e = go u.verdict refl
+  where
+    nothing : (list : List Literal) → list ⊆ [] → list ≡ []
+    nothing [] h = refl
+    nothing (l ∷ list) h = absurd (h l (inl refl))
+
+    go : (v : Verdict) → u.verdict ≡ v → u.verdict ≡ Unsat
+    go Unknown e = let z : None ≡ Some false = ap state.answer_of (sym e) ∙ r.answer in absurd cc
+    go (Sat a) e = let z : Some true ≡ Some false = ap state.answer_of (sym e) ∙ r.answer in let y : true ≡ false = cc in absurd cc
+    go Unsat e = e
+    go (UnsatUnderAssumptions list) e =
+        let fails = subst (IsRight u.clauses u.assumptions u.counted) e r.right in
+        absurd (r.core list e (nothing list (subst (λ A. list ⊆ A) (r.rest.assumptions ∙ n) fails.0)))
 
 -- 3. The target of the proof.
 
@@ -125,53 +148,75 @@ closed-none taken (Some w) h = absurd h
 
 proven-bytes : {W : Type 0} (taken : W → Taken) (format : ProofFormat) (target back : W) (u : State) (bytes : List ℕ) (P : List Clause) (c : Conclusion) →
     u.proof ≡ Some (record (first_proof format (taken target)) { bytes = bytes; searched = true }) → u.ever_hidden ≡ false → HasProof u →
-    Carries u.clauses P → (c ≡ conclusion.Decided None → state.answer_of u.verdict ≡ Some false) →
+    u.assumptions ≡ [] → Carries u.clauses P → (given rest : List Clause) → P ≡ given ++ rest → u.clauses ≡ given →
+    (rest ≢ [] → c ≡ conclusion.Decided None) → (c ≡ conclusion.Decided None → IsRefuted format u.verdict) →
     taken back ≡ record { bytes = (taken target).bytes ++ bytes; faults = (taken target).faults } → IsProven format P c (taken target) (taken back)
-proven-bytes taken format target back u bytes P c e h has carries none same =
+proven-bytes taken format target back u bytes P c e h has unassumed carries given rest begins joined whole none same =
     let b = has (record (first_proof format (taken target)) { bytes = bytes; searched = true }) e in
     record {
-      lines = lines_of u.told;
-      bytes = ap (λ (x : Taken). x.bytes) same
-          ∙ ap (λ xs. (taken target).bytes ++ xs) (b.written ∙ ap (λ ls. lines_written (encoding_of format) (plain_lines ls)) (b.plain h));
+      told = u.told;
+      bytes = ap (λ (x : Taken). x.bytes) same ∙ ap (λ xs. (taken target).bytes ++ xs) (b.written ∙ ap (bytes_told format) (b.plain h));
       faults = ap (λ (x : Taken). x.faults) same;
+      in_range = b.in_range h;
       derives = carries.derives (lines_of u.told) (b.derives h);
       refutes = λ n. carries.refutes (lines_of u.told) (b.refutes h (none n));
+      plain = λ n. plain-bytes format n u.told;
+      given = given;
+      rest = rest;
+      begins = begins;
+      whole = whole;
+      marked = let m = b.marked h in
+          record {
+            after = m.after;
+            takes = m.takes;
+            inputs = m.inputs ∙ joined;
+            assumed = m.assumed ∙ unassumed;
+            cores = m.cores;
+            refutes = λ n. m.refutes (none n);
+          };
     }
 
-pub proven : {W : Type 0} (taken : W → Taken) (format : ProofFormat) (limit : Option ℕ) (old new : Stand) (target back : Option W) (t u : State)
-    (c : Conclusion) (opened : Option OpenState) → state.AddsDimacs (prepared taken format limit target) old done new t → Finds t c u → HasProof u →
+pub proven : {W : Type 0} (taken : W → Taken) (format : ProofFormat) (check : Bool) (limit : Option ℕ) (old new : Stand) (target back : Option W) (t u : State)
+    (c : Conclusion) (opened : Option OpenState) → state.AddsDimacs (prepared taken format check limit target) old done new t → Finds t c u → HasProof u →
     opened ≡ opened_state u.proof → IsClosed {E = SolverError} taken opened (Ok back) →
     DecidesProven taken format (allowed_steps limit) old new target back c
-proven {W = W} taken format limit old new target back t u c opened adds finds has is closed =
-    let s = prepared taken format limit target in
-    let (d, carries) = found (unsearched taken format target) limit old new s t (prepared-agrees taken format limit target) adds c u finds in
+proven {W = W} taken format check limit old new target back t u c opened adds finds has is closed =
+    let s = prepared taken format check limit target in
+    let (d, carries) = found (unsearched taken format target) limit old new s t (prepared-agrees taken format check limit target) adds c u finds in
     record {
       decides = d;
-      proven = go target back adds (dimacs d.read.text).clauses carries
+      proven = go target back adds (dimacs d.read.text).clauses carries (λ text same. ap (λ xs. (dimacs xs).clauses)
+          (append_cancel_left old.given d.read.text text (sym d.read.reads.gave ∙ same)))
           (subst (λ o. IsClosed {E = SolverError} taken o (Ok back)) is closed);
     }
   where
-    go : (target back : Option W) → state.AddsDimacs (prepared taken format limit target) old done new t → (P : List Clause) → Carries t.clauses P →
+    go : (target back : Option W) → state.AddsDimacs (prepared taken format check limit target) old done new t → (P : List Clause) → Carries t.clauses P →
+        ((text : List ℕ) → new.given ≡ old.given ++ text → P ≡ (dimacs text).clauses) →
         IsClosed {E = SolverError} taken (opened_state u.proof) (Ok back) → IsProvenIf taken format P c target back
-    go None back adds P carries closed =
-        let k = keeps-text (prepared taken format limit None) t old new adds in
+    go None back adds P carries same closed =
+        let k = keeps-text (prepared taken format check limit None) t old new adds in
         let a = asks t u c finds in
         closed-none taken back (subst (λ o. IsClosed {E = SolverError} taken (opened_state o) (Ok back))
         (none-at-end None t.proof u.proof refl k.proof a.proof) closed)
-    go (Some target) back adds P carries closed =
-        let k = keeps-text (prepared taken format limit (Some target)) t old new adds in
+    go (Some target) back adds P carries same closed =
+        let k = keeps-text (prepared taken format check limit (Some target)) t old new adds in
         let a = asks t u c finds in
         let (bytes, e) = open-at-end (first_proof format (taken target)) (Some (first_proof format (taken target))) t.proof u.proof refl k.proof a.proof in
         let h = a.hidden ∙ k.hidden in
-        there target back bytes P e h (subst (λ Q. Carries Q P) (sym a.clauses) carries)
+        let (text, gave, first) = first-of-text 0 (prepared taken format check limit (Some target)) t old new none-in-order adds in
+        let f = subst (λ Q. AreFirst Q (prepared taken format check limit (Some target)) t) (sym (same text gave)) first in
+        there target back bytes P e h (a.assumptions ∙ k.assumptions) k.assumptions (subst (λ Q. Carries Q P) (sym a.clauses) carries) f
         (subst (λ o. IsClosed {E = SolverError} taken (opened_state o) (Ok back)) e closed)
       where
         there : (target : W) (back : Option W) (bytes : List ℕ) (P : List Clause) →
-            u.proof ≡ Some (record (first_proof format (taken target)) { bytes = bytes; searched = true }) → u.ever_hidden ≡ false → Carries u.clauses P →
+            u.proof ≡ Some (record (first_proof format (taken target)) { bytes = bytes; searched = true }) → u.ever_hidden ≡ false → u.assumptions ≡ [] →
+            t.assumptions ≡ [] → Carries u.clauses P → AreFirst P (prepared taken format check limit (Some target)) t →
             IsClosed {E = SolverError} taken (opened_state (Some (record (first_proof format (taken target)) { bytes = bytes; searched = true })))
             (Ok back) → IsProvenIf taken format P c (Some target) back
-        there target None bytes P e h carries closed = absurd closed
-        there target (Some back) bytes P e h carries closed = proven-bytes taken format target back u bytes P c e h has carries (finds-none t u c finds) closed
+        there target None bytes P e h unassumed before carries f closed = absurd closed
+        there target (Some back) bytes P e h unassumed before carries f closed =
+            proven-bytes taken format target back u bytes P c e h has unassumed carries f.given f.rest f.begins
+            ((asks t u c finds).clauses ∙ f.joined) (λ some. finds-refuted t u c finds (f.refuted some)) (finds-none t u c format finds before) closed
 
 -- 4. Errors.
 

@@ -26,7 +26,7 @@ use Rattle.varisat_names.proofs.Maps.{chain-through}
 use Rattle.varisat.specs.Carried.{carry}
 use Rattle.varisat.specs.States.{State}
 use Rattle.varisat.specs.Spaces.{Carrying, Spaces, Translation, IsCounted, AreLive, SharesHeld, HeldFits, without_core, translation, Links}
-use Rattle.varisat.specs.Journals.{ToldConflict}
+use Rattle.varisat_proof.specs.Passing.{ToldConflict}
 use Rattle.varisat_search.proofs.StepOutcome.{variable-literal}
 use Rattle.varisat.proofs.Carried.{carry-at, carry-opposite}
 use Rattle.varisat.proofs.SpacesAgree.{carry-same, rename-same, settled-more, settled-alike}

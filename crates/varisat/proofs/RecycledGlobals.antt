@@ -183,6 +183,6 @@ module _ (w : Carrying) (p : Spaces) (s : State) (x i : ℕ) (k : Links w p s) (
           variables = λ j y e. k.variables j y (updated-all (λ j o. o ≡ Some y → w.global j ≡ Some y) w.global i None (λ q. absurd cc) j (λ n q. q) e);
           checked = λ n. checker-without w.global (updated w.global i None) s.told i x p.checker checker (same-left n)
               (λ j o. sym (updated-other w.global i None j o)) gone (k.checked n);
-          told = told-left s.told s.clauses s.counted s.ever_hidden i was-hidden gone-too k.told;
+          told = told-left s.told s.clauses s.assumptions s.counted s.ever_hidden i was-hidden gone-too k.told;
         },
       )

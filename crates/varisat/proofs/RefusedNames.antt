@@ -3,6 +3,7 @@ use Rattle.std.proofs.Common.{Err, ◌≡◌, true, List, None, ◌⊎◌, inl, 
 use Rattle.varisat_theory.specs.Literals.{Literal}
 use Rattle.varisat.specs.declared.solver.SolverError.{SolverError}
 use Rattle.varisat.specs.declared.solver.SolverError.TheVariants.{WitnessVar, VariableLimit}
+use Rattle.varisat.specs.OpenProofs.{BarsAssumptions}
 use Rattle.varisat.specs.States.{State}
 use Rattle.varisat.specs.Names.{name_all, NameNoWitness}
 use Rattle.varisat.specs.Calls.{IsPastLimit, IsCrowded, MayConstrain, IsExtensible, AddsClause, Assumes}
@@ -24,7 +25,7 @@ module _ (g : Summary) (s : State) (st : StandsFor g s) (valid : g.ledger.valid 
   clause-refused n (WitnessVar u) c = let (w, k) = st.fits valid in (stands-valid g s st valid, n, c.0.in_range, witness-state w g s k d u c.1, refl)
   clause-refused n e c = absurd c
 
-  pub list-refused : s.proof ≡ None → (e : SolverError) → ChecksNames g.tables d (Err e) → Assumes s d (Err e) s
+  pub list-refused : (BarsAssumptions s.proof → ⊥) → (e : SolverError) → ChecksNames g.tables d (Err e) → Assumes s d (Err e) s
   list-refused n VariableLimit c = (stands-valid g s st valid, n, limit-passed c, refl)
   list-refused n (WitnessVar u) c = let (w, k) = st.fits valid in (stands-valid g s st valid, n, c.0.in_range, witness-state w g s k d u c.1, refl)
   list-refused n e c = absurd c

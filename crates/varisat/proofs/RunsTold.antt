@@ -1,5 +1,5 @@
 -- What the calls of a run tell together.
-use Rattle.std.proofs.Common.{◌≡◌, ℕ, ◌+◌, ◌-◌, Bool, true, false, Option, List, [], ◌∷◌, ◌++◌, map, inl, inr, ⊎_elim, Result, Ok, Err, sym, ap, ◌∙◌, subst, refl, arith}
+use Rattle.std.proofs.Common.{◌≡◌, ℕ, ◌+◌, ◌-◌, Bool, true, false, Option, None, List, [], ◌∷◌, ◌++◌, map, inl, inr, ⊎_elim, Result, Ok, Err, sym, ap, ◌∙◌, subst, refl, arith}
 use Rattle.varisat_theory.specs.Literals.{Literal, Clause}
 use Rattle.std.specs.declared.alloc.AllocError.{AllocError}
 use Rattle.varisat_theory.specs.Journals.{Accepts, Assumes, LeadsBy}
@@ -21,8 +21,8 @@ use Rattle.varisat_names.specs.declared.config.SolverConfigUpdate.{SolverConfigU
 use Rattle.varisat_formula.specs.declared.dimacs.error.DimacsError.{DimacsError}
 use Rattle.varisat.specs.VariableCalls as variables
 use Rattle.varisat_proof.specs.declared.proof.format.ProofFormat.{ProofFormat}
-use Rattle.varisat.specs.ProofCalls.{OpensProof, EnablesChecking, ClosesProof}
-use Rattle.varisat.specs.Journals.{TellsMore, IsToldWithin}
+use Rattle.varisat.specs.ProofCalls.{with_proof, OpensProof, EnablesChecking, ClosesProof}
+use Rattle.varisat.specs.Journals.{IsToldWithin, TellsMore}
 use Rattle.varisat.specs.declared.solver.SolverError.{SolverError}
 use Rattle.varisat.specs.declared.solver.SolverError.TheVariants.{OutOfMemory, Invalid, ProofIoError, ClauseStoreFull, WitnessVar, AssumedVar, VariableLimit, ClauseAfterSolve, ProofOpen, ProofTooLate, Interrupted, ConfigOutOfRange}
 use Rattle.varisat_theory.proofs.Journals.{by_leads, by_leads_append}
@@ -72,7 +72,7 @@ within-on s t o (held, d) =
     let both = by_leads_append s.ledger.steps o.made [] s.told held o.told.entries after d e in
     (after, subst (λ n. LeadsBy n [] t.told after) (sym o.count) (subst (λ es. LeadsBy (s.ledger.steps + o.made) [] es after) (sym o.told.joined) both))
 
-no-way : (s t : State) → state.Invalidates s t → state.IsValid t → ⊥
+no-way : {n : ℕ} (s t : State) → state.Invalidates n s t → state.IsValid t → ⊥
 no-way s t b v = let z : false ≡ true = sym (ap (λ (x : Ledger). x.valid) b.ledger) ∙ v in cc
 
 -- 1. Clauses.
@@ -155,6 +155,7 @@ assume-list s t list (Ok u) (v, o, lim, e) w =
     tells-plainly s t v (ap (λ (x : Ledger). x.steps) e.ledger)
     (tells-through 0 0 s.told (s.told ++ Assumes l ∷ []) t.told (tells 0 s.told (Assumes l ∷ []) (assumes-goes s.told l)) e.told)
 assume-list s t list (Err OutOfMemory) a w = absurd (no-way s t a.2 w)
+assume-list s t list (Err (ProofIoError cause)) a w = absurd (no-way s t a.3 w)
 assume-list s t list (Err Invalid) a w = tells-same s t a.1 w
 assume-list s t list (Err ProofOpen) a w = tells-same s t a.2 w
 assume-list s t list (Err VariableLimit) a w = tells-same s t a.3 w
@@ -171,8 +172,9 @@ solve s t (Ok b) r w = record {
   told = r.told;
 }
 solve s t (Err OutOfMemory) (u, c, b) w = absurd (no-way (state.with_steps t.ledger.steps s) t b w)
-solve s t (Err ClauseStoreFull) (u, c, b) w = absurd (no-way (state.with_steps t.ledger.steps s) t b w)
-solve s t (Err (ProofIoError cause)) (o, c, b) w = absurd (no-way (state.with_steps t.ledger.steps s) t b w)
+solve s t (Err ClauseStoreFull) (u, c, b, full) w = absurd (no-way (state.with_steps t.ledger.steps s) t b w)
+solve s t (Err (ProofIoError cause)) (o, c, inl (u, b)) w = absurd (no-way (state.with_steps t.ledger.steps s) t b w)
+solve s t (Err (ProofIoError cause)) (o, c, inr b) w = absurd (no-way (state.with_steps t.ledger.steps (state.once_searched s)) t b w)
 solve s t (Err Interrupted) r w = record {
   valid = r.valid;
   made = t.ledger.steps - s.ledger.steps;
@@ -209,14 +211,15 @@ open-proof taken target format s t (Err e) a w = absurd a
 
 -- a proof closes, and nothing is told
 close : {W : Type 0} (taken : W → Taken) (s t : State) (r : Result (Option W) (SolverError × W)) → ClosesProof taken s r t → state.IsValid t → TellsOn s t
-close taken s t (Ok back) (h, e) w = tells-plainly s t (subst state.IsValid e w) (ap (λ (x : State). x.ledger.steps) e)
+close taken s t (Ok back) (h, has, e) w = tells-plainly s t (subst state.IsValid e w) (ap (λ (x : State). x.ledger.steps) e)
     (subst (λ (x : State). TellsMore 0 s.told x.told) (sym e) (tells-nothing s.told))
-close taken s t (Err (ProofIoError cause, target)) (closed, has, b) w = absurd (no-way s t b w)
+close taken s t (Err (ProofIoError cause, target)) (closed, has, b) w = absurd (no-way (with_proof None s) t b w)
 close taken s t (Err e) a w = absurd a
 
 -- self checking is switched on, and nothing is told
 enable-checking : (s t : State) (r : Result (Unit {0}) SolverError) → EnablesChecking s r t → state.IsValid t → TellsOn s t
-enable-checking s t (Ok x) (v, b, e) w = tells-anew s t e w
+enable-checking s t (Ok x) (v, b, e) w = tells-plainly s t v (ap (λ (x : State). x.ledger.steps) e)
+    (subst (λ (x : State). TellsMore 0 s.told x.told) (sym e) (tells-nothing s.told))
 enable-checking s t (Err Invalid) a w = tells-same s t a.1 w
 enable-checking s t (Err ProofTooLate) a w = tells-same s t a.2 w
 enable-checking s t (Err e) a w = absurd a

@@ -1,8 +1,8 @@
 -- How a call of `solve` ends, once its steps came to something: an open proof is marked and flushed.
-use Rattle.std.proofs.Common.{◌≡◌, ◌∙◌, Bool, true, false, Option, Result, Ok, Err, refl, sym, ap, subst}
+use Rattle.std.proofs.Common.{◌≡◌, ◌∙◌, ℕ, Bool, inl, inr, true, false, Option, Result, Ok, Err, refl, sym, ap, subst}
 use Rattle.std.specs.declared.io.Error.{Error}
 use Rattle.varisat_proof.specs.Proving.{marked_searched}
-use Rattle.varisat.specs.OpenProofs.{OpenProof, IsOpen, searched_under}
+use Rattle.varisat.specs.OpenProofs.{OpenProof, opened_state, IsOpen, GoesOnWriting, GoesOnFailing, searched_under}
 use Rattle.varisat.specs.States.{State, Ledger, IsWellFormed}
 use Rattle.varisat.specs.ProofCalls.{with_proof}
 use Rattle.varisat.specs.Summaries.{Summary, StandsFor, EndsSearch, spaces}
@@ -10,14 +10,14 @@ use Rattle.varisat.specs.Calls.{IsLike, IsValid, is_valid, Invalidates, CountsCa
 use Rattle.varisat.specs.declared.solver.SolverError.{SolverError}
 use Rattle.varisat.specs.declared.solver.SolverError.TheVariants.{Interrupted, ProofIoError, OutOfMemory, Invalid, ClauseStoreFull}
 use Rattle.varisat.proofs.AcceptClause.{proof-free}
-use Rattle.varisat.proofs.CallStates.{stands-valid, flags-alike, told-well, broken}
+use Rattle.varisat.proofs.CallStates.{stands-valid, proof-fits, flags-alike, told-well, broken}
 use Rattle.varisat.proofs.Targets.{flushed-open}
-use Rattle.varisat.proofs.OpenProofs.{goes-on-searched, open-before, open-there, open-marked, open-fitted, searched-fits, fitted-before}
+use Rattle.varisat.proofs.OpenProofs.{goes-on-searched, goes-on-failing, open-before, open-there, searched-state, searched-written, fitted-before, flushed-on, barred-marked, barred-fitted}
 
 -- 1. States.
 
-invalid-valid : (s t : State) → Invalidates s t → IsValid t → ⊥
-invalid-valid s t b v = let z : false ≡ true = sym (ap (λ (l : Ledger). l.valid) b.ledger) ∙ v in cc
+invalid-valid : (n : ℕ) (s t : State) → Invalidates n s t → IsValid t → ⊥
+invalid-valid n s t b v = let z : false ≡ true = sym (ap (λ (l : Ledger). l.valid) b.ledger) ∙ v in cc
 
 like-searched : (s t : State) → IsLike s t → IsLike (once_searched s) (once_searched t)
 like-searched s t k = record {
@@ -29,6 +29,7 @@ like-searched s t k = record {
   verdict = k.verdict;
   ledger = k.ledger;
   told = k.told;
+  derived = k.derived;
   stays = k.stays;
   alike = k.alike;
   proof = goes-on-searched s.proof t.proof k.proof;
@@ -44,6 +45,7 @@ ends-well s t (Ok b) h v = record {
   right = h.right;
   rest = like-searched _ t h.rest;
   told = h.told;
+  ends = h.ends;
   refuted = h.refuted;
   core = h.core;
 }
@@ -52,14 +54,16 @@ ends-well s t (Err Interrupted) h v = record {
   unknown = h.unknown;
   steps = h.steps;
   rest = like-searched _ t h.rest;
+  variables = h.variables;
   told = h.told;
   adds = h.adds;
+  derived = h.derived;
   still = λ e. ap once_searched (h.still e);
 }
 ends-well s t (Err Invalid) h v = let z : false ≡ true = sym h.0 ∙ ap (λ (x : State). is_valid x) (sym h.1) ∙ v in absurd cc
-ends-well s t (Err OutOfMemory) h v = absurd (invalid-valid _ t h.2 v)
-ends-well s t (Err ClauseStoreFull) h v = absurd (invalid-valid _ t h.2 v)
-ends-well s t (Err (ProofIoError cause)) h v = absurd (invalid-valid _ t h.3 v)
+ends-well s t (Err OutOfMemory) h v = absurd (invalid-valid _ _ t h.2 v)
+ends-well s t (Err ClauseStoreFull) h v = absurd (invalid-valid _ _ t h.2 v)
+ends-well s t (Err (ProofIoError cause)) h v = absurd (invalid-valid _ _ t h.3 v)
 ends-well s t (Err e) h v = absurd h
 
 -- no way led back from a step, or the solver was invalid
@@ -69,7 +73,7 @@ ends-early s t (Err Interrupted) h v = let z : true ≡ false = sym h.valid ∙ 
 ends-early s t (Err Invalid) h v = h
 ends-early s t (Err OutOfMemory) h v = h
 ends-early s t (Err ClauseStoreFull) h v = h
-ends-early s t (Err (ProofIoError cause)) (o, u, c, b) v = (o, record { known = λ n. absurd (n u); unknown = λ _. c }, b)
+ends-early s t (Err (ProofIoError cause)) (o, u, c, b) v = (o, record { known = λ n. absurd (n u); unknown = λ _. c }, inl (u, b))
 ends-early s t (Err e) h v = absurd h
 
 -- the steps are counted alike, whatever the call returns then
@@ -83,28 +87,34 @@ counts-otherwise s t r cause k = record {
   spent = λ e. absurd cc;
 }
 
-broken-after : (s t : State) → IsValid s → t.ledger ≡ (with_steps t.ledger.steps s).ledger → IsWellFormed t →
-    Invalidates (with_steps t.ledger.steps s) (broken t)
-broken-after s t v e w = record { valid = v; ledger = ap (λ (l : Ledger). record l { valid = false }) e; well_formed = told-well t (broken t) w }
+broken-after : (s t : State) (now : Option OpenProof) → IsValid s → t.ledger ≡ (with_steps t.ledger.steps s).ledger →
+    GoesOnWriting (searched_under s.proof) (searched_under t.proof) → GoesOnFailing 1 (searched_under t.proof) now → IsWellFormed t →
+    Invalidates 1 (with_steps t.ledger.steps (once_searched s)) (broken now t.words t)
+broken-after s t now v e more f w = record {
+  valid = v;
+  ledger = ap (λ (l : Ledger). record l { valid = false }) e;
+  proof = goes-on-failing 1 (searched_under s.proof) (searched_under t.proof) now more f;
+  well_formed = told-well t (broken now t.words t) w;
+}
 
 -- the open proof could not be flushed
-pub ends-badly : (s t : State) (r : Result Bool SolverError) (cause : Error) → Searches s r t → IsValid t → IsOpen t.proof → IsWellFormed t →
-    Solves s (Err (ProofIoError cause)) (broken t)
-ends-badly s t (Ok b) cause h v o w = (
+pub ends-badly : (s t : State) (r : Result Bool SolverError) (cause : Error) (now : Option OpenProof) → Searches s r t → IsValid t → IsOpen t.proof →
+    IsWellFormed t → GoesOnFailing 1 (searched_under t.proof) now → Solves s (Err (ProofIoError cause)) (broken now t.words t)
+ends-badly s t (Ok b) cause now h v o w f = (
   open-before s.proof t.proof h.rest.proof o,
   record { known = λ n. (h.known n).1; unknown = λ u. counts-otherwise s t (Ok b) cause (h.steps u) },
-  broken-after s t h.valid h.rest.ledger w,
+  inr (broken-after s t now h.valid h.rest.ledger (goes-on-searched s.proof t.proof h.rest.proof) f w),
 )
-ends-badly s t (Err Interrupted) cause h v o w = (
+ends-badly s t (Err Interrupted) cause now h v o w f = (
   open-before s.proof t.proof h.rest.proof o,
   record { known = λ n. absurd (n h.unknown); unknown = λ _. counts-otherwise s t (Err Interrupted) cause h.steps },
-  broken-after s t h.valid h.rest.ledger w,
+  inr (broken-after s t now h.valid h.rest.ledger (goes-on-searched s.proof t.proof h.rest.proof) f w),
 )
-ends-badly s t (Err Invalid) cause h v o w = let z : false ≡ true = sym h.0 ∙ ap (λ (x : State). is_valid x) (sym h.1) ∙ v in absurd cc
-ends-badly s t (Err OutOfMemory) cause h v o w = absurd (invalid-valid _ t h.2 v)
-ends-badly s t (Err ClauseStoreFull) cause h v o w = absurd (invalid-valid _ t h.2 v)
-ends-badly s t (Err (ProofIoError first)) cause h v o w = absurd (invalid-valid _ t h.3 v)
-ends-badly s t (Err e) cause h v o w = absurd h
+ends-badly s t (Err Invalid) cause now h v o w f = let z : false ≡ true = sym h.0 ∙ ap (λ (x : State). is_valid x) (sym h.1) ∙ v in absurd cc
+ends-badly s t (Err OutOfMemory) cause now h v o w f = absurd (invalid-valid _ _ t h.2 v)
+ends-badly s t (Err ClauseStoreFull) cause now h v o w f = absurd (invalid-valid _ _ t h.2 v)
+ends-badly s t (Err (ProofIoError first)) cause now h v o w f = absurd (invalid-valid _ _ t h.3 v)
+ends-badly s t (Err e) cause now h v o w f = absurd h
 
 -- 2. What stands for them.
 
@@ -112,37 +122,46 @@ ends-badly s t (Err e) cause h v o w = absurd h
 pub stands-searched : (g : Summary) (s : State) → StandsFor g s → StandsFor (record g { opened = marked_searched g.opened }) (once_searched s)
 stands-searched g s st = record {
   ledger = st.ledger;
+  words = st.words;
+  bounded = st.bounded;
+  same = ap marked_searched st.same ∙ searched-state s.proof;
   fits = λ v. let (w, k) = st.fits v in (w, proof-free w (spaces g) s (searched_under s.proof) k);
-  proof = λ v. searched-fits g.opened s.variables s.told s.proof (st.proof v);
-  flags = λ v. flags-alike s (once_searched s) (st.flags v) refl refl refl refl (open-marked s.proof);
+  written = λ v. searched-written s.variables s.told s.proof (st.written v);
+  flags = λ v. flags-alike s (once_searched s) (st.flags v) refl refl refl refl refl (barred-marked s.proof);
 }
 
 -- before that it stood for such a state too
 pub stood-before : (g : Summary) (s : State) → g.ledger.valid ≡ true → StandsFor (record g { opened = marked_searched g.opened }) s →
     (proof : Option OpenProof) × StandsFor g (with_proof proof s)
 stood-before g s v st =
-    let (before, f) = fitted-before g.opened s.variables s.told s.proof (st.proof v) in (
+    let (before, f) = fitted-before g.opened s.variables s.told s.proof (proof-fits st v) in (
       before,
       record {
         ledger = st.ledger;
+        words = st.words;
+        bounded = st.bounded;
+        same = f.same;
         fits = λ v. let (w, k) = st.fits v in (w, proof-free w (spaces g) s before k);
-        proof = λ _. f;
-        flags = λ v. flags-alike s (with_proof before s) (st.flags v) refl refl refl refl
-            (λ o. open-fitted g.opened s.variables s.told before s.proof f (st.proof v) o);
+        written = λ _. f.written;
+        flags = λ v. flags-alike s (with_proof before s) (st.flags v) refl refl refl refl refl
+            (λ o. barred-fitted g.opened s.variables s.told before s.proof f (proof-fits st v) o);
       },
     )
 
 -- the solver became invalid
-stands-broken : (g h : Summary) (s : State) → h ≡ record g { opened = h.opened; ledger = record g.ledger { valid = false } } → StandsFor g s →
-    StandsFor h (broken s)
-stands-broken g h s e st =
+stands-broken : (g h : Summary) (s : State) (now : Option OpenProof) → h ≡ record g { opened = h.opened; ledger = record g.ledger { valid = false } } →
+    h.opened ≡ opened_state now → StandsFor g s → StandsFor h (broken now s.words s)
+stands-broken g h s now e opened st =
     let same : h.ledger ≡ record g.ledger { valid = false } = ap (λ (x : Summary). x.ledger) e in
     let bad : h.ledger.valid ≡ false = ap (λ (l : Ledger). l.valid) same in
     record {
       ledger = ap (λ (l : Ledger). record l { valid = false }) st.ledger ∙ sym same;
+      words = st.words ∙ sym (ap (λ (x : Summary). x.words) e);
+      same = opened;
       fits = λ v. absurd (let z : false ≡ true = sym bad ∙ v in cc);
-      proof = λ v. absurd (let z : false ≡ true = sym bad ∙ v in cc);
+      written = λ v. absurd (let z : false ≡ true = sym bad ∙ v in cc);
       flags = λ v. absurd (let z : false ≡ true = sym bad ∙ v in cc);
+      bounded = λ v. absurd (let z : false ≡ true = sym bad ∙ v in cc);
     }
 
 pub solve-ends : (g h : Summary) (s t : State) (r : Result Bool SolverError) → Searches s r t → StandsFor g t → g.ledger.valid ≡ true →
@@ -152,10 +171,12 @@ solve-ends g h s t r k st v e =
 
 pub solve-fails : (g h : Summary) (s t : State) (r : Result Bool SolverError) (e : SolverError) → Searches s r t → StandsFor g t →
     g.ledger.valid ≡ true → EndsSearch g (Err e) h → (u : State) × Solves s (Err e) u × StandsFor h u
-solve-fails g h s t r (ProofIoError cause) k st v (o, e) = (
-  broken t,
-  ends-badly s t r cause k (stands-valid g t st v)
-      (open-there g.opened t.variables t.told t.proof true (st.proof v) (sym (flushed-open g.opened h.opened cause o)) refl) (st.fits v).1.well_formed,
-  stands-broken g h t e st,
-)
+solve-fails g h s t r (ProofIoError cause) k st v (o, e) =
+    let (now, f, same) = flushed-on g.opened h.opened cause t.proof st.same o in (
+      broken now t.words t,
+      ends-badly s t r cause now k (stands-valid g t st v)
+          (open-there g.opened t.variables t.told t.proof true (proof-fits st v) (sym (flushed-open g.opened h.opened cause o)) refl)
+          (st.fits v).1.well_formed f,
+      stands-broken g h t now e same st,
+    )
 solve-fails g h s t r e k st v f = absurd f

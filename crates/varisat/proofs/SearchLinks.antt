@@ -31,7 +31,7 @@ pub record SearchLinks (w : Carrying) (p : Spaces) (s : State) : Type 0 where
   pub core : CoreFits s.naming.names p.core s.verdict
   pub right : HasRightVerdict s
   pub few : p.var_count ≤ length s.counted
-  pub told : IsTold s.told s.clauses s.counted s.ever_hidden (IsGone w s)
+  pub told : IsTold s.told s.clauses s.assumptions s.counted s.ever_hidden (IsGone w s)
   pub checked : without_core p.outcome ≢ outcome.Unsat → CheckerFits w.global s.told p.checker
 
 pub relinked : (w : Carrying) (p q : Spaces) (s t : State) → Links w p s → SearchLinks w (with_search_side q p) (told_as t s) →

@@ -43,13 +43,13 @@ module _ {A : Type 0} (p q : TracerState) (x y : Context A) {are : List Line →
   -- where no core was found the step says it all
   pub named-plainly : (y.solver_state.sat_state ≡ verdict.UnsatUnderAssumptions → ⊥) → MakesNamedStep p q x y
   named-plainly plain =
-      let (lines, steps, (i, takes)) = m.steps in
+      let (lines, steps, (i, takes)) = m.goes.steps in
       record {
-        ready = m.ready;
-        count = m.count;
-        decidable = m.decidable;
-        state = m.state;
-        rises = m.rises;
+        ready = m.goes.ready;
+        count = m.goes.keeps.count;
+        decidable = m.goes.keeps.decidable;
+        state = m.goes.state;
+        rises = m.goes.rises;
         fixes = fixes;
         tables = takes.tables;
         parts = y.assumptions;
@@ -64,14 +64,14 @@ module _ {A : Type 0} (p q : TracerState) (x y : Context A) {are : List Line →
       z.assumptions.user_core ≡ map (carry (chain (at q.tables.solvers.backward) (at q.tables.users.backward))) y.assumptions.failed_core →
       MakesNamedStep p q x z
   named-also z same named =
-      let (lines, steps, (i, takes)) = m.steps in
+      let (lines, steps, (i, takes)) = m.goes.steps in
       record {
-        ready = subst (λ (c : Context A). IsReady c) (sym same) (ready-named y z.assumptions.user_core m.ready);
-        count = ap (λ (c : Context A). length c.assignment.current) same ∙ m.count;
-        decidable = subst (λ (c : Context A). SameDecidable (view x) x.vsids (view c) c.vsids) (sym same) m.decidable;
-        state = ap (λ (c : Context A). c.solver_state) same ∙ m.state
+        ready = subst (λ (c : Context A). IsReady c) (sym same) (ready-named y z.assumptions.user_core m.goes.ready);
+        count = ap (λ (c : Context A). length c.assignment.current) same ∙ m.goes.keeps.count;
+        decidable = subst (λ (c : Context A). SameDecidable (view x) x.vsids (view c) c.vsids) (sym same) m.goes.keeps.decidable;
+        state = ap (λ (c : Context A). c.solver_state) same ∙ m.goes.state
             ∙ ap (λ (v : SatState). record x.solver_state { sat_state = v }) (sym (ap (λ (c : Context A). c.solver_state.sat_state) same));
-        rises = λ u. subst (λ (c : Context A). RaisesRank x c) (sym same) (m.rises (sym (ap (λ (c : Context A). c.solver_state.sat_state) same) ∙ u));
+        rises = λ u. subst (λ (c : Context A). RaisesRank x c) (sym same) (m.goes.rises (sym (ap (λ (c : Context A). c.solver_state.sat_state) same) ∙ u));
         fixes = subst (λ (c : Context A). FixesByLearning x c) (sym same) (record { keeps = fixes.keeps; refutes = fixes.refutes });
         tables = takes.tables;
         parts = y.assumptions;

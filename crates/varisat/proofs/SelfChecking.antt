@@ -1,16 +1,18 @@
 -- A checker begins to run inside the solver, where nothing was accepted, or the one that runs goes on.
-use Rattle.std.proofs.Common.{◌≡◌, ℕ, Bool, true, false, Option, Some, None, [], ◌⊎◌, inl, inr, sym, ap, subst, refl}
+use Rattle.std.proofs.Common.{◌≡◌, ◌∙◌, ℕ, Bool, true, false, Option, Some, None, [], ◌⊎◌, inl, inr, not, ◌-◌, sym, ap, subst, refl}
 use Rattle.std.specs.Option.{IsSome, is_some}
 use Rattle.varisat_names.specs.Variables.{Tables}
 use Rattle.varisat_proof.specs.Calls.{CheckerState}
-use Rattle.varisat_proof.specs.Proving.{OpenState, ProofParts}
+use Rattle.varisat_proof.specs.Proving.{ProofParts, is_there}
 use Rattle.varisat_tracer.specs.Tracing.{CanTell}
 use Rattle.varisat_search.specs.declared.context.Context.{Context}
-use Rattle.varisat.specs.States.{State}
+use Rattle.varisat.specs.States.{State, Ledger}
 use Rattle.varisat.specs.Spaces.{Links, SpacesFit}
 use Rattle.varisat.specs.Calls.{count_anew}
-use Rattle.varisat.specs.OpenProofs.{ProofFits}
+use Rattle.varisat.specs.ProofCalls.{begin_checking}
 use Rattle.varisat.specs.Summaries.{spaces_with, StandsForSome, StandsFor}
+use Rattle.varisat.proofs.AcceptClause.{ledger-free}
+use Rattle.varisat.proofs.CallStates.{ledger_of}
 use Rattle.varisat.proofs.SettingsCalls.{summary_of, stands-anew}
 use Rattle.varisat.proofs.ToldJournals.{checking-begins}
 
@@ -26,6 +28,10 @@ begun-or-on p q begun stays = go p.checker refl
     go : (o : Option CheckerState) → p.checker ≡ o → Checks p q × IsSome q.checker
     go None e = let b = begun e in (inl b, subst (λ (r : ProofParts). IsSome r.checker) (sym b) refl)
     go (Some c) e = let b = stays (ap is_some e) in (inr b, subst (λ (r : ProofParts). IsSome r.checker) (sym b) (subst IsSome (sym e) refl))
+
+pub some-there : {X : Type 0} (o : Option X) → IsSome o → is_there o ≡ true
+some-there None h = absurd (let z : false ≡ true = h in cc)
+some-there (Some x) h = refl
 
 -- An open proof stays, and a checker that just began can be used.
 same-opened : (p q : ProofParts) → Checks p q → q.opened ≡ p.opened
@@ -48,14 +54,21 @@ pub some-checking : {A : Type 0} (tables : Tables) (p q : ProofParts) (x : Conte
 some-checking tables p q x started e fresh (s, fit, f) = let (none, few) = f fresh in (s, spaces-checking tables p q x s e none few fit, f)
 
 pub stands-checking : {A : Type 0} (tables : Tables) (p q : ProofParts) (started : Bool) (changed_at anew : ℕ) (x : Context A) (s : State) →
-    anew ≡ x.schedule.steps → Checks p q → s.ledger.started ≡ false →
+    anew ≡ x.schedule.steps → Checks p q → is_there q.checker ≡ true → s.ledger.started ≡ false →
     StandsFor (summary_of (record { tables = tables; proof = p }) started changed_at x) s →
-    StandsFor (summary_of (record { tables = tables; proof = q }) started anew x) (count_anew s)
-stands-checking tables p q started changed_at anew x s n e fresh st =
+    StandsFor (summary_of (record { tables = tables; proof = q }) started anew x) (begin_checking s)
+stands-checking tables p q started changed_at anew x s n e runs fresh st =
     let t = stands-anew (record { tables = tables; proof = p }) started changed_at anew x s n st in
     record {
-      ledger = t.ledger;
-      fits = λ v. let f = t.flags v in spaces-checking tables p q x (count_anew s) e (f.clauses fresh) (f.counted fresh) (t.fits v);
-      proof = λ v. subst (λ (o : Option OpenState). ProofFits o s.variables s.told s.proof) (sym (same-opened p q e)) (t.proof v);
-      flags = t.flags;
+      ledger = ap (λ (l : Ledger). record l { checking = true }) t.ledger
+          ∙ ap (λ b. ledger_of (not x.solver_state.state_is_invalid) started x.schedule.steps (x.schedule.steps - anew) x.solver_config b) (sym runs);
+      words = t.words;
+      fits = λ v.
+          let f = t.flags v in
+          let (w, k) = spaces-checking tables p q x (count_anew s) e (f.clauses fresh) (f.counted fresh) (t.fits v) in
+          (w, ledger-free w (spaces_with tables q.checker x) (count_anew s) (record s.ledger { since = 0; checking = true }) k);
+      same = same-opened p q e ∙ t.same;
+      written = t.written;
+      bounded = t.bounded;
+      flags = λ v. let f = t.flags v in record { clauses = f.clauses; assumptions = f.assumptions; counted = f.counted; unlisted = f.unlisted; unassumed = f.unassumed };
     }

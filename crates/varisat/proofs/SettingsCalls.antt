@@ -1,7 +1,9 @@
 -- A solver whose settings changed.
-use Rattle.std.proofs.Common.{◌≡◌, ◌∙◌, ◌-◌, ℕ, Bool, Option, [], not, length, sym, ap, subst}
+use Rattle.std.proofs.Common.{◌≡◌, ◌∙◌, ◌-◌, ℕ, Bool, true, Option, Some, None, [], Result, Ok, Err, MatchResult, not, length, sym, ap, subst}
+use Rattle.std.specs.Option.{unwrap_or}
 use Rattle.varisat_theory.specs.Membership.{◌∈◌}
-use Rattle.varisat_names.specs.Settings.{updated_settings}
+use Rattle.varisat_names.specs.Settings.{no_update, first_bad, updated_settings}
+use Rattle.varisat_names.specs.declared.config.ConfigError.{ConfigError}
 use Rattle.varisat_names.specs.Variables.{Tables}
 use Rattle.varisat_tracer.specs.Tracing.{TracerState}
 use Rattle.varisat_names.specs.declared.config.SolverConfigUpdate.{SolverConfigUpdate}
@@ -12,11 +14,13 @@ use Rattle.varisat_search.specs.AssumptionParts.{AssumptionParts}
 use Rattle.varisat_search.specs.Contexts.{view, IsReady}
 use Rattle.varisat_search.specs.Decisions.{SameDecidable}
 use Rattle.varisat.specs.States.{State, Ledger}
+use Rattle.varisat.specs.SinceChange.{CountsSince}
 use Rattle.varisat.specs.Spaces.{SpacesFit}
-use Rattle.varisat.specs.Calls.{with_update, count_anew}
+use Rattle.varisat.specs.Calls.{with_update, with_max_steps, count_anew}
 use Rattle.varisat.specs.Summaries.{Summary, IsKept, StandsFor, spaces_of}
-use Rattle.varisat_proof.specs.Proving.{ProofParts}
-use Rattle.varisat.specs.OpenProofs.{OpenProof, opened_state, IsOpen, IsWrittenIf}
+use Rattle.varisat_proof.specs.Calls.{CheckerState}
+use Rattle.varisat_proof.specs.Proving.{ProofParts, is_there}
+use Rattle.varisat.specs.OpenProofs.{OpenProof, opened_state, BarsAssumptions, IsWrittenIf}
 use Rattle.varisat.specs.ProofCalls.{with_proof}
 use Rattle.varisat.proofs.AcceptClause.{ledger-free, proof-free}
 use Rattle.varisat.proofs.CallStates.{ledger_of, none-since}
@@ -35,7 +39,8 @@ summary_of parts started changed_at x =
       sat_state = x.solver_state.sat_state;
       words = length x.clause_alloc.words;
       ledger =
-          ledger_of (not x.solver_state.state_is_invalid) started x.schedule.steps (x.schedule.steps - changed_at) x.solver_config;
+          ledger_of (not x.solver_state.state_is_invalid) started x.schedule.steps (x.schedule.steps - changed_at) x.solver_config
+          (is_there parts.proof.checker);
     }
 
 pub stands-updated : {A : Type 0} (parts : TracerState) (started : Bool) (changed_at anew : ℕ) (x y : Context A) (u : SolverConfigUpdate)
@@ -46,50 +51,136 @@ stands-updated {A = A} parts started changed_at anew x y u b a s e n st =
     let same : anew ≡ x.schedule.steps = n ∙ ap (λ (z : Context A). z.schedule.steps) e in
     subst (λ (z : Context A). StandsFor (summary_of parts started anew z) (with_update u s)) (sym e) (record {
       ledger = ap (λ (l : Ledger). record l { since = 0; settings = updated_settings l.settings u }) st.ledger
-          ∙ ap (λ k. ledger_of (not x.solver_state.state_is_invalid) started x.schedule.steps k (updated_settings x.solver_config u))
+          ∙ ap (λ k. ledger_of (not x.solver_state.state_is_invalid) started x.schedule.steps k (updated_settings x.solver_config u)
+          (is_there parts.proof.checker))
           (none-since anew x.schedule.steps same);
       fits = λ v. let (w, k) = st.fits v in (
         w,
         ledger-free w (spaces_of parts.tables parts.proof.checker (view x) x.assumptions x.solver_state.sat_state) s
             (record s.ledger { since = 0; settings = updated_settings s.ledger.settings u }) k,
       );
-      proof = st.proof;
-      flags = λ v. let f = st.flags v in record { clauses = f.clauses; assumptions = f.assumptions; counted = f.counted; unassumed = f.unassumed };
+      words = st.words;
+      bounded = st.bounded;
+      same = st.same;
+      written = st.written;
+      flags = λ v. let f = st.flags v in record { clauses = f.clauses; assumptions = f.assumptions; counted = f.counted; unlisted = f.unlisted; unassumed = f.unassumed };
     })
 
 pub stands-same : {A : Type 0} (parts : TracerState) (started : Bool) (changed_at : ℕ) (x y : Context A) (s : State) → y ≡ x →
     StandsFor (summary_of parts started changed_at x) s → StandsFor (summary_of parts started changed_at y) s
 stands-same {A = A} parts started changed_at x y s e st = subst (λ (z : Context A). StandsFor (summary_of parts started changed_at z) s) (sym e) st
 
+-- Other settings, where the limit of steps alone is another one. What decays is as before.
+abbrev pub IsLimited : {A : Type 0} → ℕ → Context A → Context A → Type 0
+IsLimited n x y =
+    (b : ActivityScale) × (a : Activities)
+    × (y ≡ record x { clause_activity = b; solver_config = record x.solver_config { max_steps = n }; vsids = a })
+
+pub limits-steps : {A : Type 0} (n : ℕ) (x y : Context A) (u : SolverConfigUpdate) (r : Result (Unit {0}) ConfigError) → u ≡ no_update →
+    MatchResult r
+    (λ _. (first_bad (record u { max_steps = Some n }) ≡ None) × (y ≡ record x {
+      clause_activity = record x.clause_activity { decay = unwrap_or u.clause_activity_decay x.clause_activity.decay };
+      solver_config = updated_settings x.solver_config (record u { max_steps = Some n });
+      vsids = record x.vsids { decay = unwrap_or u.vsids_decay x.vsids.decay };
+    }))
+    (λ error. (first_bad (record u { max_steps = Some n }) ≡ Some error.field) × (y ≡ x)) → IsLimited n x y
+limits-steps {A} n x y u r e h =
+    go r
+    (subst
+    (λ (w : SolverConfigUpdate). MatchResult r
+    (λ _. (first_bad (record w { max_steps = Some n }) ≡ None) × (y ≡ record x {
+      clause_activity = record x.clause_activity { decay = unwrap_or w.clause_activity_decay x.clause_activity.decay };
+      solver_config = updated_settings x.solver_config (record w { max_steps = Some n });
+      vsids = record x.vsids { decay = unwrap_or w.vsids_decay x.vsids.decay };
+    }))
+    (λ error. (first_bad (record w { max_steps = Some n }) ≡ Some error.field) × (y ≡ x))) e h)
+  where
+    go : (r : Result (Unit {0}) ConfigError) → MatchResult r
+        (λ _. (first_bad (record no_update { max_steps = Some n }) ≡ None) × (y ≡ record x { solver_config = record x.solver_config { max_steps = n } }))
+        (λ error. (first_bad (record no_update { max_steps = Some n }) ≡ Some error.field) × (y ≡ x)) → IsLimited n x y
+    go (Ok u) (z, k) = (x.clause_activity, x.vsids, k)
+    go (Err error) (z, k) = absurd (let f : None ≡ Some error.field = z in cc)
+
+-- the same solver, in which a call may make so many steps
+pub stands-limited : {A : Type 0} (parts : TracerState) (started : Bool) (changed_at n : ℕ) (x y : Context A) (b : ActivityScale) (a : Activities)
+    (s : State) → y ≡ record x { clause_activity = b; solver_config = record x.solver_config { max_steps = n }; vsids = a } →
+    StandsFor (summary_of parts started changed_at x) s → StandsFor (summary_of parts started changed_at y) (with_max_steps n s)
+stands-limited {A = A} parts started changed_at n x y b a s e st =
+    subst (λ (z : Context A). StandsFor (summary_of parts started changed_at z) (with_max_steps n s)) (sym e) (record {
+      ledger = ap (λ (l : Ledger). record l { settings = record l.settings { max_steps = n } }) st.ledger;
+      fits = λ v. let (w, k) = st.fits v in (
+        w,
+        ledger-free w (spaces_of parts.tables parts.proof.checker (view x) x.assumptions x.solver_state.sat_state) s
+            (record s.ledger { settings = record s.ledger.settings { max_steps = n } }) k,
+      );
+      words = st.words;
+      bounded = st.bounded;
+      same = st.same;
+      written = st.written;
+      flags = λ v. let f = st.flags v in record { clauses = f.clauses; assumptions = f.assumptions; counted = f.counted; unlisted = f.unlisted; unassumed = f.unassumed };
+    })
+
+-- and the steps since its last change are counted on
+pub counts-limited : {A : Type 0} (changed_at n : ℕ) (x y : Context A) (b : ActivityScale) (a : Activities) →
+    y ≡ record x { clause_activity = b; solver_config = record x.solver_config { max_steps = n }; vsids = a } →
+    SameDecidable (view x) x.vsids (view y) y.vsids → CountsSince changed_at x → CountsSince changed_at y
+counts-limited {A = A} changed_at n x y b a e g k =
+    let h = subst (λ (z : Context A). SameDecidable (view x) x.vsids (view z) z.vsids) e g in
+    subst (λ (z : Context A). CountsSince changed_at z) (sym e) (record {
+      low = k.low;
+      few = k.few;
+      come = λ u. let (c, begins, since) = k.come u in (
+        c,
+        begins,
+        record {
+          units = since.units;
+          come = since.come;
+          scale = since.scale;
+          variables = since.variables;
+          room = λ vs d f. since.room vs d (λ v i. (h v).1 (f v i));
+        },
+      );
+    })
+
 -- the same solver, where steps are counted anew
 pub stands-anew : {A : Type 0} (parts : TracerState) (started : Bool) (changed_at anew : ℕ) (x : Context A) (s : State) → anew ≡ x.schedule.steps →
     StandsFor (summary_of parts started changed_at x) s → StandsFor (summary_of parts started anew x) (count_anew s)
 stands-anew parts started changed_at anew x s n st = record {
   ledger = ap (λ (l : Ledger). record l { since = 0 }) st.ledger
-      ∙ ap (λ k. ledger_of (not x.solver_state.state_is_invalid) started x.schedule.steps k x.solver_config) (none-since anew x.schedule.steps n);
+      ∙ ap (λ k. ledger_of (not x.solver_state.state_is_invalid) started x.schedule.steps k x.solver_config (is_there parts.proof.checker))
+      (none-since anew x.schedule.steps n);
   fits = λ v. let (w, k) = st.fits v in
       (w, ledger-free w (spaces_of parts.tables parts.proof.checker (view x) x.assumptions x.solver_state.sat_state) s (record s.ledger { since = 0 }) k);
-  proof = st.proof;
-  flags = λ v. let f = st.flags v in record { clauses = f.clauses; assumptions = f.assumptions; counted = f.counted; unassumed = f.unassumed };
+  words = st.words;
+  bounded = st.bounded;
+  same = st.same;
+  written = st.written;
+  flags = λ v. let f = st.flags v in record { clauses = f.clauses; assumptions = f.assumptions; counted = f.counted; unlisted = f.unlisted; unassumed = f.unassumed };
 }
 
 -- the same solver with another proof, or none, and the same checker, where steps are counted anew
 pub stands-with-proof : {A : Type 0} (tables : Tables) (p q : ProofParts) (started : Bool) (changed_at anew : ℕ) (x : Context A) (s : State)
     (proof : Option OpenProof) → anew ≡ x.schedule.steps → q.checker ≡ p.checker → q.opened ≡ opened_state proof →
-    IsWrittenIf s.variables s.told proof → (IsOpen proof → s.assumptions ≡ []) →
+    (not x.solver_state.state_is_invalid ≡ true → IsWrittenIf s.variables s.told proof) → (BarsAssumptions proof → s.assumptions ≡ []) →
     StandsFor (summary_of (record { tables = tables; proof = p }) started changed_at x) s →
     StandsFor (summary_of (record { tables = tables; proof = q }) started anew x) (count_anew (with_proof proof s))
 stands-with-proof tables p q started changed_at anew x s proof n checker e f unassumed st = record {
   ledger = ap (λ (l : Ledger). record l { since = 0 }) st.ledger
-      ∙ ap (λ k. ledger_of (not x.solver_state.state_is_invalid) started x.schedule.steps k x.solver_config) (none-since anew x.schedule.steps n);
+      ∙ ap (λ k. ledger_of (not x.solver_state.state_is_invalid) started x.schedule.steps k x.solver_config (is_there p.checker))
+      (none-since anew x.schedule.steps n)
+      ∙ ap (λ (o : Option CheckerState). ledger_of (not x.solver_state.state_is_invalid) started x.schedule.steps (x.schedule.steps - anew)
+      x.solver_config (is_there o)) (sym checker);
   fits = λ v. let (w, k) = subst (λ o. SpacesFit (spaces_of tables o (view x) x.assumptions x.solver_state.sat_state) s) (sym checker)
       (st.fits v) in (
         w,
         ledger-free w (spaces_of tables q.checker (view x) x.assumptions x.solver_state.sat_state) (with_proof proof s)
             (record s.ledger { since = 0 }) (proof-free w (spaces_of tables q.checker (view x) x.assumptions x.solver_state.sat_state) s proof k),
       );
-  proof = λ v. record { same = e; written = f };
-  flags = λ v. let f = st.flags v in record { clauses = f.clauses; assumptions = f.assumptions; counted = f.counted; unassumed = unassumed };
+  words = st.words;
+  bounded = st.bounded;
+  same = e;
+  written = f;
+  flags = λ v. let f = st.flags v in record { clauses = f.clauses; assumptions = f.assumptions; counted = f.counted; unlisted = f.unlisted; unassumed = unassumed };
 }
 
 -- what a solver keeps with other settings

@@ -7,6 +7,8 @@ use Rattle.varisat_theory.specs.Membership.{◌∈◌, IsDistinct}
 use Rattle.varisat_theory.specs.Literals.{Literal, variable_of}
 use Rattle.varisat_theory.specs.Derivations.{Line}
 use Rattle.varisat_theory.proofs.Members.{∈-append_cases, distinct_append}
+use Rattle.varisat_theory.specs.CallBounds.{AreFew}
+use Rattle.varisat_theory.proofs.CallBounds.{few_none}
 use Rattle.varisat_theory.specs.Rank.{rank, with_units}
 use Rattle.varisat_theory.proofs.Places.{place_in}
 use Rattle.varisat_theory.proofs.Ranks.{rank_grows, rank_steady, rank_behind_units}
@@ -284,7 +286,7 @@ come-dropped gone x y r d q w dec f c p k =
 
 -- 6. So the steps are few.
 pub few-since : {A : Type 0} (c : PlannedCall) (x : Context A) (n : ℕ) → 0 < x.solver_config.luby_restart_interval_scale →
-    length x.assignment.current ≤ n → HasComeSince c x → suc (steps_since c.begins x.schedule) < 2 ^ (2 * n + 3)
+    length x.assignment.current ≤ n → HasComeSince c x → AreFew n (suc (steps_since c.begins x.schedule))
 few-since c x n h v k =
     is-short-without c x.schedule k.units (kinds (view x)) n (let z = k.scale in omega (arith, h, z)) (let z = k.variables in omega (arith, v, z)) k.come
 
@@ -294,7 +296,7 @@ few-since c x n h v k =
 pub since-now : {A : Type 0} (changed_at : ℕ) (x : Context A) → changed_at ≡ x.schedule.steps → IsReady x → IsPlan x.schedule → CountsSince changed_at x
 since-now changed_at x e r p = record {
   low = omega (arith, e);
-  few = λ n h. let b = pow_pos (2 * n + 3) in omega (arith, b, e);
+  few = λ n h. let z : x.schedule.steps - changed_at ≡ 0 = omega (arith, e) in subst (AreFew n) (sym z) (few_none n);
   come = λ u. (call_from x, sym e, come-now x r p);
 }
 

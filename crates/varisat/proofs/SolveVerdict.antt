@@ -23,6 +23,7 @@ use Rattle.varisat_theory.proofs.StepsMade.{names_satisfied}
 use Rattle.varisat_literals.specs.Numbers.{polarity_of}
 use Rattle.varisat_prop.specs.Parts.{is_true_value}
 use Rattle.varisat_search.proofs.StepOutcome.{variable-literal, polarity-literal}
+use Rattle.varisat_prop.proofs.LiteralValues.{variable-opposite}
 use Rattle.varisat_names.specs.Maps.{onward, chain}
 use Rattle.varisat_search.specs.AssumptionParts.{AssumptionParts, KeepsAssumptions}
 use Rattle.varisat.specs.States.{State, Verdict, Unknown, Sat, Unsat, UnsatUnderAssumptions, IsRight}
@@ -30,7 +31,7 @@ use Rattle.varisat.specs.Names.{identity_of}
 use Rattle.varisat.specs.Calls.{with_verdict}
 use Rattle.varisat.specs.Carried.{carry, is_forced, value_or}
 use Rattle.varisat.specs.Spaces.{Spaces, Carrying, Translation, translation, CheckerFits, IsCounted, IsTold, SearchHolds, AssumptionsFit, MarksFit, WorkingFits, CoreFits, without_core, VerdictFits, Links, SpacesFit, IsGone}
-use Rattle.varisat.specs.Journals.{retold, TellsMore}
+use Rattle.varisat.specs.Journals.{retold, TellsMore, AreDerived, EndWithCore}
 use Rattle.varisat.proofs.SpacesMoves.{AreLong, AreInUse}
 use Rattle.varisat.proofs.CheckedHeld.{checker-on, told-carried, global-carried}
 use Rattle.varisat.proofs.ToldProofs.{AreToldAs}
@@ -43,7 +44,7 @@ use Rattle.varisat_tracer.specs.Told.{told_as-append}
 use Rattle.varisat.proofs.AcceptSolverVariables.{one-literal}
 use Rattle.varisat.proofs.ForgottenCopies.{there-back, back-there, copies}
 use Rattle.varisat.proofs.ReachedHeld.{told_lines, IsInUse, lines-lead, told-quiet, counted-literal}
-use Rattle.varisat.proofs.ToldEntries.{tells-also, told-written, told-failed, spoken-renamed}
+use Rattle.varisat.proofs.ToldEntries.{tells-also, also-ends, written-derived, told-written, told-failed, spoken-renamed}
 use Rattle.varisat_names.proofs.Maps.{chain-some, is-some}
 use Rattle.varisat.proofs.SpacesAgree.{map-map, identities-same, names-same, modes-same, units-same, isolation-same, solvers-same, assumptions-same, marks-same, working-same, holds-same, told-same, value-same}
 use Rattle.varisat.proofs.Carried.{carry-opposite, map-empty, value-true, true-value, value-carry, forced-value}
@@ -63,7 +64,7 @@ known-unknown : (v : Outcome) → v ≡ outcome.Unknown → without_core v ≢ o
 known-unknown v e q = let z : outcome.Unknown ≡ outcome.Unsat = sym (ap without_core e) ∙ q in cc
 
 -- another verdict of the state, which is right
-decided : (w : Carrying) (p : Spaces) (s : State) (told : List Entry) → IsTold told s.clauses s.counted s.ever_hidden (IsGone w s) →
+decided : (w : Carrying) (p : Spaces) (s : State) (told : List Entry) → IsTold told s.clauses s.assumptions s.counted s.ever_hidden (IsGone w s) →
     (t : Search) (v : Outcome) (m : ℕ → Bool) (ws core : List Literal) (checker : Option CheckerState) (x : Verdict) → Links w p s →
     (without_core v ≢ outcome.Unsat → CheckerFits w.global told checker) → SearchHolds s.clauses (translation w p told) t (without_core v) →
     WorkingFits s.clauses (translation w p s.told).identity s.assumptions ws → VerdictFits w.identity m v x →
@@ -178,7 +179,11 @@ module _ (w : Carrying) (p : Spaces) (s : State) (k : Links w p s) (unknown : p.
             (lines-lead n (translation w p s.told) before.held lines after before.told d).goes;
       }
 
-  -- where the search goes on, each step added a new clause: no clause that was held is a part of it, a forgotten one neither
+  pub steps-derived : AreDerived steps-tell.entries
+  unfolding steps-tell
+  steps-derived = written-derived (map (rename_line (carry (translation w p s.told).identity)) lines)
+
+  -- where the search goes on, each step added a new clause that stays: no clause that was held is a part of it, a forgotten one neither
   pub steps-add : v ≡ outcome.Unknown → GoesOnAdding n s.told steps-tell.entries
   unfolding steps-tell
   steps-add e =
@@ -189,16 +194,16 @@ module _ (w : Carrying) (p : Spaces) (s : State) (k : Links w p s) (unknown : p.
       let c = copies w p s k before q.forgotten q.settled in
       let many = made.adds (c.list ++ before.held) (fits_more p.search before.held c.list c.settled before.holds) e in
       let speaks = spoken_wider (IsLiteralOf p.search) (IsInUse r) lines before.within made.speaks in
-      let adding = lines_add_new f (carry-opposite r.identity) (IsInUse r)
+      let adding = lines_add_new f (carry-opposite r.identity) (IsInUse r) (λ l (i, e). (i, ap r.identity (variable-opposite l) ∙ e))
       (one-literal w p s k) q.forgotten c.list c.copied n n before.held lines after q.inside speaks d many in
       let (last, a, same) = adding_same n (q.forgotten ++ rename f before.held) q.held (told_lines r lines) (q.forgotten ++ rename f after)
       (same_clauses-back q.held (q.forgotten ++ rename f before.held) q.same) adding in
       goes_adding n s.told (told_lines r lines) q.held last q.led a
 
-  pub steps-are-told : IsTold (told-with w p s lines) s.clauses s.counted s.ever_hidden (IsGone w s)
+  pub steps-are-told : IsTold (told-with w p s lines) s.clauses s.assumptions s.counted s.ever_hidden (IsGone w s)
   steps-are-told =
       let to = (translation w p s.told).identity in
-      told-written s.told s.clauses s.counted s.ever_hidden (map (rename_line (carry to)) lines)
+      told-written s.told s.clauses s.assumptions s.counted s.ever_hidden (map (rename_line (carry to)) lines)
       (spoken-renamed (IsLiteralOf p.search) (IsCounted s.counted) (carry to) lines
       (λ l h. let (i, e) = k.holds.within l h in counted-literal w p s k l i e) made.speaks) k.told
 
@@ -268,6 +273,13 @@ module _ (w : Carrying) (p : Spaces) (s : State) (k : Links w p s) (unknown : p.
         TellsMore n s.told ((told-with w p s lines) ++ Fails (map (carry s.naming.names) told) ∷ [])
     core-tells found told e same-core = tells-also n s.told (told-with w p s lines) (Fails (map (carry s.naming.names) told) ∷ []) steps-tell
         (λ held d. (held, (held, (subst (Conflicts held) (sym same-core) (core-conflicts found e held d), refl), inl (tt, refl))))
+
+    -- and that at last
+    pub core-ends : (found told : List Literal) (e : v ≡ outcome.UnsatUnder found) (same-core : map (carry s.naming.names) told ≡ map
+        (carry (translation w p s.told).identity) found) → EndWithCore (map (carry s.naming.names) told) (core-tells found told e same-core).entries
+    unfolding core-tells
+    core-ends found told e same-core =
+        also-ends n s.told (told-with w p s lines) (map (carry s.naming.names) told) steps-tell steps-derived _
 
     -- the lines and the core
     core-carried : (m : ℕ → Option ℕ) → ((i x : ℕ) → w.global i ≡ Some x → m i ≡ Some x) → (found told : List Literal) →
@@ -339,7 +351,7 @@ module _ (w : Carrying) (p : Spaces) (s : State) (k : Links w p s) (unknown : p.
         let last = Fails (map (carry s.naming.names) told) in
         let some : map (carry s.naming.names) told ≢ [] = (λ q. (keeps.core found e).1 (map-empty (carry to) found (sym same-core ∙ q))) in
         decided w p s ((told-with w p s lines) ++ last ∷ [])
-        (told-failed (told-with w p s lines) s.clauses s.counted s.ever_hidden (map (carry s.naming.names) told) steps-are-told) t v m y.working
+        (told-failed (told-with w p s lines) s.clauses s.assumptions s.counted s.ever_hidden (map (carry s.naming.names) told) part steps-are-told) t v m y.working
         told checker (UnsatUnderAssumptions (map (carry s.naming.names) told)) k
         (λ _. core-checked found told c e same-core)
         (holds-same s.clauses (translation w p (told-with w p s lines)) (translation w p ((told-with w p s lines) ++ last ∷ [])) t (without_core v)

@@ -1,9 +1,10 @@
 -- What the solver's calls do to the states that it stands for.
-use Rattle.std.proofs.Common.{Result, Ok, Err, Vec, ◌≡◌, ◌≢◌, ◌↔◌, if◌then◌else◌, ℕ, zero, suc, ◌+◌, ◌-◌, ◌*◌, ◌^◌, ◌<◌, ◌≤◌, Bool, true, false, Option, Some, None, List, [], ◌∷◌, ◌++◌, ◌⊎◌, inl, inr, ⊎_elim, length, map, get_or, sym, ap, ◌∙◌, subst, refl, arith}
+use Rattle.std.proofs.Common.{Result, Ok, Err, Vec, ◌≡◌, ◌≢◌, ◌↔◌, if◌then◌else◌, ℕ, zero, suc, ◌+◌, ◌-◌, ◌*◌, ◌^◌, ◌<◌, ◌≤◌, Bool, true, false, not, Option, Some, None, List, [], ◌∷◌, ◌++◌, ◌⊎◌, inl, inr, ⊎_elim, length, map, get_or, sym, ap, ◌∙◌, subst, refl, arith}
 use Rattle.varisat_theory.specs.Membership.{◌∈◌}
 use Rattle.varisat_theory.specs.Literals.{Literal, Clause, Assignment, variable_of, literal_of, IsSatisfiableWith, IsFailedCore}
 use Rattle.varisat_literals.specs.Numbers.{polarity_of}
 use Rattle.varisat_theory.specs.Derivations.{Line}
+use Rattle.varisat_theory.specs.CallBounds.{AreFew}
 use Rattle.varisat_theory.specs.Searches.{IsLiteralOf}
 use Rattle.varisat_theory.specs.Outcomes.{Outcome, MakesSteps}
 use Rattle.varisat_theory.specs.Outcomes as outcome
@@ -48,7 +49,8 @@ use Rattle.varisat_theory.specs.Journals.{Entry, Fails, written}
 use Rattle.varisat_trace.specs.Traces.{TakesStep}
 use Rattle.varisat_tracer.specs.Carried.{told_as}
 use Rattle.varisat.proofs.ToldProofs.{proof-told}
-use Rattle.varisat.specs.Journals.{retold, TellsMore, ToldConflict}
+use Rattle.varisat_proof.specs.Passing.{ToldConflict}
+use Rattle.varisat.specs.Journals.{retold, TellsMore}
 use Rattle.varisat.proofs.OpenProofs.{goes-on-none}
 use Rattle.varisat.proofs.ToldEntries.{tells-nothing, stays-nothing}
 use Rattle.varisat.specs.Spaces.{Carrying, Translation, HeldFits, translation, without_core, CoreFits, VerdictFits, Links, SpacesFit, FitWithNew, list_globals}
@@ -57,7 +59,7 @@ use Rattle.varisat.proofs.SpacesAgree.{map-map}
 use Rattle.varisat.proofs.CallStates.{ledger-is, none-more}
 use Rattle.varisat.proofs.VerdictAnswers.{right-false, right-core, core-answer}
 use Rattle.varisat.proofs.Carried.{carry-at, carry-sign}
-use Rattle.varisat.proofs.SolveVerdict.{told-with, steps-tell, steps-add, steps-told-as, core-tells, core-told-as, maps-alike, recount, spaces-same, sat-found, unsat-found, core-found, found, went-on}
+use Rattle.varisat.proofs.SolveVerdict.{told-with, steps-tell, steps-derived, steps-add, core-ends, steps-told-as, core-tells, core-told-as, maps-alike, recount, spaces-same, sat-found, unsat-found, core-found, found, went-on}
 use Rattle.varisat.proofs.ModelsFit.{told, is-sat, is-unsat, is-core, is-unknown}
 use Rattle.varisat.proofs.AcceptClause.{with_tables, name-below, name-above, given-spaces}
 use Rattle.varisat.proofs.SearchViews.{view-long}
@@ -158,7 +160,14 @@ first-spaces s e n =
         shown = λ o x h. refl;
         plain = λ o. record { all = λ i h. absurd (omega (arith, h)); only = λ x i e. absurd (let z : None ≡ Some i = e in cc) };
         variables = λ i x e. absurd (let z : None ≡ Some x = e in cc);
-        told = record { accepted = refl; spoken = tt; left = λ i. (λ h. absurd h, λ (h, e). absurd (omega (arith, h))); stays = λ e. tt };
+        told = record {
+          accepted = refl;
+          assumed = refl;
+          cores = tt;
+          spoken = tt;
+          left = λ i. (λ h. absurd h, λ (h, e). absurd (omega (arith, h)));
+          stays = λ e. tt;
+        };
         checked = λ n held led. tt;
       },
     )
@@ -324,6 +333,7 @@ comes-made p q search assumed s t y z verdict.Unknown n lines (w, k) v takes =
       told = told;
       more = steps-tell w (spaces g) s k refl (search_of t) outcome.Unknown n lines v.steps long v.in_use;
       adds = λ e. steps-add w (spaces g) s k refl (search_of t) outcome.Unknown n lines v.steps long v.in_use refl;
+      ends = steps-derived w (spaces g) s k refl (search_of t) outcome.Unknown n lines v.steps long v.in_use;
       proof = proof-told p q (written lines ++ []) s.variables s.told told takes
           (steps-told-as w (spaces g) s k refl (search_of t) outcome.Unknown n lines v.steps long v.in_use);
       fits = left-spaces g q.proof.checker (retold told (with_verdict Unknown s)) t y z verdict.Unknown v (w, links);
@@ -340,6 +350,7 @@ comes-made p q search assumed s t y z verdict.Sat n lines (w, k) v takes =
       told = told;
       more = steps-tell w (spaces g) s k refl (search_of t) (outcome.Sat (assignment_of t)) n lines v.steps long v.in_use;
       adds = λ e. absurd (let z : Sat a ≡ Unknown = e in cc);
+      ends = steps-derived w (spaces g) s k refl (search_of t) (outcome.Sat (assignment_of t)) n lines v.steps long v.in_use;
       proof = proof-told p q (written lines ++ []) s.variables s.told told takes
           (steps-told-as w (spaces g) s k refl (search_of t) (outcome.Sat (assignment_of t)) n lines v.steps long v.in_use);
       fits = left-spaces g q.proof.checker (retold told (with_verdict (Sat a) s)) t y z verdict.Sat v (w, links);
@@ -355,6 +366,7 @@ comes-made p q search assumed s t y z verdict.Unsat n lines (w, k) v takes =
       told = told;
       more = steps-tell w (spaces g) s k refl (search_of t) outcome.Unsat n lines v.steps long v.in_use;
       adds = λ e. absurd (let z : Unsat ≡ Unknown = e in cc);
+      ends = steps-derived w (spaces g) s k refl (search_of t) outcome.Unsat n lines v.steps long v.in_use;
       proof = proof-told p q (written lines ++ []) s.variables s.told told takes
           (steps-told-as w (spaces g) s k refl (search_of t) outcome.Unsat n lines v.steps long v.in_use);
       fits = left-spaces g q.proof.checker (retold told (with_verdict Unsat s)) t y z verdict.Unsat v (w, links);
@@ -374,16 +386,22 @@ comes-made p q search assumed s t y z verdict.UnsatUnderAssumptions n lines (w, 
       more = core-tells w (spaces g) s k refl (search_of t) (outcome.UnsatUnder y.failed_core) n lines v.steps long v.in_use assumed y refl
           v.assumes q.proof.checker y.failed_core z.user_core refl same;
       adds = λ e. absurd (let z : UnsatUnderAssumptions core ≡ Unknown = e in cc);
+      ends = core-ends w (spaces g) s k refl (search_of t) (outcome.UnsatUnder y.failed_core) n lines v.steps long v.in_use assumed y refl
+          v.assumes q.proof.checker y.failed_core z.user_core refl same;
       proof = proof-told p q (written lines ++ Fails y.failed_core ∷ []) s.variables s.told told takes
           (core-told-as w (spaces g) s k refl (search_of t) (outcome.UnsatUnder y.failed_core) n lines v.steps long v.in_use assumed y refl
           v.assumes q.proof.checker y.failed_core z.user_core refl same);
       fits = left-spaces g q.proof.checker (retold told (with_verdict (UnsatUnderAssumptions core) s)) t y z verdict.UnsatUnderAssumptions v (w, links);
     }
 
+pub not-valid : (b : Bool) → not b ≡ true → b ≡ false
+not-valid true e = let z : false ≡ true = e in absurd cc
+not-valid false e = refl
+
 -- few steps were made since the last change
 pub counted-few : (g : Summary) (s : State) → StandsFor g s → g.ledger.valid ≡ true →
-    ((n : ℕ) → length g.search.values ≤ n → g.ledger.since < 2 ^ (2 * n + 3)) → s.ledger.since < 2 ^ (2 * length s.counted + 3)
-counted-few g s st v few = subst (λ k. k < 2 ^ (2 * length s.counted + 3)) (sym (ap (λ (l : Ledger). l.since) st.ledger))
+    ((n : ℕ) → length g.search.values ≤ n → AreFew n g.ledger.since) → AreFew (length s.counted) s.ledger.since
+counted-few g s st v few = subst (AreFew (length s.counted)) (sym (ap (λ (l : Ledger). l.since) st.ledger))
     (few (length s.counted) (st.fits v).1.few)
 
 -- how the steps are counted, for the state
@@ -556,7 +574,7 @@ known-told g s b st v e =
     let a = answers-alike g s st v ∙ e in
     record {
       valid = ap (λ (l : Ledger). l.valid) st.ledger ∙ v;
-      known = λ n. (refl, refl);
+      known = λ n. (refl, refl, refl);
       steps = λ u. absurd (let z : None ≡ Some b = ap answer_of (sym u) ∙ a in cc);
       answer = a;
       right = (st.fits v).1.right;
@@ -569,15 +587,17 @@ known-told g s b st v e =
         verdict = refl;
         ledger =
             ledger-is s.ledger s.ledger.valid s.ledger.started s.ledger.steps
-            (s.ledger.since + (s.ledger.steps - s.ledger.steps)) s.ledger.settings refl refl refl
-            (none-more s.ledger.since s.ledger.steps) refl;
+            (s.ledger.since + (s.ledger.steps - s.ledger.steps)) s.ledger.settings s.ledger.checking refl refl refl
+            (none-more s.ledger.since s.ledger.steps) refl refl;
         told = (stays-nothing s.told).0;
+        derived = (stays-nothing s.told).2;
         stays = λ _. (stays-nothing s.told).1;
         alike = refl;
         proof =
             goes-on-none s.proof;
       };
       told = let z : 0 ≡ s.ledger.steps - s.ledger.steps = omega arith in subst (λ n. TellsMore n s.told s.told) z (tells-nothing s.told);
+      ends = λ u. absurd (let z : None ≡ Some b = ap answer_of (sym u) ∙ a in cc);
       refuted = told-refuted g s st v;
       core = λ list h. let (w, k) = st.fits v in core-not-empty w.identity (spaces g).model (spaces g).outcome s.verdict list h k.verdict;
     }

@@ -7,7 +7,7 @@ use Rattle.varisat_theory.specs.Journals.{Entry, GoesOn}
 use Rattle.varisat_theory.specs.NewClauses.{GoesOnAdding}
 use Rattle.varisat_theory.proofs.Journals.{goes_on_further}
 use Rattle.varisat_theory.proofs.NewClauses.{goes_adding_none, goes_adding_further}
-use Rattle.varisat_theory.proofs.StepsMade.{none_made, one_more_made, part_after_made}
+use Rattle.varisat_theory.proofs.StepsMade.{none_made, one_more_made, part_made}
 use Rattle.varisat_theory.proofs.StepParts.{parts_join}
 use Rattle.varisat_trace.specs.Traces.{TakesLines}
 use Rattle.varisat_trace.proofs.Traced.{step-lines}
@@ -33,21 +33,23 @@ use Rattle.varisat_search.proofs.SolverVariables.{in-use-all}
 use Rattle.varisat.specs.Budgets.{CountsSteps}
 use Rattle.varisat.specs.Calls.{IsValid, TellsVerdict, IsInterrupted, CountsCall, answer_of, with_verdict}
 use Rattle.varisat.specs.declared.solver.SolverError.TheVariants.{Interrupted}
-use Rattle.varisat.specs.Journals.{retold, TellsMore, TellsLeaving, ToldConflict}
+use Rattle.varisat_proof.specs.Passing.{ToldConflict}
+use Rattle.varisat.specs.Journals.{retold, TellsLeaving}
 use Rattle.varisat.specs.OpenProofs.{OpenProof, GoesOnWriting}
 use Rattle.varisat.specs.Searches.{answer_at, TellsSome, ComesTo, ComesOn, MakesNamedStep}
 use Rattle.varisat.specs.Spaces.{Spaces, translation, VerdictFits, SpacesFit}
 use Rattle.varisat.specs.States.{State, Verdict, Unknown, Unsat, HasRightVerdict, IsRight, FlagsFit}
 use Rattle.varisat.specs.Summaries.{IsKept, spaces_of, spaces_with, undecided_spaces}
-use Rattle.varisat.proofs.AcceptClause.{ledger-free, proof-free}
+use Rattle.varisat.proofs.AcceptClause.{ledger-free, proof-free, words-free}
 use Rattle.varisat.proofs.CallStates.{ledger-is, none-more, like-grown}
 use Rattle.varisat.proofs.ModelsFit.{is-sat, is-unknown}
-use Rattle.varisat.proofs.OpenProofs.{goes-on-none, open-before}
+use Rattle.varisat.proofs.OpenProofs.{goes-on-none, barred-before}
 use Rattle.varisat.proofs.PlainTables.{assumed-named}
 use Rattle.varisat.proofs.ToldProofs.{proof-quiet, proof-through}
 use Rattle.varisat.proofs.SearchVerdicts.{kept-on}
 use Rattle.varisat.proofs.SolverCalls.{comes-made, answers-fit, unsat-told, core-not-empty}
-use Rattle.varisat.proofs.ToldEntries.{tells-nothing, stays-nothing}
+use Rattle.varisat.proofs.ToldEntries.{tells-nothing, nothing-derived, stays-nothing, tells-none, none-derived, ends-through, ends-derived, derived-ends}
+use Rattle.varisat_proof.specs.Assumed.{lists_of}
 use Rattle.varisat.proofs.VariablesInUse.{same-in-use}
 use Rattle.varisat.proofs.VerdictAnswers.{right-false}
 
@@ -59,22 +61,23 @@ pub unknown-undecided : {A : Type 0} (m : Tables) (checker : Option CheckerState
 unknown-undecided m checker x t (w, k) = is-unknown w.identity (undecided_spaces m checker x).model t.verdict k.verdict
 
 -- nothing happened
-pub comes-nowhere : (n : ℕ) (s : State) (p : ProofParts) (after : Spaces) → n ≡ 0 → SpacesFit after s → ComesTo n s p p after
-comes-nowhere n s p after e f =
-    let more : TellsMore n s.told s.told = subst (λ m. TellsMore m s.told s.told) (sym e) (tells-nothing s.told) in
+pub comes-nowhere : (n : ℕ) (s : State) (p : ProofParts) (after : Spaces) → n ≡ 0 → s.verdict ≡ Unknown → SpacesFit after s → ComesTo n s p p after
+comes-nowhere n s p after e u f =
+    let more = tells-none n s.told e in
     record {
       verdict = s.verdict;
       told = s.told;
       more = more;
       adds = λ u. subst (λ m. GoesOnAdding m s.told more.entries) (sym e) (goes_adding_none n s.told more.entries more.goes);
+      ends = derived-ends more.entries s.verdict u (none-derived n s.told e);
       proof = proof-quiet s.variables s.told p;
       fits = f;
     }
 
--- more is told, and then what comes of that
-pub comes-through : (n m k : ℕ) (p q r : ProofParts) (before mid last : Spaces) → n + m ≡ k →
+-- More is told, and then what comes of that: a step, or a part of one where none was made before.
+pub comes-through : (n m k : ℕ) (p q r : ProofParts) (before mid last : Spaces) → n + m ≡ k → (m ≡ 0 → n ≡ 0) →
     ((t : State) → SpacesFit mid t → t.verdict ≡ Unknown) → ComesOn n before mid p q → ComesOn m mid last q r → ComesOn k before last p r
-comes-through n m k p q r before mid last sum unknown first second s fit =
+comes-through n m k p q r before mid last sum steps unknown first second s fit =
     let a = first s fit in
     let t = retold a.told (with_verdict a.verdict s) in
     let b = second t a.fits in
@@ -90,18 +93,27 @@ comes-through n m k p q r before mid last sum unknown first second s fit =
             (goes_on_further n m s.told es more a.more.goes (subst (λ xs. GoesOn m xs more) a.more.joined b.more.goes));
       };
       adds = λ e. subst (λ j. GoesOnAdding j s.told (es ++ more)) sum
-          (goes_adding_further n m s.told es more (a.adds (unknown t a.fits)) (subst (λ xs. GoesOnAdding m xs more) a.more.joined (b.adds e)));
+          (goes_adding_further n m s.told es more steps (a.adds (unknown t a.fits)) (subst (λ xs. GoesOnAdding m xs more) a.more.joined (b.adds e)));
+      ends = ends-through es more b.verdict (ends-derived es a.verdict (unknown t a.fits) a.ends) b.ends;
       proof = proof-through s.variables s.told a.told b.told p q r a.proof b.proof;
       fits = b.fits;
     }
 
 -- variables leave, and what is gone is told
-pub leaving-comes : (p q : ProofParts) (before after : Spaces) →
+pub leaving-comes : (p q : ProofParts) (before after : Spaces) → ((s : State) → SpacesFit before s → s.verdict ≡ Unknown) →
     ((s : State) → SpacesFit before s → (told : List Entry) × TellsLeaving s.variables s.told told p q × SpacesFit after (retold told s)) →
     ComesOn 0 before after p q
-leaving-comes p q before after leave s fit =
+leaving-comes p q before after unknown leave s fit =
     let (told, t, f) = leave s fit in
-    record { verdict = s.verdict; told = told; more = t.more; adds = λ e. goes_adding_none 0 s.told t.more.entries t.more.goes; proof = t.proof; fits = f }
+    record {
+      verdict = s.verdict;
+      told = told;
+      more = t.more;
+      adds = λ e. goes_adding_none 0 s.told t.more.entries t.more.goes;
+      ends = derived-ends t.more.entries s.verdict (unknown s fit) t.derived;
+      proof = t.proof;
+      fits = f;
+    }
 
 -- the same of the proof alone
 pub some-none : (p : ProofParts) → TellsSome p p
@@ -130,7 +142,7 @@ part-comes p q x y lines kept proves takes ready count decidable same s fit =
       same_count = count;
       well = ready.well;
       in_use = used;
-      steps = part_after_made 0 (search_of (view x)) (search_of (view x)) (search_of (view y)) [] lines (none_made (search_of (view x))) proves;
+      steps = part_made (search_of (view x)) (search_of (view y)) lines proves;
       assumes = keeps-refl (search_of (view x)) x.assumptions;
       rest = refl;
       named = λ e. absurd (let z : verdict.Unknown ≡ verdict.UnsatUnderAssumptions = e in cc);
@@ -167,7 +179,6 @@ begins-any x z b = record {
   saves = b.saves;
   begins = b.begins;
   decidable = b.decidable;
-  units = b.units;
   decay = b.decay;
   reduces = keeps-are _ (λ lines p (r, i). (r, tt)) b.reduces;
   rest = b.rest;
@@ -247,40 +258,47 @@ module _ {A : Type 0} {n : ℕ} {s : State} {p q : ProofParts} (m : Tables) (y :
   pub comes-unsatisfiable : answer_at y.solver_state.sat_state ≡ Some false → IsSatisfiableWith s.clauses s.assumptions → ⊥
   comes-unsatisfiable e = right-false s.clauses s.assumptions s.counted c.verdict (comes-answer ∙ e) comes-right
 
--- the state once a verdict was found or none, more was told and an open proof has more bytes
-abbrev pub after-solve : List Entry → Verdict → ℕ → Option OpenProof → State → State
-after-solve told v n proof s = record s
-    { verdict = v; ledger = record s.ledger { steps = n; since = s.ledger.since + (n - s.ledger.steps) }; told = told; proof = proof }
+-- the state once a verdict was found or none, more was told, an open proof has more bytes and the clause store another size
+abbrev pub after-solve : List Entry → Verdict → ℕ → Option OpenProof → ℕ → State → State
+after-solve told v n proof words s = record s
+    { verdict = v; ledger = record s.ledger { steps = n; since = s.ledger.since + (n - s.ledger.steps) }; told = told; proof = proof; words = words }
 
 -- what two flags say of it
-pub flags-after : (s : State) (told : List Entry) (v : Verdict) (n : ℕ) (now : Option OpenProof) → FlagsFit s → GoesOnWriting s.proof now →
-    FlagsFit (after-solve told v n now s)
-flags-after s told v n now f g =
-    record { clauses = f.clauses; assumptions = f.assumptions; counted = f.counted; unassumed = λ o. f.unassumed (open-before s.proof now g o) }
+pub flags-after : (s : State) (told : List Entry) (v : Verdict) (n : ℕ) (now : Option OpenProof) (words : ℕ) → FlagsFit s → lists_of told ≡ lists_of s.told →
+    GoesOnWriting s.proof now → FlagsFit (after-solve told v n now words s)
+flags-after s told v n now words f m g = record {
+  clauses = f.clauses;
+  assumptions = f.assumptions;
+  counted = f.counted;
+  unlisted = λ e. m ∙ f.unlisted e;
+  unassumed = λ o. f.unassumed (barred-before s.proof now g o);
+}
 
 module _ {A : Type 0} {k : ℕ} {s : State} {p q : ProofParts} (m : Tables) (y : Context A) (c : ComesTo k s p q (spaces_with m q.checker y)) (n : ℕ)
-    (now : Option OpenProof) where
-  pub comes-fits : SpacesFit (spaces_with m q.checker y) (after-solve c.told c.verdict n now s)
+    (now : Option OpenProof) (words : ℕ) where
+  pub comes-fits : SpacesFit (spaces_with m q.checker y) (after-solve c.told c.verdict n now words s)
   comes-fits =
       let (w, l) = c.fits in
-      let u = after-solve c.told c.verdict n now s in (
+      let u = after-solve c.told c.verdict n now words s in (
         w,
-        ledger-free w (spaces_with m q.checker y) (record s { verdict = c.verdict; told = c.told; proof = now }) u.ledger
-            (proof-free w (spaces_with m q.checker y) (retold c.told (with_verdict c.verdict s)) now l),
+        ledger-free w (spaces_with m q.checker y) (record s { verdict = c.verdict; told = c.told; proof = now; words = words }) u.ledger
+            (words-free w (spaces_with m q.checker y) (record s { verdict = c.verdict; told = c.told; proof = now }) words
+            (proof-free w (spaces_with m q.checker y) (retold c.told (with_verdict c.verdict s)) now l)),
       )
 
   pub comes-verdict : (b : Bool) → IsValid s → s.verdict ≡ Unknown →
       CountsSteps (length s.counted) s.ledger.settings.max_steps s.ledger.since s.ledger.steps n (Ok b) →
       answer_at y.solver_state.sat_state ≡ Some b → k ≡ n - s.ledger.steps → GoesOnWriting s.proof now →
-      TellsVerdict s b (after-solve c.told c.verdict n now s)
+      TellsVerdict s b (after-solve c.told c.verdict n now words s)
   comes-verdict b valid was counts answer made grows = record {
     valid = valid;
     known = λ z. absurd (z was);
     steps = λ _. counts;
     answer = comes-answer m y c ∙ answer;
     right = comes-right m y c;
-    rest = like-grown (after-solve c.told c.verdict n s.proof s) now grows;
-    told = subst (λ j. TellsMore j s.told c.told) made c.more;
+    rest = like-grown (after-solve c.told c.verdict n s.proof s.words s) now words grows;
+    told = record { entries = c.more.entries; joined = c.more.joined; goes = subst (λ j. GoesOn j s.told c.more.entries) made c.more.goes };
+    ends = λ _. c.ends;
     refuted = comes-refuted m y c;
     core = λ list e. let (w, l) = c.fits in
         core-not-empty w.identity (spaces_with m q.checker y).model (spaces_with m q.checker y).outcome c.verdict list e l.verdict;
@@ -288,7 +306,7 @@ module _ {A : Type 0} {k : ℕ} {s : State} {p q : ProofParts} (m : Tables) (y :
 
   pub comes-interrupted : IsValid s → s.verdict ≡ Unknown → CountsSteps
       (length s.counted) s.ledger.settings.max_steps s.ledger.since s.ledger.steps n (Err Interrupted) → c.verdict ≡ Unknown →
-      k ≡ n - s.ledger.steps → (n ≡ s.ledger.steps → ⊥) → GoesOnWriting s.proof now → IsInterrupted s (after-solve c.told c.verdict n now s)
+      k ≡ n - s.ledger.steps → (n ≡ s.ledger.steps → ⊥) → GoesOnWriting s.proof now → IsInterrupted s (after-solve c.told c.verdict n now words s)
   comes-interrupted valid was counts unknown made moved grows = record {
     valid = valid;
     unknown = was;
@@ -303,12 +321,19 @@ module _ {A : Type 0} {k : ℕ} {s : State} {p q : ProofParts} (m : Tables) (y :
           ∙ sym was;
       ledger = refl;
       told = (stays-nothing c.told).0;
+      derived = (stays-nothing c.told).2;
       stays = λ _. (stays-nothing c.told).1;
       alike = refl;
       proof = grows;
     };
-    told = record { entries = c.more.entries; joined = c.more.joined; goes = subst (λ j. GoesOn j s.told c.more.entries) made c.more.goes };
+    variables = refl;
+    told = record {
+      entries = c.more.entries;
+      joined = c.more.joined;
+      goes = subst (λ j. GoesOn j s.told c.more.entries) made c.more.goes;
+    };
     adds = subst (λ j. GoesOnAdding j s.told c.more.entries) made (c.adds unknown);
+    derived = ends-derived c.more.entries c.verdict unknown c.ends;
     still = λ e. absurd (moved e);
   }
 
@@ -330,15 +355,22 @@ interrupted-still s valid was counts =
         verdict = refl;
         ledger =
             ledger-is s.ledger s.ledger.valid s.ledger.started s.ledger.steps
-            (s.ledger.since + (s.ledger.steps - s.ledger.steps)) s.ledger.settings refl refl refl
-            (none-more s.ledger.since s.ledger.steps) refl;
+            (s.ledger.since + (s.ledger.steps - s.ledger.steps)) s.ledger.settings s.ledger.checking refl refl refl
+            (none-more s.ledger.since s.ledger.steps) refl refl;
         told = (stays-nothing s.told).0;
+        derived = (stays-nothing s.told).2;
         stays = λ _. (stays-nothing s.told).1;
         alike = refl;
         proof =
             goes-on-none s.proof;
       };
-      told = record { entries = nothing.entries; joined = nothing.joined; goes = subst (λ j. GoesOn j s.told nothing.entries) none nothing.goes };
+      variables = refl;
+      told = record {
+        entries = nothing.entries;
+        joined = nothing.joined;
+        goes = subst (λ j. GoesOn j s.told nothing.entries) none nothing.goes;
+      };
       adds = subst (λ j. GoesOnAdding j s.told nothing.entries) none (goes_adding_none 0 s.told nothing.entries nothing.goes);
+      derived = nothing-derived s.told;
       still = λ e. refl;
     }

@@ -16,7 +16,7 @@ use Rattle.varisat.specs.Names.{Mode}
 use Rattle.varisat.specs.States.{Verdict, Unknown, Sat, Unsat, UnsatUnderAssumptions}
 use Rattle.varisat.specs.Names.{identity_of}
 use Rattle.varisat.specs.Carried.{carry, is_value, is_forced}
-use Rattle.varisat.specs.Journals.{ToldConflict}
+use Rattle.varisat_proof.specs.Passing.{ToldConflict}
 use Rattle.varisat.specs.Spaces.{ModeFits, IdentitiesFit, NamesFit, ModesFit, UnitsFit, IsolationCase, NotIsolated, Apart, Forced, IsolationFits, SolversFit, Translation, IsKnownTrue, IsSettledBy, SharesHeld, HeldFits, SearchHolds, AssumptionsFit, MarksFit, WorkingFits, CoreFits, VerdictFits}
 
 pub identities-same : (id gl : ℕ → Option ℕ) (k k' : ℕ → VarData) (top : ℕ) → ((x : ℕ) → (k' x).deleted ≡ (k x).deleted) →

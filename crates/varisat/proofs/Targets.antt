@@ -58,9 +58,9 @@ pub tells-refused : (p q : ProofParts) (e : SolverError) → told_faults e ≡ 0
 tells-refused p q e h t = up-to-then p.opened q.opened q.opened (told_faults e) (tells-writes p q t) (refused-unwritten q.opened e h)
 
 pub breaks-writes : (p q : ProofParts) (e : StepError) → BreaksProof p (step_faults e) q → WritesUpTo (told_faults (step_refusal e)) p.opened q.opened
-breaks-writes p q step.Full b = b
-breaks-writes p q step.Memory b = b
-breaks-writes p q (step.Target cause) b = b
+breaks-writes p q step.Full (entries, b, _) = (entries, b)
+breaks-writes p q step.Memory (entries, b, _) = (entries, b)
+breaks-writes p q (step.Target cause) (entries, b, _) = (entries, b)
 
 -- names are refused before anything is told
 pub names-unwritten : (o : Option OpenState) (t : Tables) (d : List Literal) (e : SolverError) → ChecksNames t d (Err e) → WritesUpTo (told_faults e) o o

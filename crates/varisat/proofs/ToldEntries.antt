@@ -3,6 +3,7 @@ use Rattle.std.proofs.Common.{◌≡◌, ℕ, ◌+◌, Bool, false, List, [], �
 use Rattle.std.proofs.lemmas.List.{append-nil}
 use Rattle.varisat_theory.specs.Membership.{◌∈◌, ◌⊆◌}
 use Rattle.varisat_theory.specs.Literals.{Literal, Clause, Assignment, variable_of, SatisfiesAll}
+use Rattle.varisat_proof.specs.Assumed.{lists_of, assumed_behind, CoresAreAssumed}
 use Rattle.varisat_theory.specs.Derivations.{Line, Add, Delete, SpeakOf}
 use Rattle.varisat_theory.specs.Renaming.{rename_line}
 use Rattle.varisat_theory.specs.Held.{without}
@@ -12,16 +13,57 @@ use Rattle.varisat_theory.proofs.Members.{∈-append_left, ∈-append_right, ∈
 use Rattle.varisat_theory.proofs.HeldDrops.{without_less}
 use Rattle.varisat_theory.proofs.Renaming.{map-∈}
 use Rattle.varisat_theory.proofs.Sound.{conflicts_sound}
-use Rattle.varisat_theory.proofs.Spoken.{spoken_join, spoken_wider}
-use Rattle.varisat.specs.Spaces.{IsCounted, IsTold}
-use Rattle.varisat.specs.Journals.{TellsMore, TellsStaying}
+use Rattle.varisat.specs.Spaces.{IsCounted, IsTold, AllSpeakOf}
+use Rattle.varisat.specs.Journals.{TellsMore, TellsStaying, AreDerived, EndWithCore, EndBy}
+use Rattle.varisat.specs.States.{Verdict, Unknown, Sat, Unsat, UnsatUnderAssumptions}
+use Rattle.varisat.proofs.GivenEntries.{all-wider, all-join, written-speak, assumed-append, cores-append, assumed-written, cores-written, assumed-spoken}
 
 pub tells-nothing : (told : List Entry) → TellsMore 0 told told
 tells-nothing told = record { entries = []; joined = sym (append-nil told); goes = λ held d. (held, refl) }
 
 pub stays-nothing : (told : List Entry) → TellsStaying 0 told told
 unfolding tells-nothing
-stays-nothing told = (tells-nothing told, tt)
+stays-nothing told = (tells-nothing told, tt, tt)
+
+-- lines are derived entries, and so are such in turn
+pub written-derived : (lines : List Line) → AreDerived (written lines)
+written-derived [] = tt
+written-derived (line ∷ lines) = written-derived lines
+
+pub derived-through : (es fs : List Entry) → AreDerived es → AreDerived fs → AreDerived (es ++ fs)
+derived-through [] fs d e = e
+derived-through (Writes line ∷ es) fs d e = derived-through es fs d e
+derived-through (Leaves v ∷ es) fs d e = derived-through es fs d e
+derived-through (Accepts c ∷ es) fs d e = absurd d
+derived-through (Assumes a ∷ es) fs d e = absurd d
+derived-through (Fails core ∷ es) fs d e = absurd d
+
+-- and then what ends by a verdict
+pub ends-through : (es fs : List Entry) (v : Verdict) → AreDerived es → EndBy v fs → EndBy v (es ++ fs)
+ends-through es fs Unknown d e = derived-through es fs d e
+ends-through es fs (Sat a) d e = derived-through es fs d e
+ends-through es fs Unsat d e = derived-through es fs d e
+ends-through es fs (UnsatUnderAssumptions core) d (front, f, e) =
+    (es ++ front, derived-through es front d f, ap (λ xs. es ++ xs) e ∙ sym (append_assoc es front (Fails core ∷ [])))
+
+-- what ends without a verdict
+pub ends-derived : (es : List Entry) (v : Verdict) → v ≡ Unknown → EndBy v es → AreDerived es
+ends-derived es v u e = subst (λ x. EndBy x es) u e
+
+pub derived-ends : (es : List Entry) (v : Verdict) → v ≡ Unknown → AreDerived es → EndBy v es
+derived-ends es v u e = subst (λ x. EndBy x es) (sym u) e
+
+-- nothing is told by no steps
+pub nothing-derived : (told : List Entry) → AreDerived (tells-nothing told).entries
+unfolding tells-nothing
+nothing-derived told = tt
+
+pub tells-none : (n : ℕ) (told : List Entry) → n ≡ 0 → TellsMore n told told
+tells-none n told e = record { entries = []; joined = sym (append-nil told); goes = λ held d. (held, refl) }
+
+pub none-derived : (n : ℕ) (told : List Entry) (e : n ≡ 0) → AreDerived (tells-none n told e).entries
+unfolding tells-none
+none-derived n told e = tt
 
 pub tells-through : (n m : ℕ) (a b c : List Entry) → TellsMore n a b → TellsMore m b c → TellsMore (n + m) a c
 tells-through n m a b c s t = record {
@@ -33,9 +75,29 @@ tells-through n m a b c s t = record {
 pub tells : (n : ℕ) (told es : List Entry) → GoesOn n told es → TellsMore n told (told ++ es)
 tells n told es g = record { entries = es; joined = refl; goes = g }
 
+pub one-derived : (told : List Entry) (e : Entry) → AreDerived (e ∷ []) → (g : GoesOn 0 told (e ∷ [])) → AreDerived (tells 0 told (e ∷ []) g).entries
+unfolding tells
+one-derived told e d g = d
+
+pub through-derived : (n m : ℕ) (a b c : List Entry) (s : TellsMore n a b) (t : TellsMore m b c) → AreDerived s.entries → AreDerived t.entries →
+    AreDerived (tells-through n m a b c s t).entries
+unfolding tells-through
+through-derived n m a b c s t d e = derived-through s.entries t.entries d e
+
 -- and then others of which nothing counts
 pub tells-also : (n : ℕ) (a b : List Entry) (es : List Entry) → TellsMore n a b → GoesOn 0 b es → TellsMore n a (b ++ es)
-tells-also n a b es s g = subst (λ m. TellsMore m a (b ++ es)) (let z : n + 0 ≡ n = omega arith in z) (tells-through n 0 a b (b ++ es) s (tells 0 b es g))
+tells-also n a b es s g = record {
+  entries = s.entries ++ es;
+  joined = ap (λ x. x ++ es) s.joined ∙ append_assoc a s.entries es;
+  goes = subst (λ m. GoesOn m a (s.entries ++ es)) (let z : n + 0 ≡ n = omega arith in z)
+      (goes_on_further n 0 a s.entries es s.goes (subst (λ x. GoesOn 0 x es) s.joined g));
+}
+
+-- where that is a core, it is told at last
+pub also-ends : (n : ℕ) (a b : List Entry) (core : List Literal) (s : TellsMore n a b) → AreDerived s.entries → (g : GoesOn 0 b (Fails core ∷ [])) →
+    EndWithCore core (tells-also n a b (Fails core ∷ []) s g).entries
+unfolding tells-also
+also-ends n a b core s d g = (s.entries, d, refl)
 
 -- steps follow entries of which nothing counts; n is how many were made
 pub steps-follow : (k n : ℕ) (a b c : List Entry) → TellsMore 0 a b → (t : TellsMore k b c) → k ≡ n → TellsMore n a c
@@ -52,14 +114,16 @@ assumes-goes told a held d = (held, (held, refl, inl (tt, refl)))
 
 -- of the accepted clauses, of what lines are over, and of whether variables left
 
--- no line is told
-quietly : (told : List Entry) (C : List ℕ) (e : Entry) → lines_of (e ∷ []) ≡ [] → SpeakOf (IsCounted C) (lines_of told) →
-    SpeakOf (IsCounted C) (lines_of (told ++ e ∷ []))
-quietly told C e none spoken = subst (SpeakOf (IsCounted C))
-    (sym (lines_append told (e ∷ []) ∙ ap (λ ls. lines_of told ++ ls) none ∙ append-nil (lines_of told))) spoken
+-- what stands behind entries that assume and fail nothing is assumed as before
+assumed-on : (told es : List Entry) (A B : List Literal) → assumed_behind [] told ≡ A → assumed_behind A es ≡ B → assumed_behind [] (told ++ es) ≡ B
+assumed-on told es A B e f = assumed-append [] told es ∙ ap (λ x. assumed_behind x es) e ∙ f
+
+cores-on : (told es : List Entry) (A : List Literal) → assumed_behind [] told ≡ A → CoresAreAssumed [] told → CoresAreAssumed A es →
+    CoresAreAssumed [] (told ++ es)
+cores-on told es A e c d = cores-append [] told es c (subst (λ x. CoresAreAssumed x es) (sym e) d)
 
 -- where no variable leaves
-none-in : (es : List Entry) (i : ℕ) → NoneLeaves es → Leaves i ∈ es → ⊥
+pub none-in : (es : List Entry) (i : ℕ) → NoneLeaves es → Leaves i ∈ es → ⊥
 none-in [] i n h = h
 none-in (Accepts c ∷ es) i n h = ⊎_elim (λ q. cc) (none-in es i n) h
 none-in (Writes line ∷ es) i n h = ⊎_elim (λ q. cc) (none-in es i n) h
@@ -73,49 +137,62 @@ left-on told es n k i = (
   λ g. ∈-append_left (Leaves i) told es ((k i).1 g),
 )
 
-pub told-written : {gone : ℕ → Type 0} (told : List Entry) (P : List Clause) (C : List ℕ) (hidden : Bool) (lines : List Line) →
-    SpeakOf (IsCounted C) lines → IsTold told P C hidden gone → IsTold (told ++ written lines) P C hidden gone
-told-written told P C hidden lines s t = record {
+pub told-written : {gone : ℕ → Type 0} (told : List Entry) (P : List Clause) (A : List Literal) (C : List ℕ) (hidden : Bool) (lines : List Line) →
+    SpeakOf (IsCounted C) lines → IsTold told P A C hidden gone → IsTold (told ++ written lines) P A C hidden gone
+told-written told P A C hidden lines s t = record {
   accepted = accepted_append told (written lines) ∙ ap (λ x. accepted_of told ++ x) (written_accepts lines) ∙ append-nil (accepted_of told) ∙ t.accepted;
-  spoken = subst (SpeakOf (IsCounted C)) (sym (lines_append told (written lines) ∙ ap (λ ls. lines_of told ++ ls) (written_lines lines)))
-      (spoken_join (IsCounted C) (lines_of told) lines t.spoken s);
+  assumed = assumed-on told (written lines) A A t.assumed (assumed-written A lines);
+  cores = cores-on told (written lines) A t.assumed t.cores (cores-written A lines);
+  spoken = all-join (IsCounted C) told (written lines) t.spoken (written-speak (IsCounted C) lines s);
   left = left-on told (written lines) (written_stays lines) t.left;
   stays = λ e. stays_append told (written lines) (t.stays e) (written_stays lines);
 }
 
-pub told-accepted : {gone : ℕ → Type 0} (told : List Entry) (P : List Clause) (C : List ℕ) (hidden : Bool) (c : Clause) →
-    IsTold told P C hidden gone → IsTold (told ++ Accepts c ∷ []) (P ++ c ∷ []) C hidden gone
-told-accepted told P C hidden c t = record {
+pub told-accepted : {gone : ℕ → Type 0} (told : List Entry) (P : List Clause) (A : List Literal) (C : List ℕ) (hidden : Bool) (c : Clause) →
+    ((l : Literal) → l ∈ c → IsCounted C l) → IsTold told P A C hidden gone → IsTold (told ++ Accepts c ∷ []) (P ++ c ∷ []) A C hidden gone
+told-accepted told P A C hidden c s t = record {
   accepted = accepted_append told (Accepts c ∷ []) ∙ ap (λ x. x ++ c ∷ []) t.accepted;
-  spoken = quietly told C (Accepts c) refl t.spoken;
+  assumed = assumed-on told (Accepts c ∷ []) A A t.assumed refl;
+  cores = cores-on told (Accepts c ∷ []) A t.assumed t.cores tt;
+  spoken = all-join (IsCounted C) told (Accepts c ∷ []) t.spoken (s, tt);
   left = left-on told (Accepts c ∷ []) tt t.left;
   stays = λ e. stays_append told (Accepts c ∷ []) (t.stays e) tt;
 }
 
-pub told-assumed : {gone : ℕ → Type 0} (told : List Entry) (P : List Clause) (C : List ℕ) (hidden : Bool) (a : List Literal) →
-    IsTold told P C hidden gone → IsTold (told ++ Assumes a ∷ []) P C hidden gone
-told-assumed told P C hidden a t = record {
+pub told-assumed : {gone : ℕ → Type 0} (told : List Entry) (P : List Clause) (A : List Literal) (C : List ℕ) (hidden : Bool) (a : List Literal) →
+    ((l : Literal) → l ∈ a → IsCounted C l) → IsTold told P A C hidden gone → IsTold (told ++ Assumes a ∷ []) P a C hidden gone
+told-assumed told P A C hidden a s t = record {
   accepted = accepted_append told (Assumes a ∷ []) ∙ append-nil (accepted_of told) ∙ t.accepted;
-  spoken = quietly told C (Assumes a) refl t.spoken;
+  assumed = assumed-on told (Assumes a ∷ []) A a t.assumed refl;
+  cores = cores-on told (Assumes a ∷ []) A t.assumed t.cores tt;
+  spoken = all-join (IsCounted C) told (Assumes a ∷ []) t.spoken (s, tt);
   left = left-on told (Assumes a ∷ []) tt t.left;
   stays = λ e. stays_append told (Assumes a ∷ []) (t.stays e) tt;
 }
 
-pub told-failed : {gone : ℕ → Type 0} (told : List Entry) (P : List Clause) (C : List ℕ) (hidden : Bool) (core : List Literal) →
-    IsTold told P C hidden gone → IsTold (told ++ Fails core ∷ []) P C hidden gone
-told-failed told P C hidden core t = record {
+-- a core of what is assumed
+pub told-failed : {gone : ℕ → Type 0} (told : List Entry) (P : List Clause) (A : List Literal) (C : List ℕ) (hidden : Bool) (core : List Literal) →
+    core ⊆ A → IsTold told P A C hidden gone → IsTold (told ++ Fails core ∷ []) P A C hidden gone
+told-failed told P A C hidden core within t = record {
   accepted = accepted_append told (Fails core ∷ []) ∙ append-nil (accepted_of told) ∙ t.accepted;
-  spoken = quietly told C (Fails core) refl t.spoken;
+  assumed = assumed-on told (Fails core ∷ []) A A t.assumed refl;
+  cores = cores-on told (Fails core ∷ []) A t.assumed t.cores (within, tt);
+  spoken = all-join (IsCounted C) told (Fails core ∷ []) t.spoken (
+    λ l h. assumed-spoken (IsCounted C) [] told (λ m i. absurd i) t.spoken l (subst (λ x. l ∈ x) (sym t.assumed) (within l h)),
+    tt,
+  );
   left = left-on told (Fails core ∷ []) tt t.left;
   stays = λ e. stays_append told (Fails core ∷ []) (t.stays e) tt;
 }
 
 -- a variable left
-pub told-left : {before after : ℕ → Type 0} (told : List Entry) (P : List Clause) (C : List ℕ) (hidden : Bool) (v : ℕ) → (hidden ≡ false → ⊥) →
-    ((i : ℕ) → after i ↔ (before i ⊎ (i ≡ v))) → IsTold told P C hidden before → IsTold (told ++ Leaves v ∷ []) P C hidden after
-told-left told P C hidden v n gone t = record {
+pub told-left : {before after : ℕ → Type 0} (told : List Entry) (P : List Clause) (A : List Literal) (C : List ℕ) (hidden : Bool) (v : ℕ) →
+    (hidden ≡ false → ⊥) → ((i : ℕ) → after i ↔ (before i ⊎ (i ≡ v))) → IsTold told P A C hidden before → IsTold (told ++ Leaves v ∷ []) P A C hidden after
+told-left told P A C hidden v n gone t = record {
   accepted = accepted_append told (Leaves v ∷ []) ∙ append-nil (accepted_of told) ∙ t.accepted;
-  spoken = quietly told C (Leaves v) refl t.spoken;
+  assumed = assumed-on told (Leaves v ∷ []) A A t.assumed refl;
+  cores = cores-on told (Leaves v ∷ []) A t.assumed t.cores tt;
+  spoken = all-join (IsCounted C) told (Leaves v ∷ []) t.spoken (tt, tt);
   left = λ i. (
     λ h. (gone i).1 (⊎_elim
         (λ a. inl ((t.left i).0 a))
@@ -130,16 +207,16 @@ told-left told P C hidden v n gone t = record {
 }
 
 -- more identities are counted
-pub told-counted : {gone : ℕ → Type 0} (told : List Entry) (P : List Clause) (C D : List ℕ) (hidden : Bool) → C ⊆ D → IsTold told P C hidden gone →
-    IsTold told P D hidden gone
-told-counted told P C D hidden m t =
-    record {
-      accepted = t.accepted;
-      spoken = spoken_wider (IsCounted C) (IsCounted D) (lines_of told) (λ l h. m (variable_of l) h) t.spoken;
-      left =
-          t.left;
-      stays = t.stays;
-    }
+pub told-counted : {gone : ℕ → Type 0} (told : List Entry) (P : List Clause) (A : List Literal) (C D : List ℕ) (hidden : Bool) → C ⊆ D →
+    IsTold told P A C hidden gone → IsTold told P A D hidden gone
+told-counted told P A C D hidden m t = record {
+  accepted = t.accepted;
+  assumed = t.assumed;
+  cores = t.cores;
+  spoken = all-wider (IsCounted C) (IsCounted D) told (λ l h. m (variable_of l) h) t.spoken;
+  left = t.left;
+  stays = t.stays;
+}
 
 -- Lines under other names are over the identities that these lead to.
 pub spoken-renamed : (are may : Literal → Type 0) (f : Literal → Literal) (lines : List Line) → ((l : Literal) → are l → may (f l)) →
@@ -165,3 +242,26 @@ unspoken P (Writes (Delete (l ∷ c)) ∷ es) Q a m d e (s, p) = absurd (s l (in
 unspoken P (Assumes b ∷ es) Q a m (R, q, d) e s = unspoken R es Q a (subst (SatisfiesAll a) (sym q) m) d e s
 unspoken P (Fails core ∷ es) Q a m (R, (k, q), d) e s = unspoken R es Q a (subst (SatisfiesAll a) (sym q) m) d e s
 unspoken P (Leaves v ∷ es) Q a m (R, q, d) e s = unspoken R es Q a (subst (SatisfiesAll a) (sym q) (λ c h. m c (without_less v P c h))) d e s
+
+-- all that is told is that variables leave
+abbrev pub OnlyLeave : List Entry → Type 0
+OnlyLeave [] = Unit {0}
+OnlyLeave (Leaves v ∷ es) = OnlyLeave es
+OnlyLeave (_ ∷ es) = ⊥
+
+-- So it is where nothing was given and entries are over no variable.
+pub only-leave : (P : List Clause) (es : List Entry) (Q : List Clause) (a : Assignment) → SatisfiesAll a P → Leads P es Q → accepted_of es ≡ [] →
+    lists_of es ≡ [] → AllSpeakOf (λ l. ⊥) es → OnlyLeave es
+only-leave P [] Q a m d n e s = tt
+only-leave P (Accepts c ∷ es) Q a m d n e s = absurd cc
+only-leave P (Writes (Add []) ∷ es) Q a m (R, (f, q), d) n e s = absurd (conflicts_sound P [] a m (λ l h. absurd h) f)
+only-leave P (Writes (Add (l ∷ c)) ∷ es) Q a m d n e (s, rest) = absurd (s l (inl refl))
+only-leave P (Writes (Delete []) ∷ es) Q a m (R, (front, x, back, i, o, f), d) n e s =
+    let (l, h, t) = m x (subst (λ y. x ∈ y) (sym i) (∈-append_right x front (x ∷ back) (inl refl))) in
+    absurd (o.0 l h)
+only-leave P (Writes (Delete (l ∷ c)) ∷ es) Q a m d n e (s, rest) = absurd (s l (inl refl))
+only-leave P (Assumes b ∷ es) Q a m d n e s = absurd cc
+only-leave P (Fails [] ∷ es) Q a m (R, (f, q), d) n e s = absurd (conflicts_sound P [] a m (λ l h. absurd h) f)
+only-leave P (Fails (l ∷ core) ∷ es) Q a m d n e (s, rest) = absurd (s l (inl refl))
+only-leave P (Leaves v ∷ es) Q a m (R, q, d) n e (s, rest) =
+    only-leave R es Q a (subst (SatisfiesAll a) (sym q) (λ c h. m c (without_less v P c h))) d n e rest

@@ -12,7 +12,7 @@ use Rattle.varisat.specs.Names.{identity_of}
 use Rattle.varisat.specs.Carried.{carry}
 use Rattle.varisat.specs.Journals.{TellsProof, TellsLeaving}
 use Rattle.varisat.proofs.Carried.{carry-at}
-use Rattle.varisat.proofs.ToldEntries.{tells-nothing, tells, tells-through, leaves-goes}
+use Rattle.varisat.proofs.ToldEntries.{tells-nothing, nothing-derived, tells, one-derived, through-derived, tells-through, leaves-goes}
 
 -- 1. Literals and entries.
 same-number : (o : Option ℕ) → identity_of o ≡ variable_or_first o
@@ -68,17 +68,19 @@ pub leaving-none : (variables : ℕ → Option ℕ) (told : List Entry) (p q : P
     TellsLeaving variables told told p q
 leaving-none variables told p q given e h = record {
   more = tells-nothing told;
+  derived = nothing-derived told;
   proof = record { entries = []; joined = sym (append-nil told); told = subst (λ es. IsTold p es q) e h };
 }
 
 pub leaving-nothing : (variables : ℕ → Option ℕ) (told : List Entry) (p : ProofParts) → TellsLeaving variables told told p p
-leaving-nothing variables told p = record { more = tells-nothing told; proof = proof-quiet variables told p }
+leaving-nothing variables told p = record { more = tells-nothing told; derived = nothing-derived told; proof = proof-quiet variables told p }
 
 -- one did, and the proof was told of its global variable
 pub leaving-one : (variables : ℕ → Option ℕ) (told : List Entry) (i x : ℕ) (p q : ProofParts) (given : List Entry) → variables i ≡ Some x →
     given ≡ Leaves x ∷ [] → IsTold p given q → TellsLeaving variables told (told ++ Leaves i ∷ []) p q
 leaving-one variables told i x p q given at e h = record {
   more = tells 0 told (Leaves i ∷ []) (leaves-goes told i);
+  derived = one-derived told (Leaves i) tt (leaves-goes told i);
   proof = record {
     entries = Leaves i ∷ [];
     joined = refl;
@@ -93,4 +95,8 @@ leaving-one variables told i x p q given at e h = record {
 pub leaving-through : (variables : ℕ → Option ℕ) (a b c : List Entry) (p q r : ProofParts) → TellsLeaving variables a b p q →
     TellsLeaving variables b c q r → TellsLeaving variables a c p r
 leaving-through variables a b c p q r s t =
-    record { more = tells-through 0 0 a b c s.more t.more; proof = proof-through variables a b c p q r s.proof t.proof }
+    record {
+      more = tells-through 0 0 a b c s.more t.more;
+      derived = through-derived 0 0 a b c s.more t.more s.derived t.derived;
+      proof = proof-through variables a b c p q r s.proof t.proof;
+    }

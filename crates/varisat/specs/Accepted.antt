@@ -2,15 +2,13 @@
 use Rattle.std.specs.Prelude.{ℕ, Option, List, [], ◌∷◌, ◌++◌, map}
 use Rattle.varisat_theory.specs.Literals.{Literal, Clause}
 use Rattle.varisat_theory.specs.Journals.{Entry, Accepts, Assumes}
-use Rattle.varisat_names.specs.Variables.{Tables}
-use Rattle.varisat_proof.specs.Calls.{CheckerState}
 use Rattle.varisat_search.specs.declared.context.Context.{Context}
 use Rattle.varisat_tracer.specs.Tracing.{TracerState}
 use Rattle.varisat.specs.States.{State, with_variables, Verdict}
 use Rattle.varisat.specs.Names.{name_all, through_names}
 use Rattle.varisat.specs.Calls.{with_naming, VerdictAfter, append_clause, with_assumptions}
 use Rattle.varisat.specs.Journals.{retold, TellsStaying, TellsProof}
-use Rattle.varisat.specs.Spaces.{SpacesFit, KeepVariables, FitWithNew}
+use Rattle.varisat.specs.Spaces.{SpacesFit, KeepVariables}
 use Rattle.varisat.specs.Summaries.{spaces_with}
 
 -- the literals over identities, once their names are named
@@ -28,9 +26,13 @@ StandsOnceAccepted d p x q y =
     × SpacesFit (spaces_with q.tables q.proof.checker y)
     (with_variables variables (retold told (append_clause (identity_literals s d) v (with_naming (name_all d s.naming) s))))
 
--- The list is assumed in place of the one before, and the journal goes on with it. A checker inside goes on as it is.
-abbrev pub StandsOnceAssumed : {A : Type 0} → List Literal → Tables → Context A → Tables → Context A → Type 0
-StandsOnceAssumed d t x u y =
-    (s : State) (checker : Option CheckerState) → SpacesFit (spaces_with t checker x) s →
-    FitWithNew (spaces_with u checker y) s
-    (retold (s.told ++ Assumes (identity_literals s d) ∷ []) (with_assumptions (identity_literals s d) (with_naming (name_all d s.naming) s)))
+-- The list is assumed in place of the one before, and the journal goes on with it, and so does what a proof was told. Identities
+-- that are new have variables then.
+abbrev pub StandsOnceAssumed : {A : Type 0} → List Literal → TracerState → Context A → TracerState → Context A → Type 0
+StandsOnceAssumed d p x q y =
+    (s : State) → SpacesFit (spaces_with p.tables p.proof.checker x) s →
+    (variables : ℕ → Option ℕ) × KeepVariables s.naming.made s.variables variables
+    × TellsProof variables s.told (s.told ++ Assumes (identity_literals s d) ∷ []) p.proof q.proof
+    × SpacesFit (spaces_with q.tables q.proof.checker y)
+    (with_variables variables (retold (s.told ++ Assumes (identity_literals s d) ∷ [])
+    (with_assumptions (identity_literals s d) (with_naming (name_all d s.naming) s))))

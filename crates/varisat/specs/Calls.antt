@@ -4,14 +4,15 @@
 -- Refusals are looked for in this order: Invalid; then `add_clause` returns Ok under the verdict Unsat; ClauseAfterSolve;
 -- ProofOpen; VariableLimit; WitnessVar; ConfigOutOfRange; OutOfMemory, ClauseStoreFull or ProofIoError, whichever comes first;
 -- Interrupted.
-use Rattle.std.specs.Prelude.{◌≡◌, ◌≢◌, ℕ, ◌+◌, ◌-◌, ◌<◌, ◌≤◌, Bool, true, false, Option, Some, None, List, [], ◌∷◌, ◌++◌, ◌⊎◌, Result, Ok, Err, map, length}
+use Rattle.std.specs.Prelude.{◌≡◌, ◌≢◌, ℕ, ◌+◌, ◌-◌, ◌^◌, ◌<◌, ◌≤◌, Bool, true, false, Option, Some, None, List, [], ◌∷◌, ◌++◌, ◌⊎◌, Result, Ok, Err, map, length}
 use Rattle.std.specs.declared.alloc.AllocError.{AllocError}
 use Rattle.varisat_theory.specs.Membership.{◌∈◌}
 use Rattle.varisat_theory.specs.Literals.{Literal, Clause, variable_of, opposite, IsUnit, IsSatisfiable}
 use Rattle.varisat_theory.specs.NewClauses.{GoesOnAdding}
 use Rattle.varisat_theory.specs.Journals as entry
-use Rattle.varisat.specs.Journals.{retold, TellsMore, ToldConflict}
-use Rattle.varisat.specs.OpenProofs.{IsOpen, IsSearched, searched_under, lines_over, GoesOnWriting}
+use Rattle.varisat_proof.specs.Passing.{ToldConflict}
+use Rattle.varisat.specs.Journals.{retold, TellsMore, AreDerived, EndBy}
+use Rattle.varisat.specs.OpenProofs.{IsOpen, BarsClauses, BarsAssumptions, searched_under, lines_over, GoesOnWriting, GoesOnFailing}
 use Rattle.varisat_formula.specs.Dimacs.{Reading}
 use Rattle.varisat_formula.specs.Streams.{Stand}
 use Rattle.varisat.specs.States.{State, join_counted, Verdict, Unknown, Sat, Unsat, UnsatUnderAssumptions, HasRightVerdict, IsWellFormed}
@@ -36,8 +37,8 @@ is_valid s = s.ledger.valid
 abbrev pub IsValid : State → Type 0
 IsValid s = is_valid s ≡ true
 
--- What a user can know in t is what it is in s, but for what a call tells beside, entries that add no clause that counts, and for
--- further bytes of an open proof. Variables left only where they may, and the lines told before are written as they were.
+-- What a user can know in t is what it is in s, but for what a call tells beside, lines that add no clause that counts and variables
+-- that leave, for further bytes of an open proof, and for the words of the clause store. Variables left only where they may, and the lines told before are written as they were.
 pub record IsLikeButLeft (may_leave : Bool) (s t : State) : Type 0 where
   pub naming : t.naming ≡ s.naming
   pub ever_hidden : t.ever_hidden ≡ s.ever_hidden
@@ -47,6 +48,7 @@ pub record IsLikeButLeft (may_leave : Bool) (s t : State) : Type 0 where
   pub verdict : t.verdict ≡ s.verdict
   pub ledger : t.ledger ≡ s.ledger
   pub told : TellsMore 0 s.told t.told
+  pub derived : AreDerived told.entries
   pub stays : may_leave ≡ false → entry.NoneLeaves told.entries
   pub alike : lines_over t.variables s.told ≡ lines_over s.variables s.told
   pub proof : GoesOnWriting s.proof t.proof
@@ -56,11 +58,18 @@ abbrev pub IsLike : State → State → Type 0
 IsLike s t = IsLikeButLeft false s t
 
 -- An error from which there is no way back: from then on the state is invalid. Nothing else is told of it but that it is
--- well-formed, and what the ledger tells.
-pub record Invalidates (s t : State) : Type 0 where
+-- well-formed, what the ledger tells, and that an open proof stays with its target, which has further bytes and failed just as
+-- often as the error tells.
+pub record Invalidates (faults : ℕ) (s t : State) : Type 0 where
   pub valid : IsValid s
   pub ledger : t.ledger ≡ record s.ledger { valid = false }
+  pub proof : GoesOnFailing faults s.proof t.proof
   pub well_formed : IsWellFormed t
+
+-- A clause of as many literals as identities were made, with the three words before its literals, would bring the clause store to
+-- 2^32 words or more.
+abbrev pub IsFull : ℕ → State → Type 0
+IsFull made t = 2 ^ 32 ≤ t.words + 3 + made
 
 -- the call is refused: the solver is invalid, and nothing changes
 abbrev pub IsRefusedInvalid : State → State → Type 0
@@ -126,10 +135,10 @@ Accepts s d t =
     (w : Verdict) × VerdictAfter s.clauses (map (through_names named) d) s.verdict w
     × IsLike (start (append_clause (map (through_names named) d) w (with_naming named s))) t
 
--- One more clause may join those accepted: these are not known to be unsatisfiable, and `solve` was not called under an open proof.
+-- One more clause may join those accepted: these are not known to be unsatisfiable, and no open proof bars it.
 pub record IsExtensible (s : State) : Type 0 where
   pub unrefuted : s.verdict ≢ Unsat
-  pub unsearched : IsSearched s.proof → ⊥
+  pub unbarred : BarsClauses s.proof → ⊥
 
 -- a clause is accepted: under Unsat nothing changes, but that steps are counted anew
 pub data TakesClause (s : State) (d : Clause) (t : State) : Type 0 where
@@ -140,19 +149,19 @@ pub data TakesClause (s : State) (d : Clause) (t : State) : Type 0 where
 abbrev pub AddsClause : State → Clause → Result (Unit {0}) SolverError → State → Type 0
 AddsClause s d (Ok _) t = IsValid s × TakesClause s d t
 AddsClause s d (Err Invalid) t = IsRefusedInvalid s t
-AddsClause s d (Err ClauseAfterSolve) t = IsValid s × (s.verdict ≢ Unsat) × IsSearched s.proof × (t ≡ s)
+AddsClause s d (Err ClauseAfterSolve) t = IsValid s × (s.verdict ≢ Unsat) × BarsClauses s.proof × (t ≡ s)
 AddsClause s d (Err VariableLimit) t = IsValid s × IsExtensible s × (IsPastLimit d ⊎ IsCrowded (name_all d s.naming)) × (t ≡ s)
 AddsClause s d (Err (WitnessVar u)) t = IsValid s × IsExtensible s × (IsPastLimit d → ⊥) × IsFirstWitness s.naming d u × (t ≡ s)
-AddsClause s d (Err OutOfMemory) t = IsExtensible s × MayConstrain s.naming d × Invalidates s t
-AddsClause s d (Err ClauseStoreFull) t = IsExtensible s × MayConstrain s.naming d × Invalidates s t
-AddsClause s d (Err (ProofIoError cause)) t = IsOpen s.proof × IsExtensible s × MayConstrain s.naming d × Invalidates s t
+AddsClause s d (Err OutOfMemory) t = IsExtensible s × MayConstrain s.naming d × Invalidates 0 s t
+AddsClause s d (Err ClauseStoreFull) t = IsExtensible s × MayConstrain s.naming d × Invalidates 0 s t × IsFull (name_all d s.naming).made t
+AddsClause s d (Err (ProofIoError cause)) t = IsOpen s.proof × IsExtensible s × MayConstrain s.naming d × Invalidates 1 s t
 AddsClause s d (Err _) t = ⊥
 
 -- The calls `add_formula` and `add_dimacs_cnf`.
 
 -- how clauses are added one by one, for lists and texts of them
 abbrev pub adding : additions.Adding State
-adding = record { valid = is_valid; invalidates = Invalidates; count_anew = count_anew; adds = AddsClause }
+adding = record { valid = is_valid; invalidates = Invalidates 0; count_anew = count_anew; adds = AddsClause }
 
 -- the clauses in turn, up to the first refusal; those before it stay
 abbrev pub AddsAll : State → List Clause → Result (Unit {0}) SolverError → State → Type 0
@@ -181,7 +190,7 @@ abbrev pub MakesVar : State → Result ℕ SolverError → State → Type 0
 MakesVar s (Ok u) t = IsValid s × IsLeastFree s.naming u × (u < variable_limit) × IsLike (start (with_naming (name_one u s.naming) s)) t
 MakesVar s (Err Invalid) t = IsRefusedInvalid s t
 MakesVar s (Err VariableLimit) t = IsValid s × ((u : ℕ) × IsLeastFree s.naming u × ((variable_limit ≤ u) ⊎ IsCrowded (name_one u s.naming))) × (t ≡ s)
-MakesVar s (Err OutOfMemory) t = ((u : ℕ) × IsLeastFree s.naming u × (u < variable_limit)) × Invalidates s t
+MakesVar s (Err OutOfMemory) t = ((u : ℕ) × IsLeastFree s.naming u × (u < variable_limit)) × Invalidates 0 s t
 MakesVar s (Err _) t = ⊥
 
 -- The call `assume`.
@@ -204,14 +213,18 @@ TakesAssumptions s list t =
     let carried : List Literal = map (through_names named) list in
     IsLike (start (retold (s.told ++ entry.Assumes carried ∷ []) (with_assumptions carried (with_naming named s)))) t
 
--- No proof is open: assumptions would be no part of what it says.
+-- No open proof bars it: assumptions would be no part of what such a proof says. The target of another one may fail.
 abbrev pub Assumes : State → List Literal → Result (Unit {0}) SolverError → State → Type 0
-Assumes s list (Ok _) t = IsValid s × (s.proof ≡ None) × MayConstrain s.naming list × TakesAssumptions s list t
+Assumes s list (Ok _) t = IsValid s × (BarsAssumptions s.proof → ⊥) × MayConstrain s.naming list × TakesAssumptions s list t
 Assumes s list (Err Invalid) t = IsRefusedInvalid s t
-Assumes s list (Err ProofOpen) t = IsValid s × IsOpen s.proof × (t ≡ s)
-Assumes s list (Err VariableLimit) t = IsValid s × (s.proof ≡ None) × (IsPastLimit list ⊎ IsCrowded (name_all list s.naming)) × (t ≡ s)
-Assumes s list (Err (WitnessVar u)) t = IsValid s × (s.proof ≡ None) × (IsPastLimit list → ⊥) × IsFirstWitness s.naming list u × (t ≡ s)
-Assumes s list (Err OutOfMemory) t = (s.proof ≡ None) × MayConstrain s.naming list × Invalidates s t
+Assumes s list (Err ProofOpen) t = IsValid s × BarsAssumptions s.proof × (t ≡ s)
+Assumes s list (Err VariableLimit) t =
+    IsValid s × (BarsAssumptions s.proof → ⊥) × (IsPastLimit list ⊎ IsCrowded (name_all list s.naming)) × (t ≡ s)
+Assumes s list (Err (WitnessVar u)) t =
+    IsValid s × (BarsAssumptions s.proof → ⊥) × (IsPastLimit list → ⊥) × IsFirstWitness s.naming list u × (t ≡ s)
+Assumes s list (Err OutOfMemory) t = (BarsAssumptions s.proof → ⊥) × MayConstrain s.naming list × Invalidates 0 s t
+Assumes s list (Err (ProofIoError cause)) t =
+    IsOpen s.proof × (BarsAssumptions s.proof → ⊥) × MayConstrain s.naming list × Invalidates 1 s t
 Assumes s list (Err _) t = ⊥
 
 -- The call `solve`.
@@ -231,20 +244,27 @@ with_verdict v s = record s { verdict = v }
 abbrev pub with_steps : ℕ → State → State
 with_steps n s = record s { ledger = record s.ledger { steps = n; since = s.ledger.since + (n - s.ledger.steps) } }
 
+-- the same state, in which a call may make so many steps
+abbrev pub with_max_steps : ℕ → State → State
+with_max_steps n s = record s { ledger = record s.ledger { settings = record s.ledger.settings { max_steps = n } } }
+
 -- how the steps are counted that a call makes under the verdict Unknown, by its answer
 abbrev pub CountsCall : State → Result Bool SolverError → State → Type 0
 CountsCall s r t = CountsSteps (length s.counted) s.ledger.settings.max_steps s.ledger.since s.ledger.steps t.ledger.steps r
 
--- A verdict is returned, and is right. One that was known stays, and no step is made.
+-- A verdict is returned, and is right. One that was known stays, no step is made, and nothing told.
 pub record TellsVerdict (s : State) (b : Bool) (t : State) : Type 0 where
   pub valid : IsValid s
-  pub known : s.verdict ≢ Unknown → (t.verdict ≡ s.verdict) × (t.ledger.steps ≡ s.ledger.steps)
+  pub known : s.verdict ≢ Unknown → (t.verdict ≡ s.verdict) × (t.ledger.steps ≡ s.ledger.steps) × (t.told ≡ s.told)
   pub steps : s.verdict ≡ Unknown → CountsCall s (Ok b) t
   pub answer : answer_of t.verdict ≡ Some b
   pub right : HasRightVerdict t
   pub rest : IsLike (retold t.told (with_verdict t.verdict (with_steps t.ledger.steps s))) t
   -- of the clauses that it told to be added as many count as steps were made
   pub told : TellsMore (t.ledger.steps - s.ledger.steps) s.told t.told
+  -- where it was not known before these are lines and variables that leave, and at last the core that was found, if one was: by
+  -- propagation over what is held it conflicts
+  pub ends : s.verdict ≡ Unknown → EndBy t.verdict told.entries
   -- under Unsat propagation over what is held conflicts
   pub refuted : t.verdict ≡ Unsat → ToldConflict t.told
   -- a core that was found is not empty
@@ -256,10 +276,14 @@ pub record IsInterrupted (s t : State) : Type 0 where
   pub unknown : s.verdict ≡ Unknown
   pub steps : CountsCall s (Err Interrupted) t
   pub rest : IsLike (retold t.told (with_steps t.ledger.steps s)) t
-  -- of the clauses that it told to be added as many count as steps were made, and as many at least are new: no clause that was held
-  -- just before is a part of them
+  -- a proof writes each identity as the variable that it had
+  pub variables : t.variables ≡ s.variables
+  -- of the clauses that it told to be added as many count as steps were made; and each step added a new one, of which no clause that
+  -- was held just before is a part, and which is held as the step ends
   pub told : TellsMore (t.ledger.steps - s.ledger.steps) s.told t.told
   pub adds : GoesOnAdding (t.ledger.steps - s.ledger.steps) s.told told.entries
+  -- no core is told
+  pub derived : AreDerived told.entries
   -- where no step was made nothing changed
   pub still : t.ledger.steps ≡ s.ledger.steps → t ≡ s
 
@@ -267,10 +291,11 @@ pub record IsInterrupted (s t : State) : Type 0 where
 abbrev pub Searches : State → Result Bool SolverError → State → Type 0
 Searches s (Ok b) t = TellsVerdict s b t
 Searches s (Err Invalid) t = IsRefusedInvalid s t
-Searches s (Err OutOfMemory) t = (s.verdict ≡ Unknown) × CountsCall s (Err OutOfMemory) t × Invalidates (with_steps t.ledger.steps s) t
-Searches s (Err ClauseStoreFull) t = (s.verdict ≡ Unknown) × CountsCall s (Err ClauseStoreFull) t × Invalidates (with_steps t.ledger.steps s) t
+Searches s (Err OutOfMemory) t = (s.verdict ≡ Unknown) × CountsCall s (Err OutOfMemory) t × Invalidates 0 (with_steps t.ledger.steps s) t
+Searches s (Err ClauseStoreFull) t =
+    (s.verdict ≡ Unknown) × CountsCall s (Err ClauseStoreFull) t × Invalidates 0 (with_steps t.ledger.steps s) t × IsFull s.naming.made t
 Searches s (Err (ProofIoError cause)) t =
-    IsOpen s.proof × (s.verdict ≡ Unknown) × CountsCall s (Err (ProofIoError cause)) t × Invalidates (with_steps t.ledger.steps s) t
+    IsOpen s.proof × (s.verdict ≡ Unknown) × CountsCall s (Err (ProofIoError cause)) t × Invalidates 1 (with_steps t.ledger.steps s) t
 Searches s (Err Interrupted) t = IsInterrupted s t
 Searches s (Err _) t = ⊥
 
@@ -283,6 +308,11 @@ pub record CountsIfUnknown (s : State) (r : Result Bool SolverError) (t : State)
   pub known : s.verdict ≢ Unknown → t.ledger.steps ≡ s.ledger.steps
   pub unknown : s.verdict ≡ Unknown → CountsCall s r t
 
+-- The target of an open proof failed in a step, which comes only where the verdict was unknown, or as it was flushed.
+abbrev pub FailsTarget : State → State → Type 0
+FailsTarget s t =
+    ((s.verdict ≡ Unknown) × Invalidates 1 (with_steps t.ledger.steps s) t) ⊎ Invalidates 1 (with_steps t.ledger.steps (once_searched s)) t
+
 -- Steps are made, and then an open proof is marked as one under which `solve` was called, and flushed, also where the verdict was
 -- known. Its target may fail in a step, or as it is flushed.
 abbrev pub Solves : State → Result Bool SolverError → State → Type 0
@@ -291,7 +321,7 @@ Solves s (Err Invalid) t = IsRefusedInvalid s t
 Solves s (Err OutOfMemory) t = Searches s (Err OutOfMemory) t
 Solves s (Err ClauseStoreFull) t = Searches s (Err ClauseStoreFull) t
 Solves s (Err (ProofIoError cause)) t =
-    IsOpen s.proof × CountsIfUnknown s (Err (ProofIoError cause)) t × Invalidates (with_steps t.ledger.steps s) t
+    IsOpen s.proof × CountsIfUnknown s (Err (ProofIoError cause)) t × FailsTarget s t
 Solves s (Err Interrupted) t = IsInterrupted (once_searched s) t
 Solves s (Err _) t = ⊥
 
@@ -327,7 +357,7 @@ TellsSteps s n t = (n ≡ s.ledger.steps) × (t ≡ s)
 
 -- The call `steps_since_change`.
 
--- the count of steps since the last change is returned, which is below 2^(2n+3) in a valid state
+-- the count of steps since the last change is returned, which are few in a valid state
 abbrev pub TellsSince : State → ℕ → State → Type 0
 TellsSince s n t = budgets.TellsSince is_valid (λ s. s.ledger.since) (λ s. s.counted) s n t
 

@@ -1,7 +1,7 @@
 -- What the answers of a new solver say, with no state in between.
 use Rattle.std.specs.Prelude.{◌≡◌, true, List}
 use Rattle.varisat_formula.specs.Streams.{Stand, Taken}
-use Rattle.varisat.specs.Pasts.{Past, IsJournal, adding, named, MakesVar, Assumes, Solves, TellsModel, TellsCore, with_update, ProofOpens, ProofCloses}
+use Rattle.varisat.specs.Pasts.{Past, IsJournal, count_anew, adding, named, MakesVar, Assumes, Solves, TellsModel, TellsCore, with_update, ProofOpens, ProofCloses}
 use Rattle.varisat.specs.Turns.{CallRules, Makes, MakesInTurn}
 use Rattle.varisat.specs.declared.session.Call.{Call}
 use Rattle.varisat.specs.declared.session.Answer.{Answer}
@@ -19,6 +19,7 @@ telling = record {
   tells_core = TellsCore;
   updated = with_update;
   started = λ p. p.started;
+  begins_checking = count_anew;
   steps = λ p. p.steps;
   since = λ p. p.since;
   counted = λ p. p.counted;

@@ -1,13 +1,16 @@
 -- What a call tells: entries that go on from what was told before.
-use Rattle.std.specs.Prelude.{◌≡◌, ℕ, false, Option, List, [], ◌++◌, map}
-use Rattle.varisat_theory.specs.Literals.{Clause}
-use Rattle.varisat_theory.specs.Propagation.{Conflicts}
-use Rattle.varisat_theory.specs.Journals.{Entry, Leads, LeadsBy, NoneLeaves, accepted_of, lines_of, rename_entry, GoesOn}
+use Rattle.std.specs.Prelude.{◌≡◌, ℕ, true, false, Option, List, [], ◌∷◌, ◌++◌, map}
+use Rattle.varisat_theory.specs.Literals.{Literal, Clause}
+use Rattle.varisat_theory.specs.Journals.{Entry, Writes, Fails, Leaves, Leads, LeadsBy, NoneLeaves, accepted_of, lines_of, rename_entry, GoesOn}
 use Rattle.varisat_theory.specs.Derivations.{IsDerivation, Refutes}
+use Rattle.varisat_proof.specs.declared.proof.format.Encoding.TheVariants.{Text}
+use Rattle.varisat_proof.specs.Telling.{lines_told}
 use Rattle.varisat_proof.specs.Proving.{ProofParts, IsTold}
+use Rattle.varisat_proof.specs.Written.{AreInRange}
 use Rattle.varisat.specs.Carried.{carry}
-use Rattle.varisat.specs.OpenProofs.{lines_over, IsWrittenIf, HaveOwnVariables}
-use Rattle.varisat.specs.States.{State, Unsat}
+use Rattle.varisat_proof.specs.Assumed.{assumed_behind, CoresAreAssumed}
+use Rattle.varisat.specs.OpenProofs.{entries_over, IsWrittenIf, HaveOwnVariables}
+use Rattle.varisat.specs.States.{State, Verdict, Unsat, UnsatUnderAssumptions}
 
 -- the same state once more was told
 abbrev pub retold : List Entry → State → State
@@ -20,9 +23,25 @@ pub record TellsMore (n : ℕ) (before after : List Entry) : Type 0 where
   pub joined : after ≡ before ++ entries
   pub goes : GoesOn n before entries
 
--- so it is, and no variable leaves
+-- No clause is accepted, nothing is assumed and no core told: the entries are lines, and variables that leave.
+abbrev pub AreDerived : List Entry → Type 0
+AreDerived [] = Unit {0}
+AreDerived (Writes line ∷ es) = AreDerived es
+AreDerived (Leaves v ∷ es) = AreDerived es
+AreDerived (_ ∷ es) = ⊥
+
+-- so they are, and then the core is told, at last
+abbrev pub EndWithCore : List Literal → List Entry → Type 0
+EndWithCore core es = (front : List Entry) × AreDerived front × (es ≡ front ++ Fails core ∷ [])
+
+-- What steps tell that come to the verdict.
+abbrev pub EndBy : Verdict → List Entry → Type 0
+EndBy (UnsatUnderAssumptions core) es = EndWithCore core es
+EndBy _ es = AreDerived es
+
+-- Further entries are told, which are lines alone.
 abbrev pub TellsStaying : ℕ → List Entry → List Entry → Type 0
-TellsStaying n before after = (m : TellsMore n before after) × NoneLeaves m.entries
+TellsStaying n before after = (m : TellsMore n before after) × NoneLeaves m.entries × AreDerived m.entries
 
 -- An open proof, and a checker, were told the further entries, each identity as its variable.
 pub record TellsProof (variables : ℕ → Option ℕ) (before after : List Entry) (old new : ProofParts) : Type 0 where
@@ -33,23 +52,24 @@ pub record TellsProof (variables : ℕ → Option ℕ) (before after : List Entr
 -- Entries are told as variables leave, and to the proof as well.
 pub record TellsLeaving (variables : ℕ → Option ℕ) (before after : List Entry) (old new : ProofParts) : Type 0 where
   pub more : TellsMore 0 before after
+  pub derived : AreDerived more.entries
   pub proof : TellsProof variables before after old new
 
--- what was told leads to clauses over which propagation conflicts
-abbrev pub ToldConflict : List Entry → Type 0
-ToldConflict told = (held : List Clause) × Leads [] told held × Conflicts held []
-
--- What was told is right, entry by entry, and an open proof has all its lines, each identity as its variable: no two that have not
--- left have the same. Its clauses are those accepted, in order. Where nothing was ever hidden each line is written as it is, no
--- variable leaves, and its lines are a derivation from these, and under Unsat they refute them.
+-- What was told is right, entry by entry, and an open proof has all of it for which its format has lines, each identity as its
+-- variable: no two that have not left have the same. Its clauses are those accepted, in order, its last list is that of the
+-- assumptions, and its cores are of what was assumed. Where nothing was ever hidden each entry is written as it is, in numbers that a
+-- reader takes, no variable leaves, and its lines are a derivation from the clauses, and under Unsat they refute them.
 pub record IsJournal (s : State) : Type 0 where
   pub held : List Clause
   pub led : Leads [] s.told held
   pub accepted : accepted_of s.told ≡ s.clauses
+  pub assumed : assumed_behind [] s.told ≡ s.assumptions
+  pub cores : CoresAreAssumed [] s.told
   pub written : IsWrittenIf s.variables s.told s.proof
   pub apart : HaveOwnVariables s.variables s.naming.made s.told
-  pub plain : s.ever_hidden ≡ false → lines_over s.variables s.told ≡ lines_of s.told
+  pub plain : s.ever_hidden ≡ false → entries_over s.variables s.told ≡ s.told
   pub stays : s.ever_hidden ≡ false → NoneLeaves s.told
+  pub in_range : s.ever_hidden ≡ false → AreInRange (lines_told (Text true) s.told)
   pub derives : s.ever_hidden ≡ false → IsDerivation s.clauses (lines_of s.told)
   pub refutes : s.ever_hidden ≡ false → s.verdict ≡ Unsat → Refutes s.clauses (lines_of s.told)
 

@@ -1,13 +1,36 @@
 -- What holds of names as long as none is freed: they come into use in order, and each stands for the identity of its number. So a
--- user who hides nothing may read what is said over identities as said over names.
-use Rattle.std.specs.Prelude.{◌≡◌, ℕ, ◌+◌, ◌≤◌, List, [], ◌∷◌, ◌++◌, map}
+-- user who hides nothing may read what is said over identities as said over names. What is told and written of a core that is found.
+-- And what a check of a proof's bytes returns.
+use Rattle.std.specs.Prelude.{◌≡◌, Bool, true, false, ℕ, ◌+◌, ◌≤◌, Option, List, [], ◌∷◌, ◌++◌, map, Result, Ok}
 use Rattle.varisat_theory.specs.Literals.{Literal, Clause}
+use Rattle.varisat_theory.specs.Propagation.{Conflicts}
+use Rattle.varisat_theory.specs.Journals.{Entry, Leads, lines_of}
 use Rattle.varisat_literals.specs.Numbers.{variable_limit}
+use Rattle.varisat_formula.specs.Streams.{Taken}
+use Rattle.varisat_proof.specs.declared.proof.format.Encoding.TheVariants.{Text}
+use Rattle.varisat_proof.specs.declared.proof.format.LineKind.TheVariants.{Fails}
+use Rattle.varisat_proof.specs.declared.proof.format.ProofFormat.{ProofFormat}
+use Rattle.varisat_proof.specs.declared.proof.format.ProofFormat.TheVariants.{Marked}
+use Rattle.varisat_proof.specs.declared.checker.error.CheckVerdict.{CheckVerdict}
+use Rattle.varisat_proof.specs.declared.checker.error.CheckVerdict.TheVariants.{Refutation}
+use Rattle.varisat_proof.specs.declared.checker.error.CheckerError.{CheckerError}
+use Rattle.varisat_proof.specs.Lines.{line_of_kind, has_marks}
+use Rattle.varisat_proof.specs.Results.{IsResult, IsAccepted}
+use Rattle.varisat_proof.specs.Written.{line_text}
+use Rattle.varisat_proof.specs.Telling.{bytes_told}
+use Rattle.varisat_proof.specs.Marked.{nothing_told, ProofState, state_of, IsCheckOf}
+use Rattle.varisat_proof.specs.Passing.{PassesWith}
+use Rattle.varisat.specs.Carried.{carry}
+use Rattle.varisat.specs.OpenProofs.{entries_over}
+use Rattle.varisat.specs.Decided.{Conclusion}
+use Rattle.varisat.specs.Proven.{IsProven}
+use Rattle.varisat.specs.Journals.{TellsMore, EndWithCore}
 use Rattle.varisat.specs.Names.{Naming, no_names, name_one, name_all, through_names, IsLeastFree, AreInOrder}
 use Rattle.varisat.specs.Models.{AreNamesInUse}
-use Rattle.varisat.specs.Calls.{IsPastLimit, IsCrowded}
+use Rattle.varisat.specs.Calls.{IsPastLimit, IsCrowded, TellsVerdict}
 use Rattle.varisat.specs.Counts.{count_with}
-use Rattle.varisat.specs.Pasts.{Past, accept, assume}
+use Rattle.varisat.specs.States.{State, Unknown, UnsatUnderAssumptions}
+use Rattle.varisat.specs.Pasts.{Past, PastProof, IsJournal, HasProof, IsRefuted, accept, assume}
 
 -- Before the first call names are in order. They stay so where those of a list of literals come into use, and where the least
 -- free one does, which is the one above them.
@@ -27,3 +50,43 @@ GivenIsAccepted = (n : ℕ) (p : Past) (c : Clause) → AreInOrder n p.naming �
 -- and it is refused for its names only where one of these is past the limit
 abbrev pub CrowdedIsPastLimit : Type 0
 CrowdedIsPastLimit = (n : ℕ) (m : Naming) (ls : List Literal) → AreInOrder n m → n ≤ variable_limit → IsCrowded (name_all ls m) → IsPastLimit ls
+
+-- Where a call of `solve` finds a core, propagation over what is held then conflicts with it: the core was told at last.
+abbrev pub CoresAreTold : Type 0
+CoresAreTold =
+    (s t : State) (b : Bool) (core : List Literal) (held : List Clause) → TellsVerdict s b t → s.verdict ≡ Unknown →
+    t.verdict ≡ UnsatUnderAssumptions core → Leads [] t.told held → Conflicts held core
+
+-- Where a call tells a core at last, a marked proof of what was told ends with its line.
+abbrev pub CoresAreWritten : Type 0
+CoresAreWritten =
+    (n : ℕ) (before after : List Entry) (more : TellsMore n before after) (core : List Literal) (variables : ℕ → Option ℕ) (bytes : List ℕ)
+    → EndWithCore core more.entries → bytes ≡ bytes_told Marked (entries_over variables after)
+    → (front : List ℕ) × (bytes ≡ front ++ line_text (line_of_kind Fails (map (carry variables) core)))
+
+-- Where nothing was ever hidden, a check of a marked proof from no clause finds no line wrong. It tells the accepted clauses and the
+-- cores, in order, each core with the number of clauses before it, up to where propagation first conflicts or all of them; and it
+-- refutes where the clauses are refuted.
+abbrev pub MarkedProofsPass : Type 0
+MarkedProofsPass =
+    (p : Past) (opened : PastProof) (bytes : List ℕ) (result : Result CheckVerdict CheckerError) (end : ProofState)
+    → IsJournal p → HasProof p opened bytes → opened.format ≡ Marked → p.ever_hidden ≡ false
+    → IsCheckOf (Text true) (state_of [] nothing_told) bytes result end
+    → PassesWith p.told result end.told × (IsRefuted Marked p → result ≡ Ok Refutation)
+
+-- Where nothing was hidden a check of the bytes of an open proof over the accepted clauses finds that they refute, or that they are a
+-- derivation and do not; so it does of the bytes that the program leaves.
+pub record BytesAreAccepted : Type 0 where
+  pub proof : (p : Past) (opened : PastProof) (bytes : List ℕ) (result : Result CheckVerdict CheckerError) (left : List Clause) →
+      HasProof p opened bytes →
+      has_marks opened.format ≡ false →
+      p.ever_hidden ≡ false →
+      IsResult opened.format p.clauses bytes result left →
+      IsAccepted p.clauses (lines_of p.told) result
+  pub program : (format : ProofFormat) (P : List Clause) (c : Conclusion) (old new : Taken) (bytes : List ℕ)
+      (result : Result CheckVerdict CheckerError) (left : List Clause) →
+      (proven : IsProven format P c old new) →
+      has_marks format ≡ false →
+      new.bytes ≡ old.bytes ++ bytes →
+      IsResult format P bytes result left →
+      IsAccepted P (lines_of proven.told) result

@@ -5,7 +5,7 @@ use Rattle.std.specs.declared.alloc.AllocError.{AllocError}
 use Rattle.varisat_theory.specs.Literals.{Literal}
 use Rattle.varisat_literals.specs.Numbers.{variable_text, literal_text}
 use Rattle.varisat_formula.specs.Streams.{Taken}
-use Rattle.varisat_proof.specs.declared.proof.format.ProofFormat.TheVariants.{Drat, BinaryDrat}
+use Rattle.varisat_proof.specs.declared.proof.format.ProofFormat.TheVariants.{Drat, BinaryDrat, Marked}
 use Rattle.varisat_names.specs.declared.config.ConfigField.{ConfigField}
 use Rattle.varisat_names.specs.Settings.{field_text, update_of}
 use Rattle.varisat.specs.Refusals.{refusal_number}
@@ -34,6 +34,7 @@ pub data Command : Type 0 where
   Since : Command
   ProofText : Command
   ProofBinary : Command
+  ProofMarked : Command
   Close : Command
   SelfCheck : Command
 
@@ -54,6 +55,7 @@ words Steps = codes "steps" ∷ []
 words Since = codes "since" ∷ []
 words ProofText = codes "proof" ∷ codes "text" ∷ []
 words ProofBinary = codes "proof" ∷ codes "binary" ∷ []
+words ProofMarked = codes "proof" ∷ codes "marked" ∷ []
 words Close = codes "close" ∷ []
 words SelfCheck = codes "selfcheck" ∷ []
 
@@ -78,6 +80,7 @@ HasNumbersInRange Steps = Unit {0}
 HasNumbersInRange Since = Unit {0}
 HasNumbersInRange ProofText = Unit {0}
 HasNumbersInRange ProofBinary = Unit {0}
+HasNumbersInRange ProofMarked = Unit {0}
 HasNumbersInRange Close = Unit {0}
 HasNumbersInRange SelfCheck = Unit {0}
 
@@ -111,6 +114,7 @@ AsksFor call.Steps Steps = Unit {0}
 AsksFor call.StepsSinceChange Since = Unit {0}
 AsksFor (call.WriteProof target format) ProofText = (target ≡ no_bytes) × (format ≡ Drat)
 AsksFor (call.WriteProof target format) ProofBinary = (target ≡ no_bytes) × (format ≡ BinaryDrat)
+AsksFor (call.WriteProof target format) ProofMarked = (target ≡ no_bytes) × (format ≡ Marked)
 AsksFor call.CloseProof Close = Unit {0}
 AsksFor call.EnableSelfChecking SelfCheck = Unit {0}
 AsksFor _ _ = ⊥
@@ -126,6 +130,7 @@ SetsUsage _ = ⊥
 abbrev pub Opens : Command → Type 0
 Opens ProofText = Unit {0}
 Opens ProofBinary = Unit {0}
+Opens ProofMarked = Unit {0}
 Opens _ = ⊥
 
 -- the words that a text is cut into at its spaces

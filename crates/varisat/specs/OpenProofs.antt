@@ -1,14 +1,13 @@
--- What a user can know of an open DRAT proof, and what a call makes of it.
-use Rattle.std.specs.Prelude.{◌≡◌, ℕ, ◌<◌, Bool, true, false, Option, Some, None, List, [], ◌++◌, map}
+-- What a user can know of an open proof, and what a call makes of it.
+use Rattle.std.specs.Prelude.{◌≡◌, ℕ, ◌+◌, ◌<◌, Bool, true, false, Option, Some, None, List, [], ◌++◌, map}
 use Rattle.varisat_theory.specs.Membership.{◌∈◌}
 use Rattle.varisat_theory.specs.Derivations.{Line}
 use Rattle.varisat_theory.specs.Renaming.{rename_line}
 use Rattle.varisat_formula.specs.Streams.{Taken}
-use Rattle.varisat_theory.specs.Journals.{Entry, Leaves, lines_of}
+use Rattle.varisat_theory.specs.Journals.{Entry, Leaves, lines_of, rename_entry}
 use Rattle.varisat_proof.specs.declared.proof.format.ProofFormat.{ProofFormat}
-use Rattle.varisat_proof.specs.declared.proof.format.ProofFormat.TheVariants.{Drat, BinaryDrat, Marked}
-use Rattle.varisat_proof.specs.Lines.{encoding_of, plain_lines}
-use Rattle.varisat_proof.specs.Steps.{lines_written}
+use Rattle.varisat_proof.specs.Lines.{has_marks}
+use Rattle.varisat_proof.specs.Telling.{bytes_told}
 use Rattle.varisat_proof.specs.Proving.{OpenState}
 use Rattle.varisat.specs.Carried.{carry}
 
@@ -34,11 +33,17 @@ opened_state (Some p) = Some (record { format = p.format; taken = taken_of p; se
 abbrev pub IsOpen : Option OpenProof → Type 0
 IsOpen proof = (p : OpenProof) × (proof ≡ Some p)
 
--- one of the two DRAT formats
-abbrev pub IsDrat : ProofFormat → Type 0
-IsDrat Drat = Unit {0}
-IsDrat BinaryDrat = Unit {0}
-IsDrat Marked = ⊥
+-- The proof bars further clauses: `solve` was called under it, and its format has no lines for them.
+abbrev pub BarsClauses : Option OpenProof → Type 0
+BarsClauses proof = (p : OpenProof) × (proof ≡ Some p) × (p.searched ≡ true) × (has_marks p.format ≡ false)
+
+-- it bars assumptions: its format has no lines for them
+abbrev pub BarsAssumptions : Option OpenProof → Type 0
+BarsAssumptions proof = (p : OpenProof) × (proof ≡ Some p) × (has_marks p.format ≡ false)
+
+-- the entries that were told, as a proof is told them
+abbrev pub entries_over : (ℕ → Option ℕ) → List Entry → List Entry
+entries_over variables told = map (rename_entry (carry variables)) told
 
 -- the lines that were told, as a proof writes them
 abbrev pub lines_over : (ℕ → Option ℕ) → List Entry → List Line
@@ -53,10 +58,10 @@ pub record HaveOwnVariables (variables : ℕ → Option ℕ) (made : ℕ) (told 
   pub present : (i : ℕ) → IsThere made told i → (x : ℕ) × (variables i ≡ Some x)
   pub apart : (i j x : ℕ) → IsThere made told i → IsThere made told j → variables i ≡ Some x → variables j ≡ Some x → i ≡ j
 
--- The bytes are those of all lines that were told, each identity as its variable: before a proof opens no line is told.
-pub record IsWrittenAs (variables : ℕ → Option ℕ) (told : List Entry) (p : OpenProof) : Type 0 where
-  pub drat : IsDrat p.format
-  pub bytes : p.bytes ≡ lines_written (encoding_of p.format) (plain_lines (lines_over variables told))
+-- The bytes are those of all that was told for which the format has lines, each identity as its variable: before a proof opens
+-- nothing of that kind is told.
+abbrev pub IsWrittenAs : (ℕ → Option ℕ) → List Entry → OpenProof → Type 0
+IsWrittenAs variables told p = p.bytes ≡ bytes_told p.format (entries_over variables told)
 
 -- so it is where a proof is open
 abbrev pub IsWrittenIf : (ℕ → Option ℕ) → List Entry → Option OpenProof → Type 0
@@ -73,14 +78,10 @@ abbrev pub GoesOnWriting : Option OpenProof → Option OpenProof → Type 0
 GoesOnWriting None new = new ≡ None
 GoesOnWriting (Some p) new = (more : List ℕ) × (new ≡ Some (record p { bytes = p.bytes ++ more }))
 
--- of an open proof, whether `solve` was called under it
-abbrev pub searched_in : Option OpenProof → Option Bool
-searched_in None = None
-searched_in (Some p) = Some p.searched
-
--- a proof is open, and `solve` was called under it
-abbrev pub IsSearched : Option OpenProof → Type 0
-IsSearched proof = searched_in proof ≡ Some true
+-- A proof that is open stays so, with further bytes, and its target failed so many times more. Where none is open none failed.
+abbrev pub GoesOnFailing : ℕ → Option OpenProof → Option OpenProof → Type 0
+GoesOnFailing faults None new = (new ≡ None) × (faults ≡ 0)
+GoesOnFailing faults (Some p) new = (more : List ℕ) × (new ≡ Some (record p { bytes = p.bytes ++ more; faults = p.faults + faults }))
 
 -- the open proof, if any, as one under which `solve` was called
 abbrev pub searched_under : Option OpenProof → Option OpenProof

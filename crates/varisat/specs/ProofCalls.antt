@@ -2,10 +2,11 @@
 use Rattle.std.specs.Prelude.{◌≡◌, true, false, Option, Some, None, Result, Ok, Err}
 use Rattle.varisat_formula.specs.Streams.{Taken}
 use Rattle.varisat_proof.specs.declared.proof.format.ProofFormat.{ProofFormat}
+use Rattle.varisat_proof.specs.declared.proof.format.ProofFormat.TheVariants.{Drat, BinaryDrat, Marked}
 use Rattle.varisat_proof.specs.Proving.{IsClosed}
 use Rattle.varisat.specs.OpenProofs.{OpenProof, opened_state, IsOpen, first_proof}
 use Rattle.varisat.specs.ProofBytes.{AreBytesOfProof}
-use Rattle.varisat.specs.States.{State}
+use Rattle.varisat.specs.States.{State, Verdict, Unsat}
 use Rattle.varisat.specs.Calls.{is_valid, IsValid, Invalidates, IsRefusedInvalid, count_anew, answer_of}
 use Rattle.varisat.specs.SelfChecking as checking
 use Rattle.varisat.specs.declared.solver.SolverError.{SolverError}
@@ -24,23 +25,34 @@ OpensProof taken target format s (Err (ProofOpen, back)) t = (back ≡ target) �
 OpensProof taken target format s (Err (ProofTooLate, back)) t = (back ≡ target) × IsValid s × (s.proof ≡ None) × (s.ledger.started ≡ true) × (t ≡ s)
 OpensProof taken target format s (Err _) t = ⊥
 
--- Self checking is switched on before anything is accepted, or was so before.
+-- a checker runs inside, and steps are counted anew
+abbrev pub begin_checking : State → State
+begin_checking s = record s { ledger = record s.ledger { since = 0; checking = true } }
+
+-- Self checking is switched on before anything is accepted, or was so before. No other call changes whether a checker runs.
 abbrev pub EnablesChecking : State → Result (Unit {0}) SolverError → State → Type 0
-EnablesChecking s r t = checking.EnablesChecking is_valid (λ s. s.ledger.started) count_anew s r t
+EnablesChecking s r t = checking.EnablesChecking is_valid (λ s. s.ledger.started) begin_checking s r t
+
+-- The clauses alone are known to be unsatisfiable: where a proof can have assumptions, false says no more than that those fail.
+abbrev pub IsRefuted : ProofFormat → Verdict → Type 0
+IsRefuted Drat verdict = answer_of verdict ≡ Some false
+IsRefuted BinaryDrat verdict = answer_of verdict ≡ Some false
+IsRefuted Marked verdict = verdict ≡ Unsat
 
 -- The bytes of an open proof are those of lines. As long as nothing was ever hidden these are all lines that were told, a derivation
--- from the accepted clauses, and they refute them where the answer of `solve` is false.
+-- from the accepted clauses, and they refute them where these are refuted; and those of a marked proof are one with the clauses and
+-- the assumptions.
 abbrev pub HasProof : State → Type 0
 HasProof s =
     (p : OpenProof) → s.proof ≡ Some p →
-    AreBytesOfProof p.format p.bytes s.ever_hidden s.naming.made s.told s.clauses (answer_of s.verdict ≡ Some false)
+    AreBytesOfProof p.format p.bytes s.ever_hidden s.naming.made s.told s.clauses s.assumptions (IsRefuted p.format s.verdict)
 
 -- The target of the open proof comes back, with the bytes of the proof behind those that it had before, and nothing where none is
--- open. It comes back too where it can't be flushed, which makes the solver invalid. What an invalid state says of its proof need
--- not be true any more, so nothing is told of what comes back from it.
+-- open; then none is open any more. It comes back too where it can't be flushed, which makes the solver invalid, and from an invalid
+-- solver, of which it is not told that the bytes are those of lines.
 abbrev pub ClosesProof : {W : Type 0} → (W → Taken) → State → Result (Option W) (SolverError × W) → State → Type 0
 ClosesProof taken s (Ok back) t =
-    (IsValid s → IsClosed {E = SolverError} taken (opened_state s.proof) (Ok back) × HasProof s) × (t ≡ count_anew (with_proof None s))
+    IsClosed {E = SolverError} taken (opened_state s.proof) (Ok back) × (IsValid s → HasProof s) × (t ≡ count_anew (with_proof None s))
 ClosesProof taken s (Err (ProofIoError cause, target)) t =
-    IsClosed taken (opened_state s.proof) (Err (ProofIoError cause, target)) × HasProof s × Invalidates s t
+    IsClosed taken (opened_state s.proof) (Err (ProofIoError cause, target)) × HasProof s × Invalidates 0 (with_proof None s) t
 ClosesProof taken s (Err _) t = ⊥

@@ -1,16 +1,22 @@
 -- How the program's `solve` asks a new solver, what it leaves in the target of a proof, and when it fails.
-use Rattle.std.specs.Prelude.{◌≡◌, ◌≢◌, ◌⊎◌, ℕ, ◌-◌, ◌^◌, ◌<◌, ◌++◌, true, false, List, Option, Some, None, Result, Ok, Err}
+use Rattle.std.specs.Prelude.{◌≡◌, ◌≢◌, ◌⊎◌, ℕ, Bool, ◌-◌, ◌^◌, ◌<◌, ◌++◌, true, false, List, [], Option, Some, None, Result, Ok, Err}
 use Rattle.varisat_theory.specs.Literals.{Clause}
-use Rattle.varisat_theory.specs.Derivations.{Line, IsDerivation, Refutes}
+use Rattle.varisat_theory.specs.Derivations.{IsDerivation, Refutes}
+use Rattle.varisat_theory.specs.Journals.{Entry, lines_of}
 use Rattle.varisat_formula.specs.Dimacs.{dimacs}
 use Rattle.varisat_formula.specs.Streams.{Stand, Taken, Output}
+use Rattle.varisat_names.specs.declared.config.SolverConfigUpdate.{SolverConfigUpdate}
 use Rattle.varisat_names.specs.Settings.{no_update}
+use Rattle.varisat_proof.specs.declared.proof.format.Encoding.TheVariants.{Text}
 use Rattle.varisat_proof.specs.declared.proof.format.ProofFormat.{ProofFormat}
-use Rattle.varisat_proof.specs.Lines.{encoding_of, plain_lines}
+use Rattle.varisat_proof.specs.Lines.{encoding_of, plain_lines, has_marks}
+use Rattle.varisat_proof.specs.Telling.{lines_told, bytes_told}
 use Rattle.varisat_proof.specs.Steps.{lines_written}
+use Rattle.varisat_proof.specs.Written.{AreInRange}
 use Rattle.varisat.specs.OpenProofs.{first_proof}
+use Rattle.varisat.specs.ProofBytes.{IsMarkedDerivation}
 use Rattle.varisat.specs.ProofCalls.{with_proof, ClosesProof}
-use Rattle.varisat.specs.States.{State, empty_state}
+use Rattle.varisat.specs.States.{State, new_state}
 use Rattle.varisat.specs.Calls.{AddsDimacs, Solves, TellsModel, with_update, count_anew}
 use Rattle.varisat.specs.declared.solver.SolverError.{SolverError}
 use Rattle.varisat.specs.declared.solver.SolverError.TheVariants.{Interrupted, OutOfMemory}
@@ -26,14 +32,18 @@ abbrev pub CanCountFault : {W : Type 0} → (W → Taken) → Option W → Type 
 CanCountFault taken None = Unit {0}
 CanCountFault taken (Some target) = (taken target).faults < 2 ^ 64 - 1
 
--- the state of a new solver with a limit of steps, or none
-abbrev pub limited : Option ℕ → State
-limited limit = with_update (record no_update { max_steps = limit }) empty_state
+-- the settings by which a file is decided, where they are others than those of a new solver, with a limit of steps, or none
+abbrev pub file_update : Option ℕ → SolverConfigUpdate
+file_update limit = record no_update { reduce_locals_interval = Some 2000; luby_restart_interval_scale = Some 64; max_steps = limit }
+
+-- the state of a new solver with these, and with a checker inside or none
+abbrev pub configured : Bool → Option ℕ → State
+configured check limit = with_update (file_update limit) (new_state check)
 
 -- the same where a proof was opened, if there is a target for it
-abbrev pub prepared : {W : Type 0} → (W → Taken) → ProofFormat → Option ℕ → Option W → State
-prepared taken format limit None = limited limit
-prepared taken format limit (Some target) = count_anew (with_proof (Some (first_proof format (taken target))) (limited limit))
+abbrev pub prepared : {W : Type 0} → (W → Taken) → ProofFormat → Bool → Option ℕ → Option W → State
+prepared taken format check limit None = configured check limit
+prepared taken format check limit (Some target) = count_anew (with_proof (Some (first_proof format (taken target))) (configured check limit))
 
 -- What a solver in the state s comes to as it is asked: a model that it tells, that there is none, or that its steps are spent.
 abbrev pub Finds : State → Conclusion → State → Type 0
@@ -48,14 +58,23 @@ Reports s (Err Interrupted) t = ⊥
 Reports s (Err OutOfMemory) t = Solves s (Err OutOfMemory) t ⊎ Solves s (Ok true) t
 Reports s (Err e) t = Solves s (Err e) t
 
--- The target took just the bytes of some lines, and counted no fault. The lines are a derivation from the clauses, and refute them
--- where the conclusion is that they have no model.
+-- The target took just the bytes of what was told, in numbers that a reader takes, and counted no fault. The lines are a derivation
+-- from the clauses, and refute them where the conclusion is that they have no model. DRAT has just these lines. Marked text gives
+-- clauses as they are, in order, and no assumptions, and is right from no clause. They are all, or the first ones where these have
+-- no model.
 pub record IsProven (format : ProofFormat) (clauses : List Clause) (conclusion : Conclusion) (old new : Taken) : Type 0 where
-  pub lines : List Line
-  pub bytes : new.bytes ≡ old.bytes ++ lines_written (encoding_of format) (plain_lines lines)
+  pub told : List Entry
+  pub bytes : new.bytes ≡ old.bytes ++ bytes_told format told
   pub faults : new.faults ≡ old.faults
-  pub derives : IsDerivation clauses lines
-  pub refutes : conclusion ≡ Decided None → Refutes clauses lines
+  pub plain : has_marks format ≡ false → bytes_told format told ≡ lines_written (encoding_of format) (plain_lines (lines_of told))
+  pub in_range : AreInRange (lines_told (Text true) told)
+  pub derives : IsDerivation clauses (lines_of told)
+  pub refutes : conclusion ≡ Decided None → Refutes clauses (lines_of told)
+  pub given : List Clause
+  pub rest : List Clause
+  pub begins : clauses ≡ given ++ rest
+  pub whole : rest ≢ [] → conclusion ≡ Decided None
+  pub marked : IsMarkedDerivation told given [] (conclusion ≡ Decided None)
 
 -- so it is of the target that comes back, which is none where there was none
 abbrev pub IsProvenIf : {W : Type 0} → (W → Taken) → ProofFormat → List Clause → Conclusion → Option W → Option W → Type 0

@@ -4,8 +4,7 @@ use Rattle.varisat_formula.specs.Streams.{Stand, Taken}
 use Rattle.varisat.specs.States.{State}
 use Rattle.varisat.specs.Journals.{IsJournal}
 use Rattle.varisat.specs.Calls.{adding, IsValid, MakesVar, Assumes, Solves, TellsModel, TellsCore, with_update}
-use Rattle.varisat.specs.OpenProofs.{IsDrat}
-use Rattle.varisat.specs.ProofCalls.{OpensProof, ClosesProof}
+use Rattle.varisat.specs.ProofCalls.{begin_checking, OpensProof, ClosesProof}
 use Rattle.varisat.specs.VariableCalls.{named}
 use Rattle.varisat.specs.Turns.{CallRules, Makes, MakesInTurn}
 use Rattle.varisat.specs.declared.session.Call.{Call}
@@ -25,6 +24,7 @@ calling = record {
   tells_core = TellsCore;
   updated = with_update;
   started = λ s. s.ledger.started;
+  begins_checking = begin_checking;
   steps = λ s. s.ledger.steps;
   since = λ s. s.ledger.since;
   counted = λ s. s.counted;
@@ -40,11 +40,10 @@ MakesCall seen taken s c a t = Makes calling seen taken s c a t
 abbrev pub Run : {W S A : Type 0} → (S → Stand) → (W → Taken) → State → List (Call W S A) → List (Answer W S A) → State → Type 0
 Run seen taken s calls answers t = MakesInTurn calling seen taken s calls answers t
 
--- What a call is given has counted fewer than 2^64-1 faults: a source that is read, and a target to which a proof is written, in
--- one of DRAT's formats.
+-- What a call is given has counted fewer than 2^64-1 faults: a source that is read, and a target to which a proof is written.
 abbrev pub IsReady : {W S A : Type 0} → (S → Stand) → (W → Taken) → Call W S A → Type 0
 IsReady seen taken (call.AddDimacsCnf source) = (seen source).faults < 2 ^ 64 - 1
-IsReady seen taken (call.WriteProof target format) = IsDrat format × ((taken target).faults < 2 ^ 64 - 1)
+IsReady seen taken (call.WriteProof target format) = (taken target).faults < 2 ^ 64 - 1
 IsReady seen taken _ = Unit {0}
 
 -- so is what each of the calls is given

@@ -1,6 +1,7 @@
 -- How a search came on since the last change, over calls of `solve`, and how its steps are counted.
 use Rattle.std.specs.Prelude.{◌≡◌, ℕ, ◌+◌, ◌-◌, ◌*◌, ◌^◌, ◌<◌, ◌≤◌, Bool, List, length, Result}
 use Rattle.varisat_theory.specs.Membership.{◌∈◌, IsDistinct}
+use Rattle.varisat_theory.specs.CallBounds.{AreFew}
 use Rattle.varisat_theory.specs.Rank.{rank, with_units}
 use Rattle.varisat_prop.specs.View.{kinds}
 use Rattle.varisat_schedule.specs.Plans.{Plan, next_plan, PlannedCall}
@@ -60,7 +61,7 @@ BeginsWithin x y = (c : PlannedCall) → HasComeSince c x → HasBegunSince c x.
 -- go on.
 pub record CountsSince {A : Type 0} (changed_at : ℕ) (x : Context A) : Type 0 where
   pub low : changed_at ≤ x.schedule.steps
-  pub few : (n : ℕ) → length x.assignment.current ≤ n → x.schedule.steps - changed_at < 2 ^ (2 * n + 3)
+  pub few : (n : ℕ) → length x.assignment.current ≤ n → AreFew n (x.schedule.steps - changed_at)
   pub come : x.solver_state.sat_state ≡ verdict.Unknown → (c : PlannedCall) × (c.begins.steps ≡ changed_at) × HasComeSince c x
 
 -- Wherever the last change was, the steps since then are counted on.

@@ -2,18 +2,19 @@
 --
 -- A name of the user leads to a global variable, which lasts as long as its identity may be spoken of, and a global variable to a
 -- solver variable while the search speaks of it. Identities are never used again, global and solver variables are.
-use Rattle.std.specs.Prelude.{◌≡◌, ◌≢◌, ℕ, zero, suc, ◌<◌, ◌≤◌, ◌⊎◌, Bool, true, false, Option, Some, None, List, [], ◌++◌, length, map, ◌↔◌}
+use Rattle.std.specs.Prelude.{◌≡◌, ◌≢◌, ℕ, zero, suc, ◌<◌, ◌≤◌, ◌⊎◌, Bool, true, false, Option, Some, None, List, [], ◌∷◌, ◌++◌, length, map, ◌↔◌}
 use Rattle.varisat_theory.specs.Membership.{◌∈◌, ◌⊆◌}
 use Rattle.varisat_theory.specs.Literals.{Literal, Clause, Assignment, variable_of, literal_of, IsUnit, SatisfiesAll, MakesTrue}
 use Rattle.varisat_theory.specs.Renaming.{rename}
 use Rattle.varisat_theory.specs.Held.{SameClauses}
-use Rattle.varisat_theory.specs.Derivations.{SpeakOf}
-use Rattle.varisat_theory.specs.Journals.{Entry, Leaves, Leads, accepted_of, lines_of, NoneLeaves}
+use Rattle.varisat_theory.specs.Derivations.{Add, Delete}
+use Rattle.varisat_theory.specs.Journals.{Entry, Accepts, Writes, Assumes, Fails, Leaves, Leads, accepted_of, NoneLeaves}
 use Rattle.varisat_theory.specs.Searches.{Search, IsTautology, CoversBy, IsLiteralOf}
 use Rattle.varisat_theory.specs.Outcomes.{Outcome, Holds}
 use Rattle.varisat_theory.specs.Outcomes as outcome
 use Rattle.varisat_literals.specs.Numbers.{polarity_of}
 use Rattle.varisat_names.specs.Maps.{IsInverse, chain}
+use Rattle.varisat_proof.specs.Assumed.{assumed_behind, CoresAreAssumed}
 use Rattle.varisat_proof.specs.Calls.{CheckerState}
 use Rattle.varisat_proof.specs.Proving.{MayHold}
 use Rattle.varisat_names.specs.declared.variables.data.SamplingMode.{SamplingMode}
@@ -22,7 +23,7 @@ use Rattle.varisat_names.specs.declared.variables.data.VarData.{VarData}
 use Rattle.varisat.specs.States.{State, with_variables, Verdict, Unknown, Sat, Unsat, UnsatUnderAssumptions, HasRightVerdict, IsWellFormed}
 use Rattle.varisat.specs.Names.{Mode, Sample, Witness}
 use Rattle.varisat.specs.Models.{put_name}
-use Rattle.varisat.specs.Journals.{ToldConflict}
+use Rattle.varisat_proof.specs.Passing.{ToldConflict}
 use Rattle.varisat.specs.Carried.{carry, AgreesAlong, is_forced}
 
 -- The maps as functions; how many global variables were made, what is kept of each of them, and its value in the model found
@@ -212,11 +213,29 @@ IsCounted counted l = variable_of l ∈ counted
 abbrev pub IsGone : Carrying → State → ℕ → Type 0
 IsGone w s i = (i < s.naming.made) × (w.global i ≡ None)
 
--- The accepted clauses are those that were told, in order; lines are over counted identities; just those identities were told to
--- have left that are gone; and none left as long as nothing was hidden.
-pub record IsTold (told : List Entry) (clauses : List Clause) (counted : List ℕ) (ever_hidden : Bool) (gone : ℕ → Type 0) : Type 0 where
+-- each literal of the entry is one of these
+abbrev pub SpeaksOf : (Literal → Type 0) → Entry → Type 0
+SpeaksOf are (Accepts c) = (l : Literal) → l ∈ c → are l
+SpeaksOf are (Writes (Add c)) = (l : Literal) → l ∈ c → are l
+SpeaksOf are (Writes (Delete c)) = (l : Literal) → l ∈ c → are l
+SpeaksOf are (Assumes a) = (l : Literal) → l ∈ a → are l
+SpeaksOf are (Fails core) = (l : Literal) → l ∈ core → are l
+SpeaksOf are (Leaves i) = Unit {0}
+
+-- so it is of each of the entries
+abbrev pub AllSpeakOf : (Literal → Type 0) → List Entry → Type 0
+AllSpeakOf are [] = Unit {0}
+AllSpeakOf are (e ∷ es) = SpeaksOf are e × AllSpeakOf are es
+
+-- The accepted clauses are those that were told, in order, the list told last is that of the assumptions, and cores are of what was
+-- assumed; literals are of counted identities; just those identities were told to have left that are gone; and none left as long as
+-- nothing was hidden.
+pub record IsTold (told : List Entry) (clauses : List Clause) (assumptions : List Literal) (counted : List ℕ) (ever_hidden : Bool)
+    (gone : ℕ → Type 0) : Type 0 where
   pub accepted : accepted_of told ≡ clauses
-  pub spoken : SpeakOf (IsCounted counted) (lines_of told)
+  pub assumed : assumed_behind [] told ≡ assumptions
+  pub cores : CoresAreAssumed [] told
+  pub spoken : AllSpeakOf (IsCounted counted) told
   pub left : (i : ℕ) → (Leaves i ∈ told) ↔ gone i
   pub stays : ever_hidden ≡ false → NoneLeaves told
 
@@ -256,7 +275,7 @@ pub record Links (w : Carrying) (p : Spaces) (s : State) : Type 0 where
   pub plain : s.ever_hidden ≡ false → IsPlain w.identity s.naming.made
   -- a proof writes each live identity as its global variable
   pub variables : (i x : ℕ) → w.global i ≡ Some x → s.variables i ≡ Some x
-  pub told : IsTold s.told s.clauses s.counted s.ever_hidden (IsGone w s)
+  pub told : IsTold s.told s.clauses s.assumptions s.counted s.ever_hidden (IsGone w s)
   -- under Unsat the checker is told nothing more, and nothing is said of it
   pub checked : without_core p.outcome ≢ outcome.Unsat → CheckerFits w.global s.told p.checker
 

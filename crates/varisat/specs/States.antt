@@ -5,7 +5,8 @@ use Rattle.varisat_theory.specs.Literals.{Literal, Clause, Assignment, variable_
 use Rattle.varisat_theory.specs.Journals.{Entry}
 use Rattle.varisat_names.specs.Settings.{Settings, default_settings}
 use Rattle.varisat.specs.Names.{Naming, no_names}
-use Rattle.varisat.specs.OpenProofs.{OpenProof, IsOpen}
+use Rattle.varisat_proof.specs.Assumed.{lists_of}
+use Rattle.varisat.specs.OpenProofs.{OpenProof, BarsAssumptions}
 
 -- What is known of the accepted clauses and the assumptions. Under `Sat` an assignment of the identities was found, under
 -- `UnsatUnderAssumptions` a failed core over identities.
@@ -18,19 +19,20 @@ pub data Verdict : Type 0 where
 -- What is told of an invalid solver too. `valid`: no error came from which there is no way back. `started`: a clause, a variable
 -- or a list of assumptions was accepted. `steps`: how many steps were made in all. `since`: how many of them since the last
 -- change, which is the last call that was not refused and did more than to solve or to tell something. `settings`: those by which
--- further steps are made.
+-- further steps are made. `checking`: whether a checker runs inside, which it does from when it was switched on.
 pub record Ledger : Type 0 where
   pub valid : Bool
   pub started : Bool
   pub steps : ℕ
   pub since : ℕ
   pub settings : Settings
+  pub checking : Bool
 
 -- `naming`: which identity each name has. `ever_hidden`: whether a name was ever freed while its variable lived on. `clauses`:
 -- those accepted, over identities. `assumptions`: the list as given, over identities. `counted`: the identities that accepted
 -- clauses and assumption lists have named so far, each once. `told`: what a proof that was opened at the beginning would have
 -- been told, over identities. `variables`: as which variable a proof writes each identity that was made; another identity has the
--- same one only once this one has left. `proof`: the proof that is open.
+-- same one only once this one has left. `proof`: the proof that is open. `words`: how many words the clause store has.
 pub record State : Type 0 where
   pub naming : Naming
   pub ever_hidden : Bool
@@ -42,6 +44,7 @@ pub record State : Type 0 where
   pub told : List Entry
   pub variables : ℕ → Option ℕ
   pub proof : Option OpenProof
+  pub words : ℕ
 
 -- whether the number is one of the list
 abbrev pub is_member : ℕ → List ℕ → Bool
@@ -66,15 +69,24 @@ empty_state = record {
   assumptions = [];
   counted = [];
   verdict = Unknown;
-  ledger = record { valid = true; started = false; steps = 0; since = 0; settings = default_settings };
+  ledger = record { valid = true; started = false; steps = 0; since = 0; settings = default_settings; checking = false };
   told = [];
   variables = λ i. None;
   proof = None;
+  words = 0;
 }
+
+-- so it is, but for whether a checker runs inside
+abbrev pub new_state : Bool → State
+new_state check = record empty_state { ledger = record empty_state.ledger { checking = check } }
 
 -- the same state with other variables for its identities
 abbrev pub with_variables : (ℕ → Option ℕ) → State → State
 with_variables variables s = record s { variables = variables }
+
+-- the same state with another size of the clause store
+abbrev pub with_words : ℕ → State → State
+with_words words s = record s { words = words }
 
 -- What is true of each state: names stand for different identities, none is in use from the watermark on, identities that are
 -- spoken of were made, and none is counted twice.
@@ -87,13 +99,14 @@ pub record IsWellFormed (s : State) : Type 0 where
   pub counted : (i : ℕ) → i ∈ s.counted → i < s.naming.made
   pub once : IsDistinct s.counted
 
--- What two flags say of the state: before anything was accepted there are no clauses and no assumptions, and nothing is counted;
--- and while a proof is open nothing is assumed.
+-- What two flags say of the state: before anything was accepted there are no clauses and no assumptions, nothing is counted, and
+-- no list of assumptions was told; and while a proof is open that bars assumptions nothing is assumed.
 pub record FlagsFit (s : State) : Type 0 where
   pub clauses : s.ledger.started ≡ false → s.clauses ≡ []
   pub assumptions : s.ledger.started ≡ false → s.assumptions ≡ []
   pub counted : s.ledger.started ≡ false → s.counted ≡ []
-  pub unassumed : IsOpen s.proof → s.assumptions ≡ []
+  pub unlisted : s.ledger.started ≡ false → lists_of s.told ≡ []
+  pub unassumed : BarsAssumptions s.proof → s.assumptions ≡ []
 
 -- What a verdict claims: an assignment that was found satisfies the clauses and the assumptions, and is false on each identity
 -- that is not counted; Unsat stands only where no assignment satisfies the clauses; and a core is one of the assumptions, which

@@ -17,7 +17,7 @@ use Rattle.varisat_names.specs.Variables.{Tables}
 use Rattle.std.specs.declared.io.Error.{Error}
 use Rattle.varisat_proof.specs.Calls.{CheckerState}
 use Rattle.varisat_proof.specs.Proving.{OpenState, ProofParts, marked_searched, Flushes}
-use Rattle.varisat.specs.OpenProofs.{ProofFits}
+use Rattle.varisat.specs.OpenProofs.{opened_state, IsWrittenIf}
 use Rattle.varisat_tracer.specs.Tracing.{CanTell}
 use Rattle.varisat.specs.States.{State, Ledger, FlagsFit}
 use Rattle.varisat.specs.Accepting.{AreBounded, DecidesInUse, IsAssumedSolver}
@@ -110,13 +110,16 @@ pub record IsKeptSince {A : Type 0} (tables : Tables) (proof : ProofParts) (sear
   pub counts : CountsSince changed_at search
   pub stands : StandsForSome (spaces_with tables proof.checker search) started
 
--- The solver stands for the state: both have the same ledger, and where it is valid, what the solver holds stands for it, and an
--- open proof has the bytes that the state says.
+-- The solver stands for the state: both have the same ledger and as many words in the store, and the same proof is open, whose target has the bytes that the state
+-- says; and where it is valid, what the solver holds stands for it, these are the bytes of the lines that were told, and no variable is past the limit.
 pub record StandsFor (g : Summary) (s : State) : Type 0 where
   pub ledger : s.ledger ≡ g.ledger
+  pub words : s.words ≡ g.words
+  pub same : g.opened ≡ opened_state s.proof
   pub fits : g.ledger.valid ≡ true → SpacesFit (spaces g) s
-  pub proof : g.ledger.valid ≡ true → ProofFits g.opened s.variables s.told s.proof
+  pub written : g.ledger.valid ≡ true → IsWrittenIf s.variables s.told s.proof
   pub flags : g.ledger.valid ≡ true → FlagsFit s
+  pub bounded : g.ledger.valid ≡ true → AreBounded g.tables
 
 -- A search ends in a valid solver: an open proof is one under which `solve` was called. Where it can't be flushed the solver is invalid.
 abbrev pub EndsSearch : Summary → Result (Unit {0}) SolverError → Summary → Type 0

@@ -20,8 +20,8 @@ use Rattle.varisat.specs.declared.session.Answer.TheVariants as answer
 
 -- How calls move something, and with which answers: how clauses are added to it, how its names are used, what holds behind each
 -- call, and each further call that can be refused; what an update of the settings makes of it, whether a clause, a variable or a
--- list of assumptions was accepted, how many steps were made, how many of them since the last change, and which variables are
--- counted; and how a proof opens and closes, where it is known what each target took.
+-- list of assumptions was accepted, what a checker makes of it that begins to run, how many steps were made, how many of them
+-- since the last change, and which variables are counted; and how a proof opens and closes, where it is known what each target took.
 pub record CallRules (X : Type 0) : Type 1 where
   pub adding : additions.Adding X
   pub named : usage.Named X
@@ -33,6 +33,7 @@ pub record CallRules (X : Type 0) : Type 1 where
   pub tells_core : X → Result (Option (List Literal)) AllocError → X → Type 0
   pub updated : SolverConfigUpdate → X → X
   pub started : X → Bool
+  pub begins_checking : X → X
   pub steps : X → ℕ
   pub since : X → ℕ
   pub counted : X → List ℕ
@@ -62,7 +63,7 @@ module _ {X : Type 0} (by : CallRules X) where
   Makes seen taken s (call.WriteProof target format) (answer.WriteProof r) t = by.opens taken target format s r t
   Makes seen taken s call.CloseProof (answer.CloseProof r) t = by.closes taken s r t
   Makes seen taken s call.EnableSelfChecking (answer.EnableSelfChecking r) t =
-      EnablesChecking by.adding.valid by.started by.adding.count_anew s r t
+      EnablesChecking by.adding.valid by.started by.begins_checking s r t
   Makes seen taken s _ _ t = ⊥
 
   -- the calls in turn get the answers in turn, one each, and lead to t; behind each of them what `holds` says is so

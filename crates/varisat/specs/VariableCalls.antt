@@ -16,7 +16,7 @@ named = record {
   with_naming = λ m s. count_anew (with_naming m s);
   once_hidden = λ s. record s { ever_hidden = true };
   like = IsLikeButLeft;
-  invalidates = Invalidates;
+  invalidates = Invalidates 0;
 }
 
 -- the name is in use, and an assumption is over its variable

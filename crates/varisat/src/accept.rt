@@ -1,21 +1,23 @@
 //! What an accepted clause and a list of assumptions bring: their names, the solver variables of these, and the clause
 //! or the list itself.
-ghost use Rattle.std.specs.Prelude.{◌≡◌, ◌≢◌, ◌<◌, ◌∷◌, [], Some, false, OnOk, IfErr};
+ghost use Rattle.std.specs.Prelude.{◌≡◌, ◌≢◌, ◌<◌, ◌≤◌, length, ◌∷◌, [], Some, false, OnOk, IfErr};
 ghost use Rattle.varisat_theory.specs.Membership.{◌∈◌};
 ghost use Rattle.varisat_theory.specs.Literals.{Literal, variable_of};
 ghost use Rattle.varisat_names.specs.VarData.{kept_at};
 ghost use Rattle.varisat_names.specs.VarMap.{at};
 ghost use Rattle.varisat_search.specs.Contexts.{KeepsSchedule};
 ghost use Rattle.varisat.specs.Accepted.{StandsOnceAccepted, StandsOnceAssumed};
-ghost use Rattle.varisat_theory.specs.Journals.{Accepts};
+ghost use Rattle.varisat_theory.specs.Journals.{Accepts, Assumes};
 ghost use Rattle.varisat_tracer.specs.Tracing.{parts_of, TakesGlobally, BreaksProof, CanTell};
 ghost use Rattle.varisat_search.specs.StepErrors.{step_faults, HasNoRoom};
-ghost use Rattle.varisat.specs.Spaces.{FitSome};
+ghost use Rattle.varisat.specs.Names.{name_all};
+ghost use Rattle.varisat.specs.States.{State};
+ghost use Rattle.varisat.specs.Spaces.{SpacesFit, FitSome};
 ghost use Rattle.varisat.specs.Summaries.{spaces_with, IsKept};
 ghost use Rattle.varisat.specs.Searches.{TellsSome};
 ghost use Rattle.varisat.specs.Accepting.{CanBeNamed, HasNames, AreJoined, AreMarked};
 
-use std::alloc::{AllocError, Allocator};
+use std::alloc::Allocator;
 use varisat_formula::io::ProofTarget;
 use varisat_literals::{Lit, Var};
 use varisat_names::variables::LinkedVariables;
@@ -79,6 +81,20 @@ fn tell_clause<W: ProofTarget, A: Allocator + Copy>(
     Ok(())
 }
 
+/// Tells the proof of an accepted list of assumptions, which is over solver variables.
+fn tell_assumptions<W: ProofTarget, A: Allocator + Copy>(
+    tracer: &mut SolverTracer<W, A>,
+    list: &[Lit],
+) -> Result<(), StepError>
+    requires { CanTell tracer.old.proof }
+    ensures told { OnOk result (TakesGlobally (parts_of tracer.old) (Assumes list.now ∷ []) (parts_of tracer.new)) }
+    ensures broken { IfErr result (λ error. BreaksProof tracer.old.proof (step_faults error) tracer.new.proof) }
+    ensures unstored { IfErr result (λ error. error ≢ StepError.Full) }
+{
+    tracer.add_assumptions(list)?;
+    Ok(())
+}
+
 /// Brings the names of the clause into use, takes solver variables for them, tells the proof of the clause, and loads
 /// it over these variables. `literals` is overwritten.
 pub fn accept_clause<W: ProofTarget, A: Allocator + Copy>(
@@ -102,6 +118,10 @@ pub fn accept_clause<W: ProofTarget, A: Allocator + Copy>(
     // What the target of an open proof has after an error.
     ensures broken { IfErr result (λ error. BreaksProof tracer.old.proof (step_faults error) tracer.new.proof) }
     ensures full { IfErr result (λ error. error ≡ StepError.Full → HasNoRoom ctx.new) }
+    // Then there are no more variables than identities once the names of the clause are in use.
+    ensures size { IfErr result (λ error. error ≡ StepError.Full → (s : State) →
+        SpacesFit (spaces_with tracer.old.variables tracer.old.proof.checker ctx.old) s →
+        length ctx.new.assignment.current ≤ (name_all clause.now s.naming).made) }
 {
     // A model that was found may not satisfy the clause.
     ctx.solver_state.reopen();
@@ -115,29 +135,41 @@ pub fn accept_clause<W: ProofTarget, A: Allocator + Copy>(
     Ok(())
 }
 
-/// Brings the names of the list into use, takes solver variables for them, and assumes the list in place of the one
-/// before. `literals` is overwritten.
-pub fn assume_list<A: Allocator + Copy>(
-    variables: &mut LinkedVariables<A>,
+/// Brings the names of the list into use, takes solver variables for them, assumes the list in place of the one before,
+/// and tells the proof of it. `literals` is overwritten.
+pub fn assume_list<W: ProofTarget, A: Allocator + Copy>(
+    tracer: &mut SolverTracer<W, A>,
     ctx: &mut Context<A>,
     literals: &mut Vec<Lit, A>,
     list: &[Lit],
-) -> Result<(), AllocError>
-    requires kept { IsKept variables.old ctx.old }
-    requires names { CanBeNamed list.now variables.old }
-    ensures kept { OnOk result (IsKept variables.new ctx.new) }
+) -> Result<(), StepError>
+    requires kept { IsKept tracer.old.variables ctx.old }
+    requires tells { CanTell tracer.old.proof }
+    requires names { CanBeNamed list.now tracer.old.variables }
+    ensures kept { OnOk result (IsKept tracer.new.variables ctx.new) }
+    ensures tells { OnOk result (CanTell tracer.new.proof) }
     ensures state { OnOk result (ctx.new.solver_state ≡
         record ctx.old.solver_state { sat_state = ctx.new.solver_state.sat_state; formula_is_empty = ctx.new.solver_state.formula_is_empty }) }
     ensures schedule { KeepsSchedule ctx.old ctx.new }
-    ensures assumed { OnOk result (StandsOnceAssumed list.now variables.old ctx.old variables.new ctx.new) }
+    ensures told { OnOk result (TellsSome tracer.old.proof tracer.new.proof) }
+    ensures assumed { OnOk result (StandsOnceAssumed list.now (parts_of tracer.old) ctx.old (parts_of tracer.new) ctx.new) }
+    // What the target of an open proof has after an error. The clause store is not asked for room.
+    ensures broken { IfErr result (λ error. BreaksProof tracer.old.proof (step_faults error) tracer.new.proof) }
+    ensures unstored { IfErr result (λ error. error ≢ StepError.Full) }
 {
     // What was found under the assumptions before says nothing of these.
     ctx.solver_state.assume();
-    variables.prove_linked();
-    solver_from_user_lits(ctx, variables, literals, list)?;
-    variables.prove_linked();
-    mark_assumed(variables, ctx.assumptions.user_assumptions(), false);
-    mark_assumed(variables, list, true);
-    set_assumptions(ctx, list, literals)?;
+    tracer.variables.prove_linked();
+    solver_from_user_lits(ctx, &mut tracer.variables, literals, list)?;
+    tracer.variables.prove_linked();
+    mark_assumed(
+        &mut tracer.variables,
+        ctx.assumptions.user_assumptions(),
+        false,
+    );
+    mark_assumed(&mut tracer.variables, list, true);
+    let lits = literals.as_slice();
+    set_assumptions(ctx, list, lits)?;
+    tell_assumptions(tracer, lits)?;
     Ok(())
 }

@@ -1,26 +1,37 @@
 //! How a text is decided: by a new solver, which may write a proof.
-ghost use Rattle.std.specs.Prelude.{◌≡◌, ◌-◌, ◌^◌, ◌<◌, true, Ok, IfOk, IfErr, IsSome};
+ghost use Rattle.std.specs.Prelude.{◌≡◌, ◌-◌, ◌^◌, ◌<◌, true, Ok, Err, IfOk, IfErr, IsSome};
 ghost use Rattle.varisat_proof.specs.Proving.{IsClosed};
-ghost use Rattle.varisat.specs.States.{State, empty_state};
+ghost use Rattle.varisat.specs.States.{State, new_state};
 ghost use Rattle.varisat.specs.Summaries.{StandsFor};
-ghost use Rattle.varisat.specs.OpenProofs.{IsDrat};
 ghost use Rattle.varisat.specs.ProofCalls.{ClosesProof};
 ghost use Rattle.varisat.specs.Decided.{concluded, allowed_steps};
 ghost use Rattle.varisat.specs.Proven.{CanCountFault, prepared, Reports, DecidesProven, Fails};
 
+use crate::rounds::search;
 use crate::solver::{Solver, SolverError};
 use std::alloc::Allocator;
+use std::io::Write;
 use varisat_formula::io::{ByteSource, ProofTarget};
 use varisat_literals::Lit;
 use varisat_names::config::SolverConfigUpdate;
 use varisat_proof::proof::ProofFormat;
 
-/// What `solve` keeps to: whether a checker runs inside the solver, how many steps it may make, where they are limited,
-/// and how a proof is written, where there is one. That is a format of DRAT.
+// The settings by which a file is decided. Those of a new solver, 15000 and 128, are the crate's; with these a search took
+// between half and three quarters of the time over forty formulas.
+const REDUCE_LOCALS_INTERVAL: u64 = 2000;
+
+const LUBY_RESTART_INTERVAL_SCALE: u64 = 64;
+
+/// What `solve` keeps to.
 #[derive(Clone, Copy, Debug)]
 pub struct SolveOptions {
+    /// Whether a checker runs inside the solver.
     pub check: bool,
+    /// How many steps the search may make, where they are limited.
     pub max_steps: Option<u64>,
+    /// After how many steps each it is told how far the search is, if it is.
+    pub progress: Option<u64>,
+    /// How a proof is written, where there is one.
     pub format: ProofFormat,
 }
 
@@ -34,32 +45,33 @@ pub enum Report<A: Allocator + Copy> {
 }
 
 /// Decides a DIMACS CNF text. A target takes the lines of the search as a proof, which is opened before a clause is
-/// accepted and closed at the end; then the target is there again. After an error it is gone.
+/// accepted and closed at the end; then the target is there again. After an error it is gone. How far the search is is told
+/// on `err`, where that is wanted.
 // The new solver has a function of its own: it is dropped in one place and in one step, not at each return of `decide_in`
 // and part by part.
-pub(crate) fn decide<W: ProofTarget, A: Allocator + Copy, S: ByteSource>(
+pub(crate) fn decide<W: ProofTarget, A: Allocator + Copy, S: ByteSource, E: Write>(
     alloc: A,
     cnf: &mut S,
     target: &mut Option<W>,
     options: SolveOptions,
+    err: &mut E,
 ) -> Result<Report<A>, SolverError>
     requires faults { (S.stand cnf.old).faults < 2 ^ 64 - 1 }
-    requires format { IsDrat options.format }
     requires room { CanCountFault W.taken target.old }
     ensures decided { IfOk result (λ report. DecidesProven W.taken options.format (allowed_steps options.max_steps)
         (S.stand cnf.old) (S.stand cnf.new) target.old target.new (concluded report)) }
     ensures fails { IfErr result (λ error.
-        Fails W.taken (prepared W.taken options.format options.max_steps target.old) (S.stand cnf.old) (S.stand cnf.new) error) }
+        Fails W.taken (prepared W.taken options.format options.check options.max_steps target.old) (S.stand cnf.old) (S.stand cnf.new) error) }
 {
     let mut solver: Solver<W, A> = new_solver(alloc, options.check);
-    let report = decide_in(&mut solver, cnf, target, options);
+    let report = decide_in(&mut solver, cnf, target, options, err);
     drop(solver);
     report
 }
 
 /// A new solver, inside which a checker runs where that is wanted. Before anything is accepted that is not refused.
 fn new_solver<W: ProofTarget, A: Allocator + Copy>(alloc: A, is_checked: bool) -> Solver<W, A>
-    ensures stands { StandsFor result empty_state }
+    ensures stands { StandsFor result (new_state is_checked) }
     ensures checks { is_checked ≡ true → IsSome result.checker }
 {
     let mut solver = Solver::new_in(alloc);
@@ -70,42 +82,44 @@ fn new_solver<W: ProofTarget, A: Allocator + Copy>(alloc: A, is_checked: bool) -
 }
 
 /// The same in a new solver, inside which a checker runs where that is wanted.
-fn decide_in<W: ProofTarget, A: Allocator + Copy, S: ByteSource>(
+fn decide_in<W: ProofTarget, A: Allocator + Copy, S: ByteSource, E: Write>(
     solver: &mut Solver<W, A>,
     cnf: &mut S,
     target: &mut Option<W>,
     options: SolveOptions,
+    err: &mut E,
 ) -> Result<Report<A>, SolverError>
-    requires new { StandsFor solver.old empty_state }
+    requires new { StandsFor solver.old (new_state options.check) }
     requires checks { options.check ≡ true → IsSome solver.old.checker }
     requires faults { (S.stand cnf.old).faults < 2 ^ 64 - 1 }
-    requires format { IsDrat options.format }
     requires room { CanCountFault W.taken target.old }
     ensures decided { IfOk result (λ report. DecidesProven W.taken options.format (allowed_steps options.max_steps)
         (S.stand cnf.old) (S.stand cnf.new) target.old target.new (concluded report)) }
     ensures fails { IfErr result (λ error.
-        Fails W.taken (prepared W.taken options.format options.max_steps target.old) (S.stand cnf.old) (S.stand cnf.new) error) }
+        Fails W.taken (prepared W.taken options.format options.check options.max_steps target.old) (S.stand cnf.old) (S.stand cnf.new) error) }
 {
     prepare(solver, target.take(), options);
     solver.add_dimacs_cnf(cnf)?;
-    let report = find_report(solver)?;
+    let report = find_report(solver, options.progress, err)?;
     let back = close(solver)?;
     *target = back;
     Ok(report)
 }
 
-/// Limits the steps of a new solver, and opens a proof where there is a target. A new solver refuses neither.
+/// Gives a new solver the settings for a file, with the limit of steps, and opens a proof where there is a target. A new
+/// solver refuses neither.
 fn prepare<W: ProofTarget, A: Allocator + Copy>(
     solver: &mut Solver<W, A>,
     target: Option<W>,
     options: SolveOptions,
 )
-    requires new { StandsFor solver.old empty_state }
-    requires format { IsDrat options.format }
+    requires new { StandsFor solver.old (new_state options.check) }
     requires room { CanCountFault W.taken target }
-    ensures { StandsFor solver.new (prepared W.taken options.format options.max_steps target) }
+    ensures { StandsFor solver.new (prepared W.taken options.format options.check options.max_steps target) }
 {
     let mut update = SolverConfigUpdate::new();
+    update.reduce_locals_interval = Some(REDUCE_LOCALS_INTERVAL);
+    update.luby_restart_interval_scale = Some(LUBY_RESTART_INTERVAL_SCALE);
     update.max_steps = options.max_steps;
     let _ = solver.config(&update);
     if let Some(target) = target {
@@ -114,12 +128,14 @@ fn prepare<W: ProofTarget, A: Allocator + Copy>(
 }
 
 /// Searches, and lists the model that is found.
-fn find_report<W: ProofTarget, A: Allocator + Copy>(
+fn find_report<W: ProofTarget, A: Allocator + Copy, E: Write>(
     solver: &mut Solver<W, A>,
+    progress: Option<u64>,
+    err: &mut E,
 ) -> Result<Report<A>, SolverError>
     ensures { (s : State) → StandsFor solver.old s → (t : State) × Reports s result t × StandsFor solver.new t }
 {
-    match solver.solve() {
+    match search(solver, progress, err) {
         Ok(true) => match solver.model() {
             Ok(model) => Ok(Report::Decided(model)),
             Err(_) => Err(SolverError::OutOfMemory),

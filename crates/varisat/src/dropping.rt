@@ -13,7 +13,7 @@ ghost use Rattle.varisat_search.specs.SettledUnits.{IsSettledDown};
 ghost use Rattle.varisat.specs.SinceChange.{GoesOnWithin};
 ghost use Rattle.varisat.specs.Accepting.{AreBounded};
 ghost use Rattle.varisat.specs.Searches.{TellsSome, ComesOn};
-ghost use Rattle.varisat_tracer.specs.Tracing.{parts_of, BreaksProof, CanTell};
+ghost use Rattle.varisat_tracer.specs.Tracing.{parts_of, open_parts, BreaksProof, CanTell};
 ghost use Rattle.varisat_search.specs.StepErrors.{step_faults};
 ghost use Rattle.varisat.specs.Spaces.{FitSome};
 ghost use Rattle.varisat.specs.Summaries.{undecided_spaces, IsKept};
@@ -83,7 +83,7 @@ fn drop_solver_var<W: ProofTarget, A: Allocator + Copy>(
 ) -> Result<(), AllocError>
     requires { IsSome (at tracer.old.variables.solvers.backward solver) }
     ensures dropped { OnOk result ((x : ℕ) × LosesSolverVar x solver (parts_of tracer.old) (parts_of tracer.new)) }
-    ensures opened { tracer.new.proof.opened ≡ tracer.old.proof.opened }
+    ensures opened { open_parts tracer.new.proof ≡ open_parts tracer.old.proof }
 {
     tracer.variables.prove_linked();
     let global = tracer.variables.drop_solver_var(solver)?;
@@ -101,7 +101,7 @@ fn drop_solver_vars<W: ProofTarget, A: Allocator + Copy>(
     requires distinct { IsDistinct (map variable_of lits.now) }
     ensures dropped { OnOk result (AreDroppedAlone lits.now (parts_of tracer.old) (parts_of tracer.new)) }
     ensures rest { OnOk result (LeavesTables lits.now tracer.old.variables tracer.new.variables) }
-    ensures opened { tracer.new.proof.opened ≡ tracer.old.proof.opened }
+    ensures opened { open_parts tracer.new.proof ≡ open_parts tracer.old.proof }
 {
     for lit in lits {
         tracer.variables.prove_linked();
@@ -170,7 +170,7 @@ fn release_solver_vars<W: ProofTarget, A: Allocator + Copy>(
     requires distinct { IsDistinct (map variable_of lits.now) }
     ensures released { OnOk result (AreReleased lits.now (parts_of tracer.old) (parts_of tracer.new)) }
     ensures rest { OnOk result (LeavesTables lits.now tracer.old.variables tracer.new.variables) }
-    ensures opened { tracer.new.proof.opened ≡ tracer.old.proof.opened }
+    ensures opened { open_parts tracer.new.proof ≡ open_parts tracer.old.proof }
 {
     for lit in lits {
         tracer.variables.prove_linked();
@@ -193,7 +193,7 @@ fn drop_listed<W: ProofTarget, A: Allocator + Copy>(
     ensures state { ctx.new.solver_state ≡ ctx.old.solver_state }
     ensures settled { OnOk result (IsSettledDown (view ctx.new)) }
     ensures left { OnOk result (AreOverAssumed tracer.new.variables ctx.new.trail.literals) }
-    ensures opened { tracer.new.proof.opened ≡ tracer.old.proof.opened }
+    ensures opened { open_parts tracer.new.proof ≡ open_parts tracer.old.proof }
 {
     tracer.variables.prove_linked();
     list_unassumed(&tracer.variables, ctx.trail.trail(), literals)?;
@@ -220,7 +220,7 @@ fn drop_unneeded<W: ProofTarget, A: Allocator + Copy>(
     ensures state { ctx.new.solver_state ≡ ctx.old.solver_state }
     ensures settled { OnOk result (IsSettledDown (view ctx.new)) }
     ensures left { OnOk result (LeavesNeeded tracer.new.variables (view ctx.new)) }
-    ensures opened { tracer.new.proof.opened ≡ tracer.old.proof.opened }
+    ensures opened { open_parts tracer.new.proof ≡ open_parts tracer.old.proof }
 {
     if !has_hidden(&tracer.variables) {
         return Ok(());

@@ -1,5 +1,7 @@
-//! What holds of names as long as none is freed, and so for a user who hides nothing.
+//! What holds of names as long as none is freed, and so for a user who hides nothing; of a core that is found; and of a
+//! check of a proof's bytes.
 ghost use Rattle.varisat.specs.Laws.{NamesStayInOrder, NamesAreIdentities, GivenIsAccepted, CrowdedIsPastLimit};
+ghost use Rattle.varisat.specs.Laws.{CoresAreTold, CoresAreWritten, BytesAreAccepted, MarkedProofsPass};
 
 /// Names come into use in order.
 pub fn names_stay_in_order()
@@ -19,4 +21,26 @@ pub fn given_is_accepted()
 /// It is refused for its names only where one of these is past the limit.
 pub fn crowded_is_past_limit()
     ensures { CrowdedIsPastLimit }
+{}
+
+/// A core that is found is told, and conflicts with what is held then.
+pub fn cores_are_told()
+    ensures { CoresAreTold }
+{}
+
+/// Under a marked proof its line is the last one then.
+pub fn cores_are_written()
+    ensures { CoresAreWritten }
+{}
+
+/// Where nothing was ever hidden a check of a marked proof, from no clause, finds nothing wrong. It tells just the
+/// accepted clauses and the cores, up to where propagation first conflicts, and refutes where the clauses are refuted.
+pub fn marked_proofs_pass()
+    ensures { MarkedProofsPass }
+{}
+
+/// Where nothing was hidden, `check_proof` over the accepted clauses returns for the bytes of an open proof, and for those
+/// that the program leaves, Refutation where they refute the clauses, and Derivation else.
+pub fn bytes_are_accepted()
+    ensures { BytesAreAccepted }
 {}

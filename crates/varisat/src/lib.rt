@@ -9,6 +9,8 @@ pub mod laws;
 pub mod line;
 mod naming;
 pub mod program;
+mod progress;
+mod rounds;
 pub mod session;
 pub mod solver;
 mod solving;
@@ -50,6 +52,7 @@ pub mod prop {
 
 /// One search: learning, deciding, assuming, loading, simplifying, and the steps of its schedule.
 pub mod search {
+    pub use varisat_schedule::counters::Counters;
     pub use varisat_search::analyze_conflict::{AnalyzeConflict, analyze_conflict};
     pub use varisat_search::assumptions::{
         Assumptions, EnqueueAssumption, enqueue_assumption, set_assumptions,

@@ -98,6 +98,8 @@ fn parse_proof<S: ByteSource, A: Allocator + Copy>(
         Some(Call::WriteProof(MemoryTarget::new_in(alloc), ProofFormat::Drat))
     } else if text == b"proof binary".as_slice() {
         Some(Call::WriteProof(MemoryTarget::new_in(alloc), ProofFormat::BinaryDrat))
+    } else if text == b"proof marked".as_slice() {
+        Some(Call::WriteProof(MemoryTarget::new_in(alloc), ProofFormat::Marked))
     } else {
         None
     }

@@ -1,16 +1,15 @@
 //! The commands of the program, over readers and writers.
 ghost use Rattle.std.specs.Prelude.{◌≡◌, ◌⊎◌, ◌-◌, ◌^◌, ◌<◌, OnOk, IfOk};
 ghost use Rattle.std.specs.Io.KnownBytes.{Appends};
-ghost use Rattle.varisat.specs.OpenProofs.{IsDrat};
 ghost use Rattle.varisat.specs.Decided.{Conclusion, concluded, allowed_steps, StatusIsTrue, model_text, conclusion_text, conclusion_status};
-ghost use Rattle.varisat.specs.Proven.{CanCountFault, DecidesProven};
+ghost use Rattle.varisat.specs.Proven.{CanCountFault, prepared, DecidesProven, Fails};
 ghost use Rattle.varisat_proof.specs.Verified.{fault_status};
 
 use crate::deciding::decide;
 pub use crate::deciding::{Report, SolveOptions};
 use crate::line::{parse_line, write_answer, write_literals};
 use crate::session::make_call;
-use crate::solver::Solver;
+use crate::solver::{Solver, SolverError};
 use std::alloc::Allocator;
 use std::fmt::Display;
 use std::io::{self, BufRead, BufReader, Empty, Read, Write};
@@ -47,8 +46,8 @@ pub fn session_lines<A: Allocator + Copy, R: Read + Drop, W: Write, E: Write>(
 /// the lines of the search as a proof, which is opened before a clause is accepted and closed before anything is
 /// printed; then the target is there again. A fault of the text, its source, the target or the writer, and out of
 /// memory, is told on `err`, and the status is 2. Of what was printed something is said only for a writer whose contents
-/// are known. With `check` a checker runs inside the solver. The source and the target have to have counted fewer than
-/// 2^64-1 faults.
+/// are known. With `check` a checker runs inside the solver, and with `progress` it is told on `err`, after so many steps each
+/// and at the end, how far the search is. The source and the target have to have counted fewer than 2^64-1 faults.
 pub fn solve_lines<A: Allocator + Copy, S: ByteSource, T: ProofTarget, W: Write, E: Write>(
     alloc: A,
     cnf: &mut S,
@@ -58,17 +57,18 @@ pub fn solve_lines<A: Allocator + Copy, S: ByteSource, T: ProofTarget, W: Write,
     err: &mut E,
 ) -> u8
     requires faults { (S.stand cnf.old).faults < 2 ^ 64 - 1 }
-    requires format { IsDrat options.format }
     requires room { CanCountFault T.taken proof.old }
-    // Any other status is given only after the source gave a whole text, which was decided if the steps allowed it, with a
-    // proof in the target, and the outcome printed.
-    ensures outcome { (result ≡ fault_status)
+    // Deciding fails; or the source gave a whole text, which was decided if the steps allowed it, with a proof in the target,
+    // and the outcome was printed, unless the writer failed. A fault's status comes only from these two failures.
+    ensures outcome { ((error : SolverError) × (result ≡ fault_status)
+        × Fails T.taken (prepared T.taken options.format options.check options.max_steps proof.old) (S.stand cnf.old) (S.stand cnf.new) error)
         ⊎ ((conclusion : Conclusion)
         × DecidesProven T.taken options.format (allowed_steps options.max_steps) (S.stand cnf.old) (S.stand cnf.new) proof.old proof.new conclusion
-        × (result ≡ conclusion_status conclusion) × Appends (W.contents out.old) (W.contents out.new) (conclusion_text conclusion)) }
+        × ((result ≡ fault_status)
+        ⊎ ((result ≡ conclusion_status conclusion) × Appends (W.contents out.old) (W.contents out.new) (conclusion_text conclusion)))) }
     ensures truth { StatusIsTrue (S.stand cnf.old) (S.stand cnf.new) result }
 {
-    match decide(alloc, cnf, proof, options) {
+    match decide(alloc, cnf, proof, options, err) {
         Ok(report) => match write_report(out, &report) {
             Ok(status) => status,
             Err(error) => tell_fault(err, &error),

@@ -66,7 +66,7 @@ pub enum Answer<W: ProofTarget, S: ByteSource, A: Allocator + Copy> {
     EnableSelfChecking(Result<(), SolverError>),
 }
 
-/// Makes one call. A source or a target has to have counted fewer than 2^64-1 faults, and a proof's format is one of DRAT.
+/// Makes one call. A source or a target has to have counted fewer than 2^64-1 faults.
 pub fn make_call<W: ProofTarget, S: ByteSource, A: Allocator + Copy>(
     solver: &mut Solver<W, A>,
     call: Call<W, S, A>,
@@ -103,8 +103,8 @@ pub fn make_call<W: ProofTarget, S: ByteSource, A: Allocator + Copy>(
 }
 
 /// Makes the calls in turn, and returns their answers in this order. Behind each call what was told is right, as long as
-/// the solver is valid. At each moment fewer than 2^(2n+3) steps were made since the last change, where n variables are
-/// counted, if it was so before the first call. Err comes only before that call, where the list of answers was refused.
+/// the solver is valid. At each moment fewer than (n+2)*2^(n+2) steps were made since the last change, where n variables
+/// are counted, and so fewer than 2^(2n+3). Err comes only before the first call, where the list of answers was refused.
 /// Of what the calls are given the same is asked as by `make_call`.
 pub fn run<W: ProofTarget, S: ByteSource, A: Allocator + Copy>(
     solver: &mut Solver<W, A>,
@@ -113,10 +113,11 @@ pub fn run<W: ProofTarget, S: ByteSource, A: Allocator + Copy>(
     requires { AreReady S.stand W.taken calls.items }
     ensures run { IfOk result (λ answers. (s : State) → StandsFor solver.old s →
         (t : State) × Run S.stand W.taken s calls.items answers.items t × StandsFor solver.new t) }
-    ensures few { IfOk result (λ answers. (s : State) → HasFewSteps calling s →
+    ensures few { IfOk result (λ answers. (s : State) → StandsFor solver.old s →
         HasFewStepsAlong calling S.stand W.taken s calls.items answers.items) }
     ensures err { OnErr result (solver.new ≡ solver.old) }
 {
+    solver.prove_journal();
     let mut answers = Vec::with_capacity(*calls.allocator(), calls.len())?;
     for call in calls {
         answers.push_reserved(make_call(solver, call));

@@ -5,12 +5,14 @@ ghost use Rattle.varisat.specs.Summaries.{list_tables};
 
 use crate::accept::{accept_clause, assume_list};
 use crate::naming::check_names;
+use crate::progress::{SearchSize, count_mapped};
 use crate::solving::find_verdict;
 use crate::usage::{check_change, hide_named, set_named_mode};
 use std::alloc::{AllocError, Allocator};
 use std::io;
 use std::marker::Model;
 use thiserror::Error;
+use varisat_clause::header::Tier;
 use varisat_formula::dimacs::{DimacsError, DimacsErrorKind, DimacsParser};
 use varisat_formula::formula::{CnfFormula, ExtendFormula};
 use varisat_formula::io::{ByteSource, ProofTarget};
@@ -22,6 +24,7 @@ use varisat_names::variables::naming::{new_user_var, observe_internal_vars};
 use varisat_proof::checker::Checker;
 pub use varisat_proof::proof::ProofFormat;
 use varisat_proof::proof::{close_proof, solve_finished, take_target};
+use varisat_schedule::counters::Counters;
 use varisat_search::assumptions::copied;
 use varisat_search::context::Context;
 use varisat_search::error::StepError;
@@ -166,6 +169,7 @@ pub struct Solver<W: ProofTarget, A: Allocator + Copy> {
 impl<W: ProofTarget, A: Allocator + Copy> Model for Solver<W, A> {
     ghost use Rattle.std.specs.Prelude.{◌≡◌, ◌-◌, not, false, length};
     ghost use Rattle.varisat_search.specs.Contexts as contexts;
+    ghost use Rattle.varisat_proof.specs.Proving.{is_there};
     ghost use Rattle.varisat.specs.Summaries.{Summary, IsKeptSince};
 
     ghost Value = { Summary };
@@ -184,6 +188,7 @@ impl<W: ProofTarget, A: Allocator + Copy> Model for Solver<W, A> {
         steps = c.ctx.schedule.steps;
         since = c.ctx.schedule.steps - c.changed_at;
         settings = c.ctx.solver_config;
+        checking = is_there c.tracer.proof.checker;
       };
     } };
 
@@ -194,11 +199,12 @@ impl<W: ProofTarget, A: Allocator + Copy> Solver<W, A> {
     ghost use Rattle.std.specs.Prelude.{◌≡◌, ◌≢◌, ◌-◌, ◌<◌, ◌^◌, Ok, Err, Some, None, true, false, List, ℕ};
     ghost use Rattle.std.specs.Prelude.{map, IsSome, option_copied};
     ghost use Rattle.varisat_theory.specs.Literals.{IsSatisfiableWith, IsFailedCore};
+    ghost use Rattle.varisat_theory.specs.CallBounds.{AreFew};
     ghost use Rattle.varisat_formula.specs.Rest.{Progress, IsEnding};
     ghost use Rattle.varisat.specs.States.{State, empty_state};
     ghost use Rattle.varisat.specs.Models.{model_of, IsCompletable, core_of, AreNamesInUse};
     ghost use Rattle.varisat.specs.Names.{through_names};
-    ghost use Rattle.varisat.specs.Calls.{IsValid, count_anew, AddsClause, AddsAll, AddsFormula, AddsDimacs, AddsReading, TellsFault, MakesVar, Assumes, Searches, Solves, TellsModel, TellsCore, Configures, TellsSteps, TellsSince, TellsValid, answer_of};
+    ghost use Rattle.varisat.specs.Calls.{IsValid, count_anew, with_max_steps, AddsClause, AddsAll, AddsFormula, AddsDimacs, AddsReading, TellsFault, MakesVar, Assumes, Searches, Solves, TellsModel, TellsCore, Configures, TellsSteps, TellsSince, TellsValid, answer_of};
     ghost use Rattle.varisat.specs.Told.{told_list, lent_list};
     ghost use Rattle.varisat.specs.Summaries.{StandsFor, EndsSearch, HasNoRoom};
     ghost use Rattle.varisat.specs.Targets.{WritesOn, WritesAll};
@@ -206,7 +212,6 @@ impl<W: ProofTarget, A: Allocator + Copy> Solver<W, A> {
     ghost use Rattle.varisat.specs.Journals.{IsJournal};
     ghost use Rattle.varisat.specs.Refusals.{told_faults};
     ghost use Rattle.varisat.specs.Dropping.{LeavesInTime};
-    ghost use Rattle.varisat.specs.OpenProofs.{IsDrat};
     ghost use Rattle.varisat_proof.specs.Proving.{IsClosed};
     ghost use Rattle.varisat.specs.ProofCalls.{OpensProof, EnablesChecking, ClosesProof};
 
@@ -240,6 +245,23 @@ impl<W: ProofTarget, A: Allocator + Copy> Solver<W, A> {
         Ok(())
     }
 
+    /// How many steps a call of `solve` may make.
+    pub(crate) fn max_steps(&self) -> u64
+        ensures { result ≡ self.now.ledger.settings.max_steps }
+    {
+        self.ctx.solver_config.max_steps()
+    }
+
+    /// Sets how many steps a call of `solve` may make. Unlike `config` this is no change, since no user sees it: so the steps
+    /// since the last change are counted on.
+    pub(crate) fn set_max_steps(&mut self, max_steps: u64)
+        ensures { (s : State) → StandsFor self.old s → StandsFor self.new (with_max_steps max_steps s) }
+    {
+        let mut update = SolverConfigUpdate::new();
+        update.max_steps = Some(max_steps);
+        let _ = self.ctx.config_changed(&update);
+    }
+
     /// How many steps all calls of `solve` made together.
     pub fn steps(&self) -> u64
         ensures { (s : State) → StandsFor self.now s → (t : State) × TellsSteps s result t × StandsFor self.now t }
@@ -249,12 +271,32 @@ impl<W: ProofTarget, A: Allocator + Copy> Solver<W, A> {
 
     /// How many steps calls of `solve` made together since the last change. A change is any call but `solve` and those
     /// that only tell something, unless it was refused; and one that accepted a clause before it was refused. In a
-    /// valid solver they are fewer than 2^(2n+3) where the clauses and all assumptions so far name n variables, however
-    /// often a call was interrupted.
+    /// valid solver they are fewer than (n+2)*2^(n+2), and so than 2^(2n+3), where the clauses and all assumptions so far
+    /// name n variables, however often a call was interrupted.
     pub fn steps_since_change(&self) -> u64
         ensures { (s : State) → StandsFor self.now s → (t : State) × TellsSince s result t × StandsFor self.now t }
     {
         self.ctx.schedule.steps().saturating_sub(self.changed_at)
+    }
+
+    /// What was counted of the search so far. It only reads, and no contract says what the numbers are: no call relation
+    /// knows of them.
+    pub fn statistics(&self) -> Counters {
+        self.ctx.counters
+    }
+
+    /// How large the search is.
+    pub(crate) fn size(&self) -> SearchSize {
+        let db = &self.ctx.clause_db;
+        let present = count_mapped(self.tracer.variables.global_from_solver());
+        SearchSize {
+            variables: present.saturating_sub(self.ctx.trail.top_level_assignment_count()),
+            binary: self.ctx.binary_clauses.count(),
+            irred: db.count_by_tier(Tier::Irred),
+            core: db.count_by_tier(Tier::Core),
+            mid: db.count_by_tier(Tier::Mid),
+            local: db.count_by_tier(Tier::Local),
+        }
     }
 
     /// Counts steps anew from here on.
@@ -278,25 +320,28 @@ impl<W: ProofTarget, A: Allocator + Copy> Solver<W, A> {
     /// full clause store, or the target of a proof. From then on the calls that change it are refused, `model` and
     /// `failed_core` return None, and `close_proof` hands back the target as it is.
     pub fn is_valid(&self) -> bool
-        ensures { (s : State) → StandsFor self.now s → (t : State) × TellsValid s result t × StandsFor self.now t }
+        ensures now { result ≡ self.now.ledger.valid }
+        ensures call { (s : State) → StandsFor self.now s → (t : State) × TellsValid s result t × StandsFor self.now t }
     {
         !self.ctx.solver_state.state_is_invalid
     }
 
     /// Does nothing when it runs. Its contract says of a valid solver that what a proof would have been told so far is
     /// right, and that an open proof has just its lines. Where no variable was ever hidden these are a derivation from
-    /// the accepted clauses, which refutes them once they are known to be unsatisfiable.
+    /// the accepted clauses, which refutes them once they are known to be unsatisfiable. And few steps were made since the
+    /// last change.
     pub fn prove_journal(&self)
-        ensures { (s : State) → StandsFor self.now s → IsValid s → IsJournal s }
+        ensures journal { (s : State) → StandsFor self.now s → IsValid s → IsJournal s }
+        ensures few { (s : State) → StandsFor self.now s → IsValid s → AreFew (length s.counted) s.ledger.since }
     {
         let _is_valid = !self.ctx.solver_state.state_is_invalid;
     }
 
     /// Accepts a clause, and brings its names into use. Once the clauses are known to be unsatisfiable a clause is
     /// accepted without a change, but that steps are counted anew. Refused in an invalid solver; where `solve` was
-    /// called since the open proof was opened; where a name is past the limit of 2^28 names or there is no room for its
-    /// variables; and where a name is a witness: then nothing changes. Where memory runs out, the clause store is full
-    /// or the target of an open proof fails, the solver is invalid.
+    /// called since the open proof was opened, unless that is a marked one; where a name is past the limit of 2^28 names
+    /// or there is no room for its variables; and where a name is a witness: then nothing changes. Where memory runs
+    /// out, the clause store is full or the target of an open proof fails, the solver is invalid.
     pub fn add_clause(&mut self, clause: &[Lit]) -> Result<(), SolverError>
         ensures target { WritesOn self.old.opened result self.new.opened }
         ensures full { result ≡ Err SolverError.ClauseStoreFull → HasNoRoom self.new }
@@ -309,7 +354,7 @@ impl<W: ProofTarget, A: Allocator + Copy> Solver<W, A> {
             self.begin_count();
             return Ok(());
         }
-        if self.tracer.proof.is_searched() {
+        if self.tracer.proof.bars_clauses() {
             return Err(SolverError::ClauseAfterSolve);
         }
         check_names(&self.tracer.variables, clause)?;
@@ -447,13 +492,12 @@ impl<W: ProofTarget, A: Allocator + Copy> Solver<W, A> {
         }
     }
 
-    /// Opens a proof, to which the lines of the search are written from here on. `solve` and `close_proof` flush them.
-    /// Its format is one of DRAT: marked proofs are not written yet. Refused in an invalid solver; where a proof is
-    /// open; and where a clause, a variable or a list of assumptions was accepted before: then nothing changes, and the
-    /// target is handed back. The target has to have counted fewer than 2^64-1 faults.
+    /// Opens a proof, to which the lines of the search are written from here on, and to a marked one also the clauses,
+    /// the assumptions and the cores. `solve` and `close_proof` flush them. Refused in an invalid solver; where a proof
+    /// is open; and where a clause, a variable or a list of assumptions was accepted before: then nothing changes, and
+    /// the target is handed back. The target has to have counted fewer than 2^64-1 faults.
     pub fn write_proof(&mut self, target: W, format: ProofFormat) -> Result<(), (SolverError, W)>
-        requires format { IsDrat format }
-        requires room { (W.taken target).faults < 2 ^ 64 - 1 }
+        requires { (W.taken target).faults < 2 ^ 64 - 1 }
         ensures { (s : State) → StandsFor self.old s → (t : State) × OpensProof W.taken target format s result t × StandsFor self.new t }
     {
         if self.ctx.solver_state.state_is_invalid {
@@ -503,6 +547,7 @@ impl<W: ProofTarget, A: Allocator + Copy> Solver<W, A> {
         ensures call { (s : State) → StandsFor self.old s → (t : State) × ClosesProof W.taken s result t × StandsFor self.new t }
         // Also an invalid solver hands back just the target that it has, with what this took.
         ensures handed { IsClosed W.taken self.old.opened result }
+        ensures closed { self.new.opened ≡ None }
     {
         if self.ctx.solver_state.state_is_invalid {
             self.changed_at = self.ctx.schedule.steps();
@@ -521,38 +566,36 @@ impl<W: ProofTarget, A: Allocator + Copy> Solver<W, A> {
     }
 
     /// Assumes that these literals are true, in place of the assumptions before, and brings their names into use.
-    /// Refused in an invalid solver, where a proof is open, and for its names as a clause is: then nothing changes, and
-    /// the assumptions before stay. Where memory runs out, the solver is invalid.
+    /// Refused in an invalid solver, where a proof is open that is no marked one, and for its names as a clause is: then
+    /// nothing changes, and the assumptions before stay. Where memory runs out or the target of an open proof fails, the
+    /// solver is invalid.
     pub fn assume(&mut self, lits: &[Lit]) -> Result<(), SolverError>
-        ensures { (s : State) → StandsFor self.old s → (t : State) × Assumes s lits.now result t × StandsFor self.new t }
+        ensures target { WritesOn self.old.opened result self.new.opened }
+        ensures call { (s : State) → StandsFor self.old s → (t : State) × Assumes s lits.now result t × StandsFor self.new t }
     {
         if self.ctx.solver_state.state_is_invalid {
             return Err(SolverError::Invalid);
         }
-        if self.tracer.proof.is_open() {
+        if self.tracer.proof.bars_assumptions() {
             return Err(SolverError::ProofOpen);
         }
         check_names(&self.tracer.variables, lits)?;
-        match assume_list(
-            &mut self.tracer.variables,
-            &mut self.ctx,
-            &mut self.literals,
-            lits,
-        ) {
+        match assume_list(&mut self.tracer, &mut self.ctx, &mut self.literals, lits) {
             Ok(()) => {
                 self.started = true;
                 self.changed_at = self.ctx.schedule.steps();
                 Ok(())
             }
-            Err(_) => {
+            Err(error) => {
                 self.ctx.solver_state.state_is_invalid = true;
-                Err(SolverError::OutOfMemory)
+                Err(SolverError::from(error))
             }
         }
     }
 
     /// Whether some assignment satisfies the accepted clauses and makes the assumptions true. A call makes fewer than
-    /// 2^(2n+3) steps, where the clauses and all assumptions so far name n variables. The lines of the steps are
+    /// (n+2)*2^(n+2) steps, and so than 2^(2n+3), where the clauses and all assumptions so far name n variables. The lines of
+    /// the steps are
     /// written to an open proof, which is then flushed, also where nothing is left to search. Refused in an invalid
     /// solver, and where the steps are spent before it is known: `max_steps` of the settings, or 2^64-1 in all. The
     /// next call then goes on. Where memory runs out, the clause store is full or the target of an open proof fails,
@@ -582,7 +625,7 @@ impl<W: ProofTarget, A: Allocator + Copy> Solver<W, A> {
 
     /// Marks an open proof as one under which `solve` was called, and flushes it. Where that fails the solver is
     /// invalid.
-    fn end_search(&mut self) -> Result<(), SolverError>
+    pub(crate) fn end_search(&mut self) -> Result<(), SolverError>
         requires { self.old.ledger.valid ≡ true }
         ensures { EndsSearch self.old result self.new }
     {
@@ -597,7 +640,7 @@ impl<W: ProofTarget, A: Allocator + Copy> Solver<W, A> {
 
     /// Makes steps until it is known whether some assignment satisfies the accepted clauses and makes the assumptions
     /// true; none where that is known. Errors are those of `solve`, but for that of a flush.
-    fn seek(&mut self) -> Result<bool, SolverError>
+    pub(crate) fn seek(&mut self) -> Result<bool, SolverError>
         ensures call { (s : State) → StandsFor self.old s → (t : State) × Searches s result t × StandsFor self.new t }
         ensures satisfiable { result ≡ Ok true → (s : State) → StandsFor self.old s → IsSatisfiableWith s.clauses s.assumptions }
         ensures unsatisfiable { result ≡ Ok false → (s : State) → StandsFor self.old s → IsSatisfiableWith s.clauses s.assumptions → ⊥ }

@@ -90,6 +90,7 @@ fn named_conflict_step<W: ProofTarget, A: Allocator + Copy>(
     ensures schedule { KeepsSchedule ctx.old ctx.new }
     ensures broken { IfErr result (λ error. BreaksProof tracer.old.proof (step_faults error) tracer.new.proof) }
     ensures full { IfErr result (λ error. error ≡ StepError.Full → HasNoRoom ctx.new) }
+    ensures size { IfErr result (λ error. error ≡ StepError.Full → length ctx.new.assignment.current ≡ length ctx.old.assignment.current) }
 {
     conflict_step(ctx, tracer)?;
     let SatState::UnsatUnderAssumptions = ctx.solver_state.sat_state else {
@@ -119,6 +120,7 @@ fn make_step<W: ProofTarget, A: Allocator + Copy>(
     // What the target of an open proof has after an error.
     ensures broken { IfErr result (λ error. BreaksProof tracer.old.proof (step_faults error) tracer.new.proof) }
     ensures full { IfErr result (λ error. error ≡ StepError.Full → HasNoRoom ctx.new) }
+    ensures size { IfErr result (λ error. error ≡ StepError.Full → length ctx.new.assignment.current ≡ length ctx.old.assignment.current) }
 {
     begin(tracer, ctx, literals)?;
     named_conflict_step(tracer, ctx, literals)?;
@@ -149,6 +151,7 @@ pub fn find_verdict<W: ProofTarget, A: Allocator + Copy>(
     // What the target of an open proof has after an error.
     ensures broken { IfErr result (λ error. BreaksProof tracer.old.proof (step_faults error) tracer.new.proof) }
     ensures full { IfErr result (λ error. error ≡ StepError.Full → HasNoRoom ctx.new) }
+    ensures size { IfErr result (λ error. error ≡ StepError.Full → length ctx.new.assignment.current ≡ length ctx.old.assignment.current) }
 {
     ctx.solver_config.prove_in_range();
     let first = ctx.schedule.steps();

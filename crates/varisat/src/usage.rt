@@ -74,6 +74,7 @@ fn leave_if_unused<W: ProofTarget, A: Allocator + Copy>(
     requires live { (kept_at tracer.old.variables.kept global).deleted ≡ false }
     requires unnamed { at tracer.old.variables.users.backward global ≡ None }
     ensures leaves { OnOk result (LeavesIfUnused (parts_of tracer.old) global (parts_of tracer.new)) }
+    ensures proof { OnErr result (tracer.new.proof ≡ tracer.old.proof) }
 {
     tracer.variables.delete_global_if_unused(global)?;
     tracer.delete_var_if_gone(global);
@@ -88,7 +89,8 @@ pub fn hide_named<W: ProofTarget, A: Allocator + Copy>(
     verdict: SatState,
 ) -> Result<(), AllocError>
     requires { CanBeChanged var tracer.old.variables }
-    ensures { OnOk result (HidesNamed var verdict (parts_of tracer.old) (parts_of tracer.new)) }
+    ensures hides { OnOk result (HidesNamed var verdict (parts_of tracer.old) (parts_of tracer.new)) }
+    ensures proof { OnErr result (tracer.new.proof ≡ tracer.old.proof) }
 {
     let global = set_named_mode(&mut tracer.variables, var, SamplingMode::Hide)?;
     if let SatState::Unsat = verdict {

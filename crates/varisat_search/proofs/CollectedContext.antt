@@ -10,6 +10,7 @@ use Rattle.varisat_clause.proofs.LiveStore.{live-∈}
 use Rattle.varisat_prop.specs.Watches.{watches_of}
 use Rattle.varisat_search.specs.declared.context.Context.{Context}
 use Rattle.varisat_search.specs.Contexts.{view, IsReady}
+use Rattle.varisat_search.specs.Frames.{ChangesKept}
 use Rattle.varisat_analysis.specs.Collections.{repointed_each, Repacks}
 use Rattle.varisat_search.proofs.PackedClauses.{packed-live, packed-below}
 use Rattle.varisat_search.proofs.RepackedView.{view-repacks, repacks-may}
@@ -33,13 +34,5 @@ context-repacks x z r h e rest =
 -- it stays ready, with the watch lists off
 pub repacks-ready : {A : Type 0} (x z : Context A) → IsReady x → Repacks (view x) (view z) → Tracks z.clause_db z.clause_alloc →
     length z.watchlists.lists ≡ length x.watchlists.lists → ((l : Literal) → watches_of z.watchlists l ≡ []) → z.watchlists.enabled ≡ false →
-    z ≡ record x {
-      binary_clauses = z.binary_clauses;
-      clause_activity = z.clause_activity;
-      clause_alloc = z.clause_alloc;
-      clause_db =
-          z.clause_db;
-      impl_graph = z.impl_graph;
-      watchlists = z.watchlists;
-    } → IsReady z
+    ChangesKept x z → IsReady z
 repacks-ready x z r d t n e o k = unwatched-ready x z (view z).nodes r (keeps-values x z k) (repacks-may (view x) (view z) r.well d) d.rest t n e o

@@ -9,6 +9,7 @@ use Rattle.varisat_prop.proofs.EnqueueAssignment.{decided-grows, decided-well}
 use Rattle.varisat_search.specs.declared.context.Context.{Context}
 use Rattle.varisat_search.specs.AssumptionParts.{AssumptionParts, HasAssumptions}
 use Rattle.varisat_search.specs.Contexts.{view, IsReady}
+use Rattle.varisat_search.specs.Frames.{ChangesDecided, ChangesDecisions}
 use Rattle.varisat_search.specs.Decisions.{AreDecidable, CanDecide, SameDecidable}
 use Rattle.varisat_search.specs.Steps.{IsFree}
 use Rattle.varisat_search.proofs.AssumptionLevels.{has-grown}
@@ -25,7 +26,7 @@ module _ (s t : View) (w : WellFormed s) (l : Literal) (free : IsFree s l) (e : 
   literal-longer = (decided-longer s t l (subst WellFormed (sym e) (decided-well s l w free.0 free.1)) e).0
 
 module _ {A : Type 0} (x z : Context A) (r : IsReady x) (all : x.assumptions.levels ≡ length x.assumptions.working)
-    (k : z ≡ record x { assignment = z.assignment; impl_graph = z.impl_graph; trail = z.trail; vsids = z.vsids }) (d : CanDecide (view z) z.vsids)
+    (k : ChangesDecisions x z) (d : CanDecide (view z) z.vsids)
     (same : SameDecidable (view x) x.vsids (view z) z.vsids) where
   list : z.assumptions ≡ x.assumptions
   list = ap (λ (y : Context A). y.assumptions) k
@@ -36,7 +37,7 @@ module _ {A : Type 0} (x z : Context A) (r : IsReady x) (all : x.assumptions.lev
   literal-ready q head l free e =
       let levels = has-grown (view x) (view z) x.assumptions r.well (literal-grows (view x) (view z) r.well l free e) (inr all) r.assumed in
       decided-ready x z l r q head free e
-      (k ∙ ap (λ a. record x { assignment = z.assignment; assumptions = a; impl_graph = z.impl_graph; trail = z.trail; vsids = z.vsids }) (sym list))
+      (subst (λ (y : Context A). ChangesDecided x y) (sym k) refl)
       d
       (subst (HasAssumptions (view z)) (sym list) levels)
       (still-assumable (view x) x.vsids (view z) z.vsids x.assumptions.working z.assumptions.working same

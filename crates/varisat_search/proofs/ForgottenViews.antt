@@ -24,6 +24,7 @@ use Rattle.varisat_vsids.specs.Activities.{Activities}
 use Rattle.varisat_search.specs.declared.context.Context.{Context}
 use Rattle.varisat_search.specs.AssumptionParts.{AssumptionParts, HasAssumptions}
 use Rattle.varisat_search.specs.Contexts.{view, IsReady}
+use Rattle.varisat_search.specs.Frames.{ChangesDecisions}
 use Rattle.varisat_search.specs.Decisions.{IsDecidable, AreDecidable, CanDecide}
 use Rattle.varisat_search.specs.Forgotten.{AreStaying, IsWithout, forgotten_activities, search_without}
 use Rattle.varisat_search.specs.Seen.{search_of, is_fixed, is_proved}
@@ -308,16 +309,12 @@ module _ (gone : List Bool) (s t : View) (w : WellFormed s) (d : IsSettledDown s
       (staying-same (is_proved u) (is_proved s) proved-same)
 
 -- 5. The search is ready again.
-pub without-view : {A : Type 0} (x z : Context A) (gone : List Bool) (ls : List Literal) (removed : ℕ) →
-    z.trail ≡ record x.trail {
-      literals = staying gone x.trail.literals;
-      queue_head = length (staying gone x.trail.literals);
-      units_removed =
-          removed;
-    } → z.assignment ≡ forgotten_values gone x.assignment → ls ≡ z.trail.literals →
+pub without-view : {A : Type 0} (x z : Context A) (gone : List Bool) (ls : List Literal) →
+    z.trail ≡ record x.trail { literals = staying gone x.trail.literals; queue_head = length (staying gone x.trail.literals) } →
+    z.assignment ≡ forgotten_values gone x.assignment → ls ≡ z.trail.literals →
     AreRenumbered ls x.impl_graph.nodes.items z.impl_graph.nodes.items →
-    z ≡ record x { assignment = z.assignment; impl_graph = z.impl_graph; trail = z.trail; vsids = z.vsids } → IsWithout gone (view x) (view z)
-without-view {A} x z gone ls removed f e l n k = record {
+    ChangesDecisions x z → IsWithout gone (view x) (view z)
+without-view {A} x z gone ls f e l n k = record {
   nodes = subst (λ ms. AreRenumbered ms x.impl_graph.nodes.items z.impl_graph.nodes.items) (l ∙ ap (λ (t : TrailParts). t.literals) f) n;
   rest = ap (λ (y : Context A). view y) k
       ∙ ap₂ (λ (a : Values) (t : TrailParts). record (view x)
@@ -326,7 +323,7 @@ without-view {A} x z gone ls removed f e l n k = record {
 
 pub without-ready : {A : Type 0} (x z : Context A) (gone : List Bool) → IsReady x → IsSettledDown (view x) → IsWithout gone (view x) (view z) →
     ((c : Clause) → c ∈ kept (view x) → AreStaying gone c) → AreStaying gone x.assumptions.working → z.vsids ≡ forgotten_activities gone x.vsids →
-    z ≡ record x { assignment = z.assignment; impl_graph = z.impl_graph; trail = z.trail; vsids = z.vsids } → IsReady z
+    ChangesDecisions x z → IsReady z
 without-ready {A} x z gone r d p unmentioned unassumed v k =
     let s = view x in
     let t = view z in

@@ -6,6 +6,7 @@ use Rattle.varisat_clause.proofs.StoreSound.{sound-is}
 use Rattle.varisat_prop.specs.Watches.{IsPropagated}
 use Rattle.varisat_search.specs.declared.context.Context.{Context}
 use Rattle.varisat_search.specs.Contexts.{view, IsReady}
+use Rattle.varisat_search.specs.Frames.{ChangesKept}
 use Rattle.varisat_analysis.specs.HeaderChanges.{ChangesHeaders}
 use Rattle.varisat_search.proofs.HeaderChanges.{header-well, header-settled, header-propagated, header-decide}
 use Rattle.varisat_search.proofs.ReadyAfter.{keeps-values, exchanged-ready}
@@ -18,15 +19,7 @@ store-view x z a b e = e ∙ ap (λ (o : Bool). record (view x) { sound = o; cla
 
 -- it stays ready
 pub headers-ready : {A : Type 0} (x z : Context A) → IsReady x → ChangesHeaders (view x) (view z) → Tracks z.clause_db z.clause_alloc →
-    z.watchlists ≡ x.watchlists → z ≡ record x {
-      binary_clauses = z.binary_clauses;
-      clause_activity = z.clause_activity;
-      clause_alloc = z.clause_alloc;
-      clause_db =
-          z.clause_db;
-      impl_graph = z.impl_graph;
-      watchlists = z.watchlists;
-    } → IsReady z
+    z.watchlists ≡ x.watchlists → ChangesKept x z → IsReady z
 headers-ready x z r d t e k =
     exchanged-ready x z r (keeps-values x z k) (header-well (view x) (view z) r.well d) (header-settled (view x) (view z) r.well d r.settled)
     (subst (λ W. IsPropagated W (view z)) (sym e) (header-propagated (view x) (view z) r.well d x.watchlists r.propagated))

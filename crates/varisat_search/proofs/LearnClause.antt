@@ -8,7 +8,7 @@ use Rattle.varisat_theory.specs.Propagation.{IsComplete}
 use Rattle.varisat_theory.specs.Rank.{rank}
 use Rattle.varisat_theory.proofs.Ranks.{rank_raised}
 use Rattle.varisat_theory.specs.Held.{SameClauses}
-use Rattle.varisat_theory.specs.Searches.{KeptClause}
+use Rattle.varisat_theory.specs.Searches.{KeptClause, IsTautology}
 use Rattle.varisat_theory.proofs.Held.{same_set-self, same_clauses_find, same_clauses-back}
 use Rattle.varisat_theory.proofs.Saturated.{learned_is_new, complete_added, complete_shorter}
 use Rattle.varisat_theory.proofs.Places.{place_in_take}
@@ -125,6 +125,12 @@ module _ (s t : View) (i : Conflict) (level : ℕ) (c : Clause) (w : WellFormed 
   other-false m h = let (k, a, b, e) = other-place m h in subst (λ (x : View). IsTrueIn x (opposite m)) (sym ct.rest)
       (subst (λ x. IsTrueIn (record s { values = t.values; trail = take end s.trail; queue_head = end; decisions = take level s.decisions }) x) e
       (still s t level w level-below ct k a))
+
+  -- it is no tautology
+  pub no-clash : IsTautology c → ⊥
+  no-clash (x, a, b) =
+      let inside : (m : Literal) → m ∈ c → m ∈ (first ∷ l.others) = λ m q. subst (λ y. m ∈ y) l.split q in
+      made-clash s.values (opposite x) (false-in x (inside x a)) (false-in (opposite x) (inside (opposite x) b))
 
   -- no held clause is a part of it
   pub no-part : (held : List Clause) → ViewFits held s → (d : Clause) → d ∈ held → d ⊆ c → ⊥

@@ -24,6 +24,7 @@ use Rattle.varisat_search.specs.declared.state.SolverState.{SolverState}
 use Rattle.varisat_analysis.specs.Learned.{Analysis, IsLearned, IsAsserting, AreInvolved}
 use Rattle.varisat_search.specs.AssumptionParts.{with_levels_to, HasAssumptions}
 use Rattle.varisat_search.specs.Contexts.{view, IsReady}
+use Rattle.varisat_search.specs.Frames.{ChangesAnalysis, ChangesAnalyzed, ChangesClauses, ChangesLevels, ChangesTrail}
 use Rattle.varisat_search.proofs.AssumptionLevels.{has-same-decisions}
 use Rattle.varisat_search.proofs.AssumptionContexts.{IsSameList, still-assumable, same-working, cut-assumed, cut-same-list}
 use Rattle.varisat_search.proofs.Backtrack.{cut-well}
@@ -45,7 +46,7 @@ use Rattle.varisat_search.specs.Steps.{IsCut, Saves, SavesSome, IsFree}
 use Rattle.varisat_theory.specs.Derivations.{Line, Add}
 use Rattle.varisat_theory.specs.Outcomes.{Unknown, Unsat, Steps}
 use Rattle.varisat_theory.proofs.StepEnds.{contradiction_is_found}
-use Rattle.varisat_search.specs.Progress.{IsStepFurther}
+use Rattle.varisat_search.specs.Progress.{GoesAStep, IsStepFurther}
 use Rattle.varisat_search.specs.Seen.{search_of, outcome_of}
 use Rattle.varisat_search.specs.SettledUnits.{KeepsFixed}
 use Rattle.varisat_search.proofs.FixedLiterals.{fixed-learned}
@@ -155,7 +156,7 @@ module _ (s t : View) (i : Conflict) (level : ℕ) (l : Literal) (others : Claus
 pub record Analyzed {A : Type 0} (x0 x1 : Context A) (i : Conflict) (level : ℕ) : Type 0 where
   pub ready : IsReady x0
   pub unknown : x0.solver_state.sat_state ≡ verdict.Unknown
-  pub analyzed : x1 ≡ record x0 { analyze_conflict = x1.analyze_conflict; tmp_flags = x1.tmp_flags; vsids = x1.vsids }
+  pub analyzed : ChangesAnalyzed x0 x1
   pub flags : x1.tmp_flags.flags.items ≡ x0.tmp_flags.flags.items
   pub available : x1.vsids.available ≡ x0.vsids.available
   pub decay : x1.vsids.decay ≡ x0.vsids.decay
@@ -167,7 +168,7 @@ pub record Analyzed {A : Type 0} (x0 x1 : Context A) (i : Conflict) (level : ℕ
 pub record Analysing {A : Type 0} (x0 x : Context A) (i : Conflict) (level : ℕ) : Type 0 where
   pub ready : IsReady x0
   pub unknown : x0.solver_state.sat_state ≡ verdict.Unknown
-  pub kept : x ≡ record x0 { analyze_conflict = x.analyze_conflict }
+  pub kept : ChangesAnalysis x0 x
   pub room : x.analyze_conflict.var_count ≡ x0.analyze_conflict.var_count
   pub learned : IsLearned (view x0) i x.analyze_conflict.clause level
 
@@ -179,8 +180,8 @@ analyzed-bumped {A} {x0} {x} {x1} {i} {level} d k f a q e =
     record {
       ready = d.ready;
       unknown = d.unknown;
-      analyzed = k ∙ ap (λ (y : Context A). record y { tmp_flags = x1.tmp_flags; vsids = x1.vsids }) d.kept
-          ∙ ap (λ y. record x0 { analyze_conflict = y; tmp_flags = x1.tmp_flags; vsids = x1.vsids }) (sym analysis);
+      analyzed = subst (λ (y : Context A). ChangesAnalyzed x0 y) (sym k)
+          (subst (λ (y : Context A). ChangesAnalyzed x0 (record y { tmp_flags = x1.tmp_flags; vsids = x1.vsids })) (sym d.kept) refl);
       flags = f ∙ ap (λ (y : Context A). y.tmp_flags.flags.items) d.kept;
       available = a ∙ ap (λ (y : Context A). y.vsids.available) d.kept;
       decay = q ∙ ap (λ (y : Context A). y.vsids.decay) d.kept;
@@ -190,12 +191,12 @@ analyzed-bumped {A} {x0} {x} {x1} {i} {level} d k f a q e =
     }
 
 -- analysis writes what it found alone
-pub analysis-ready : {A : Type 0} {x0 x : Context A} → x ≡ record x0 { analyze_conflict = x.analyze_conflict } → IsReady x0 →
+pub analysis-ready : {A : Type 0} {x0 x : Context A} → ChangesAnalysis x0 x → IsReady x0 →
     x.analyze_conflict.var_count ≡ x0.analyze_conflict.var_count → IsReady x
 analysis-ready {x0 = x0} {x = x} k r n = subst IsReady (sym k)
-    (ready-with x0 (record x0 { analyze_conflict = x.analyze_conflict }) r refl n refl r.propagated r.decidable r.assumed r.assumable)
+    (ready-with x0 (record x0 { analyze_conflict = x.analyze_conflict; counters = x.counters }) r refl n refl r.propagated r.decidable r.assumed r.assumable)
 
-pub involved-named : {A : Type 0} (x0 x : Context A) (i : Conflict) → x ≡ record x0 { analyze_conflict = x.analyze_conflict } →
+pub involved-named : {A : Type 0} (x0 x : Context A) (i : Conflict) → ChangesAnalysis x0 x →
     AreInvolved (view x0) i x.analyze_conflict.involved → (f : Conflict) → f ∈ x.analyze_conflict.involved → NamesKeptClause (view x) f
 involved-named {A} x0 x i k a f h =
     subst (λ (y : Context A). NamesKeptClause (view y) f) (sym k)
@@ -204,7 +205,7 @@ involved-named {A} x0 x i k a f h =
     none-there : {X : Type 0} {fs : List Conflict} → fs ≡ [] → f ∈ fs → X
     none-there e j = absurd (subst (λ qs. f ∈ qs) e j)
 
-pub bumps-learned : {A : Type 0} (x0 x x1 z : Context A) → x ≡ record x0 { analyze_conflict = x.analyze_conflict } →
+pub bumps-learned : {A : Type 0} (x0 x x1 z : Context A) → ChangesAnalysis x0 x →
     (0 < length x.trail.decisions → BumpsInvolved (view x) x.analyze_conflict.involved x.vsids x1.vsids) → z.analyze_conflict ≡ x.analyze_conflict →
     0 < length x0.trail.decisions → BumpsInvolved (view x0) z.analyze_conflict.involved x0.vsids x1.vsids
 bumps-learned {A} x0 x x1 z k b e h =
@@ -276,17 +277,12 @@ module _ {A : Type 0} {x0 x1 : Context A} {i : Conflict} {level : ℕ} (y : Cont
       y.tmp_flags.flags.items ≡ x1.tmp_flags.flags.items → Analyzed (with_store x0 y) y i level
   analyzed-noted k f =
       let analysis : (x : Context A) → Analysis = λ x. x.analyze_conflict in
-      let activities : (x : Context A) → Activities = λ x. x.vsids in
       record {
         ready = headers-ready x0 (with_store x0 y) d.ready changes t refl refl;
         unknown = d.unknown;
-        analyzed =
-            k
-            ∙ ap (λ (x : Context A). record x
-            { clause_activity = y.clause_activity; clause_alloc = y.clause_alloc; clause_db = y.clause_db; tmp_flags = y.tmp_flags }) d.analyzed
-            ∙ ap (λ (a : Analysis). record (with_store x0 y) { analyze_conflict = a; tmp_flags = y.tmp_flags; vsids = x1.vsids }) (sym (ap analysis k))
-            ∙ ap (λ (v : Activities). record (with_store x0 y) { analyze_conflict = y.analyze_conflict; tmp_flags = y.tmp_flags; vsids = v })
-            (sym (ap activities k));
+        analyzed = subst (λ (x : Context A). ChangesAnalyzed (with_store x0 y) x) (sym k)
+            (subst (λ (x : Context A). ChangesAnalyzed (with_store x0 y) (record x
+            { clause_activity = y.clause_activity; clause_alloc = y.clause_alloc; clause_db = y.clause_db; tmp_flags = y.tmp_flags })) (sym d.analyzed) refl);
         flags = f ∙ d.flags;
         available = ap (λ (x : Context A). x.vsids.available) k ∙ d.available;
         decay = ap (λ (x : Context A). x.vsids.decay) k ∙ d.decay;
@@ -303,24 +299,25 @@ module _ {A : Type 0} {x0 x1 : Context A} {i : Conflict} {level : ℕ} (y : Cont
 
   -- a step from there is one from before
   pub noted-further : (z : Context A) (P : List Line → Type 0) → IsStepFurther P (with_store x0 y) z → IsStepFurther P x0 z
-  noted-further z P p = record {
-    ready = p.ready;
-    steps =
-        let (lines, q, j) = p.steps in (
-          lines,
-          subst (λ u. Steps u (search_of (view z)) (outcome_of (view z) z.assumptions.failed_core z.solver_state.sat_state) lines)
-              (header-seen (view x0) (view (with_store x0 y)) d.ready.well changes) q,
-          j,
-        );
-    known = p.known;
-    assumptions = p.assumptions;
-    rises = p.rises;
-    decidable = p.decidable;
-    decay = p.decay;
-    count = p.count;
-    units = p.units;
-    state = p.state;
-  }
+  noted-further z P p =
+      let g = p.goes in
+      record {
+        goes = record {
+          ready = g.ready;
+          steps =
+              let (lines, q, j) = g.steps in (
+                lines,
+                subst (λ u. Steps u (search_of (view z)) (outcome_of (view z) z.assumptions.failed_core z.solver_state.sat_state) lines)
+                    (header-seen (view x0) (view (with_store x0 y)) d.ready.well changes) q,
+                j,
+              );
+          rises = g.rises;
+          keeps = record { decidable = g.keeps.decidable; decay = g.keeps.decay; count = g.keeps.count };
+          state = g.state;
+        };
+        known = p.known;
+        assumptions = p.assumptions;
+      }
 
   pub noted-saves : (old new : List Bool) → SavesSome (view (with_store x0 y)) old new → SavesSome (view x0) old new
   noted-saves old new (inl e) = inl e
@@ -343,16 +340,12 @@ pub analyzed-flags : {A : Type 0} {x0 x1 y : Context A} {i : Conflict} {level : 
     y ≡ record x1 { tmp_flags = y.tmp_flags } → y.tmp_flags.flags.items ≡ x1.tmp_flags.flags.items → Analyzed x0 y i level
 analyzed-flags {A} {x0} {x1} {y} {i} {level} d k f =
     let analysis : (x : Context A) → Analysis = λ x. x.analyze_conflict in
-    let activities : (x : Context A) → Activities = λ x. x.vsids in
     let count = ap (λ (x : Context A). length x.assignment.current) k in
     record {
       ready = d.ready;
       unknown = d.unknown;
-      analyzed =
-          k
-          ∙ ap (λ (x : Context A). record x { tmp_flags = y.tmp_flags }) d.analyzed
-          ∙ ap (λ (a : Analysis). record x0 { analyze_conflict = a; tmp_flags = y.tmp_flags; vsids = x1.vsids }) (sym (ap analysis k))
-          ∙ ap (λ (v : Activities). record x0 { analyze_conflict = y.analyze_conflict; tmp_flags = y.tmp_flags; vsids = v }) (sym (ap activities k));
+      analyzed = subst (λ (x : Context A). ChangesAnalyzed x0 x) (sym k)
+          (subst (λ (x : Context A). ChangesAnalyzed x0 (record x { tmp_flags = y.tmp_flags })) (sym d.analyzed) refl);
       flags = f ∙ d.flags;
       available = ap (λ (x : Context A). x.vsids.available) k ∙ d.available;
       decay = ap (λ (x : Context A). x.vsids.decay) k ∙ d.decay;
@@ -373,9 +366,8 @@ pub record Backtracked {A : Type 0} (x0 x1 x2 : Context A) (i : Conflict) (level
   pub entries : HasActivities (view x2) x2.vsids
   pub decidable : SameDecidable (view x1) x1.vsids (view x2) x2.vsids
   pub decay : x2.vsids.decay ≡ x1.vsids.decay
-  pub units : x2.trail.units_removed ≡ x1.trail.units_removed
   pub levels : level < length x1.trail.decisions → x2.assumptions ≡ with_levels_to level x1.assumptions
-  pub back : x2 ≡ record x1 { assignment = x2.assignment; assumptions = x2.assumptions; trail = x2.trail; vsids = x2.vsids }
+  pub back : ChangesLevels x1 x2
 
 module _ {A : Type 0} {x0 x1 x2 : Context A} {i : Conflict} {level : ℕ} (d : Backtracked x0 x1 x2 i level) where
   same-view : view x1 ≡ view x0
@@ -405,9 +397,6 @@ module _ {A : Type 0} {x0 x1 x2 : Context A} {i : Conflict} {level : ℕ} (d : B
 
   watches-are : x2.watchlists ≡ x0.watchlists
   watches-are = ap (λ (x : Context A). x.watchlists) d.back ∙ ap (λ (x : Context A). x.watchlists) d.begun.analyzed
-
-  units-are : x2.trail.units_removed ≡ x0.trail.units_removed
-  units-are = d.units ∙ ap (λ (x : Context A). x.trail.units_removed) d.begun.analyzed
 
   -- what is remembered of the values that were undone
   pub saves-some : SavesSome (view x0) x0.assignment.last x2.assignment.last
@@ -446,6 +435,16 @@ module _ {A : Type 0} {x0 x1 x2 : Context A} {i : Conflict} {level : ℕ} (d : B
       let count = (cut-is below).count in
       let same = ap (λ (c : Clause). length c) e in
       omega (arith, short, count, same)
+
+  -- and of these there are as many as before
+  pub learned-count : (l : Literal) (others : Clause) → x2.analyze_conflict.clause ≡ l ∷ others →
+      length x2.assignment.current ≡ length x0.assignment.current
+  learned-count l others e =
+      let f = clause-is (l ∷ others) e in
+      let s = view x0 in
+      let deep = is-above s i level l others f in
+      let b = f.above deep in
+      (cut-is (second-level s b.others level (length s.decisions) b.second b.lower deep).0).count
 
   -- the same variables are decidable once the levels are undone
   still-decidable : SameDecidable (view x0) x0.vsids (view x2) x2.vsids
@@ -504,7 +503,7 @@ pub record Learning {A : Type 0} (x0 x1 x2 x3 : Context A) (i : Conflict) (level
   pub before : Backtracked x0 x1 x2 i level
   pub split : x2.analyze_conflict.clause ≡ l ∷ others
   pub tracks : Tracks x3.clause_db x3.clause_alloc
-  pub stored : x3 ≡ record x2 { binary_clauses = x3.binary_clauses; clause_alloc = x3.clause_alloc; clause_db = x3.clause_db; watchlists = x3.watchlists }
+  pub stored : ChangesClauses x2 x3
   pub kept : IsKeptAsReason (keeping_of (view x2)) (keeping_of (view x3)) x2.analyze_conflict.clause r
   pub watched : IsWatchedAsReason x2.watchlists x3.watchlists x2.analyze_conflict.clause r
 
@@ -553,7 +552,7 @@ module _ {A : Type 0} {x0 x1 x2 x3 : Context A} {i : Conflict} {level : ℕ} {l 
       inl (at-valued (view x0) b.begun.ready.well (variable_of m) k a (ap variable_of e ∙ variable-opposite m))
 
   -- once the first literal is made true
-  module _ (z : Context A) (made : z ≡ record x3 { assignment = z.assignment; impl_graph = z.impl_graph; trail = z.trail })
+  module _ (z : Context A) (made : ChangesTrail x3 z)
       (e : view z ≡ enqueued (view x3) l r) where
     last-view : view z ≡ enqueued (keeping (view x2) (keeping_of (view x3))) l r
     last-view = e ∙ ap (λ s. enqueued s l r) stored-view
@@ -608,8 +607,8 @@ module _ {A : Type 0} {x0 x1 x2 x3 : Context A} {i : Conflict} {level : ℕ} {l 
         o in
         λ m j. decidable m (u m j)
 
-    pub learning-further : (P : List Line → Type 0) → P (Add (l ∷ others) ∷ []) → z.trail.units_removed ≡ x3.trail.units_removed → IsStepFurther P x0 z
-    learning-further P handed u =
+    pub learning-further : (P : List Line → Type 0) → P (Add (l ∷ others) ∷ []) → IsStepFurther P x0 z
+    learning-further P handed =
         let q = learned-result (view x0) (view x2) i level l others b.begun.ready.well b.begun.ready.settled learned-is
         (cut-is b) x0.watchlists b.begun.ready.propagated (view z) (keeping_of (view x3)) r others refl kept-is last-view in
         let lines = learned-steps (view x0) (view x2) i level l others b.begun.ready.well b.begun.ready.settled learned-is
@@ -623,7 +622,7 @@ module _ {A : Type 0} {x0 x1 x2 x3 : Context A} {i : Conflict} {level : ℕ} {l 
         let list : z.assumptions ≡ x2.assumptions = ap (λ (x : Context A). x.assumptions) made ∙ ap (λ (x : Context A). x.assumptions) d.stored in
         let same-list : IsSameList x0.assumptions z.assumptions = subst (IsSameList x0.assumptions) (sym list) (cut-list b) in
         let still : z.solver_state.sat_state ≡ verdict.Unknown = ap (λ (y : SolverState). y.sat_state) same ∙ b.begun.unknown in
-        record {
+        let further : GoesAStep P x0 z = record {
           ready = record {
             well = q.well;
             settled = q.settled;
@@ -645,15 +644,15 @@ module _ {A : Type 0} {x0 x1 x2 x3 : Context A} {i : Conflict} {level : ℕ} {l 
                 (sym still) lines,
             handed,
           );
-          known = inl still;
-          assumptions = same-list;
           rises = λ f. q.rises;
-          decidable = last-same;
-          decay = ap (λ (a : Activities). a.decay) vsids-is ∙ b.decay ∙ b.begun.decay;
-          count = q.count;
-          units = u ∙ ap (λ (x : Context A). x.trail.units_removed) d.stored ∙ units-are b;
+          keeps = record {
+            decidable = last-same;
+            decay = ap (λ (a : Activities). a.decay) vsids-is ∙ b.decay ∙ b.begun.decay;
+            count = q.count;
+          };
           state = same ∙ ap (λ v. record x0.solver_state { sat_state = v }) (sym (ap (λ (y : SolverState). y.sat_state) same));
-        }
+        } in
+        record { goes = further; known = inl still; assumptions = same-list }
 
 empty-split : {X : Type 0} (c : Clause) (l : Literal) (o : Clause) → c ≡ [] → c ≡ l ∷ o → X
 empty-split c l o e f = absurd cc
@@ -687,7 +686,7 @@ module _ {A : Type 0} {x0 x1 x2 : Context A} {i : Conflict} {level : ℕ} (d : B
   refuted-further P handed =
       let count = ap (λ (s : View). length s.values) refuted-same in
       let ready = d.begun.ready in
-      record {
+      let further : GoesAStep P x0 (record x2 { solver_state = record x2.solver_state { sat_state = verdict.Unsat } }) = record {
         ready = record {
           well = subst WellFormed (sym refuted-same) ready.well;
           settled = subst LevelsSettled (sym refuted-same) ready.settled;
@@ -702,12 +701,8 @@ module _ {A : Type 0} {x0 x1 x2 : Context A} {i : Conflict} {level : ℕ} (d : B
               (same-working x0.assumptions x2.assumptions (cut-list d)) ready.assumable;
         };
         steps = (Add [] ∷ [], refuted-steps (view x2), handed);
-        known = inr refl;
-        assumptions = cut-list d;
         rises = λ f. absurd cc;
-        decidable = still-decidable d;
-        decay = d.decay ∙ d.begun.decay;
-        count = count;
-        units = units-are d;
+        keeps = record { decidable = still-decidable d; decay = d.decay ∙ d.begun.decay; count = count };
         state = ap (λ (y : SolverState). record y { sat_state = verdict.Unsat }) (state-is d);
-      }
+      } in
+      record { goes = further; known = inr refl; assumptions = cut-list d }

@@ -21,7 +21,7 @@ use Rattle.varisat_search.specs.Conflicts.{Keeping, IsKeptAsReason}
 use Rattle.varisat_analysis.specs.Learned.{IsAsserting, IsLevelOf, IsOfKept}
 use Rattle.varisat_search.specs.Steps.{IsCut}
 use Rattle.varisat_search.proofs.Backtrack.{cut-well, fixed-cut}
-use Rattle.varisat_search.proofs.LearnClause.{keeping, keeping_of, learned, level-below, first-free, first-inside, no-part, unit-result, joins, kept-result}
+use Rattle.varisat_search.proofs.LearnClause.{keeping, keeping_of, learned, level-below, first-free, first-inside, no-clash, no-part, unit-result, joins, kept-result}
 use Rattle.varisat_search.proofs.PairSearch.{from-kept}
 use Rattle.varisat_theory.specs.Searches.{Search, clauses_of, IsLiteralOf}
 use Rattle.varisat_theory.specs.Outcomes.{Unknown, Proves, Steps}
@@ -149,7 +149,7 @@ module _ (s t : View) (i : Conflict) (level : ℕ) (c : Clause) (w : WellFormed 
   follows_from held f = follows held (view_reads s held w f)
 
   new_to : IsNewTo (search_of s) c
-  new_to held f = no-part s t i level c w v a deep ct held (view_reads s held w f)
+  new_to held f = (no-clash s t i level c w v a deep ct, no-part s t i level c w v a deep ct held (view_reads s held w f))
 
   literals_of_search : (m : Literal) → m ∈ c → IsLiteralOf (search_of s) m
   literals_of_search m h = of_search s m (of_kept m h)
@@ -185,6 +185,7 @@ module _ (s t : View) (i : Conflict) (level : ℕ) (c : Clause) (w : WellFormed 
       (λ q. inl (fixed_to s w x (fixed_before_cut s t level x w below ct q)))
       (λ q. inr (k, ∈-append_right k (search_of s).kept (k ∷ []) (inl refl), subst (λ y. y ∈ c) (sym q) (subst (λ d. a.first ∈ d) (sym a.split) (inl refl))))
       (fixed_old (keeping t K) a.first r j.well inside free x wz (fixed_from z wz x h))))
+      tt
 
   pub steps_unit : a.others ≡ [] → Steps (search_of s) (search_of (enqueued t a.first reason.Unit)) Unknown (Add c ∷ [])
   steps_unit e =
@@ -221,3 +222,4 @@ module _ (s t : View) (i : Conflict) (level : ℕ) (c : Clause) (w : WellFormed 
       (λ q. inl (∈-append_left x (search_of s).fixed (l ∷ []) (fixed_to s w x (fixed_before_cut s t level x w below ct q))))
       (λ q. inl (∈-append_right x (search_of s).fixed (l ∷ []) (inl q)))
       (fixed_old t l reason.Unit wt inside free x wz (fixed_from z wz x h))))
+      tt

@@ -69,6 +69,7 @@ pub mod MadeSteps
 pub mod ForgottenViews
 pub mod ForgottenValues
 pub mod ForgottenClauses
+mod Frames
 pub mod GlobalValues
 pub mod KeptNames
 pub mod MentionedFlags

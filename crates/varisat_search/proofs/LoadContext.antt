@@ -19,6 +19,7 @@ use Rattle.varisat_search.specs.declared.state.SatState.TheVariants as verdict
 use Rattle.varisat_search.specs.declared.state.SolverState.{SolverState}
 use Rattle.varisat_search.specs.Contexts.{view, KeepsSchedule, IsReady}
 use Rattle.varisat_search.specs.Decisions.{HasActivities, AreDecidable, CanDecide, SameDecidable}
+use Rattle.varisat_search.specs.Frames.{ChangesLoaded, KeepsVariables}
 use Rattle.varisat_search.specs.Loading.{loaded_outcome, IsAdded, LoadsClause}
 use Rattle.varisat_search.specs.Seen.{search_of}
 use Rattle.varisat_search.specs.Steps.{IsCut, SavesAll, reopened_state}
@@ -50,7 +51,6 @@ pub record Loading {A : Type 0} (x0 x1 : Context A) (c lits : Clause) : Type 0 w
   pub decay : x1.vsids.decay ≡ x0.vsids.decay
   pub last : SavesAll (view x0) x0.assignment.last x1.assignment.last
   pub state : x1.solver_state ≡ record x0.solver_state { sat_state = reopened_state x0.solver_state.sat_state; formula_is_empty = false }
-  pub units : x1.trail.units_removed ≡ x0.trail.units_removed
   pub analysis : x1.analyze_conflict.var_count ≡ x0.analyze_conflict.var_count
   pub flags : x1.tmp_flags.flags.items ≡ x0.tmp_flags.flags.items
   pub watches : x1.watchlists ≡ x0.watchlists
@@ -70,12 +70,9 @@ pub record Loaded {A : Type 0} (ordered : Clause → Type 0) (are : List Line �
   pub assumptions : z.assumptions ≡ record x0.assumptions { levels = 0 }
   pub last : SavesAll (view x0) x0.assignment.last z.assignment.last
   pub state : z.solver_state ≡ record x0.solver_state { sat_state = z.solver_state.sat_state; formula_is_empty = false }
-  pub count : length z.assignment.current ≡ length x0.assignment.current
-  pub units : z.trail.units_removed ≡ x0.trail.units_removed
+  pub keeps : KeepsVariables x0 z
   pub undecided : z.trail.decisions ≡ []
   pub schedule : KeepsSchedule x0 z
-  pub decidable : SameDecidable (view x0) x0.vsids (view z) z.vsids
-  pub decay : z.vsids.decay ≡ x0.vsids.decay
 
 -- The order of the literals that were copied, and where they stand, matter to nothing else.
 pub loading-other : {A : Type 0} {x0 x1 : Context A} {c lits : Clause} (other : TmpData A) → Loading x0 x1 c lits →
@@ -91,7 +88,6 @@ loading-other other d = record {
   decay = d.decay;
   last = d.last;
   state = d.state;
-  units = d.units;
   analysis = d.analysis;
   flags = d.flags;
   watches = d.watches;
@@ -157,12 +153,9 @@ module _ {A : Type 0} {x0 x1 : Context A} {c lits : Clause} (d : Loading x0 x1 c
         assumptions = none-reached (view x1) x0.assumptions x1.assumptions d.same_list r.undecided d.assumed;
         last = d.last;
         state = d.state ∙ ap (λ v. record x0.solver_state { sat_state = v; formula_is_empty = false }) (sym verdict-is);
-        count = r.count;
-        units = d.units;
+        keeps = record { decidable = d.stay_decidable; decay = d.decay; count = r.count };
         undecided = r.undecided;
         schedule = d.schedule;
-        decidable = d.stay_decidable;
-        decay = d.decay;
       }
 
   still-open : x0.solver_state.sat_state ≢ verdict.Unsat → loaded_outcome x1.solver_state.sat_state ≡ Unknown
@@ -218,21 +211,11 @@ module _ {A : Type 0} {x0 x1 : Context A} {c lits : Clause} (d : Loading x0 x1 c
 
   -- the clause was added
   pub loaded-added : (ordered : Clause → Type 0) (are : List Line → Type 0) → are [] → ((l : Literal) → l ∈ lits → IsTrueIn (view x1) l → ⊥) →
-      (z : Context A) → z ≡ record x1 {
-        assignment = z.assignment;
-        binary_clauses = z.binary_clauses;
-        clause_alloc = z.clause_alloc;
-        clause_db = z.clause_db;
-        impl_graph =
-            z.impl_graph;
-        solver_state = z.solver_state;
-        trail = z.trail;
-        watchlists = z.watchlists;
-      } → IsPropagated z.watchlists (view z) →
+      (z : Context A) → ChangesLoaded x1 z → IsPropagated z.watchlists (view z) →
       Tracks z.clause_db z.clause_alloc → z.solver_state ≡ record x1.solver_state { sat_state = z.solver_state.sat_state } →
-      z.trail.units_removed ≡ x1.trail.units_removed → z.assignment.last ≡ x1.assignment.last →
+      z.assignment.last ≡ x1.assignment.last →
       IsAdded (view x1) (view z) lits x1.solver_state.sat_state z.solver_state.sat_state → Loaded ordered are x0 z c
-  loaded-added ordered are empty untrue z k p t s u l a =
+  loaded-added ordered are empty untrue z k p t s l a =
       let r = loading-restarted in
       let may = loading-may in
       let vsids : z.vsids ≡ x1.vsids = ap (λ (x : Context A). x.vsids) k in
@@ -265,14 +248,15 @@ module _ {A : Type 0} {x0 x1 : Context A} {c lits : Clause} (d : Loading x0 x1 c
         assumptions = list ∙ none;
         last = subst (SavesAll (view x0) x0.assignment.last) (sym l) d.last;
         state = s ∙ ap (λ (y : SolverState). record y { sat_state = z.solver_state.sat_state }) d.state;
-        count = q.2;
-        units = u ∙ d.units;
+        keeps = record {
+          decidable = added-stay z vsids a;
+          decay = ap (λ (b : Activities). b.decay) vsids ∙ d.decay;
+          count = q.2;
+        };
         undecided = q.1;
         schedule = record {
           schedule = ap (λ (x : Context A). x.schedule) k
               ∙ d.schedule.schedule;
           solver_config = ap (λ (x : Context A). x.solver_config) k ∙ d.schedule.solver_config;
         };
-        decidable = added-stay z vsids a;
-        decay = ap (λ (b : Activities). b.decay) vsids ∙ d.decay;
       }

@@ -16,6 +16,7 @@ use Rattle.varisat_search.specs.Contexts.{view, IsReady}
 use Rattle.varisat_search.specs.Decisions.{AreDecidable, SameDecidable}
 use Rattle.varisat_vsids.specs.Activities.{Activities}
 use Rattle.varisat_search.specs.Steps.{IsFree, assignment_of}
+use Rattle.varisat_search.specs.Frames.{ChangesDecided}
 use Rattle.varisat_prop.proofs.ViewGrowth.{grows-refl}
 use Rattle.varisat_search.proofs.AssumedTruths.{takes-same, takes-trans}
 use Rattle.varisat_search.proofs.AssumptionLevels.{has-taken, taken-out, all-assumed, has-decided}
@@ -98,7 +99,7 @@ module _ {A : Type 0} (x : Context A) (y : AssumptionParts) (r : IsReady x)
 
     pub next-ready : (z : Context A) (m : ℕ) → IsComplete (kept (view x)) x.trail.literals → x.trail.queue_head ≡ length x.trail.literals →
         IsFree (view x) l → view z ≡ decided_on (view x) l → m ≡ length z.trail.decisions →
-        z ≡ record x { assignment = z.assignment; assumptions = record y { levels = m }; impl_graph = z.impl_graph; trail = z.trail } → IsReady z
+        z ≡ record x { assignment = z.assignment; assumptions = record y { levels = m }; counters = z.counters; impl_graph = z.impl_graph; trail = z.trail } → IsReady z
     next-ready z m q head free d c k =
         let vsids = ap (λ (u : Context A). u.vsids) k in
         let list = ap (λ (u : Context A). u.assumptions) k in
@@ -107,7 +108,7 @@ module _ {A : Type 0} (x : Context A) (y : AssumptionParts) (r : IsReady x)
         let entries = r.decidable.entries in
         let levels = has-decided (view x) y l r.well left-levels (all-assumed (view x) x.assumptions y r.well r.assumed t n) n e m
         (c ∙ ap (λ (u : View). length u.decisions) d) in
-        decided-ready x z l r q head free d (k ∙ other-names z m vsids list)
+        decided-ready x z l r q head free d (subst (λ (u : Context A). ChangesDecided x u) (sym k) refl)
         (can-decide (view x) x.vsids (view z) z.vsids
         (record {
           activity = ap (λ (a : Activities). length a.activity) vsids ∙ entries.activity
@@ -119,9 +120,3 @@ module _ {A : Type 0} (x : Context A) (y : AssumptionParts) (r : IsReady x)
         (subst (λ a. HasAssumptions (view z) a) (sym list) (subst (λ u. HasAssumptions u (record y { levels = m })) (sym d) levels))
         (still-assumable (view x) x.vsids (view z) z.vsids x.assumptions.working z.assumptions.working same
         (λ p i. t.part p (subst (λ (a : AssumptionParts). p ∈ a.working) list i)) r.assumable)
-      where
-        other-names : (z : Context A) (m : ℕ) → z.vsids ≡ x.vsids → z.assumptions ≡ record y { levels = m } →
-            record x { assignment = z.assignment; assumptions = record y { levels = m }; impl_graph = z.impl_graph; trail = z.trail } ≡ record x
-            { assignment = z.assignment; assumptions = z.assumptions; impl_graph = z.impl_graph; trail = z.trail; vsids = z.vsids }
-        other-names z m v a = ap (λ b. record x { assignment = z.assignment; assumptions = b; impl_graph = z.impl_graph; trail = z.trail }) (sym a)
-            ∙ ap (λ b. record x { assignment = z.assignment; assumptions = z.assumptions; impl_graph = z.impl_graph; trail = z.trail; vsids = b }) (sym v)

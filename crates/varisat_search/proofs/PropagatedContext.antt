@@ -9,6 +9,7 @@ use Rattle.varisat_prop.specs.Watches.{IsPropagated}
 use Rattle.varisat_search.specs.declared.context.Context.{Context}
 use Rattle.varisat_search.specs.AssumptionParts.{HasAssumptions}
 use Rattle.varisat_search.specs.Contexts.{view, IsReady}
+use Rattle.varisat_search.specs.Frames.{ChangesPropagated}
 use Rattle.varisat_search.specs.Decisions.{AreDecidable, CanDecide}
 use Rattle.varisat_search.proofs.AssumptionContexts.{still-assumable}
 use Rattle.varisat_search.proofs.AssumptionLevels.{has-grown}
@@ -18,14 +19,7 @@ use Rattle.varisat_search.proofs.StepOutcome.{finding-begins, finding-ready, fin
 -- Propagation only reorders literals, so that the database still fits the store.
 pub propagated-ready : {A : Type 0} (x m : Context A) → IsReady x → Propagates (view x) (view m) → IsPropagated m.watchlists (view m) →
     KeepsShapes x.clause_alloc m.clause_alloc →
-    m ≡ record x {
-      assignment = m.assignment;
-      clause_alloc = m.clause_alloc;
-      impl_graph = m.impl_graph;
-      trail = m.trail;
-      watchlists =
-          m.watchlists;
-    } → IsReady m
+    ChangesPropagated x m → IsReady m
 propagated-ready {A} x m r p q h k =
     let s = view x in
     let t = view m in

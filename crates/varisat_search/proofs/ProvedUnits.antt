@@ -11,6 +11,7 @@ use Rattle.varisat_prop.specs.Watches.{Watches, IsPropagated}
 use Rattle.varisat_vsids.specs.Activities.{Activities}
 use Rattle.varisat_search.specs.declared.context.Context.{Context}
 use Rattle.varisat_search.specs.Contexts.{view, IsReady}
+use Rattle.varisat_search.specs.Frames.{ChangesKept}
 use Rattle.varisat_search.specs.Decisions.{CanDecide}
 use Rattle.varisat_search.specs.ProvedUnits.{HaveUnits, ProvesUnits}
 use Rattle.varisat_search.proofs.ClausesExchanged.{map-by-place}
@@ -152,15 +153,7 @@ module _ (s t : View) (w : WellFormed s) (none : s.decisions ≡ []) (p : Proves
 -- the search stays ready
 pub units-ready : {A : Type 0} (x z : Context A) → IsReady x → x.trail.decisions ≡ [] → ProvesUnits (view x) (view z) →
     z.watchlists ≡ x.watchlists → Tracks z.clause_db z.clause_alloc →
-    z ≡ record x {
-      binary_clauses = z.binary_clauses;
-      clause_activity = z.clause_activity;
-      clause_alloc = z.clause_alloc;
-      clause_db =
-          z.clause_db;
-      impl_graph = z.impl_graph;
-      watchlists = z.watchlists;
-    } → IsReady z
+    ChangesKept x z → IsReady z
 units-ready x z r none p e t k =
     exchanged-ready x z r (keeps-values x z k) (units-well (view x) (view z) r.well none p) (units-settled (view x) (view z) r.well none p r.settled)
     (subst (λ W. IsPropagated W (view z)) (sym e) (units-propagated (view x) (view z) r.well none p x.watchlists r.propagated))

@@ -13,6 +13,7 @@ use Rattle.varisat_prop.proofs.WatchKept.{propagated-decided}
 use Rattle.varisat_search.specs.declared.context.Context.{Context}
 use Rattle.varisat_search.specs.AssumptionParts.{HasAssumptions}
 use Rattle.varisat_search.specs.Contexts.{view, IsReady}
+use Rattle.varisat_search.specs.Frames.{ChangesDecided, ChangesKept}
 use Rattle.varisat_search.specs.ContextChanges.{BacktracksTo}
 use Rattle.varisat_search.specs.Decisions.{AreDecidable, CanDecide}
 use Rattle.varisat_search.specs.Steps.{IsFree}
@@ -50,6 +51,7 @@ pub ready-with : {A : Type 0} (x y : Context A) → IsReady x →
     (y ≡ record x {
       analyze_conflict = y.analyze_conflict;
       assumptions = y.assumptions;
+      counters = y.counters;
       schedule = y.schedule;
       solver_state =
           y.solver_state;
@@ -84,15 +86,7 @@ pub record KeepsValues {A : Type 0} (x z : Context A) : Type 0 where
   pub vsids : z.vsids ≡ x.vsids
   pub assumptions : z.assumptions ≡ x.assumptions
 
-pub keeps-values : {A : Type 0} (x z : Context A) → z ≡ record x {
-  binary_clauses = z.binary_clauses;
-  clause_activity = z.clause_activity;
-  clause_alloc = z.clause_alloc;
-  clause_db = z.clause_db;
-  impl_graph =
-      z.impl_graph;
-  watchlists = z.watchlists;
-} → KeepsValues x z
+pub keeps-values : {A : Type 0} (x z : Context A) → ChangesKept x z → KeepsValues x z
 keeps-values {A} x z e = record {
   values = ap (λ (y : Context A). y.assignment.current) e;
   trail = ap (λ (y : Context A). y.trail.literals) e;
@@ -137,7 +131,7 @@ unwatched-ready x z ns r k m e tracks n none off =
 -- A literal is decided, once propagation has come to its end.
 pub decided-ready : {A : Type 0} (x z : Context A) (l : Literal) → IsReady x → IsComplete (kept (view x)) x.trail.literals →
     x.trail.queue_head ≡ length x.trail.literals → IsFree (view x) l → view z ≡ decided_on (view x) l →
-    z ≡ record x { assignment = z.assignment; assumptions = z.assumptions; impl_graph = z.impl_graph; trail = z.trail; vsids = z.vsids } →
+    ChangesDecided x z →
     CanDecide (view z) z.vsids → HasAssumptions (view z) z.assumptions → AreDecidable (view z) z.vsids z.assumptions.working → IsReady z
 decided-ready {A} x z l r q head free e k d h a =
     let f = finding-decided (view x) (view x) (view z) l (finding-begins r) q free e in

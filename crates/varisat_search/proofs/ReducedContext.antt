@@ -11,6 +11,7 @@ use Rattle.varisat_prop.specs.View.{View, WellFormed}
 use Rattle.varisat_prop.specs.Watches.{watches_of, literal_in}
 use Rattle.varisat_search.specs.declared.context.Context.{Context}
 use Rattle.varisat_search.specs.Contexts.{view, IsReady}
+use Rattle.varisat_search.specs.Frames.{ChangesKept}
 use Rattle.varisat_analysis.specs.Reductions.{Discards}
 use Rattle.varisat_search.proofs.DiscardedClauses.{discards-may}
 use Rattle.varisat_search.proofs.ReadyAfter.{keeps-values, unwatched-ready}
@@ -18,15 +19,7 @@ use Rattle.varisat_search.proofs.ReadyAfter.{keeps-values, unwatched-ready}
 -- it stays ready, with the watch lists off
 pub discards-ready : {A : Type 0} (x z : Context A) → IsReady x → Discards (view x) (view z) → Tracks z.clause_db z.clause_alloc →
     length z.watchlists.lists ≡ length x.watchlists.lists → ((l : Literal) → watches_of z.watchlists l ≡ []) → z.watchlists.enabled ≡ false →
-    z ≡ record x {
-      binary_clauses = z.binary_clauses;
-      clause_activity = z.clause_activity;
-      clause_alloc = z.clause_alloc;
-      clause_db =
-          z.clause_db;
-      impl_graph = z.impl_graph;
-      watchlists = z.watchlists;
-    } → IsReady z
+    ChangesKept x z → IsReady z
 discards-ready x z r d t n e o k = unwatched-ready x z (view x).nodes r (keeps-values x z k) (discards-may (view x) (view z) r.well d) d.rest t n e o
 
 -- the first literal of each clause is of a known variable

@@ -13,7 +13,7 @@ use Rattle.varisat_search.specs.declared.context.Context.{Context}
 use Rattle.varisat_search.specs.declared.state.SatState.{SatState}
 use Rattle.varisat_search.specs.declared.state.SatState.TheVariants as verdict
 use Rattle.varisat_search.specs.Contexts.{view, KeepsSchedule}
-use Rattle.varisat_search.specs.Decisions.{SameDecidable}
+use Rattle.varisat_search.specs.Frames.{KeepsVariables}
 use Rattle.varisat_search.specs.Loading.{loaded_outcome}
 use Rattle.varisat_search.specs.Seen.{search_of}
 use Rattle.varisat_search.specs.Steps.{reopened_state}
@@ -43,8 +43,7 @@ pub record HoldsUnitAgain {A : Type 0} (x y : Context A) (l : Literal) : Type 0 
   pub lines : Loads (search_of (view x)) (search_of (view y)) (l ∷ []) Unknown []
   pub state : y.solver_state ≡ record x.solver_state { sat_state = reopened_state x.solver_state.sat_state; formula_is_empty = false }
   pub assumptions : y.assumptions ≡ record x.assumptions { levels = 0 }
-  pub decidable : SameDecidable (view x) x.vsids (view y) y.vsids
-  pub count : length y.assignment.current ≡ length x.assignment.current
+  pub keeps : KeepsVariables x y
   pub schedule : KeepsSchedule x y
 
 pub skipped-back : {A : Type 0} (x y : Context A) (l : Literal) → HoldsUnitAgain x y l → HoldsUnitAgain x (with_next_head y) l
@@ -52,8 +51,7 @@ skipped-back x y l b = record {
   lines = b.lines;
   state = b.state;
   assumptions = b.assumptions;
-  decidable = b.decidable;
-  count = b.count;
+  keeps = record { decidable = b.keeps.decidable; decay = b.keeps.decay; count = b.keeps.count };
   schedule = record { schedule = b.schedule.schedule; solver_config = b.schedule.solver_config };
 }
 

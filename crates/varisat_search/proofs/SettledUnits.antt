@@ -16,6 +16,7 @@ use Rattle.varisat_prop.proofs.ViewGrowth.{append-nil, kinds-more}
 use Rattle.varisat_search.specs.declared.context.Context.{Context}
 use Rattle.varisat_search.specs.AssumptionParts.{AssumptionParts, KeepsAssumptions}
 use Rattle.varisat_search.specs.Contexts.{view, IsReady}
+use Rattle.varisat_search.specs.Frames.{ChangesClauses, ChangesPropagated}
 use Rattle.varisat_search.specs.Decisions.{SameDecidable}
 use Rattle.varisat_search.specs.ProvedUnits.{implied_units, ProvesUnits}
 use Rattle.varisat_search.specs.Seen.{search_of}
@@ -38,7 +39,6 @@ goes-refl x P r none = record {
   kinds_more = ([], sym (append-nil (kinds (view x))));
   decidable = same-refl (view x) x.vsids;
   last = refl;
-  units = refl;
 }
 
 -- the lines are so in another way too
@@ -50,7 +50,6 @@ goes-are x y P Q are a = record {
   kinds_more = a.kinds_more;
   decidable = a.decidable;
   last = a.last;
-  units = a.units;
 }
 
 -- one after the other
@@ -68,21 +67,13 @@ goes-trans {A} x y z P Q R join a b =
       kinds_more = (ks ++ js, f ∙ ap (λ (bs : List Bool). bs ++ js) e ∙ append_assoc (kinds (view x)) ks js);
       decidable = same-trans (view x) x.vsids (view y) y.vsids (view z) z.vsids a.decidable b.decidable;
       last = b.last ∙ a.last;
-      units = b.units ∙ a.units;
     }
 
 -- propagation
 pub goes-propagated : {A : Type 0} (x m : Context A) → IsReady x → IsReady m → Propagates (view x) (view m) →
-    m.assignment.last ≡ x.assignment.last → m.trail.units_removed ≡ x.trail.units_removed →
-    m ≡ record x {
-      assignment = m.assignment;
-      clause_alloc = m.clause_alloc;
-      impl_graph = m.impl_graph;
-      trail = m.trail;
-      watchlists =
-          m.watchlists;
-    } → GoesOnByLines (λ lines. lines ≡ []) x m
-goes-propagated {A} x m r q p l u k =
+    m.assignment.last ≡ x.assignment.last →
+    ChangesPropagated x m → GoesOnByLines (λ lines. lines ≡ []) x m
+goes-propagated {A} x m r q p l k =
     let s = view x in
     let t = view m in
     record {
@@ -92,7 +83,6 @@ goes-propagated {A} x m r q p l u k =
       kinds_more = (_, kinds-more s t p.grows);
       decidable = subst (SameDecidable s x.vsids t) (sym (ap (λ (y : Context A). y.vsids) k)) (propagated-same s t x.vsids r.well r.decidable p);
       last = l;
-      units = u;
     }
 
 -- the units are proved
@@ -107,13 +97,12 @@ goes-proved {A} x z P r q none p lines h i k = record {
   kinds_more = ([], units-kinds (view x) (view z) r.well none p ∙ sym (append-nil (kinds (view x))));
   decidable = same-read (view x) x.vsids (view z) z.vsids (ap (λ (y : View). y.values) p.rest) (ap (λ (y : Context A). y.vsids.available) k);
   last = ap (λ (y : Context A). y.assignment.last) k;
-  units = ap (λ (y : Context A). y.trail.units_removed) k;
 }
 
 -- the clauses are simplified
 pub goes-simplified : {A : Type 0} (x z : Context A) (P : List Line → Type 0) → IsReady z → (lines : List Line) →
     Proves 0 (search_of (view x)) (search_of (view z)) lines → P lines → SameDecidable (view x) x.vsids (view z) z.vsids →
-    z ≡ record x { binary_clauses = z.binary_clauses; clause_alloc = z.clause_alloc; clause_db = z.clause_db; watchlists = z.watchlists } →
+    ChangesClauses x z →
     GoesOnByLines P x z
 goes-simplified {A} x z P q lines h i d k = record {
   ready = q;
@@ -123,7 +112,6 @@ goes-simplified {A} x z P q lines h i d k = record {
   kinds_more = ([], ap (λ (y : Context A). kinds (view y)) k ∙ sym (append-nil (kinds (view x))));
   decidable = d;
   last = ap (λ (y : Context A). y.assignment.last) k;
-  units = ap (λ (y : Context A). y.trail.units_removed) k;
 }
 
 -- Propagation at level 0, and then the units are proved.
@@ -133,8 +121,7 @@ pub record ProvedAfter {A : Type 0} (x m p : Context A) : Type 0 where
   pub none : m.trail.decisions ≡ []
   pub propagates : Propagates (view x) (view m)
   pub last : m.assignment.last ≡ x.assignment.last
-  pub units : m.trail.units_removed ≡ x.trail.units_removed
-  pub kept : m ≡ record x { assignment = m.assignment; clause_alloc = m.clause_alloc; impl_graph = m.impl_graph; trail = m.trail; watchlists = m.watchlists }
+  pub kept : ChangesPropagated x m
   pub end_ready : IsReady p
   pub proved : ProvesUnits (view m) (view p)
   pub proves : Proves 0 (search_of (view m)) (search_of (view p)) (unit_lines (implied_units (view m)))
@@ -144,7 +131,7 @@ module _ {A : Type 0} (x m p : Context A) (d : ProvedAfter x m p) where
   pub goes-to-units : (P : List Line → Type 0) → P (unit_lines (implied_units (view m))) → GoesOnByLines P x p
   goes-to-units P i =
       goes-trans x m p (λ lines. lines ≡ []) P P (λ first more e h. subst (λ lines. P (lines ++ more)) (sym e) h)
-      (goes-propagated x m d.ready d.mid_ready d.propagates d.last d.units d.kept)
+      (goes-propagated x m d.ready d.mid_ready d.propagates d.last d.kept)
       (goes-proved m p P d.mid_ready d.end_ready d.none d.proved (unit_lines (implied_units (view m))) d.proves i d.end_kept)
 
   pub settles-to-units : (lines : List Line) (t : View) (end : Result (Unit {0}) Conflict) →

@@ -16,6 +16,7 @@ use Rattle.varisat_prop.proofs.SimplifiedPairs.{unassigned-none}
 use Rattle.varisat_prop.proofs.SimplifiedView.{simplified, settled-undecided, propagated-unassigned}
 use Rattle.varisat_search.specs.declared.context.Context.{Context}
 use Rattle.varisat_search.specs.Contexts.{view, IsReady}
+use Rattle.varisat_search.specs.Frames.{ChangesClauses}
 use Rattle.varisat_search.specs.Decisions.{CanDecide, SameDecidable}
 use Rattle.varisat_search.specs.Seen.{search_of}
 use Rattle.varisat_search.specs.SettledUnits.{CanSimplify}
@@ -51,7 +52,7 @@ pub record Simplifies {A : Type 0} (x z : Context A) : Type 0 where
   pub clauses : live_clauses z.clause_alloc ≡ left_long x.assignment.current (live_clauses x.clause_alloc)
   pub binary : z.binary_clauses ≡ with_pairs (without_assigned x.assignment.current x.binary_clauses)
       (left_pairs x.assignment.current (live_clauses x.clause_alloc))
-  pub rest : z ≡ record x { binary_clauses = z.binary_clauses; clause_alloc = z.clause_alloc; clause_db = z.clause_db; watchlists = z.watchlists }
+  pub rest : ChangesClauses x z
 
 -- after it
 module _ {A : Type 0} {x z : Context A} (d : Simplifies x z) where
@@ -98,8 +99,8 @@ module _ {A : Type 0} {x z : Context A} (d : Simplifies x z) where
         binary_clauses = z.binary_clauses;
         clause_alloc = z.clause_alloc;
         clause_db = z.clause_db;
-        watchlists =
-            z.watchlists;
+        counters = z.counters;
+        watchlists = z.watchlists;
       }) refl))
       (subst WellFormed (sym is-view) (still-well s d.units))
       (subst LevelsSettled (sym is-view) (settled-undecided t d.units.undecided))

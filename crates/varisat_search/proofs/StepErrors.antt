@@ -23,9 +23,13 @@ store-full : (s : StoreError) → step_error_of_store s ≡ step.Full → s ≡ 
 store-full store.Full e = refl
 store-full store.Memory e = absurd (let z : step.Memory ≡ step.Full = e in cc)
 
+pub if-full : {X : Type 0} (r : Result X StepError) (s : StoreError) (P : Type 0) → IsErr r × IsErrAnd r (λ e. e ≡ step_error_of_store s) →
+    (s ≡ store.Full → P) → IfErr r (λ e. e ≡ step.Full → P)
+if-full r s P h f = told-by r (λ e. e ≡ step_error_of_store s) (λ e. e ≡ step.Full → P) h (λ e p q. f (store-full s (sym p ∙ q)))
+
 pub full-told : {A X : Type 0} (r : Result X StepError) (s : StoreError) (z : Context A) → IsErr r × IsErrAnd r (λ e. e ≡ step_error_of_store s) →
     (s ≡ store.Full → HasNoRoom z) → IfErr r (λ e. e ≡ step.Full → HasNoRoom z)
-full-told r s z h f = told-by r (λ e. e ≡ step_error_of_store s) (λ e. e ≡ step.Full → HasNoRoom z) h (λ e p q. f (store-full s (sym p ∙ q)))
+full-told r s z h f = if-full r s (HasNoRoom z) h f
 
 -- An error tells as many faults as the tracer's that it comes from, and one of the store tells none.
 pub trace-faults : (e : TraceError) → faults_of e ≡ step_faults (step_error_of_trace e)

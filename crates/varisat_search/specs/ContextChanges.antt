@@ -3,6 +3,7 @@ use Rattle.std.specs.Prelude.{◌≡◌, ℕ, ◌<◌, ◌≤◌, length}
 use Rattle.varisat_literals.specs.Numbers.{variable_limit}
 use Rattle.varisat_search.specs.declared.context.Context.{Context}
 use Rattle.varisat_search.specs.Contexts.{view, IsReady}
+use Rattle.varisat_search.specs.Frames.{ChangesLevels}
 use Rattle.varisat_search.specs.AssumptionParts.{with_levels_to}
 use Rattle.varisat_search.specs.Seen.{search_of}
 use Rattle.varisat_search.specs.Steps.{IsCut, Saves}
@@ -18,9 +19,8 @@ pub record BacktracksTo {A : Type 0} (level : ℕ) (old new : Context A) : Type 
   pub decidable : SameDecidable (view old) old.vsids (view new) new.vsids
   pub entries : HasActivities (view new) new.vsids
   pub decay : new.vsids.decay ≡ old.vsids.decay
-  pub units : new.trail.units_removed ≡ old.trail.units_removed
   pub assumptions : level < length old.trail.decisions → new.assumptions ≡ with_levels_to level old.assumptions
-  pub kept : new ≡ record old { assignment = new.assignment; assumptions = new.assumptions; trail = new.trail; vsids = new.vsids }
+  pub kept : ChangesLevels old new
 
 -- The count of variables may be raised to this one.
 pub record CanRaise {A : Type 0} (n : ℕ) (x : Context A) : Type 0 where

@@ -7,6 +7,7 @@ use Rattle.varisat_clause.specs.Collected.{IsCollected}
 use Rattle.varisat_clause.specs.Reductions.{ReducesLocals, mids_reduced}
 use Rattle.varisat_search.specs.declared.context.Context.{Context}
 use Rattle.varisat_search.specs.Contexts.{view, IsReady}
+use Rattle.varisat_search.specs.Frames.{ChangesPlaces, ChangesRestarted}
 use Rattle.varisat_search.specs.Decisions.{SameDecidable}
 use Rattle.varisat_search.specs.Seen.{search_of}
 use Rattle.varisat_analysis.specs.HeaderChanges.{ChangesHeaders}
@@ -70,12 +71,11 @@ pub record BeginsStep {A : Type 0} (are : List Line → Type 0) (x z : Context A
   pub begun : Context A
   pub restarts : RestartsIfDue x.schedule x.assumptions.levels (view x) (view begun)
   pub saves : SavesIfDue x.schedule x.assumptions.levels (view x) x.assignment.last begun.assignment.last
-  pub begins : begun ≡ record x { assignment = begun.assignment; trail = begun.trail; vsids = begun.vsids; schedule = begun.schedule }
+  pub begins : ChangesRestarted x begun
   pub decidable : SameDecidable (view x) x.vsids (view begun) begun.vsids
-  pub units : begun.trail.units_removed ≡ x.trail.units_removed
   pub decay : begun.vsids.decay ≡ x.vsids.decay
   pub reduces : KeepsSearch (λ lines. ReducesIfDue lines begun z × are lines) begun z
-  pub rest : z ≡ record begun { clause_alloc = z.clause_alloc; clause_db = z.clause_db; impl_graph = z.impl_graph; watchlists = z.watchlists }
+  pub rest : ChangesPlaces begun z
 
 -- A step begins with a restart down to the last assumption, where that is due; then come the reductions, which delete
 -- clauses, and the collection; then, at level 0, units are settled; then lines lead from what is left to the search after
@@ -84,7 +84,7 @@ pub record GoesBySchedule {A : Type 0} (lines : List Line) (x z : Context A) : T
   pub begun : Context A
   pub reduced : Context A
   pub restarts : RestartsIfDue x.schedule x.assumptions.levels (view x) (view begun)
-  pub begins : begun ≡ record x { assignment = begun.assignment; trail = begun.trail; vsids = begun.vsids; schedule = begun.schedule }
+  pub begins : ChangesRestarted x begun
   pub first : List Line
   pub rest : List Line
   pub parts : lines ≡ first ++ rest

@@ -7,6 +7,7 @@ pub mod Progress
 pub mod FoundCores
 pub mod Restarts
 pub mod Decisions
+pub mod Frames
 pub mod Forgotten
 pub mod ContextChanges
 pub mod DueReductions

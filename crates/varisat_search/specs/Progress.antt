@@ -8,7 +8,7 @@ use Rattle.varisat_search.specs.declared.context.Context.{Context}
 use Rattle.varisat_search.specs.declared.state.SatState.TheVariants as verdict
 use Rattle.varisat_search.specs.AssumptionParts.{KeepsAssumptions}
 use Rattle.varisat_search.specs.Contexts.{view, IsReady}
-use Rattle.varisat_search.specs.Decisions.{SameDecidable}
+use Rattle.varisat_search.specs.Frames.{KeepsVariables}
 use Rattle.varisat_search.specs.Seen.{search_of, outcome_of}
 use Rattle.varisat_search.specs.Steps.{Remembers}
 
@@ -24,29 +24,23 @@ StepsTo are x y = (lines : List Line) × Steps (search_of (view x)) (search_of (
 abbrev pub RaisesRank : {A : Type 0} → Context A → Context A → Type 0
 RaisesRank x y = (n : ℕ) → length x.trail.literals ≤ n → rank n (kinds (view x)) < rank n (kinds (view y))
 
--- The search is ready again, a step further by lines for which `are` holds.
-pub record IsStepFurther {A : Type 0} (are : List Line → Type 0) (x y : Context A) : Type 0 where
+-- A step leads to a search that is ready again, by lines for which `are` holds, over the same variables. Where it goes on the rank
+-- rises. Of the state only the verdict changes.
+pub record GoesAStep {A : Type 0} (are : List Line → Type 0) (x y : Context A) : Type 0 where
   pub ready : IsReady y
   pub steps : StepsTo are x y
-  pub known : (y.solver_state.sat_state ≡ verdict.Unknown) ⊎ (y.solver_state.sat_state ≡ verdict.Unsat)
   pub rises : y.solver_state.sat_state ≡ verdict.Unknown → RaisesRank x y
-  pub decidable : SameDecidable (view x) x.vsids (view y) y.vsids
-  pub assumptions : y.assumptions ≡ record x.assumptions { levels = y.assumptions.levels }
-  pub decay : y.vsids.decay ≡ x.vsids.decay
-  pub count : length y.assignment.current ≡ length x.assignment.current
-  pub units : y.trail.units_removed ≡ x.trail.units_removed
+  pub keeps : KeepsVariables x y
   pub state : y.solver_state ≡ record x.solver_state { sat_state = y.solver_state.sat_state }
 
--- A step was made: lines for which `are` holds lead to the search after it, which is ready again, and what is remembered
--- and assumed fits it. Where the search goes on the rank rises.
+-- The search learned from a conflict, by lines for which `are` holds.
+pub record IsStepFurther {A : Type 0} (are : List Line → Type 0) (x y : Context A) : Type 0 where
+  pub goes : GoesAStep are x y
+  pub known : (y.solver_state.sat_state ≡ verdict.Unknown) ⊎ (y.solver_state.sat_state ≡ verdict.Unsat)
+  pub assumptions : y.assumptions ≡ record x.assumptions { levels = y.assumptions.levels }
+
+-- A step was made: lines for which `are` holds lead to the search after it, and what is remembered and assumed fits it.
 pub record MakesStep {A : Type 0} (are : List Line → Type 0) (x y : Context A) : Type 0 where
-  pub ready : IsReady y
-  pub steps : StepsTo are x y
+  pub goes : GoesAStep are x y
   pub assumes : KeepsAssumptions (search_of (view x)) (outcome_at y) x.assumptions y.assumptions
-  pub rises : y.solver_state.sat_state ≡ verdict.Unknown → RaisesRank x y
-  pub decidable : SameDecidable (view x) x.vsids (view y) y.vsids
-  pub decay : y.vsids.decay ≡ x.vsids.decay
   pub last : Remembers (view x) x.assignment.last y.assignment.last
-  pub count : length y.assignment.current ≡ length x.assignment.current
-  pub units : y.trail.units_removed ≡ x.trail.units_removed
-  pub state : y.solver_state ≡ record x.solver_state { sat_state = y.solver_state.sat_state }

@@ -68,7 +68,6 @@ pub record GoesOnByLines {A : Type 0} (are : List Line → Type 0) (x y : Contex
   pub kinds_more : (more : List Bool) × (kinds (view y) ≡ kinds (view x) ++ more)
   pub decidable : SameDecidable (view x) x.vsids (view y) y.vsids
   pub last : y.assignment.last ≡ x.assignment.last
-  pub units : y.trail.units_removed ≡ x.trail.units_removed
 
 -- Units are settled, and the step goes on from there: the lines are those of both, in turn.
 pub record SettlesThenSteps {A : Type 0} (lines : List Line) (x z : Context A) : Type 0 where

@@ -10,8 +10,9 @@ ghost use Rattle.varisat_prop.specs.View.{View, WellFormed, kept};
 ghost use Rattle.varisat_analysis.specs.Learned.{Shows};
 ghost use Rattle.varisat_analysis.specs.FailedCores.{ListsFailedCore};
 ghost use Rattle.varisat_search.specs.Contexts.{view, KeepsSchedule, IsReady};
+ghost use Rattle.varisat_search.specs.Frames.{ChangesAssumed, GoesForward, KeepsVariables};
 ghost use Rattle.varisat_search.specs.Steps.{SavesAll};
-ghost use Rattle.varisat_search.specs.Decisions.{AreDecidable, SameDecidable};
+ghost use Rattle.varisat_search.specs.Decisions.{AreDecidable};
 ghost use Rattle.varisat_search.specs.Seen.{search_of};
 ghost use Rattle.varisat_search.specs.AssumptionParts.{no_assumptions, newly_assumed, with_levels_to, assumed_state, TakesOutImplied, TakesOutTrue, IsNextAssumption, ComesToNext};
 ghost use Rattle.varisat_search.specs.TakenOut.{AreImpliedBefore};
@@ -220,12 +221,9 @@ pub fn set_assumptions<A: Allocator + Copy>(
     ensures ready { OnOk result (IsReady ctx.new) }
     ensures assumed { OnOk result (ctx.new.assumptions ≡ newly_assumed user.now lits.now) }
     ensures seen { OnOk result (search_of (view ctx.new) ≡ search_of (view ctx.old)) }
-    ensures decidable { OnOk result (SameDecidable (view ctx.old) ctx.old.vsids (view ctx.new) ctx.new.vsids) }
-    ensures decay { OnOk result (ctx.new.vsids.decay ≡ ctx.old.vsids.decay) }
+    ensures keeps { OnOk result (KeepsVariables ctx.old ctx.new) }
     ensures last { OnOk result (SavesAll (view ctx.old) ctx.old.assignment.last ctx.new.assignment.last) }
     ensures state { OnOk result (ctx.new.solver_state ≡ record ctx.old.solver_state { sat_state = assumed_state ctx.old.solver_state.sat_state }) }
-    ensures count { OnOk result (length ctx.new.assignment.current ≡ length ctx.old.assignment.current) }
-    ensures units { OnOk result (ctx.new.trail.units_removed ≡ ctx.old.trail.units_removed) }
     ensures undecided { OnOk result (ctx.new.trail.decisions ≡ []) }
     ensures schedule { KeepsSchedule ctx.old ctx.new }
 {
@@ -296,16 +294,8 @@ pub fn enqueue_assumption<A: Allocator + Copy>(
     // What was taken out is implied by the assumptions before its place alone.
     ensures before { OnOk result (AreImpliedBefore (view ctx.old) ctx.old.assumptions ctx.new.assumptions) }
     ensures next { IfOk result (λ next. ComesToNext (view ctx.old) (view ctx.new) ctx.new.assumptions next) }
-    ensures same { OnOk result (SameDecidable (view ctx.old) ctx.old.vsids (view ctx.new) ctx.new.vsids) }
-    ensures last { OnOk result (ctx.new.assignment.last ≡ ctx.old.assignment.last) }
-    ensures units { OnOk result (ctx.new.trail.units_removed ≡ ctx.old.trail.units_removed) }
-    ensures kept { ctx.new ≡ record ctx.old {
-      assignment = ctx.new.assignment;
-      assumptions = ctx.new.assumptions;
-      impl_graph = ctx.new.impl_graph;
-      tmp_flags = ctx.new.tmp_flags;
-      trail = ctx.new.trail;
-    } }
+    ensures forward { OnOk result (GoesForward ctx.old ctx.new) }
+    ensures kept { ChangesAssumed ctx.old ctx.new }
 {
     let level = ctx.trail.current_level();
     let Some(lit) = next_assumption(&mut ctx.assumptions, &ctx.assignment, level) else {

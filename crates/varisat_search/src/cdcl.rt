@@ -13,11 +13,11 @@ ghost use Rattle.varisat_prop.specs.View.{View, kept, GrowsTrail};
 ghost use Rattle.varisat_prop.specs.Changes.{IsConflicting};
 ghost use Rattle.varisat_analysis.specs.Learned.{IsLearned, AreInvolved};
 ghost use Rattle.varisat_search.specs.Contexts.{view, KeepsSchedule, IsReady};
+ghost use Rattle.varisat_search.specs.Frames.{ChangesAnalysis, ChangesClauses, ChangesSettled, GoesForward};
 ghost use Rattle.varisat_search.specs.Steps.{SavesSome};
 ghost use Rattle.varisat_search.specs.Seen.{search_of};
 ghost use Rattle.varisat_theory.specs.Journals.{Fails};
 ghost use Rattle.varisat_trace.specs.Traces.{TakesLines, TakesStep, TellsLines, BreaksOff, faults_of, CanTake, CanFail, HoldsFor};
-ghost use Rattle.varisat_search.specs.Decisions.{SameDecidable};
 ghost use Rattle.varisat_analysis.specs.Bumps.{BumpsInvolved};
 ghost use Rattle.varisat_analysis.specs.Assessments.{glue_of, assessed, BumpsClauses};
 ghost use Rattle.varisat_search.specs.AssumptionParts.{TakesOutImplied, EndsAssumed, HasFailed};
@@ -43,6 +43,7 @@ use varisat_clause::db::add_clause;
 use varisat_literals::Lit;
 use varisat_prop::clause::{ClauseHeader, StoreError};
 use varisat_prop::prop::{Conflict, Reason, enqueue_assignment, propagate};
+use varisat_schedule::counters::count;
 use varisat_trace::{ProofStep, ProofTracer, TraceError};
 
 /// Why a search for a model stopped.
@@ -70,11 +71,7 @@ fn decide<A: Allocator + Copy>(
         (λ made. MatchBool made (length ctx.old.trail.literals < length ctx.new.trail.literals)
         ((view ctx.new ≡ view ctx.old) × EndsAssumed (view ctx.new) ctx.new.assumptions))
         (λ found. (found ≡ FoundConflict.Assumption) × HasFailed (view ctx.new) ctx.new.assumptions)) }
-    ensures decidable { OnOk result (SameDecidable (view ctx.old) ctx.old.vsids (view ctx.new) ctx.new.vsids) }
-    ensures activities { OnOk result (ctx.new.vsids ≡ record ctx.old.vsids { available = ctx.new.vsids.available }) }
-    ensures state { OnOk result (ctx.new.solver_state ≡ ctx.old.solver_state) }
-    ensures last { OnOk result (ctx.new.assignment.last ≡ ctx.old.assignment.last) }
-    ensures units { OnOk result (ctx.new.trail.units_removed ≡ ctx.old.trail.units_removed) }
+    ensures forward { OnOk result (GoesForward ctx.old ctx.new) }
     ensures schedule { KeepsSchedule ctx.old ctx.new }
 {
     match enqueue_assumption(ctx)? {
@@ -98,14 +95,11 @@ fn find_conflict<A: Allocator + Copy>(
     ensures found { IfOk result (λ found. MatchResult found
         (λ _. IsComplete (kept (view ctx.new)) ctx.new.trail.literals × EndsAssumed (view ctx.new) ctx.new.assumptions)
         (λ conflict. Stops (view ctx.new) ctx.new.assumptions conflict)) }
-    ensures decidable { OnOk result (SameDecidable (view ctx.old) ctx.old.vsids (view ctx.new) ctx.new.vsids) }
-    ensures activities { OnOk result (ctx.new.vsids ≡ record ctx.old.vsids { available = ctx.new.vsids.available }) }
-    ensures state { OnOk result (ctx.new.solver_state ≡ ctx.old.solver_state) }
-    ensures last { OnOk result (ctx.new.assignment.last ≡ ctx.old.assignment.last) }
-    ensures units { OnOk result (ctx.new.trail.units_removed ≡ ctx.old.trail.units_removed) }
+    ensures forward { OnOk result (GoesForward ctx.old ctx.new) }
     ensures schedule { KeepsSchedule ctx.old ctx.new }
 {
     'levels: loop {
+        let before = ctx.trail.propagated_count();
         let propagated = propagate(
             &mut ctx.assignment,
             &mut ctx.clause_alloc,
@@ -114,6 +108,8 @@ fn find_conflict<A: Allocator + Copy>(
             &ctx.binary_clauses,
             &mut ctx.watchlists,
         )?;
+        let taken = ctx.trail.propagated_count().saturating_sub(before);
+        count(&mut ctx.counters.propagations, taken as u64);
         if let Err(conflict) = propagated {
             return Ok(Err(FoundConflict::Conflict(conflict)));
         }
@@ -144,12 +140,7 @@ fn keep_learned<A: Allocator + Copy>(
     requires paired { (l : Literal) → l ∈ ctx.old.analyze_conflict.clause → opposite l < length ctx.old.binary_clauses }
     requires tracks { Tracks ctx.old.clause_db ctx.old.clause_alloc }
     ensures tracks { OnOk result (Tracks ctx.new.clause_db ctx.new.clause_alloc) }
-    ensures kept { ctx.new ≡ record ctx.old {
-      binary_clauses = ctx.new.binary_clauses;
-      clause_alloc = ctx.new.clause_alloc;
-      clause_db = ctx.new.clause_db;
-      watchlists = ctx.new.watchlists;
-    } }
+    ensures kept { ChangesClauses ctx.old ctx.new }
     ensures reason { IfOk result (λ reason. IsKeptAsReason (record { clauses = live_clauses ctx.old.clause_alloc; binary = ctx.old.binary_clauses })
         (record { clauses = live_clauses ctx.new.clause_alloc; binary = ctx.new.binary_clauses }) ctx.old.analyze_conflict.clause reason) }
     ensures stored { IfOk result (λ reason. IsStoredAsReason ctx.old.clause_alloc ctx.new.clause_alloc header ctx.old.analyze_conflict.clause reason) }
@@ -184,7 +175,7 @@ fn analyze<A: Allocator + Copy>(
     requires ready { IsReady ctx.old }
     requires conflict { IsConflicting (view ctx.old) conflict }
     requires seen { s ≡ view ctx.old }
-    ensures kept { ctx.new ≡ record ctx.old { analyze_conflict = ctx.new.analyze_conflict } }
+    ensures kept { ChangesAnalysis ctx.old ctx.new }
     ensures count { ctx.new.analyze_conflict.var_count ≡ ctx.old.analyze_conflict.var_count }
     ensures learned { IfOk result (λ level. IsLearned (view ctx.old) conflict ctx.new.analyze_conflict.clause level) }
     ensures involved { OnOk result (AreInvolved (view ctx.old) conflict ctx.new.analyze_conflict.involved) }
@@ -196,6 +187,9 @@ fn analyze<A: Allocator + Copy>(
         &ctx.trail,
         conflict,
     )?;
+    count(&mut ctx.counters.conflicts, 1);
+    let learned = ctx.analyze_conflict.clause().len();
+    count(&mut ctx.counters.learned_literals, learned as u64);
     Ok(level)
 }
 
@@ -241,6 +235,8 @@ fn learn<A: Allocator + Copy, P: ProofTracer>(
     ensures schedule { KeepsSchedule ctx.old ctx.new }
     // The store is full only where it has no room for a clause of all variables.
     ensures full { IfErr result (λ error. error ≡ StepError.Full → HasNoRoom ctx.new) }
+    // Then there are as many variables as before.
+    ensures size { IfErr result (λ error. error ≡ StepError.Full → length ctx.new.assignment.current ≡ length ctx.old.assignment.current) }
     ensures broken { IfErr result (λ error. BreaksOff P.breaks_off proof.old (step_faults error) proof.new) }
 {
     let level = analyze(ctx, conflict)?;
@@ -284,17 +280,10 @@ pub fn settle<A: Allocator + Copy, P: ProofTracer>(
     // A clause that is false before is found.
     ensures finds { IfOk result (λ end. (c : Conflict) → IsConflicting (view ctx.old) c → end ≢ Ok tt) }
     ensures at_zero { OnOk result (ctx.new.trail.decisions ≡ []) }
-    ensures kept { ctx.new ≡ record ctx.old {
-      assignment = ctx.new.assignment;
-      binary_clauses = ctx.new.binary_clauses;
-      clause_alloc = ctx.new.clause_alloc;
-      clause_db = ctx.new.clause_db;
-      impl_graph = ctx.new.impl_graph;
-      trail = ctx.new.trail;
-      watchlists = ctx.new.watchlists;
-    } }
+    ensures kept { ChangesSettled ctx.old ctx.new }
     ensures broken { IfErr result (λ error. BreaksOff P.breaks_off proof.old (faults_of error) proof.new) }
 {
+    let before = ctx.trail.propagated_count();
     let propagated = propagate(
         &mut ctx.assignment,
         &mut ctx.clause_alloc,
@@ -303,6 +292,8 @@ pub fn settle<A: Allocator + Copy, P: ProofTracer>(
         &ctx.binary_clauses,
         &mut ctx.watchlists,
     )?;
+    let taken = ctx.trail.propagated_count().saturating_sub(before);
+    count(&mut ctx.counters.propagations, taken as u64);
     prove_units(ctx, proof)?;
     if let Err(conflict) = propagated {
         return Ok(Err(conflict));
@@ -326,15 +317,7 @@ fn settle_units<A: Allocator + Copy, P: ProofTracer>(
     ensures finds { IfOk result (λ end. ctx.old.trail.decisions ≡ [] → (c : Conflict) → IsConflicting (view ctx.old) c → end ≢ Ok tt) }
     ensures at_zero { IfOk result (λ end. end ≢ Ok tt → ctx.new.trail.decisions ≡ []) }
     ensures conflict { IfOk result (λ end. MatchResult end (λ _. Unit {0}) (λ conflict. IsConflicting (view ctx.new) conflict)) }
-    ensures kept { ctx.new ≡ record ctx.old {
-      assignment = ctx.new.assignment;
-      binary_clauses = ctx.new.binary_clauses;
-      clause_alloc = ctx.new.clause_alloc;
-      clause_db = ctx.new.clause_db;
-      impl_graph = ctx.new.impl_graph;
-      trail = ctx.new.trail;
-      watchlists = ctx.new.watchlists;
-    } }
+    ensures kept { ChangesSettled ctx.old ctx.new }
     ensures broken { IfErr result (λ error. BreaksOff P.breaks_off proof.old (faults_of error) proof.new) }
 {
     if ctx.trail.current_level() > 0 || ctx.trail.fully_propagated() {
@@ -372,6 +355,8 @@ fn find_and_learn<A: Allocator + Copy, P: ProofTracer>(
         KeepsFixed (view ctx.old) (view ctx.new)) }
     ensures schedule { KeepsSchedule ctx.old ctx.new }
     ensures full { IfErr result (λ error. error ≡ StepError.Full → HasNoRoom ctx.new) }
+    // Then there are as many variables as before.
+    ensures size { IfErr result (λ error. error ≡ StepError.Full → length ctx.new.assignment.current ≡ length ctx.old.assignment.current) }
     ensures broken { IfErr result (λ error. BreaksOff P.breaks_off proof.old (step_faults error) proof.new) }
 {
     match find_conflict(ctx)? {
@@ -405,6 +390,8 @@ pub fn conflict_step<A: Allocator + Copy, P: ProofTracer>(
     ensures schedule { KeepsSchedule ctx.old ctx.new }
     // The store is full only where it has no room for a clause of all variables.
     ensures full { IfErr result (λ error. error ≡ StepError.Full → HasNoRoom ctx.new) }
+    // Then there are as many variables as before.
+    ensures size { IfErr result (λ error. error ≡ StepError.Full → length ctx.new.assignment.current ≡ length ctx.old.assignment.current) }
     ensures broken { IfErr result (λ error. BreaksOff P.breaks_off proof.old (step_faults error) proof.new) }
 {
     match settle_units(ctx, proof)? {

@@ -4,11 +4,13 @@ ghost use Rattle.varisat_clause.specs.Stores.{stored_clauses};
 ghost use Rattle.varisat_clause.specs.Collected.{IsCollected};
 ghost use Rattle.varisat_analysis.specs.Collections.{Repacks};
 ghost use Rattle.varisat_search.specs.Contexts.{view, IsReady};
+ghost use Rattle.varisat_search.specs.Frames.{ChangesPlaces};
 
 use crate::context::Context;
 use std::alloc::{AllocError, Allocator};
 use varisat_analysis::reasons::repoint_reasons;
 use varisat_clause::collect::{collected, is_collection_due};
+use varisat_schedule::counters::count;
 
 /// Moves the clauses that are not deleted to a new store, in which they stand one after another. Reasons follow, and
 /// the watch lists are switched off, since they name clauses by their old places. A refused growth changes nothing.
@@ -18,12 +20,7 @@ fn collect<A: Allocator + Copy>(ctx: &mut Context<A>) -> Result<(), AllocError>
     ensures repacks { OnOk result (Repacks (view ctx.old) (view ctx.new)) }
     ensures off { OnOk result (ctx.new.watchlists.enabled ≡ false) }
     ensures ready { OnOk result (IsReady ctx.new) }
-    ensures kept { ctx.new ≡ record ctx.old {
-      clause_alloc = ctx.new.clause_alloc;
-      clause_db = ctx.new.clause_db;
-      impl_graph = ctx.new.impl_graph;
-      watchlists = ctx.new.watchlists;
-    } }
+    ensures kept { ChangesPlaces ctx.old ctx.new }
     ensures refused { OnErr result (ctx.new ≡ ctx.old) }
 {
     let (new_alloc, new_db) = collected(&ctx.clause_alloc, &ctx.clause_db)?;
@@ -36,6 +33,7 @@ fn collect<A: Allocator + Copy>(ctx: &mut Context<A>) -> Result<(), AllocError>
     ctx.clause_alloc = new_alloc;
     ctx.clause_db = new_db;
     ctx.watchlists.disable();
+    count(&mut ctx.counters.collections, 1);
     Ok(())
 }
 
@@ -49,12 +47,7 @@ pub fn collect_garbage<A: Allocator + Copy>(ctx: &mut Context<A>) -> Result<(), 
     ensures off { OnOk result (length ctx.old.clause_alloc.words < 2 * ctx.old.clause_db.garbage → ctx.new.watchlists.enabled ≡ false) }
     ensures stays { OnOk result (2 * ctx.old.clause_db.garbage ≤ length ctx.old.clause_alloc.words → ctx.new ≡ ctx.old) }
     ensures ready { OnOk result (IsReady ctx.new) }
-    ensures kept { ctx.new ≡ record ctx.old {
-      clause_alloc = ctx.new.clause_alloc;
-      clause_db = ctx.new.clause_db;
-      impl_graph = ctx.new.impl_graph;
-      watchlists = ctx.new.watchlists;
-    } }
+    ensures kept { ChangesPlaces ctx.old ctx.new }
     ensures refused { OnErr result (ctx.new ≡ ctx.old) }
 {
     if !is_collection_due(&ctx.clause_alloc, &ctx.clause_db) {

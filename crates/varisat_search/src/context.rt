@@ -1,13 +1,16 @@
 //! All parts of a search.
-ghost use Rattle.std.specs.Prelude.{◌≡◌, None, Some, MatchResult, ℕ, ◌≤◌, ◌-◌, ◌++◌, [], length, replicate, slice_index_or, false, OnOk};
+ghost use Rattle.std.specs.Prelude.{◌≡◌, None, Some, MatchResult, ℕ, ◌≤◌, ◌+◌, ◌-◌, ◌^◌, ◌++◌, [], length, min, replicate, slice_index_or, false, OnOk};
 ghost use Rattle.std.specs.Option.{unwrap_or};
 ghost use Rattle.varisat_search.specs.Contexts.{view, IsReady, first_state};
+ghost use Rattle.varisat_search.specs.Frames.{ChangesVariables};
 ghost use Rattle.varisat_search.specs.AssumptionParts.{no_assumptions};
 ghost use Rattle.varisat_search.specs.ContextChanges.{CanRaise, IsRaisedTo};
 ghost use Rattle.varisat_search.specs.Seen.{search_of, first_search};
 ghost use Rattle.varisat_search.specs.Decisions.{IsDecidable, SameDecidable};
 ghost use Rattle.varisat_names.specs.Settings.{default_settings, first_bad, updated_settings};
+ghost use Rattle.varisat_prop.specs.Parts.{top_level_count};
 ghost use Rattle.varisat_schedule.specs.Plans.{first_plan};
+ghost use Rattle.varisat_clause.specs.Stores.{no_store};
 ghost use Rattle.varisat_vsids.specs.Activities.{no_activities, raised_to};
 
 use crate::assumptions::Assumptions;
@@ -21,6 +24,7 @@ use varisat_names::config::{ConfigError, SolverConfig, SolverConfigUpdate};
 use varisat_prop::binary::BinaryClauses;
 use varisat_prop::clause::ClauseAlloc;
 use varisat_prop::prop::{Assignment, ImplGraph, Trail, Watchlists};
+use varisat_schedule::counters::Counters;
 use varisat_schedule::schedule::Schedule;
 use varisat_vsids::Vsids;
 
@@ -34,6 +38,7 @@ pub struct Context<A: Allocator + Copy> {
     pub clause_activity: ClauseActivity,
     pub clause_alloc: ClauseAlloc<A>,
     pub clause_db: ClauseDb<A>,
+    pub counters: Counters,
     pub impl_graph: ImplGraph<A>,
     pub schedule: Schedule,
     pub solver_config: SolverConfig,
@@ -52,6 +57,7 @@ impl<A: Allocator + Copy> Context<A> {
         ensures undecided { result.trail.decisions ≡ [] }
         ensures seen { search_of (view result) ≡ first_search }
         ensures empty { length result.assignment.current ≡ 0 }
+        ensures unstored { result.clause_alloc ≡ no_store }
         ensures state { result.solver_state ≡ first_state }
         ensures schedule { result.schedule ≡ first_plan }
         ensures assumptions { result.assumptions ≡ no_assumptions }
@@ -67,6 +73,7 @@ impl<A: Allocator + Copy> Context<A> {
             clause_activity: ClauseActivity::new(),
             clause_alloc: ClauseAlloc::new_in(alloc),
             clause_db: ClauseDb::new_in(alloc),
+            counters: Counters::default(),
             impl_graph: ImplGraph::new_in(alloc),
             schedule: Schedule::new(),
             solver_config: SolverConfig::new(),
@@ -77,6 +84,14 @@ impl<A: Allocator + Copy> Context<A> {
             vsids: Vsids::new_in(alloc),
             watchlists: Watchlists::new_in(alloc),
         }
+    }
+
+    /// How many literals became true at level 0: those of the trail, and those that left it with their variables.
+    pub fn top_level_assignment_count(&self) -> u64
+        ensures { result ≡ min (top_level_count self.now.trail + self.now.counters.removed_units) (2 ^ 64 - 1) }
+    {
+        let standing = self.trail.top_level_assignment_count() as u64;
+        standing.saturating_add(self.counters.removed_units)
     }
 
     /// Changes the settings for which there are values. If some value is out of its range, the first such setting is
@@ -118,15 +133,7 @@ pub fn set_var_count<A: Allocator + Copy>(
     ensures last { OnOk result (ctx.new.assignment.last ≡ ctx.old.assignment.last ++ replicate (count - length ctx.old.assignment.current) false) }
     ensures activities { OnOk result (ctx.new.vsids ≡ raised_to count ctx.old.vsids) }
     ensures decidable { OnOk result (SameDecidable (view ctx.old) ctx.old.vsids (view ctx.new) ctx.new.vsids) }
-    ensures kept { ctx.new ≡ record ctx.old {
-      analyze_conflict = ctx.new.analyze_conflict;
-      assignment = ctx.new.assignment;
-      binary_clauses = ctx.new.binary_clauses;
-      impl_graph = ctx.new.impl_graph;
-      tmp_flags = ctx.new.tmp_flags;
-      vsids = ctx.new.vsids;
-      watchlists = ctx.new.watchlists;
-    } }
+    ensures kept { ChangesVariables ctx.old ctx.new }
 {
     ctx.analyze_conflict.set_var_count(count)?;
     ctx.assignment.set_var_count(count)?;

@@ -7,6 +7,7 @@ ghost use Rattle.varisat_prop.specs.View.{WellFormed, kept};
 ghost use Rattle.varisat_prop.specs.Changes.{IsAssignable, decided_on};
 ghost use Rattle.varisat_vsids.specs.Activities.{with_available};
 ghost use Rattle.varisat_search.specs.Contexts.{view, IsReady};
+ghost use Rattle.varisat_search.specs.Frames.{ChangesDecisions, ChangesTrail, ChangesVariables, GoesForward};
 ghost use Rattle.varisat_search.specs.ContextChanges.{CanRaise, IsRaisedTo};
 ghost use Rattle.varisat_search.specs.Steps.{IsFree, IsTotal};
 ghost use Rattle.varisat_search.specs.Decisions.{CanDecide, IsDecidable, SameDecidable, SameDecidableBut, AddsDecidable, IsNextDecision, TakesUnassigned, initialized};
@@ -15,6 +16,7 @@ use crate::context::{Context, set_var_count};
 use std::alloc::{AllocError, Allocator};
 use varisat_literals::{Lit, Var};
 use varisat_prop::prop::{Assignment, Reason, enqueue_assignment};
+use varisat_schedule::counters::count;
 pub use varisat_vsids::Vsids;
 
 /// Takes out available variables, of greatest activity first, until one has no value.
@@ -39,8 +41,7 @@ pub fn decide_lit<A: Allocator + Copy>(ctx: &mut Context<A>, lit: Lit) -> Result
     requires { IsAssignable ctx.old.assignment.current ctx.old.impl_graph.nodes.items lit }
     ensures decided { OnOk result (view ctx.new ≡ decided_on (view ctx.old) lit) }
     ensures last { OnOk result (ctx.new.assignment.last ≡ ctx.old.assignment.last) }
-    ensures units { OnOk result (ctx.new.trail.units_removed ≡ ctx.old.trail.units_removed) }
-    ensures kept { ctx.new ≡ record ctx.old { assignment = ctx.new.assignment; impl_graph = ctx.new.impl_graph; trail = ctx.new.trail } }
+    ensures kept { ChangesTrail ctx.old ctx.new }
 {
     ctx.trail.new_decision_level()?;
     enqueue_assignment(
@@ -50,6 +51,7 @@ pub fn decide_lit<A: Allocator + Copy>(ctx: &mut Context<A>, lit: Lit) -> Result
         lit,
         Reason::Unit,
     )?;
+    count(&mut ctx.counters.decisions, 1);
     Ok(())
 }
 
@@ -64,12 +66,9 @@ pub fn make_decision<A: Allocator + Copy>(ctx: &mut Context<A>) -> Result<bool, 
         × (polarity_of l ≡ slice_index_or ctx.old.assignment.last (variable_of l) false)
         × IsNextDecision ctx.old.assignment.current ctx.old.vsids (variable_of l))
         ((ctx.new ≡ record ctx.old { vsids = ctx.new.vsids }) × IsTotal (view ctx.old))) }
-    ensures same { OnOk result (SameDecidable (view ctx.old) ctx.old.vsids (view ctx.new) ctx.new.vsids) }
+    ensures forward { OnOk result (GoesForward ctx.old ctx.new) }
     ensures decidable { OnOk result (CanDecide (view ctx.new) ctx.new.vsids) }
-    ensures activities { OnOk result (ctx.new.vsids ≡ record ctx.old.vsids { available = ctx.new.vsids.available }) }
-    ensures last { OnOk result (ctx.new.assignment.last ≡ ctx.old.assignment.last) }
-    ensures units { OnOk result (ctx.new.trail.units_removed ≡ ctx.old.trail.units_removed) }
-    ensures kept { ctx.new ≡ record ctx.old { assignment = ctx.new.assignment; impl_graph = ctx.new.impl_graph; trail = ctx.new.trail; vsids = ctx.new.vsids } }
+    ensures kept { ChangesDecisions ctx.old ctx.new }
 {
     let Some(var) = take_unassigned(&mut ctx.vsids, &ctx.assignment) else {
         return Ok(false);
@@ -117,15 +116,7 @@ pub fn add_variables<A: Allocator + Copy>(
     ensures raised { OnOk result (IsRaisedTo count ctx.old ctx.new) }
     ensures decidable { OnOk result (AddsDecidable (length ctx.old.assignment.current) count (view ctx.old) ctx.old.vsids (view ctx.new) ctx.new.vsids) }
     ensures remembered { (v : ℕ) → slice_index_or ctx.new.assignment.last v false ≡ slice_index_or ctx.old.assignment.last v false }
-    ensures kept { ctx.new ≡ record ctx.old {
-      analyze_conflict = ctx.new.analyze_conflict;
-      assignment = ctx.new.assignment;
-      binary_clauses = ctx.new.binary_clauses;
-      impl_graph = ctx.new.impl_graph;
-      tmp_flags = ctx.new.tmp_flags;
-      vsids = ctx.new.vsids;
-      watchlists = ctx.new.watchlists;
-    } }
+    ensures kept { ChangesVariables ctx.old ctx.new }
 {
     let first = ctx.assignment.assignment().len();
     set_var_count(ctx, count)?;

@@ -10,6 +10,7 @@ ghost use Rattle.varisat_clause.specs.Collected.{live_clauses};
 ghost use Rattle.varisat_prop.specs.Leaving.{leaves, cleared, AreRenumbered};
 ghost use Rattle.varisat_prop.specs.View.{kept};
 ghost use Rattle.varisat_search.specs.Contexts.{view, IsReady};
+ghost use Rattle.varisat_search.specs.Frames.{ChangesDecisions};
 ghost use Rattle.varisat_search.specs.Decisions.{IsDecidable};
 ghost use Rattle.varisat_search.specs.Forgotten.{AreStaying, IsWithout, FlagsMentioned, FlagsAlso, FlagsImplying, forgotten_activities, search_without, clauses_without};
 ghost use Rattle.varisat_search.specs.Seen.{search_of};
@@ -22,6 +23,7 @@ use varisat_clause::iter::clauses_iter;
 use varisat_literals::{Lit, Var};
 use varisat_prop::binary::BinaryClauses;
 use varisat_prop::prop::{Assignment, ImplGraph};
+use varisat_schedule::counters::count;
 use varisat_vsids::Vsids;
 
 /// Notes each literal's place as its depth, where these are the literals of the trail.
@@ -82,14 +84,15 @@ pub fn drop_variables<A: Allocator + Copy>(ctx: &mut Context<A>, gone: &[bool])
     ensures decidable { (v : ℕ) → IsDecidable (view ctx.new) ctx.new.vsids v ↔ (IsDecidable (view ctx.old) ctx.old.vsids v × (leaves gone.now v ≡ false)) }
     ensures last { ctx.new.assignment.last ≡ cleared gone.now false ctx.old.assignment.last }
     ensures activities { ctx.new.vsids ≡ forgotten_activities gone.now ctx.old.vsids }
-    ensures units { ctx.new.trail.units_removed ≡ min (ctx.old.trail.units_removed + (length ctx.old.trail.literals - length ctx.new.trail.literals))
-        (2 ^ 64 - 1) }
     // What a proof holds still fits where the clauses that name the variables are left out of it.
     ensures seen { search_of (view ctx.new) ≡ search_without gone.now (search_of (view ctx.old)) }
     ensures fits { (held : List Clause) → Fits held (search_of (view ctx.old)) → Fits (clauses_without gone.now held) (search_of (view ctx.new)) }
-    ensures kept { ctx.new ≡ record ctx.old { assignment = ctx.new.assignment; impl_graph = ctx.new.impl_graph; trail = ctx.new.trail; vsids = ctx.new.vsids } }
+    ensures kept { ChangesDecisions ctx.old ctx.new }
 {
+    let before = ctx.trail.trail().len();
     ctx.trail.remove_units(gone);
+    let removed = before.saturating_sub(ctx.trail.trail().len());
+    count(&mut ctx.counters.removed_units, removed as u64);
     renumber(&mut ctx.impl_graph, ctx.trail.trail());
     forget_values(&mut ctx.assignment, gone);
     forget_activities(&mut ctx.vsids, gone);

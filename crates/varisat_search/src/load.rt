@@ -14,7 +14,8 @@ ghost use Rattle.varisat_prop.specs.View.{WellFormed, kept};
 ghost use Rattle.varisat_prop.specs.Watches.{IsPropagated};
 ghost use Rattle.varisat_search.specs.Contexts.{view, KeepsSchedule, IsReady};
 ghost use Rattle.varisat_search.specs.Steps.{SavesAll, reopened_state};
-ghost use Rattle.varisat_search.specs.Decisions.{AreDecidable, SameDecidable};
+ghost use Rattle.varisat_search.specs.Decisions.{AreDecidable};
+ghost use Rattle.varisat_search.specs.Frames.{ChangesLoaded, KeepsVariables};
 ghost use Rattle.varisat_search.specs.Loading.{HasFalseLiteral, IsHeadAfter, IsAdded, LoadsUnit, LoadsClause, loaded_outcome};
 ghost use Rattle.varisat_trace.specs.Traces.{TakesLines, BreaksOff, faults_of, CanTake, HoldsWith};
 ghost use Rattle.varisat_search.specs.StepErrors.{HasNoRoom, step_faults};
@@ -88,20 +89,10 @@ fn add_distinct<A: Allocator + Copy>(ctx: &mut Context<A>) -> Result<(), StoreEr
     requires distinct { IsDistinct ctx.old.tmp_data.lits.items }
     requires in_range { IsInRange ctx.old.assignment.current ctx.old.tmp_data.lits.items }
     requires untrue { (l : Literal) → l ∈ ctx.old.tmp_data.lits.items → IsMadeTrue ctx.old.assignment.current l → ⊥ }
-    ensures kept { ctx.new ≡ record ctx.old {
-      assignment = ctx.new.assignment;
-      binary_clauses = ctx.new.binary_clauses;
-      clause_alloc = ctx.new.clause_alloc;
-      clause_db = ctx.new.clause_db;
-      impl_graph = ctx.new.impl_graph;
-      solver_state = ctx.new.solver_state;
-      trail = ctx.new.trail;
-      watchlists = ctx.new.watchlists;
-    } }
+    ensures kept { ChangesLoaded ctx.old ctx.new }
     ensures propagated { OnOk result (IsPropagated ctx.new.watchlists (view ctx.new)) }
     ensures tracks { OnOk result (Tracks ctx.new.clause_db ctx.new.clause_alloc) }
     ensures state { OnOk result (ctx.new.solver_state ≡ record ctx.old.solver_state { sat_state = ctx.new.solver_state.sat_state }) }
-    ensures units { OnOk result (ctx.new.trail.units_removed ≡ ctx.old.trail.units_removed) }
     ensures last { OnOk result (ctx.new.assignment.last ≡ ctx.old.assignment.last) }
     ensures added { OnOk result (IsAdded (view ctx.old)
         (view ctx.new) ctx.old.tmp_data.lits.items ctx.old.solver_state.sat_state ctx.new.solver_state.sat_state) }
@@ -182,18 +173,17 @@ pub fn load_clause<A: Allocator + Copy, P: ProofTracer>(
     ensures verdict { OnOk result ((ctx.new.solver_state.sat_state ≡ reopened_state ctx.old.solver_state.sat_state)
         ⊎ (ctx.new.solver_state.sat_state ≡ SatState.Unsat)) }
     ensures assumptions { OnOk result (ctx.old.solver_state.sat_state ≢ SatState.Unsat → ctx.new.assumptions ≡ record ctx.old.assumptions { levels = 0 }) }
-    ensures decidable { OnOk result (SameDecidable (view ctx.old) ctx.old.vsids (view ctx.new) ctx.new.vsids) }
-    ensures decay { OnOk result (ctx.new.vsids.decay ≡ ctx.old.vsids.decay) }
+    ensures keeps { OnOk result (KeepsVariables ctx.old ctx.new) }
     ensures last { OnOk result (ctx.old.solver_state.sat_state ≢ SatState.Unsat → SavesAll (view ctx.old) ctx.old.assignment.last ctx.new.assignment.last) }
     ensures state { OnOk result (ctx.old.solver_state.sat_state ≢ SatState.Unsat →
         ctx.new.solver_state ≡ record ctx.old.solver_state { sat_state = ctx.new.solver_state.sat_state; formula_is_empty = false }) }
-    ensures count { OnOk result (length ctx.new.assignment.current ≡ length ctx.old.assignment.current) }
-    ensures units { OnOk result (ctx.new.trail.units_removed ≡ ctx.old.trail.units_removed) }
     ensures undecided { OnOk result (ctx.old.solver_state.sat_state ≢ SatState.Unsat → ctx.new.trail.decisions ≡ []) }
     ensures single { OnOk result ((l : Literal) → lits.now ≡ l ∷ [] → LoadsUnit (view ctx.old) (view ctx.new) l) }
     ensures schedule { KeepsSchedule ctx.old ctx.new }
     // The store is full only where it has no room for a clause of all variables.
     ensures full { IfErr result (λ error. error ≡ StepError.Full → HasNoRoom ctx.new) }
+    // Then there are as many variables as before.
+    ensures size { IfErr result (λ error. error ≡ StepError.Full → length ctx.new.assignment.current ≡ length ctx.old.assignment.current) }
     ensures broken { IfErr result (λ error. BreaksOff P.breaks_off proof.old (step_faults error) proof.new) }
 {
     if let SatState::Unsat = ctx.solver_state.sat_state {
@@ -240,8 +230,7 @@ pub fn resurrect_unit<A: Allocator + Copy>(ctx: &mut Context<A>, lit: Lit) -> Re
     ensures state { OnOk result (ctx.old.solver_state.sat_state ≢ SatState.Unsat →
         ctx.new.solver_state ≡ record ctx.old.solver_state { sat_state = reopened_state ctx.old.solver_state.sat_state; formula_is_empty = false }) }
     ensures assumptions { OnOk result (ctx.old.solver_state.sat_state ≢ SatState.Unsat → ctx.new.assumptions ≡ record ctx.old.assumptions { levels = 0 }) }
-    ensures decidable { OnOk result (SameDecidable (view ctx.old) ctx.old.vsids (view ctx.new) ctx.new.vsids) }
-    ensures count { OnOk result (length ctx.new.assignment.current ≡ length ctx.old.assignment.current) }
+    ensures keeps { OnOk result (KeepsVariables ctx.old ctx.new) }
     // Where all was propagated at level 0, all is.
     ensures quiet { OnOk result (ctx.old.solver_state.sat_state ≢ SatState.Unsat → ctx.old.trail.decisions ≡ [] →
         ctx.old.trail.queue_head ≡ length ctx.old.trail.literals → ctx.new.trail.queue_head ≡ length ctx.new.trail.literals) }

@@ -4,6 +4,7 @@ ghost use Rattle.varisat_clause.specs.Stores.{stored_clauses, HoldsClauses};
 ghost use Rattle.varisat_clause.specs.Reductions.{mids_reduced};
 ghost use Rattle.varisat_analysis.specs.HeaderChanges.{ChangesHeaders};
 ghost use Rattle.varisat_search.specs.Contexts.{view, IsReady};
+ghost use Rattle.varisat_search.specs.Frames.{ChangesStore, ChangesTiers};
 ghost use Rattle.varisat_search.specs.DueReductions.{MarksReasons, DropsLocals, KeepsSearch};
 ghost use Rattle.varisat_search.specs.Seen.{search_of};
 ghost use Rattle.varisat_trace.specs.Traces.{TakesLines, BreaksOff, faults_of, HoldsFor};
@@ -13,7 +14,9 @@ use crate::trace::trace_deletions;
 use std::alloc::{AllocError, Allocator};
 use varisat_analysis::reasons::mark_reasons;
 pub use varisat_analysis::reasons::{first_var, is_reason_clause};
+use varisat_clause::header::Tier;
 use varisat_clause::reduce;
+use varisat_schedule::counters::count;
 use varisat_trace::{ProofTracer, TraceError};
 
 /// Deletes half of the clauses of the tier Local, rounded down: the least active first, and of equally active ones the
@@ -31,16 +34,22 @@ pub fn reduce_locals<A: Allocator + Copy, P: ProofTracer>(
         ctx.old ctx.new) }
     ensures off { OnOk result (ctx.new.watchlists.enabled ≡ false) }
     ensures failed { OnErr result (MarksReasons ctx.old ctx.new.clause_alloc × (ctx.new ≡ record ctx.old { clause_alloc = ctx.new.clause_alloc })) }
-    ensures kept { ctx.new ≡ record ctx.old { clause_alloc = ctx.new.clause_alloc; clause_db = ctx.new.clause_db; watchlists = ctx.new.watchlists } }
+    ensures kept { ChangesStore ctx.old ctx.new }
     ensures broken { IfErr result (λ error. BreaksOff P.breaks_off proof.old (faults_of error) proof.new) }
 {
     mark_reasons(&ctx.assignment, &mut ctx.clause_alloc, &ctx.impl_graph);
     let locals = reduce::ranked_locals(&ctx.clause_alloc)?;
-    let count = locals.len() / 2;
+    let half = locals.len() / 2;
     // A deleted clause can't be read any more, and a tracer that fails leaves all of them.
-    trace_deletions(proof, &ctx.clause_alloc, &locals, count)?;
-    reduce::delete_unmarked(&mut ctx.clause_alloc, &mut ctx.clause_db, &locals, count);
+    trace_deletions(proof, &ctx.clause_alloc, &locals, half)?;
+    let before = ctx.clause_db.count_by_tier(Tier::Local);
+    reduce::delete_unmarked(&mut ctx.clause_alloc, &mut ctx.clause_db, &locals, half);
     ctx.watchlists.disable();
+    let left = ctx.clause_db.count_by_tier(Tier::Local);
+    count(
+        &mut ctx.counters.deleted_clauses,
+        before.saturating_sub(left) as u64,
+    );
     Ok(())
 }
 
@@ -51,7 +60,7 @@ pub fn reduce_mids<A: Allocator + Copy>(ctx: &mut Context<A>) -> Result<(), Allo
     ensures reduced { OnOk result (HoldsClauses ctx.new.clause_alloc (length ctx.old.clause_alloc.words) (mids_reduced (stored_clauses ctx.old.clause_alloc))) }
     ensures headers { OnOk result (ChangesHeaders (view ctx.old) (view ctx.new)) }
     ensures ready { OnOk result (IsReady ctx.new) }
-    ensures kept { ctx.new ≡ record ctx.old { clause_alloc = ctx.new.clause_alloc; clause_db = ctx.new.clause_db } }
+    ensures kept { ChangesTiers ctx.old ctx.new }
 {
     reduce::reduce_mids(&mut ctx.clause_alloc, &mut ctx.clause_db)?;
     Ok(())

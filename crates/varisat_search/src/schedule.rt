@@ -5,6 +5,7 @@ ghost use Rattle.varisat_schedule.specs.Plans.{step_begun, next_plan};
 ghost use Rattle.varisat_schedule.specs.CallSteps.{IsPlannedStep};
 ghost use Rattle.varisat_search.specs.AssumptionParts.{KeepsAssumptions};
 ghost use Rattle.varisat_search.specs.Contexts.{view, IsReady};
+ghost use Rattle.varisat_search.specs.Frames.{ChangesPlaces, ChangesStore, ChangesTiers, KeepsVariables};
 ghost use Rattle.varisat_search.specs.Decisions.{SameDecidable};
 ghost use Rattle.varisat_search.specs.Progress.{outcome_at, StepsTo};
 ghost use Rattle.varisat_search.specs.FoundCores.{HasCoreIfFailed};
@@ -22,6 +23,7 @@ use crate::levels::restart;
 use crate::reduce::{reduce_locals, reduce_mids};
 use crate::state::SatState;
 use std::alloc::{AllocError, Allocator};
+use varisat_schedule::counters::count;
 pub use varisat_schedule::luby::LubySequence;
 pub use varisat_schedule::schedule::Schedule;
 use varisat_trace::{ProofTracer, TraceError};
@@ -34,11 +36,11 @@ fn restart_if_due<A: Allocator + Copy>(ctx: &mut Context<A>)
     ensures restarted { RestartsIfDue ctx.old.schedule ctx.old.assumptions.levels (view ctx.old) (view ctx.new) }
     ensures saved { SavesIfDue ctx.old.schedule ctx.old.assumptions.levels (view ctx.old) ctx.old.assignment.last ctx.new.assignment.last }
     ensures decidable { SameDecidable (view ctx.old) ctx.old.vsids (view ctx.new) ctx.new.vsids }
-    ensures units { ctx.new.trail.units_removed ≡ ctx.old.trail.units_removed }
     ensures later { ctx.new.schedule.steps < ctx.new.schedule.next_restart }
     ensures decay { ctx.new.vsids.decay ≡ ctx.old.vsids.decay }
     ensures kept { ctx.new ≡ record ctx.old {
       assignment = ctx.new.assignment;
+      counters = ctx.new.counters;
       trail = ctx.new.trail;
       vsids = ctx.new.vsids;
       schedule = step_begun ctx.old.solver_config.luby_restart_interval_scale ctx.old.schedule;
@@ -48,6 +50,7 @@ fn restart_if_due<A: Allocator + Copy>(ctx: &mut Context<A>)
     if !ctx.schedule.begin_step(scale) {
         return;
     }
+    count(&mut ctx.counters.restarts, 1);
     restart(ctx);
 }
 
@@ -61,7 +64,7 @@ fn reduce_locals_if_due<A: Allocator + Copy, P: ProofTracer>(
     ensures keeps { OnOk result (KeepsSearch
         (λ lines. ReducesLocalsIfDue lines ctx.old ctx.new × TakesLines P.takes proof.old lines proof.new)
         ctx.old ctx.new) }
-    ensures kept { ctx.new ≡ record ctx.old { clause_alloc = ctx.new.clause_alloc; clause_db = ctx.new.clause_db; watchlists = ctx.new.watchlists } }
+    ensures kept { ChangesStore ctx.old ctx.new }
     ensures broken { IfErr result (λ error. BreaksOff P.breaks_off proof.old (faults_of error) proof.new) }
 {
     if ctx.schedule.steps() % ctx.solver_config.reduce_locals_interval() == 0 {
@@ -75,7 +78,7 @@ fn reduce_mids_if_due<A: Allocator + Copy>(ctx: &mut Context<A>) -> Result<(), A
     requires { IsReady ctx.old }
     ensures reduces { OnOk result (ReducesMidsIfDue ctx.old ctx.new) }
     ensures keeps { OnOk result (KeepsSearch (λ lines. lines ≡ []) ctx.old ctx.new) }
-    ensures kept { ctx.new ≡ record ctx.old { clause_alloc = ctx.new.clause_alloc; clause_db = ctx.new.clause_db } }
+    ensures kept { ChangesTiers ctx.old ctx.new }
 {
     if ctx.schedule.steps() % ctx.solver_config.reduce_mids_interval() == 0 {
         reduce_mids(ctx)?;
@@ -93,12 +96,7 @@ fn reduce_if_due<A: Allocator + Copy, P: ProofTracer>(
     ensures keeps { OnOk result (KeepsSearch
         (λ lines. ReducesIfDue lines ctx.old ctx.new × TakesLines P.takes proof.old lines proof.new)
         ctx.old ctx.new) }
-    ensures kept { ctx.new ≡ record ctx.old {
-      clause_alloc = ctx.new.clause_alloc;
-      clause_db = ctx.new.clause_db;
-      impl_graph = ctx.new.impl_graph;
-      watchlists = ctx.new.watchlists;
-    } }
+    ensures kept { ChangesPlaces ctx.old ctx.new }
     ensures broken { IfErr result (λ error. BreaksOff P.breaks_off proof.old (faults_of error) proof.new) }
 {
     reduce_locals_if_due(ctx, proof)?;
@@ -124,6 +122,7 @@ pub fn begin_step<A: Allocator + Copy, P: ProofTracer>(
       assignment = ctx.new.assignment;
       clause_alloc = ctx.new.clause_alloc;
       clause_db = ctx.new.clause_db;
+      counters = ctx.new.counters;
       impl_graph = ctx.new.impl_graph;
       schedule = step_begun ctx.old.solver_config.luby_restart_interval_scale ctx.old.schedule;
       trail = ctx.new.trail;
@@ -157,12 +156,9 @@ pub fn schedule_step<A: Allocator + Copy, P: ProofTracer>(
     ensures core { OnOk result (HasCoreIfFailed ctx.new) }
     ensures rises { OnOk result (ctx.new.solver_state.sat_state ≡ SatState.Unknown →
         IsPlannedStep ctx.old.schedule (kinds (view ctx.old)) (kinds (view ctx.new))) }
-    ensures decidable { OnOk result (SameDecidable (view ctx.old) ctx.old.vsids (view ctx.new) ctx.new.vsids) }
-    ensures decay { OnOk result (ctx.new.vsids.decay ≡ ctx.old.vsids.decay) }
+    ensures keeps { OnOk result (KeepsVariables ctx.old ctx.new) }
     ensures last { OnOk result (RestartsAndRemembers ctx.old.schedule ctx.old.assumptions.levels
         (view ctx.old) ctx.old.assignment.last ctx.new.assignment.last) }
-    ensures count { OnOk result (length ctx.new.assignment.current ≡ length ctx.old.assignment.current) }
-    ensures units { OnOk result (ctx.new.trail.units_removed ≡ ctx.old.trail.units_removed) }
     ensures state { OnOk result (ctx.new.solver_state ≡ record ctx.old.solver_state { sat_state = ctx.new.solver_state.sat_state }) }
     ensures schedule { OnOk result (ctx.new.schedule ≡ next_plan ctx.old.solver_config.luby_restart_interval_scale ctx.old.schedule) }
     ensures uncounted { OnErr result (ctx.new.schedule.steps ≡ ctx.old.schedule.steps) }

@@ -9,6 +9,7 @@ ghost use Rattle.varisat_clause.specs.Stores.{stored_clauses, IsSound, HoldsClau
 ghost use Rattle.varisat_prop.specs.Looks.{IsInRange};
 ghost use Rattle.varisat_prop.specs.Simplified.{without_assigned};
 ghost use Rattle.varisat_search.specs.Contexts.{view, IsReady};
+ghost use Rattle.varisat_search.specs.Frames.{ChangesClauses};
 ghost use Rattle.varisat_search.specs.Decisions.{SameDecidable};
 ghost use Rattle.varisat_search.specs.Seen.{search_of};
 ghost use Rattle.varisat_search.specs.SettledUnits.{CanSimplify};
@@ -171,12 +172,7 @@ fn simplify_stored<A: Allocator + Copy, P: ProofTracer>(
     ensures takes { OnOk result (TakesLines P.takes proof.old (clause_lines (view ctx.old)) proof.new) }
     ensures ready { OnOk result (IsReady ctx.new) }
     ensures decidable { OnOk result (SameDecidable (view ctx.old) ctx.old.vsids (view ctx.new) ctx.new.vsids) }
-    ensures kept { ctx.new ≡ record ctx.old {
-      binary_clauses = ctx.new.binary_clauses;
-      clause_alloc = ctx.new.clause_alloc;
-      clause_db = ctx.new.clause_db;
-      watchlists = ctx.new.watchlists;
-    } }
+    ensures kept { ChangesClauses ctx.old ctx.new }
     ensures broken { IfErr result (λ error. BreaksOff P.breaks_off proof.old (faults_of error) proof.new) }
 {
     let alloc = *ctx.tmp_data.lits.allocator();
@@ -209,12 +205,7 @@ pub fn unit_simplify<A: Allocator + Copy, P: ProofTracer>(
     ensures takes { OnOk result (TakesLines P.takes proof.old (pair_lines (view ctx.old) ++ clause_lines (view ctx.old)) proof.new) }
     ensures ready { OnOk result (IsReady ctx.new) }
     ensures decidable { OnOk result (SameDecidable (view ctx.old) ctx.old.vsids (view ctx.new) ctx.new.vsids) }
-    ensures kept { ctx.new ≡ record ctx.old {
-      binary_clauses = ctx.new.binary_clauses;
-      clause_alloc = ctx.new.clause_alloc;
-      clause_db = ctx.new.clause_db;
-      watchlists = ctx.new.watchlists;
-    } }
+    ensures kept { ChangesClauses ctx.old ctx.new }
     ensures broken { IfErr result (λ error. BreaksOff P.breaks_off proof.old (faults_of error) proof.new) }
 {
     simplify_binary(ctx, proof)?;

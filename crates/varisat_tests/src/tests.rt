@@ -3,6 +3,7 @@
 mod assumptions;
 mod calls;
 mod checking;
+mod counting;
 mod lines;
 mod memory;
 mod modes;

@@ -77,6 +77,7 @@ fn solve_prints<S: ByteSource>(
     let options = SolveOptions {
         check,
         max_steps,
+        progress: None,
         format: ProofFormat::Drat,
     };
     let mut no_proof: Option<MemoryTarget<Global>> = None;
@@ -144,7 +145,7 @@ const SESSIONS: [Exchange; 17] = [
 ];
 
 // Sessions under a proof. A line for which memory is refused is the target's failure.
-const PROOF_SESSIONS: [Exchange; 3] = [
+const PROOF_SESSIONS: [Exchange; 4] = [
     (
         "proof text\nadd 1\nadd -1 2\nadd -2 3\nadd -2 -3\nsolve\nadd 4\n",
         "ok\nok\nok\nok\nok\nok false\nok\n",
@@ -157,11 +158,15 @@ const PROOF_SESSIONS: [Exchange; 3] = [
         "proof binary\nadd 1 2\nadd -1 3\nadd 1\nsolve\nmodel\nadd 4\n",
         "ok\nok\nok\nok\nok true\nok 1 -2 3 0\nerr 9\n",
     ),
+    (
+        "proof marked\nadd 1 2\nsolve\nadd -1\nassume -2\nsolve\ncore\nadd -2\nsolve\n",
+        "ok\nok\nok true\nok\nok\nok false\nok -2 0\nok\nok false\n",
+    ),
 ];
 
 // Sessions with ample memory alone: they ask for the steps, which an invalid solver tells too, have settings, or take
 // much memory.
-const AMPLE_SESSIONS: [Exchange; 30] = [
+const AMPLE_SESSIONS: [Exchange; 31] = [
     (
         "steps\nsolve\nsteps\nsolve\nsteps\n",
         "ok 0\nok true\nok 1\nok true\nok 1\n",
@@ -255,6 +260,11 @@ const AMPLE_SESSIONS: [Exchange; 30] = [
         "proof text\nadd 1 2\nassume 1\nsolve\nadd 3\nadd 3\nassume 1\nassume 1\nproof text\nproof text\nclose\nadd 3\nassume 1\nproof binary\nproof binary\n",
         "ok\nok\nerr 10\nok true\nerr 9\nerr 9\nerr 10\nerr 10\nerr 10\nerr 10\nok\nok\nok\nerr 11\nerr 11\n",
     ),
+    // Under a marked proof both are: it has the clauses and the lists as they were given, and the core.
+    (
+        "proof marked\nadd 1 2\nsolve\nadd -1\nassume -2\nsolve\ncore\nadd -2\nsolve\ncore\nclose\n",
+        "ok\nok\nok true\nok\nok\nok false\nok -2 0\nok\nok false\nok 0\nok 692031203220300a69202d3120300a71202d3220300a3220300a642031203220300a66202d3220300a69202d3220300a\n",
+    ),
     // A proof that is opened or closed sets the steps since the last change to 0, a refused one leaves them.
     (
         "solve\nproof text\nsince\nadd 1 2\nsolve\nsince\nassume 1\nadd 3\nproof text\nsince\nclose\nsince\n",
@@ -277,7 +287,7 @@ const AMPLE_SESSIONS: [Exchange; 30] = [
     ),
     (
         "assume\nproof text\nproof\nproof marked\nproof  text\nproof text \nPROOF text\n",
-        "ok\nerr 11\nbad line\nbad line\nbad line\nbad line\nbad line\n",
+        "ok\nerr 11\nbad line\nerr 11\nbad line\nbad line\nbad line\n",
     ),
     // Calls in an odd order.
     (
@@ -469,6 +479,7 @@ fn status_in(alloc: Global, heap: &LocalHeap, check: bool) -> u8 {
     let options = SolveOptions {
         check,
         max_steps: None,
+        progress: None,
         format: ProofFormat::Drat,
     };
     let mut no_proof: Option<MemoryTarget<Global>> = None;

@@ -1,7 +1,8 @@
 //! Calls under an open proof: which of them are refused, and when the target is flushed.
 ghost use Rattle.std.specs.Prelude.{◌≡◌, ℕ, ◌+◌, ◌-◌, ◌<◌, ◌^◌, ◌++◌, take};
 
-use std::alloc::Global;
+use linked_list_allocator::LocalHeap;
+use std::alloc::{AllocError, Allocator, Global};
 use std::io;
 use std::io::ErrorKind;
 use varisat::ProofFormat;
@@ -107,6 +108,7 @@ type Lines = &'static [&'static [&'static [u8]]];
 enum TestCall {
     MaxSteps(u64),
     Open,
+    OpenMarked,
     Add(&'static [i32]),
     Assume(&'static [i32]),
     Witness(u32),
@@ -118,7 +120,8 @@ enum TestCall {
 }
 
 use TestCall::{
-    Add, Assume, Close, CloseLines, CloseNone, IsInvalid, MaxSteps, Open, Solve, Witness,
+    Add, Assume, Close, CloseLines, CloseNone, IsInvalid, MaxSteps, Open, OpenMarked, Solve,
+    Witness,
 };
 
 /// What a call comes to.
@@ -140,7 +143,42 @@ type Row = (Cuts, &'static [(TestCall, Outcome)]);
 // A target that does not fail.
 const WHOLE: Cuts = (0, false, 0);
 
-const ROWS: [Row; 14] = [
+const ROWS: [Row; 16] = [
+    // Under a marked proof clauses and assumptions go on, and are refused for their names as ever.
+    (
+        WHOLE,
+        &[
+            (Witness(3), Done),
+            (OpenMarked, Done),
+            (Assume(&[3]), Refused(6)),
+            (Add(&[1, 2]), Done),
+            (Solve, Satisfiable),
+            (Add(&[3]), Refused(6)),
+            (Add(&[-1]), Done),
+            (Assume(&[1, 268435457]), Refused(7)),
+            (Assume(&[-2]), Done),
+            (Solve, Unsatisfiable),
+            (OpenMarked, Refused(10)),
+            (
+                Close(b"i 1 2 0\ni -1 0\nq -2 0\n2 0\nd 1 2 0\nf -2 0\n", 3),
+                Done,
+            ),
+            (OpenMarked, Refused(11)),
+        ],
+    ),
+    // Its target fails as a list of assumptions is told, of which it takes a byte.
+    (
+        (2, true, 0),
+        &[
+            (OpenMarked, Done),
+            (Add(&[1, 2]), Done),
+            (Assume(&[-1]), Refused(2)),
+            (IsInvalid, Done),
+            (Assume(&[-1]), Refused(4)),
+            (Close(b"i 1 2 0\nq", 0), Done),
+            (CloseNone, Done),
+        ],
+    ),
     // Once `solve` was called under the proof each clause is refused, and each list of assumptions from its beginning on.
     (
         WHOLE,
@@ -383,10 +421,10 @@ fn limit(solver: &mut CutSolver, max_steps: u64) -> Outcome {
     outcome_of(&solver.config(&update))
 }
 
-fn open_proof(solver: &mut CutSolver, target: CuttingTarget) -> Outcome
+fn open_proof(solver: &mut CutSolver, target: CuttingTarget, format: ProofFormat) -> Outcome
     requires { target.faults < 2 ^ 64 - 1 }
 {
-    match solver.write_proof(target, ProofFormat::Drat) {
+    match solver.write_proof(target, format) {
         Ok(()) => Done,
         Err((error, target)) => {
             drop(target);
@@ -461,7 +499,8 @@ fn close_without(solver: &mut CutSolver) -> Outcome {
 fn make_call(alloc: Global, solver: &mut CutSolver, cuts: Cuts, call: TestCall) -> Outcome {
     match call {
         MaxSteps(count) => limit(solver, count),
-        Open => open_proof(solver, CuttingTarget::new(alloc, cuts)),
+        Open => open_proof(solver, CuttingTarget::new(alloc, cuts), ProofFormat::Drat),
+        OpenMarked => open_proof(solver, CuttingTarget::new(alloc, cuts), ProofFormat::Marked),
         Add(numbers) => add_numbers(solver, numbers),
         Assume(numbers) => assume_numbers(solver, numbers),
         Witness(number) => make_witness(solver, number),
@@ -502,4 +541,167 @@ fn calls_under_a_proof(rt: HostRuntime) {
         let wrong = first_wrong_in_new(rt.alloc(), row);
         assert!(rt; wrong.is_none(), "row {place}: {wrong:?}");
     }
+}
+
+// Calls under a marked proof, with what each comes to where the target doesn't fail, and the lines that it takes.
+const MARKED_CALLS: [(TestCall, Outcome); 8] = [
+    (OpenMarked, Done),
+    (Add(&[1, 2]), Done),
+    (Solve, Satisfiable),
+    (Add(&[-1]), Done),
+    (Assume(&[-2]), Done),
+    (Solve, Unsatisfiable),
+    (Add(&[-2]), Done),
+    (Solve, Unsatisfiable),
+];
+
+const MARKED_LINES: [&[u8]; 7] = [
+    b"i 1 2 0\n",
+    b"i -1 0\n",
+    b"q -2 0\n",
+    b"2 0\n",
+    b"d 1 2 0\n",
+    b"f -2 0\n",
+    b"i -2 0\n",
+];
+
+// How many of these calls come to an error of the target, if each before it comes to what it should, and none behind it to
+// anything, since the solver is invalid then.
+fn marked_failures(alloc: Global, solver: &mut CutSolver, cuts: Cuts) -> Option<u64> {
+    let mut failures = 0;
+    for (call, wanted) in &MARKED_CALLS {
+        let outcome = make_call(alloc, solver, cuts, *call);
+        if failures > 0 {
+            if outcome != Refused(4) {
+                return None;
+            }
+        } else if outcome == Refused(2) {
+            failures = 1;
+        } else if outcome != *wanted {
+            return None;
+        }
+    }
+    Some(failures)
+}
+
+// Whether the bytes are so many whole lines, and as many bytes of the next one.
+fn are_first_lines(bytes: &[u8], lines: usize, more: usize) -> bool {
+    let mut rest = bytes;
+    for line in &MARKED_LINES[..lines.min(7)] {
+        match rest.strip_prefix(*line) {
+            Some(behind) => rest = behind,
+            None => return false,
+        }
+    }
+    if lines >= MARKED_LINES.len() {
+        return rest.is_empty();
+    }
+    rest.len() == more && MARKED_LINES[lines].starts_with(rest)
+}
+
+// Whether the target fails once in all, and has these lines then: in one of the calls, or as its proof closes.
+fn fails_once(
+    alloc: Global,
+    solver: &mut CutSolver,
+    cuts: Cuts,
+    lines: usize,
+    more: usize,
+) -> bool {
+    let Some(failures) = marked_failures(alloc, solver, cuts) else {
+        return false;
+    };
+    let (closings, target) = match solver.close_proof() {
+        Ok(None) => return false,
+        Ok(Some(target)) => (0, target),
+        Err((error, target)) => (u64::from(error.number() == 2), target),
+    };
+    failures.saturating_add(closings) == 1
+        && target.faults == 1
+        && are_first_lines(&target.bytes, lines, more)
+}
+
+// The same of a new solver.
+fn fails_once_in_new(alloc: Global, cuts: Cuts, lines: usize, more: usize) -> bool {
+    let mut solver = Solver::new_in(alloc);
+    let is_right = fails_once(alloc, &mut solver, cuts, lines, more);
+    drop(solver);
+    is_right
+}
+
+// Each line is one `put`.
+#[test]
+fn each_line_of_a_marked_proof_may_fail(rt: HostRuntime) {
+    for line in 0..7 {
+        for takes_one in [false, true] {
+            let cuts = (line as u64 + 1, takes_one, 0);
+            assert!(rt;
+                fails_once_in_new(rt.alloc(), cuts, line, usize::from(takes_one)),
+                "line {line}, takes a byte: {takes_one}"
+            );
+        }
+    }
+}
+
+// Each call of `solve` flushes, and so does the closing.
+#[test]
+fn each_flush_of_a_marked_proof_may_fail(rt: HostRuntime) {
+    for (place, lines) in [1, 6, 7, 7].iter().enumerate() {
+        let cuts = (0, false, (place as u64).saturating_add(1));
+        assert!(rt;
+            fails_once_in_new(rt.alloc(), cuts, *lines, 0),
+            "flush {place}"
+        );
+    }
+}
+
+// What `assume` comes to under a marked proof, in a solver with this memory.
+fn assume_within<A: Allocator + Copy>(
+    alloc: Global,
+    solver: &mut Solver<CuttingTarget, A>,
+    cuts: Cuts,
+) -> Outcome {
+    if let Err((_, target)) = solver.write_proof(
+        CuttingTarget::new(alloc, cuts),
+        ProofFormat::Marked,
+    ) {
+        drop(target);
+    }
+    if solver.add_clause(&literals(&[1, 2])[..2]).is_err() {
+        return Outcome::Wrong;
+    }
+    outcome_of(&solver.assume(&literals(&[-1, 3, 4])[..3]))
+}
+
+fn assume_in<A: Allocator + Copy>(alloc: Global, memory: A, cuts: Cuts) -> Outcome {
+    let mut solver = Solver::new_in(memory);
+    let outcome = assume_within(alloc, &mut solver, cuts);
+    match solver.close_proof() {
+        Ok(target) => drop(target),
+        Err((_, target)) => drop(target),
+    }
+    drop(solver);
+    outcome
+}
+
+// The same on a heap of that many times 16 bytes.
+fn assume_with(alloc: Global, room: usize, cuts: Cuts) -> Result<Outcome, AllocError> {
+    let heap = LocalHeap::new(alloc, room.saturating_mul(16))?;
+    Ok(assume_in(alloc, &heap, cuts))
+}
+
+// Where a list of assumptions has no room, that is told, also if the target would fail.
+#[test]
+fn memory_is_asked_for_before_a_target(rt: HostRuntime) {
+    let mut reached = [false; 2];
+    for room in 0..400 {
+        let whole = assume_with(rt.alloc(), room, WHOLE);
+        let failing = assume_with(rt.alloc(), room, (2, false, 0));
+        match (whole, failing) {
+            (Ok(Outcome::Wrong), Ok(Outcome::Wrong)) => {}
+            (Ok(Refused(3)), Ok(Refused(3))) => reached[0] = true,
+            (Ok(Done), Ok(Refused(2))) => reached[1] = true,
+            other => panic!(rt; "with {room}: {other:?}"),
+        }
+    }
+    assert!(rt; reached == [true, true], "{reached:?}");
 }

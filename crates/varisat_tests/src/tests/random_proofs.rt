@@ -3,11 +3,11 @@ ghost use Rattle.std.specs.Prelude.{◌<◌, ◌≤◌};
 
 use rand_core::Rng;
 use rand_pcg::Pcg32;
-use std::alloc::Global;
+use std::alloc::{AllocError, Global};
 use varisat::ProofFormat;
-use varisat::checker::{CheckVerdict, Checker};
+use varisat::checker::{CheckVerdict, Checker, MarkedReport};
 use varisat::solver::{Solver, SolverError};
-use varisat_formula::formula::{Lit, Var};
+use varisat_formula::formula::{CnfFormula, Lit, Var};
 use varisat_formula::io::{MemoryTarget, ReadSource};
 use varisat_names::config::SolverConfigUpdate;
 
@@ -194,4 +194,217 @@ fn proofs_are_accepted(rt: HostRuntime) {
         }
     }
     assert!(rt; counts.iter().all(|count| *count > 0), "{counts:?}");
+}
+
+// How many sessions of each test have a marked proof, and how many rounds of clauses, assumptions and calls of `solve` each
+// has. The tests are four, so that none takes long.
+const SESSIONS: u64 = 500;
+
+const ROUNDS: u64 = 4;
+
+// What a marked proof should tell: the clauses that were accepted, and the cores that were found, each with the number of
+// clauses before it. And whether the verdict of the last round came of one of these cores.
+#[derive(Drop)]
+struct Journal {
+    inputs: CnfFormula<Global>,
+    cores: Vec<(usize, Vec<Lit, Global>), Global>,
+    is_told: bool,
+}
+
+// Whether the clauses alone are known to be unsatisfiable.
+fn is_refuted(solver: &TestSolver) -> bool {
+    match solver.failed_core() {
+        Some(core) => core.is_empty(),
+        None => false,
+    }
+}
+
+// Adds random clauses, some with repeated literals, of which those are told that are not dropped.
+fn add_more(
+    solver: &mut TestSolver,
+    journal: &mut Journal,
+    numbers: &mut Pcg32,
+    names: u32,
+) -> Result<(), SolverError>
+    requires positive { 0 < names }
+    requires few { names ≤ 100 }
+{
+    for _ in 0..below(numbers, 12) {
+        let (literals, count) = next_clause(numbers, names);
+        let clause = &literals[..count.min(4)];
+        if !is_refuted(solver) {
+            let _ = journal.inputs.add_clause(clause);
+        }
+        solver.add_clause(clause)?;
+    }
+    Ok(())
+}
+
+fn tell_core(alloc: Global, journal: &mut Journal, core: &[Lit]) -> Result<(), AllocError> {
+    let copy = Vec::from_slice(alloc, core)?;
+    journal.cores.push((journal.inputs.len(), copy))?;
+    Ok(())
+}
+
+// Assumes a random list, mostly, and solves. A core that is found then is told.
+fn solve_round(
+    alloc: Global,
+    solver: &mut TestSolver,
+    journal: &mut Journal,
+    numbers: &mut Pcg32,
+    names: u32,
+) -> Result<(), SolverError>
+    requires positive { 0 < names }
+    requires few { names ≤ 100 }
+{
+    if below(numbers, 4) > 0 {
+        let (literals, count) = next_clause(numbers, names);
+        solver.assume(&literals[..count.min(4)])?;
+        journal.is_told = false;
+    }
+    if decide(solver, 4)? != Some(false) || is_refuted(solver) || journal.is_told {
+        return Ok(());
+    }
+    if let Some(core) = solver.failed_core() {
+        journal.is_told = tell_core(alloc, journal, core).is_ok();
+    }
+    Ok(())
+}
+
+fn play_rounds(
+    alloc: Global,
+    solver: &mut TestSolver,
+    journal: &mut Journal,
+    numbers: &mut Pcg32,
+) -> Result<(), SolverError> {
+    solver.config(&next_settings(numbers))?;
+    let names = below(numbers, 7) + 3;
+    for _ in 0..ROUNDS {
+        add_more(solver, journal, numbers, names)?;
+        solve_round(alloc, solver, journal, numbers, names)?;
+    }
+    Ok(())
+}
+
+// Whether the first clauses are just those that are told.
+fn begin_with(clauses: &CnfFormula<Global>, told: &CnfFormula<Global>) -> bool {
+    let mut rest = clauses.iter();
+    for clause in told.iter() {
+        match rest.next() {
+            Some(given) if given == clause => {}
+            _ => return false,
+        }
+    }
+    true
+}
+
+// Whether both cores have the same literals and the same number of clauses before them.
+fn is_same_core(one: &(usize, Vec<Lit, Global>), other: &(usize, Vec<Lit, Global>)) -> bool {
+    one.0 == other.0
+        && one.1.iter().all(|lit| other.1.contains(lit))
+        && other.1.iter().all(|lit| one.1.contains(lit))
+}
+
+// Whether a report is that of the session: its clauses and its cores are the first ones, and all where it does not
+// refute; and it refutes where the clauses alone were found to be unsatisfiable.
+fn is_report_of(report: &MarkedReport<Global>, journal: &Journal, refuted: bool) -> bool {
+    let cores = report.cores.len();
+    let is_first = begin_with(&journal.inputs, &report.inputs)
+        && cores <= journal.cores.len()
+        && report
+            .cores
+            .iter()
+            .zip(journal.cores.iter())
+            .all(|(one, other)| is_same_core(one, other));
+    match report.verdict {
+        CheckVerdict::Refutation => is_first,
+        CheckVerdict::Derivation => {
+            is_first
+                && !refuted
+                && cores == journal.cores.len()
+                && report.inputs.len() == journal.inputs.len()
+        }
+    }
+}
+
+// How many cores a check of the target's bytes tells, from no clause, if it tells what the session was.
+fn checked_cores(
+    alloc: Global,
+    target: &MemoryTarget<Global>,
+    journal: &Journal,
+    refuted: bool,
+) -> Option<usize> {
+    let mut checker = Checker::new_in(alloc);
+    let mut proof = ReadSource::new(target.bytes());
+    let report = checker.check_marked(&mut proof).ok();
+    drop(checker);
+    let report = report?;
+    if is_report_of(&report, journal, refuted) {
+        Some(report.cores.len())
+    } else {
+        None
+    }
+}
+
+// The same of the session of the number.
+fn check_session(alloc: Global, solver: &mut TestSolver, number: u64) -> Option<usize> {
+    let mut numbers = Pcg32::new(number, 1);
+    let mut journal = Journal {
+        inputs: CnfFormula::new_in(alloc),
+        cores: Vec::new(alloc),
+        is_told: false,
+    };
+    let opened = solver.write_proof(MemoryTarget::new_in(alloc), ProofFormat::Marked);
+    drop(opened);
+    play_rounds(alloc, solver, &mut journal, &mut numbers).ok()?;
+    let refuted = is_refuted(solver);
+    match solver.close_proof() {
+        Ok(Some(target)) => checked_cores(alloc, &target, &journal, refuted),
+        _ => None,
+    }
+}
+
+fn check_session_in_new(alloc: Global, number: u64) -> Option<usize> {
+    let mut solver = Solver::new_in(alloc);
+    let cores = check_session(alloc, &mut solver, number);
+    drop(solver);
+    cores
+}
+
+// How many cores the sessions of these numbers have, if each is told as it was.
+fn check_sessions(alloc: Global, first: u64) -> Option<usize> {
+    let mut all: usize = 0;
+    for number in 0..SESSIONS {
+        let cores = check_session_in_new(alloc, first.saturating_add(number))?;
+        all = all.saturating_add(cores);
+    }
+    Some(all)
+}
+
+// Whether they are, and have enough cores.
+fn are_told(alloc: Global, first: u64) -> bool {
+    match check_sessions(alloc, first) {
+        Some(cores) => cores > 200,
+        None => false,
+    }
+}
+
+#[test]
+fn marked_proofs_are_accepted(rt: HostRuntime) {
+    assert!(rt; are_told(rt.alloc(), 0));
+}
+
+#[test]
+fn more_marked_proofs_are_accepted(rt: HostRuntime) {
+    assert!(rt; are_told(rt.alloc(), 500));
+}
+
+#[test]
+fn third_marked_proofs_are_accepted(rt: HostRuntime) {
+    assert!(rt; are_told(rt.alloc(), 1000));
+}
+
+#[test]
+fn fourth_marked_proofs_are_accepted(rt: HostRuntime) {
+    assert!(rt; are_told(rt.alloc(), 1500));
 }

@@ -2,7 +2,7 @@ use Rattle.varisat_search.specs.declared.error.StepError.TheVariants as step
 use Rattle.varisat_search.specs.StepErrors.{step_faults, HasNoRoom}
 use Rattle.varisat_trace.proofs.Broken.{passed-on}
 -- What each part did to the maps and to the search.
-use Rattle.std.proofs.Common.{None, ◌≡◌, ◌≢◌, ◌++◌, ◌∷◌, [], List, false, sym, ap, ap₂, ◌∙◌, subst, refl, length, map}
+use Rattle.std.proofs.Common.{None, ◌≡◌, ◌≢◌, ◌≤◌, arith, ◌++◌, ◌∷◌, [], List, false, sym, ap, ap₂, ◌∙◌, subst, refl, length, map}
 use Rattle.std.specs.Option.{IsSome}
 use Rattle.varisat_theory.specs.Membership.{◌∈◌}
 use Rattle.varisat_theory.specs.Literals.{variable_of}
@@ -38,7 +38,7 @@ use Rattle.varisat.proofs.ReturnedVariables.{reopened-not, no-model-reopened, re
 use Rattle.varisat.proofs.SolversInTurn.{with_names, HaveSolvers, have-solvers-then, has-variables, can-have-room, over-leads, over-carried, all-named, literals-within, literals-decidable}
 use Rattle.varisat.proofs.TableMarks.{marks-bounded, joined-same, assumed-joined}
 use Rattle.varisat.proofs.CheckedHeld.{relied-open}
-use Rattle.varisat.proofs.AcceptClause.{clause-accepted}
+use Rattle.varisat.proofs.AcceptClause.{clause-accepted, few-made}
 use Rattle.varisat.proofs.SolverSteps.{some-through}
 use Rattle.varisat.proofs.VariablesInUse.{same-in-use, tables-in-use}
 use Rattle.varisat_search.proofs.SolverVariables.{in-use-all}
@@ -165,9 +165,9 @@ returns-clause-kept g c =
     subst (λ (t : Tables). IsKept t new) (sym (same-tables g c)) (record {
       bounded = marks-bounded taken joined k.bounded marks;
       ready = r.ready;
-      count = r.count ∙ k.count ∙ sym long;
+      count = r.keeps.count ∙ k.count ∙ sym long;
       decidable = tables-in-use taken joined (view new) new.vsids mark.solvers
-          (same-in-use taken (view mid) mid.vsids (view new) new.vsids k.decidable r.decidable);
+          (same-in-use taken (view mid) mid.vsids (view new) new.vsids k.decidable r.keeps.decidable);
       assumed = λ l h. subst (λ (m : BiMap). IsSome (at m.forward (variable_of l))) (sym mark.users) (k.assumed l (subst (λ ls. l ∈ ls) user h));
       marked = λ l z h f. ap (λ (d : VarData). d.assumed) (mark.rest z)
           ∙ k.marked l z (subst (λ ls. l ∈ ls) user h) (ap (λ (m : BiMap). at m.forward (variable_of l)) (sym mark.users) ∙ f);
@@ -228,10 +228,10 @@ returns-clause-accepted g c s f =
       not_unsat = opened g here;
       all = over-leads to list c.solver_from_user_lits.new.solver_lits.items over;
       are_joined = c.mark_joined.ensures;
-      same_count = r.count;
+      same_count = r.keeps.count;
       well_before = all.kept.ready.well;
       well_new = r.ready.well;
-      in_use = in-use-all m (view new) new.vsids (same-in-use m (view mid) mid.vsids (view new) new.vsids all.kept.decidable r.decidable)
+      in_use = in-use-all m (view new) new.vsids (same-in-use m (view mid) mid.vsids (view new) new.vsids all.kept.decidable r.keeps.decidable)
           r.ready.decidable r.ready.well;
       lines = (r.lines (opened g here)).lines;
       loads = subst (λ xs. Loads (search_of (view mid)) (search_of (view new)) xs (loaded_outcome new.solver_state.sat_state)
@@ -287,3 +287,23 @@ pub returns-in_err-tell_clause-clause-full : goal.returns-in_err-tell_clause-cla
 returns-in_err-tell_clause-clause-full g c =
     passed-on c.from_residual-in_err-tell_clause.result c.in_err-tell_clause.field-0.0 (λ z. z ≡ step.Full → HasNoRoom c.solver_from_user_lits.new.ctx)
     c.from_residual-in_err-tell_clause.ensures (λ f. absurd ((c.in_err-tell_clause.ensures {u = tt}).unstored f))
+
+pub returns-in_err-tell_clause-clause-size : goal.returns-in_err-tell_clause-clause-size
+returns-in_err-tell_clause-clause-size g c =
+    passed-on c.from_residual-in_err-tell_clause.result c.in_err-tell_clause.field-0.0 (λ z. z ≡ step.Full → (s : State) →
+    SpacesFit (spaces_with c.args.tracer.now.variables c.args.tracer.now.proof.checker c.args.ctx.now) s →
+    length c.solver_from_user_lits.new.ctx.assignment.current ≤ (name_all c.args.clause.now s.naming).made)
+    c.from_residual-in_err-tell_clause.ensures (λ f. absurd ((c.in_err-tell_clause.ensures {u = tt}).unstored f))
+
+-- the clause is over no more variables than identities that were made with its names
+pub returns-in_err-load_clause-clause-size : goal.returns-in_err-load_clause-clause-size
+returns-in_err-load_clause-clause-size g c =
+    let here = (goal.at.returns-in_err-load_clause-clause-size g c).In_ok-solver_from_user_lits in
+    passed-on c.from_residual-in_err-load_clause.result c.in_err-load_clause.field-0.0 (λ z. z ≡ step.Full → (s : State) →
+    SpacesFit (spaces_with c.args.tracer.now.variables c.args.tracer.now.proof.checker c.args.ctx.now) s →
+    length c.load_clause.new.ctx.assignment.current ≤ (name_all c.args.clause.now s.naming).made)
+    c.from_residual-in_err-load_clause.ensures (λ f s fit.
+    let same = (c.in_err-load_clause.ensures {u = tt}).size f in
+    let (variables, keep, (w, k)) = all-named-in g here s fit in
+    let few = few-made w _ _ k in
+    omega (arith, same, few))

@@ -12,8 +12,9 @@ use Rattle.varisat.proofs.deciding.decide_in.Goals as goal
 pub returns-in_err-add_dimacs_cnf-clause-fails : goal.returns-in_err-add_dimacs_cnf-clause-fails
 returns-in_err-add_dimacs_cnf-clause-fails g c =
     let taken = g.W.ProofTarget.taken in
-    let s = prepared taken c.args.options.format c.args.options.max_steps c.args.target.now in
-    let x = subst (λ o. StandsFor c.prepare.new.solver (prepared taken c.args.options.format c.args.options.max_steps o)) c.take.ensures.value
+    let s = prepared taken c.args.options.format c.args.options.check c.args.options.max_steps c.args.target.now in
+    let x = subst (λ o. StandsFor c.prepare.new.solver (prepared taken c.args.options.format c.args.options.check c.args.options.max_steps o))
+    c.take.ensures.value
     c.prepare.ensures in
     let (t, a, y) = (c.in_err-add_dimacs_cnf.ensures {u = tt}).call s x in
     passed-on c.from_residual.result c.in_err-add_dimacs_cnf.field-0.0 (λ e. Fails taken s _ _ e) c.from_residual.ensures (AsRead t a)
@@ -21,8 +22,9 @@ returns-in_err-add_dimacs_cnf-clause-fails g c =
 pub returns-in_err-report-clause-fails : goal.returns-in_err-report-clause-fails
 returns-in_err-report-clause-fails g c =
     let taken = g.W.ProofTarget.taken in
-    let s = prepared taken c.args.options.format c.args.options.max_steps c.args.target.now in
-    let x = subst (λ o. StandsFor c.prepare.new.solver (prepared taken c.args.options.format c.args.options.max_steps o)) c.take.ensures.value
+    let s = prepared taken c.args.options.format c.args.options.check c.args.options.max_steps c.args.target.now in
+    let x = subst (λ o. StandsFor c.prepare.new.solver (prepared taken c.args.options.format c.args.options.check c.args.options.max_steps o))
+    c.take.ensures.value
     c.prepare.ensures in
     let (t, a, y) = (c.in_ok-add_dimacs_cnf.ensures {u = tt}).call s x in
     let (u, f, z) = c.in_err-report.ensures {u = tt} t y in
@@ -32,8 +34,9 @@ returns-in_err-report-clause-fails g c =
 pub returns-in_err-back-clause-fails : goal.returns-in_err-back-clause-fails
 returns-in_err-back-clause-fails g c =
     let taken = g.W.ProofTarget.taken in
-    let s = prepared taken c.args.options.format c.args.options.max_steps c.args.target.now in
-    let x = subst (λ o. StandsFor c.prepare.new.solver (prepared taken c.args.options.format c.args.options.max_steps o)) c.take.ensures.value
+    let s = prepared taken c.args.options.format c.args.options.check c.args.options.max_steps c.args.target.now in
+    let x = subst (λ o. StandsFor c.prepare.new.solver (prepared taken c.args.options.format c.args.options.check c.args.options.max_steps o))
+    c.take.ensures.value
     c.prepare.ensures in
     let (t, a, y) = (c.in_ok-add_dimacs_cnf.ensures {u = tt}).call s x in
     let (u, f, z) = c.in_ok-report.ensures {u = tt} t y in
@@ -45,11 +48,12 @@ pub returns-clause-decided : goal.returns-clause-decided
 returns-clause-decided g c =
     let taken = g.W.ProofTarget.taken in
     let format = c.args.options.format in
+    let check = c.args.options.check in
     let limit = c.args.options.max_steps in
-    let x = subst (λ o. StandsFor c.prepare.new.solver (prepared taken format limit o)) c.take.ensures.value c.prepare.ensures in
-    let (t, a, y) = (c.in_ok-add_dimacs_cnf.ensures {u = tt}).call (prepared taken format limit c.args.target.now) x in
+    let x = subst (λ o. StandsFor c.prepare.new.solver (prepared taken format check limit o)) c.take.ensures.value c.prepare.ensures in
+    let (t, a, y) = (c.in_ok-add_dimacs_cnf.ensures {u = tt}).call (prepared taken format check limit c.args.target.now) x in
     let (u, f, z) = c.in_ok-report.ensures {u = tt} t y in
     let report = concluded c.in_ok-report.report in
     let valid = finds-valid t u report f in
     let ok = ap (λ (l : Ledger). l.valid) (sym z.ledger) ∙ valid in
-    proven taken format limit _ _ c.args.target.now c.in_ok-back.back t u report _ a f (proof-of _ u z ok) (z.proof ok).same c.in_ok-back.ensures.handed
+    proven taken format check limit _ _ c.args.target.now c.in_ok-back.back t u report _ a f (proof-of _ u z ok) z.same c.in_ok-back.ensures.handed

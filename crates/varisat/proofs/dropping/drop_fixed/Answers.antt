@@ -3,16 +3,16 @@ use Rattle.varisat_search.proofs.StepErrors.{trace-faults, trace-unfilled}
 use Rattle.varisat_search.specs.StepErrors.{step_faults}
 use Rattle.varisat_trace.proofs.Broken.{passed-on}
 use Rattle.varisat_trace.specs.Traces.{faults_of}
-use Rattle.std.proofs.Common.{◌≡◌, ◌≢◌, Option, inl, inr, ⊎_elim, length, ap, ◌∙◌, sym, subst, refl, arith}
+use Rattle.std.proofs.Common.{◌≡◌, ◌≢◌, inl, inr, ⊎_elim, length, ap, ◌∙◌, sym, subst, refl, arith}
 use Rattle.varisat_prop.specs.Changes.{IsConflicting}
 use Rattle.varisat_search.specs.SettledUnits.{IsUnsettled}
 use Rattle.varisat_search.proofs.FixedLiterals.{fixed-undecided}
 use Rattle.varisat.specs.Dropping.{AreOverAssumed}
 use Rattle.varisat.proofs.LeavesInTime.{failed-there}
 use Rattle.varisat_names.specs.Variables.{Tables}
-use Rattle.varisat_tracer.specs.Tracing.{parts_of, BreaksProof}
-use Rattle.varisat_proof.specs.Proving.{OpenState, ProofParts}
-use Rattle.varisat_tracer.proofs.Telling.{tells-told, breaks-proof, proof-unbroken, proof-breaks-on}
+use Rattle.varisat_tracer.specs.Tracing.{parts_of, open_parts, BreaksProof}
+use Rattle.varisat_proof.specs.Proving.{ProofParts}
+use Rattle.varisat_tracer.proofs.Telling.{tells-told, breaks-proof, open-unbroken, proof-breaks-on}
 use Rattle.varisat.specs.Searches.{TellsSome, ComesOn}
 use Rattle.varisat.specs.Summaries.{undecided_spaces, IsKept}
 use Rattle.varisat.proofs.SearchVerdicts.{kept-on}
@@ -120,7 +120,8 @@ returns-clause-tells g c =
     tells-told c.args.tracer.now.proof c.drop_unneeded.new.tracer.proof given told c.requires.tells
 
 pub returns-then-current_level-gt0-clause-stands : goal.returns-then-current_level-gt0-clause-stands
-returns-then-current_level-gt0-clause-stands g c s fit = comes-nowhere 0 s c.args.tracer.now.proof _ refl fit
+returns-then-current_level-gt0-clause-stands g c s fit = comes-nowhere 0 s c.args.tracer.now.proof _ refl
+    (unknown-undecided c.args.tracer.now.variables c.args.tracer.now.proof.checker c.args.ctx.now s fit) fit
 
 pub returns-then-is_err-clause-stands : goal.returns-then-is_err-clause-stands
 returns-then-is_err-clause-stands g c = begun g (goal.at.returns-then-is_err-clause-stands g c).In-Ok
@@ -136,15 +137,15 @@ returns-clause-stands g c =
     let u = c.drop_listed.new.ctx in
     let z = c.drop_unneeded.new.ctx in
     comes-through 0 0 0 p.proof q.proof last.proof (undecided_spaces p.variables p.proof.checker x) (undecided_spaces q.variables q.proof.checker y)
-    (undecided_spaces last.variables last.proof.checker z) refl (unknown-undecided q.variables q.proof.checker y)
+    (undecided_spaces last.variables last.proof.checker z) refl (λ z. refl) (unknown-undecided q.variables q.proof.checker y)
     (begun g (goal.at.returns-clause-stands g c).In-Ok)
     (comes-through 0 0 0 q.proof r.proof last.proof (undecided_spaces q.variables q.proof.checker y)
-    (undecided_spaces r.variables r.proof.checker u) (undecided_spaces last.variables last.proof.checker z) refl
+    (undecided_spaces r.variables r.proof.checker u) (undecided_spaces last.variables last.proof.checker z) refl (λ z. refl)
     (unknown-undecided r.variables r.proof.checker u)
     (leaving-comes q.proof r.proof (undecided_spaces q.variables q.proof.checker y) (undecided_spaces r.variables r.proof.checker u)
-    (c.in_ok-drop_listed.ensures {u = tt}).leave.stands)
+    (unknown-undecided q.variables q.proof.checker y) (c.in_ok-drop_listed.ensures {u = tt}).leave.stands)
     (leaving-comes r.proof last.proof (undecided_spaces r.variables r.proof.checker u) (undecided_spaces last.variables last.proof.checker z)
-    (c.in_ok-drop_unneeded.ensures {u = tt}).leave.stands))
+    (unknown-undecided r.variables r.proof.checker u) (c.in_ok-drop_unneeded.ensures {u = tt}).leave.stands))
 
 pub returns-then-is_err-clause-within : goal.returns-then-is_err-clause-within
 returns-then-is_err-clause-within g c =
@@ -170,9 +171,8 @@ pub returns-in-Err-clause-full : goal.returns-in-Err-clause-full
 returns-in-Err-clause-full g c = subst (λ z. z ≢ step.Full) (sym c.from.ensures) (trace-unfilled c.in-Err.error)
 
 -- as variables leave, nothing more is written
-unwritten : (p q r : ProofParts) → TellsSome p q → r.opened ≡ q.opened → BreaksProof p 0 r
-unwritten p q r (given, told) same = proof-breaks-on p q r given 0 told
-    (subst (λ (o : Option OpenState). BreaksProof q 0 (record q { opened = o })) (sym same) (proof-unbroken q))
+unwritten : (p q r : ProofParts) → TellsSome p q → open_parts r ≡ open_parts q → BreaksProof p 0 r
+unwritten p q r (given, told) same = proof-breaks-on p q r given 0 told (open-unbroken q r same)
 
 pub returns-in_err-drop_listed-clause-broken : goal.returns-in_err-drop_listed-clause-broken
 returns-in_err-drop_listed-clause-broken g c =

@@ -9,7 +9,7 @@ use Rattle.varisat_names.specs.declared.variables.data.VarData.{VarData}
 use Rattle.varisat_names.proofs.Maps.{updated-at}
 use Rattle.varisat_literals.specs.Numbers.{polarity_of}
 use Rattle.varisat_prop.proofs.ReadElements.{item-∈}
-use Rattle.varisat_tracer.specs.Tracing.{parts_of}
+use Rattle.varisat_tracer.specs.Tracing.{parts_of, open_parts}
 use Rattle.varisat.specs.Dropping.{fixed_to, LosesSolverVar, IsDroppedAlone, AreDroppedAlone, LeavesTables}
 use Rattle.varisat.proofs.ReadPlaces.{take-item, split-item}
 use Rattle.varisat.proofs.PlainTables.{is-there, there-is}
@@ -83,7 +83,7 @@ loop-lit-preserved g c =
           (subst (λ v. LosesSolverVar y v (record before { tables = marked }) last) c.var-solver.ensures loses),
     ) in
     let (a, b, same) = c.loop-lit.invariant in
-    subst (λ ks. AreDroppedAlone ks first last × LeavesTables ks first.tables last.tables × (last.proof.opened ≡ first.proof.opened)) (sym t) (
+    subst (λ ks. AreDroppedAlone ks first last × LeavesTables ks first.tables last.tables × (open_parts last.proof ≡ open_parts first.proof)) (sym t) (
       dropped-push d l first before last a one,
       leaves-then d l first.tables mid last.tables b (leaves-one l before last c.prove_linked.ensures one),
       c.drop_solver_var.ensures.opened ∙ same,

@@ -1,9 +1,9 @@
 use Rattle.std.proofs.Common.{◌≡◌, take}
-use Rattle.varisat_tracer.specs.Tracing.{parts_of}
+use Rattle.varisat_tracer.specs.Tracing.{parts_of, open_parts}
 use Rattle.varisat.specs.Dropping.{AreDroppedAlone, LeavesTables}
 use Rattle.varisat.proofs.dropping.drop_solver_vars.Given as goal
 
 abbrev pub invariant-loop-lit : goal.invariant-loop-lit
 invariant-loop-lit g l = AreDroppedAlone (take l.lit-index l.lits) (parts_of l.fn.tracer) (parts_of l.tracer)
     × LeavesTables (take l.lit-index l.lits) l.fn.tracer.variables l.tracer.variables
-    × (l.tracer.proof.opened ≡ l.fn.tracer.proof.opened)
+    × (open_parts l.tracer.proof ≡ open_parts l.fn.tracer.proof)

@@ -2,7 +2,7 @@ use Rattle.std.proofs.Common.{◌≡◌, sym, ap, ◌∙◌, subst, take, map, r
 use Rattle.varisat_theory.specs.Membership.{IsDistinct}
 use Rattle.varisat_theory.specs.Literals.{variable_of}
 use Rattle.varisat_names.specs.VarMap.{at}
-use Rattle.varisat_tracer.specs.Tracing.{parts_of}
+use Rattle.varisat_tracer.specs.Tracing.{parts_of, open_parts}
 use Rattle.varisat_prop.proofs.ReadElements.{item-∈}
 use Rattle.varisat.specs.Dropping.{LosesSolverVar, AreReleased, LeavesTables}
 use Rattle.varisat.proofs.ReadPlaces.{take-item, split-item}
@@ -37,7 +37,7 @@ loop-lit-preserved g c =
     let (x, loses) = c.in_ok-drop_solver_var.ensures.dropped in
     let one : LosesSolverVar x (variable_of l) before last = subst (λ v. LosesSolverVar x v before last) c.var.ensures loses in
     let (a, b, same) = c.loop-lit.invariant in
-    subst (λ ks. AreReleased ks first last × LeavesTables ks first.tables last.tables × (last.proof.opened ≡ first.proof.opened))
+    subst (λ ks. AreReleased ks first last × LeavesTables ks first.tables last.tables × (open_parts last.proof ≡ open_parts first.proof))
     (sym (take-item c.args.lits.now c.loop-lit.lit-index l c.loop-lit-test.true c.lit-item.is)) (
       released-push d l first before last a (x, one),
       leaves-then d l first.tables before.tables last.tables b

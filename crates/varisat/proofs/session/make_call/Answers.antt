@@ -33,7 +33,7 @@ returns-in-ObserveInternalVars g c s st = rw c.in-ObserveInternalVars.is (c.obse
 
 pub returns-in-Assume : goal.returns-in-Assume
 returns-in-Assume g c s st =
-    let (t, a, w) = c.assume.ensures s st in
+    let (t, a, w) = c.assume.ensures.call s st in
     rw c.in-Assume.is (t, subst (λ (d : List ℕ). Assumes s d c.assume.result t) c.deref-in-Assume.ensures.value a, w)
 
 pub returns-in-Solve : goal.returns-in-Solve
@@ -52,13 +52,10 @@ pub returns-in-Steps : goal.returns-in-Steps
 returns-in-Steps g c s st = rw c.in-Steps.is (c.steps.ensures s st)
 
 pub returns-in-IsValid : goal.returns-in-IsValid
-returns-in-IsValid g c s st = rw c.in-IsValid.is (c.is_valid.ensures s st)
+returns-in-IsValid g c s st = rw c.in-IsValid.is (c.is_valid.ensures.call s st)
 
-pub write_proof-requires-clause-format : goal.write_proof-requires-clause-format
-write_proof-requires-clause-format g c = let ready = rw c.in-WriteProof.is at c.requires in ready.0
-
-pub write_proof-requires-clause-room : goal.write_proof-requires-clause-room
-write_proof-requires-clause-room g c = let ready = rw c.in-WriteProof.is at c.requires in ready.1
+pub write_proof-requires : goal.write_proof-requires
+write_proof-requires g c = rw c.in-WriteProof.is at c.requires
 
 pub returns-in-WriteProof : goal.returns-in-WriteProof
 returns-in-WriteProof g c s st = rw c.in-WriteProof.is (c.write_proof.ensures s st)

@@ -51,4 +51,5 @@ returns-clause-run g c s st =
     (t, subst (λ cs. Run g.S.ByteSource.stand g.W.ProofTarget.taken s cs c.loop-call.answers.items t) e r, q)
 
 pub returns-clause-few : goal.returns-clause-few
-returns-clause-few g c s h = run-stays-few g.S.ByteSource.stand g.W.ProofTarget.taken c.args.calls.items c.loop-call.answers.items s h
+returns-clause-few g c s st =
+    run-stays-few g.S.ByteSource.stand g.W.ProofTarget.taken c.args.calls.items c.loop-call.answers.items s (c.prove_journal.ensures.few s st)

@@ -76,7 +76,7 @@ returns-clause-begins g c =
       left = record { reduced = y; begins = begins-any x y b; left = e.left };
       leaves = λ h. e.leaves (leaves-begun p.variables q.variables x y c.requires.kept.ready b (begin-tables (parts_of p) (parts_of q) x y b) h);
       stands = comes-through 0 0 0 p.proof q.proof r.proof (undecided_spaces p.variables p.proof.checker x)
-          (undecided_spaces q.variables q.proof.checker y) (undecided_spaces r.variables r.proof.checker z) refl
+          (undecided_spaces q.variables q.proof.checker y) (undecided_spaces r.variables r.proof.checker z) refl (λ z. refl)
           (unknown-undecided q.variables q.proof.checker y)
           (begin-comes (parts_of p) (parts_of q) x y c.requires.kept b) e.stands;
     }

@@ -1,5 +1,6 @@
-use Rattle.std.proofs.Common.{◌≡◌, ◌-◌, ◌∙◌, ⊎_elim, inl, inr, ap, sym, subst, refl, Bool, true, false, Option, arith}
+use Rattle.std.proofs.Common.{◌≡◌, ◌-◌, ◌∙◌, length, ⊎_elim, inl, inr, ap, sym, subst, refl, Bool, true, false, Option, arith}
 use Rattle.varisat_trace.proofs.Broken.{passed-on}
+use Rattle.varisat_search.specs.declared.error.StepError.TheVariants as step
 use Rattle.varisat_search.specs.StepErrors.{step_faults}
 use Rattle.varisat_search.specs.declared.state.SolverState.{SolverState}
 use Rattle.varisat_search.specs.declared.state.SatState.TheVariants as verdict
@@ -47,7 +48,7 @@ stepped g c =
     let z = c.make_step.new.ctx in
     comes-through (steps_since x.schedule y.schedule) 1 (steps_since x.schedule z.schedule) p.proof q.proof r.proof
     (undecided_spaces p.variables p.proof.checker x) (undecided_spaces q.variables q.proof.checker y) (spaces_with r.variables r.proof.checker z)
-    (one-more (stepping g c)) (unknown-undecided q.variables q.proof.checker y) c.steps.invariant.stands (made g c).stands
+    (one-more (stepping g c)) (λ z. absurd (omega (arith, z))) (unknown-undecided q.variables q.proof.checker y) c.steps.invariant.stands (made g c).stands
 
 -- the solver's state but for the verdict
 same-state : (g : Over) (c : In_ok-make_step g) → c.make_step.new.ctx.solver_state ≡ record c.args.ctx.now.solver_state
@@ -90,7 +91,8 @@ steps-init g c =
       config = refl;
       made = none-made x c.args.max_steps c.steps-first.ensures.plan;
       leaves = λ h. h;
-      stands = λ s fit. comes-nowhere (steps_since x.schedule x.schedule) s p.proof (undecided_spaces p.variables p.proof.checker x) (omega arith) fit;
+      stands = λ s fit. comes-nowhere (steps_since x.schedule x.schedule) s p.proof (undecided_spaces p.variables p.proof.checker x) (omega arith)
+          (unknown-undecided p.variables p.proof.checker x s fit) fit;
       still = λ e. (refl, refl);
     }
 
@@ -208,3 +210,9 @@ returns-in_err-make_step-clause-broken g c =
     let (given, told) = c.steps.invariant.told in
     passed-on c.from_residual.result e (λ z. BreaksProof p.proof (step_faults z) r.proof) c.from_residual.ensures
     (proof-breaks-on p.proof c.steps.tracer.proof r.proof given (step_faults e) told (c.in_err-make_step.ensures {u = tt}).broken)
+
+pub returns-in_err-make_step-clause-size : goal.returns-in_err-make_step-clause-size
+returns-in_err-make_step-clause-size g c =
+    passed-on c.from_residual.result c.in_err-make_step.field-0.0
+    (λ z. z ≡ step.Full → length c.make_step.new.ctx.assignment.current ≡ length c.args.ctx.now.assignment.current) c.from_residual.ensures
+    (λ f. (c.in_err-make_step.ensures {u = tt}).size f ∙ c.steps.invariant.count)

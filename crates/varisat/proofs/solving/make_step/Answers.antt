@@ -1,4 +1,4 @@
-use Rattle.std.proofs.Common.{◌≡◌, ◌<◌, ap, ◌∙◌, sym, subst, refl}
+use Rattle.std.proofs.Common.{◌≡◌, ◌<◌, length, ap, ◌∙◌, sym, subst, refl}
 use Rattle.varisat_schedule.specs.Plans.{Plan, next_plan}
 use Rattle.varisat_names.specs.Settings.{Settings}
 use Rattle.varisat_search.specs.declared.error.StepError.TheVariants as step
@@ -72,7 +72,7 @@ returns-clause-made g c =
       count = m.count ∙ b.count;
       leaves = λ h n. leaves-stepped q.variables r.variables y z m.tables m.fixes (b.leaves h) n;
       stands = comes-through 0 1 1 p.proof q.proof r.proof (undecided_spaces p.variables p.proof.checker x)
-          (undecided_spaces q.variables q.proof.checker y) (spaces_with r.variables r.proof.checker (record z { schedule = plan })) refl
+          (undecided_spaces q.variables q.proof.checker y) (spaces_with r.variables r.proof.checker (record z { schedule = plan })) refl (λ z. refl)
           (unknown-undecided q.variables q.proof.checker y)
           b.stands (named-comes (parts_of q) (parts_of r) y z b.kept m);
     }
@@ -102,6 +102,19 @@ returns-in_err-begin-clause-full g c =
     let e = c.in_err-begin.field-0.0 in
     passed-on c.from_residual.result e (λ z. z ≡ step.Full → HasNoRoom c.begin.new.ctx) c.from_residual.ensures
     (λ z. absurd ((c.in_err-begin.ensures {u = tt}).full z))
+
+pub returns-in_err-begin-clause-size : goal.returns-in_err-begin-clause-size
+returns-in_err-begin-clause-size g c =
+    passed-on c.from_residual.result c.in_err-begin.field-0.0
+    (λ z. z ≡ step.Full → length c.begin.new.ctx.assignment.current ≡ length c.args.ctx.now.assignment.current) c.from_residual.ensures
+    (λ z. absurd ((c.in_err-begin.ensures {u = tt}).full z))
+
+pub returns-in_err-named_conflict_step-clause-size : goal.returns-in_err-named_conflict_step-clause-size
+returns-in_err-named_conflict_step-clause-size g c =
+    passed-on c.from_residual-in_err-named_conflict_step.result c.in_err-named_conflict_step.field-0.0
+    (λ z. z ≡ step.Full → length c.named_conflict_step.new.ctx.assignment.current ≡ length c.args.ctx.now.assignment.current)
+    c.from_residual-in_err-named_conflict_step.ensures
+    (λ f. (c.in_err-named_conflict_step.ensures {u = tt}).size f ∙ (begun g (goal.at.returns-in_err-named_conflict_step-clause-size g c).In_ok-begin).count)
 
 pub returns-in_err-named_conflict_step-clause-uncounted : goal.returns-in_err-named_conflict_step-clause-uncounted
 returns-in_err-named_conflict_step-clause-uncounted g c =

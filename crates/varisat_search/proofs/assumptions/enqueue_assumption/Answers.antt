@@ -6,6 +6,8 @@ use Rattle.varisat_search.specs.Contexts.{view, IsReady}
 use Rattle.varisat_search.specs.Steps.{IsFree}
 use Rattle.varisat_search.specs.Decisions.{SameDecidable}
 use Rattle.varisat_search.specs.TakenOut.{AreImpliedBefore}
+use Rattle.varisat_vsids.specs.Activities.{Activities}
+use Rattle.varisat_search.proofs.Frames.{forward-same}
 use Rattle.varisat_search.proofs.TakenOut.{implied-before, implied-before-with}
 use Rattle.varisat_search.proofs.NextAssumption.{left-implied, left-implied-with, none-ready, next-inside, failed-ready, has-failed, next-free, next-same, next-ready}
 use Rattle.varisat_search.proofs.assumptions.enqueue_assumption.Given.{Over}
@@ -108,8 +110,13 @@ free g c =
 
 -- the context once the assumption is decided
 abbrev after : (g : Over) (c : In_ok-decide_lit g) → AssumptionParts → Context g.row.A.Denot
-after g c a = record c.args.ctx.now
-    { assignment = c.decide_lit.new.ctx.assignment; assumptions = a; impl_graph = c.decide_lit.new.ctx.impl_graph; trail = c.decide_lit.new.ctx.trail }
+after g c a = record c.args.ctx.now {
+  assignment = c.decide_lit.new.ctx.assignment;
+  assumptions = a;
+  counters = c.decide_lit.new.ctx.counters;
+  impl_graph = c.decide_lit.new.ctx.impl_graph;
+  trail = c.decide_lit.new.ctx.trail;
+}
 
 is-after : (g : Over) (c : In_ok-decide_lit g) (a : AssumptionParts) → record c.decide_lit.new.ctx { assumptions = a } ≡ after g c a
 is-after g c a = ap (λ (x : Context g.row.A.Denot). record x { assumptions = a }) c.decide_lit.ensures.kept
@@ -149,12 +156,29 @@ returns-clause-next g c =
     let here = (goal.at.returns-clause-next g c).In_ok-decide_lit in
     (c.in-Some.lit, free g here, c.in_ok-decide_lit.ensures.decided)
 
-pub returns-clause-same : goal.returns-clause-same
-returns-clause-same g c =
-    let at = goal.at.returns-clause-same g c in
+pub returns-in_default-clause-forward : goal.returns-in_default-clause-forward
+returns-in_default-clause-forward g c =
+    forward-same c.args.ctx.now (record c.args.ctx.now { assumptions = c.next_assumption.new.assumptions }) refl refl refl refl
+
+pub returns-then-lit_is_false-clause-forward : goal.returns-then-lit_is_false-clause-forward
+returns-then-lit_is_false-clause-forward g c =
+    let k = c.find_failed_core.ensures.kept in
+    forward-same c.args.ctx.now c.find_failed_core.new.ctx (ap (λ (y : Context g.row.A.Denot). (view y).values) k)
+    (ap (λ (y : Context g.row.A.Denot). y.vsids) k) (ap (λ (y : Context g.row.A.Denot). y.assignment.last) k)
+    (ap (λ (y : Context g.row.A.Denot). y.solver_state) k)
+
+pub returns-clause-forward : goal.returns-clause-forward
+returns-clause-forward g c =
+    let at = goal.at.returns-clause-forward g c in
     let here = at.In_ok-decide_lit in
     let n = next g at.In-Some in
     let x = c.args.ctx.now in
-    subst (λ (y : Context g.row.A.Denot). SameDecidable (view x) x.vsids (view y) y.vsids) (sym (is-after g here c.set_levels.new.self))
-    (next-same x c.next_assumption.new.assumptions c.requires.ready (taken g at.After-next_assumption) c.in-Some.lit n.0 n.1
-    (after g here c.set_levels.new.self) (free g here) (decided g here c.set_levels.new.self) refl)
+    let k = c.decide_lit.ensures.kept in
+    record {
+      decidable = subst (λ (y : Context g.row.A.Denot). SameDecidable (view x) x.vsids (view y) y.vsids) (sym (is-after g here c.set_levels.new.self))
+          (next-same x c.next_assumption.new.assumptions c.requires.ready (taken g at.After-next_assumption) c.in-Some.lit n.0 n.1
+          (after g here c.set_levels.new.self) (free g here) (decided g here c.set_levels.new.self) refl);
+      activities = subst (λ (b : Activities). b ≡ record x.vsids { available = b.available }) (sym (ap (λ (y : Context g.row.A.Denot). y.vsids) k)) refl;
+      last = c.in_ok-decide_lit.ensures.last;
+      state = ap (λ (y : Context g.row.A.Denot). y.solver_state) k;
+    }

@@ -42,3 +42,16 @@ pub returns-clause-last : goal.returns-clause-last
 returns-clause-last g c =
     let b = c.full_restart.ensures.undone in
     (λ e. ap (λ (z : Context g.row.A.Denot). z.assignment.last) (b.same (let n = ap (λ ds. length ds) e in omega (arith, n))), b.saved)
+
+pub returns-clause-keeps : goal.returns-clause-keeps
+returns-clause-keeps g c =
+    let x = c.args.ctx.now in
+    let b = c.full_restart.ensures.undone in
+    record {
+      decidable = b.decidable;
+      decay = b.decay;
+      count = ⊎_elim
+          (λ (h : 0 < length x.trail.decisions). (b.cut h).count)
+          (λ (h : length x.trail.decisions ≤ 0). ap (λ (z : Context g.row.A.Denot). length z.assignment.current) (b.same h))
+          (cases_lt 0 (length x.trail.decisions));
+    }

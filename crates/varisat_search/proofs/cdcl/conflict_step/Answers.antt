@@ -1,10 +1,11 @@
-use Rattle.varisat_trace.proofs.Broken.{breaks-on}
+use Rattle.varisat_trace.proofs.Broken.{breaks-on, passed-on}
 use Rattle.varisat_search.proofs.StepErrors.{trace-broken, step-passed}
 use Rattle.std.proofs.Common.{◌≡◌, ◌∙◌, Ok, Err, ⊎_elim, length, refl, sym, ap, subst, arith}
 use Rattle.varisat_theory.specs.Outcomes.{Steps}
 use Rattle.varisat_search.specs.declared.context.Context.{Context}
 use Rattle.varisat_search.specs.Progress.{outcome_at, MakesStep}
 use Rattle.varisat_prop.specs.declared.prop.graph.Conflict.{Conflict}
+use Rattle.varisat_search.specs.declared.error.StepError.TheVariants as step
 use Rattle.varisat_search.specs.declared.state.SatState.TheVariants as verdict
 use Rattle.varisat_search.specs.SettledUnits.{IsUnsettled, KeepsFixed, SettlesUnits, SettlesFirst}
 use Rattle.varisat_search.specs.Contexts.{view}
@@ -112,6 +113,20 @@ returns-in_err-settle_units-clause-broken g c =
     trace-broken g.P.ProofTracer.breaks_off c.args.proof.now c.settle_units.new.proof c.from_residual.result c.in_err-settle_units.field-0.0
     c.from_residual.ensures
     c.in_err-settle_units.ensures.broken
+
+pub returns-in_err-find_and_learn-in-Ok-clause-size : goal.returns-in_err-find_and_learn-in-Ok-clause-size
+returns-in_err-find_and_learn-in-Ok-clause-size g c =
+    passed-on c.from_residual-in_err-find_and_learn-in-Ok.result c.in_err-find_and_learn-in-Ok.field-0.0
+    (λ z. z ≡ step.Full → length c.find_and_learn.new.ctx.assignment.current ≡ length c.args.ctx.now.assignment.current)
+    c.from_residual-in_err-find_and_learn-in-Ok.ensures
+    (λ f. c.in_err-find_and_learn-in-Ok.ensures.size f ∙ c.in_ok-settle_units.ensures.goes_on.extends.count)
+
+pub returns-in_err-learn-in-Err-clause-size : goal.returns-in_err-learn-in-Err-clause-size
+returns-in_err-learn-in-Err-clause-size g c =
+    passed-on c.from_residual-in_err-learn-in-Err.result c.in_err-learn-in-Err.field-0.0
+    (λ z. z ≡ step.Full → length c.learn.new.ctx.assignment.current ≡ length c.args.ctx.now.assignment.current)
+    c.from_residual-in_err-learn-in-Err.ensures
+    (λ f. c.in_err-learn-in-Err.ensures.size f ∙ c.in_ok-settle_units.ensures.goes_on.extends.count)
 
 pub returns-in_err-find_and_learn-in-Ok-clause-broken : goal.returns-in_err-find_and_learn-in-Ok-clause-broken
 returns-in_err-find_and_learn-in-Ok-clause-broken g c =

@@ -8,6 +8,7 @@ use Rattle.varisat_search.specs.AssumptionParts.{ComesToNext}
 use Rattle.varisat_search.specs.Contexts.{view}
 use Rattle.varisat_search.specs.SettledUnits.{FixesNone}
 use Rattle.varisat_search.proofs.FixedLiterals.{fixed-decided, fixed-still}
+use Rattle.varisat_search.proofs.Frames.{forward-through}
 use Rattle.varisat_search.proofs.DecidedLiterals.{literal-grows, literal-ready, end-ready, made-or-not}
 use Rattle.varisat_search.proofs.cdcl.decide.Goals as goal
 
@@ -48,9 +49,9 @@ returns-clause-ready g c =
     let n = subst (ComesToNext s (view x) x.assumptions) c.in-Done.is c.in_ok-enqueue_assumption.ensures.next in
     let m = c.in_ok-made.ensures in
     made-or-not c.in_ok-made.made _ _ _ m.decided
-    (λ p. literal-ready x z r n.1 m.kept m.decidable m.same (subst (λ (t : View). IsComplete (kept t) t.trail) (sym n.0) c.requires.complete)
+    (λ p. literal-ready x z r n.1 m.kept m.decidable m.forward.decidable (subst (λ (t : View). IsComplete (kept t) t.trail) (sym n.0) c.requires.complete)
     (subst (λ (t : View). t.queue_head ≡ length t.trail) (sym n.0) c.requires.propagated) p.0 p.1 p.2)
-    (λ p. end-ready x z r n.1 m.kept m.decidable m.same p.0)
+    (λ p. end-ready x z r n.1 m.kept m.decidable m.forward.decidable p.0)
 
 pub returns-clause-grows : goal.returns-clause-grows
 returns-clause-grows g c =
@@ -74,3 +75,6 @@ returns-clause-fixed g c =
 
 pub returns-clause-decided : goal.returns-clause-decided
 returns-clause-decided g c = grind (arith, common_steps)
+
+pub returns-clause-forward : goal.returns-clause-forward
+returns-clause-forward g c = forward-through c.in_ok-enqueue_assumption.ensures.forward c.in_ok-made.ensures.forward

@@ -1,9 +1,10 @@
-use Rattle.varisat_trace.proofs.Broken.{breaks-not}
+use Rattle.varisat_trace.proofs.Broken.{breaks-not, passed-on}
 use Rattle.varisat_search.proofs.StepErrors.{memory-broken, trace-broken, step-passed}
-use Rattle.std.proofs.Common.{◌∙◌, MatchResult, List, inl, inr, ⊎_elim, sym, subst}
+use Rattle.std.proofs.Common.{◌≡◌, ◌∙◌, MatchResult, List, length, inl, inr, ⊎_elim, sym, subst}
 use Rattle.varisat_theory.specs.Literals.{Clause}
 use Rattle.varisat_theory.specs.Propagation.{IsComplete, Conflicts}
 use Rattle.varisat_prop.specs.View.{kept}
+use Rattle.varisat_search.specs.declared.error.StepError.TheVariants as step
 use Rattle.varisat_search.specs.declared.state.SatState.TheVariants as verdict
 use Rattle.varisat_search.specs.AssumptionParts.{EndsAssumed}
 use Rattle.varisat_search.specs.Contexts.{view}
@@ -26,12 +27,7 @@ finds g c =
       ready = e.ready;
       grows = e.grows;
       taken = e.taken;
-      decidable = e.decidable;
-      activities = e.activities;
-      state = e.state;
-      last =
-          e.last;
-      units = e.units;
+      forward = e.forward;
     }
 
 pub returns-in-Ok-clause-made : goal.returns-in-Ok-clause-made
@@ -127,6 +123,13 @@ returns-in_err-trace_core-in-Err-Assumption-clause-broken g c =
     trace-broken g.P.ProofTracer.breaks_off c.args.proof.now c.trace_core.new.proof c.from_residual-in_err-trace_core-in-Err-Assumption.result
     c.in_err-trace_core-in-Err-Assumption.field-0.0 c.from_residual-in_err-trace_core-in-Err-Assumption.ensures
     c.in_err-trace_core-in-Err-Assumption.ensures.broken
+
+pub returns-in_err-learn-in-Err-Conflict-clause-size : goal.returns-in_err-learn-in-Err-Conflict-clause-size
+returns-in_err-learn-in-Err-Conflict-clause-size g c =
+    passed-on c.from_residual-in_err-learn-in-Err-Conflict.result c.in_err-learn-in-Err-Conflict.field-0.0
+    (λ z. z ≡ step.Full → length c.learn.new.ctx.assignment.current ≡ length c.args.ctx.now.assignment.current)
+    c.from_residual-in_err-learn-in-Err-Conflict.ensures
+    (λ f. c.in_err-learn-in-Err-Conflict.ensures.size f ∙ c.in_ok-find_conflict.ensures.grows.count)
 
 pub returns-in_err-learn-in-Err-Conflict-clause-broken : goal.returns-in_err-learn-in-Err-Conflict-clause-broken
 returns-in_err-learn-in-Err-Conflict-clause-broken g c =

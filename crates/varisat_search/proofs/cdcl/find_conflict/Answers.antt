@@ -5,69 +5,73 @@ use Rattle.varisat_prop.proofs.TrailValues.{trail-short}
 use Rattle.varisat_search.specs.declared.context.Context.{Context}
 use Rattle.varisat_vsids.specs.Activities.{Activities}
 use Rattle.varisat_search.specs.Contexts.{view, IsReady}
-use Rattle.varisat_search.specs.Decisions.{SameDecidable}
+use Rattle.varisat_search.specs.Frames.{GoesForward}
 use Rattle.varisat_search.proofs.AssumedTruths.{takes-refl, takes-trans}
-use Rattle.varisat_search.proofs.DecidableVariables.{same-refl, same-trans, propagated-same}
+use Rattle.varisat_search.proofs.DecidableVariables.{propagated-same}
 use Rattle.varisat_search.specs.SettledUnits.{IsUnsettled, FixesNone}
+use Rattle.varisat_search.proofs.Frames.{schedule-nothing, forward-nothing, forward-through}
 use Rattle.varisat_search.proofs.FixedLiterals.{fixed-propagated, fixes-through}
 use Rattle.varisat_search.proofs.PropagatedContext.{propagated-ready}
 use Rattle.varisat_search.proofs.StepOutcome.{Finding, finding-begins, finding-propagated, not-err}
 use Rattle.varisat_search.proofs.cdcl.find_conflict.Given.{Over}
-use Rattle.varisat_search.proofs.cdcl.find_conflict.Goals.{In_ok-propagated}
+use Rattle.varisat_search.proofs.cdcl.find_conflict.Goals.{After-count}
 use Rattle.varisat_search.proofs.cdcl.find_conflict.Goals as goal
 
 -- the context once propagation has come to its end
-abbrev mid : (g : Over) (c : In_ok-propagated g) → Context g.row.A.Denot
+abbrev mid : (g : Over) (c : After-count g) → Context g.row.A.Denot
 mid g c = record c.levels.ctx {
   assignment = c.propagate.new.assignment;
   clause_alloc = c.propagate.new.clause_alloc;
-  impl_graph =
-      c.propagate.new.impl_graph;
+  counters = record c.levels.ctx.counters { propagations = c.count.new.counter };
+  impl_graph = c.propagate.new.impl_graph;
   trail = c.propagate.new.trail;
   watchlists = c.propagate.new.watchlists;
 }
 
-propagated : (g : Over) (c : In_ok-propagated g) → Finding (view c.levels.ctx) (view (mid g c))
+propagated : (g : Over) (c : After-count g) → Finding (view c.levels.ctx) (view (mid g c))
 propagated g c =
     finding-propagated (view c.levels.ctx) (view c.levels.ctx) (view (mid g c)) (finding-begins c.levels.invariant.ready) c.in_ok-propagated.ensures.propagates
 
-grown : (g : Over) (c : In_ok-propagated g) → GrowsTrail (view c.args.ctx.now) (view (mid g c))
+grown : (g : Over) (c : After-count g) → GrowsTrail (view c.args.ctx.now) (view (mid g c))
 grown g c = grows-trans (view c.args.ctx.now) (view c.levels.ctx) (view (mid g c)) c.levels.invariant.grows (propagated g c).grows
 
 -- and makes nothing true at level 0 where all of it was propagated
-fixed : (g : Over) (c : In_ok-propagated g) → (IsUnsettled (view c.args.ctx.now) → ⊥) → FixesNone (view c.args.ctx.now) (view (mid g c))
+fixed : (g : Over) (c : After-count g) → (IsUnsettled (view c.args.ctx.now) → ⊥) → FixesNone (view c.args.ctx.now) (view (mid g c))
 fixed g c calm =
     let (same, quiet) = c.levels.invariant.fixed calm in
     fixes-through (view c.args.ctx.now) (view c.levels.ctx) (view (mid g c)) (same, quiet)
     (fixed-propagated c.levels.ctx (view (mid g c)) c.levels.invariant.ready c.in_ok-propagated.ensures.propagates quiet)
 
 -- propagation keeps the same variables decidable
-still : (g : Over) (c : In_ok-propagated g) → SameDecidable (view c.levels.ctx) c.levels.ctx.vsids (view (mid g c)) c.levels.ctx.vsids
-still g c = propagated-same (view c.levels.ctx) (view (mid g c)) c.levels.ctx.vsids c.levels.invariant.ready.well c.levels.invariant.ready.decidable
-    c.in_ok-propagated.ensures.propagates
+forward : (g : Over) (c : After-count g) → GoesForward c.args.ctx.now (mid g c)
+forward g c =
+    let x = c.levels.ctx in
+    let e = c.in_ok-propagated.ensures in
+    let i = c.levels.invariant in
+    forward-through i.forward record {
+      decidable = propagated-same (view x) (view (mid g c)) x.vsids i.ready.well i.ready.decidable e.propagates;
+      activities = refl;
+      last = e.last;
+      state = refl;
+    }
 
-same : (g : Over) (c : In_ok-propagated g) → SameDecidable (view c.args.ctx.now) c.args.ctx.now.vsids (view (mid g c)) c.levels.ctx.vsids
-same g c =
-    same-trans (view c.args.ctx.now) c.args.ctx.now.vsids (view c.levels.ctx) c.levels.ctx.vsids
-    (view (mid g c)) c.levels.ctx.vsids c.levels.invariant.same (still g c)
-
-ready : (g : Over) (c : In_ok-propagated g) → IsReady (mid g c)
+ready : (g : Over) (c : After-count g) → IsReady (mid g c)
 ready g c = let e = c.in_ok-propagated.ensures in propagated-ready c.levels.ctx (mid g c) c.levels.invariant.ready e.propagates e.propagated e.store refl
 
 pub returns-in-Err-clause-ready : goal.returns-in-Err-clause-ready
-returns-in-Err-clause-ready g c = ready g (goal.at.returns-in-Err-clause-ready g c).In_ok-propagated
+returns-in-Err-clause-ready g c = ready g (goal.at.returns-in-Err-clause-ready g c).After-count
 
 pub returns-in-Err-clause-grows : goal.returns-in-Err-clause-grows
-returns-in-Err-clause-grows g c = grown g (goal.at.returns-in-Err-clause-grows g c).In_ok-propagated
+returns-in-Err-clause-grows g c = grown g (goal.at.returns-in-Err-clause-grows g c).After-count
 
 pub returns-in-Err-clause-fixed : goal.returns-in-Err-clause-fixed
-returns-in-Err-clause-fixed g c = fixed g (goal.at.returns-in-Err-clause-fixed g c).In_ok-propagated
+returns-in-Err-clause-fixed g c = fixed g (goal.at.returns-in-Err-clause-fixed g c).After-count
 
-pub returns-in-Err-clause-decidable : goal.returns-in-Err-clause-decidable
-returns-in-Err-clause-decidable g c = same g (goal.at.returns-in-Err-clause-decidable g c).In_ok-propagated
+pub returns-in-Err-clause-forward : goal.returns-in-Err-clause-forward
+returns-in-Err-clause-forward g c = forward g (goal.at.returns-in-Err-clause-forward g c).After-count
 
 pub decide-requires-clause-ready : goal.decide-requires-clause-ready
-decide-requires-clause-ready g c = ready g (goal.at.decide-requires-clause-ready g c).In_ok-propagated
+decide-requires-clause-ready g c = ready g (goal.at.decide-requires-clause-ready g c).After-count
 
 pub decide-requires-clause-complete : goal.decide-requires-clause-complete
 decide-requires-clause-complete g c = (not-err c.in_ok-propagated.propagated _ _ c.in_default.not-Err c.in_ok-propagated.ensures.ends).1.0
@@ -82,62 +86,53 @@ levels-init g c = record {
   fixed = λ calm. (refl, calm);
   taken =
       takes-refl (view c.args.ctx.now) c.args.ctx.now.assumptions;
-  state = refl;
-  last = refl;
-  units = refl;
-  schedule =
-      record { schedule = refl; solver_config = refl };
-  same = same-refl (view c.args.ctx.now) c.args.ctx.now.vsids;
-  activities = refl;
+  forward = forward-nothing c.args.ctx.now;
+  schedule = schedule-nothing c.args.ctx.now;
 }
 
 pub returns-in-Ok-false-clause-grows : goal.returns-in-Ok-false-clause-grows
 returns-in-Ok-false-clause-grows g c =
-    let here = (goal.at.returns-in-Ok-false-clause-grows g c).In_ok-propagated in
+    let here = (goal.at.returns-in-Ok-false-clause-grows g c).After-count in
     grows-trans (view c.args.ctx.now) (view (mid g here)) (view c.decide.new.ctx) (grown g here) c.in_ok-decide.ensures.grows
 
 pub returns-in-Ok-false-clause-fixed : goal.returns-in-Ok-false-clause-fixed
 returns-in-Ok-false-clause-fixed g c calm =
-    let here = (goal.at.returns-in-Ok-false-clause-fixed g c).In_ok-propagated in
+    let here = (goal.at.returns-in-Ok-false-clause-fixed g c).After-count in
     fixes-through (view c.args.ctx.now) (view (mid g here)) (view c.decide.new.ctx) (fixed g here calm) c.in_ok-decide.ensures.fixed
 
 pub returns-in-Ok-false-clause-taken : goal.returns-in-Ok-false-clause-taken
 returns-in-Ok-false-clause-taken g c =
-    let here = (goal.at.returns-in-Ok-false-clause-taken g c).In_ok-propagated in
+    let here = (goal.at.returns-in-Ok-false-clause-taken g c).After-count in
     takes-trans (view c.args.ctx.now) (view (mid g here)) c.args.ctx.now.assumptions c.levels.ctx.assumptions c.decide.new.ctx.assumptions
     (grown g here) c.levels.invariant.taken c.in_ok-decide.ensures.taken
 
-pub returns-in-Ok-false-clause-decidable : goal.returns-in-Ok-false-clause-decidable
-returns-in-Ok-false-clause-decidable g c =
-    let here = (goal.at.returns-in-Ok-false-clause-decidable g c).In_ok-propagated in
-    same-trans (view c.args.ctx.now) c.args.ctx.now.vsids (view (mid g here)) c.levels.ctx.vsids (view c.decide.new.ctx) c.decide.new.ctx.vsids
-    (same g here) c.in_ok-decide.ensures.decidable
+pub returns-in-Ok-false-clause-forward : goal.returns-in-Ok-false-clause-forward
+returns-in-Ok-false-clause-forward g c =
+    forward-through (forward g (goal.at.returns-in-Ok-false-clause-forward g c).After-count) c.in_ok-decide.ensures.forward
 
 pub returns-in-Err-2-clause-grows : goal.returns-in-Err-2-clause-grows
 returns-in-Err-2-clause-grows g c =
-    let here = (goal.at.returns-in-Err-2-clause-grows g c).In_ok-propagated in
+    let here = (goal.at.returns-in-Err-2-clause-grows g c).After-count in
     grows-trans (view c.args.ctx.now) (view (mid g here)) (view c.decide.new.ctx) (grown g here) c.in_ok-decide.ensures.grows
 
 pub returns-in-Err-2-clause-fixed : goal.returns-in-Err-2-clause-fixed
 returns-in-Err-2-clause-fixed g c calm =
-    let here = (goal.at.returns-in-Err-2-clause-fixed g c).In_ok-propagated in
+    let here = (goal.at.returns-in-Err-2-clause-fixed g c).After-count in
     fixes-through (view c.args.ctx.now) (view (mid g here)) (view c.decide.new.ctx) (fixed g here calm) c.in_ok-decide.ensures.fixed
 
 pub returns-in-Err-2-clause-taken : goal.returns-in-Err-2-clause-taken
 returns-in-Err-2-clause-taken g c =
-    let here = (goal.at.returns-in-Err-2-clause-taken g c).In_ok-propagated in
+    let here = (goal.at.returns-in-Err-2-clause-taken g c).After-count in
     takes-trans (view c.args.ctx.now) (view (mid g here)) c.args.ctx.now.assumptions c.levels.ctx.assumptions c.decide.new.ctx.assumptions
     (grown g here) c.levels.invariant.taken c.in_ok-decide.ensures.taken
 
-pub returns-in-Err-2-clause-decidable : goal.returns-in-Err-2-clause-decidable
-returns-in-Err-2-clause-decidable g c =
-    let here = (goal.at.returns-in-Err-2-clause-decidable g c).In_ok-propagated in
-    same-trans (view c.args.ctx.now) c.args.ctx.now.vsids (view (mid g here)) c.levels.ctx.vsids (view c.decide.new.ctx) c.decide.new.ctx.vsids
-    (same g here) c.in_ok-decide.ensures.decidable
+pub returns-in-Err-2-clause-forward : goal.returns-in-Err-2-clause-forward
+returns-in-Err-2-clause-forward g c =
+    forward-through (forward g (goal.at.returns-in-Err-2-clause-forward g c).After-count) c.in_ok-decide.ensures.forward
 
 pub levels-smaller : goal.levels-smaller
 levels-smaller g c =
-    let here = (goal.at.levels-smaller g c).In_ok-propagated in
+    let here = (goal.at.levels-smaller g c).After-count in
     let d = rw c.in-Ok-true.is at c.in_ok-decide.ensures.decided in
     let n = rw c.in-Ok-true.field-0-test at d in
     let p = propagated g here in
@@ -149,7 +144,7 @@ levels-smaller g c =
 
 pub levels-preserved : goal.levels-preserved
 levels-preserved g c =
-    let here = (goal.at.levels-preserved g c).In_ok-propagated in
+    let here = (goal.at.levels-preserved g c).After-count in
     let x = c.args.ctx.now in
     let z = c.decide.new.ctx in
     let i = c.levels.invariant in
@@ -159,14 +154,10 @@ levels-preserved g c =
       grows = grows-trans (view x) (view (mid g here)) (view z) (grown g here) e.grows;
       fixed = λ calm. fixes-through (view x) (view (mid g here)) (view z) (fixed g here calm) e.fixed;
       taken = takes-trans (view x) (view (mid g here)) x.assumptions c.levels.ctx.assumptions z.assumptions (grown g here) i.taken e.taken;
-      state = e.state ∙ i.state;
-      last = e.last ∙ c.in_ok-propagated.ensures.last ∙ i.last;
-      units = e.units ∙ c.in_ok-propagated.ensures.units ∙ i.units;
+      forward = forward-through (forward g here) e.forward;
       schedule = record {
         schedule = c.decide.ensures.schedule.schedule
             ∙ i.schedule.schedule;
         solver_config = c.decide.ensures.schedule.solver_config ∙ i.schedule.solver_config;
       };
-      same = same-trans (view x) x.vsids (view (mid g here)) c.levels.ctx.vsids (view z) z.vsids (same g here) e.decidable;
-      activities = e.activities ∙ ap (λ (a : Activities). record a { available = z.vsids.available }) i.activities;
     }

@@ -1,5 +1,5 @@
 use Rattle.varisat_trace.proofs.Broken.{breaks-on, breaks-not}
-use Rattle.varisat_search.proofs.StepErrors.{memory-broken, trace-broken, store-broken, full-told}
+use Rattle.varisat_search.proofs.StepErrors.{memory-broken, trace-broken, store-broken, if-full, full-told}
 use Rattle.std.proofs.Common.{◌≡◌, List, [], ◌∷◌, ◌++◌, refl, sym, ap, ◌∙◌, subst, length, arith}
 use Rattle.varisat_theory.specs.Literals.{Literal, Clause}
 use Rattle.varisat_theory.specs.Derivations.{Line, Add}
@@ -18,7 +18,7 @@ use Rattle.varisat_analysis.specs.Assessments.{glue_of, assessed}
 use Rattle.varisat_search.specs.Conflicts.{IsStoredAsReason}
 use Rattle.varisat_vsids.specs.Activities.{Activities}
 use Rattle.varisat_analysis.proofs.BumpedClauses.{tier-redundant}
-use Rattle.varisat_search.proofs.LearnContext.{analysis-ready, involved-named, bumps-learned, cut-activities, Analyzed, analyzed-bumped, analyzed-well, analyzed-tracks, analyzed-clear, learned-assigned, analyzed-named, analyzed-assigned, with_store, analyzed-noted, noted-further, noted-saves, noted-bumps, analyzed-flags, Backtracked, learned-length, saves-some, learned-listed, learned-paired, learned-tracks, Learning, learning-free, learning-node, learning-further, learning-activities, learning-fixed, refuted-undecided, refuted-further}
+use Rattle.varisat_search.proofs.LearnContext.{analysis-ready, involved-named, bumps-learned, cut-activities, Analyzed, analyzed-bumped, analyzed-well, analyzed-tracks, analyzed-clear, learned-assigned, analyzed-named, analyzed-assigned, with_store, analyzed-noted, noted-further, noted-saves, noted-bumps, analyzed-flags, Backtracked, learned-length, learned-count, saves-some, learned-listed, learned-paired, learned-tracks, Learning, learning-free, learning-node, learning-further, learning-activities, learning-fixed, refuted-undecided, refuted-further}
 use Rattle.varisat_search.proofs.cdcl.learn.Given.{Over}
 use Rattle.varisat_search.proofs.cdcl.learn.Goals.{After-backtrack, In_ok-reason, In_ok-enqueue_assignment}
 use Rattle.varisat_search.proofs.cdcl.learn.Goals as goal
@@ -117,7 +117,6 @@ undone g c =
       entries = c.backtrack.ensures.entries;
       decidable = c.backtrack.ensures.decidable;
       decay = c.backtrack.ensures.decay;
-      units = c.backtrack.ensures.units;
       levels = c.backtrack.ensures.assumptions;
       back = c.backtrack.ensures.kept;
     }
@@ -202,7 +201,7 @@ returns-clause-further g c =
     (learning-further d (last g here.In_ok-enqueue_assignment) refl
     (c.in_ok-enqueue_assignment.ensures.view c.keep_learned.new.ctx.clause_alloc c.keep_learned.new.ctx.binary_clauses)
     (taken g here.After-backtrack) (taken-is g here.After-backtrack (c.in-Some.first ∷ c.in-Some.ensures.0)
-    (sym c.clause.ensures ∙ c.in-Some.ensures.1)) c.in_ok-enqueue_assignment.ensures.units)
+    (sym c.clause.ensures ∙ c.in-Some.ensures.1)))
 
 pub returns-clause-bumps : goal.returns-clause-bumps
 returns-clause-bumps g c h =
@@ -318,6 +317,13 @@ returns-in_err-reason-clause-full g c =
     (sym c.clause.ensures ∙ c.in-Some.ensures.1) in
     let count = ap (λ (x : Context g.row.A.Denot). length x.assignment.current) c.keep_learned.ensures.kept in
     omega (arith, room, short, count))
+
+pub returns-in_err-reason-clause-size : goal.returns-in_err-reason-clause-size
+returns-in_err-reason-clause-size g c =
+    if-full c.from_residual-in_err-reason.result c.in_err-reason.field-0.0 _ c.from_residual-in_err-reason.ensures (λ h.
+    ap (λ (x : Context g.row.A.Denot). length x.assignment.current) c.keep_learned.ensures.kept
+    ∙ learned-count (undone g (goal.at.returns-in_err-reason-clause-size g c).After-backtrack) c.in-Some.first c.in-Some.ensures.0
+    (sym c.clause.ensures ∙ c.in-Some.ensures.1))
 
 pub returns-in_err-level-clause-broken : goal.returns-in_err-level-clause-broken
 returns-in_err-level-clause-broken g c =

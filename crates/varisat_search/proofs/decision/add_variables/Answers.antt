@@ -1,6 +1,7 @@
 use Rattle.std.proofs.Common.{◌≡◌, false, length, slice_index_or, refl, sym, ap, ◌∙◌, subst, arith}
 use Rattle.varisat_search.specs.declared.context.Context.{Context}
 use Rattle.varisat_search.specs.Contexts.{view}
+use Rattle.varisat_search.specs.Frames.{ChangesVariables}
 use Rattle.varisat_search.specs.Decisions.{IsDecidable, SameDecidableBut, AddsDecidable}
 use Rattle.varisat_search.specs.Seen.{search_of}
 use Rattle.varisat_vsids.specs.Activities.{Activities}
@@ -9,37 +10,10 @@ use Rattle.varisat_search.proofs.decision.add_variables.Goals as goal
 
 -- a change of activities alone keeps the rest as it was
 only-activities : {A : Type 0} (x y z : Context A) (a : Activities) →
-    y ≡ record x {
-      analyze_conflict = y.analyze_conflict;
-      assignment = y.assignment;
-      binary_clauses = y.binary_clauses;
-      impl_graph =
-          y.impl_graph;
-      tmp_flags = y.tmp_flags;
-      vsids = y.vsids;
-      watchlists = y.watchlists;
-    } → z ≡ record y { vsids = a } →
-    z ≡ record x {
-      analyze_conflict = z.analyze_conflict;
-      assignment = z.assignment;
-      binary_clauses = z.binary_clauses;
-      impl_graph =
-          z.impl_graph;
-      tmp_flags = z.tmp_flags;
-      vsids = z.vsids;
-      watchlists = z.watchlists;
-    }
+    ChangesVariables x y → z ≡ record y { vsids = a } →
+    ChangesVariables x z
 only-activities x y z a e f = subst
-    (λ w. w ≡ record x {
-      analyze_conflict = w.analyze_conflict;
-      assignment = w.assignment;
-      binary_clauses = w.binary_clauses;
-      impl_graph =
-          w.impl_graph;
-      tmp_flags = w.tmp_flags;
-      vsids = w.vsids;
-      watchlists = w.watchlists;
-    }) (sym f) (ap (λ (w : Context _). record w { vsids = a }) e)
+    (λ w. ChangesVariables x w) (sym f) (ap (λ (w : Context _). record w { vsids = a }) e)
 
 pub loop-index-init : goal.loop-index-init
 loop-index-init g c =

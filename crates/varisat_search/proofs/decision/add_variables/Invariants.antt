@@ -1,5 +1,6 @@
 use Rattle.std.proofs.Common.{◌≡◌, ◌≤◌, ℕ, false, length, slice_index_or}
 use Rattle.varisat_search.specs.Contexts.{view, IsReady}
+use Rattle.varisat_search.specs.Frames.{ChangesVariables}
 use Rattle.varisat_search.specs.Decisions.{AddsDecidable}
 use Rattle.varisat_search.specs.Seen.{search_of}
 use Rattle.varisat_search.proofs.decision.add_variables.Given as goal
@@ -12,14 +13,5 @@ invariant-loop-index g l = record {
   within : (length l.fn.ctx.assignment.current ≤ l.index) × (l.index ≤ l.count);
   decidable : AddsDecidable (length l.fn.ctx.assignment.current) l.index (view l.fn.ctx) l.fn.ctx.vsids (view l.ctx) l.ctx.vsids;
   remembered : (v : ℕ) → slice_index_or l.ctx.assignment.last v false ≡ slice_index_or l.fn.ctx.assignment.last v false;
-  kept : l.ctx ≡ record l.fn.ctx {
-    analyze_conflict = l.ctx.analyze_conflict;
-    assignment = l.ctx.assignment;
-    binary_clauses =
-        l.ctx.binary_clauses;
-    impl_graph = l.ctx.impl_graph;
-    tmp_flags = l.ctx.tmp_flags;
-    vsids = l.ctx.vsids;
-    watchlists = l.ctx.watchlists;
-  };
+  kept : ChangesVariables l.fn.ctx l.ctx;
 }

@@ -38,14 +38,19 @@ returns-clause-decided g c =
       k.found,
     )
 
-pub returns-clause-same : goal.returns-clause-same
-returns-clause-same g c =
+pub returns-clause-forward : goal.returns-clause-forward
+returns-clause-forward g c =
     let x = c.args.ctx.now in
     let z = c.decide_lit.new.ctx in
-    let here = (goal.at.returns-clause-same g c).In_ok-decide_lit in
-    subst (λ (y : Activities). SameDecidable (view x) x.vsids (view z) y) (sym (stays g here))
-    (subst (λ u. SameDecidable (view x) x.vsids u c.take_unassigned.new.vsids) (sym c.in_ok-decide_lit.ensures.decided)
-    (decided-same (view x) x.vsids c.take_unassigned.new.vsids c.requires.decidable c.lit-lit.result (inside g here) (taken g here)))
+    let here = (goal.at.returns-clause-forward g c).In_ok-decide_lit in
+    record {
+      decidable = subst (λ (y : Activities). SameDecidable (view x) x.vsids (view z) y) (sym (stays g here))
+          (subst (λ u. SameDecidable (view x) x.vsids u c.take_unassigned.new.vsids) (sym c.in_ok-decide_lit.ensures.decided)
+          (decided-same (view x) x.vsids c.take_unassigned.new.vsids c.requires.decidable c.lit-lit.result (inside g here) (taken g here)));
+      activities = subst (λ (y : Activities). y ≡ record x.vsids { available = y.available }) (sym (stays g here)) (taken g here).rest;
+      last = c.in_ok-decide_lit.ensures.last;
+      state = ap (λ (y : Context g.row.A.Denot). y.solver_state) c.decide_lit.ensures.kept;
+    }
 
 pub returns-clause-decidable : goal.returns-clause-decidable
 returns-clause-decidable g c =
@@ -60,8 +65,13 @@ pub returns-in_default-clause-decided : goal.returns-in_default-clause-decided
 returns-in_default-clause-decided g c =
     (refl, λ d i l j. ⊎_elim (λ n. n) (λ h. c.in_default.ensures.found (variable_of l) h) (c.requires.decidable.decidable d i l j))
 
-pub returns-in_default-clause-same : goal.returns-in_default-clause-same
-returns-in_default-clause-same g c = none-same (view c.args.ctx.now) c.args.ctx.now.vsids c.take_unassigned.new.vsids c.requires.decidable c.in_default.ensures
+pub returns-in_default-clause-forward : goal.returns-in_default-clause-forward
+returns-in_default-clause-forward g c = record {
+  decidable = none-same (view c.args.ctx.now) c.args.ctx.now.vsids c.take_unassigned.new.vsids c.requires.decidable c.in_default.ensures;
+  activities = c.in_default.ensures.rest;
+  last = refl;
+  state = refl;
+}
 
 pub returns-in_default-clause-decidable : goal.returns-in_default-clause-decidable
 returns-in_default-clause-decidable g c = none-decidable (view c.args.ctx.now) c.args.ctx.now.vsids c.take_unassigned.new.vsids c.requires.decidable

@@ -1,4 +1,4 @@
-use Rattle.std.proofs.Common.{◌≡◌, ℕ, ◌<◌, ◌+◌, ◌-◌, ◌^◌, ◌↔◌, List, false, length, map, min, refl, sym, ap, ◌∙◌, subst}
+use Rattle.std.proofs.Common.{◌≡◌, ℕ, ◌<◌, ◌↔◌, List, false, length, map, refl, sym, ap, ◌∙◌, subst}
 use Rattle.varisat_theory.specs.Membership.{◌∈◌, IsDistinct}
 use Rattle.varisat_theory.specs.Literals.{variable_of}
 use Rattle.varisat_theory.specs.Searches.{Search, Fits}
@@ -25,6 +25,7 @@ use Rattle.varisat_search.proofs.forgetting.drop_variables.Goals as goal
 abbrev after : (g : Over) (c : After-forget_activities g) → Context g.row.A.Denot
 after g c = record c.args.ctx.now {
   assignment = c.forget_values.new.assignment;
+  counters = record c.args.ctx.now.counters { removed_units = c.count.new.counter };
   impl_graph = c.renumber.new.impl_graph;
   trail = c.remove_units.new.self;
   vsids =
@@ -32,20 +33,20 @@ after g c = record c.args.ctx.now {
 }
 
 dropped : (g : Over) (c : After-forget_activities g) → IsWithout c.args.gone.now (view c.args.ctx.now) (view (after g c))
-dropped g c = without-view c.args.ctx.now (after g c) c.args.gone.now c.trail.result.now _ c.remove_units.ensures c.forget_values.ensures
-    c.trail.ensures c.renumber.ensures refl
+dropped g c = without-view c.args.ctx.now (after g c) c.args.gone.now c.trail-2.result.now c.remove_units.ensures c.forget_values.ensures
+    c.trail-2.ensures c.renumber.ensures refl
 
 pub renumber-requires-clause-known : goal.renumber-requires-clause-known
 renumber-requires-clause-known g c l h =
     let x = c.args.ctx.now in
-    let on = subst (λ ls. l ∈ ls) (c.trail.ensures ∙ ap (λ (t : TrailParts). t.literals) c.remove_units.ensures) h in
+    let on = subst (λ ls. l ∈ ls) (c.trail-2.ensures ∙ ap (λ (t : TrailParts). t.literals) c.remove_units.ensures) h in
     let (k, a, e) = place_in l x.trail.literals 0 (staying-was c.args.gone.now x.trail.literals l on).0 in
     subst (λ m. variable_of m < length x.impl_graph.nodes.items) e (inside-at (view x) c.requires.ready.well k a)
 
 pub renumber-requires-clause-distinct : goal.renumber-requires-clause-distinct
 renumber-requires-clause-distinct g c =
     let x = c.args.ctx.now in
-    subst (λ ls. IsDistinct (map variable_of ls)) (sym (c.trail.ensures ∙ ap (λ (t : TrailParts). t.literals) c.remove_units.ensures))
+    subst (λ ls. IsDistinct (map variable_of ls)) (sym (c.trail-2.ensures ∙ ap (λ (t : TrailParts). t.literals) c.remove_units.ensures))
     (staying-distinct (view x) c.args.gone.now c.requires.ready.well)
 
 pub returns-clause-dropped : goal.returns-clause-dropped
@@ -83,10 +84,3 @@ returns-clause-fits g c held f =
     subst (λ (y : Search). Fits (clauses_without c.args.gone.now held) y)
     (sym (without-seen c.args.gone.now (view x) (view (after g here)) c.requires.ready.well c.requires.settled (dropped g here)))
     (fits-without c.args.gone.now (search_of (view x)) (λ d i. c.requires.unmentioned d (subst (λ cs. d ∈ cs) (seen_clauses (view x)) i)) held f)
-
-pub returns-clause-units : goal.returns-clause-units
-returns-clause-units g c =
-    let t = c.args.ctx.now.trail in
-    let e = c.remove_units.ensures in
-    ap (λ (u : TrailParts). u.units_removed) e
-    ∙ ap (λ (ls : List ℕ). min (t.units_removed + (length t.literals - length ls)) (2 ^ 64 - 1)) (sym (ap (λ (u : TrailParts). u.literals) e))

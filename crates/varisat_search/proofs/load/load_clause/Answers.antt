@@ -1,5 +1,5 @@
 use Rattle.varisat_trace.proofs.Broken.{breaks-not}
-use Rattle.varisat_search.proofs.StepErrors.{memory-broken, trace-broken, store-broken, full-told}
+use Rattle.varisat_search.proofs.StepErrors.{memory-broken, trace-broken, store-broken, if-full, full-told}
 use Rattle.std.specs.List.Sorted.{IsPermutation}
 use Rattle.std.specs.Vec.{with_items}
 use Rattle.std.proofs.Common.{◌*◌, ◌<◌, ◌≤◌, List, false, replicate, length, ⊎_elim, refl, sym, ap, ◌∙◌, subst, arith}
@@ -53,7 +53,6 @@ loading g c =
         c.full_restart.ensures.undone.saved,
       );
       state = ap (λ (x : Context g.row.A.Denot). x.solver_state) c.full_restart.ensures.undone.kept ∙ c.accept_clause.ensures;
-      units = c.full_restart.ensures.undone.units;
       analysis = ap (λ (x : Context g.row.A.Denot). x.analyze_conflict.var_count) c.full_restart.ensures.undone.kept;
       flags = c.in_ok-collect_distinct.ensures.flags ∙ ap (λ (x : Context g.row.A.Denot). x.tmp_flags.flags.items) c.full_restart.ensures.undone.kept;
       watches = ap (λ (x : Context g.row.A.Denot). x.watchlists) c.full_restart.ensures.undone.kept;
@@ -87,6 +86,7 @@ returns-then-branch g c =
     (λ lines. TakesLines g.P.ProofTracer.takes p lines p) (g.met.P.ProofTracer.takes_none p) taut in
     record {
       full = tt;
+      size = tt;
       broken = tt;
       ready = o.ready;
       unsat = λ e. absurd (c.in_default.not-Unsat e);
@@ -96,12 +96,9 @@ returns-then-branch g c =
       assumptions = λ n. o.assumptions;
       last = λ n. o.last;
       state = λ n. o.state;
-      count = o.count;
-      units = o.units;
+      keeps = o.keeps;
       undecided =
           λ n. o.undecided;
-      decidable = o.decidable;
-      decay = o.decay;
       schedule = o.schedule;
       single =
           λ l e. loaded-none (loading g (goal.at.returns-then-branch g c).In_ok-collect_distinct) l e;
@@ -148,6 +145,7 @@ returns-then-is_satisfied g c =
     let o = satisfied g c d in
     record {
       full = tt;
+      size = tt;
       broken = tt;
       ready = o.ready;
       unsat = λ e. absurd (c.in_default.not-Unsat e);
@@ -157,12 +155,9 @@ returns-then-is_satisfied g c =
       assumptions = λ n. o.assumptions;
       last = λ n. o.last;
       state = λ n. o.state;
-      count = o.count;
-      units = o.units;
+      keeps = o.keeps;
       undecided =
           λ n. o.undecided;
-      decidable = o.decidable;
-      decay = o.decay;
       schedule = o.schedule;
       single = λ l e. loaded-none d l e;
     }
@@ -188,9 +183,10 @@ returns g c =
     let o = loaded-added (loading g (goal.at.returns g c).In_ok-collect_distinct) (g.P.ProofTracer.in_order p)
     (λ lines. TakesLines g.P.ProofTracer.takes p lines p) (g.met.P.ProofTracer.takes_none p)
     (λ l i t. let b = c.if-is_satisfied.ensures.1 (l, subst (λ ys. l ∈ ys) (sym c.deref.ensures.value) i, t) in absurd cc)
-    c.add_distinct.new.ctx k e.propagated e.tracks e.state e.units e.last e.added in
+    c.add_distinct.new.ctx k e.propagated e.tracks e.state e.last e.added in
     record {
       full = tt;
+      size = tt;
       broken = tt;
       ready = o.ready;
       unsat = λ e. absurd (c.in_default.not-Unsat e);
@@ -200,12 +196,9 @@ returns g c =
       assumptions = λ n. o.assumptions;
       last = λ n. o.last;
       state = λ n. o.state;
-      count = o.count;
-      units = o.units;
+      keeps = o.keeps;
       undecided =
           λ n. o.undecided;
-      decidable = o.decidable;
-      decay = o.decay;
       schedule = o.schedule;
       single =
           λ l i. loaded-one (loading g (goal.at.returns g c).In_ok-collect_distinct) l i c.add_distinct.new.ctx
@@ -223,6 +216,14 @@ returns-in_err-add_distinct-clause-full g c =
     (λ t. let b = c.in_ok-collect_distinct.ensures.tautology.1 t in absurd cc) (loading-inside d) in
     let count = ap length same in
     omega (arith, room, short, count))
+
+pub returns-in_err-add_distinct-clause-size : goal.returns-in_err-add_distinct-clause-size
+returns-in_err-add_distinct-clause-size g c =
+    let here = goal.at.returns-in_err-add_distinct-clause-size g c in
+    if-full c.from_residual-in_err-add_distinct.result c.in_err-add_distinct.field-0.0 _ c.from_residual-in_err-add_distinct.ensures (λ h.
+    let (room, same) = c.in_err-add_distinct.ensures.full h in
+    ap length same ∙ ap (λ (x : Context g.row.A.Denot). length x.assignment.current) c.collect_distinct.ensures.kept
+    ∙ (undone g here.After-full_restart).count)
 
 pub returns-in_err-collect_distinct-clause-broken : goal.returns-in_err-collect_distinct-clause-broken
 returns-in_err-collect_distinct-clause-broken g c =

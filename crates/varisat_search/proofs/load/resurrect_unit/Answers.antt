@@ -27,8 +27,7 @@ loaded g c =
           (reopened_state x.solver_state.sat_state) z.solver_state.sat_state c.requires.unopposed p e.verdict;
       state = e.state n ∙ ap (λ (b : SatState). record x.solver_state { sat_state = b; formula_is_empty = false }) v;
       assumptions = e.assumptions n;
-      decidable = e.decidable;
-      count = e.count;
+      keeps = e.keeps;
       schedule = c.load_clause.ensures.schedule;
     }
 
@@ -59,8 +58,7 @@ returns-then-eq g c =
       lines = λ n. b.lines;
       state = λ n. b.state;
       assumptions = λ n. b.assumptions;
-      decidable = b.decidable;
-      count = b.count;
+      keeps = b.keeps;
       quiet = λ n none all. subst (λ (y : Context g.row.A.Denot). y.trail.queue_head ≡ length y.trail.literals) (sym k)
           (next-quiet x.trail.literals c.load_clause.new.ctx.trail.literals x.trail.queue_head c.load_clause.new.ctx.trail.queue_head c.args.lit
           (u.trail none) (u.head none) all (sym c.queue_head.ensures ∙ is-literal c.queue_head.result c.args.lit (sym c.if-eq.ensures)));
@@ -79,8 +77,7 @@ returns-else-eq g c =
       lines = λ n. b.lines;
       state = λ n. b.state;
       assumptions = λ n. b.assumptions;
-      decidable = b.decidable;
-      count = b.count;
+      keeps = b.keeps;
       quiet = λ n none all. none-quiet x.trail.literals c.load_clause.new.ctx.trail.literals x.trail.queue_head
           c.load_clause.new.ctx.trail.queue_head c.args.lit (u.trail none) (u.head none) all
           (λ h. let a : false ≡ true = c.if-eq.ensures ∙ literal-is c.queue_head.result c.args.lit (c.queue_head.ensures ∙ h) in cc);

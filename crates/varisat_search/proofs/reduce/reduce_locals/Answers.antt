@@ -18,7 +18,7 @@ use Rattle.varisat_search.specs.DueReductions.{DropsLocals}
 use Rattle.varisat_search.proofs.DueReductions.{discards-keep}
 use Rattle.varisat_search.proofs.ReducedContext.{first-known, discards-ready}
 use Rattle.varisat_search.proofs.reduce.reduce_locals.Given.{Over}
-use Rattle.varisat_search.proofs.reduce.reduce_locals.Goals.{After-delete_unmarked, After-disable}
+use Rattle.varisat_search.proofs.reduce.reduce_locals.Goals.{After-delete_unmarked, After-count}
 use Rattle.varisat_search.proofs.reduce.reduce_locals.Goals as goal
 use Rattle.varisat_trace.specs.Traces.{TakesLines}
 
@@ -40,8 +40,8 @@ trace_deletions-requires g c =
       sound = c.mark_reasons.ensures.marked.sound;
       listed = l.known;
       able = can_take (g.P.ProofTracer.holds c.args.proof.now) 0 (search_of (view x)) _
-          (unmarked_deletions (stored_clauses marked) (c.len-count.result / 2) c.deref.result.now) c.requires.holds
-          (locals-go (view x) x.clause_alloc marked c.deref.result.now (c.len-count.result / 2) c.requires.ready.well refl c.mark_reasons.ensures.marked l);
+          (unmarked_deletions (stored_clauses marked) (c.len-half.result / 2) c.deref.result.now) c.requires.holds
+          (locals-go (view x) x.clause_alloc marked c.deref.result.now (c.len-half.result / 2) c.requires.ready.well refl c.mark_reasons.ensures.marked l);
     }
 
 pub delete_unmarked-requires : goal.delete_unmarked-requires
@@ -51,8 +51,8 @@ delete_unmarked-requires g c = record {
 }
 
 -- the clauses by rank, of which the first are deleted
-count-is : (g : Over) (c : After-delete_unmarked g) → c.len-count.result ≡ length c.deref-2.result.now
-count-is g c = omega (arith, c.len-count.ensures, c.deref-2.ensures.len)
+count-is : (g : Over) (c : After-delete_unmarked g) → c.len-half.result ≡ length c.deref-2.result.now
+count-is g c = omega (arith, c.len-half.ensures, c.deref-2.ensures.len)
 
 abbrev reduces : (g : Over) (c : After-delete_unmarked g) → ReducesLocals c.mark_reasons.new.clause_alloc c.delete_unmarked.new.alloc
 reduces g c =
@@ -77,18 +77,23 @@ discards g c =
     (store-view x (after g c) c.requires.ready.tracks.sound c.delete_unmarked.ensures.tracks.sound refl)
 
 -- the view does not read the watch lists
-abbrev last : (g : Over) (c : After-disable g) → Context g.row.A.Denot
-last g c = record c.args.ctx.now { clause_alloc = c.delete_unmarked.new.alloc; clause_db = c.delete_unmarked.new.db; watchlists = c.disable.new.self }
+abbrev last : (g : Over) (c : After-count g) → Context g.row.A.Denot
+last g c = record c.args.ctx.now {
+  clause_alloc = c.delete_unmarked.new.alloc;
+  clause_db = c.delete_unmarked.new.db;
+  counters = record c.args.ctx.now.counters { deleted_clauses = c.count.new.counter };
+  watchlists = c.disable.new.self;
+}
 
 pub returns-clause-keeps : goal.returns-clause-keeps
 returns-clause-keeps g c =
-    let end = (goal.at.returns-clause-keeps g c).After-disable in
+    let end = (goal.at.returns-clause-keeps g c).After-count in
     let here = (goal.at.returns-clause-keeps g c).After-delete_unmarked in
     let x = c.args.ctx.now in
     let marked = c.mark_reasons.new.clause_alloc in
     let deletions : ℕ → List ℕ → List Line = λ n ps. unmarked_deletions (stored_clauses marked) (n / 2) ps in
     let order = c.deref-2.result.now in
-    let whole : deletions c.len-count.result c.deref.result.now ≡ deletions (length order) order =
+    let whole : deletions c.len-half.result c.deref.result.now ≡ deletions (length order) order =
     ap (λ n. deletions n c.deref.result.now) (count-is g here) ∙ ap (deletions (length order)) (c.deref.ensures.value ∙ sym c.deref-2.ensures.value) in
     let d = c.disable.ensures in
     let sound = c.requires.ready.tracks.sound in

@@ -1,9 +1,9 @@
 use Rattle.varisat_trace.proofs.Broken.{error-broken}
-use Rattle.std.proofs.Common.{List, ◌∙◌, ap, sym}
+use Rattle.std.proofs.Common.{List, refl, sym, subst}
 use Rattle.varisat_theory.specs.Derivations.{Line}
-use Rattle.varisat_schedule.specs.Plans.{Plan}
 use Rattle.varisat_search.specs.declared.context.Context.{Context}
 use Rattle.varisat_search.specs.Contexts.{view}
+use Rattle.varisat_search.specs.Frames.{ChangesRestarted}
 use Rattle.varisat_search.specs.Seen.{search_of}
 use Rattle.varisat_search.proofs.RestartSteps.{begun-view}
 use Rattle.varisat_trace.specs.Traces.{HoldsFor}
@@ -32,10 +32,8 @@ returns-clause-begins g c =
       begun = t;
       restarts = c.restart_if_due.ensures.restarted;
       saves = c.restart_if_due.ensures.saved;
-      begins = e ∙ ap (λ (p : Plan). record x { assignment = t.assignment; trail = t.trail; vsids = t.vsids; schedule = p })
-          (sym (ap (λ (y : Context g.row.A.Denot). y.schedule) e));
+      begins = subst (λ (y : Context g.row.A.Denot). ChangesRestarted x y) (sym e) refl;
       decidable = c.restart_if_due.ensures.decidable;
-      units = c.restart_if_due.ensures.units;
       decay = c.restart_if_due.ensures.decay;
       reduces = c.in_ok-reduce_if_due.ensures.keeps;
       rest = c.reduce_if_due.ensures.kept;

@@ -19,7 +19,7 @@ restarts g c = record {
 
 -- the context whose levels were undone
 abbrev before : (g : Over) (c : After-restart g) → Context g.row.A.Denot
-before g c = record c.args.ctx.now { schedule = c.begin_step.new.self }
+before g c = record c.args.ctx.now { counters = record c.args.ctx.now.counters { restarts = c.count.new.counter }; schedule = c.begin_step.new.self }
 
 -- no assumption lost its level
 assumptions-stay : (g : Over) (c : After-restart g) → c.restart.new.ctx.assumptions ≡ c.args.ctx.now.assumptions
@@ -49,11 +49,17 @@ returns-clause-kept g c =
     ∙ ap (λ a. record c.args.ctx.now {
       assignment = c.restart.new.ctx.assignment;
       assumptions = a;
+      counters = c.restart.new.ctx.counters;
       trail = c.restart.new.ctx.trail;
       vsids = c.restart.new.ctx.vsids;
       schedule =
           c.begin_step.new.self;
     }) (assumptions-stay g here)
-    ∙ ap (λ p. record c.args.ctx.now
-    { assignment = c.restart.new.ctx.assignment; trail = c.restart.new.ctx.trail; vsids = c.restart.new.ctx.vsids; schedule = p })
+    ∙ ap (λ p. record c.args.ctx.now {
+      assignment = c.restart.new.ctx.assignment;
+      counters = c.restart.new.ctx.counters;
+      trail = c.restart.new.ctx.trail;
+      vsids = c.restart.new.ctx.vsids;
+      schedule = p;
+    })
     (c.begin_step.ensures.plan ∙ ap (λ n. step_begun n c.args.ctx.now.schedule) c.luby_restart_interval_scale-scale.ensures.value)

@@ -1,6 +1,6 @@
 use Rattle.varisat_trace.proofs.Broken.{breaks-on}
 use Rattle.varisat_search.proofs.StepErrors.{trace-broken, step-passed}
-use Rattle.std.proofs.Common.{List, ◌∙◌, ap, refl}
+use Rattle.std.proofs.Common.{List, length, ◌∙◌, ap, refl}
 use Rattle.varisat_theory.specs.Derivations.{Line}
 use Rattle.varisat_theory.specs.Outcomes.{Proves, Steps}
 use Rattle.varisat_schedule.specs.Plans.{Plan}
@@ -15,6 +15,7 @@ use Rattle.varisat_search.proofs.DueReductions.{keeps-are}
 use Rattle.varisat_search.proofs.MadeSteps.{made-with}
 use Rattle.varisat_trace.specs.Traces.{TakesLines, TakesStep}
 use Rattle.varisat_trace.proofs.Traced.{step-more}
+use Rattle.varisat_search.proofs.RestartSteps.{begun-view}
 use Rattle.varisat_search.proofs.ScheduledSteps.{scheduled-steps, scheduled-rises, scheduled-decidable, scheduled-last, scheduled-assumes}
 use Rattle.varisat_search.proofs.schedule.schedule_step.Goals as goal
 
@@ -59,29 +60,26 @@ returns-clause-steps g c =
       },
       step-more takes g.met.P.ProofTracer.takes_more p0 p1 p2 first more v i j,
     ))
-    m.steps
+    m.goes.steps
 
 pub returns-clause-rises : goal.returns-clause-rises
 returns-clause-rises g c e =
     let b = c.in_ok-begin_step.ensures.begins in
     scheduled-rises c.args.ctx.now b.begun c.begin_step.new.ctx c.requires.ready b.restarts b.reduces (view c.conflict_step.new.ctx)
-    (c.in_ok-conflict_step.ensures.made.rises e)
+    (c.in_ok-conflict_step.ensures.made.goes.rises e)
 
-pub returns-clause-decidable : goal.returns-clause-decidable
-returns-clause-decidable g c =
+pub returns-clause-keeps : goal.returns-clause-keeps
+returns-clause-keeps g c =
+    let x = c.args.ctx.now in
     let b = c.in_ok-begin_step.ensures.begins in
-    scheduled-decidable c.args.ctx.now b.begun c.begin_step.new.ctx c.requires.ready b.restarts b.reduces c.conflict_step.new.ctx b.decidable
-    c.in_ok-conflict_step.ensures.made.decidable
-
-pub returns-clause-decay : goal.returns-clause-decay
-returns-clause-decay g c =
-    let b = c.in_ok-begin_step.ensures.begins in
-    c.in_ok-conflict_step.ensures.made.decay ∙ ap (λ (y : Context g.row.A.Denot). y.vsids.decay) b.rest ∙ b.decay
-
-pub returns-clause-units : goal.returns-clause-units
-returns-clause-units g c =
-    let b = c.in_ok-begin_step.ensures.begins in
-    c.in_ok-conflict_step.ensures.made.units ∙ ap (λ (y : Context g.row.A.Denot). y.trail.units_removed) b.rest ∙ b.units
+    let u = c.begin_step.new.ctx in
+    let k = c.in_ok-conflict_step.ensures.made.goes.keeps in
+    let begun = begun-view x.schedule x.assumptions.levels (view x) (view b.begun) c.requires.ready.well c.requires.ready.settled b.restarts in
+    record {
+      decidable = scheduled-decidable x b.begun u c.requires.ready b.restarts b.reduces c.conflict_step.new.ctx b.decidable k.decidable;
+      decay = k.decay ∙ ap (λ (y : Context g.row.A.Denot). y.vsids.decay) b.rest ∙ b.decay;
+      count = k.count ∙ ap (λ (y : Context g.row.A.Denot). length y.assignment.current) b.rest ∙ begun.count;
+    }
 
 pub returns-clause-last : goal.returns-clause-last
 returns-clause-last g c =

@@ -1,17 +1,19 @@
-use Rattle.std.proofs.Common.{◌-◌, Err, subst, ◌∙◌, not, refl, sym, ap}
+use Rattle.std.proofs.Common.{◌-◌, Err, subst, ◌∙◌, not, length, arith, refl, sym, ap}
 use Rattle.varisat_search.specs.declared.state.SolverState.{SolverState}
 use Rattle.varisat_schedule.specs.Plans.{Plan}
+use Rattle.varisat_tracer.specs.TracerLaws.{checked-runs}
 use Rattle.varisat.specs.States.{State, Ledger}
 use Rattle.varisat.specs.Calls.{count_anew, IsExtensible, Ignored, Accepted, AddsClause}
-use Rattle.varisat.proofs.CallStates.{ledger-is, none-since, stands-valid, broken, broken-invalid, adds-broken}
+use Rattle.varisat.proofs.CallStates.{ledger-is, none-since, stands-valid, proof-fits, broken, broken-invalid, adds-broken}
 use Rattle.varisat.proofs.AcceptClause.{not-refuted}
 use Rattle.varisat_tracer.specs.Tracing.{parts_of, BreaksProof}
+use Rattle.varisat_search.specs.StepErrors.{step_faults}
 use Rattle.varisat.specs.Refusals.{told_faults}
 use Rattle.varisat.specs.Summaries.{Summary, StandsFor, spaces_with}
 use Rattle.varisat.specs.Targets.{WritesAll, WritesUpTo}
 use Rattle.varisat.specs.declared.solver.SolverError.TheVariants.{ClauseStoreFull, Invalid, ClauseAfterSolve}
 use Rattle.varisat.proofs.Targets.{writes-nothing, refused-unwritten, tells-writes, breaks-writes, names-unwritten, names-not-full, refused-full, same-error}
-use Rattle.varisat.proofs.OpenProofs.{broken-open, searched-there, unsearched-there}
+use Rattle.varisat.proofs.OpenProofs.{broken-open, broken-on, closed-there, unclosed-there}
 use Rattle.varisat.proofs.ClauseJoins.{ClauseJoins, clause-joins}
 use Rattle.varisat.proofs.SettingsCalls.{summary_of}
 use Rattle.varisat.proofs.Additions.{told-error}
@@ -47,7 +49,7 @@ returns-in_err-check_names-clause-call g c s st =
     let ok = ap not c.if-self.false in
     let bad : IsExtensible s = record {
       unrefuted = not-refuted _ s q ok c.in_default.not-Unsat;
-      unsearched = unsearched-there _ s.variables s.told s.proof c.is_searched.result (q.proof ok) c.is_searched.ensures c.if-is_searched.false;
+      unbarred = unclosed-there _ s.variables s.told s.proof c.bars_clauses.result (proof-fits q ok) c.bars_clauses.ensures c.if-bars_clauses.false;
     } in
     let refused = told-error c.from_residual.result c.in_err-check_names.field-0.0 c.from_residual.ensures in (
       s,
@@ -61,7 +63,7 @@ joins : (g : Over) (c : In-Ok g) (s : State) → StandsFor
     (summary_of (parts_of c.self.inside.tracer) c.self.inside.started c.self.inside.changed_at c.self.inside.ctx) s →
     ClauseJoins s c.args.clause.now
     (spaces_with c.accept_clause.new.tracer.variables c.accept_clause.new.tracer.proof.checker c.accept_clause.new.ctx)
-    c.accept_clause.new.tracer.proof.opened
+    c.accept_clause.new.tracer.proof.opened (length c.accept_clause.new.ctx.clause_alloc.words)
 joins g c s st =
     let e = c.in-Ok.ensures {u = tt} in
     let ok = ap not c.if-self.false in
@@ -69,7 +71,8 @@ joins g c s st =
     let new = c.accept_clause.new in
     let (x, told, variables, v, more, keep, proof, now) = e.accepted s (st.fits ok) in
     clause-joins s c.args.clause.now (spaces_with old.tracer.variables old.tracer.proof.checker old.ctx)
-    (spaces_with new.tracer.variables new.tracer.proof.checker new.ctx) old.tracer.proof new.tracer.proof x told variables (st.fits ok) (st.proof ok) v more
+    (spaces_with new.tracer.variables new.tracer.proof.checker new.ctx) old.tracer.proof new.tracer.proof x told variables
+    (length c.accept_clause.new.ctx.clause_alloc.words) (st.fits ok) (proof-fits st ok) v more
     keep proof now
 
 pub returns-in-Ok-clause-call : goal.returns-in-Ok-clause-call
@@ -79,7 +82,7 @@ returns-in-Ok-clause-call g c s st =
     let ok = ap not c.if-self.false in
     let bad : IsExtensible s = record {
       unrefuted = not-refuted _ s q ok c.in_default.not-Unsat;
-      unsearched = unsearched-there _ s.variables s.told s.proof c.is_searched.result (q.proof ok) c.is_searched.ensures c.if-is_searched.false;
+      unbarred = unclosed-there _ s.variables s.told s.proof c.bars_clauses.result (proof-fits q ok) c.bars_clauses.ensures c.if-bars_clauses.false;
     } in
     let plan = c.accept_clause.ensures.schedule in
     let j = joins g (goal.at.returns-in-Ok-clause-call g c).In-Ok s q in (
@@ -92,13 +95,18 @@ returns-in-Ok-clause-call g c s st =
       ),
       record {
         ledger = j.ledger
-            ∙ ledger-is _ _ _ _ _ _ (ap (λ (x : Ledger). x.valid) q.ledger ∙ ap (λ (x : SolverState). not x.state_is_invalid) (sym e.state)) refl
+            ∙ ledger-is _ _ _ _ _ _ _ (ap (λ (x : Ledger). x.valid) q.ledger ∙ ap (λ (x : SolverState). not x.state_is_invalid) (sym e.state)) refl
             (ap (λ (x : Ledger). x.steps) q.ledger ∙ sym (ap (λ (x : Plan). x.steps) plan.schedule))
             (none-since c.steps-self-inside.result c.accept_clause.new.ctx.schedule.steps c.steps-self-inside.ensures.steps)
-            (ap (λ (x : Ledger). x.settings) q.ledger ∙ sym plan.solver_config);
+            (ap (λ (x : Ledger). x.settings) q.ledger ∙ sym plan.solver_config)
+            (ap (λ (x : Ledger). x.checking) q.ledger
+            ∙ sym (checked-runs c.self.inside.tracer.proof.checker c.accept_clause.new.tracer.proof.checker e.told.0 e.told.1.checked));
+        words = j.size;
+        same = j.proof.same;
         fits = λ _. j.fits;
-        proof = λ _. j.proof;
+        written = λ _. j.proof.written;
         flags = λ _. j.flags (q.flags ok);
+        bounded = λ _. e.kept.bounded;
       },
     )
 
@@ -108,24 +116,32 @@ returns-in-Err-clause-call g c s st =
     let ok = ap not c.if-self.false in
     let bad : IsExtensible s = record {
       unrefuted = not-refuted _ s q ok c.in_default.not-Unsat;
-      unsearched = unsearched-there _ s.variables s.told s.proof c.is_searched.result (q.proof ok) c.is_searched.ensures c.if-is_searched.false;
+      unbarred = unclosed-there _ s.variables s.told s.proof c.bars_clauses.result (proof-fits q ok) c.bars_clauses.ensures c.if-bars_clauses.false;
     } in
-    let k = c.accept_clause.ensures.schedule in (
-      broken s,
-      subst (λ e. AddsClause s c.args.clause.now (Err e) (broken s)) (sym c.from.ensures)
-          (adds-broken c.in-Err.error s (broken s) c.args.clause.now
-          (λ f. broken-open c.self.inside.tracer.proof c.accept_clause.new.tracer.proof s.variables s.told s.proof (q.proof ok)
+    let k = c.accept_clause.ensures.schedule in
+    let words = length c.accept_clause.new.ctx.clause_alloc.words in
+    let (now, goes, same) = broken-on c.self.inside.tracer.proof c.accept_clause.new.tracer.proof (step_faults c.in-Err.error) s.proof q.same
+    c.in-Err.ensures.broken in (
+      broken now words s,
+      subst (λ e. AddsClause s c.args.clause.now (Err e) (broken now words s)) (sym c.from.ensures)
+          (adds-broken c.in-Err.error s (broken now words s) c.args.clause.now
+          (λ f. broken-open c.self.inside.tracer.proof c.accept_clause.new.tracer.proof s.variables s.told s.proof (proof-fits q ok)
           (subst (λ n. BreaksProof c.self.inside.tracer.proof n c.accept_clause.new.tracer.proof) f c.in-Err.ensures.broken)) bad
           (may-constrain _ s q (ap not c.if-self.false) c.args.clause.now c.in_ok-check_names.ensures.0 c.in_ok-check_names.ensures.1)
-          (broken-invalid s (stands-valid _ s q (ap not c.if-self.false)) (q.fits (ap not c.if-self.false)).1.well_formed)),
+          (broken-invalid (step_faults c.in-Err.error) s now words (stands-valid _ s q (ap not c.if-self.false)) goes (q.fits (ap not c.if-self.false)).1.well_formed)
+          (λ f. let room = c.in-Err.ensures.full f in let few = c.in-Err.ensures.size f s (q.fits ok) in omega (arith, room, few))),
       record {
-        ledger = ledger-is _ _ _ _ _ _ refl (ap (λ (x : Ledger). x.started) q.ledger)
+        ledger = ledger-is _ _ _ _ _ _ _ refl (ap (λ (x : Ledger). x.started) q.ledger)
             (ap (λ (x : Ledger). x.steps) q.ledger ∙ sym (ap (λ (x : Plan). x.steps) k.schedule))
             (ap (λ (x : Ledger). x.since) q.ledger ∙ sym (ap (λ (x : Plan). x.steps - c.self.inside.changed_at) k.schedule))
-            (ap (λ (x : Ledger). x.settings) q.ledger ∙ sym k.solver_config);
+            (ap (λ (x : Ledger). x.settings) q.ledger ∙ sym k.solver_config)
+            (ap (λ (x : Ledger). x.checking) q.ledger ∙ sym c.in-Err.ensures.broken.2);
+        words = refl;
+        same = same;
         fits = λ e. absurd cc;
-        proof = λ e. absurd cc;
+        written = λ e. absurd cc;
         flags = λ e. absurd cc;
+        bounded = λ e. absurd cc;
       },
     )
 
@@ -137,16 +153,16 @@ returns-in-Unsat-clause-call g c s st =
       c.begin_count.ensures.call s st,
     )
 
-pub returns-then-is_searched-clause-call : goal.returns-then-is_searched-clause-call
-returns-then-is_searched-clause-call g c s st =
+pub returns-then-bars_clauses-clause-call : goal.returns-then-bars_clauses-clause-call
+returns-then-bars_clauses-clause-call g c s st =
     let q = rw (← c.self.view_is) at st in
     let ok = ap not c.if-self.false in (
       s,
       (
         stands-valid _ s q ok,
         not-refuted _ s q ok c.in_default.not-Unsat,
-        searched-there _ s.variables s.told s.proof c.is_searched.result
-            (q.proof ok) c.is_searched.ensures c.if-is_searched.true,
+        closed-there _ s.variables s.told s.proof c.bars_clauses.result
+            (proof-fits q ok) c.bars_clauses.ensures c.if-bars_clauses.true,
         refl,
       ),
       st,
@@ -159,8 +175,8 @@ pub returns-in-Unsat-clause-target : goal.returns-in-Unsat-clause-target
 returns-in-Unsat-clause-target g c =
     subst (WritesAll c.args.self.now.opened) (sym (ap (λ (x : Summary). x.opened) c.begin_count.ensures.rest)) (writes-nothing c.args.self.now.opened)
 
-pub returns-then-is_searched-clause-target : goal.returns-then-is_searched-clause-target
-returns-then-is_searched-clause-target g c = refused-unwritten c.args.self.now.opened ClauseAfterSolve refl
+pub returns-then-bars_clauses-clause-target : goal.returns-then-bars_clauses-clause-target
+returns-then-bars_clauses-clause-target g c = refused-unwritten c.args.self.now.opened ClauseAfterSolve refl
 
 pub returns-in_err-check_names-clause-target : goal.returns-in_err-check_names-clause-target
 returns-in_err-check_names-clause-target g c =

@@ -1,6 +1,6 @@
-use Rattle.std.proofs.Common.{None, Ok, Err, false, not, refl, sym, ap, subst}
+use Rattle.std.proofs.Common.{◌≡◌, ◌∙◌, None, Ok, Err, true, false, not, refl, sym, ap, subst}
 use Rattle.std.specs.declared.io.Error.{Error}
-use Rattle.varisat_proof.specs.Proving.{ProofParts, IsClosed}
+use Rattle.varisat_proof.specs.Proving.{ProofParts, is_there, IsClosed}
 use Rattle.varisat_tracer.specs.Tracing.{CanTell}
 use Rattle.varisat.specs.OpenProofs.{opened_state}
 use Rattle.varisat.specs.declared.solver.SolverError.{SolverError}
@@ -9,7 +9,7 @@ use Rattle.varisat.specs.States.{Ledger}
 use Rattle.varisat.specs.Summaries.{spaces_with, StandsForSome}
 use Rattle.varisat.specs.Calls.{count_anew}
 use Rattle.varisat.specs.ProofCalls.{with_proof}
-use Rattle.varisat.proofs.CallStates.{stands-valid, broken, broken-invalid}
+use Rattle.varisat.proofs.CallStates.{ledger-is, stands-valid, told-well, broken, broken-invalid}
 use Rattle.varisat.proofs.OpenProofs.{closed-back, closed-fails}
 use Rattle.varisat.proofs.SettingsCalls.{stands-with-proof}
 use Rattle.varisat.proofs.SinceSteps.{since-now}
@@ -37,17 +37,15 @@ returns-in-Ok-clause-call g c s st =
     let ok = ap not c.if-self.false in (
       count_anew (with_proof None s),
       (
-        (λ v. (
-          closed-back Error SolverError g.W.ProofTarget.taken (opened_state s.proof) c.in-Ok.target
-              (subst (λ o. IsClosed {E = Error} g.W.ProofTarget.taken o (Ok c.in-Ok.target)) (q.proof ok).same c.in-Ok.ensures.taken),
-          proof-of _ s q ok,
-        )),
+        closed-back Error SolverError g.W.ProofTarget.taken (opened_state s.proof) c.in-Ok.target
+            (subst (λ o. IsClosed {E = Error} g.W.ProofTarget.taken o (Ok c.in-Ok.target)) q.same c.in-Ok.ensures.taken),
+        (λ _. proof-of _ s q ok),
         refl,
       ),
       stands-with-proof c.self.inside.tracer.variables c.self.inside.tracer.proof c.close_proof.new.proof c.self.inside.started
           c.self.inside.changed_at c.steps-self-inside-in-Ok.result c.self.inside.ctx s None c.steps-self-inside-in-Ok.ensures.steps
           (ap (λ (p : ProofParts). p.checker) c.close_proof.ensures.closed)
-          (ap (λ (p : ProofParts). p.opened) c.close_proof.ensures.closed) tt (λ (p, e). absurd cc) q,
+          (ap (λ (p : ProofParts). p.opened) c.close_proof.ensures.closed) (λ _. tt) (λ (p, e, b). absurd cc) q,
     )
 
 pub returns-in-Ok-clause-handed : goal.returns-in-Ok-clause-handed
@@ -61,13 +59,41 @@ pub returns-in-Err-clause-call : goal.returns-in-Err-clause-call
 returns-in-Err-clause-call g c s st =
     let q = rw (← c.self.view_is) at st in
     let ok = ap not c.if-self.false in
-    let closed = subst (λ o. IsClosed g.W.ProofTarget.taken o (Err (c.in-Err.cause, c.in-Err.target))) (q.proof ok).same c.in-Err.ensures.taken in (
-      broken s,
+    let closed = subst (λ o. IsClosed g.W.ProofTarget.taken o (Err (c.in-Err.cause, c.in-Err.target))) q.same c.in-Err.ensures.taken in (
+      broken None s.words s,
       (
         closed-fails g.W.ProofTarget.taken (opened_state s.proof) c.in-Err.cause
             (ProofIoError c.in-Err.cause) c.in-Err.target closed,
         proof-of _ s q ok,
-        broken-invalid s (stands-valid _ s q ok) (q.fits ok).1.well_formed,
+        broken-invalid 0 (with_proof None s) None s.words (stands-valid _ s q ok) (refl, refl) (told-well s (with_proof None s) (q.fits ok).1.well_formed),
       ),
-      record { ledger = ap (λ (l : Ledger). record l { valid = false }) q.ledger; fits = λ v. absurd cc; proof = λ v. absurd cc; flags = λ v. absurd cc },
+      record {
+        ledger = ledger-is _ _ _ _ _ _ _ refl (ap (λ (l : Ledger). l.started) q.ledger) (ap (λ (l : Ledger). l.steps) q.ledger)
+            (ap (λ (l : Ledger). l.since) q.ledger) (ap (λ (l : Ledger). l.settings) q.ledger)
+            (ap (λ (l : Ledger). l.checking) q.ledger ∙ ap (λ (p : ProofParts). is_there p.checker) (sym c.close_proof.ensures.closed));
+        words = q.words;
+        same = ap (λ (p : ProofParts). p.opened) c.close_proof.ensures.closed;
+        fits = λ v. absurd cc;
+        written = λ v. absurd cc;
+        flags = λ v. absurd cc;
+        bounded = λ v. absurd cc;
+      },
+    )
+
+-- The solver is invalid: the target comes back as it is.
+pub returns-then-self-clause-call : goal.returns-then-self-clause-call
+returns-then-self-clause-call g c s st =
+    let q = rw (← c.self.view_is) at st in (
+      count_anew (with_proof None s),
+      (
+        closed-back (Unit {0}) SolverError g.W.ProofTarget.taken (opened_state s.proof) c.take_target.result
+            (subst (λ o. IsClosed {E = Unit {0}} g.W.ProofTarget.taken o (Ok c.take_target.result)) q.same c.take_target.ensures.taken),
+        (λ v. absurd (let z : false ≡ true = ap not (sym c.if-self.true) ∙ ap (λ (l : Ledger). l.valid) (sym q.ledger) ∙ v in cc)),
+        refl,
+      ),
+      stands-with-proof c.self.inside.tracer.variables c.self.inside.tracer.proof c.take_target.new.proof c.self.inside.started
+          c.self.inside.changed_at c.steps-self-inside.result c.self.inside.ctx s None c.steps-self-inside.ensures.steps
+          (ap (λ (p : ProofParts). p.checker) c.take_target.ensures.closed)
+          (ap (λ (p : ProofParts). p.opened) c.take_target.ensures.closed)
+          (λ v. absurd (let z : false ≡ true = ap not (sym c.if-self.true) ∙ v in cc)) (λ (p, e, b). absurd cc) q,
     )

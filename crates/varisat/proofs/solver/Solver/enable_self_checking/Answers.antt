@@ -1,8 +1,8 @@
 use Rattle.std.proofs.Common.{◌∙◌, not, refl, ap}
 use Rattle.varisat.specs.States.{Ledger}
-use Rattle.varisat.specs.Calls.{count_anew}
+use Rattle.varisat.specs.ProofCalls.{begin_checking}
 use Rattle.varisat.proofs.CallStates.{stands-valid}
-use Rattle.varisat.proofs.SelfChecking.{begun-or-on, tells-checking, some-checking, stands-checking}
+use Rattle.varisat.proofs.SelfChecking.{begun-or-on, some-there, tells-checking, some-checking, stands-checking}
 use Rattle.varisat.proofs.SinceSteps.{since-now}
 use Rattle.varisat.proofs.solver.Solver.enable_self_checking.Goals as goal
 
@@ -25,10 +25,11 @@ returns-clause-call g c s st =
     let ok = ap not c.if-self.false in
     let fresh = ap (λ (l : Ledger). l.started) q.ledger ∙ c.if-is_late.false in
     let (e, runs) = begun-or-on c.self.inside.tracer.proof c.begin_checking.new.self c.begin_checking.ensures.begun c.begin_checking.ensures.stays in (
-      count_anew s,
+      begin_checking s,
       (stands-valid _ s q ok, fresh, refl),
       stands-checking c.self.inside.tracer.variables c.self.inside.tracer.proof c.begin_checking.new.self c.self.inside.started
-          c.self.inside.changed_at c.steps-self-inside.result c.self.inside.ctx s c.steps-self-inside.ensures.steps e fresh q,
+          c.self.inside.changed_at c.steps-self-inside.result c.self.inside.ctx s
+          c.steps-self-inside.ensures.steps e (some-there c.begin_checking.new.self.checker runs) fresh q,
     )
 
 pub returns-clause-runs : goal.returns-clause-runs

@@ -7,11 +7,12 @@ use Rattle.varisat_names.specs.Variables.{Tables, no_variables}
 use Rattle.varisat_search.specs.declared.context.Context.{Context}
 use Rattle.varisat_search.specs.declared.state.SatState.TheVariants as verdict
 use Rattle.varisat_search.specs.Seen.{search_of, first_search}
+use Rattle.varisat_clause.specs.Stores.{Store}
 use Rattle.varisat_tracer.specs.Tracing.{CanTell}
 use Rattle.varisat.specs.States.{empty_state}
 use Rattle.varisat.specs.Spaces.{SpacesFit}
 use Rattle.varisat.specs.Summaries.{spaces_of, spaces_with, StandsForSome}
-use Rattle.varisat_proof.specs.Proving.{ProofParts}
+use Rattle.varisat_proof.specs.Proving.{ProofParts, is_there}
 use Rattle.varisat.proofs.CallStates.{ledger-is}
 use Rattle.varisat.proofs.SolverCalls.{first-spaces, first-kept}
 use Rattle.varisat.proofs.SinceSteps.{since-now, first-plan-is}
@@ -35,13 +36,18 @@ unfolding begun
 returns g c =
     let s = c.new_in.ensures.state in
     record {
-      ledger = ledger-is _ _ _ _ _ _ (ap (λ (x : SolverState). not x.state_is_invalid) (sym s)) refl
+      ledger = ledger-is _ _ _ _ _ _ _ (ap (λ (x : SolverState). not x.state_is_invalid) (sym s)) refl
           (ap (λ (x : Plan). x.steps) (sym c.new_in.ensures.schedule)) (ap (λ (x : Plan). x.steps - 0) (sym c.new_in.ensures.schedule))
-          (sym c.new_in.ensures.config);
+          (sym c.new_in.ensures.config) (ap (λ (p : ProofParts). is_there p.checker) (sym c.new_in-2.ensures.proof));
       fits = λ _. (begun c.new_in-2.result.variables c.new_in-2.result.proof c.new_in.result c.new_in-2.ensures.variables c.new_in-2.ensures.proof
           c.new_in.ensures.assumptions (ap (λ (x : SolverState). x.sat_state) c.new_in.ensures.state) c.new_in.ensures.seen c.new_in.ensures.empty).1;
-      proof = λ _. record { same = ap (λ (p : ProofParts). p.opened) c.new_in-2.ensures.proof; written = tt };
-      flags = λ _. record { clauses = λ e. refl; assumptions = λ e. refl; counted = λ e. refl; unassumed = λ (p, e). absurd cc };
+      words = ap (λ (x : Store). length x.words) (sym c.new_in.ensures.unstored);
+      same = ap (λ (p : ProofParts). p.opened) c.new_in-2.ensures.proof;
+      written = λ _. tt;
+      flags = λ _. record { clauses = λ e. refl; assumptions = λ e. refl; counted = λ e. refl; unlisted = λ e. refl; unassumed = λ (p, e, b). absurd cc };
+      bounded = λ _.
+          let e = c.new_in.ensures in
+          (first-kept c.new_in-2.result.variables c.new_in.result c.new_in-2.ensures.variables e.ready e.empty e.assumptions e.none_decidable).bounded;
     }
 
 pub invariant_of-result : goal.invariant_of-result

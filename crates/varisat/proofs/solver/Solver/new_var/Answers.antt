@@ -8,19 +8,40 @@ use Rattle.varisat.specs.Summaries.{spaces}
 use Rattle.varisat.specs.States.{Ledger, with_variables}
 use Rattle.varisat.specs.Names.{Naming, name_one}
 use Rattle.varisat.specs.Calls.{with_naming, start}
+use Rattle.varisat.specs.Accepting.{AreBounded}
 use Rattle.varisat.proofs.AcceptClause.{with_tables, ledger-free}
 use Rattle.varisat_search.proofs.KeptNames.{given-keeps}
 use Rattle.varisat.proofs.PlainTables.{is-there, there-is, assumed-keeps, marked-keeps}
 use Rattle.varisat.proofs.KeptCounts.{given-most}
-use Rattle.varisat.proofs.CallStates.{ledger-is, none-since, stands-valid, flags-started, like-varied, broken, broken-invalid}
-use Rattle.varisat.proofs.OpenProofs.{goes-on-none, fits-alike}
+use Rattle.varisat.proofs.CallStates.{ledger-is, none-since, stands-valid, proof-fits, flags-started, like-varied, broken, broken-untold}
+use Rattle.varisat.proofs.OpenProofs.{goes-on-none, fits-alike, lines-of-entries}
 use Rattle.varisat.proofs.WrittenVariables.{written-alike}
 use Rattle.varisat.proofs.SettingsCalls.{summary_of}
 use Rattle.varisat.proofs.SolverCalls.{least-free, named-alone, new-named}
 use Rattle.varisat.proofs.SinceSteps.{since-now}
 use Rattle.varisat.proofs.VariablesInUse.{tables-in-use}
+use Rattle.varisat.proofs.solver.Solver.new_var.Given.{Over}
+use Rattle.varisat.proofs.solver.Solver.new_var.Goals.{In-Ok}
 use Rattle.varisat.proofs.solver.Solver.new_var.Goals.{then-index-max_count-via-then-index-max_count, then-index-max_count-via-else-index-max_count+then-global_watermark-max_count}
 use Rattle.varisat.proofs.solver.Solver.new_var.Goals as goal
+
+-- no number is past the limit then
+still-bounded : (g : Over) (c : In-Ok g) → AreBounded c.new_user_var.new.variables
+still-bounded g c =
+    let k = (c.self.invariant c.if-self.false).kept in
+    let least = (c.in-Ok.ensures {u = tt}).given in
+    let t = least.given in
+    let old = c.self.inside.tracer.variables in
+    let new = c.new_user_var.new.variables in
+    let u = c.in-Ok.user in
+    let same = unmapped-same old.users.forward u c.next_unmapped_user-next.result least.least c.next_unmapped_user-next.ensures.least in
+    let w = t.users.forward.watermark in
+    let m = given-most old new u least.global t in
+    record {
+      users = omega (arith, w, k.bounded.users, same, c.index.ensures.index, c.max_count.ensures, c.if-index-max_count.false);
+      globals = omega (arith, m, c.global_watermark.ensures, c.max_count-else-index-max_count.ensures, c.if-global_watermark-max_count.false);
+      solvers = let q = ap (λ m. length m.backward) t.solvers in omega (arith, q, k.bounded.solvers);
+    }
 
 pub invariant_of-self : goal.invariant_of-self
 invariant_of-self g c v =
@@ -31,17 +52,10 @@ invariant_of-self g c v =
     let new = c.new_user_var.new.variables in
     let u = c.in-Ok.user in
     let x = least.global in
-    let same = unmapped-same old.users.forward u c.next_unmapped_user-next.result least.least c.next_unmapped_user-next.ensures.least in
     let keeps = given-keeps old new u x least.least.0 t in
-    let w = t.users.forward.watermark in
-    let m = given-most old new u x t in
     record {
       kept = record {
-        bounded = record {
-          users = omega (arith, w, k.bounded.users, same, c.index.ensures.index, c.max_count.ensures, c.if-index-max_count.false);
-          globals = omega (arith, m, c.global_watermark.ensures, c.max_count-else-index-max_count.ensures, c.if-global_watermark-max_count.false);
-          solvers = let q = ap (λ m. length m.backward) t.solvers in omega (arith, q, k.bounded.solvers);
-        };
+        bounded = still-bounded g (goal.at.invariant_of-self g c).In-Ok;
         ready = k.ready;
         count = k.count ∙ ap (λ m. length m.backward) (sym t.solvers);
         decidable = tables-in-use old new (view c.self.inside.ctx) c.self.inside.ctx.vsids t.solvers k.decidable;
@@ -79,17 +93,20 @@ returns-in-Ok g c s st =
         least-free old s u f t.least,
         omega
             (arith, same, c.index.ensures.index, c.max_count.ensures, c.if-index-max_count.false),
-        like-varied (start named) variables alike,
+        like-varied (start named) variables s.words (lines-of-entries s.variables variables s.told alike),
       ),
       record {
-        ledger = ledger-is _ _ _ _ _ _ (ap (λ (x : Ledger). x.valid) q.ledger) refl (ap (λ (x : Ledger). x.steps) q.ledger)
+        ledger = ledger-is _ _ _ _ _ _ _ (ap (λ (x : Ledger). x.valid) q.ledger) refl (ap (λ (x : Ledger). x.steps) q.ledger)
             (none-since c.steps-self-inside.result c.self.inside.ctx.schedule.steps c.steps-self-inside.ensures.steps)
-            (ap (λ (x : Ledger). x.settings) q.ledger);
+            (ap (λ (x : Ledger). x.settings) q.ledger) (ap (λ (x : Ledger). x.checking) q.ledger);
         fits = λ _. (
           w,
           ledger-free w (spaces (with_tables new old)) (with_variables variables named) (record s.ledger { started = true; since = 0 }) n,
         );
-        proof = λ v. fits-alike _ s.variables variables s.told s.told s.proof alike (q.proof v);
+        words = q.words;
+        same = q.same;
+        written = λ v. (fits-alike _ s.variables variables s.told s.proof alike (proof-fits q v)).written;
+        bounded = λ _. still-bounded g (goal.at.returns-in-Ok g c).In-Ok;
         flags = λ v. flags-started s (start (with_variables variables named)) (q.flags v) refl refl (goes-on-none s.proof);
       },
     )
@@ -100,12 +117,20 @@ returns-in-Err g c s st =
     let f = q.fits (ap not c.if-self.false) in
     let least = least-free (summary_of (parts_of c.self.inside.tracer) c.self.inside.started c.self.inside.changed_at c.self.inside.ctx) s
     c.next_unmapped_user-next.result f c.next_unmapped_user-next.ensures.least in (
-      broken s,
+      broken s.proof s.words s,
       (
         (c.next_unmapped_user-next.result, least, omega (arith, c.index.ensures.index, c.max_count.ensures, c.if-index-max_count.false)),
-        broken-invalid s (stands-valid _ s q (ap not c.if-self.false)) f.1.well_formed,
+        broken-untold s s.words (stands-valid _ s q (ap not c.if-self.false)) f.1.well_formed,
       ),
-      record { ledger = ap (λ (x : Ledger). record x { valid = false }) q.ledger; fits = λ e. absurd cc; proof = λ e. absurd cc; flags = λ e. absurd cc },
+      record {
+        ledger = ap (λ (x : Ledger). record x { valid = false }) q.ledger;
+        words = q.words;
+        same = q.same;
+        fits = λ e. absurd cc;
+        written = λ e. absurd cc;
+        flags = λ e. absurd cc;
+        bounded = λ e. absurd cc;
+      },
     )
 
 pub returns-then-index-max_count : goal.returns-then-index-max_count

@@ -5,13 +5,14 @@ use Rattle.varisat_search.specs.declared.state.SatState.TheVariants as verdict
 use Rattle.varisat_search.specs.declared.state.SolverState.{SolverState}
 use Rattle.varisat_search.specs.Contexts.{view}
 use Rattle.varisat_schedule.specs.CallSteps.{steps_since}
+use Rattle.varisat_tracer.specs.TracerLaws.{checked-runs}
 use Rattle.varisat.specs.Budgets.{told_verdict, CountsSteps}
 use Rattle.varisat.specs.States.{State, Ledger}
 use Rattle.varisat_tracer.specs.Tracing.{TracerState, parts_of, BreaksProof}
 use Rattle.varisat.specs.OpenProofs.{OpenProof, ProofFits, GoesOnWriting}
 use Rattle.varisat.specs.Targets.{WritesUpTo}
 use Rattle.varisat.proofs.Targets.{writes-nothing, refused-unwritten, tells-writes, tells-refused, breaks-writes, refused-full, same-error}
-use Rattle.varisat.proofs.OpenProofs.{proof-goes-on, broken-open}
+use Rattle.varisat.proofs.OpenProofs.{proof-goes-on, broken-open, broken-on}
 use Rattle.varisat.specs.Searches.{answer_at, ComesTo, ComesOn, FindsVerdict}
 use Rattle.varisat_names.specs.Variables.{Tables}
 use Rattle.varisat_proof.specs.Calls.{CheckerState}
@@ -21,10 +22,13 @@ use Rattle.varisat.specs.Summaries.{StandsFor, StandsForSome, spaces_of, spaces_
 use Rattle.varisat.specs.Calls.{with_steps, Searches, IsInterrupted, TellsVerdict}
 use Rattle.varisat.specs.declared.solver.SolverError.{SolverError}
 use Rattle.varisat.specs.declared.solver.SolverError.TheVariants.{Interrupted, ClauseStoreFull, Invalid}
+use Rattle.varisat_search.specs.StepErrors.{step_faults}
 use Rattle.varisat.specs.Refusals.{step_refusal, told_faults}
-use Rattle.varisat.proofs.CallStates.{ledger-is, more-since, stands-valid, told-well, broken, broken-invalid, searches-broken}
+use Rattle.varisat.proofs.CallStates.{ledger-is, more-since, stands-valid, proof-fits, told-well, broken, broken-invalid, searches-broken}
+use Rattle.varisat.proofs.AcceptClause.{few-made}
 use Rattle.varisat.proofs.SettingsCalls.{summary_of}
 use Rattle.varisat.proofs.SolverCalls.{counted-call, was-unknown, sat-model, sat-right, known-told, false-right, false-core, answered-true, answered-false, answered-none}
+use Rattle.varisat.proofs.GivenEntries.{lists-ended, lists-on}
 use Rattle.varisat.proofs.SolverSteps.{unknown-undecided, after-solve, flags-after, comes-satisfiable, comes-unsatisfiable, comes-fits, comes-verdict, comes-interrupted, interrupted-still}
 use Rattle.varisat.proofs.solver.Solver.seek.Given.{Over}
 use Rattle.varisat.proofs.solver.Solver.seek.Goals.{In-Ok-Some, In-Ok-None}
@@ -65,18 +69,24 @@ module _ {A : Type 0} {p q : TracerState} {started : Bool} {changed_at : ℕ} {x
       more-since changed_at s.ledger.steps y.schedule.steps s.ledger.since (omega (arith, low, steps)) (omega (arith, e)) (omega (arith, since, steps))
 
   goes-on : (now : Option OpenProof) × GoesOnWriting s.proof now × ProofFits q.proof.opened s.variables comes.told now
-  goes-on = proof-goes-on p.proof q.proof s.variables s.variables s.told comes.told s.proof (d.stood.proof d.valid) refl comes.proof
+  goes-on = proof-goes-on p.proof q.proof s.variables s.variables s.told comes.told s.proof (proof-fits d.stood d.valid) refl comes.proof
 
   -- the solver stands for the state that it came to
   stands-after : {r : Result Bool SolverError} → CountsSteps (length s.counted) s.ledger.settings.max_steps s.ledger.since s.ledger.steps
-      y.schedule.steps r → StandsFor (summary_of q started changed_at y) (after-solve comes.told comes.verdict y.schedule.steps goes-on.0 s)
+      y.schedule.steps r → StandsFor (summary_of q started changed_at y) (after-solve comes.told comes.verdict y.schedule.steps goes-on.0 (length y.clause_alloc.words) s)
   stands-after k = record {
-    ledger = ledger-is _ _ _ _ _ _ (ap (λ (l : Ledger). l.valid) d.stood.ledger
+    ledger = ledger-is _ _ _ _ _ _ _ (ap (λ (l : Ledger). l.valid) d.stood.ledger
         ∙ ap (λ (b : SolverState). not b.state_is_invalid) (sym d.finds.state)) (ap (λ (l : Ledger). l.started) d.stood.ledger) refl (since-after k)
-        (ap (λ (l : Ledger). l.settings) d.stood.ledger ∙ sym d.config);
-    fits = λ _. comes-fits q.tables y comes y.schedule.steps goes-on.0;
-    proof = λ _. goes-on.2;
-    flags = λ _. flags-after s comes.told comes.verdict y.schedule.steps goes-on.0 (d.stood.flags d.valid) goes-on.1;
+        (ap (λ (l : Ledger). l.settings) d.stood.ledger ∙ sym d.config)
+        (ap (λ (l : Ledger). l.checking) d.stood.ledger
+        ∙ sym (checked-runs p.proof.checker q.proof.checker d.finds.told.0 d.finds.told.1.checked));
+    fits = λ _. comes-fits q.tables y comes y.schedule.steps goes-on.0 (length y.clause_alloc.words);
+    words = refl;
+    same = goes-on.2.same;
+    written = λ _. goes-on.2.written;
+    flags = λ _. flags-after s comes.told comes.verdict y.schedule.steps goes-on.0 (length y.clause_alloc.words) (d.stood.flags d.valid)
+        (lists-on s.told comes.told comes.more (lists-ended comes.verdict comes.more.entries comes.ends)) goes-on.1;
+    bounded = λ _. d.finds.kept.bounded;
   }
 
 -- a verdict was found
@@ -85,8 +95,8 @@ found-call : {A : Type 0} {p q : TracerState} {started : Bool} {changed_at : ℕ
     (length s.counted) s.ledger.settings.max_steps s.ledger.since s.ledger.steps y.schedule.steps (Ok b) → (t : State) × TellsVerdict s b t
     × StandsFor (summary_of q started changed_at y) t
 found-call {p = p} {q = q} {started = started} {changed_at = changed_at} {x = x} {y = y} {b = b} {s = s} d k = (
-  after-solve (comes d).told (comes d).verdict y.schedule.steps (goes-on d).0 s,
-  comes-verdict q.tables y (comes d) y.schedule.steps (goes-on d).0 b (stands-valid (summary_of p started changed_at x) s d.stood d.valid)
+  after-solve (comes d).told (comes d).verdict y.schedule.steps (goes-on d).0 (length y.clause_alloc.words) s,
+  comes-verdict q.tables y (comes d) y.schedule.steps (goes-on d).0 (length y.clause_alloc.words) b (stands-valid (summary_of p started changed_at x) s d.stood d.valid)
       (was-unknown (summary_of p started changed_at x) s d.stood d.valid d.unknown) k (sym d.finds.answer) (made d) (goes-on d).1,
   stands-after d k,
 )
@@ -98,12 +108,12 @@ moved-call : {A : Type 0} {p q : TracerState} {started : Bool} {changed_at : ℕ
     s.ledger.steps < y.schedule.steps → (t : State) × IsInterrupted s t × StandsFor (summary_of q started changed_at y) t
 moved-call {p = p} {q = q} {started = started} {changed_at = changed_at} {x = x} {y = y} {s = s} d k h =
     let last = answered-none y.solver_state.sat_state (sym d.finds.answer) in
-    let unknown = unknown-undecided q.tables q.proof.checker y (after-solve (comes d).told (comes d).verdict y.schedule.steps (goes-on d).0 s)
+    let unknown = unknown-undecided q.tables q.proof.checker y (after-solve (comes d).told (comes d).verdict y.schedule.steps (goes-on d).0 (length y.clause_alloc.words) s)
     (subst (λ b. SpacesFit (spaces_of q.tables q.proof.checker (view y) y.assumptions b)
-    (after-solve (comes d).told (comes d).verdict y.schedule.steps (goes-on d).0 s)) last
-    (comes-fits q.tables y (comes d) y.schedule.steps (goes-on d).0)) in (
-      after-solve (comes d).told (comes d).verdict y.schedule.steps (goes-on d).0 s,
-      comes-interrupted q.tables y (comes d) y.schedule.steps (goes-on d).0 (stands-valid (summary_of p started changed_at x) s d.stood d.valid)
+    (after-solve (comes d).told (comes d).verdict y.schedule.steps (goes-on d).0 (length y.clause_alloc.words) s)) last
+    (comes-fits q.tables y (comes d) y.schedule.steps (goes-on d).0 (length y.clause_alloc.words))) in (
+      after-solve (comes d).told (comes d).verdict y.schedule.steps (goes-on d).0 (length y.clause_alloc.words) s,
+      comes-interrupted q.tables y (comes d) y.schedule.steps (goes-on d).0 (length y.clause_alloc.words) (stands-valid (summary_of p started changed_at x) s d.stood d.valid)
           (was-unknown (summary_of p started changed_at x) s d.stood d.valid d.unknown) k unknown (made d) (λ e. omega (arith, h, e)) (goes-on d).1,
       stands-after d k,
     )
@@ -276,20 +286,30 @@ returns-in-Err-clause-call g c s st =
     let low = since.low in
     let before = ap (λ (x : Ledger). x.since) q.ledger in
     let steps = ap (λ (x : Ledger). x.steps) q.ledger in
-    let count = counts.count in (
-      broken (with_steps n s),
-      subst (λ e. Searches s (Err e) (broken (with_steps n s))) (sym c.from.ensures)
-          (searches-broken c.in-Err.error s (broken (with_steps n s))
-          (λ f. broken-open c.self.inside.tracer.proof c.find_verdict.new.tracer.proof s.variables s.told s.proof (q.proof ok)
+    let count = counts.count in
+    let words = length c.find_verdict.new.ctx.clause_alloc.words in
+    let (now, goes, same) = broken-on c.self.inside.tracer.proof c.find_verdict.new.tracer.proof (step_faults c.in-Err.error) s.proof q.same
+    c.in-Err.ensures.broken in (
+      broken now words (with_steps n s),
+      subst (λ e. Searches s (Err e) (broken now words (with_steps n s))) (sym c.from.ensures)
+          (searches-broken c.in-Err.error s (broken now words (with_steps n s))
+          (λ f. broken-open c.self.inside.tracer.proof c.find_verdict.new.tracer.proof s.variables s.told s.proof (proof-fits q ok)
           (subst (λ k. BreaksProof c.self.inside.tracer.proof k c.find_verdict.new.tracer.proof) f c.in-Err.ensures.broken)) was counts
-          (broken-invalid (with_steps n s) (stands-valid _ s q ok) (told-well s (with_steps n s) (q.fits ok).1.well_formed))),
+          (broken-invalid (step_faults c.in-Err.error) (with_steps n s) now words (stands-valid _ s q ok) goes
+          (told-well s (with_steps n s) (q.fits ok).1.well_formed))
+          (λ f. let room = c.in-Err.ensures.full f in let size = c.in-Err.ensures.size f in
+          let few = few-made (q.fits ok).0 _ s (q.fits ok).1 in omega (arith, room, size, few))),
       record {
-        ledger = ledger-is _ _ _ _ _ _ refl (ap (λ (x : Ledger). x.started) q.ledger) refl
+        ledger = ledger-is _ _ _ _ _ _ _ refl (ap (λ (x : Ledger). x.started) q.ledger) refl
             (more-since c.self.inside.changed_at s.ledger.steps n s.ledger.since (omega (arith, low, steps)) (omega (arith, count))
-            (omega (arith, before, steps))) (ap (λ (x : Ledger). x.settings) q.ledger ∙ sym c.find_verdict.ensures.config);
+            (omega (arith, before, steps))) (ap (λ (x : Ledger). x.settings) q.ledger ∙ sym c.find_verdict.ensures.config)
+            (ap (λ (x : Ledger). x.checking) q.ledger ∙ sym c.in-Err.ensures.broken.2);
+        words = refl;
+        same = same;
         fits = λ e. absurd cc;
-        proof = λ e. absurd cc;
+        written = λ e. absurd cc;
         flags = λ e. absurd cc;
+        bounded = λ e. absurd cc;
       },
     )
 

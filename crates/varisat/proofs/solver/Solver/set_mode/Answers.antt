@@ -3,9 +3,9 @@ use Rattle.varisat.specs.States.{Ledger, with_variables}
 use Rattle.varisat.specs.Accepting.{mode_of}
 use Rattle.varisat.specs.Usage.{name_var, SetsMode}
 use Rattle.varisat.specs.VariableCalls.{named, with_mode}
-use Rattle.varisat.proofs.CallStates.{ledger-is, none-since, begins, like-varied, broken, broken-invalid}
+use Rattle.varisat.proofs.CallStates.{ledger-is, none-since, begins, like-varied, broken, broken-untold}
 use Rattle.varisat.proofs.Additions.{told-error}
-use Rattle.varisat.proofs.OpenProofs.{fits-alike}
+use Rattle.varisat.proofs.OpenProofs.{lines-of-entries, fits-alike}
 use Rattle.varisat.proofs.WrittenVariables.{written-alike}
 use Rattle.varisat.proofs.SettingsCalls.{summary_of}
 use Rattle.varisat_tracer.specs.Tracing.{parts_of}
@@ -51,29 +51,42 @@ returns-in-Ok g c s st =
     c.set_named_mode.new.variables u c.in-Ok.field-0 m (mode_of m) k.fits c.requires (c.in-Ok.ensures {u = tt}).set in
     let alike = written-alike w _ s links variables keep in (
       with_variables variables t,
-      ((k.valid, may.in_range, unassumed-state u k may.unassumed, like-varied t variables alike), λ e. absurd cc),
+      ((k.valid, may.in_range, unassumed-state u k may.unassumed, like-varied t variables s.words (lines-of-entries s.variables variables s.told alike)), λ e. absurd cc),
       record {
-        ledger = ledger-is _ _ _ _ _ _ (ap (λ (x : Ledger). x.valid) k.ledger) (ap (λ (x : Ledger). x.started) k.ledger)
+        ledger = ledger-is _ _ _ _ _ _ _ (ap (λ (x : Ledger). x.valid) k.ledger) (ap (λ (x : Ledger). x.started) k.ledger)
             (ap (λ (x : Ledger). x.steps) k.ledger)
             (none-since c.steps-self-inside.result c.self.inside.ctx.schedule.steps c.steps-self-inside.ensures.steps)
-            (ap (λ (x : Ledger). x.settings) k.ledger);
+            (ap (λ (x : Ledger). x.settings) k.ledger) (ap (λ (x : Ledger). x.checking) k.ledger);
         fits = λ _. fits;
-        proof = λ _. fits-alike _ s.variables variables s.told s.told s.proof alike k.proof;
+        bounded = λ _. (kept-after c.self.inside.ctx c.self.inside.tracer.variables c.set_named_mode.new.variables
+            (c.self.invariant c.if-self.false).kept (c.in-Ok.ensures {u = tt}).set.stays).bounded;
+        words = k.words;
+        same = k.proof.same;
+        written = λ _. (fits-alike _ s.variables variables s.told s.proof alike k.proof).written;
         flags = λ _. let f = k.flags in
-            record { clauses = f.clauses; assumptions = f.assumptions; counted = f.counted; unassumed = f.unassumed };
+            record { clauses = f.clauses; assumptions = f.assumptions; counted = f.counted; unlisted = f.unlisted; unassumed = f.unassumed };
       },
     )
 
 pub returns-in-Err : goal.returns-in-Err
 returns-in-Err g c s st =
-    let k = begins (rw (← c.self.view_is) at st) (ap not c.if-self.false) in
+    let q = rw (← c.self.view_is) at st in
+    let k = begins q (ap not c.if-self.false) in
     let u = c.args.var in
     let may = c.in_ok-check_change.ensures in (
-      broken s,
+      broken s.proof s.words s,
       (
-        (may.in_range, unassumed-state u k may.unassumed, broken-invalid s k.valid k.fits.1.well_formed),
+        (may.in_range, unassumed-state u k may.unassumed, broken-untold s s.words k.valid k.fits.1.well_formed),
         λ e. free-state u k
             ((c.in-Err.ensures {u = tt}).free (not-hide c.args.mode (mode_of c.args.mode) c.requires)),
       ),
-      record { ledger = ap (λ (x : Ledger). record x { valid = false }) k.ledger; fits = λ e. absurd cc; proof = λ e. absurd cc; flags = λ e. absurd cc },
+      record {
+        ledger = ap (λ (x : Ledger). record x { valid = false }) k.ledger;
+        words = q.words;
+        same = q.same;
+        fits = λ e. absurd cc;
+        written = λ e. absurd cc;
+        flags = λ e. absurd cc;
+        bounded = λ e. absurd cc;
+      },
     )

@@ -1,11 +1,8 @@
-use Rattle.std.proofs.Common.{◌≡◌, ◌∙◌, ◌-◌, ◌<◌, ◌*◌, ◌^◌, ◌+◌, Bool, true, false, not, length, refl, sym, ap, subst}
+use Rattle.std.proofs.Common.{◌≡◌, ◌∙◌, ◌-◌, ◌<◌, ◌*◌, ◌^◌, ◌+◌, not, length, refl, sym, ap, subst}
+use Rattle.varisat_theory.specs.CallBounds.{AreFew}
 use Rattle.varisat.specs.States.{Ledger}
-use Rattle.varisat.proofs.SolverCalls.{counted-few}
+use Rattle.varisat.proofs.SolverCalls.{counted-few, not-valid}
 use Rattle.varisat.proofs.solver.Solver.steps_since_change.Goals as goal
-
-not-valid : (b : Bool) → not b ≡ true → b ≡ false
-not-valid true e = let z : false ≡ true = e in absurd cc
-not-valid false e = refl
 
 pub returns : goal.returns
 returns g c s st =
@@ -16,7 +13,7 @@ returns g c s st =
         e,
         (λ v.
             let ok = sym (ap (λ (x : Ledger). x.valid) q.ledger) ∙ v in
-            subst (λ k. k < 2 ^ (2 * length s.counted + 3)) (sym e)
+            subst (AreFew (length s.counted)) (sym e)
             (counted-few _ s q ok (λ n h. (c.self.invariant (not-valid c.self.inside.ctx.solver_state.state_is_invalid ok)).counts.few n h))),
         refl,
       ),

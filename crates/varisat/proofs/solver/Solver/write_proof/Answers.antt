@@ -9,7 +9,7 @@ use Rattle.varisat.specs.ProofCalls.{with_proof}
 use Rattle.varisat.proofs.CallStates.{stands-valid}
 use Rattle.varisat.proofs.OpenProofs.{first-same, first-written, none-there}
 use Rattle.varisat.proofs.SettingsCalls.{stands-with-proof}
-use Rattle.varisat.proofs.ToldJournals.{no-lines}
+use Rattle.varisat.proofs.ToldJournals.{left-alone}
 use Rattle.varisat.proofs.SinceSteps.{since-now}
 use Rattle.varisat.proofs.solver.Solver.write_proof.Goals as goal
 
@@ -18,7 +18,7 @@ invariant_of-self g c v =
     let k = c.self.invariant v in
     record {
       kept = k.kept;
-      tells = subst CanTell (sym c.write_proof.ensures) (record { room = c.requires.room; usable = k.tells.usable });
+      tells = subst CanTell (sym c.write_proof.ensures) (record { room = c.requires; usable = k.tells.usable });
       stands = subst (λ (p : ProofParts). StandsForSome (spaces_with c.self.inside.tracer.variables p.checker c.self.inside.ctx)
           c.self.inside.started) (sym c.write_proof.ensures) k.stands;
       counts = since-now c.steps-self-inside.result c.self.inside.ctx c.steps-self-inside.ensures.steps k.kept.ready c.steps-self-inside.ensures.plan;
@@ -32,11 +32,11 @@ returns g c s st =
     let first = first_proof c.args.format (g.W.ProofTarget.taken c.args.target) in
     let fresh = ap (λ (l : Ledger). l.started) q.ledger ∙ c.if-self-2.false in (
       count_anew (with_proof (Some first) s),
-      (stands-valid _ s q ok, none-there _ s.proof (q.proof ok).same closed, fresh, refl),
+      (stands-valid _ s q ok, none-there _ s.proof q.same closed, fresh, refl),
       stands-with-proof c.self.inside.tracer.variables c.self.inside.tracer.proof c.write_proof.new.self c.self.inside.started
           c.self.inside.changed_at c.steps-self-inside.result c.self.inside.ctx s (Some first) c.steps-self-inside.ensures.steps
           (ap (λ (p : ProofParts). p.checker) c.write_proof.ensures)
           (ap (λ (p : ProofParts). p.opened) c.write_proof.ensures ∙ first-same c.args.format (g.W.ProofTarget.taken c.args.target))
-          (first-written s.variables c.args.format (g.W.ProofTarget.taken c.args.target) s.told c.requires.format (no-lines _ s q ok fresh))
+          (λ _. first-written s.variables c.args.format (g.W.ProofTarget.taken c.args.target) s.told (left-alone _ s q ok fresh))
           (λ _. (q.flags ok).assumptions fresh) q,
     )

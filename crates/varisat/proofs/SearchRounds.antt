@@ -1,0 +1,331 @@
+-- Searches in turn, each under a limit of its own: those that are interrupted and the one behind them come to what one search comes
+-- to under the limits together.
+use Rattle.std.proofs.Common.{◌≡◌, ◌≢◌, ℕ, zero, suc, ◌+◌, ◌-◌, ◌*◌, ◌^◌, ◌<◌, ◌≤◌, Bool, true, false, List, [], ◌++◌, ◌⊎◌, inl, inr, ⊎_elim, Result, Ok, Err, length, sym, ap, ◌∙◌, subst, refl, arith, append_assoc}
+use Rattle.std.proofs.lemmas.List.{append-nil, append_cancel_left}
+use Rattle.varisat_theory.specs.CallBounds.{AreFew}
+use Rattle.varisat_theory.specs.Journals.{Entry, GoesOn}
+use Rattle.varisat_theory.specs.NewClauses.{GoesOnAdding}
+use Rattle.varisat_theory.proofs.Journals.{goes_on_further}
+use Rattle.varisat_theory.proofs.NewClauses.{goes_adding_none, goes_adding_further}
+use Rattle.varisat_names.specs.Settings.{Settings}
+use Rattle.varisat.specs.Budgets.{CountsSteps}
+use Rattle.varisat.specs.Calls.{TellsVerdict, IsInterrupted, Invalidates, IsFull, Searches, with_steps, with_max_steps}
+use Rattle.varisat.specs.Journals.{TellsMore, AreDerived}
+use Rattle.varisat.specs.Names.{Naming}
+use Rattle.varisat.specs.OpenProofs.{GoesOnWriting, lines_over}
+use Rattle.varisat.specs.States.{State, Ledger, Unknown}
+use Rattle.varisat.specs.declared.solver.SolverError.{SolverError}
+use Rattle.varisat.specs.declared.solver.SolverError.TheVariants.{Interrupted, ProofIoError, OutOfMemory, Invalid, ClauseStoreFull, WitnessVar, VariableLimit, AssumedVar, ClauseAfterSolve, ProofOpen, ProofTooLate, ConfigOutOfRange, Dimacs}
+use Rattle.varisat.proofs.CallStates.{ledger-is}
+use Rattle.varisat.proofs.OpenProofs.{goes-on-none, goes-on-through, goes-on-failing, open-before}
+use Rattle.varisat.proofs.ToldEntries.{tells-nothing, nothing-derived, stays-nothing, derived-through, ends-through}
+use Rattle.varisat.proofs.VerdictAnswers.{is-unknown-or-not}
+
+-- 1. Searches that were interrupted.
+
+-- The settings but for the limit of steps.
+abbrev pub beside_limit : Settings → Settings
+beside_limit c = record c { max_steps = 0 }
+
+-- Searches under limits that come to `limit` together led from s to m, and each of them was interrupted; or there was none. The
+-- settings may have another limit of steps in both.
+pub record WentOn (limit : ℕ) (s m : State) : Type 0 where
+  pub naming : m.naming ≡ s.naming
+  pub ever_hidden : m.ever_hidden ≡ s.ever_hidden
+  pub clauses : m.clauses ≡ s.clauses
+  pub assumptions : m.assumptions ≡ s.assumptions
+  pub counted : m.counted ≡ s.counted
+  pub verdict : m.verdict ≡ s.verdict
+  pub variables : m.variables ≡ s.variables
+  pub valid : m.ledger.valid ≡ s.ledger.valid
+  pub started : m.ledger.started ≡ s.ledger.started
+  pub checking : m.ledger.checking ≡ s.ledger.checking
+  pub since : m.ledger.since ≡ s.ledger.since + (m.ledger.steps - s.ledger.steps)
+  pub settings : beside_limit m.ledger.settings ≡ beside_limit s.ledger.settings
+  pub made : ℕ
+  pub count : m.ledger.steps ≡ s.ledger.steps + made
+  pub budget : made ≤ limit
+  pub spent : (made ≡ limit) ⊎ (m.ledger.steps ≡ 2 ^ 64 - 1)
+  pub told : TellsMore made s.told m.told
+  pub adds : GoesOnAdding made s.told told.entries
+  pub derived : AreDerived told.entries
+  pub proof : GoesOnWriting s.proof m.proof
+  -- where no step was made nothing changed, and where the verdict was known or the solver invalid no search was interrupted
+  pub still : made ≡ 0 → with_max_steps 0 m ≡ with_max_steps 0 s
+  pub known : s.verdict ≢ Unknown → made ≡ 0
+  pub refused : s.ledger.valid ≡ false → m ≡ s
+
+-- there was none
+pub went-nowhere : (s : State) → WentOn 0 s s
+went-nowhere s =
+    let nothing = tells-nothing s.told in
+    record {
+      naming = refl;
+      ever_hidden = refl;
+      clauses = refl;
+      assumptions = refl;
+      counted = refl;
+      verdict = refl;
+      variables = refl;
+      valid = refl;
+      started = refl;
+      checking = refl;
+      since = omega arith;
+      settings = refl;
+      made = 0;
+      count = omega arith;
+      budget = omega arith;
+      spent = inl refl;
+      told = nothing;
+      adds = goes_adding_none 0 s.told nothing.entries nothing.goes;
+      derived = nothing-derived s.told;
+      proof = goes-on-none s.proof;
+      still = λ e. refl;
+      known = λ n. refl;
+      refused = λ e. refl;
+    }
+
+-- The steps of one search more.
+
+more-since : (since mid_since before mid after made more : ℕ) → mid_since ≡ since + (mid - before) → mid ≡ before + made → after ≡ mid + more →
+    mid_since + (after - mid) ≡ since + (after - before)
+more-since since mid_since before mid after made more d e f = omega (arith, d, e, f)
+
+-- how they are counted, together with those before
+counts-on : (k a limit : ℕ) (s m : State) (after : ℕ) (r : Result Bool SolverError) → WentOn a s m →
+    CountsSteps (length m.counted) k m.ledger.since m.ledger.steps after r → a + k ≤ limit → (r ≡ Err Interrupted → a + k ≡ limit) →
+    after < 2 ^ 64 → CountsSteps (length s.counted) limit s.ledger.since s.ledger.steps after r
+counts-on k a limit s m after r w c least all small =
+    let count = w.count in
+    let more = c.count in
+    let budget = w.budget in
+    let further = c.budget in
+    let since = w.since in
+    record {
+      made = w.made + c.made;
+      count = omega (arith, count, more);
+      budget = omega (arith, budget, further, least);
+      bounded =
+          subst (λ (xs : List ℕ). AreFew (length xs) (s.ledger.since + (w.made + c.made))) w.counted
+          (subst (AreFew (length m.counted)) (let z : m.ledger.since + c.made ≡ s.ledger.since + (w.made + c.made) = omega
+          (arith, since, count) in z) c.bounded);
+      found = λ b e. let one = c.found b e in omega (arith, one);
+      spent = λ e. let sum = all e in
+          ⊎_elim
+          (λ (x : w.made ≡ a). ⊎_elim (λ (y : c.made ≡ k). inl (omega (arith, x, y, sum))) (λ (y : after ≡ 2 ^ 64 - 1). inr y) (c.spent e))
+          (λ (x : m.ledger.steps ≡ 2 ^ 64 - 1). inr (omega (arith, x, more, small)))
+          w.spent;
+    }
+
+-- A search that told nothing adds no new clauses to those that the searches before it added.
+adds-further : (k m : ℕ) (told es fs : List Entry) → (m ≡ 0 → fs ≡ []) → GoesOnAdding k told es → GoesOnAdding m (told ++ es) fs →
+    GoesOnAdding (k + m) told (es ++ fs)
+adds-further k zero told es fs z g h =
+    subst (λ (xs : List Entry). GoesOnAdding (k + 0) told xs) (sym (ap (λ (x : List Entry). es ++ x) (z refl) ∙ append-nil es))
+    (subst (λ j. GoesOnAdding j told es) (let e : k ≡ k + 0 = omega arith in e) g)
+adds-further k (suc m) told es fs z g h = goes_adding_further k (suc m) told es fs (λ e. let x : suc m ≡ 0 = e in absurd cc) g h
+
+-- One more was interrupted.
+pub goes-on : (k a : ℕ) (s m t : State) → WentOn a s m → IsInterrupted (with_max_steps k m) t → t.ledger.steps < 2 ^ 64 → WentOn (a + k) s t
+unfolding counts-on
+goes-on k a s m t w e small =
+    let c = e.steps in
+    let count = c.count in
+    let first = w.count in
+    let same : t.ledger.steps - m.ledger.steps ≡ c.made = omega (arith, count) in
+    let all = counts-on k a (a + k) s m t.ledger.steps (Err Interrupted) w c (omega arith) (λ z. refl) small in
+    record {
+      naming = e.rest.naming ∙ w.naming;
+      ever_hidden = e.rest.ever_hidden ∙ w.ever_hidden;
+      clauses = e.rest.clauses ∙ w.clauses;
+      assumptions = e.rest.assumptions ∙ w.assumptions;
+      counted = e.rest.counted ∙ w.counted;
+      verdict = e.rest.verdict ∙ w.verdict;
+      variables = e.variables ∙ w.variables;
+      valid = ap (λ (l : Ledger). l.valid) e.rest.ledger ∙ w.valid;
+      started = ap (λ (l : Ledger). l.started) e.rest.ledger ∙ w.started;
+      checking = ap (λ (l : Ledger). l.checking) e.rest.ledger ∙ w.checking;
+      since = ap (λ (l : Ledger). l.since) e.rest.ledger
+          ∙ more-since s.ledger.since m.ledger.since s.ledger.steps m.ledger.steps t.ledger.steps w.made c.made w.since w.count c.count;
+      settings = ap (λ (l : Ledger). beside_limit l.settings) e.rest.ledger ∙ w.settings;
+      made = w.made + c.made;
+      count = omega (arith, count, first);
+      budget = all.budget;
+      spent = all.spent refl;
+      told = record {
+        entries = w.told.entries ++ e.told.entries;
+        joined = e.told.joined ∙ ap (λ x. x ++ e.told.entries) w.told.joined ∙ append_assoc s.told w.told.entries e.told.entries;
+        goes = goes_on_further w.made c.made s.told w.told.entries e.told.entries w.told.goes
+            (subst (λ x. GoesOn c.made x e.told.entries) w.told.joined (subst (λ j. GoesOn j m.told e.told.entries) same e.told.goes));
+      };
+      adds = adds-further w.made c.made s.told w.told.entries e.told.entries
+          (λ z. append_cancel_left m.told e.told.entries [] (sym e.told.joined ∙ ap (λ (x : State). x.told) (e.still (omega (arith, count, z)))
+          ∙ sym (append-nil m.told)))
+          w.adds
+          (subst (λ x. GoesOnAdding c.made x e.told.entries) w.told.joined (subst (λ j. GoesOnAdding j m.told e.told.entries) same e.adds));
+      derived = derived-through w.told.entries e.told.entries w.derived e.derived;
+      proof = goes-on-through s.proof m.proof t.proof w.proof e.rest.proof;
+      still = λ z. ap (λ (x : State). with_max_steps 0 x) (e.still (omega (arith, count, z))) ∙ w.still (omega (arith, z));
+      known = λ n. absurd (n (sym w.verdict ∙ e.unknown));
+      refused = λ v. let z : false ≡ true = sym (w.valid ∙ v) ∙ e.valid in absurd cc;
+    }
+
+-- 2. What all of them come to.
+
+-- the ledger, where it is valid or not
+ledger-on : (k n a : ℕ) (s m t : State) (v : Bool) → WentOn a s m → m.ledger.steps ≤ t.ledger.steps →
+    t.ledger ≡ record (with_steps t.ledger.steps (with_max_steps k m)).ledger { valid = v } →
+    (with_max_steps n t).ledger ≡ record (with_steps t.ledger.steps (with_max_steps n s)).ledger { valid = v }
+ledger-on k n a s m t v w low e =
+    ledger-is (with_max_steps n t).ledger v s.ledger.started t.ledger.steps (s.ledger.since + (t.ledger.steps - s.ledger.steps))
+    (record s.ledger.settings { max_steps = n }) s.ledger.checking (ap (λ (l : Ledger). l.valid) e) (ap (λ (l : Ledger). l.started) e ∙ w.started) refl
+    (ap (λ (l : Ledger). l.since) e ∙ since)
+    (ap (λ (l : Ledger). record l.settings { max_steps = n }) e ∙ ap (λ (c : Settings). record c { max_steps = n }) w.settings)
+    (ap (λ (l : Ledger). l.checking) e ∙ w.checking)
+  where
+    since : m.ledger.since + (t.ledger.steps - m.ledger.steps) ≡ s.ledger.since + (t.ledger.steps - s.ledger.steps)
+    since = let x = w.since in let y = w.count in omega (arith, x, y, low)
+
+-- no way leads back
+invalid-on : (faults k n a : ℕ) (s m t : State) → WentOn a s m → m.ledger.steps ≤ t.ledger.steps →
+    Invalidates faults (with_steps t.ledger.steps (with_max_steps k m)) t →
+    Invalidates faults (with_steps t.ledger.steps (with_max_steps n s)) (with_max_steps n t)
+invalid-on faults k n a s m t w low i =
+    let f = i.well_formed in
+    record {
+      valid = sym w.valid ∙ i.valid;
+      ledger = ledger-on k n a s m t false w low i.ledger;
+      proof = goes-on-failing faults s.proof m.proof t.proof w.proof i.proof;
+      well_formed = record {
+        one_to_one = f.one_to_one;
+        free = f.free;
+        named = f.named;
+        accepted = f.accepted;
+        assumed = f.assumed;
+        counted = f.counted;
+        once = f.once;
+      };
+    }
+
+-- no step is taken back
+counts-low : (n k since before after : ℕ) (r : Result Bool SolverError) → CountsSteps n k since before after r → before ≤ after
+counts-low n k since before after r c = let x = c.count in omega (arith, x)
+
+-- all of them were interrupted, and there was one
+all-interrupted : (n : ℕ) (s t : State) → WentOn n s t → s.ledger.valid ≡ true → s.verdict ≡ Unknown →
+    CountsSteps (length s.counted) n s.ledger.since s.ledger.steps t.ledger.steps (Err Interrupted) →
+    IsInterrupted (with_max_steps n s) (with_max_steps n t)
+all-interrupted n s t w valid unknown counts =
+    let count = w.count in
+    let same : w.made ≡ t.ledger.steps - s.ledger.steps = omega (arith, count) in
+    record {
+      valid = valid;
+      unknown = unknown;
+      steps = counts;
+      rest = record {
+        naming = w.naming;
+        ever_hidden = w.ever_hidden;
+        clauses = w.clauses;
+        assumptions = w.assumptions;
+        counted = w.counted;
+        verdict = w.verdict;
+        ledger = ledger-is (with_max_steps n t).ledger s.ledger.valid s.ledger.started t.ledger.steps
+            (s.ledger.since + (t.ledger.steps - s.ledger.steps)) (record s.ledger.settings { max_steps = n }) s.ledger.checking w.valid w.started
+            refl w.since (ap (λ (c : Settings). record c { max_steps = n }) w.settings) w.checking;
+        told = (stays-nothing t.told).0;
+        derived = (stays-nothing t.told).2;
+        stays = λ _. (stays-nothing t.told).1;
+        alike = ap (λ v. lines_over v t.told) w.variables;
+        proof = w.proof;
+      };
+      variables = w.variables;
+      told = record { entries = w.told.entries; joined = w.told.joined; goes = subst (λ j. GoesOn j s.told w.told.entries) same w.told.goes };
+      adds = subst (λ j. GoesOnAdding j s.told w.told.entries) same w.adds;
+      derived = w.derived;
+      still = λ e. ap (λ (x : State). with_max_steps n x) (w.still (omega (arith, count, e)));
+    }
+
+-- a verdict is returned
+verdict-on : (k n a : ℕ) (s m t : State) (b : Bool) → WentOn a s m → a + k ≤ n → t.ledger.steps < 2 ^ 64 →
+    TellsVerdict (with_max_steps k m) b t → TellsVerdict (with_max_steps n s) b (with_max_steps n t)
+verdict-on k n a s m t b w least small v =
+    record {
+      valid = sym w.valid ∙ v.valid;
+      known = λ z.
+          let (x, y, same) = v.known (λ u. z (sym w.verdict ∙ u)) in
+          let none = w.known z in
+          let count = w.count in
+          (x ∙ w.verdict, omega (arith, y, none, count), same ∙ ap (λ (x : State). x.told) (w.still none));
+      steps = λ u. counts-on k a n s m t.ledger.steps (Ok b) w (v.steps (w.verdict ∙ u)) least
+          (λ e. let z : Ok b ≡ Err Interrupted = e in absurd cc) small;
+      answer = v.answer;
+      right = v.right;
+      rest = record {
+        naming = v.rest.naming ∙ w.naming;
+        ever_hidden = v.rest.ever_hidden ∙ w.ever_hidden;
+        clauses = v.rest.clauses ∙ w.clauses;
+        assumptions = v.rest.assumptions ∙ w.assumptions;
+        counted = v.rest.counted ∙ w.counted;
+        verdict = v.rest.verdict;
+        ledger = ledger-on k n a s m t s.ledger.valid w low
+            (v.rest.ledger ∙ ap (λ x. record (with_steps t.ledger.steps (with_max_steps k m)).ledger { valid = x }) w.valid);
+        told = v.rest.told;
+        derived = v.rest.derived;
+        stays = v.rest.stays;
+        alike = v.rest.alike ∙ ap (λ f. lines_over f t.told) w.variables;
+        proof = goes-on-through s.proof m.proof t.proof w.proof v.rest.proof;
+      };
+      told = record {
+        entries = w.told.entries ++ v.told.entries;
+        joined = v.told.joined ∙ ap (λ x. x ++ v.told.entries) w.told.joined ∙ append_assoc s.told w.told.entries v.told.entries;
+        goes = subst (λ j. GoesOn j s.told (w.told.entries ++ v.told.entries)) (let x = w.count in omega (arith, x, low))
+            (goes_on_further w.made (t.ledger.steps - m.ledger.steps) s.told w.told.entries v.told.entries w.told.goes
+            (subst (λ x. GoesOn (t.ledger.steps - m.ledger.steps) x v.told.entries) w.told.joined v.told.goes));
+      };
+      ends = λ u. ends-through w.told.entries v.told.entries t.verdict w.derived (v.ends (w.verdict ∙ u));
+      refuted = v.refuted;
+      core = v.core;
+    }
+  where
+    low : m.ledger.steps ≤ t.ledger.steps
+    low = ⊎_elim (λ u. counts-low _ _ _ _ _ (Ok b) (v.steps u)) (λ u. let x = (v.known u).1 in omega (arith, x)) (is-unknown-or-not m.verdict)
+
+-- Searches that were interrupted and then one more come to what one search comes to.
+pub comes-to : (k n a : ℕ) (s m t : State) (r : Result Bool SolverError) → WentOn a s m → Searches (with_max_steps k m) r t → a + k ≤ n →
+    (r ≡ Err Interrupted → a + k ≡ n) → t.ledger.steps < 2 ^ 64 → Searches (with_max_steps n s) r (with_max_steps n t)
+comes-to k n a s m t (Ok b) w h least all small = verdict-on k n a s m t b w least small h
+comes-to k n a s m t (Err Interrupted) w h least all small =
+    let e = all refl in
+    all-interrupted n s t (subst (λ j. WentOn j s t) e (goes-on k a s m t w h small)) (sym w.valid ∙ h.valid) (sym w.verdict ∙ h.unknown)
+    (counts-on k a n s m t.ledger.steps (Err Interrupted) w h.steps least all small)
+comes-to k n a s m t (Err Invalid) w (v, e) least all small =
+    (sym w.valid ∙ v, ap (λ (x : State). with_max_steps n x) (e ∙ ap (λ (x : State). with_max_steps k x) (w.refused (sym w.valid ∙ v))))
+comes-to k n a s m t (Err OutOfMemory) w (u, c, i) least all small = (
+  sym w.verdict ∙ u,
+  counts-on k a n s m t.ledger.steps (Err OutOfMemory) w c least (λ e. absurd cc) small,
+  invalid-on 0 k n a s m t w (counts-low _ _ _ _ _ (Err OutOfMemory) c) i,
+)
+comes-to k n a s m t (Err ClauseStoreFull) w (u, c, i, full) least all small = (
+  sym w.verdict ∙ u,
+  counts-on k a n s m t.ledger.steps (Err ClauseStoreFull) w c least (λ e. absurd cc) small,
+  invalid-on 0 k n a s m t w (counts-low _ _ _ _ _ (Err ClauseStoreFull) c) i,
+  subst (λ (named : Naming). IsFull named.made (with_max_steps n t)) w.naming full,
+)
+comes-to k n a s m t (Err (ProofIoError cause)) w (o, u, c, i) least all small = (
+  open-before s.proof m.proof w.proof o,
+  sym w.verdict ∙ u,
+  counts-on k a n s m t.ledger.steps (Err (ProofIoError cause)) w c least (λ e. absurd cc) small,
+  invalid-on 1 k n a s m t w (counts-low _ _ _ _ _ (Err (ProofIoError cause)) c) i,
+)
+comes-to k n a s m t (Err (WitnessVar u)) w h least all small = absurd h
+comes-to k n a s m t (Err VariableLimit) w h least all small = absurd h
+comes-to k n a s m t (Err (AssumedVar u)) w h least all small = absurd h
+comes-to k n a s m t (Err ClauseAfterSolve) w h least all small = absurd h
+comes-to k n a s m t (Err ProofOpen) w h least all small = absurd h
+comes-to k n a s m t (Err ProofTooLate) w h least all small = absurd h
+comes-to k n a s m t (Err (ConfigOutOfRange field)) w h least all small = absurd h
+comes-to k n a s m t (Err (Dimacs cause)) w h least all small = absurd h
+
+-- the limit of steps is the one that the settings have
+pub same-limit : (n : ℕ) (s : State) → s.ledger.settings.max_steps ≡ n → s ≡ with_max_steps n s
+same-limit n s e = ap (λ k. with_max_steps k s) e

@@ -1,0 +1,5 @@
+use Rattle.varisat.proofs.AcceptedBytes.{bytes-are-accepted}
+use Rattle.varisat.proofs.laws.bytes_are_accepted.Goals as goal
+
+pub returns : goal.returns
+returns c = bytes-are-accepted

@@ -3,19 +3,24 @@
 
 ghost use Rattle.std.specs.Prelude.{◌≡◌, ◌≢◌, ◌↔◌, ◌⊎◌, ◌-◌, ◌^◌, ◌<◌, IsErr, IfOk, MatchBool, MatchOption};
 ghost use Rattle.std.specs.Fs.{file_type, IsDir};
-ghost use Rattle.varisat.specs.OpenProofs.{IsDrat};
 ghost use Rattle.varisat.specs.Decided.{Conclusion, StatusIsTrue, allowed_steps, conclusion_status};
 ghost use Rattle.varisat.specs.Proven.{CanCountFault, DecidesProven, taken_by_writer};
 ghost use Rattle.varisat_proof.specs.Verified.{GivesUnsatisfiable, EndsCheck, sources_of, fault_status};
 
+mod help;
+
+use crate::help::{CHECK_HELP, HELP, SESSION_HELP, SOLVE_HELP, VERSION, print_text};
+use std::fmt::Display;
 use std::fs::{File, Metadata};
-use std::io::{self, BufWriter, ErrorKind, Write};
+use std::io::{self, BufWriter, ErrorKind, Read, Write};
+use std::os::unix::fs::{FileTypeExt, MetadataExt};
 use std::process::ExitCode;
 use std::{env, fs};
 use varisat::io::{IoTarget, ReadSource};
 use varisat::line::parse_number;
 use varisat::program::{
-    STATUS_FAULT, SolveOptions, check_lines, session_lines, solve_lines, tell_fault, tell_usage,
+    STATUS_DONE, STATUS_FAULT, SolveOptions, check_lines, session_lines, solve_lines, tell_fault,
+    tell_usage,
 };
 use varisat::proof::ProofFormat;
 
@@ -47,7 +52,11 @@ fn read_words(rt: &HostRuntime) -> io::Result<Vec<String>> {
 // Runs the command of these words. None is for words that are no command.
 fn run_words(rt: &HostRuntime, words: &[String]) -> Option<u8> {
     let (command, operands) = words.split_first()?;
-    match command.as_str() {
+    let command = command.as_str();
+    if let Some(text) = help_of(command, operands) {
+        return Some(print(rt, text));
+    }
+    match command {
         "session" if operands.is_empty() => Some(session(rt)),
         "solve" => {
             let (cnf, options) = operands.split_first()?;
@@ -64,6 +73,35 @@ fn run_words(rt: &HostRuntime, words: &[String]) -> Option<u8> {
     }
 }
 
+// The text that the words ask for, if they ask for one: on the whole program, or on a command whose name they begin with.
+fn help_of(command: &str, operands: &[String]) -> Option<&'static str> {
+    let Some((operand, others)) = operands.split_first() else {
+        return match command {
+            "--help" | "-h" => Some(HELP),
+            "--version" => Some(VERSION),
+            _ => None,
+        };
+    };
+    if !others.is_empty() || !matches!(operand.as_str(), "--help" | "-h") {
+        return None;
+    }
+    match command {
+        "solve" => Some(SOLVE_HELP),
+        "check" => Some(CHECK_HELP),
+        "session" => Some(SESSION_HELP),
+        _ => None,
+    }
+}
+
+// Prints a text on standard output.
+fn print(rt: &HostRuntime, text: &str) -> u8 {
+    let mut err = rt.stderr();
+    match print_text(&mut io::writer(rt), text) {
+        Ok(()) => STATUS_DONE,
+        Err(error) => tell_fault(&mut err, &error),
+    }
+}
+
 // The format of the proof that `check` reads: text, binary with `--binary`, or marked text with `--marked`.
 fn check_format(options: &[String]) -> Option<ProofFormat> {
     let Some((option, others)) = options.split_first() else {
@@ -76,12 +114,18 @@ fn check_format(options: &[String]) -> Option<ProofFormat> {
     }
 }
 
-// The options of `solve`: where a proof goes, whether it is binary, whether the search is checked, and a limit of steps.
+// After how many steps each `--progress` tells how far the search is.
+const PROGRESS_INTERVAL: u64 = 10_000;
+
+// The options of `solve`: where a proof goes, whether it is binary or marked, whether the search is checked, whether it is
+// told how far it is, and a limit of steps.
 #[derive(Drop)]
 struct SolveWords<'a> {
     proof: Option<&'a str>,
     is_binary: bool,
+    is_marked: bool,
     is_checked: bool,
+    is_shown: bool,
     max_steps: Option<u64>,
 }
 
@@ -99,35 +143,38 @@ impl<'a> SolveWords<'a> {
     }
 
     // What they ask of the command.
-    fn options(&self) -> SolveOptions
-        ensures { IsDrat result.format }
-    {
+    fn options(&self) -> SolveOptions {
         SolveOptions {
             check: self.is_checked,
             max_steps: self.max_steps,
-            format: drat_format(self.is_binary),
+            progress: self.is_shown.then_some(PROGRESS_INTERVAL),
+            format: proof_format(self.is_binary, self.is_marked),
         }
     }
 }
 
-// How a proof is written.
-fn drat_format(is_binary: bool) -> ProofFormat
-    ensures drat { IsDrat result }
-    ensures binary { MatchBool is_binary (result ≡ ProofFormat.BinaryDrat) (result ≡ ProofFormat.Drat) }
+// How a proof is written; not both are asked for.
+fn proof_format(is_binary: bool, is_marked: bool) -> ProofFormat
+    ensures { MatchBool is_binary (result ≡ ProofFormat.BinaryDrat) (MatchBool is_marked (result ≡ ProofFormat.Marked) (result ≡ ProofFormat.Drat)) }
 {
     if is_binary {
         ProofFormat::BinaryDrat
+    } else if is_marked {
+        ProofFormat::Marked
     } else {
         ProofFormat::Drat
     }
 }
 
-// Reads the options of `solve`, in any order, each at most once, and `--binary` only with `--proof`.
+// Reads the options of `solve`, in any order, each at most once, `--binary` and `--marked` only with `--proof`, and not
+// both.
 fn solve_words(words: &[String]) -> Option<SolveWords<'_>> {
     let mut found = SolveWords {
         proof: None,
         is_binary: false,
+        is_marked: false,
         is_checked: false,
+        is_shown: false,
         max_steps: None,
     };
     // The option whose value comes next.
@@ -140,11 +187,17 @@ fn solve_words(words: &[String]) -> Option<SolveWords<'_>> {
                 option = None;
             }
             None if word == "--binary" && !found.is_binary => found.is_binary = true,
+            None if word == "--marked" && !found.is_marked => found.is_marked = true,
             None if word == "--check" && !found.is_checked => found.is_checked = true,
+            None if word == "--progress" && !found.is_shown => found.is_shown = true,
             None => option = Some(word),
         }
     }
-    if option.is_some() || (found.is_binary && found.proof.is_none()) {
+    let is_named = found.is_binary || found.is_marked;
+    if option.is_some()
+        || (found.is_binary && found.is_marked)
+        || (is_named && found.proof.is_none())
+    {
         return None;
     }
     Some(found)
@@ -162,21 +215,50 @@ fn session(rt: &HostRuntime) -> u8 {
 // A proof that is written to a file.
 type FileTarget = IoTarget<BufWriter<File>>;
 
-// Decides the formula in a file. It is opened before the file of a proof.
+// What FILE is called where the formula comes on standard input.
+const STANDARD_INPUT: &str = "-";
+
+// The file that the system has for standard input.
+const INPUT_FILE: &str = "/dev/stdin";
+
+// Why the file of a proof is neither made nor emptied.
+const SAME_FILE: &str = "the formula is in this file, which a proof would overwrite";
+
+// Decides the formula in a file, or on standard input. It is opened before the file of a proof.
 fn solve(rt: &HostRuntime, path: &str, words: &SolveWords<'_>) -> u8 {
+    if path == STANDARD_INPUT {
+        let found = fs::metadata(rt, INPUT_FILE).ok();
+        return solve_from(rt, rt.reader(), found, words);
+    }
     let mut err = rt.stderr();
-    let cnf = match open_text(rt, path) {
-        Ok(cnf) => cnf,
-        Err(error) => return tell_file(&mut err, path, &error),
-    };
+    match open_text(rt, path) {
+        Ok(cnf) => {
+            let found = cnf.metadata().ok();
+            solve_from(rt, cnf, found, words)
+        }
+        Err(error) => tell_file(&mut err, path, &error),
+    }
+}
+
+// Decides the formula that a reader gives, which has this metadata, if they are known.
+fn solve_from<R: Read + Drop>(
+    rt: &HostRuntime,
+    cnf: R,
+    found: Option<Metadata>,
+    words: &SolveWords<'_>,
+) -> u8 {
+    let mut err = rt.stderr();
     let proof_path = words.proof.unwrap_or("");
+    if is_written_over(rt, found, words.proof) {
+        return tell_file(&mut err, proof_path, &SAME_FILE);
+    }
     let mut proof = match create_target(rt, words.proof) {
         Ok(proof) => proof,
         Err(error) => return tell_file(&mut err, proof_path, &error),
     };
     let options = words.options();
     match BufWriter::new(rt.alloc(), io::writer(rt)) {
-        Ok(mut out) => decide_file(
+        Ok(mut out) => decide_text(
             rt,
             &mut ReadSource::new(cnf),
             &mut proof,
@@ -186,6 +268,24 @@ fn solve(rt: &HostRuntime, path: &str, words: &SolveWords<'_>) -> u8 {
         ),
         Err(error) => tell_fault(&mut err, &error),
     }
+}
+
+// Whether a proof would be written over the file of the formula, under whatever name.
+fn is_written_over(rt: &HostRuntime, cnf: Option<Metadata>, proof: Option<&str>) -> bool {
+    let (Some(cnf), Some(path)) = (cnf, proof) else {
+        return false;
+    };
+    match fs::metadata(rt, path) {
+        Ok(found) => is_same_file(&cnf, &found),
+        Err(_) => false,
+    }
+}
+
+// Whether both are of one file. A device that takes characters keeps none, and does not count.
+fn is_same_file(first: &Metadata, second: &Metadata) -> bool {
+    !first.file_type().is_char_device()
+        && first.dev() == second.dev()
+        && first.ino() == second.ino()
 }
 
 // Makes the file of a proof, or empties the one that is there, if a proof is wanted.
@@ -202,18 +302,17 @@ fn create_target(rt: &HostRuntime, path: Option<&str>) -> io::Result<Option<File
     }
 }
 
-// Decides the text that a file gives, with a proof if there is a target for it. Nobody knows its bytes beforehand, but
-// the status and the proof are right for those that were read.
-fn decide_file<W: Write, E: Write>(
+// Decides the text that a reader gives, with a proof if there is a target for it. Nobody knows a file's bytes beforehand,
+// but the status and the proof are right for those that were read.
+fn decide_text<R: Read + Drop, W: Write, E: Write>(
     rt: &HostRuntime,
-    cnf: &mut ReadSource<File>,
+    cnf: &mut ReadSource<R>,
     proof: &mut Option<FileTarget>,
     options: SolveOptions,
     out: &mut W,
     err: &mut E,
 ) -> u8
     requires faults { cnf.old.faults < 2 ^ 64 - 1 }
-    requires format { IsDrat options.format }
     requires room { CanCountFault taken_by_writer proof.old }
     ensures truth { StatusIsTrue cnf.old cnf.new result }
     ensures outcome { (result ≡ fault_status)
@@ -224,29 +323,42 @@ fn decide_file<W: Write, E: Write>(
     solve_lines(rt.alloc(), cnf, proof, options, out, err)
 }
 
-// Checks the proof in a file against the formula in another.
+// Checks the proof in a file against the formula in another, or on standard input.
 fn check(rt: &HostRuntime, cnf_path: &str, proof_path: &str, format: ProofFormat) -> u8 {
+    if cnf_path == STANDARD_INPUT {
+        return check_from(rt, rt.reader(), proof_path, format);
+    }
     let mut err = rt.stderr();
-    let cnf = match open_text(rt, cnf_path) {
-        Ok(cnf) => cnf,
-        Err(error) => return tell_file(&mut err, cnf_path, &error),
-    };
+    match open_text(rt, cnf_path) {
+        Ok(cnf) => check_from(rt, cnf, proof_path, format),
+        Err(error) => tell_file(&mut err, cnf_path, &error),
+    }
+}
+
+// Checks the proof in a file against the formula that a reader gives.
+fn check_from<R: Read + Drop>(
+    rt: &HostRuntime,
+    cnf: R,
+    proof_path: &str,
+    format: ProofFormat,
+) -> u8 {
+    let mut err = rt.stderr();
     let proof = match open_text(rt, proof_path) {
         Ok(proof) => proof,
         Err(error) => return tell_file(&mut err, proof_path, &error),
     };
     let (mut cnf, mut proof) = (ReadSource::new(cnf), ReadSource::new(proof));
     match BufWriter::new(rt.alloc(), io::writer(rt)) {
-        Ok(mut out) => check_files(rt, &mut cnf, &mut proof, format, &mut out, &mut err),
+        Ok(mut out) => check_texts(rt, &mut cnf, &mut proof, format, &mut out, &mut err),
         Err(error) => tell_fault(&mut err, &error),
     }
 }
 
 // Checks the proof that a file gives. The status is 0 only where no assignment satisfies the clauses of the text that
 // was read.
-fn check_files<W: Write, E: Write>(
+fn check_texts<R: Read + Drop, W: Write, E: Write>(
     rt: &HostRuntime,
-    cnf: &mut ReadSource<File>,
+    cnf: &mut ReadSource<R>,
     proof: &mut ReadSource<File>,
     format: ProofFormat,
     out: &mut W,
@@ -279,12 +391,12 @@ fn refuse_folder(found: &Metadata) -> io::Result<()>
     }
 }
 
-// Tells why a file cannot be read, and gives the status for it.
-fn tell_file<E: Write>(err: &mut E, path: &str, error: &io::Error) -> u8
+// Tells why a file cannot be used, and gives the status for it.
+fn tell_file<E: Write, F: Display>(err: &mut E, path: &str, fault: &F) -> u8
     ensures { result ≡ fault_status }
 {
     // Of a writer that fails here nothing is left to tell.
-    let _ = writeln!(err, "error: '{path}': {error}");
+    let _ = writeln!(err, "error: '{path}': {fault}");
     STATUS_FAULT
 }
 

@@ -1,10 +1,10 @@
 //! Proofs that `solve` writes, and targets of proofs that fail.
-ghost use Rattle.varisat.specs.OpenProofs.{IsDrat};
 ghost use Rattle.varisat.specs.Proven.{CanCountFault};
 
 use super::*;
 use std::alloc::Global;
 use std::io::Cursor;
+use std::test::Fail;
 use varisat::io::{MemoryTarget, ProofTarget};
 
 // What a command prints, what it tells of a fault, and its status.
@@ -23,8 +23,7 @@ fn solve_prints<T: ProofTarget>(
     options: SolveOptions,
     wanted: Printed,
 ) -> bool
-    requires format { IsDrat options.format }
-    requires room { CanCountFault T.taken proof.old }
+    requires { CanCountFault T.taken proof.old }
 {
     let mut out = Vec::new(alloc);
     let mut err = Vec::new(alloc);
@@ -70,15 +69,25 @@ const PROOFS: [(&str, Printed, Printed); 5] = [
     ("", ("s SATISFIABLE\nv 0\n", "", 10), NOT_VERIFIED),
 ];
 
+// How a proof is written, and whether a checker runs inside the solver.
+const FORMATS: [(ProofFormat, bool); 6] = [
+    (ProofFormat::Drat, false),
+    (ProofFormat::BinaryDrat, false),
+    (ProofFormat::Marked, false),
+    (ProofFormat::Drat, true),
+    (ProofFormat::BinaryDrat, true),
+    (ProofFormat::Marked, true),
+];
+
 #[test]
 fn proofs_are_verified(rt: HostRuntime) {
     let alloc = rt.alloc();
     for (text, printed, checked) in PROOFS {
-        for (is_binary, check) in [(false, false), (true, false), (false, true), (true, true)] {
-            let format = drat_format(is_binary);
+        for (format, check) in FORMATS {
             let options = SolveOptions {
                 check,
                 max_steps: None,
+                progress: None,
                 format,
             };
             let mut proof = Some(MemoryTarget::new_in(alloc));
@@ -164,6 +173,7 @@ fn faults_of_targets_are_told(rt: HostRuntime) {
             let options = SolveOptions {
                 check,
                 max_steps,
+                progress: None,
                 format: ProofFormat::Drat,
             };
             let mut proof = Some(IoTarget::new(CutWriter { writes, flushes }));
@@ -173,6 +183,72 @@ fn faults_of_targets_are_told(rt: HostRuntime) {
             );
         }
     }
+}
+
+// The heads of the columns in which it is told how far a search is.
+const HEADS: &str =
+    "c      steps  conflicts  decisions propagations restarts variables   binary    irred    core     mid   local\n";
+
+// How far the search for the square is behind its first step. It decides that the first variable is false, by which two clauses
+// conflict, and learns that it is true. The second step finds that the two others conflict with that. A literal is counted
+// as propagated only once that is done without a conflict.
+const FIRST_ROW: &str =
+    "c          1          1          1            0        1         1        4        0       0       0       0\n";
+
+const SECOND_ROW: &str =
+    "c          2          2          1            0        1         0        4        0       0       0       0\n";
+
+// How many steps may be made, after how many each it is told how far the search is, what is printed with which status, and the
+// one or two rows. Two steps decide the square.
+const PROGRESS: [(Option<u64>, u64, &str, u8, &str, &str); 6] = [
+    (None, 1, "s UNSATISFIABLE\n", 20, FIRST_ROW, SECOND_ROW),
+    (None, 2, "s UNSATISFIABLE\n", 20, SECOND_ROW, ""),
+    (None, 0, "s UNSATISFIABLE\n", 20, SECOND_ROW, ""),
+    (Some(2), 1, "s UNSATISFIABLE\n", 20, FIRST_ROW, SECOND_ROW),
+    (Some(1), 1, "s UNKNOWN\n", 0, FIRST_ROW, ""),
+    (Some(1), 5, "s UNKNOWN\n", 0, FIRST_ROW, ""),
+];
+
+// What a search for the square with these options prints, tells on standard error, and has in its proof.
+fn solve_square(
+    alloc: Global,
+    options: SolveOptions,
+) -> (u8, Vec<u8>, Vec<u8>, Option<MemoryTarget<Global>>) {
+    let (mut out, mut err) = (Vec::new(alloc), Vec::new(alloc));
+    let mut proof = Some(MemoryTarget::new_in(alloc));
+    let mut cnf = ReadSource::new(Cursor::new(SQUARE));
+    let status = solve_lines(alloc, &mut cnf, &mut proof, options, &mut out, &mut err);
+    (status, out, err, proof)
+}
+
+#[test]
+fn progress_is_told(rt: HostRuntime) -> Result<(), Fail> {
+    let alloc = rt.alloc();
+    for (max_steps, interval, printed, wanted, first, second) in PROGRESS {
+        let mut options = SolveOptions {
+            check: true,
+            max_steps,
+            progress: None,
+            format: ProofFormat::Drat,
+        };
+        let (_, _, silent, plain) = solve_square(alloc, options);
+        assert!(rt; silent.is_empty());
+        options.progress = Some(interval);
+        let (status, out, err, proof) = solve_square(alloc, options);
+        assert!(rt; (status == wanted) & (out.as_slice() == printed.as_bytes()));
+        // The proof has the same bytes as without.
+        match (&plain, &proof) {
+            (Some(plain), Some(proof)) => assert!(rt; plain.bytes() == proof.bytes()),
+            _ => assert!(rt; false),
+        }
+        let mut text = String::new(alloc);
+        text.push_str(HEADS)?;
+        text.push_str(first)?;
+        text.push_str(second)?;
+        text.push_str("c steps            ")?;
+        assert!(rt; err.as_slice().starts_with(text.as_bytes()));
+    }
+    Ok(())
 }
 
 #[test]
@@ -193,6 +269,7 @@ fn files_of_proofs_are_made(rt: HostRuntime) {
     let options = SolveOptions {
         check: false,
         max_steps: None,
+        progress: None,
         format: ProofFormat::Drat,
     };
     let no_space = (

@@ -1,0 +1,97 @@
+//! What the program tells of itself.
+ghost use Rattle.std.specs.Prelude.{OnOk};
+ghost use Rattle.std.specs.Io.KnownBytes.{Appends};
+
+use std::io::{self, Write};
+
+/// The version of the crate that this program is written after, and that it is proved.
+pub const VERSION: &str = "varisat 0.2.2 (proved)\n";
+
+/// The commands with their options, the formats and the exit codes.
+pub const HELP: &str = "varisat 0.2.2 (proved): a SAT solver
+
+    varisat solve FILE [OPTION ..]                   decide a DIMACS CNF text
+    varisat check CNF PROOF [--binary | --marked]    check a proof that such a text is unsatisfiable
+    varisat session                                  call a solver line by line
+    varisat COMMAND --help                           tell more of a command
+    varisat --help | -h | --version
+
+options of solve, in any order, each at most once:
+    --proof P        write a DRAT proof to the file P
+    --binary         write it in the binary format, and not as text
+    --marked         write it as marked text, with the clauses of FILE
+    --check          have each step of the search checked
+    --max-steps N    give up after N steps
+    --progress       show on standard error how far the search is
+
+FILE and CNF are DIMACS CNF, and - stands for standard input. PROOF is DRAT.
+
+exit codes:
+    10    solve: satisfiable        0    solve: unknown, check: verified, session: done
+    20    solve: unsatisfiable      1    check: not verified
+     2    a bad command line, or a fault, which standard error tells
+";
+
+/// The command `solve`.
+pub const SOLVE_HELP: &str = "varisat solve FILE [OPTION ..]
+
+Decides the DIMACS CNF text in FILE, or on standard input where FILE is -. Prints one of
+
+    s SATISFIABLE      exit code 10; a line v with the literals of a model and 0 follows
+    s UNSATISFIABLE    exit code 20
+    s UNKNOWN          exit code 0; the steps of --max-steps were spent
+
+Options, in any order, each at most once:
+
+    --proof P        write a DRAT proof to the file P, which is made or emptied; it must not be FILE
+    --binary         write the proof in the binary format; only with --proof
+    --marked         write it as marked text, in which the clauses of FILE stand too; only with --proof,
+                     and not with --binary
+    --check          have a checker inside the solver check each step; takes several times as long
+    --max-steps N    make at most N steps, of which each ends with a conflict or an answer
+    --progress       show on standard error, every 10000 steps and at the end: steps, conflicts, decisions,
+                     propagations and restarts so far; variables that are not fixed; clauses of two
+                     literals, given ones, and learned ones to keep (core), to keep if used (mid), or to
+                     drop by and by (local)
+";
+
+/// The command `check`.
+pub const CHECK_HELP: &str = "varisat check CNF PROOF [--binary | --marked]
+
+Checks that PROOF, a file, shows the DIMACS CNF text in CNF, or on standard input where CNF is -, to be
+unsatisfiable. Prints one of
+
+    s VERIFIED        exit code 0
+    s NOT VERIFIED    exit code 1; a line does not follow, deletes what is not there, or is no line; or
+                      the lines refute nothing
+
+PROOF is DRAT, as text or with --binary in the binary format: each added clause has to follow by unit
+propagation. With --marked it is DRAT text in which lines i, q and f tell the clauses that a solver was
+given, its assumptions and its failed cores.
+";
+
+/// The command `session`.
+pub const SESSION_HELP: &str = "varisat session
+
+Reads a call of a solver from each line of standard input, and answers each with a line: ok and what is
+told, err and a number, or bad line. L is a literal, as 3 or -3, V a variable, as 3, N a number.
+
+    add L ..       add a clause         assume L ..       replace the assumptions
+    solve          true or false        model, core       the model, or assumptions that fail
+    new            make a variable      observe           bring hidden variables back
+    hide V         free its name        config FIELD N    change a setting
+    witness V      let no clause        steps, since      steps in all, and since the last change
+    sample V       or any name it       selfcheck         check each step from now on
+    proof text     begin a proof        proof binary      the same in the binary format
+    proof marked   begin a proof of the whole session, with its clauses, assumptions and cores
+    close          end the proof, and tell its bytes in hexadecimal
+";
+
+/// Prints a text.
+pub fn print_text<W: Write>(out: &mut W, text: &str) -> io::Result<()>
+    ensures { OnOk result (Appends (W.contents out.old) (W.contents out.new) text.now) }
+{
+    out.write_all(text.as_bytes())?;
+    out.flush()?;
+    Ok(())
+}

@@ -1,0 +1,229 @@
+-- A state of the solver goes on fitting what was given, call by call.
+use Rattle.std.proofs.Common.{◌≡◌, ◌⊎◌, ℕ, ◌+◌, ◌-◌, ◌^◌, ◌<◌, ◌≤◌, Bool, true, List, [], ◌∷◌, ◌++◌, inl, inr, ⊎_elim, sym, ap, ◌∙◌, subst, refl, Ok, Err, Option, Some, unwrap_or, map, arith}
+use Rattle.std.proofs.lemmas.Bool.{cases_lt}
+use Rattle.varisat_theory.specs.Membership.{◌∈◌}
+use Rattle.varisat_theory.specs.Literals.{Literal, Clause, Assignment, variable_of, opposite, value, SatisfiesAll, MakesTrue, IsSatisfiable, IsFailedCore}
+use Rattle.varisat_theory.proofs.Members.{∈-append_left, ∈-append_right, ∈-append_cases}
+use Rattle.varisat_theory.proofs.Values.{parity, not_both, true_or_opposite}
+use Rattle.varisat_literals.specs.Numbers.{variable_limit}
+use Rattle.varisat.specs.States.{State, Verdict, Unsat, IsRight}
+use Rattle.varisat.specs.Names.{Naming, name_all, through_names, AreInOrder}
+use Rattle.varisat.specs.Models.{IsCompletable, AreNamesInUse}
+use Rattle.varisat.specs.Counts.{count_with}
+use Rattle.varisat.specs.Calls.{IsPastLimit, IsCrowded, AddsClause, Ignored, Accepted, VerdictAfter, Refuted, Reopened, Assumes, Solves, Configures}
+use Rattle.varisat_names.specs.declared.config.SolverConfigUpdate.{SolverConfigUpdate}
+use Rattle.varisat.specs.declared.solver.SolverError.TheVariants.{Interrupted}
+use Rattle.varisat.proofs.NamesInOrder.{stay-in-order, count-above, count-within}
+use Rattle.varisat.proofs.VerdictAnswers.{reopened-not-unsat, assumed-unsat}
+use Rattle.varisat.proofs.NameLaws.{names-are-identities, crowded-is-past-limit}
+use Rattle.varisat_client.specs.Pasts.{IsModel}
+use Rattle.varisat_client.specs.Clients.{Fits}
+
+-- 1. Names are in range.
+
+-- a list that is refused for its names has one past the limit
+pub past-limit : (d : List Literal) (n : ℕ) (m : Naming) → AreInOrder n m → n ≤ variable_limit → IsPastLimit d ⊎ IsCrowded (name_all d m) → IsPastLimit d
+past-limit d n m o h r = ⊎_elim (λ l. l) (λ c. crowded-is-past-limit n m d o h c) r
+
+-- and one that is not brings no more names than there may be
+stays-in-range : (d : List Literal) (n : ℕ) (m : Naming) → AreInOrder n m → n ≤ variable_limit → (IsPastLimit d → ⊥) → count_with n d ≤ variable_limit
+stays-in-range d n m o h none =
+    let (order, own) = stay-in-order n m d o in
+    ⊎_elim
+    (λ more. absurd (none (crowded-is-past-limit n m d o h (subst (λ k. variable_limit < k) (sym order.made) more))))
+    (λ few. few)
+    (cases_lt variable_limit (count_with n d))
+
+-- 2. A clause is taken.
+
+-- what one more clause makes of the state
+taken : (s t : State) (P : List Clause) (A : List Literal) (n most : ℕ) (d : Clause) → AddsClause s d (Ok tt) t → Fits s P A n most →
+    Fits t (P ++ d ∷ []) A n most
+taken s t P A n most d (v, Ignored u e) f =
+    subst (λ x. Fits x (P ++ d ∷ []) A n most) (sym e) (record {
+      valid = f.valid;
+      count = f.count;
+      order = f.order;
+      in_range = f.in_range;
+      same = λ h. absurd (f.refuted u h);
+      fewer = λ c i. ∈-append_left c P (d ∷ []) (f.fewer c i);
+      refuted = f.refuted;
+      assumed = f.assumed;
+      named = f.named;
+      assumed_named = f.assumed_named;
+      steps = f.steps;
+      limit = f.limit;
+    })
+taken s t P A n most d (v, Accepted ext may (w, after, like)) f =
+    let named : Naming = name_all d s.naming in
+    let (order, own) = stay-in-order f.count s.naming d f.order in
+    let e : t.clauses ≡ s.clauses ++ d ∷ [] = like.clauses ∙ ap (λ (x : Clause). s.clauses ++ x ∷ []) own in
+    let more = count-above d f.count in
+    record {
+      valid = ap (λ l. l.valid) like.ledger ∙ f.valid;
+      count = count_with f.count d;
+      order = subst (AreInOrder (count_with f.count d)) (sym like.naming) order;
+      in_range = stays-in-range d f.count s.naming f.order f.in_range may.in_range;
+      same = λ (a, h). e ∙ ap (λ (Q : List Clause). Q ++ d ∷ [])
+          (f.same (a, λ k i. h k (subst (λ (Q : List Clause). k ∈ Q) (sym e) (∈-append_left k s.clauses (d ∷ []) i))));
+      fewer = λ k i. ⊎_elim
+          (λ j. ∈-append_left k P (d ∷ []) (f.fewer k j))
+          (λ j. ∈-append_right k P (d ∷ []) j)
+          (∈-append_cases k s.clauses (d ∷ []) (subst (λ (Q : List Clause). k ∈ Q) e i));
+      refuted = λ u h. unsat w after (sym like.verdict ∙ u) (subst IsSatisfiable like.clauses h);
+      assumed = like.assumptions ∙ f.assumed;
+      named = λ c l i j. ⊎_elim
+          (λ k. let b = f.named c l k j in omega (arith, b, more))
+          (λ k. ⊎_elim (λ q. count-within d f.count l (subst (λ (x : Clause). l ∈ x) q j)) (λ z. absurd z) k)
+          (∈-append_cases c s.clauses (d ∷ []) (subst (λ (Q : List Clause). c ∈ Q) e i));
+      assumed_named = λ l i. let b = f.assumed_named l (subst (λ (ls : List Literal). l ∈ ls) like.assumptions i) in omega (arith, b, more);
+      steps = ap (λ l. l.steps) like.ledger ∙ f.steps;
+      limit = ap (λ l. l.settings.max_steps) like.ledger ∙ f.limit;
+    }
+  where
+    unsat : (w : Verdict) → VerdictAfter s.clauses (map (through_names (name_all d s.naming)) d) s.verdict w → w ≡ Unsat →
+        IsSatisfiable (s.clauses ++ map (through_names (name_all d s.naming)) d ∷ []) → ⊥
+    unsat w (Refuted q r) u h = r h
+    unsat w (Reopened q r) u h = reopened-not-unsat s.verdict ext.unrefuted (sym q ∙ u)
+
+pub added : (s t : State) (P : List Clause) (A : List Literal) (n most : ℕ) (d c : Clause) → AddsClause s d (Ok tt) t → d ≡ c → Fits s P A n most →
+    Fits t (P ++ c ∷ []) A n most
+added s t P A n most d c call e f = subst (λ (x : Clause). Fits t (P ++ x ∷ []) A n most) e (taken s t P A n most d call f)
+
+-- 3. Other assumptions.
+
+supposed : (s t : State) (P : List Clause) (A : List Literal) (n most : ℕ) (d : List Literal) → Assumes s d (Ok tt) t → Fits s P A n most →
+    Fits t P d n most
+supposed s t P A n most d (v, none, may, like) f =
+    let (order, own) = stay-in-order f.count s.naming d f.order in
+    let more = count-above d f.count in
+    let e : t.assumptions ≡ d = like.assumptions ∙ own in
+    record {
+      valid = ap (λ l. l.valid) like.ledger ∙ f.valid;
+      count = count_with f.count d;
+      order = subst (AreInOrder (count_with f.count d)) (sym like.naming) order;
+      in_range = stays-in-range d f.count s.naming f.order f.in_range may.in_range;
+      same = λ h. like.clauses ∙ f.same (subst IsSatisfiable like.clauses h);
+      fewer = λ k i. f.fewer k (subst (λ (Q : List Clause). k ∈ Q) like.clauses i);
+      refuted = λ u h. f.refuted (assumed-unsat s.verdict (sym like.verdict ∙ u)) (subst IsSatisfiable like.clauses h);
+      assumed = e;
+      named = λ c l i j. let b = f.named c l (subst (λ (Q : List Clause). c ∈ Q) like.clauses i) j in omega (arith, b, more);
+      assumed_named = λ l i. count-within d f.count l (subst (λ (ls : List Literal). l ∈ ls) e i);
+      steps = ap (λ l. l.steps) like.ledger ∙ f.steps;
+      limit = ap (λ l. l.settings.max_steps) like.ledger ∙ f.limit;
+    }
+
+pub begun : (s t : State) (P : List Clause) (A : List Literal) (n most : ℕ) (d B : List Literal) → Assumes s d (Ok tt) t → d ≡ B → Fits s P A n most →
+    Fits t P B n most
+begun s t P A n most d B call e f = subst (λ (x : List Literal). Fits t P x n most) e (supposed s t P A n most d call f)
+
+-- another limit
+pub limited : (s t : State) (P : List Clause) (A : List Literal) (n most steps : ℕ) (u : SolverConfigUpdate) → Configures s u (Ok tt) t →
+    u.max_steps ≡ Some steps → Fits s P A n most → Fits t P A n steps
+limited s t P A n most steps u (v, good, e) q f =
+    subst (λ x. Fits x P A n steps) (sym e) (record {
+      valid = f.valid;
+      count = f.count;
+      order = f.order;
+      in_range = f.in_range;
+      same = f.same;
+      fewer = f.fewer;
+      refuted = f.refuted;
+      assumed = f.assumed;
+      named = f.named;
+      assumed_named = f.assumed_named;
+      steps = f.steps;
+      limit = ap (λ (o : Option ℕ). unwrap_or o s.ledger.settings.max_steps) q;
+    })
+
+-- 4. A search.
+
+-- a state with the same clauses, assumptions and names, after further steps
+searched : (s t : State) (P : List Clause) (A : List Literal) (n most : ℕ) → t.ledger.valid ≡ true → t.naming ≡ s.naming → t.clauses ≡ s.clauses →
+    t.assumptions ≡ s.assumptions → t.ledger.settings ≡ s.ledger.settings → (t.verdict ≡ Unsat → IsSatisfiable t.clauses → ⊥) → Fits s P A n most →
+    Fits t P A t.ledger.steps most
+searched s t P A n most v m c a l u f = record {
+  valid = v;
+  count = f.count;
+  order = subst (AreInOrder f.count) (sym m) f.order;
+  in_range = f.in_range;
+  same = λ h. c ∙ f.same (subst IsSatisfiable c h);
+  fewer = λ d i. f.fewer d (subst (λ (Q : List Clause). d ∈ Q) c i);
+  refuted = u;
+  assumed = a ∙ f.assumed;
+  named = λ d x i j. f.named d x (subst (λ (Q : List Clause). d ∈ Q) c i) j;
+  assumed_named = λ x i. f.assumed_named x (subst (λ (ls : List Literal). x ∈ ls) a i);
+  steps = refl;
+  limit = ap (λ x. x.max_steps) l ∙ f.limit;
+}
+
+pub decided : (s t : State) (b : Bool) (P : List Clause) (A : List Literal) (n most : ℕ) → Solves s (Ok b) t → Fits s P A n most →
+    Fits t P A t.ledger.steps most
+decided s t b P A n most r f =
+    searched s t P A n most (ap (λ l. l.valid) r.rest.ledger ∙ f.valid) r.rest.naming r.rest.clauses r.rest.assumptions
+    (ap (λ l. l.settings) r.rest.ledger) (λ u h. subst (IsRight t.clauses t.assumptions t.counted) u r.right h) f
+
+pub interrupted : (s t : State) (P : List Clause) (A : List Literal) (n most : ℕ) → Solves s (Err Interrupted) t → Fits s P A n most →
+    Fits t P A t.ledger.steps most
+interrupted s t P A n most r f =
+    searched s t P A n most (ap (λ l. l.valid) r.rest.ledger ∙ f.valid) r.rest.naming r.rest.clauses r.rest.assumptions
+    (ap (λ l. l.settings) r.rest.ledger) (λ u h. f.refuted (sym r.rest.verdict ∙ u) (subst IsSatisfiable r.rest.clauses h)) f
+
+-- the steps are spent
+pub all-spent : (s t : State) (P : List Clause) (A : List Literal) (n most : ℕ) → Solves s (Err Interrupted) t → Fits s P A n most →
+    (t.ledger.steps ≡ n + most) ⊎ (t.ledger.steps ≡ 2 ^ 64 - 1)
+all-spent s t P A n most r f =
+    let k = r.steps in
+    ⊎_elim
+    (λ e. inl (k.count ∙ ap (λ x. x + k.made) f.steps ∙ ap (λ x. n + x) (e ∙ f.limit)))
+    inr
+    (k.spent refl)
+
+-- 5. Models and cores.
+
+either : (k l : Literal) → variable_of k ≡ variable_of l → (k ≡ l) ⊎ (k ≡ opposite l)
+unfolding opposite
+either k l e =
+    ⊎_elim
+    (λ a. ⊎_elim (λ b. inl (omega (arith, a, b, e))) (λ b. inr (omega (arith, a, b, e))) (parity l))
+    (λ a. ⊎_elim (λ b. inr (omega (arith, a, b, e))) (λ b. inl (omega (arith, a, b, e))) (parity l))
+    (parity k)
+
+same-variable : (l : Literal) → variable_of (opposite l) ≡ variable_of l
+unfolding opposite
+same-variable l = ⊎_elim (λ a. omega (arith, a)) (λ a. omega (arith, a)) (parity l)
+
+-- two literals of one variable that are true are one
+both-true : (a : Assignment) (k l : Literal) → variable_of k ≡ variable_of l → value a k ≡ true → value a l ≡ true → k ≡ l
+both-true a k l e x y = ⊎_elim (λ q. q) (λ q. absurd (not_both a l y (subst (λ z. value a z ≡ true) q x))) (either k l e)
+
+pub is-model : (s : State) (P : List Clause) (A : List Literal) (n most : ℕ) (m : List Literal) → Fits s P A n most →
+    IsCompletable s.naming s.clauses s.assumptions s.counted m → IsModel P A m
+is-model s P A n most m f c =
+    let (a, makes, all, true-assumed) = c.satisfied in
+    let own = names-are-identities f.count s.naming m f.order c.in_use in
+    let here : MakesTrue a m = subst (λ (ls : List Literal). MakesTrue a ls) own makes in
+    let listed : (l : Literal) → variable_of l < f.count → value a l ≡ true → l ∈ m =
+    λ l b v. let (k, i, e) = c.all_listed (variable_of l) (variable_of l) (f.order.in_use (variable_of l) b) in
+    subst (λ x. x ∈ m) (both-true a k l e (here k i) v) i in
+    let same = f.same (a, all) in
+    record {
+      satisfied = (a, here, subst (λ (Q : List Clause). SatisfiesAll a Q) same all, subst (λ (ls : List Literal). MakesTrue a ls) f.assumed true-assumed);
+      each = λ d i. let j = subst (λ (Q : List Clause). d ∈ Q) (sym same) i in
+          let (l, within, v) = all d j in (l, within, listed l (f.named d l j within) v);
+      whole = λ d l i within. let b = f.named d l (subst (λ (Q : List Clause). d ∈ Q) (sym same) i) within in
+          ⊎_elim
+          (λ v. inl (listed l b v))
+          (λ v. inr (listed (opposite l) (subst (λ v. v < f.count) (sym (same-variable l)) b) v))
+          (true_or_opposite a l);
+      assumed_too = λ l i. let j = subst (λ (ls : List Literal). l ∈ ls) (sym f.assumed) i in listed l (f.assumed_named l j) (true-assumed l j);
+    }
+
+pub is-core : (s : State) (P : List Clause) (A : List Literal) (n most : ℕ) (core : List Literal) → Fits s P A n most → AreNamesInUse s.naming core →
+    IsFailedCore s.clauses s.assumptions (map (through_names s.naming) core) → IsFailedCore P A core
+is-core s P A n most core f named failed =
+    let own = names-are-identities f.count s.naming core f.order named in
+    let (within, none) = subst (λ (ls : List Literal). IsFailedCore s.clauses s.assumptions ls) own failed in (
+      (λ l i. subst (λ (ls : List Literal). l ∈ ls) f.assumed (within l i)),
+      (λ (a, all, makes). none (a, (λ d i. all d (f.fewer d i)), makes)),
+    )

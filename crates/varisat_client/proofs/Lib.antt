@@ -1,0 +1,6 @@
+pub mod Fitting
+pub mod Refusing
+pub mod Moving
+pub mod Runs
+pub mod Given
+pub mod SetFlags

@@ -1,0 +1,15 @@
+use Rattle.std.proofs.Common.{◌∙◌, refl, sym, ap, Some}
+use Rattle.varisat_client.specs.Pasts.{Begins, Refused, Again}
+use Rattle.varisat_client.proofs.Moving.{stays-refused, begins-search, begin-refused}
+use Rattle.varisat_client.proofs.client.Client.begin.Goals as goal
+
+pub returns-then-is_some : goal.returns-then-is_some
+returns-then-is_some g c = rw (← c.self.view_is) (stays-refused Begins _ (sym c.is_some.ensures ∙ c.if-is_some.true) (λ p r. Refused (Again r refl)))
+
+pub returns-in-Ok : goal.returns-in-Ok
+returns-in-Ok g c = rw (← c.self.view_is)
+    (begins-search _ _ _ (sym c.is_some.ensures ∙ c.if-is_some.false) c.deref.ensures.value c.in-Ok.ensures.call c.clear.ensures.items refl)
+
+pub returns-in-Err : goal.returns-in-Err
+returns-in-Err g c = rw (← c.self.view_is)
+    (begin-refused _ _ _ _ (sym c.is_some.ensures ∙ c.if-is_some.false) c.deref.ensures.value c.in-Err.ensures.call (ap Some c.refusal_for.ensures))

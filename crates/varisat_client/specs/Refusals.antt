@@ -1,0 +1,11 @@
+-- How a client tells an error of the solver.
+use Rattle.varisat.specs.declared.solver.SolverError.{SolverError}
+use Rattle.varisat.specs.declared.solver.SolverError.TheVariants as error
+use Rattle.varisat_client.specs.declared.refusal.Refusal.{Refusal}
+use Rattle.varisat_client.specs.declared.refusal.Refusal.TheVariants.{OutOfMemory, VariableLimit, ClauseStoreFull}
+
+-- the reason as which an error is told
+abbrev pub refusal_for : SolverError → Refusal
+refusal_for error.VariableLimit = VariableLimit
+refusal_for error.ClauseStoreFull = ClauseStoreFull
+refusal_for _ = OutOfMemory

@@ -1,0 +1,244 @@
+//! A client of the solver that takes clauses and assumptions a literal at a time, and tells values one at a time.
+ghost use Rattle.std.specs.Prelude.{◌≡◌, ◌≢◌, ◌∷◌, [], ◌++◌, pos, OnOk};
+ghost use Rattle.varisat_literals.specs.Numbers.{literal_numbered};
+
+use crate::literal_set::LitSet;
+use crate::refusal::{Refusal, refusal_for};
+use std::alloc::{AllocError, Allocator};
+use std::marker::Model;
+use varisat::config::{ConfigField, SolverConfigUpdate};
+use varisat::io::MemoryTarget;
+use varisat::solver::SolverError;
+use varisat::{Lit, Solver};
+
+/// How a search ended.
+#[derive(Clone, Copy)]
+pub enum SearchEnd {
+    /// Some assignment satisfies the clauses and makes the assumptions true.
+    Satisfiable,
+    /// None does.
+    Unsatisfiable,
+    /// The steps of one call are spent. The next call goes on.
+    Interrupted,
+    /// The call was refused.
+    Refused,
+}
+
+/// The literal of the number.
+fn literal_of(number: i32) -> Lit
+    requires { number ≢ pos 0 }
+    ensures { result ≡ literal_numbered number }
+{
+    Lit::from_dimacs(number as isize)
+}
+
+/// Puts the literal of the number behind the list.
+fn put_number<A: Allocator + Copy>(list: &mut Vec<Lit, A>, number: i32) -> Result<(), AllocError>
+    requires { number ≢ pos 0 }
+    ensures { OnOk result (list.new.items ≡ list.old.items ++ literal_numbered number ∷ []) }
+{
+    list.push(literal_of(number))?;
+    Ok(())
+}
+
+/// A client with its solver. From the first call on that is refused, all are.
+#[derive(Drop)]
+pub struct Client<A: Allocator + Copy> {
+    // No proof is ever written, so that the type of targets does not matter.
+    solver: Solver<MemoryTarget<A>, A>,
+    clause: Vec<Lit, A>,
+    assumptions: Vec<Lit, A>,
+    model: LitSet<A>,
+    core: LitSet<A>,
+    refusal: Option<Refusal>,
+}
+
+impl<A: Allocator + Copy> Model for Client<A> {
+    ghost use Rattle.varisat_client.specs.Clients as clients;
+
+    ghost Value = { clients.Client };
+
+    ghost view = { λ c. record {
+      solver = c.solver;
+      clause = c.clause.items;
+      assumptions = c.assumptions.items;
+      model = c.model;
+      core = c.core;
+      refusal = c.refusal;
+    } };
+}
+
+impl<A: Allocator + Copy> Client<A> {
+    ghost use Rattle.varisat_client.specs.Pasts.{Past, empty_past, AddsNumber, AssumesNumber, Begins, LimitsSteps, Searches, TellsValue, TellsFailed};
+    ghost use Rattle.varisat_client.specs.Clients.{Stands, Moves, RunsOut, KeepsModel, KeepsCore};
+
+    /// A client with a new solver. It takes no memory.
+    pub fn new_in(alloc: A) -> Client<A>
+        ensures { Stands result empty_past }
+    {
+        Client {
+            solver: Solver::new_in(alloc),
+            clause: Vec::new(alloc),
+            assumptions: Vec::new(alloc),
+            model: LitSet::new_in(alloc),
+            core: LitSet::new_in(alloc),
+            refusal: None,
+        }
+    }
+
+    /// Adds the literal of the number to the clause that is being given, or ends that clause where the number is 0.
+    pub fn add(&mut self, number: i32)
+        ensures { Moves (AddsNumber number) self.old self.new }
+    {
+        if self.refusal.is_some() {
+            return;
+        }
+        if number == 0 {
+            match self.solver.add_clause(&self.clause) {
+                Ok(()) => self.clause.clear(),
+                Err(error) => self.refusal = Some(refusal_for(&error)),
+            }
+            return;
+        }
+        match put_number(&mut self.clause, number) {
+            Ok(()) => {}
+            Err(_) => self.refusal = Some(Refusal::OutOfMemory),
+        }
+    }
+
+    /// Adds the literal of the number to the assumptions for the next search. 0 adds none.
+    pub fn assume(&mut self, number: i32)
+        ensures { Moves (AssumesNumber number) self.old self.new }
+    {
+        if number == 0 {
+            return;
+        }
+        if self.refusal.is_some() {
+            return;
+        }
+        match put_number(&mut self.assumptions, number) {
+            Ok(()) => {}
+            Err(_) => self.refusal = Some(Refusal::OutOfMemory),
+        }
+    }
+
+    /// Begins a search under the assumptions that were given.
+    pub fn begin(&mut self)
+        ensures { Moves Begins self.old self.new }
+    {
+        if self.refusal.is_some() {
+            return;
+        }
+        match self.solver.assume(&self.assumptions) {
+            Ok(()) => self.assumptions.clear(),
+            Err(error) => self.refusal = Some(refusal_for(&error)),
+        }
+    }
+
+    /// How many steps one call of `search` may make.
+    pub fn limit_steps(&mut self, steps: u64)
+        ensures { Moves (LimitsSteps steps) self.old self.new }
+    {
+        if self.refusal.is_some() {
+            return;
+        }
+        let update = SolverConfigUpdate::one(ConfigField::MaxSteps, steps);
+        match self.solver.config(&update) {
+            Ok(()) => {}
+            Err(error) => self.refusal = Some(refusal_for(&error)),
+        }
+    }
+
+    /// Searches until it is known whether some assignment satisfies the clauses and makes the assumptions true, or the
+    /// steps of one call are spent.
+    pub fn search(&mut self) -> SearchEnd
+        ensures { Moves (Searches result) self.old self.new }
+    {
+        if self.refusal.is_some() {
+            return SearchEnd::Refused;
+        }
+        match self.solver.solve() {
+            Ok(true) => self.keep_model(),
+            Ok(false) => self.keep_core(),
+            Err(SolverError::Interrupted) => SearchEnd::Interrupted,
+            Err(error) => {
+                self.refusal = Some(refusal_for(&error));
+                SearchEnd::Refused
+            }
+        }
+    }
+
+    /// Refuses, since memory ran out.
+    fn run_out(&mut self) -> SearchEnd
+        ensures { RunsOut result self.new }
+    {
+        self.refusal = Some(Refusal::OutOfMemory);
+        SearchEnd::Refused
+    }
+
+    /// Keeps the model that was found.
+    fn keep_model(&mut self) -> SearchEnd
+        ensures { KeepsModel result self.old self.new }
+    {
+        match self.solver.model() {
+            Ok(Some(list)) => match self.model.replace(&list) {
+                Ok(()) => SearchEnd::Satisfiable,
+                Err(_) => self.run_out(),
+            },
+            Ok(None) | Err(_) => self.run_out(),
+        }
+    }
+
+    /// Keeps the core that was found.
+    fn keep_core(&mut self) -> SearchEnd
+        ensures { KeepsCore result self.old self.new }
+    {
+        match self.solver.failed_core() {
+            Some(list) => match self.core.replace(list) {
+                Ok(()) => SearchEnd::Unsatisfiable,
+                Err(_) => self.run_out(),
+            },
+            None => self.run_out(),
+        }
+    }
+
+    /// The number where its literal is true in the model that was found last, the opposite number where that is, else 0.
+    pub fn value(&self, number: i32) -> i32
+        ensures { (p : Past) → Stands self.now p → TellsValue number result p }
+    {
+        if self.refusal.is_some() {
+            return 0;
+        }
+        if number == 0 || number == i32::MIN {
+            return 0;
+        }
+        let lit = literal_of(number);
+        if self.model.contains(lit) {
+            return number;
+        }
+        if self.model.contains(!lit) {
+            return -number;
+        }
+        0
+    }
+
+    /// Whether the literal of the number is in the core that was found last.
+    pub fn has_failed(&self, number: i32) -> bool
+        ensures { (p : Past) → Stands self.now p → TellsFailed number result p }
+    {
+        if self.refusal.is_some() {
+            return false;
+        }
+        if number == 0 {
+            return false;
+        }
+        self.core.contains(literal_of(number))
+    }
+
+    /// Why calls are refused, if they are.
+    pub fn refusal(&self) -> Option<Refusal>
+        ensures { (p : Past) → Stands self.now p → result ≡ p.refusal }
+    {
+        self.refusal
+    }
+}

@@ -1,0 +1,3 @@
+//! The tests, a file for each subject.
+
+mod answers;

@@ -15,7 +15,9 @@ from typing import Callable, Optional
 ROOT = os.path.dirname(os.path.dirname(os.path.abspath(__file__)))
 PROGRAM = f"{ROOT}/crates/varisat_cli/out/varisat_cli"
 # Each tool that is not ours, and the Debian package that has it.
-PACKAGES = {"minisat": "minisat", "cadical": "cadical", "/usr/bin/time": "time"}
+PACKAGES = {"minisat": "minisat", "cadical": "cadical", "/usr/bin/time": "time", "gcc": "gcc", "g++": "g++"}
+# The one that draws.
+DRAWING = {"gnuplot": "gnuplot-nox"}
 SATISFIABLE = 10
 UNSATISFIABLE = 20
 
@@ -63,7 +65,8 @@ def machine():
 
 
 def check_tools(*tools):
-    missing = [PACKAGES[tool] for tool in tools if not shutil.which(tool)]
+    packages = {**PACKAGES, **DRAWING}
+    missing = [packages[tool] for tool in tools if not shutil.which(tool)]
     if missing:
         stop(f"missing: {', '.join(missing)}. On Debian: apt-get update; apt-get install -y {' '.join(missing)}")
 
@@ -80,6 +83,11 @@ def ours():
 
 def cadical():
     return Program("cadical", ["cadical", "-q"])
+
+
+def rust_crate():
+    """The program of the Rust crate varisat, where it is installed (cargo install varisat-cli), or None."""
+    return Program("varisat in Rust", ["varisat"]) if shutil.which("varisat") else None
 
 
 def readers():
@@ -108,10 +116,10 @@ def must_be(status, wanted, program):
         stop(f"{program.name} ended with status {status}, not {wanted}")
 
 
-def run_command(command, source, output, limit):
+def run_command(command, source, output, limit, errors=subprocess.DEVNULL):
     """Runs the command, and gives its status and what it took. It is killed past the limit, in whole seconds of the processor."""
     started = time.perf_counter()
-    child = subprocess.Popen(command, stdin=source, stdout=output, stderr=subprocess.DEVNULL)
+    child = subprocess.Popen(command, stdin=source, stdout=output, stderr=errors)
     if limit is not None:
         resource.prlimit(child.pid, resource.RLIMIT_CPU, (limit, limit))
     _, ended, usage = os.wait4(child.pid, 0)
@@ -137,9 +145,24 @@ def was_killed(status, taken, limit):
     return status == -signal.SIGKILL and taken.processor > 0.9 * limit
 
 
-def count_conflicts(clauses, limit):
-    """Decides the clauses in a session of our program, which tells its steps: each but one that finds a model comes to a conflict."""
+def count_conflicts(path, limit):
+    """How many conflicts our program comes to on the file, which it tells with `--progress`; None past the limit."""
+    with tempfile.TemporaryFile("w+", encoding="utf-8") as errors:
+        status, taken = run_command([*ours().command, path, "--progress"], subprocess.DEVNULL, subprocess.DEVNULL, limit, errors)
+        errors.seek(0)
+        line = re.search(r"^c conflicts +(\d+)$", errors.read(), re.MULTILINE)
+    if was_killed(status, taken, limit):
+        return None
+    if not line:
+        stop(f"varisat told no conflicts on {os.path.basename(path)}")
+    return int(line[1])
+
+
+def decide_by_session(clauses, limit, settings=()):
+    """Decides the clauses in a session of our program: with the settings of a new solver, but for those that are given as pairs of a
+    name and a number. Each step but one that finds a model comes to a conflict."""
     with tempfile.TemporaryFile("w+", encoding="utf-8") as lines, tempfile.TemporaryFile("w+", encoding="utf-8") as output:
+        lines.writelines(f"config {name} {number}\n" for name, number in settings)
         lines.writelines(" ".join(["add", *map(str, clause)]) + "\n" for clause in clauses)
         lines.write("solve\nsteps\n")
         lines.seek(0)

@@ -1,0 +1,94 @@
+"""What incremental calls take through IPASIR, beside the libraries of minisat and CaDiCaL."""
+import datetime
+import os
+import shutil
+import statistics
+import subprocess
+import tempfile
+from dataclasses import dataclass
+
+import learning
+import programs
+
+SUMMARY = "times 1,000 incremental calls over 100,000 variables through IPASIR, beside minisat and cadical where they are there"
+SOURCES = f"{programs.ROOT}/bench/incremental"
+IPASIR = f"{programs.ROOT}/contrib/ipasir"
+CRATE = f"{programs.ROOT}/crates/varisat_ipasir"
+# Debian's libraries, and the packages that have them.
+MINISAT = "/usr/lib/libminisat.a"
+CADICAL = "/usr/lib/x86_64-linux-gnu/libcadical.a"
+HEADS = f"{'solver':10} {'clauses, ms':>12} {'first search':>13} {'calls':>12} {'a call':>10} {'MiB':>8} {'satisfiable':>12} {'ours / theirs':>14}"
+
+
+@dataclass
+class Answered:
+    """The milliseconds of the processor, the largest resident size in KiB, how many calls were satisfiable, and a checksum of the answers."""
+
+    clauses: float
+    first: float
+    calls: float
+    memory: int
+    satisfiable: int
+    checksum: int
+
+
+def add_arguments(command):
+    command.add_argument("--repetitions", type=learning.positive, default=3, help="turns of all solvers (3)")
+    command.add_argument("--calls", type=learning.positive, default=1000, help="incremental calls (1000)")
+
+
+def must_run(command, folder=None):
+    done = subprocess.run(command, cwd=folder, stdout=subprocess.PIPE, stderr=subprocess.STDOUT, text=True)
+    if done.returncode:
+        programs.stop(f"{' '.join(command)} ended with status {done.returncode}:\n{done.stdout}")
+    return done.stdout
+
+
+def build(folder):
+    """The program that makes the calls, linked to each solver that is there."""
+    must_run(["rt", "lib"], CRATE)
+    kit = os.path.dirname(must_run(["rt", "doc"]).strip())
+    calls = f"{folder}/calls.o"
+    must_run(["gcc", "-std=c11", "-D_POSIX_C_SOURCE=200809L", "-O2", "-c", f"{SOURCES}/calls.c", "-o", calls])
+    linked = {"varisat": ["gcc", calls, f"{IPASIR}/ipasir.c", f"{CRATE}/out/libvarisat_ipasir.a", f"{kit}/c/liblibc_c.a"]}
+    if os.path.exists(MINISAT):
+        linked["minisat"] = ["g++", "-w", "-D__STDC_LIMIT_MACROS", "-D__STDC_FORMAT_MACROS", calls, f"{SOURCES}/minisat.cc", MINISAT]
+    if os.path.exists(CADICAL):
+        linked["cadical"] = ["g++", calls, CADICAL]
+    for name, command in linked.items():
+        must_run([*command, "-O2", "-o", f"{folder}/{name}"])
+    return list(linked)
+
+
+def answer(folder, name, calls):
+    words = must_run([f"{folder}/{name}", str(calls)]).split()
+    return Answered(*map(float, words[:3]), *map(int, words[3:]))
+
+
+def print_solver(name, runs, calls, ours):
+    """Prints the row of a solver, and gives the milliseconds of its calls."""
+    clauses, first, all_calls = (statistics.median(times) for times in zip(*((run.clauses, run.first, run.calls) for run in runs)))
+    ratio = f"{ours / all_calls:14.2f}" if ours else ""
+    memory = max(run.memory for run in runs) / 1024
+    print(f"{name:10} {clauses:12,.1f} {first:13,.1f} {all_calls:12,.1f} {all_calls / calls:10,.2f} {memory:8,.1f} {runs[0].satisfiable:12,} {ratio}", flush=True)
+    return all_calls
+
+
+def run(arguments):
+    programs.check_tools("gcc", "g++")
+    if not shutil.which("rt"):
+        programs.stop("the command rt of the Rattle kit is not there")
+    print(f"{datetime.date.today()}, {programs.machine()}")
+    print(f"the median of {arguments.repetitions} turns; times are the processor's\n")
+    print(HEADS)
+    with tempfile.TemporaryDirectory() as folder:
+        names = build(folder)
+        turns = [[answer(folder, name, arguments.calls) for name in names] for _ in range(arguments.repetitions)]
+    ours = None
+    for name, runs in zip(names, zip(*turns)):
+        taken = print_solver(name, runs, arguments.calls, ours)
+        ours = ours or taken
+    if len({one.checksum for turn in turns for one in turn}) > 1:
+        print("\nthe answers differ", flush=True)
+        return 1
+    return 0

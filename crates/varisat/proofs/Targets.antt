@@ -1,6 +1,6 @@
 -- What calls in turn make of the target of an open proof.
 use Rattle.std.specs.Prelude.{is_some}
-use Rattle.std.proofs.Common.{◌≡◌, ◌∙◌, ℕ, true, false, Option, Some, None, List, [], ◌++◌, Result, Ok, Err, refl, sym, ap, subst}
+use Rattle.std.proofs.Common.{◌≡◌, ◌≢◌, ◌∙◌, ℕ, true, false, Option, Some, None, List, [], ◌++◌, Result, Ok, Err, refl, sym, ap, subst}
 use Rattle.std.proofs.lemmas.List.{append-nil}
 use Rattle.std.specs.declared.io.Error.{Error}
 use Rattle.varisat_theory.specs.Journals.{Entry}
@@ -78,6 +78,17 @@ pub refused-full : (e : StepError) → step_refusal e ≡ ClauseStoreFull → e 
 refused-full step.Full f = refl
 refused-full step.Memory f = absurd cc
 refused-full (step.Target cause) f = absurd cc
+
+-- 4. Where the target failed.
+pub names-not-broken : (t : Tables) (d : List Literal) (e : SolverError) (cause : Error) → ChecksNames t d (Err e) → e ≡ ProofIoError cause → ⊥
+names-not-broken t d VariableLimit cause h f = cc
+names-not-broken t d (WitnessVar u) cause h f = cc
+names-not-broken t d e cause h f = absurd h
+
+pub broken-not-memory : (e : StepError) (cause : Error) → step_refusal e ≡ ProofIoError cause → e ≢ step.Memory
+broken-not-memory step.Full cause f m = cc
+broken-not-memory step.Memory cause f m = cc
+broken-not-memory (step.Target x) cause f m = cc
 
 pub same-error : {X E : Type 0} (d e : E) → (let r : Result X E = Err d in r) ≡ Err e → d ≡ e
 same-error d e h = cc

@@ -156,6 +156,8 @@ pub fn assume_list<W: ProofTarget, A: Allocator + Copy>(
     // What the target of an open proof has after an error. The clause store is not asked for room.
     ensures broken { IfErr result (λ error. BreaksProof tracer.old.proof (step_faults error) tracer.new.proof) }
     ensures unstored { IfErr result (λ error. error ≢ StepError.Full) }
+    // The target is asked last: where it fails the list is assumed already, so that there was memory for it.
+    ensures last { IfErr result (λ error. error ≢ StepError.Memory → ctx.new.assumptions.user ≡ list.now) }
 {
     // What was found under the assumptions before says nothing of these.
     ctx.solver_state.assume();

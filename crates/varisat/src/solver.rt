@@ -201,6 +201,7 @@ impl<W: ProofTarget, A: Allocator + Copy> Solver<W, A> {
     ghost use Rattle.varisat_theory.specs.Literals.{IsSatisfiableWith, IsFailedCore};
     ghost use Rattle.varisat_theory.specs.CallBounds.{AreFew};
     ghost use Rattle.varisat_formula.specs.Rest.{Progress, IsEnding};
+    ghost use Rattle.std.specs.declared.io.Error.{Error};
     ghost use Rattle.varisat.specs.States.{State, empty_state};
     ghost use Rattle.varisat.specs.Models.{model_of, IsCompletable, core_of, AreNamesInUse};
     ghost use Rattle.varisat.specs.Names.{through_names};
@@ -572,6 +573,8 @@ impl<W: ProofTarget, A: Allocator + Copy> Solver<W, A> {
     pub fn assume(&mut self, lits: &[Lit]) -> Result<(), SolverError>
         ensures target { WritesOn self.old.opened result self.new.opened }
         ensures call { (s : State) → StandsFor self.old s → (t : State) × Assumes s lits.now result t × StandsFor self.new t }
+        // The target is asked last: where it fails the list is assumed already, so that there was memory for it.
+        ensures last { (cause : Error) → result ≡ Err (SolverError.ProofIoError cause) → self.new.assumed.user ≡ lits.now }
     {
         if self.ctx.solver_state.state_is_invalid {
             return Err(SolverError::Invalid);

@@ -249,3 +249,23 @@ pub returns-in_err-tell_assumptions-clause-unstored : goal.returns-in_err-tell_a
 returns-in_err-tell_assumptions-clause-unstored g c =
     passed-on c.from_residual-in_err-tell_assumptions.result c.in_err-tell_assumptions.field-0.0 (λ z. z ≢ step.Full)
     c.from_residual-in_err-tell_assumptions.ensures (c.in_err-tell_assumptions.ensures {u = tt}).unstored
+
+-- The list is assumed before the target is asked; up to there memory alone can run out.
+
+pub returns-in_err-solver_from_user_lits-clause-last : goal.returns-in_err-solver_from_user_lits-clause-last
+returns-in_err-solver_from_user_lits-clause-last g c =
+    passed-on c.from_residual.result step.Memory (λ z. z ≢ step.Memory → c.solver_from_user_lits.new.ctx.assumptions.user ≡ c.args.list.now)
+    c.from_residual.ensures (λ n. absurd (n refl))
+
+pub returns-in_err-set_assumptions-clause-last : goal.returns-in_err-set_assumptions-clause-last
+returns-in_err-set_assumptions-clause-last g c =
+    passed-on c.from_residual-in_err-set_assumptions.result step.Memory
+    (λ z. z ≢ step.Memory → c.set_assumptions.new.ctx.assumptions.user ≡ c.args.list.now)
+    c.from_residual-in_err-set_assumptions.ensures (λ n. absurd (n refl))
+
+pub returns-in_err-tell_assumptions-clause-last : goal.returns-in_err-tell_assumptions-clause-last
+returns-in_err-tell_assumptions-clause-last g c =
+    passed-on c.from_residual-in_err-tell_assumptions.result c.in_err-tell_assumptions.field-0.0
+    (λ z. z ≢ step.Memory → c.set_assumptions.new.ctx.assumptions.user ≡ c.args.list.now)
+    c.from_residual-in_err-tell_assumptions.ensures
+    (λ _. ap (λ (x : AssumptionParts). x.user) (c.in_ok-set_assumptions.ensures {u = tt}).assumed)

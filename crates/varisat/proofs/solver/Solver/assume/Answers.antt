@@ -11,10 +11,10 @@ use Rattle.varisat.specs.Summaries.{spaces_with, StandsFor}
 use Rattle.varisat.proofs.SettingsCalls.{summary_of}
 use Rattle.varisat.proofs.ListJoins.{ListJoins, list-joins}
 use Rattle.varisat.specs.States.{Ledger, State}
-use Rattle.varisat.specs.declared.solver.SolverError.TheVariants.{Invalid, ProofOpen}
+use Rattle.varisat.specs.declared.solver.SolverError.TheVariants.{Invalid, ProofOpen, ProofIoError}
 use Rattle.varisat.specs.Calls.{Assumes}
 use Rattle.varisat.proofs.OpenProofs.{barred-there, unbarred-there, broken-open, broken-on}
-use Rattle.varisat.proofs.Targets.{refused-unwritten, tells-writes, breaks-writes, names-unwritten}
+use Rattle.varisat.proofs.Targets.{refused-unwritten, tells-writes, breaks-writes, names-unwritten, names-not-broken, broken-not-memory, same-error}
 use Rattle.varisat.proofs.CallStates.{ledger-is, none-since, stands-valid, proof-fits, broken, broken-invalid, assumes-broken}
 use Rattle.varisat.proofs.Additions.{told-error}
 use Rattle.varisat.proofs.SinceSteps.{since-now}
@@ -163,3 +163,13 @@ returns-in-Err-clause-target g c =
     rw (← c.self.view_is) (subst (λ e. WritesUpTo (told_faults e) c.self.inside.tracer.proof.opened c.assume_list.new.tracer.proof.opened)
     (sym c.from.ensures)
     (breaks-writes c.self.inside.tracer.proof c.assume_list.new.tracer.proof c.in-Err.error c.in-Err.ensures.broken))
+
+pub returns-in_err-check_names-clause-last : goal.returns-in_err-check_names-clause-last
+returns-in_err-check_names-clause-last g c cause f =
+    let e = c.in_err-check_names.field-0.0 in
+    absurd (names-not-broken c.self.inside.tracer.variables c.args.lits.now e cause c.in_err-check_names.ensures
+    (same-error e (ProofIoError cause) (sym (told-error c.from_residual.result e c.from_residual.ensures) ∙ f)))
+
+pub returns-in-Err-clause-last : goal.returns-in-Err-clause-last
+returns-in-Err-clause-last g c cause f =
+    c.in-Err.ensures.last (broken-not-memory c.in-Err.error cause (sym c.from.ensures ∙ same-error _ (ProofIoError cause) f))

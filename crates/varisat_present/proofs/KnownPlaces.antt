@@ -36,7 +36,7 @@ placed_grown xs ps qs t w = record {
   placed = λ k h s. get_or_append_left ps qs 0 (get_or xs k 0) (w.reached k h s) ∙ w.placed k h s;
 }
 
-take_short : (n : ℕ) (xs : List ℕ) (k : ℕ) → k < length (take n xs) → (k < n) × (k < length xs)
+pub take_short : (n : ℕ) (xs : List ℕ) (k : ℕ) → k < length (take n xs) → (k < n) × (k < length xs)
 take_short zero xs k h = absurd (omega arith)
 take_short (suc n) [] k h = absurd (omega arith)
 take_short (suc n) (x ∷ xs) zero h = (omega arith, omega arith)
@@ -51,7 +51,7 @@ placed_cut xs ps n w = record {
       subst (λ x. get_or ps x 0 ≡ k) (sym e) (w.placed k j (subst (λ x. x < place_limit) e s));
 }
 
-cases : (xs : List ℕ) (l k : ℕ) → k < length (xs ++ (l ∷ [])) → (k < length xs) ⊎ (length xs ≡ k)
+pub cases : (xs : List ℕ) (l k : ℕ) → k < length (xs ++ (l ∷ [])) → (k < length xs) ⊎ (length xs ≡ k)
 cases xs l k h = let m = length-append xs (l ∷ []) in split (length xs) (length (xs ++ (l ∷ []))) k h m
   where
     split : (a b k : ℕ) → k < b → b ≡ a + 1 → (k < a) ⊎ (a ≡ k)

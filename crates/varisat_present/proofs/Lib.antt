@@ -2,6 +2,7 @@ pub mod Elements
 pub mod MarkedLists
 pub mod Mentions
 pub mod KnownPlaces
+pub mod FarPlaces
 pub mod PlacedClauses
 pub mod KnownGrowth
 pub mod KeptLiterals

@@ -1,5 +1,7 @@
 -- Clauses at places: a place is empty once its clause is deleted.
 use Rattle.std.specs.Prelude.{◌≡◌, ℕ, zero, suc, ◌<◌, ◌≤◌, List, [], ◌∷◌, length, Option, Some, None, Vec, slice_index_or}
+use Rattle.std.specs.BTreeMap.{BTreeMap, get}
+use Rattle.std.specs.Ordering.{nat_cmp}
 use Rattle.varisat_theory.specs.Literals.{Clause}
 
 -- the clauses that are present, in the order of their places
@@ -19,7 +21,7 @@ present_at [] i = None
 present_at (o ∷ cs) zero = literals_there o
 present_at (o ∷ cs) (suc i) = present_at cs i
 
--- places are kept for literals below this code alone: 2 to the power of 22
+-- a list has the places of literals below this code alone: 2 to the power of 22
 abbrev pub place_limit : ℕ
 place_limit = 4194304
 
@@ -28,3 +30,8 @@ pub record ArePlaced (literals places : List ℕ) : Type 0 where
   pub short : length places ≤ place_limit
   pub reached : (k : ℕ) → k < length literals → slice_index_or literals k 0 < place_limit → slice_index_or literals k 0 < length places
   pub placed : (k : ℕ) → k < length literals → slice_index_or literals k 0 < place_limit → slice_index_or places (slice_index_or literals k 0) 0 ≡ k
+
+-- and each other one at the place that the map has for it
+abbrev pub AreFarPlaced : List ℕ → BTreeMap ℕ ℕ → Type 0
+AreFarPlaced literals far = (k : ℕ) → k < length literals → place_limit ≤ slice_index_or literals k 0 →
+    get nat_cmp far (slice_index_or literals k 0) ≡ Some k

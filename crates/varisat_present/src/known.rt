@@ -4,8 +4,8 @@ ghost use Rattle.varisat_theory.specs.Membership.{◌∈◌};
 ghost use Rattle.varisat_theory.specs.Literals.{opposite};
 ghost use Rattle.varisat_present.specs.Places.{place_limit};
 
-use crate::clause::holds;
 use std::alloc::{AllocError, Allocator};
+use std::collections::BTreeMap;
 use std::marker::Model;
 use varisat_literals::Lit;
 
@@ -15,21 +15,23 @@ pub struct Known<A: Allocator + Copy> {
     literals: Vec<Lit, A>,
     /// By a literal's code its place in `literals`. For a literal that is not known it is any number.
     places: Vec<usize, A>,
+    /// The same for the codes from `PLACE_LIMIT` on.
+    far: BTreeMap<usize, usize, A>,
 }
 
 impl<A: Allocator + Copy> Model for Known<A> {
     ghost use Rattle.std.specs.Prelude.{ℕ, List};
-    ghost use Rattle.varisat_present.specs.Places.{ArePlaced};
+    ghost use Rattle.varisat_present.specs.Places.{ArePlaced, AreFarPlaced};
 
     ghost Value = { List ℕ };
 
     ghost view = { λ k. k.literals.items };
 
-    ghost invariant = { λ k. ArePlaced k.literals.items k.places.items };
+    ghost invariant = { λ k. ArePlaced k.literals.items k.places.items × AreFarPlaced k.literals.items k.far };
 }
 
-/// Places are kept for literals below this code alone, so that a literal of a high variable takes no more memory than
-/// others. Those above it are looked for among all known literals.
+/// A list has the places of literals below this code alone, so that a literal of a high variable takes no more memory than
+/// others. Those from there on are looked up in a map.
 pub const PLACE_LIMIT: usize = 0x40_0000;
 
 /// Makes the list so long that it has the place.
@@ -54,6 +56,7 @@ impl<A: Allocator + Copy> Known<A> {
         Known {
             literals: Vec::new(alloc),
             places: Vec::new(alloc),
+            far: BTreeMap::new(alloc),
         }
     }
 
@@ -71,13 +74,32 @@ impl<A: Allocator + Copy> Known<A> {
         self.literals.get(place).copied()
     }
 
+    /// Whether the literal, whose code is not below the limit, is known.
+    fn holds_far(&self, literal: Lit) -> bool
+        requires { place_limit ≤ literal }
+        ensures { IsTrue result ↔ (literal ∈ self.now) }
+    {
+        let code = literal.code();
+        let Some(place) = self.far.get(&code) else {
+            return false;
+        };
+        let place = *place;
+        if place >= self.literals.len() {
+            return false;
+        }
+        if self.literals[place].code() != code {
+            return false;
+        }
+        true
+    }
+
     /// Whether the literal is known.
     pub fn holds(&self, literal: Lit) -> bool
         ensures { IsTrue result ↔ (literal ∈ self.now) }
     {
         let code = literal.code();
         if code >= PLACE_LIMIT {
-            return holds(self.literals.as_slice(), literal);
+            return self.holds_far(literal);
         }
         if code >= self.places.len() {
             return false;
@@ -105,11 +127,12 @@ impl<A: Allocator + Copy> Known<A> {
         ensures { OnOk result (self.new ≡ self.old ++ literal ∷ []) }
     {
         let code = literal.code();
+        let place = self.literals.len();
         if code >= PLACE_LIMIT {
+            self.far.insert(code, place)?;
             self.literals.push(literal)?;
             return Ok(());
         }
-        let place = self.literals.len();
         reach(&mut self.places, code)?;
         self.literals.push(literal)?;
         self.places[code] = place;

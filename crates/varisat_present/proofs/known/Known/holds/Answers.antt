@@ -7,7 +7,7 @@ use Rattle.varisat_present.proofs.known.Known.holds.Goals as goal
 
 pub returns-then-code-len : goal.returns-then-code-len
 returns-then-code-len g c =
-    answers_false _ (λ m. not_outside c.self.inside.literals.items c.self.inside.places.items c.args.literal c.self.invariant
+    answers_false _ (λ m. not_outside c.self.inside.literals.items c.self.inside.places.items c.args.literal c.self.invariant.0
     (omega (arith, c.if-code-ge-PLACE_LIMIT.false, c.code-code.ensures.code))
     (omega (arith, c.if-code-len.true, c.len.ensures, c.code-code.ensures.code)) (subst (λ (xs : List ℕ). c.args.literal ∈ xs) (sym c.self.view_is) m))
 
@@ -15,7 +15,7 @@ pub returns-then-place-len : goal.returns-then-place-len
 returns-then-place-len g c =
     answers_false _ (λ m.
     let there : c.code-code.result < length c.self.inside.places.items = omega (arith, c.if-code-len.false, c.len.ensures) in
-    let (a, b) = at_place c.self.inside.literals.items c.self.inside.places.items c.code-code.result c.index-place.result.now c.self.invariant
+    let (a, b) = at_place c.self.inside.literals.items c.self.inside.places.items c.code-code.result c.index-place.result.now c.self.invariant.0
     (omega (arith, c.if-code-ge-PLACE_LIMIT.false)) there c.index-place.ensures
     (subst (λ (x : ℕ). x ∈ c.self.inside.literals.items) (sym c.code-code.ensures.code)
     (subst (λ (xs : List ℕ). c.args.literal ∈ xs) (sym c.self.view_is) m)) in
@@ -25,7 +25,7 @@ pub returns-then-code : goal.returns-then-code
 returns-then-code g c =
     answers_false _ (λ m.
     let there : c.code-code.result < length c.self.inside.places.items = omega (arith, c.if-code-len.false, c.len.ensures) in
-    let (a, b) = at_place c.self.inside.literals.items c.self.inside.places.items c.code-code.result c.index-place.result.now c.self.invariant
+    let (a, b) = at_place c.self.inside.literals.items c.self.inside.places.items c.code-code.result c.index-place.result.now c.self.invariant.0
     (omega (arith, c.if-code-ge-PLACE_LIMIT.false)) there c.index-place.ensures
     (subst (λ (x : ℕ). x ∈ c.self.inside.literals.items) (sym c.code-code.ensures.code)
     (subst (λ (xs : List ℕ). c.args.literal ∈ xs) (sym c.self.view_is) m)) in

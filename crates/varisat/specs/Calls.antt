@@ -2,8 +2,8 @@
 -- answer that the call never gives.
 --
 -- Refusals are looked for in this order: Invalid; then `add_clause` returns Ok under the verdict Unsat; ClauseAfterSolve;
--- ProofOpen; VariableLimit; WitnessVar; ConfigOutOfRange; OutOfMemory, ClauseStoreFull or ProofIoError, whichever comes first;
--- Interrupted.
+-- ProofOpen; ProofTooLate; VariableLimit; WitnessVar; AssumedVar; ConfigOutOfRange; OutOfMemory, ClauseStoreFull or
+-- ProofIoError, whichever comes first, and for `assume` ProofIoError behind OutOfMemory; Interrupted.
 use Rattle.std.specs.Prelude.{◌≡◌, ◌≢◌, ℕ, ◌+◌, ◌-◌, ◌^◌, ◌<◌, ◌≤◌, Bool, true, false, Option, Some, None, List, [], ◌∷◌, ◌++◌, ◌⊎◌, Result, Ok, Err, map, length}
 use Rattle.std.specs.declared.alloc.AllocError.{AllocError}
 use Rattle.varisat_theory.specs.Membership.{◌∈◌}

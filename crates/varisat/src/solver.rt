@@ -597,11 +597,10 @@ impl<W: ProofTarget, A: Allocator + Copy> Solver<W, A> {
     }
 
     /// Whether some assignment satisfies the accepted clauses and makes the assumptions true. A call makes fewer than
-    /// (n+2)*2^(n+2) steps, and so than 2^(2n+3), where the clauses and all assumptions so far name n variables. The lines of
-    /// the steps are
-    /// written to an open proof, which is then flushed, also where nothing is left to search. Refused in an invalid
-    /// solver, and where the steps are spent before it is known: `max_steps` of the settings, or 2^64-1 in all. The
-    /// next call then goes on. Where memory runs out, the clause store is full or the target of an open proof fails,
+    /// (n+2)*2^(n+2) steps, and so than 2^(2n+3), where the clauses and all assumptions so far name n variables. The lines
+    /// of the steps are written to an open proof, which is then flushed, also where nothing is left to search. Refused in
+    /// an invalid solver, and where the steps are spent before it is known: `max_steps` of the settings, or 2^64-1 in all.
+    /// The next call then goes on. Where memory runs out, the clause store is full or the target of an open proof fails,
     /// the solver is invalid; a proof that cannot be flushed is told in place of spent steps.
     pub fn solve(&mut self) -> Result<bool, SolverError>
         ensures call { (s : State) → StandsFor self.old s → (t : State) × Solves s result t × StandsFor self.new t }

@@ -3,6 +3,7 @@
 use crate::clause::find_other;
 use crate::known::{Known, PLACE_LIMIT};
 use std::alloc::{AllocError, Allocator};
+use std::collections::BTreeMap;
 use std::mem;
 use varisat_literals::Lit;
 
@@ -18,7 +19,10 @@ pub struct Watch {
 #[derive(Drop)]
 pub struct Watches<A: Allocator + Copy> {
     alloc: A,
+    /// By a literal's code, for those below `PLACE_LIMIT`.
     lists: Vec<Vec<Watch, A>, A>,
+    /// For the others.
+    far: BTreeMap<usize, Vec<Watch, A>, A>,
     pairs: Vec<[Lit; 2], A>,
 }
 
@@ -28,26 +32,33 @@ impl<A: Allocator + Copy> Watches<A> {
         Watches {
             alloc,
             lists: Vec::new(alloc),
+            far: BTreeMap::new(alloc),
             pairs: Vec::new(alloc),
+        }
+    }
+
+    /// The list of the literal of this code, if it has one.
+    fn list_mut(&mut self, code: usize) -> Option<&mut Vec<Watch, A>> {
+        if code >= PLACE_LIMIT {
+            self.far.get_mut(&code)
+        } else {
+            self.lists.get_mut(code)
         }
     }
 
     /// Takes out the watches on a literal.
     pub fn take_list(&mut self, literal: Lit) -> Vec<Watch, A> {
-        let code = literal.code();
         let empty = Vec::new(self.alloc);
-        if code < self.lists.len() {
-            mem::replace(&mut self.lists[code], empty)
-        } else {
-            empty
+        match self.list_mut(literal.code()) {
+            Some(list) => mem::replace(list, empty),
+            None => empty,
         }
     }
 
     /// Puts the watches on a literal back.
     pub fn put_list(&mut self, literal: Lit, list: Vec<Watch, A>) {
-        let code = literal.code();
-        if code < self.lists.len() {
-            self.lists[code] = list;
+        if let Some(place) = self.list_mut(literal.code()) {
+            *place = list;
         }
     }
 
@@ -70,6 +81,10 @@ impl<A: Allocator + Copy> Watches<A> {
     fn add(&mut self, literal: Lit, watch: Watch) -> Result<(), AllocError> {
         let code = literal.code();
         if code >= PLACE_LIMIT {
+            self.far
+                .entry(code)?
+                .or_insert(Vec::new(self.alloc))
+                .push(watch)?;
             return Ok(());
         }
         for _ in self.lists.len()..code + 1 {

@@ -22,6 +22,7 @@ options of solve, in any order, each at most once:
     --marked         write it as marked text, with the clauses of FILE
     --check          have each step of the search checked
     --max-steps N    give up after N steps
+    --heap BYTES     give the search so many bytes of memory
     --progress       show on standard error how far the search is
 
 FILE and CNF are DIMACS CNF, and - stands for standard input. PROOF is DRAT.
@@ -49,6 +50,8 @@ Options, in any order, each at most once:
                      and not with --binary
     --check          have a checker inside the solver check each step; takes several times as long
     --max-steps N    make at most N steps, of which each ends with a conflict or an answer
+    --heap BYTES     give the solver a heap of so many bytes, from 4096, and no other memory; where it is
+                     full: error: Out of memory, exit code 2
     --progress       show on standard error, every 10000 steps and at the end: steps, conflicts, decisions,
                      propagations and restarts so far; variables that are not fixed; clauses of two
                      literals, given ones, and learned ones to keep (core), to keep if used (mid), or to

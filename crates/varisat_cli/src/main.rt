@@ -10,9 +10,11 @@ ghost use Rattle.varisat_proof.specs.Verified.{GivesUnsatisfiable, EndsCheck, so
 mod help;
 
 use crate::help::{CHECK_HELP, HELP, SESSION_HELP, SOLVE_HELP, VERSION, print_text};
+use linked_list_allocator::LocalHeap;
 use std::fmt::Display;
 use std::fs::{File, Metadata};
 use std::io::{self, BufWriter, ErrorKind, Read, Write};
+use std::os::fd::{AsRawFd, RawFd};
 use std::os::unix::fs::{FileTypeExt, MetadataExt};
 use std::process::ExitCode;
 use std::{env, fs};
@@ -23,6 +25,7 @@ use varisat::program::{
     tell_usage,
 };
 use varisat::proof::ProofFormat;
+use varisat::solver::SolverError;
 
 fn main(rt: HostRuntime) -> ExitCode {
     ExitCode::from(run(&rt))
@@ -31,12 +34,26 @@ fn main(rt: HostRuntime) -> ExitCode {
 // Runs the command that the arguments name, and gives its status.
 fn run(rt: &HostRuntime) -> u8 {
     let mut err = rt.stderr();
-    let Ok(words) = read_words(rt) else {
-        return tell_usage(&mut err);
-    };
-    match run_words(rt, words.as_slice()) {
-        Some(status) => status,
-        None => tell_usage(&mut err),
+    match read_words(rt) {
+        Ok(words) => match run_words(rt, words.as_slice()) {
+            Some(status) => status,
+            None => tell_usage(&mut err),
+        },
+        Err(error) => tell_words(&mut err, &error),
+    }
+}
+
+// Why the command line cannot be read, where a word has other bytes, as a file may be named by.
+const NOT_UTF8: &str = "a word of the command line is not UTF-8";
+
+// Tells why the command line cannot be read, and gives the status for it.
+fn tell_words<E: Write>(err: &mut E, error: &io::Error) -> u8
+    ensures { result ≡ fault_status }
+{
+    if error.kind() == ErrorKind::InvalidData {
+        tell_fault(err, &NOT_UTF8)
+    } else {
+        tell_fault(err, error)
     }
 }
 
@@ -117,8 +134,11 @@ fn check_format(options: &[String]) -> Option<ProofFormat> {
 // After how many steps each `--progress` tells how far the search is.
 const PROGRESS_INTERVAL: u64 = 10_000;
 
+// The least heap that a solver can be given, in bytes.
+const LEAST_HEAP: u64 = 4096;
+
 // The options of `solve`: where a proof goes, whether it is binary or marked, whether the search is checked, whether it is
-// told how far it is, and a limit of steps.
+// told how far it is, a limit of steps, and the size of the solver's heap.
 #[derive(Drop)]
 struct SolveWords<'a> {
     proof: Option<&'a str>,
@@ -127,6 +147,7 @@ struct SolveWords<'a> {
     is_checked: bool,
     is_shown: bool,
     max_steps: Option<u64>,
+    heap: Option<usize>,
 }
 
 impl<'a> SolveWords<'a> {
@@ -137,6 +158,7 @@ impl<'a> SolveWords<'a> {
             "--max-steps" if self.max_steps.is_none() => {
                 self.max_steps = Some(parse_number(value.as_bytes())?);
             }
+            "--heap" if self.heap.is_none() => self.heap = Some(heap_size(value)?),
             _ => return None,
         }
         Some(())
@@ -150,6 +172,14 @@ impl<'a> SolveWords<'a> {
             progress: self.is_shown.then_some(PROGRESS_INTERVAL),
             format: proof_format(self.is_binary, self.is_marked),
         }
+    }
+}
+
+// The size of a heap, unless it is too small.
+fn heap_size(value: &str) -> Option<usize> {
+    match parse_number(value.as_bytes()) {
+        Some(bytes) if bytes >= LEAST_HEAP => usize::try_from(bytes).ok(),
+        _ => None,
     }
 }
 
@@ -176,6 +206,7 @@ fn solve_words(words: &[String]) -> Option<SolveWords<'_>> {
         is_checked: false,
         is_shown: false,
         max_steps: None,
+        heap: None,
     };
     // The option whose value comes next.
     let mut option: Option<&str> = None;
@@ -260,6 +291,7 @@ fn solve_from<R: Read + Drop>(
     match BufWriter::new(rt.alloc(), io::writer(rt)) {
         Ok(mut out) => decide_text(
             rt,
+            words.heap,
             &mut ReadSource::new(cnf),
             &mut proof,
             options,
@@ -295,17 +327,31 @@ fn create_target(rt: &HostRuntime, path: Option<&str>) -> io::Result<Option<File
 {
     match path {
         Some(path) => {
-            let file = BufWriter::new(rt.alloc(), fs::create(rt, path)?)?;
-            Ok(Some(IoTarget::new(file)))
+            let file = fs::create(rt, path)?;
+            refuse_stream(file.as_raw_fd())?;
+            Ok(Some(IoTarget::new(BufWriter::new(rt.alloc(), file)?)))
         }
         None => Ok(None),
     }
 }
 
-// Decides the text that a reader gives, with a proof if there is a target for it. Nobody knows a file's bytes beforehand,
-// but the status and the proof are right for those that were read.
+// The number that the system has for standard error, the last of the standard streams.
+const LAST_STREAM: RawFd = 2;
+
+// Returns an error just for a file that stands where a standard stream was closed: what is printed would go to it.
+fn refuse_stream(number: RawFd) -> io::Result<()> {
+    if number <= LAST_STREAM {
+        return Err(io::Error::other("a standard stream is closed"));
+    }
+    Ok(())
+}
+
+// Decides the text that a reader gives, with a proof if there is a target for it. All that the solver has is a heap of the
+// size that is given, if one is. Nobody knows a file's bytes beforehand, but the status and the proof are right for those
+// that were read.
 fn decide_text<R: Read + Drop, W: Write, E: Write>(
     rt: &HostRuntime,
+    heap: Option<usize>,
     cnf: &mut ReadSource<R>,
     proof: &mut Option<FileTarget>,
     options: SolveOptions,
@@ -320,7 +366,13 @@ fn decide_text<R: Read + Drop, W: Write, E: Write>(
         × DecidesProven taken_by_writer options.format (allowed_steps options.max_steps) cnf.old cnf.new proof.old proof.new conclusion
         × (result ≡ conclusion_status conclusion)) }
 {
-    solve_lines(rt.alloc(), cnf, proof, options, out, err)
+    match heap {
+        None => solve_lines(rt.alloc(), cnf, proof, options, out, err),
+        Some(size) => match LocalHeap::new(rt.alloc(), size) {
+            Ok(heap) => solve_lines(&heap, cnf, proof, options, out, err),
+            Err(_) => tell_fault(err, &SolverError::OutOfMemory),
+        },
+    }
 }
 
 // Checks the proof in a file against the formula in another, or on standard input.

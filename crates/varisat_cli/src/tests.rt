@@ -2,6 +2,7 @@
 use super::*;
 use std::test::Fail;
 
+mod heaps;
 mod proofs;
 
 #[test]
@@ -220,7 +221,7 @@ fn formats_are_read(rt: HostRuntime) -> Result<(), Fail> {
 }
 
 #[test]
-fn a_file_that_cannot_be_read_is_named(rt: HostRuntime) -> Result<(), Fail> {
+fn what_cannot_be_read_is_named(rt: HostRuntime) -> Result<(), Fail> {
     let mut err = Vec::new(rt.alloc());
     let status = tell_file(
         &mut err,
@@ -231,6 +232,15 @@ fn a_file_that_cannot_be_read_is_named(rt: HostRuntime) -> Result<(), Fail> {
     assert_eq!(rt;
         err.as_slice(),
         b"error: 'two words.cnf': entity not found\n".as_slice()
+    );
+    err.clear();
+    assert_eq!(rt;
+        tell_words(&mut err, &io::Error::from(ErrorKind::InvalidData)),
+        2
+    );
+    assert_eq!(rt;
+        err.as_slice(),
+        b"error: a word of the command line is not UTF-8\n".as_slice()
     );
     err.clear();
     assert_eq!(rt; tell_file(&mut err, "p", &SAME_FILE), 2);

@@ -77,9 +77,10 @@ def write_line(literals):
 
 
 def split(folder, count, cube=()):
-    """The cubes of the script `split`."""
+    """The cubes of the script `split` for the formula in a folder."""
     words = [HERE / "split", folder / "formula.cnf", str(count), *map(str, cube)]
-    return cubes_of(subprocess.run(words, stdout=subprocess.PIPE, check=True, text=True).stdout, "split")
+    ran = subprocess.run(words, stdout=subprocess.PIPE, text=True)
+    return cubes_of(ran.stdout, "split") if ran.returncode == 0 else stop("split failed")
 
 
 def write_cubes(path, cubes):

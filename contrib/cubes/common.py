@@ -71,6 +71,11 @@ def read_cubes(path):
     return cubes_of(read_bytes(path).decode("latin-1"), path)
 
 
+def shown(path):
+    """The path on one line, whatever bytes it has."""
+    return ascii(str(path))[1:-1]
+
+
 def write_line(literals):
     """The literals with a 0 behind them."""
     return " ".join(map(str, [*literals, 0]))

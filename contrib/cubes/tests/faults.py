@@ -96,6 +96,7 @@ def try_faults(folder):
         ((refused, missing), lambda proof: change(proof, rb"\A", b"i 1 0\n")),
         (("variable 57, which the formula does not have", missing), lambda proof: change(proof, rb"\A", b"i 57 0\ni -57 0\nf 0\n")),
         ((refused, missing), lambda proof: proof.write_bytes(random.Random(2).randbytes(1000))),
+        (("x\\ns VERIFIED\\n.marked: `varisat",), lambda proof: (proof.parent / "x\ns VERIFIED\n.marked").write_text("i 1 0\n")),
         (("it is no file",), lambda proof: (proof.parent / "x.marked").mkdir()),
         (("does not satisfy the clause",), lambda proof: (proof.parent / "model").write_text("v 1 0\n")),
         (("its negation",), lambda proof: (proof.parent / "model").write_text("v 1 -1 0\n")),

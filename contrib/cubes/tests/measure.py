@@ -33,8 +33,9 @@ def taken(*words):
 
 
 def batches_of(folder):
-    """The seconds that each batch took."""
-    return [float(line.split("\t")[3]) for line in (folder / "jobs").read_text().splitlines()[1:]]
+    """The seconds of the processor that each batch took, in the order in which they began."""
+    told = [line.split() for line in (folder / "told").read_text().splitlines() if line.startswith("proof ")]
+    return [float(seconds) for _, _, seconds, _ in sorted(told)]
 
 
 def laid_out(seconds, machines):
@@ -54,6 +55,7 @@ def measure(name, folder):
         cells.append(taken(*words, "--seconds", 600))
     cells.append(taken(HERE / "check", cnf, folder / f"{name}.4"))
     print(f"| `{name}` |", " | ".join(f"{wall:.1f} | {processor:.1f}" for wall, processor, _ in cells), "|", [cell[2] for cell in cells])
+    print("    load", *os.getloadavg())
     for jobs in (2, 4):
         seconds = batches_of(folder / f"{name}.{jobs}")
         longest, whole = max(seconds), sum(seconds)
@@ -62,7 +64,6 @@ def measure(name, folder):
 
 
 def main():
-    print("load", os.getloadavg())
     with tempfile.TemporaryDirectory() as folder:
         for name in sys.argv[1:] or FORMULAS:
             measure(name, Path(folder))

@@ -16,7 +16,7 @@ program = importlib.import_module("common").program
 FORMULAS = {
     "pigeonhole-10": lambda: formulas.pigeonhole(10),
     "random-300": lambda: formulas.random_3_sat(300, 1278, 6),
-    "multiplier-9": lambda: formulas.commutativity(9),
+    "colouring-195": lambda: formulas.colouring(195, 901, 4, 3),
 }
 # How many cubes, and how many of them a process takes.
 CUBES, BATCH = 64, 2

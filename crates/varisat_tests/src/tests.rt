@@ -6,7 +6,6 @@ mod checking;
 mod counting;
 mod lines;
 mod memory;
-mod modes;
 mod paths;
 mod programs;
 mod proofs;

@@ -11,27 +11,16 @@ use varisat_formula::dimacs::{
     DimacsError, DimacsErrorKind, DimacsParser, PieceReader, write_dimacs,
 };
 use varisat_formula::formula::{CnfFormula, ExtendFormula, FormulaError, Lit};
-use varisat_formula::io::{ByteSource, IoTarget, MemoryTarget, ProofTarget, ReadSource};
+use varisat_formula::io::{
+    ByteSource, CutSource, CutTarget, IoTarget, MemoryTarget, ProofTarget, ReadSource,
+};
 use varisat_formula::{cnf_formula, lits};
 
-/// A reader that gives its text, and then fails or ends.
-#[derive(Drop)]
-struct CutReader {
-    text: &'static [u8],
-    fails: bool,
-}
-
-impl Read for CutReader {
-    fn read(&mut self, buf: &mut [u8]) -> io::Result<usize> {
-        if self.text.is_empty() && self.fails {
-            return Err(io::Error::from(ErrorKind::Other));
-        }
-        let count = buf.len().min(self.text.len()).min(3);
-        let (front, back) = self.text.split_at(count);
-        buf[..count].copy_from_slice(front);
-        self.text = back;
-        Ok(count)
-    }
+/// A text that comes by three bytes.
+fn by_three(text: &'static [u8]) -> CutSource<'static>
+    ensures { result.faults ≡ 0 }
+{
+    CutSource::new(text).in_pieces(0, 3)
 }
 
 /// What a text gives: the clauses that ended, by their literals' numbers, the count of variables, and the fault by its
@@ -196,9 +185,9 @@ fn gives(alloc: Global, text: &'static [u8], outcome: &Outcome) -> [bool; 5] {
     [
         reads(alloc, text, outcome),
         parses(alloc, text, outcome),
-        parses(alloc, CutReader { text, fails: false }, outcome),
+        parses(alloc, by_three(text), outcome),
         parses_in_pieces(alloc, text, outcome),
-        parses_in_pieces(alloc, CutReader { text, fails: false }, outcome),
+        parses_in_pieces(alloc, by_three(text), outcome),
     ]
 }
 
@@ -234,8 +223,8 @@ fn texts_and_beginnings(rt: HostRuntime) {
     }
     let text = b"p cnf 3 2\n1 -2 0\n0\n".as_slice();
     for length in 0..text.len() + 1 {
-        let right = reads(rt.alloc(), &text[..length], &of_beginning(length));
-        assert!(rt; right, "the first {length} bytes");
+        let given = gives(rt.alloc(), &text[..length], &of_beginning(length));
+        assert!(rt; given == [true; 5], "the first {length} bytes: {given:?}");
     }
 }
 
@@ -312,10 +301,26 @@ fn parsers_that_ended(rt: HostRuntime) {
 }
 
 /// A source that gives the text and then fails.
-fn failing(text: &'static [u8]) -> ReadSource<CutReader>
+fn failing(text: &'static [u8]) -> ReadSource<CutSource<'static>>
     ensures { result.faults ≡ 0 }
 {
-    ReadSource::new(CutReader { text, fails: true })
+    let pieces = text.len().div_ceil(3) as u64;
+    ReadSource::new(by_three(text).failing_at(pieces.saturating_add(1)))
+}
+
+/// How many calls of a source that gives the text byte by byte may fail, each of which is told as a fault of the source.
+fn failing_calls(alloc: Global, text: &'static [u8]) -> Option<u64> {
+    for number in 1..100 {
+        let mut source = CutSource::new(text).in_pieces(0, 1).failing_at(number);
+        let fault = DimacsParser::parse(alloc, &mut source).err();
+        if source.fills() < number {
+            return fault.is_none().then_some(number - 1);
+        }
+        if !fault.is_some_and(|fault| fault.kind == DimacsErrorKind::Io) {
+            return None;
+        }
+    }
+    None
 }
 
 /// What `parse` tells of a source that gives the text and then fails, how often it failed, and whether it has ended.
@@ -326,7 +331,10 @@ fn told_of(alloc: Global, text: &'static [u8]) -> (Option<DimacsError>, u64, boo
 }
 
 /// Whether a source that fails gives two pieces and then the fault, which stays.
-fn gives_two_pieces(parser: &mut DimacsParser<Global>, source: &mut ReadSource<CutReader>) -> bool
+fn gives_two_pieces(
+    parser: &mut DimacsParser<Global>,
+    source: &mut ReadSource<CutSource<'static>>,
+) -> bool
     requires { source.old.faults ≡ 0 }
 {
     let mut buffer = [0; 16];
@@ -352,7 +360,7 @@ fn fails_after_pieces(alloc: Global) -> Result<bool, FormulaError> {
 
 /// How often the function of `parse_incremental` is called, and how many clauses there are then; none where it fails.
 fn pieces_given(alloc: Global, text: &'static [u8]) -> Option<(u64, u64)> {
-    let mut source = ReadSource::new(CutReader { text, fails: false });
+    let mut source = ReadSource::new(by_three(text));
     let (mut calls, mut clauses) = (0, 0);
     let parsed: Result<DimacsParser<Global>, DimacsError> = DimacsParser::parse_incremental(
         alloc,
@@ -397,8 +405,10 @@ fn sources_and_functions_that_fail(rt: HostRuntime) {
         // Four pieces and the end.
         pieces_given(alloc, b"1 0 2 0 3 0") == Some((5, 3)),
         refused_by(alloc, REFUSAL) == Some(REFUSAL),
+        // A call for each of nine bytes, and one for the end.
+        failing_calls(alloc, b"c\n1 -2 0\n") == Some(10),
     ];
-    assert!(rt; are_right == [true; 5], "{are_right:?}");
+    assert!(rt; are_right == [true; 6], "{are_right:?}");
 }
 
 const WRITTEN: &[u8] = b"p cnf 3 2\n1 -2 0\n0\n";
@@ -419,6 +429,22 @@ fn write_out(output: &mut IoTarget<Vec<u8>>, formula: &CnfFormula<Global>) -> io
     Ok(output.faults())
 }
 
+/// How many calls of a target of the formula's text may fail, each of which leaves a beginning of it, with a part of what the
+/// call was to take or without. The call behind them all writes the whole.
+fn failing_puts(alloc: Global, formula: &CnfFormula<Global>, part: usize) -> Option<u64> {
+    for number in 1..100 {
+        let mut target = CutTarget::new_in(alloc).failing_at_put(number, part);
+        let is_written = write_dimacs(&mut target, formula).is_ok();
+        if target.puts() < number {
+            return (is_written && target.bytes() == WRITTEN).then_some(number - 1);
+        }
+        if is_written || target.faults() != 1 || !WRITTEN.starts_with(target.bytes()) {
+            return None;
+        }
+    }
+    None
+}
+
 fn is_written_out(alloc: Global, formula: &CnfFormula<Global>) -> io::Result<bool> {
     let mut output = IoTarget::new(Vec::new(alloc));
     let faults = write_out(&mut output, formula)?;
@@ -434,10 +460,13 @@ fn is_read_back(alloc: Global, formula: &CnfFormula<Global>) -> bool {
 /// Whether the formula, with three variables, is written and read back.
 fn is_written(alloc: Global, formula: &mut CnfFormula<Global>) -> io::Result<bool> {
     formula.set_var_count(3);
+    let puts = failing_puts(alloc, formula, 0);
     Ok(
         is_written_in_memory(alloc, formula)?
             && is_written_out(alloc, formula)?
-            && is_read_back(alloc, formula),
+            && is_read_back(alloc, formula)
+            && puts.is_some()
+            && puts == failing_puts(alloc, formula, 1),
     )
 }
 

@@ -141,15 +141,22 @@ fn comes_back(solver: &mut TestSolver) -> Checked {
     Ok(is_shown & is_satisfiable & tells(solver, &lits![-1, 2]))
 }
 
+// Settings of a solver, and whether a checker runs inside.
+type Settings = (SolverConfigUpdate, bool);
+
 // A new solver with the settings.
-fn new_solver(alloc: Global, settings: &SolverConfigUpdate) -> TestSolver {
+fn new_solver(alloc: Global, settings: &Settings) -> TestSolver {
     let mut solver = Solver::new_in(alloc);
-    let _ = solver.config(settings);
+    let (update, is_checked) = *settings;
+    if is_checked {
+        let _ = solver.enable_self_checking();
+    }
+    let _ = solver.config(&update);
     solver
 }
 
 // Each row has a solver of its own.
-fn rows(alloc: Global, settings: &SolverConfigUpdate) -> [bool; 5] {
+fn rows(alloc: Global, settings: &Settings) -> [bool; 5] {
     let mut first = new_solver(alloc, settings);
     let mut second = new_solver(alloc, settings);
     let mut third = new_solver(alloc, settings);
@@ -171,7 +178,7 @@ fn rows(alloc: Global, settings: &SolverConfigUpdate) -> [bool; 5] {
 }
 
 // One solver of many rounds, and one whose variable leaves and comes back.
-fn rows_of_leaving(alloc: Global, settings: &SolverConfigUpdate) -> [bool; 3] {
+fn rows_of_leaving(alloc: Global, settings: &Settings) -> [bool; 3] {
     let mut first = new_solver(alloc, settings);
     let mut second = new_solver(alloc, settings);
     let are_right = [
@@ -184,22 +191,23 @@ fn rows_of_leaving(alloc: Global, settings: &SolverConfigUpdate) -> [bool; 3] {
     are_right
 }
 
-// The settings that a solver has at first, and those by which learned clauses are reduced at each step.
-fn rare_and_frequent() -> [SolverConfigUpdate; 2] {
+// The settings that a solver has at first, those by which learned clauses are reduced at each step, and a checker inside.
+fn all_settings() -> [Settings; 3] {
     let mut frequent = SolverConfigUpdate::new();
     frequent.reduce_locals_interval = Some(1);
     frequent.reduce_mids_interval = Some(1);
-    [SolverConfigUpdate::new(), frequent]
+    let rare = SolverConfigUpdate::new();
+    [(rare, false), (frequent, false), (rare, true)]
 }
 
 #[test]
 fn variables_are_hidden(rt: HostRuntime) {
-    for settings in rare_and_frequent() {
+    for settings in all_settings() {
         let rows = rows(rt.alloc(), &settings);
         let leaving = rows_of_leaving(rt.alloc(), &settings);
         assert!(rt;
             (rows, leaving) == ([true; 5], [true; 3]),
-            "{rows:?} {leaving:?}"
+            "{rows:?} {leaving:?}, {settings:?}"
         );
     }
 }

@@ -1,11 +1,10 @@
 //! Checks of whole proofs.
+ghost use Rattle.std.specs.Prelude.{◌≡◌};
 
 use std::alloc::Global;
-use std::io;
-use std::io::{ErrorKind, Read};
 use varisat_formula::cnf_formula;
 use varisat_formula::formula::{CnfFormula, FormulaError};
-use varisat_formula::io::ReadSource;
+use varisat_formula::io::{CutSource, ReadSource};
 use varisat_proof::checker::{CheckVerdict, Checker, CheckerError};
 use varisat_proof::proof::ProofFormat;
 use varisat_proof::proof::ProofFormat::{BinaryDrat, Drat};
@@ -48,32 +47,15 @@ pub fn refusal_of(error: &CheckerError) -> Outcome {
     }
 }
 
-/// A reader that gives some first bytes, then pieces of a size, and then fails or ends.
-#[derive(Drop)]
-pub struct PieceReader {
-    pub text: &'static [u8],
-    pub first: usize,
-    pub size: usize,
-    pub fails: bool,
-}
-
-impl Read for PieceReader {
-    fn read(&mut self, buf: &mut [u8]) -> io::Result<usize> {
-        if self.text.is_empty() && self.fails {
-            return Err(io::Error::from(ErrorKind::Other));
-        }
-        let piece = if self.first > 0 {
-            self.first
-        } else {
-            self.size
-        };
-        let count = buf.len().min(self.text.len()).min(piece);
-        let (front, back) = self.text.split_at(count);
-        buf[..count].copy_from_slice(front);
-        self.text = back;
-        self.first = 0;
-        Ok(count)
-    }
+/// A source that gives some first bytes, then pieces of a size, and then fails or ends.
+pub fn pieces(text: &'static [u8], first: usize, size: usize, fails: bool) -> CutSource<'static>
+    ensures { result.faults ≡ 0 }
+{
+    let calls = text.len().div_ceil(size.max(1)) as u64;
+    let failing = if fails { calls.saturating_add(1) } else { 0 };
+    CutSource::new(text)
+        .in_pieces(first, size)
+        .failing_at(failing)
 }
 
 /// Clauses as DIMACS text, the proof's format and bytes, and what its check returns.
@@ -81,7 +63,7 @@ type Row = (&'static [u8], ProofFormat, &'static [u8], Outcome);
 
 const SQUARE: &[u8] = b"1 2 0 -1 2 0 1 -2 0 -1 -2 0";
 
-const ROWS: [Row; 32] = [
+const ROWS: [Row; 33] = [
     (SQUARE, Drat, b"2 0", Refutation),
     (SQUARE, Drat, b"", Derivation),
     (SQUARE, Drat, b"0", CheckFailed(1)),
@@ -100,6 +82,13 @@ const ROWS: [Row; 32] = [
     (b"1 2 0", Drat, b"d 2 1 0", Derivation),
     (b"1 2 0", Drat, b"01 0", Parse(0)),
     (b"1 2 0", Drat, b"1 2", Parse(3)),
+    // What a solver writes of these clauses.
+    (
+        b"1 2 0 -1 3 0 1 0",
+        Drat,
+        b"3 0\nd -1 3 0\nd 1 2 0\n",
+        Derivation,
+    ),
     // Two equal clauses leave one at a time, tautologies and clauses of one literal are deleted like any other.
     (
         b"1 2 0 2 1 0",
@@ -155,13 +144,8 @@ fn checker_with(alloc: Global, cnf: &'static [u8]) -> Checker<Global> {
 
 fn check(alloc: Global, row: &Row, first: usize, size: usize) -> Outcome {
     let mut checker = checker_with(alloc, row.0);
-    let reader = PieceReader {
-        text: row.2,
-        first,
-        size,
-        fails: false,
-    };
-    let outcome = outcome_of(&checker.check_proof(&mut ReadSource::new(reader), row.1));
+    let mut source = pieces(row.2, first, size, false);
+    let outcome = outcome_of(&checker.check_proof(&mut source, row.1));
     drop(checker);
     outcome
 }

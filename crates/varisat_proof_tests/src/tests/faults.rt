@@ -1,12 +1,13 @@
 //! What checkers return for faults, and what they are then.
+ghost use Rattle.std.specs.Prelude.{◌≡◌};
 
-use super::checks::{Outcome, PieceReader, outcome_of, refusal_of};
+use super::checks::{Outcome, outcome_of, pieces, refusal_of};
 use linked_list_allocator::LocalHeap;
 use std::alloc::{AllocError, Allocator, Global};
 use std::io;
 use std::io::ErrorKind;
 use varisat_formula::dimacs::{DimacsError, DimacsErrorKind};
-use varisat_formula::io::ReadSource;
+use varisat_formula::io::{CutSource, ReadSource};
 use varisat_literals::{Var, lits};
 use varisat_proof::checker::{Checker, CheckerError};
 use varisat_proof::proof::{ProofFormat, ProofStep};
@@ -32,20 +33,38 @@ fn is_spent<A: Allocator + Copy>(checker: &mut Checker<A>) -> bool {
         && outcome_of(&checker.check_proof(&mut proof, ProofFormat::Drat)) == Outcome::Spent
 }
 
-/// What a check of a source returns that gives the bytes and then fails, and whether the checker is spent then.
-fn fails_behind(alloc: Global, bytes: &'static [u8]) -> (Outcome, bool) {
+/// What a check of a source returns, and whether the checker is spent then.
+fn checked_over(alloc: Global, source: &mut CutSource<'static>) -> (Outcome, bool)
+    requires { source.old.faults ≡ 0 }
+{
     let mut checker = Checker::new_in(alloc);
     let _ = checker.add_clause(&lits![1, 2]);
-    let reader = PieceReader {
-        text: bytes,
-        first: 0,
-        size: 3,
-        fails: true,
-    };
-    let outcome = outcome_of(&checker.check_proof(&mut ReadSource::new(reader), ProofFormat::Drat));
+    let outcome = outcome_of(&checker.check_proof(source, ProofFormat::Drat));
     let spent = is_spent(&mut checker);
     drop(checker);
     (outcome, spent)
+}
+
+/// The same of a source that gives the bytes and then fails.
+fn fails_behind(alloc: Global, bytes: &'static [u8]) -> (Outcome, bool) {
+    checked_over(alloc, &mut pieces(bytes, 0, 3, true))
+}
+
+/// How many calls of a source that gives a line byte by byte may fail, each of which leaves the checker spent.
+fn failing_calls(alloc: Global) -> Option<u64> {
+    for number in 1..100 {
+        let mut source = CutSource::new(b"1 2 0\n")
+            .in_pieces(0, 1)
+            .failing_at(number);
+        let checked = checked_over(alloc, &mut source);
+        if source.fills() < number {
+            return (checked == (Outcome::Derivation, false)).then_some(number - 1);
+        }
+        if checked != (Outcome::Io, true) {
+            return None;
+        }
+    }
+    None
 }
 
 /// What a source gives before it fails, what its check returns, and whether the checker is spent then.
@@ -117,6 +136,8 @@ fn faults_are_returned(rt: HostRuntime) {
         assert!(rt; found == (*outcome, *is_spent), "row {place}");
     }
     assert!(rt; are_kept(rt.alloc()) == [true; 3]);
+    // A call for each of six bytes, and one for the end.
+    assert!(rt; failing_calls(rt.alloc()) == Some(7));
 }
 
 /// Whether the cause of a source's fault is printed.

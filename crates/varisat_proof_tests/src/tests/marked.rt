@@ -3,7 +3,7 @@
 use crate::tests::checks::Outcome::{
     CheckFailed, CoreNotAssumed, Derivation, NoSuchClause, Parse, Refutation,
 };
-use crate::tests::checks::{Outcome, PieceReader, outcome_of, refusal_of};
+use crate::tests::checks::{Outcome, outcome_of, pieces, refusal_of};
 use std::alloc::Global;
 use varisat_formula::formula::CnfFormula;
 use varisat_formula::io::ReadSource;
@@ -149,13 +149,7 @@ fn verdict_outcome(verdict: CheckVerdict) -> Outcome {
 fn check(alloc: Global, row: &Row, size: usize) -> bool {
     let mut checker = Checker::new_in(alloc);
     let _ = checker.add_dimacs_cnf(&mut ReadSource::new(row.0));
-    let reader = PieceReader {
-        text: row.1,
-        first: 0,
-        size,
-        fails: false,
-    };
-    let checked = checker.check_marked(&mut ReadSource::new(reader));
+    let checked = checker.check_marked(&mut pieces(row.1, 0, size, false));
     drop(checker);
     match checked {
         Ok(report) => {

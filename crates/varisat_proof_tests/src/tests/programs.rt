@@ -1,6 +1,6 @@
 //! What the program's command prints, and its status.
 
-use super::checks::PieceReader;
+use super::checks::pieces;
 use std::alloc::Global;
 use varisat_formula::io::ReadSource;
 use varisat_proof::program::check_lines;
@@ -67,19 +67,8 @@ fn prints(alloc: Global, row: &Row) -> bool {
 fn tells_fault(alloc: Global, cnf_fails: bool) -> bool {
     let mut out = Vec::new(alloc);
     let mut err = Vec::new(alloc);
-    let reader = PieceReader {
-        text: b"1 0",
-        first: 0,
-        size: 5,
-        fails: cnf_fails,
-    };
-    let failing = PieceReader {
-        text: b"1 0",
-        first: 0,
-        size: 5,
-        fails: !cnf_fails,
-    };
-    let (mut cnf, mut proof) = (ReadSource::new(reader), ReadSource::new(failing));
+    let mut cnf = pieces(b"1 0", 0, 5, cnf_fails);
+    let mut proof = pieces(b"1 0", 0, 5, !cnf_fails);
     let status = check_lines(alloc, &mut cnf, &mut proof, Drat, &mut out, &mut err);
     out.is_empty() & !err.is_empty() & (status == 2)
 }

@@ -1,10 +1,8 @@
 //! The proof of a solver: by which calls its target takes the lines, and when it is flushed.
-ghost use Rattle.std.specs.Prelude.{◌≡◌, ◌+◌, ◌-◌, ◌<◌, ◌^◌};
+ghost use Rattle.std.specs.Prelude.{◌≡◌};
 
 use std::alloc::Global;
-use std::io;
-use std::io::ErrorKind;
-use varisat_formula::io::ProofTarget;
+use varisat_formula::io::CutTarget;
 use varisat_literals::lits;
 use varisat_proof::proof::ProofFormat::{self, BinaryDrat, Drat, Marked};
 use varisat_proof::proof::{
@@ -12,75 +10,18 @@ use varisat_proof::proof::{
     solve_finished, take_target, write_step,
 };
 
-/// A target that counts its calls. The `put` of the given number, from 1 on, takes nothing and fails (0: none does), and
-/// each `flush` fails where that is set.
-#[derive(Drop)]
-struct CountingTarget {
-    bytes: Vec<u8, Global>,
-    faults: u64,
-    puts: u64,
-    flushes: u64,
-    failing_put: u64,
-    flush_fails: bool,
-}
-
-impl CountingTarget {
-    fn new(alloc: Global, failing_put: u64, flush_fails: bool) -> CountingTarget
-        ensures { result.faults ≡ 0 }
-    {
-        CountingTarget {
-            bytes: Vec::new(alloc),
-            faults: 0,
-            puts: 0,
-            flushes: 0,
-            failing_put,
-            flush_fails,
-        }
-    }
-
-    /// Counts a fault.
-    fn fault(&mut self) -> io::Error
-        requires { self.old.faults < 2 ^ 64 - 1 }
-        ensures faults { self.new.faults ≡ self.old.faults + 1 }
-        ensures bytes { self.new.bytes ≡ self.old.bytes }
-    {
-        self.faults += 1;
-        io::Error::from(ErrorKind::Other)
-    }
-}
-
-impl ProofTarget for CountingTarget {
-    ghost taken = { λ t. record { bytes = t.bytes.items; faults = t.faults } };
-
-    fn put(&mut self, bytes: &[u8]) -> io::Result<()> {
-        self.puts = self.puts.saturating_add(1);
-        if self.puts == self.failing_put {
-            return Err(self.fault());
-        }
-        match self.bytes.extend_from_slice(bytes) {
-            Ok(()) => Ok(()),
-            Err(_) => Err(self.fault()),
-        }
-    }
-
-    fn flush(&mut self) -> io::Result<()> {
-        self.flushes = self.flushes.saturating_add(1);
-        if self.flush_fails {
-            return Err(self.fault());
-        }
-        Ok(())
-    }
-
-    fn faults(&self) -> u64 {
-        self.faults
-    }
+/// A target of which each `flush` fails, or none does. Each is flushed at most once.
+fn flushed_target(alloc: Global, fails: bool) -> CutTarget<Global>
+    ensures { result.faults ≡ 0 }
+{
+    CutTarget::new_in(alloc).failing_at_flush(if fails { 1 } else { 0 })
 }
 
 /// Whether the lines of three units are written as these bytes by so many calls of `put`, where the one of the given
 /// number fails.
 fn writes_units(alloc: Global, failing_put: u64, bytes: &[u8], puts: u64) -> bool {
     let mut buffer: Vec<u8> = Vec::new(alloc);
-    let mut target = CountingTarget::new(alloc, failing_put, false);
+    let mut target = CutTarget::new_in(alloc).failing_at_put(failing_put, 0);
     let units = lits![1, -2, 3];
     let step = ProofStep::UnitClauses { units: &units };
     let is_right = match write_step(&mut target, &mut buffer, &step) {
@@ -88,7 +29,7 @@ fn writes_units(alloc: Global, failing_put: u64, bytes: &[u8], puts: u64) -> boo
         Err(WriteError::Target(_)) => failing_put > 0,
         Err(WriteError::Memory) => false,
     };
-    is_right && target.bytes.as_slice() == bytes && target.puts == puts
+    is_right && target.bytes() == bytes && target.puts() == puts
 }
 
 /// The number of the `put` that fails, the bytes of the lines of three units that are taken, and the calls of `put`. Each
@@ -101,17 +42,17 @@ const UNITS: [(u64, &[u8], u64); 4] = [
 ];
 
 /// Whether the proof's target took these bytes, and was flushed so many times.
-fn took(proof: &mut Proof<CountingTarget, Global>, bytes: &[u8], flushes: u64) -> bool {
+fn took(proof: &mut Proof<CutTarget<Global>, Global>, bytes: &[u8], flushes: u64) -> bool {
     match take_target(proof) {
         None => false,
-        Some(target) => target.bytes.as_slice() == bytes && target.flushes == flushes,
+        Some(target) => target.bytes() == bytes && target.flushes() == flushes,
     }
 }
 
 /// Whether an accepted clause is written as these bytes, without a flush.
 fn writes_clause(alloc: Global, format: ProofFormat, bytes: &[u8]) -> bool {
     let mut proof = Proof::new_in(alloc);
-    proof.write_proof(CountingTarget::new(alloc, 0, false), format);
+    proof.write_proof(CutTarget::new_in(alloc), format);
     let is_told = add_clause(&mut proof, &lits![1, -2, 1]).is_ok();
     is_told && took(&mut proof, bytes, 0)
 }
@@ -119,7 +60,7 @@ fn writes_clause(alloc: Global, format: ProofFormat, bytes: &[u8]) -> bool {
 /// Whether assumptions are written as these bytes, without a flush.
 fn writes_assumptions(alloc: Global, format: ProofFormat, bytes: &[u8]) -> bool {
     let mut proof = Proof::new_in(alloc);
-    proof.write_proof(CountingTarget::new(alloc, 0, false), format);
+    proof.write_proof(CutTarget::new_in(alloc), format);
     let is_told = add_assumptions(&mut proof, &lits![-2, 2]).is_ok();
     is_told && took(&mut proof, bytes, 0)
 }
@@ -135,7 +76,7 @@ const INPUTS: [(ProofFormat, &[u8], &[u8]); 3] = [
 /// How often a target is flushed at the end of a search, or else by `flush_proof`, and whether the call returns Ok.
 fn flushes(alloc: Global, is_search_end: bool, fails: bool) -> (u64, bool) {
     let mut proof = Proof::new_in(alloc);
-    proof.write_proof(CountingTarget::new(alloc, 0, fails), Drat);
+    proof.write_proof(flushed_target(alloc, fails), Drat);
     let is_ok = if is_search_end {
         solve_finished(&mut proof).is_ok()
     } else {
@@ -143,18 +84,18 @@ fn flushes(alloc: Global, is_search_end: bool, fails: bool) -> (u64, bool) {
     };
     match take_target(&mut proof) {
         None => (0, false),
-        Some(target) => (target.flushes, is_ok),
+        Some(target) => (target.flushes(), is_ok),
     }
 }
 
 /// How often a target is flushed as its proof is closed, and whether that returns Ok.
 fn flushes_of_close(alloc: Global, fails: bool) -> (u64, bool) {
     let mut proof = Proof::new_in(alloc);
-    proof.write_proof(CountingTarget::new(alloc, 0, fails), Drat);
+    proof.write_proof(flushed_target(alloc, fails), Drat);
     match close_proof(&mut proof) {
         Ok(None) => (0, false),
-        Ok(Some(target)) => (target.flushes, true),
-        Err((_, target)) => (target.flushes, false),
+        Ok(Some(target)) => (target.flushes(), true),
+        Err((_, target)) => (target.flushes(), false),
     }
 }
 

@@ -1,6 +1,6 @@
 //! Assumptions and failed cores: the exact cores of small formulas, and random lists beside new solvers that have them
 //! as unit clauses.
-use super::settings::{rare_and_frequent, reducing_every};
+use super::settings::{Settings, all_settings, reducing_every};
 use rand_core::Rng;
 use rand_pcg::Pcg32;
 use std::alloc::Global;
@@ -33,8 +33,8 @@ fn fails(solver: &mut TestSolver, assumed: &[Lit], wanted: &[Lit]) -> Result<boo
 }
 
 // Opposite assumptions, and one that a unit clause makes false.
-fn lone_cores(solver: &mut TestSolver, settings: &SolverConfigUpdate) -> Result<bool, SolverError> {
-    solver.config(settings)?;
+fn lone_cores(solver: &mut TestSolver, settings: &Settings) -> Result<bool, SolverError> {
+    settings.apply(solver)?;
     let opposite = fails(solver, &lits![1, -1], &lits![1, -1])?;
     solver.add_clause(&lits![-2])?;
     let unit = fails(solver, &lits![2], &lits![2])?;
@@ -42,18 +42,15 @@ fn lone_cores(solver: &mut TestSolver, settings: &SolverConfigUpdate) -> Result<
 }
 
 // Assumptions of which one implies the opposite of the other.
-fn implied_core(
-    solver: &mut TestSolver,
-    settings: &SolverConfigUpdate,
-) -> Result<bool, SolverError> {
-    solver.config(settings)?;
+fn implied_core(solver: &mut TestSolver, settings: &Settings) -> Result<bool, SolverError> {
+    settings.apply(solver)?;
     solver.add_clause(&lits![-1, 2])?;
     fails(solver, &lits![1, -2], &lits![1, -2])
 }
 
 // Assumptions that fail all together, and a core that stays one as another clause joins.
-fn whole_core(solver: &mut TestSolver, settings: &SolverConfigUpdate) -> Result<bool, SolverError> {
-    solver.config(settings)?;
+fn whole_core(solver: &mut TestSolver, settings: &Settings) -> Result<bool, SolverError> {
+    settings.apply(solver)?;
     solver.add_clause(&lits![-1, -2, -3])?;
     let all = fails(solver, &lits![1, 2, 3], &lits![1, 2, 3])?;
     solver.add_clause(&lits![-1, 4])?;
@@ -61,7 +58,7 @@ fn whole_core(solver: &mut TestSolver, settings: &SolverConfigUpdate) -> Result<
 }
 
 // The cores of small formulas, which are exact.
-fn cores(alloc: Global, settings: &SolverConfigUpdate) -> [bool; 3] {
+fn cores(alloc: Global, settings: &Settings) -> [bool; 3] {
     let mut first = new_solver(alloc);
     let mut second = new_solver(alloc);
     let mut third = new_solver(alloc);
@@ -78,7 +75,7 @@ fn cores(alloc: Global, settings: &SolverConfigUpdate) -> [bool; 3] {
 
 #[test]
 fn cores_are_exact(rt: HostRuntime) {
-    for settings in rare_and_frequent() {
+    for settings in all_settings() {
         assert!(rt; cores(rt.alloc(), &settings) == [true; 3]);
     }
 }

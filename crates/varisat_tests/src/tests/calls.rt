@@ -2,7 +2,7 @@
 ghost use Rattle.std.specs.Prelude.{IfSome};
 ghost use Rattle.varisat.specs.Runs.{AreReady};
 
-use super::readers::{Pieces, in_pieces};
+use super::readers::in_pieces;
 use super::settings::rare_and_frequent;
 use std::alloc::{AllocError, Global};
 use std::io::{self, Write};
@@ -12,15 +12,15 @@ use varisat::solver::{Solver, SolverError};
 use varisat_formula::cnf_formula;
 use varisat_formula::dimacs::{DimacsError, DimacsErrorKind};
 use varisat_formula::formula::{CnfFormula, Lit, Var};
-use varisat_formula::io::{MemoryTarget, ReadSource};
+use varisat_formula::io::{CutSource, MemoryTarget, ReadSource};
 use varisat_literals::lits;
 use varisat_names::config::{ConfigField, SolverConfigUpdate};
 
 // A call on a text.
-type TextCall = Call<MemoryTarget<Global>, ReadSource<Pieces>, Global>;
+type TextCall = Call<MemoryTarget<Global>, ReadSource<CutSource<'static>>, Global>;
 
 // An answer of such a call.
-type TextAnswer = Answer<MemoryTarget<Global>, ReadSource<Pieces>, Global>;
+type TextAnswer = Answer<MemoryTarget<Global>, ReadSource<CutSource<'static>>, Global>;
 
 // Writes a line for each answer.
 fn write_answers(out: &mut Vec<u8>, answers: &[TextAnswer]) -> io::Result<()> {
@@ -135,7 +135,9 @@ fn answers_refused_calls(
     wanted: &[u8],
 ) -> Option<bool> {
     let calls = refused_calls(alloc, settings)?;
-    let answers = answers_of::<MemoryTarget<Global>, ReadSource<Pieces>, Global>(calls).ok()?;
+    let answers = answers_of::<MemoryTarget<Global>, ReadSource<CutSource<'static>>, Global>(
+        calls,
+    ).ok()?;
     Some(are_lines(alloc, &answers, wanted))
 }
 
@@ -146,7 +148,9 @@ fn answers_formula_calls(
     wanted: &[u8],
 ) -> Option<bool> {
     let calls = formula_calls(alloc, settings)?;
-    let answers = answers_of::<MemoryTarget<Global>, ReadSource<Pieces>, Global>(calls).ok()?;
+    let answers = answers_of::<MemoryTarget<Global>, ReadSource<CutSource<'static>>, Global>(
+        calls,
+    ).ok()?;
     Some(are_lines(alloc, &answers, wanted))
 }
 

@@ -9,7 +9,9 @@ pub mod root {
 
 /// Sources and targets of bytes.
 pub mod io {
-    pub use varisat::io::{ByteSource, IoTarget, MemoryTarget, ProofTarget, ReadSource};
+    pub use varisat::io::{
+        ByteSource, CutSource, CutTarget, IoTarget, MemoryTarget, ProofTarget, ReadSource,
+    };
 }
 
 /// Formulas.

@@ -1,7 +1,6 @@
-//! Sessions with their answers, with little memory, and over readers and writers that fail.
+//! Sessions with their answers, and over readers and writers that fail.
 ghost use Rattle.std.specs.Prelude.{◌<◌, ◌-◌, ◌^◌};
 
-use super::modes::{Exchange, MODE_SESSIONS, OBSERVING_SESSIONS};
 use super::readers::in_pieces;
 use super::settings::reducing_every;
 use linked_list_allocator::LocalHeap;
@@ -9,12 +8,12 @@ use rand_core::Rng;
 use rand_pcg::Pcg32;
 use std::alloc::{AllocError, Global};
 use std::io::{Cursor, Read, Write};
-use std::str;
 use varisat::program::{SolveOptions, session_lines, solve_lines};
 use varisat::proof::ProofFormat;
 use varisat::solver::{Solver, SolverError};
 use varisat_formula::io::{ByteSource, MemoryTarget, ReadSource};
 use varisat_names::config::SolverConfigUpdate;
+use varisat_sessions::{ALL_SESSIONS, Exchange, SETTINGS};
 
 // What a command prints, what it tells of a fault, and its status.
 type Printed = (&'static str, &'static str, u8);
@@ -31,20 +30,6 @@ fn session_prints<R: Read + Drop>(alloc: Global, input: R, wanted: Printed) -> b
     let status = session_lines(alloc, input, &mut out, &mut err);
     are_printed(&out, &err, status, wanted)
 }
-
-// A checker that runs inside the solver.
-const SELF_CHECKING: Exchange = ("selfcheck\n", "ok\n");
-
-// What each session stands behind in turn: nothing, settings by which learned clauses are reduced at each step, and a
-// checker inside.
-const SETTINGS: [Exchange; 3] = [
-    ("", ""),
-    (
-        "config reduce_locals_interval 1\nconfig reduce_mids_interval 1\n",
-        "ok\nok\n",
-    ),
-    SELF_CHECKING,
-];
 
 // Whether the answers of both are printed in turn, with no fault.
 fn are_answers(out: &[u8], err: &[u8], status: u8, settings: Exchange, session: Exchange) -> bool {
@@ -84,286 +69,6 @@ fn solve_prints<S: ByteSource>(
     let status = solve_lines(alloc, cnf, &mut no_proof, options, &mut out, &mut err);
     are_printed(&out, &err, status, wanted)
 }
-
-// Sessions that take little memory.
-const SESSIONS: [Exchange; 17] = [
-    ("add 3\nsolve\nmodel\n", "ok\nok true\nok -1 -2 3 0\n"),
-    // A checker begins before a clause, and an invalid solver refuses it otherwise.
-    (
-        "selfcheck\nadd 1 2\nselfcheck\nsolve\nselfcheck\n",
-        "ok\nok\nerr 11\nok true\nerr 11\n",
-    ),
-    ("solve\nmodel\n", "ok true\nok 0\n"),
-    (
-        "add 1 -2\nadd 3\nsolve\nmodel\n",
-        "ok\nok\nok true\nok -1 -2 3 0\n",
-    ),
-    (
-        "new\nnew\nadd -2\nsolve\nmodel\n",
-        "ok 1\nok 2\nok\nok true\nok -1 -2 0\n",
-    ),
-    ("add\nsolve\nmodel\n", "ok\nok false\nok none\n"),
-    (
-        "add 1 2\nadd -1 2\nadd 1 -2\nadd -1 -2\nsolve\n",
-        "ok\nok\nok\nok\nok false\n",
-    ),
-    // Clauses of two literals, of which a unit satisfies one.
-    (
-        "add 1 2\nadd -1 3\nadd 1\nsolve\nmodel\n",
-        "ok\nok\nok\nok true\nok 1 -2 3 0\n",
-    ),
-    ("add 268435457\nadd 0\nnew\n", "err 7\nbad line\nok 1\n"),
-    // A tautology, and duplicated literals.
-    ("add 1 -1\nsolve\nmodel\n", "ok\nok true\nok -1 0\n"),
-    ("add 2 2 2\nsolve\nmodel\n", "ok\nok true\nok -1 2 0\n"),
-    // A contradiction gives Unsat at once, and then a clause names nothing.
-    (
-        "add 1\nadd -1\nadd 5\nnew\nmodel\n",
-        "ok\nok\nok\nok 2\nok none\n",
-    ),
-    // A model is told until a clause comes, and a name that came after it is false.
-    (
-        "add 1\nsolve\nnew\nmodel\nadd 3\nmodel\nsolve\nmodel\n",
-        "ok\nok true\nok 2\nok 1 -2 0\nok\nok none\nok true\nok 1 -2 3 0\n",
-    ),
-    // Unsat is for good, and after it a name past the limit is not looked at.
-    ("add\nadd 268435457\nsolve\n", "ok\nok\nok false\n"),
-    // Assumptions bring their names into use, and fail or hold together with the clauses.
-    (
-        "assume 3\nmodel\nsolve\nmodel\nadd -3\nsolve\ncore\n",
-        "ok\nok none\nok true\nok -1 -2 3 0\nok\nok false\nok 3 0\n",
-    ),
-    (
-        "add -1\nassume 2 1\nsolve\ncore\nassume 2 -1\nsolve\nmodel\n",
-        "ok\nok\nok false\nok 1 0\nok\nok true\nok -1 2 0\n",
-    ),
-    // Lines that are none, of which the last ends without a line feed.
-    (
-        "\nadd  1\nassume 1 \nADD 1\nsolve \nadd 01\nnew\nadd 1",
-        "bad line\nbad line\nbad line\nbad line\nbad line\nbad line\nok 1\nok\n",
-    ),
-];
-
-// Sessions under a proof. A line for which memory is refused is the target's failure.
-const PROOF_SESSIONS: [Exchange; 4] = [
-    (
-        "proof text\nadd 1\nadd -1 2\nadd -2 3\nadd -2 -3\nsolve\nadd 4\n",
-        "ok\nok\nok\nok\nok\nok false\nok\n",
-    ),
-    (
-        "proof text\nadd 1\nadd 2 1\nadd 1 3 2\nadd -3 1\nnew\n",
-        "ok\nok\nok\nok\nok\nok 4\n",
-    ),
-    (
-        "proof binary\nadd 1 2\nadd -1 3\nadd 1\nsolve\nmodel\nadd 4\n",
-        "ok\nok\nok\nok\nok true\nok 1 -2 3 0\nerr 9\n",
-    ),
-    (
-        "proof marked\nadd 1 2\nsolve\nadd -1\nassume -2\nsolve\ncore\nadd -2\nsolve\n",
-        "ok\nok\nok true\nok\nok\nok false\nok -2 0\nok\nok false\n",
-    ),
-];
-
-// Sessions with ample memory alone: they ask for the steps, which an invalid solver tells too, have settings, or take
-// much memory.
-const AMPLE_SESSIONS: [Exchange; 31] = [
-    (
-        "steps\nsolve\nsteps\nsolve\nsteps\n",
-        "ok 0\nok true\nok 1\nok true\nok 1\n",
-    ),
-    // An interrupted search is gone on with.
-    (
-        "config max_steps 1\nadd 1 2\nadd -1 2\nadd 1 -2\nadd -1 -2\nsolve\nsteps\nmodel\nsolve\nsteps\n",
-        "ok\nok\nok\nok\nok\nerr 1\nok 1\nok none\nok false\nok 2\n",
-    ),
-    // So are its steps since the last change, which other calls set to 0, also one that changes nothing else.
-    (
-        "config max_steps 1\nadd 1 2\nadd -1 2\nadd 1 -2\nadd -1 -2\nsolve\nsince\nmodel\nsolve\nsince\nsteps\nadd 5\nsince\n",
-        "ok\nok\nok\nok\nok\nerr 1\nok 1\nok none\nok false\nok 2\nok 2\nok\nok 0\n",
-    ),
-    (
-        "config max_steps 1\nadd 1 2\nadd -1 2\nadd 1 -2\nadd -1 -2\nsolve\nconfig max_steps 1\nsince\nsolve\nsince\nsteps\n",
-        "ok\nok\nok\nok\nok\nerr 1\nok\nok 0\nok false\nok 1\nok 2\n",
-    ),
-    // Refused calls, lines that are none, and calls that only tell something leave them.
-    (
-        "since\nsolve\nsince\nmodel\ncore\nsteps\nsolve\nadd 268435457\nassume 268435457\nhide 268435457\nconfig vsids_decay 1\nbad\nsince\n",
-        "ok 0\nok true\nok 1\nok 0\nok none\nok 1\nok true\nerr 7\nerr 7\nerr 7\nerr 12\nbad line\nok 1\n",
-    ),
-    // Each other call sets them to 0.
-    (
-        "solve\nassume\nsince\nsolve\nnew\nsince\nassume\nsolve\nwitness 1\nsince\nassume\nsolve\nsample 1\nsince\nassume\nsolve\nhide 1\nsince\nassume\nsolve\nobserve\nsince\nassume\nsolve\nclose\nsince\nsolve\nadd 1\nsince\nsteps\n",
-        "ok true\nok\nok 0\nok true\nok 1\nok 0\nok\nok true\nok\nok 0\nok\nok true\nok\nok 0\nok\nok true\nok\nok 0\nok\nok true\nok 0\nok 0\nok\nok true\nok none\nok 0\nok true\nok\nok 0\nok 7\n",
-    ),
-    ("add\nsolve\nsteps\n", "ok\nok false\nok 0\n"),
-    (
-        "config max_steps 0\nadd 1 2\nsolve\nsteps\nconfig max_steps 1\nsolve\nsteps\n",
-        "ok\nok\nerr 1\nok 0\nok\nok true\nok 1\n",
-    ),
-    (
-        "config vsids_decay 499\nconfig vsids_decay 999\nconfig speed 1\n",
-        "err 12\nok\nbad line\n",
-    ),
-    (
-        "config vsids_decay 1000\nconfig vsids_decay 500\nconfig luby_restart_interval_scale 0\n",
-        "err 12\nok\nerr 12\n",
-    ),
-    (
-        "config max_steps 0\nconfig max_steps 18446744073709551615\n",
-        "ok\nok\n",
-    ),
-    // Proofs: what is closed is printed in hexadecimal.
-    ("close\nproof binary\nclose\n", "ok none\nok\nok\n"),
-    (
-        "proof text\nadd 1\nadd 2 1 2\nadd 1 -1\nclose\n",
-        "ok\nok\nok\nok\nok 642031203220300a\n",
-    ),
-    (
-        "proof text\nadd 1\nadd -1\nsolve\nadd 5\nclose\n",
-        "ok\nok\nok\nok false\nok\nok\n",
-    ),
-    // Units that clauses imply, and the empty clause.
-    (
-        "proof text\nadd 1\nadd -1 2\nadd -2 3\nadd -2 -3\nsolve\nclose\n",
-        "ok\nok\nok\nok\nok\nok false\nok 3220300a3320300a300a\n",
-    ),
-    // A unit, and then the clauses that it and another one satisfy: `3 0`, `d -1 3 0`, `d 1 2 0`.
-    (
-        "proof text\nadd 1 2\nadd -1 3\nadd 1\nsolve\nclose\n",
-        "ok\nok\nok\nok\nok true\nok 3320300a64202d31203320300a642031203220300a\n",
-    ),
-    // A satisfied clause of the literals 63 and -64 is deleted as it is loaded.
-    (
-        "proof binary\nadd 63\nadd 63 -64\nclose\nclose\n",
-        "ok\nok\nok\nok 647e810100\nok none\n",
-    ),
-    // Of the variables that are free a name gets the least: `d 1 -2 0`.
-    (
-        "proof text\nnew\nnew\nhide 2\nhide 1\nadd 3\nadd 3 -4\nclose\n",
-        "ok\nok 1\nok 2\nok\nok\nok\nok\nok 642031202d3220300a\n",
-    ),
-    // A proof begins before all else, and is the only one.
-    (
-        "proof text\nproof binary\nclose\nproof binary\nclose\nnew\nproof text\n",
-        "ok\nerr 10\nok\nok\nok\nok 1\nerr 11\n",
-    ),
-    (
-        "solve\nproof text\nadd\nproof text\nclose\nproof text\n",
-        "ok true\nok\nok\nerr 10\nok\nerr 11\n",
-    ),
-    // Once `solve` was called under it no clause is accepted, and no assumption under it.
-    (
-        "solve\nproof text\nadd 1\nsolve\nadd 2\nclose\nadd 2\nproof text\n",
-        "ok true\nok\nok\nok true\nerr 9\nok\nok\nerr 11\n",
-    ),
-    (
-        "proof text\nadd 1 2\nassume 1\nsolve\nadd 3\nadd 3\nassume 1\nassume 1\nproof text\nproof text\nclose\nadd 3\nassume 1\nproof binary\nproof binary\n",
-        "ok\nok\nerr 10\nok true\nerr 9\nerr 9\nerr 10\nerr 10\nerr 10\nerr 10\nok\nok\nok\nerr 11\nerr 11\n",
-    ),
-    // Under a marked proof both are: it has the clauses and the lists as they were given, and the core.
-    (
-        "proof marked\nadd 1 2\nsolve\nadd -1\nassume -2\nsolve\ncore\nadd -2\nsolve\ncore\nclose\n",
-        "ok\nok\nok true\nok\nok\nok false\nok -2 0\nok\nok false\nok 0\nok 692031203220300a69202d3120300a71202d3220300a3220300a642031203220300a66202d3220300a69202d3220300a\n",
-    ),
-    // A proof that is opened or closed sets the steps since the last change to 0, a refused one leaves them.
-    (
-        "solve\nproof text\nsince\nadd 1 2\nsolve\nsince\nassume 1\nadd 3\nproof text\nsince\nclose\nsince\n",
-        "ok true\nok\nok 0\nok\nok true\nok 1\nerr 10\nerr 9\nerr 10\nok 1\nok\nok 0\n",
-    ),
-    // Self checking may be switched on again, also after `solve` and under a proof, until something is accepted. That sets
-    // the steps since the last change to 0, and a refusal leaves them.
-    (
-        "selfcheck\nselfcheck\nsolve\nsince\nselfcheck\nsince\nproof text\nselfcheck\nadd 1 2\nsolve\nsince\nselfcheck\nsince\nclose\nselfcheck\n",
-        "ok\nok\nok true\nok 1\nok\nok 0\nok\nok\nok\nok true\nok 1\nerr 11\nok 1\nok\nerr 11\n",
-    ),
-    (
-        "new\nselfcheck\nselfcheck 1\nselfcheck \nSelfcheck\nself check\nsolve\n",
-        "ok 1\nerr 11\nbad line\nbad line\nbad line\nbad line\nok true\n",
-    ),
-    // Settings and a refused clause are none that come before it, a list of assumptions is.
-    (
-        "config max_steps 9\nadd 268435457\nselfcheck\nassume\nselfcheck\n",
-        "ok\nerr 7\nok\nok\nerr 11\n",
-    ),
-    (
-        "assume\nproof text\nproof\nproof marked\nproof  text\nproof text \nPROOF text\n",
-        "ok\nerr 11\nbad line\nerr 11\nbad line\nbad line\nbad line\n",
-    ),
-    // Calls in an odd order.
-    (
-        "solve\nmodel\nhide 2\nmodel\nnew\nassume 1\nsample 1\nwitness 2\nassume 2\nsolve\nmodel\nsteps\nadd 2 1\nselfcheck\nproof text\nadd\ncore\nnew\nadd 9\nassume 1\nconfig max_steps 0\nsolve\nsteps\nmodel\nclose\nadd 01\nadd  1\n",
-        "ok true\nok 0\nok\nok -1 0\nok 2\nok\nerr 8\nok\nerr 6\nok true\nok 1 -2 0\nok 2\nerr 6\nerr 11\nerr 11\nok\nok 0\nok 3\nok\nok\nok\nok false\nok 2\nok none\nok none\nbad line\nbad line\n",
-    ),
-    // Once 2 has left, a checker inside still has the clauses of 1.
-    (
-        "add 2 3\nhide 2\nadd -3\nadd 1 4\nsolve\nadd 1 -4\nadd -1 5\nadd -1 -5\nsolve\n",
-        "ok\nok\nok\nok\nok true\nok\nok\nok\nok false\n",
-    ),
-    // Names that no clause names have no variable in the search.
-    (
-        "add 1000000 2\nadd -1000000 5\nsolve\nadd -2\nadd -5\nsolve\n",
-        "ok\nok\nok true\nok\nok\nok false\n",
-    ),
-];
-
-// Sessions with assumptions, where no order of a core is open.
-const ASSUMING_SESSIONS: [Exchange; 13] = [
-    ("add\ncore\nsolve\nsteps\n", "ok\nok 0\nok false\nok 0\n"),
-    (
-        "add 1\nadd -1\ncore\nsolve\nadd 5\nnew\n",
-        "ok\nok\nok 0\nok false\nok\nok 2\n",
-    ),
-    (
-        "assume 1 -1\nsolve\nadd -2\nassume 2\nsolve\ncore\n",
-        "ok\nok false\nok\nok\nok false\nok 2 0\n",
-    ),
-    (
-        "add -1 2\nassume 1 -2\nsolve\nsteps\nadd 1\nsolve\nsteps\nassume\nsolve\nmodel\nsteps\n",
-        "ok\nok\nok false\nok 1\nok\nok false\nok 1\nok\nok true\nok 1 2 0\nok 2\n",
-    ),
-    (
-        "assume 2 2\nsolve\nmodel\nsteps\n",
-        "ok\nok true\nok -1 2 0\nok 1\n",
-    ),
-    (
-        "add -1 -2 -3\nassume 1 2 3\nsolve\nassume 1 2\nsolve\nmodel\n",
-        "ok\nok\nok false\nok\nok true\nok 1 2 -3 0\n",
-    ),
-    (
-        "add -1 2\nassume 1 2\nsolve\nmodel\n",
-        "ok\nok\nok true\nok 1 2 0\n",
-    ),
-    // No core is told before `solve`, nor with a model, nor once other literals are assumed.
-    (
-        "core\nassume 1\nsolve\ncore\nadd -1\ncore\nsolve\ncore\nassume\ncore\n",
-        "ok none\nok\nok true\nok none\nok\nok none\nok false\nok 1 0\nok\nok none\n",
-    ),
-    // A core stays one under more clauses, until the clauses alone are unsatisfiable.
-    (
-        "add -1\nassume 1\nsolve\nadd 2 3\ncore\nadd 1\ncore\nassume 2\nsolve\ncore\n",
-        "ok\nok\nok false\nok\nok 1 0\nok\nok 0\nok\nok false\nok 0\n",
-    ),
-    // A refused list leaves the one before.
-    (
-        "add -1\nassume 1\nassume 268435457 2\nsolve\ncore\nnew\n",
-        "ok\nok\nerr 7\nok false\nok 1 0\nok 2\n",
-    ),
-    // Where the clauses are unsatisfiable a list still names its names, and one past the limit is refused.
-    (
-        "add\nassume 2\nassume 268435457\nsolve\nnew\n",
-        "ok\nok\nerr 7\nok false\nok 3\n",
-    ),
-    // Assumptions are units, follow from units and from each other.
-    (
-        "add 1\nadd -2 3\nassume 1 2 3 1\nsolve\nmodel\nadd -3 4\nsolve\nmodel\n",
-        "ok\nok\nok\nok true\nok 1 2 3 0\nok\nok true\nok 1 2 3 4 0\n",
-    ),
-    // An interrupted search is gone on with under its assumptions.
-    (
-        "config max_steps 0\nadd -1 2\nassume 1\nsolve\ncore\nconfig max_steps 9\nsolve\nmodel\n",
-        "ok\nok\nok\nerr 1\nok none\nok\nok true\nok 1 2 0\n",
-    ),
-];
 
 // Each of seven pigeons is in one of six holes, and no two are in the same one. Where learned clauses are reduced at each
 // step, some 3,000 steps refute that.
@@ -553,121 +258,34 @@ fn streams_that_fail_are_told(rt: HostRuntime) {
     assert!(rt; [session, file, writers] == [true; 3]);
 }
 
-// Whether the answers are the wanted ones up to a line `err 3`, or `err 2` under a proof, and those of an invalid solver
-// from then on.
-fn is_cut_by_memory(answers: &str, wanted: &str, is_under_proof: bool) -> bool {
-    let mut invalid = false;
-    for (answer, line) in answers.lines().zip(wanted.lines()) {
-        if invalid {
-            if answer != "err 4" && answer != "ok none" && answer != "bad line" {
-                return false;
-            }
-        } else if answer == "err 2" && is_under_proof {
-            invalid = true;
-        } else if answer == "err 3" {
-            // A list that was refused to `model` leaves the solver as it was.
-            invalid = !line.ends_with(" 0");
-        } else if answer != line {
-            return false;
-        }
-    }
-    true
+// Whether the session is answered so in a heap with so many bytes beside the reader's buffer.
+fn is_answered_within(alloc: Global, room: usize, session: Exchange) -> Result<bool, AllocError> {
+    let heap = LocalHeap::new(alloc, usize::saturating_add(8192, room))?;
+    Ok(is_answered_in(alloc, &heap, session))
 }
 
-// Whether the answers are complete, or none where they are not what is left of the wanted ones with little memory.
-fn is_complete(
-    out: &[u8],
-    err: &[u8],
-    status: u8,
-    wanted: &str,
-    is_under_proof: bool,
-) -> Option<bool> {
-    let answers = str::from_utf8(out).ok()?;
-    let is_ended = (status == 0) | ((status == 2) & !err.is_empty());
-    if is_ended & is_cut_by_memory(answers, wanted, is_under_proof) {
-        Some(answers == wanted)
-    } else {
-        None
-    }
-}
-
-// The same behind settings. With the least memory a session ends before its first line.
-fn is_complete_behind(
-    out: &[u8],
-    err: &[u8],
-    status: u8,
-    settings: Exchange,
-    session: Exchange,
-) -> Option<bool> {
-    let is_under_proof = session.0.starts_with("proof");
-    match out.strip_prefix(settings.1.as_bytes()) {
-        Some(rest) => is_complete(rest, err, status, session.1, is_under_proof),
-        None if out.is_empty() => is_complete(out, err, status, session.1, is_under_proof),
-        None => None,
-    }
-}
-
-// The same of a session in the heap.
-fn is_complete_in(
-    alloc: Global,
-    heap: &LocalHeap,
-    settings: Exchange,
-    session: Exchange,
-) -> Option<bool> {
+fn is_answered_in(alloc: Global, heap: &LocalHeap, session: Exchange) -> bool {
     let mut out = Vec::new(alloc);
     let mut err = Vec::new(alloc);
-    let input = Cursor::new(settings.0).chain(Cursor::new(session.0));
-    let status = session_lines(heap, input, &mut out, &mut err);
-    is_complete_behind(&out, &err, status, settings, session)
-}
-
-// The same with so many bytes beside the reader's buffer.
-fn is_complete_with(
-    alloc: Global,
-    room: u16,
-    settings: Exchange,
-    session: Exchange,
-) -> Result<Option<bool>, AllocError> {
-    let heap = LocalHeap::new(alloc, 8192 + usize::from(room))?;
-    Ok(is_complete_in(alloc, &heap, settings, session))
-}
-
-// Whether each growth of the session may be refused, and at last none is, in rooms that rise by so many bytes.
-fn ends(alloc: Global, step: u16, settings: Exchange, session: Exchange) -> bool {
-    let mut room: u16 = 0;
-    let mut ended = false;
-    for _ in 0..160 {
-        match is_complete_with(alloc, room, settings, session) {
-            Ok(Some(all)) => ended |= all,
-            _ => return false,
-        }
-        room = room.saturating_add(step);
-    }
-    ended
+    let status = session_lines(heap, Cursor::new(session.0), &mut out, &mut err);
+    are_printed(&out, &err, status, (session.1, "", 0))
 }
 
 // Sessions that want more memory than there is, where no name is past the limit: the second has room for one variable, and
 // the name 1, which stands in its clause three times, wants just one.
 const HIGH_SESSIONS: [Exchange; 2] = [
-    ("add 268435456\n", "ok\n"),
-    ("add 1 2\nhide 1\nadd 1 1 1 268435455\n", "ok\nok\nok\n"),
+    ("add 268435456\nsolve\n", "err 3\nerr 4\n"),
+    (
+        "add 1 2\nhide 1\nadd 1 1 1 268435455\nsolve\n",
+        "ok\nok\nerr 3\nerr 4\n",
+    ),
 ];
 
 #[test]
-fn each_growth_may_be_refused(rt: HostRuntime) {
+fn high_names_want_much_memory(rt: HostRuntime) {
     for session in HIGH_SESSIONS {
-        let answered = is_complete_with(rt.alloc(), 4096, SETTINGS[0], session);
-        assert!(rt; matches!(answered, Ok(Some(false))), "{}", session.0);
-    }
-    for session in SESSIONS.iter().chain(&MODE_SESSIONS).chain(&PROOF_SESSIONS) {
-        for (step, settings) in [(16, SETTINGS[0]), (64, SELF_CHECKING)] {
-            assert!(rt;
-                ends(rt.alloc(), step, settings, *session),
-                "{}{}",
-                settings.0,
-                session.0
-            );
-        }
+        let answered = is_answered_within(rt.alloc(), 4096, session);
+        assert!(rt; matches!(answered, Ok(true)), "{}", session.0);
     }
 }
 
@@ -707,20 +325,15 @@ fn decides_long_clause(alloc: Global, settings: Exchange) -> bool {
 #[test]
 fn sessions_are_answered(rt: HostRuntime) {
     for settings in SETTINGS {
-        for session in SESSIONS
-            .iter()
-            .chain(&PROOF_SESSIONS)
-            .chain(&AMPLE_SESSIONS)
-            .chain(&ASSUMING_SESSIONS)
-            .chain(&MODE_SESSIONS)
-            .chain(&OBSERVING_SESSIONS)
-        {
-            assert!(rt;
-                is_answered(rt.alloc(), settings, *session),
-                "{}{}",
-                settings.0,
-                session.0
-            );
+        for table in ALL_SESSIONS {
+            for session in table {
+                assert!(rt;
+                    is_answered(rt.alloc(), settings, *session),
+                    "{}{}",
+                    settings.0,
+                    session.0
+                );
+            }
         }
         assert!(rt; decides_long_clause(rt.alloc(), settings), "{}", settings.0);
     }

@@ -1,103 +1,30 @@
 //! Calls under an open proof: which of them are refused, and when the target is flushed.
-ghost use Rattle.std.specs.Prelude.{◌≡◌, ℕ, ◌+◌, ◌-◌, ◌<◌, ◌^◌, ◌++◌, take};
+ghost use Rattle.std.specs.Prelude.{◌≡◌, ◌-◌, ◌<◌, ◌^◌};
 
+use super::settings::{Settings, all_settings};
 use linked_list_allocator::LocalHeap;
 use std::alloc::{AllocError, Allocator, Global};
-use std::io;
-use std::io::ErrorKind;
 use varisat::ProofFormat;
 use varisat::solver::{Solver, SolverError};
 use varisat_formula::formula::{Lit, Var};
-use varisat_formula::io::ProofTarget;
+use varisat_formula::io::{CutTarget, ProofTarget};
 use varisat_names::config::{ConfigField, SolverConfigUpdate};
 
-/// A target that counts its flushes. The `put` and the `flush` of the given number, from 1 on, fail (0: none does); such a
-/// `put` takes the first byte, if that is set.
-#[derive(Drop)]
-struct CuttingTarget {
-    bytes: Vec<u8, Global>,
-    faults: u64,
-    puts: u64,
-    flushes: u64,
-    failing_put: u64,
-    takes_one: bool,
-    failing_flush: u64,
-}
-
-impl CuttingTarget {
-    fn new(alloc: Global, cuts: Cuts) -> CuttingTarget
-        ensures { result.faults ≡ 0 }
-    {
-        let (failing_put, takes_one, failing_flush) = cuts;
-        CuttingTarget {
-            bytes: Vec::new(alloc),
-            faults: 0,
-            puts: 0,
-            flushes: 0,
-            failing_put,
-            takes_one,
-            failing_flush,
-        }
-    }
-
-    /// Counts a fault.
-    fn fault(&mut self) -> io::Error
-        requires { self.old.faults < 2 ^ 64 - 1 }
-        ensures faults { self.new.faults ≡ self.old.faults + 1 }
-        ensures bytes { self.new.bytes ≡ self.old.bytes }
-    {
-        self.faults += 1;
-        io::Error::from(ErrorKind::Other)
-    }
-
-    /// Takes the first byte, if that is set, and fails.
-    fn cut(&mut self, bytes: &[u8]) -> io::Error
-        requires { self.old.faults < 2 ^ 64 - 1 }
-        ensures faults { self.new.faults ≡ self.old.faults + 1 }
-        ensures bytes { (n : ℕ) × (self.new.bytes.items ≡ self.old.bytes.items ++ take n bytes.now) }
-    {
-        if self.takes_one
-            && !bytes.is_empty()
-            && self.bytes.extend_from_slice(&bytes[..1]).is_ok()
-        {
-            return self.fault();
-        }
-        self.fault()
-    }
-}
-
-impl ProofTarget for CuttingTarget {
-    ghost taken = { λ t. record { bytes = t.bytes.items; faults = t.faults } };
-
-    fn put(&mut self, bytes: &[u8]) -> io::Result<()> {
-        self.puts = self.puts.saturating_add(1);
-        if self.puts == self.failing_put {
-            return Err(self.cut(bytes));
-        }
-        match self.bytes.extend_from_slice(bytes) {
-            Ok(()) => Ok(()),
-            Err(_) => Err(self.fault()),
-        }
-    }
-
-    fn flush(&mut self) -> io::Result<()> {
-        self.flushes = self.flushes.saturating_add(1);
-        if self.flushes == self.failing_flush {
-            return Err(self.fault());
-        }
-        Ok(())
-    }
-
-    fn faults(&self) -> u64 {
-        self.faults
-    }
-}
-
-// A solver whose proof has such a target.
-type CutSolver = Solver<CuttingTarget, Global>;
+// A solver whose proof has a target that fails where that is wanted.
+type CutSolver = Solver<CutTarget<Global>, Global>;
 
 /// The number of the `put` that fails, whether it takes a byte, and the number of the `flush` that fails.
 type Cuts = (u64, bool, u64);
+
+/// A target that fails so.
+fn new_target(alloc: Global, cuts: Cuts) -> CutTarget<Global>
+    ensures { result.faults ≡ 0 }
+{
+    let (failing_put, takes_one, failing_flush) = cuts;
+    CutTarget::new_in(alloc)
+        .failing_at_put(failing_put, if takes_one { 1 } else { 0 })
+        .failing_at_flush(failing_flush)
+}
 
 /// For each line all its spellings.
 type Lines = &'static [&'static [&'static [u8]]];
@@ -421,7 +348,7 @@ fn limit(solver: &mut CutSolver, max_steps: u64) -> Outcome {
     outcome_of(&solver.config(&update))
 }
 
-fn open_proof(solver: &mut CutSolver, target: CuttingTarget, format: ProofFormat) -> Outcome
+fn open_proof(solver: &mut CutSolver, target: CutTarget<Global>, format: ProofFormat) -> Outcome
     requires { target.faults < 2 ^ 64 - 1 }
 {
     match solver.write_proof(target, format) {
@@ -448,7 +375,7 @@ fn close_over(solver: &mut CutSolver, bytes: &[u8], flushes: u64) -> Outcome {
         Ok(Some(target)) => (Done, target),
         Err((error, target)) => (Refused(error.number()), target),
     };
-    if target.bytes.as_slice() == bytes && target.flushes == flushes {
+    if target.bytes() == bytes && target.flushes() == flushes {
         outcome
     } else {
         Outcome::Wrong
@@ -481,7 +408,7 @@ fn close_over_lines(solver: &mut CutSolver, lines: Lines) -> Outcome {
     let Ok(Some(target)) = solver.close_proof() else {
         return Outcome::Wrong;
     };
-    if are_lines(&target.bytes, lines) {
+    if are_lines(target.bytes(), lines) {
         Done
     } else {
         Outcome::Wrong
@@ -499,8 +426,8 @@ fn close_without(solver: &mut CutSolver) -> Outcome {
 fn make_call(alloc: Global, solver: &mut CutSolver, cuts: Cuts, call: TestCall) -> Outcome {
     match call {
         MaxSteps(count) => limit(solver, count),
-        Open => open_proof(solver, CuttingTarget::new(alloc, cuts), ProofFormat::Drat),
-        OpenMarked => open_proof(solver, CuttingTarget::new(alloc, cuts), ProofFormat::Marked),
+        Open => open_proof(solver, new_target(alloc, cuts), ProofFormat::Drat),
+        OpenMarked => open_proof(solver, new_target(alloc, cuts), ProofFormat::Marked),
         Add(numbers) => add_numbers(solver, numbers),
         Assume(numbers) => assume_numbers(solver, numbers),
         Witness(number) => make_witness(solver, number),
@@ -527,19 +454,24 @@ fn first_wrong(alloc: Global, solver: &mut CutSolver, row: &Row) -> Option<usize
     None
 }
 
-// The same of a new solver.
-fn first_wrong_in_new(alloc: Global, row: &Row) -> Option<usize> {
+// The same of a new solver with the settings.
+fn first_wrong_in_new(alloc: Global, settings: &Settings, row: &Row) -> Option<usize> {
     let mut solver = Solver::new_in(alloc);
-    let place = first_wrong(alloc, &mut solver, row);
+    let place = match settings.apply(&mut solver) {
+        Ok(()) => first_wrong(alloc, &mut solver, row),
+        Err(_) => Some(0),
+    };
     drop(solver);
     place
 }
 
 #[test]
 fn calls_under_a_proof(rt: HostRuntime) {
-    for (place, row) in ROWS.iter().enumerate() {
-        let wrong = first_wrong_in_new(rt.alloc(), row);
-        assert!(rt; wrong.is_none(), "row {place}: {wrong:?}");
+    for settings in all_settings() {
+        for (place, row) in ROWS.iter().enumerate() {
+            let wrong = first_wrong_in_new(rt.alloc(), &settings, row);
+            assert!(rt; wrong.is_none(), "row {place}: {wrong:?}, {settings:?}");
+        }
     }
 }
 
@@ -616,8 +548,8 @@ fn fails_once(
         Err((error, target)) => (u64::from(error.number() == 2), target),
     };
     failures.saturating_add(closings) == 1
-        && target.faults == 1
-        && are_first_lines(&target.bytes, lines, more)
+        && target.faults() == 1
+        && are_first_lines(target.bytes(), lines, more)
 }
 
 // The same of a new solver.
@@ -657,13 +589,10 @@ fn each_flush_of_a_marked_proof_may_fail(rt: HostRuntime) {
 // What `assume` comes to under a marked proof, in a solver with this memory.
 fn assume_within<A: Allocator + Copy>(
     alloc: Global,
-    solver: &mut Solver<CuttingTarget, A>,
+    solver: &mut Solver<CutTarget<Global>, A>,
     cuts: Cuts,
 ) -> Outcome {
-    if let Err((_, target)) = solver.write_proof(
-        CuttingTarget::new(alloc, cuts),
-        ProofFormat::Marked,
-    ) {
+    if let Err((_, target)) = solver.write_proof(new_target(alloc, cuts), ProofFormat::Marked) {
         drop(target);
     }
     if solver.add_clause(&literals(&[1, 2])[..2]).is_err() {

@@ -1,6 +1,6 @@
 //! A text that breaks off, given in pieces and cut anywhere.
 use super::readers::in_pieces;
-use super::settings::rare_and_frequent;
+use super::settings::{Settings, all_settings};
 use std::alloc::Global;
 use std::io::Read;
 use varisat::solver::{Solver, SolverError};
@@ -8,7 +8,6 @@ use varisat_formula::dimacs::DimacsErrorKind::{self, Io, UnterminatedClause};
 use varisat_formula::formula::Lit;
 use varisat_formula::io::{MemoryTarget, ReadSource};
 use varisat_literals::lits;
-use varisat_names::config::SolverConfigUpdate;
 
 type TestSolver = Solver<MemoryTarget<Global>, Global>;
 
@@ -36,11 +35,11 @@ fn finds(solver: &mut TestSolver, list: &[Lit]) -> bool {
 // Whether the text is refused, its first clause stays, and the solver can be used as before, with these settings.
 fn goes_on<R: Read + Drop>(
     solver: &mut TestSolver,
-    settings: &SolverConfigUpdate,
+    settings: &Settings,
     reader: R,
     wanted: DimacsErrorKind,
 ) -> bool {
-    let is_set = solver.config(settings).is_ok();
+    let is_set = settings.apply(solver).is_ok();
     let is_refused = refuses(solver, reader, wanted);
     let is_first_kept = finds(solver, &lits![-1, -2]);
     let is_added = solver.add_clause(&lits![2]).is_ok();
@@ -49,7 +48,7 @@ fn goes_on<R: Read + Drop>(
 
 fn goes_on_in_new<R: Read + Drop>(
     alloc: Global,
-    settings: &SolverConfigUpdate,
+    settings: &Settings,
     reader: R,
     wanted: DimacsErrorKind,
 ) -> bool {
@@ -59,21 +58,21 @@ fn goes_on_in_new<R: Read + Drop>(
     goes_on
 }
 
-fn is_cut_in_pieces(alloc: Global, settings: &SolverConfigUpdate, size: usize) -> bool {
+fn is_cut_in_pieces(alloc: Global, settings: &Settings, size: usize) -> bool {
     let whole = in_pieces(CUT_TEXT, size, false);
     let failing = in_pieces(CUT_TEXT, size, true);
     goes_on_in_new(alloc, settings, whole, UnterminatedClause)
         && goes_on_in_new(alloc, settings, failing, Io)
 }
 
-fn is_cut_at(alloc: Global, settings: &SolverConfigUpdate, place: usize) -> bool {
+fn is_cut_at(alloc: Global, settings: &Settings, place: usize) -> bool {
     let (front, back) = CUT_TEXT.split_at(place.min(CUT_TEXT.len()));
     goes_on_in_new(alloc, settings, front.chain(back), UnterminatedClause)
 }
 
 #[test]
 fn a_text_is_cut_anywhere(rt: HostRuntime) {
-    for settings in rare_and_frequent() {
+    for settings in all_settings() {
         for size in 1..=CUT_TEXT.len() {
             assert!(rt;
                 is_cut_in_pieces(rt.alloc(), &settings, size),

@@ -34,14 +34,14 @@ TRIED = [
 def families(seed):
     """Formulas that none of the others has, for the seed: each kind in sizes that take about a second."""
     return {
-        f"random-210-{seed}": formulas.random_3_sat(210, 895, 7000 + seed),
-        f"random-5-{seed}": formulas.random_3_sat(320, 1600, 7100 + seed),
-        f"colouring-130-{seed}": formulas.colouring(130, 600, 4, 7200 + seed),
-        f"colouring-400-{seed}": formulas.colouring(400, 920, 3, 7300 + seed),
-        f"counter-{7 + seed % 2}-{seed}": formulas.counter(7 + seed % 2, 150 + 20 * seed, 151 + 20 * seed),
-        f"parity-{24 + seed}": formulas.parity(24 + seed, 7400 + seed),
-        f"monitored-{seed}": formulas.monitored_path(24, 18, 110 + seed, 7500 + seed),
-        f"factoring-{seed}": formulas.factoring(14, (268435399, 268435367, 268435361, 268435337, 268435331)[seed % 5]),
+        f"random-235-{seed}": formulas.random_3_sat(235, 1001, 7000 + seed),
+        f"random-5-{seed}": formulas.random_3_sat(310, 1550, 7100 + seed),
+        f"colouring-150-{seed}": formulas.colouring(150, 690, 4, 7200 + seed),
+        f"colouring-440-{seed}": formulas.colouring(440, 1020, 3, 7300 + seed),
+        f"counter-9-{seed}": formulas.counter(9, 330 + 20 * seed, 331 + 20 * seed),
+        f"parity-{32 + seed}": formulas.parity(32 + seed, 7400 + seed),
+        f"monitored-{seed}": formulas.monitored_path(48, 30, 223 + seed, 7500 + seed),
+        f"factoring-{seed}": formulas.factoring(16, (1073741783, 1073741741, 1073741723, 1073741719, 1073741717)[seed % 5]),
     }
 
 

@@ -1,17 +1,19 @@
 -- How `add_literals` marks the literals of a clause, and what the loops of analysis read.
-use Rattle.std.proofs.Common.{◌≡◌, ℕ, zero, suc, ◌+◌, ◌<◌, ◌≤◌, Bool, true, false, List, [], ◌∷◌, ◌++◌, length, get_or, set, take, ◌⊎◌, inl, inr, ⊎_elim, refl, sym, ap, ◌∙◌, subst, arith, add-one, get_or-set_same, get_or-set_other}
+use Rattle.std.proofs.Common.{◌≡◌, ℕ, zero, suc, ◌+◌, ◌<◌, ◌≤◌, Bool, true, false, List, [], ◌∷◌, ◌++◌, length, get_or, set, take, ◌⊎◌, inl, inr, ⊎_elim, refl, sym, ap, ◌∙◌, subst, arith, append_assoc, add-one, get_or-set_same, get_or-set_other}
+use Rattle.std.proofs.lemmas.Bool.{cases_Bool}
 use Rattle.varisat_theory.specs.Membership.{◌∈◌, ◌⊆◌}
 use Rattle.varisat_theory.specs.Literals.{Literal, Clause, variable_of, opposite}
 use Rattle.varisat_theory.specs.Propagation.{IsFalse}
-use Rattle.varisat_theory.proofs.Members.{equal_or_not, ∈-append_left, ∈-append_right, ∈-append_cases}
+use Rattle.varisat_theory.proofs.Members.{equal_or_not, ∈-append_left, ∈-append_right, ∈-append_cases, distinct_append}
 use Rattle.varisat_theory.proofs.Places.{∈-take_more}
 use Rattle.varisat_prop.specs.View.{View, literal_at, node_at, level_of, StandsBefore, WellFormed}
 use Rattle.varisat_prop.proofs.LiteralValues.{variable-opposite}
+use Rattle.varisat_prop.proofs.ViewGrowth.{append-nil}
 use Rattle.varisat_prop.proofs.ReadElements.{element, item-∈}
 use Rattle.varisat_analysis.specs.Flags.{IsFlagged}
 use Rattle.varisat_analysis.specs.Learned.{current_level, IsOfKept}
 use Rattle.varisat_analysis.specs.declared.analyze_conflict.Parts.{Parts}
-use Rattle.varisat_analysis.specs.Marks.{CanMark, Marking, IsMarkOf, OfClause, OfCurrentLevel, IsLower, open_below, AreFalseBefore, AreOfKept, AddsMarks}
+use Rattle.varisat_analysis.specs.Marks.{CanMark, Marking, IsMarkOf, OfClause, OfCurrentLevel, IsLower, open_below, AreFalseBefore, AreOfKept, MeetsNew, AddsMarks}
 use Rattle.varisat_analysis.proofs.CopiedLiterals.{distinct-push}
 use Rattle.varisat_analysis.proofs.WellFormedViews.{inside, level-small, level-opposite, level-same, same-place}
 use Rattle.varisat_analysis.proofs.AnalysisOpen.{open-is, closed-unmarked, open-same, open-elsewhere, count-same, count-more}
@@ -45,10 +47,25 @@ pub marked-new : (f : List Bool) (v x : ℕ) → IsFlagged (set f v true) x → 
 marked-new f v x m =
     ⊎_elim inr (λ n. inl (sym (get_or-set_other f v x true false n) ∙ m)) (equal_or_not x v)
 
+-- a flag that is false later on was false before
+pub fresh-before : (f g : List Bool) (v : ℕ) → (IsFlagged f v → IsFlagged g v) → get_or g v false ≡ false → get_or f v false ≡ false
+fresh-before f g v h n = ⊎_elim (λ e. absurd (let x = sym (h e) ∙ n in cc)) (λ e. e) (cases_Bool (get_or f v false))
+
 -- what is the mark of a variable is so among more literals and variables
-pub mark-of : (s : View) (i : ℕ) (x y : Marking) (v : ℕ) → x.clause ⊆ y.clause → (v ∈ x.to_clean → v ∈ y.to_clean) → IsMarkOf s i x v → IsMarkOf s i y v
+pub mark-of : (s : View) (i : ℕ) (x y : Marking) (v : ℕ) → x.clause ⊆ y.clause → (v ∈ x.met → v ∈ y.met) → IsMarkOf s i x v → IsMarkOf s i y v
 mark-of s i x y v a b (OfClause m j e z) = OfClause m (a m j) e (b z)
 mark-of s i x y v a b (OfCurrentLevel k l p e) = OfCurrentLevel k l p e
+
+-- no variable is met where each literal is of level 0, or its variable is marked
+meets-none : (s : View) (lits : List Literal) (x : Marking) → MeetsNew s lits x x
+meets-none s lits x = record {
+  since = [];
+  longer = sym (append-nil x.met);
+  distinct = tt;
+  only = λ v i. absurd i;
+  fresh = λ v i. absurd i;
+  listed = λ v k. inl k;
+}
 
 pub adds-start : (s : View) (x : Marking) → AddsMarks s [] 0 x x
 adds-start s x = record {
@@ -58,6 +75,7 @@ adds-start s x = record {
   longer = λ m h. h;
   marks = λ i h y o k. k;
   counted = λ i h l. omega arith;
+  met = meets-none s [] x;
   involved = refl;
 }
 
@@ -71,6 +89,7 @@ adds-none s m x o = record {
   longer = λ l h. h;
   marks = λ i h y o k. k;
   counted = λ i h l. omega arith;
+  met = meets-none s (m ∷ []) x;
   involved = refl;
 }
 
@@ -90,9 +109,30 @@ module _ (s : View) (w : WellFormed s) (m : Literal) (x : Marking) (h : variable
   all-one : (l : Literal) → l ∈ (m ∷ []) → 0 < level_of s l → IsFlagged g (variable_of l)
   all-one l i a = ⊎_elim (λ e. subst (λ y. IsFlagged g (variable_of y)) (sym e) (get_or-set_same x.flags (variable_of m) true false h)) (λ z. absurd z) i
 
+  -- its variable is met
+  abbrev met : List ℕ
+  met = x.met ++ variable_of m ∷ []
+
+  meets-one : 0 < level_of s m → (y : Marking) → y.flags ≡ g → y.met ≡ met → MeetsNew s (m ∷ []) x y
+  meets-one b y fe me = record {
+    since = variable_of m ∷ [];
+    longer = me;
+    distinct = ((λ z. z), tt);
+    only = λ v i. ⊎_elim (λ e. (m, inl refl, b, sym e)) (λ z. absurd z) i;
+    fresh = λ v i. ⊎_elim (λ e. subst (λ u. get_or x.flags u false ≡ false) (sym e) n) (λ z. absurd z) i;
+    listed = λ v k. ⊎_elim inl (λ e. inr (inl e)) (marked-new x.flags (variable_of m) v (subst (λ f. IsFlagged f v) fe k));
+  }
+
+  met-inside : opposite m ∈ s.trail → ((v : ℕ) → v ∈ x.met → v < length s.nodes) → (v : ℕ) → v ∈ met → v < length s.nodes
+  met-inside fm k v j = ⊎_elim (k v) (λ o. ⊎_elim (λ e. let z = inside s w m fm in omega (arith, e, z)) (λ z. absurd z) o)
+      (∈-append_cases v x.met (variable_of m ∷ []) j)
+
   -- one literal of the current level
-  pub adds-late : level_of s m ≡ current_level s → AddsMarks s (m ∷ []) 1 x (record x { flags = g })
-  adds-late l = record {
+  abbrev seen : Marking
+  seen = record x { flags = g; met = met }
+
+  pub adds-late : opposite m ∈ s.trail → 0 < level_of s m → level_of s m ≡ current_level s → AddsMarks s (m ∷ []) 1 x seen
+  adds-late fm b l = record {
     more = still;
     only = only-one;
     all = all-one;
@@ -101,11 +141,13 @@ module _ (s : View) (w : WellFormed s) (m : Literal) (x : Marking) (h : variable
       lower = k.lower;
       marked = λ y j. still (variable_of y) (k.marked y j);
       distinct = k.distinct;
+      met = met-inside fm k.met;
       listed = k.listed;
-      known = λ v q. ⊎_elim (λ u. mark-of s i x (record x { flags = g }) v (λ y j. j) (λ j. j) (k.known v u))
+      known = λ v q. ⊎_elim (λ u. mark-of s i x seen v (λ y j. j) (λ j. ∈-append_left v x.met (variable_of m ∷ []) j) (k.known v u))
           (λ e. late-place i o (a m (inl refl)) v e) (marked-new x.flags (variable_of m) v q);
     };
     counted = λ i a b. more-one i b (a m (inl refl));
+    met = meets-one b seen refl refl;
     involved = refl;
   }
     where
@@ -115,7 +157,7 @@ module _ (s : View) (w : WellFormed s) (m : Literal) (x : Marking) (h : variable
           let p : (node_at s k).level ≡ level_of s (opposite m) = ap (level_of s) e in
           (k, a, omega (arith, a, b), p ∙ level-opposite s m ∙ l, ap variable_of e ∙ variable-opposite m)
 
-      late-place : (i : ℕ) → i ≤ length s.trail → StandsBefore s i (opposite m) → (v : ℕ) → v ≡ variable_of m → IsMarkOf s i (record x { flags = g }) v
+      late-place : (i : ℕ) → i ≤ length s.trail → StandsBefore s i (opposite m) → (v : ℕ) → v ≡ variable_of m → IsMarkOf s i seen v
       late-place i o b v e = let (k, p, q, r, u) = current-at i b o in OfCurrentLevel k p (q, r) (u ∙ sym e)
 
       more-one : (i : ℕ) → i ≤ length s.trail → StandsBefore s i (opposite m) → open_below s g i ≡ open_below s x.flags i + 1
@@ -130,7 +172,7 @@ module _ (s : View) (w : WellFormed s) (m : Literal) (x : Marking) (h : variable
 
   -- the literal joins the clause
   abbrev joined : Marking
-  joined = record x { clause = x.clause ++ m ∷ []; flags = g; to_clean = x.to_clean ++ variable_of m ∷ [] }
+  joined = record x { clause = x.clause ++ m ∷ []; flags = g; met = met }
 
   -- one literal below the current level
   pub adds-lower : opposite m ∈ s.trail → 0 < level_of s m → level_of s m < current_level s → AddsMarks s (m ∷ []) 0 x joined
@@ -146,14 +188,15 @@ module _ (s : View) (w : WellFormed s) (m : Literal) (x : Marking) (h : variable
       marked = λ y j. ⊎_elim (λ o. still (variable_of y) (k.marked y o))
           (λ o. all-one y o (⊎_elim (λ e. let z = ap (level_of s) e in omega (arith, z, a)) (λ z. absurd z) o)) (∈-append_cases y x.clause (m ∷ []) j);
       distinct = distinct-push x.clause m k.distinct (λ o. not-marked (k.marked m o));
-      listed = λ v j. ⊎_elim (k.listed v) (λ o. ⊎_elim (λ e. let z = inside s w m fm in omega (arith, e, z)) (λ z. absurd z) o)
-          (∈-append_cases v x.to_clean (variable_of m ∷ []) j);
+      met = met-inside fm k.met;
+      listed = k.listed;
       known = λ v r. ⊎_elim
-          (λ u. mark-of s i x joined v (λ y j. ∈-append_left y x.clause (m ∷ []) j) (λ j. ∈-append_left v x.to_clean (variable_of m ∷ []) j) (k.known v u))
-          (λ e. OfClause m (∈-append_right m x.clause (m ∷ []) (inl refl)) (sym e) (∈-append_right v x.to_clean (variable_of m ∷ []) (inl e)))
+          (λ u. mark-of s i x joined v (λ y j. ∈-append_left y x.clause (m ∷ []) j) (λ j. ∈-append_left v x.met (variable_of m ∷ []) j) (k.known v u))
+          (λ e. OfClause m (∈-append_right m x.clause (m ∷ []) (inl refl)) (sym e) (∈-append_right v x.met (variable_of m ∷ []) (inl e)))
           (marked-new x.flags (variable_of m) v r);
     };
     counted = λ i q o. same-count i;
+    met = meets-one a joined refl refl;
     involved = refl;
   }
     where
@@ -178,9 +221,28 @@ adds-more s lits k m n d x y z l e a b = record {
   longer = λ j i. b.longer j (a.longer j i);
   marks = λ i h y0 o q. b.marks i (one i h) (kept-one y0) o (a.marks i (front i h) (λ j n. y0 j (take-grow k lits j n)) o q);
   counted = λ i h o. let p = a.counted i (front i h) o in let q = b.counted i (one i h) o in omega (arith, p, q);
+  met = record {
+    since = a.met.since ++ b.met.since;
+    longer = b.met.longer ∙ ap (λ vs. vs ++ b.met.since) a.met.longer ∙ append_assoc x.met a.met.since b.met.since;
+    distinct = distinct_append a.met.since b.met.since a.met.distinct b.met.distinct
+        (λ v i j. let p = marked-since v i in let q = b.met.fresh v j in let r : true ≡ false = sym p ∙ q in absurd cc);
+    only = λ v i. ⊎_elim
+        (λ j. let (o, p, q, r) = a.met.only v j in (o, take-grow k lits o p, q, r))
+        (λ j. let (o, p, q, r) = b.met.only v j in (o, ⊎_elim (λ g. subst (λ t. t ∈ take (k + 1) lits) (sym g) last) (λ g. absurd g) p, q, r))
+        (∈-append_cases v a.met.since b.met.since i);
+    fresh = λ v i. ⊎_elim (a.met.fresh v) (λ j. fresh-before x.flags y.flags v (a.more v) (b.met.fresh v j))
+        (∈-append_cases v a.met.since b.met.since i);
+    listed = λ v j. ⊎_elim
+        (λ i. ⊎_elim inl (λ p. inr (∈-append_left v a.met.since b.met.since p)) (a.met.listed v i))
+        (λ i. inr (∈-append_right v a.met.since b.met.since i))
+        (b.met.listed v j);
+  };
   involved = b.involved ∙ a.involved;
 }
   where
+    marked-since : (v : ℕ) → v ∈ a.met.since → IsFlagged y.flags v
+    marked-since v i = let (o, p, q, r) = a.met.only v i in subst (IsFlagged y.flags) r (a.all o p q)
+
     last : m ∈ take (k + 1) lits
     last = subst (λ o. o ∈ take (k + 1) lits) (sym e) (take-last k lits l)
 
@@ -227,25 +289,30 @@ module _ {s : View} {n : ℕ} {x y : Marking} {lits : List Literal} {k m : ℕ} 
   added-none z = more 0 n y (omega arith) (adds-none s m y z)
 
   module _ (total v : ℕ) (o : v ≡ variable_of m) (f : get_or y.flags (variable_of m) false ≡ false) (z : Marking) where
-    pub added-late : total ≡ n + 1 → level_of s m ≡ current_level s → z ≡ record y { flags = set y.flags v true } → AddsMarks s (take (k + 1) lits) total x z
-    added-late q j e =
-        more 1 total z q (subst (λ t. AddsMarks s (m ∷ []) 1 y t) (sym (e ∙ ap (λ (t : ℕ). record y { flags = set y.flags t true }) o))
-        (adds-late s w m y p.inside f j))
+    pub added-late : total ≡ n + 1 → 0 < level_of s m → level_of s m ≡ current_level s → (met : List ℕ) (u : ℕ) → met ≡ y.met ++ u ∷ [] →
+        u ≡ variable_of m → z ≡ record y { flags = set y.flags v true; met = met } → AddsMarks s (take (k + 1) lits) total x z
+    added-late q b j met u te r e =
+        more 1 total z q (subst (λ t. AddsMarks s (m ∷ []) 1 y t) (sym (e ∙ same)) (adds-late s w m y p.inside f p.false_now b j))
+      where
+        same : record y { flags = set y.flags v true; met = met } ≡ record y { flags = set y.flags (variable_of m) true; met = y.met ++ variable_of m ∷ [] }
+        same =
+            ap (λ (t : ℕ). record y { flags = set y.flags t true; met = met }) o
+            ∙ ap (λ (t : List ℕ). record y { flags = set y.flags (variable_of m) true; met = t }) (te ∙ ap (λ (t : ℕ). y.met ++ t ∷ []) r)
 
-    pub added-lower : total ≡ n → 0 < level_of s m → (level_of s m ≡ current_level s → ⊥) → (clause : Clause) (to_clean : List ℕ) (u : ℕ) →
-        clause ≡ y.clause ++ m ∷ [] → to_clean ≡ y.to_clean ++ u ∷ [] → u ≡ variable_of m →
-        z ≡ record y { clause = clause; flags = set y.flags v true; to_clean = to_clean } → AddsMarks s (take (k + 1) lits) total x z
-    added-lower q b j clause to_clean u ce te r e =
+    pub added-lower : total ≡ n → 0 < level_of s m → (level_of s m ≡ current_level s → ⊥) → (clause : Clause) (met : List ℕ) (u : ℕ) →
+        clause ≡ y.clause ++ m ∷ [] → met ≡ y.met ++ u ∷ [] → u ≡ variable_of m →
+        z ≡ record y { clause = clause; flags = set y.flags v true; met = met } → AddsMarks s (take (k + 1) lits) total x z
+    added-lower q b j clause met u ce te r e =
         let c = level-small s w m p.false_now in
         more 0 total z (omega (arith, q)) (subst (λ t. AddsMarks s (m ∷ []) 0 y t) (sym (e ∙ same)) (adds-lower s w m y p.inside f p.false_now b (below c j)))
       where
         below : level_of s m ≤ current_level s → (level_of s m ≡ current_level s → ⊥) → level_of s m < current_level s
         below b j = grind arith
 
-        same : record y { clause = clause; flags = set y.flags v true; to_clean = to_clean } ≡ record y
-            { clause = y.clause ++ m ∷ []; flags = set y.flags (variable_of m) true; to_clean = y.to_clean ++ variable_of m ∷ [] }
+        same : record y { clause = clause; flags = set y.flags v true; met = met } ≡ record y
+            { clause = y.clause ++ m ∷ []; flags = set y.flags (variable_of m) true; met = y.met ++ variable_of m ∷ [] }
         same =
-            ap (λ (t : Clause). record y { clause = t; flags = set y.flags v true; to_clean = to_clean }) ce
-            ∙ ap (λ (t : ℕ). record y { clause = y.clause ++ m ∷ []; flags = set y.flags t true; to_clean = to_clean }) o
-            ∙ ap (λ (t : List ℕ). record y { clause = y.clause ++ m ∷ []; flags = set y.flags (variable_of m) true; to_clean = t })
-            (te ∙ ap (λ (t : ℕ). y.to_clean ++ t ∷ []) r)
+            ap (λ (t : Clause). record y { clause = t; flags = set y.flags v true; met = met }) ce
+            ∙ ap (λ (t : ℕ). record y { clause = y.clause ++ m ∷ []; flags = set y.flags t true; met = met }) o
+            ∙ ap (λ (t : List ℕ). record y { clause = y.clause ++ m ∷ []; flags = set y.flags (variable_of m) true; met = t })
+            (te ∙ ap (λ (t : ℕ). y.met ++ t ∷ []) r)

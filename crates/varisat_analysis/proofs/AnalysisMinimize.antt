@@ -36,6 +36,7 @@ pub record Minimizing (s : View) (x y : Marking) (k i : ℕ) : Type 0 where
       ⊎ (IsLeft x.clause i (opposite l) ⊎ IsReasoned s y.flags l)
   pub cleaned : MarksAreListed y
   pub involved : y.involved ≡ x.involved
+  pub met : y.met ≡ x.met
 
 pub minimizing-start : {s : View} {x : Marking} → WellFormed s → length x.flags ≡ length s.nodes → Marks s 0 x → Minimizing s x x 0 0
 minimizing-start {s = s} {x = x} w n k = record {
@@ -47,8 +48,13 @@ minimizing-start {s = s} {x = x} w n k = record {
   part = λ m h. absurd h;
   fall = λ m h. ((k.lower m h).false_now, k.marked m h);
   explained = λ l i m. by l i (k.known (variable_of l) m);
-  cleaned = record { marked = λ v m. listed-of v (k.known v m); listed = λ v i. let a = k.listed v i in omega (arith, a, n) };
+  cleaned = record {
+    marked = λ v m. inl (met-of v (k.known v m));
+    met = λ v i. let a = k.met v i in omega (arith, a, n);
+    listed = λ v i. let a = k.listed v i in omega (arith, a, n);
+  };
   involved = refl;
+  met = refl;
 }
   where
     by : (l : Literal) → l ∈ s.trail → IsMarkOf s 0 x (variable_of l) → (opposite l ∈ take 0 x.clause)
@@ -59,9 +65,9 @@ minimizing-start {s = s} {x = x} w n k = record {
         inr (inl (p, omega arith, a, q ∙ sym (opposite_twice y) ∙ ap opposite o))
     by l i (OfCurrentLevel y a p e) = absurd (omega (arith, a))
 
-    listed-of : (v : ℕ) → IsMarkOf s 0 x v → v ∈ x.to_clean
-    listed-of v (OfClause y j e z) = z
-    listed-of v (OfCurrentLevel y a p e) = absurd (omega (arith, a))
+    met-of : (v : ℕ) → IsMarkOf s 0 x v → v ∈ x.met
+    met-of v (OfClause y j e z) = z
+    met-of v (OfCurrentLevel y a p e) = absurd (omega (arith, a))
 
 left-next : (c : Clause) (i : ℕ) (m : Literal) → IsLeft c i m → (m ≡ get_or c i 0) ⊎ IsLeft c (i + 1) m
 left-next c i m (j, a, b, e) =
@@ -123,10 +129,13 @@ minimizing-keep {s = s} {x = x} {y = y} {z = z} {k = k} {i = i} m same h e n a =
       q)
       (a.explained l j (sym (n.flags (variable_of l)) ∙ o));
   cleaned = record {
-    marked = λ v o. subst (λ q. v ∈ q) (sym n.to_clean) (a.cleaned.marked v (sym (n.flags v) ∙ o));
+    marked = λ v o. ⊎_elim (λ i. inl (subst (λ q. v ∈ q) (sym n.met) i)) (λ i. inr (subst (λ q. v ∈ q) (sym n.to_clean) i))
+        (a.cleaned.marked v (sym (n.flags v) ∙ o));
+    met = λ v o. let b = a.cleaned.met v (subst (λ q. v ∈ q) n.met o) in omega (arith, b, same);
     listed = λ v o. let b = a.cleaned.listed v (subst (λ q. v ∈ q) n.to_clean o) in omega (arith, b, same);
   };
   involved = n.involved ∙ a.involved;
+  met = n.met ∙ a.met;
 }
   where
     is : m ≡ get_or x.clause i 0
@@ -166,12 +175,19 @@ minimizing-drop {s = s} {x = x} {y = y} {z = z} {k = k} {i = i} m same h e r a =
       (λ t. inr (inr t))
       (r.others j o q);
   cleaned = record {
-    marked = λ v o. subst (λ q. v ∈ q) (sym l.longer)
-        (⊎_elim (λ t. ∈-append_left v y.to_clean l.since (a.cleaned.marked v t)) (λ t. ∈-append_right v y.to_clean l.since t) (l.listed v o));
+    marked = λ v o. ⊎_elim
+        (λ t. ⊎_elim
+        (λ i. inl (subst (λ q. v ∈ q) (sym l.met) i))
+        (λ i. inr (subst (λ q. v ∈ q) (sym l.longer) (∈-append_left v y.to_clean l.since i)))
+        (a.cleaned.marked v t))
+        (λ t. inr (subst (λ q. v ∈ q) (sym l.longer) (∈-append_right v y.to_clean l.since t)))
+        (l.listed v o);
+    met = λ v o. let b = a.cleaned.met v (subst (λ q. v ∈ q) l.met o) in omega (arith, b, same);
     listed = λ v o. ⊎_elim (λ t. let b = a.cleaned.listed v t in omega (arith, b, same)) (λ t. let b = l.inside v t in omega (arith, b, same))
         (∈-append_cases v y.to_clean l.since (subst (λ q. v ∈ q) l.longer o));
   };
   involved = l.involved ∙ a.involved;
+  met = l.met ∙ a.met;
 }
   where
     l : ListsNew y z
@@ -224,8 +240,9 @@ minimizing-end {s = s} {x = x} {y = y} {k = k} {i = i} left w h e a = record {
         (λ q. inr (let (p, b) = a.fall m q in marked-implied s w held fits (first ∷ take k y.clause) y.flags (given first) m p b))
         o);
   };
-  cleaned = record { marked = a.cleaned.marked; listed = a.cleaned.listed };
+  cleaned = record { marked = a.cleaned.marked; met = a.cleaned.met; listed = a.cleaned.listed };
   involved = a.involved;
+  met = a.met;
 }
   where
     given : (first l : Literal) → l ∈ s.trail → IsFlagged y.flags (variable_of l) → (opposite l ∈ (first ∷ take k y.clause)) ⊎ IsReasoned s y.flags l

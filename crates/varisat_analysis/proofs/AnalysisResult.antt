@@ -19,6 +19,7 @@ use Rattle.varisat_prop.specs.Watches.{IsRearranged}
 use Rattle.varisat_prop.proofs.LongRearranged.{swap-rearranged, swap-at}
 use Rattle.std.specs.List.{swap}
 use Rattle.varisat_analysis.specs.Learned.{current_level, implying_clause, reason_clause, StandsBehind, IsOfConflict, IsLevelOf, IsAsserting, IsOfKept, IsLearned, ListsInvolved}
+use Rattle.varisat_analysis.specs.Bumps.{literals_among, AreVariablesAbove}
 use Rattle.varisat_analysis.specs.Marks.{Marking, MarksAreListed, IsLower, IsResolved, Minimizes, Teaches}
 use Rattle.varisat_analysis.proofs.WellFormedViews.{named-kept, reason-kept, level-opposite, level-small, fixed-implied}
 
@@ -129,6 +130,12 @@ module _ {s : View} {cf : Conflict} {first : Literal} {x y : Marking} (w : WellF
     involves = subst (ListsInvolved s cf) (sym (i ∙ b.involved)) a.involved;
   }
 
+  pub learned-met : (involved : List Conflict) (met : List ℕ) → involved ≡ y.involved → met ≡ y.met →
+      AreVariablesAbove s.nodes (literals_among s.clauses involved) met
+  learned-met involved met i m =
+      subst (λ fs. AreVariablesAbove s.nodes (literals_among s.clauses fs) met) (sym (i ∙ b.involved))
+      (subst (AreVariablesAbove s.nodes (literals_among s.clauses x.involved)) (sym (m ∙ b.met)) a.met)
+
 -- a conflict at level 0
 pub learned-at-zero : (s : View) (w : WellFormed s) (cf : Conflict) (c : Clause) (level : ℕ) → IsConflicting s cf → current_level s ≡ 0 → c ≡ [] →
     level ≡ 0 → IsLearned s cf c level
@@ -143,11 +150,23 @@ learned-at-zero s w cf c level h z e l = subst (λ x. IsLearned s cf x level) (s
   above = λ d. absurd (omega (arith, d, z));
 }
 
+-- no clause was resolved, and no variable met
+pub met-none : (s : View) (involved : List Conflict) (met : List ℕ) → involved ≡ [] → met ≡ [] →
+    AreVariablesAbove s.nodes (literals_among s.clauses involved) met
+met-none s involved met i m = rw (i, m) record { distinct = tt; all = λ l h. absurd h; only = λ v h. absurd h }
+
 -- once the listed variables are cleared no flag is set
-pub none-left : {x : Marking} (flags : List Bool) (vars : List ℕ) → MarksAreListed x → vars ≡ x.to_clean →
-    ((v : ℕ) → v ∈ vars → get_or flags v false ≡ false) → ((v : ℕ) → (v ∈ vars → ⊥) → get_or flags v false ≡ get_or x.flags v false) → (v : ℕ) →
+pub none-left : {x : Marking} (first flags : List Bool) (met vars : List ℕ) → MarksAreListed x → met ≡ x.met → vars ≡ x.to_clean →
+    ((v : ℕ) → v ∈ met → get_or first v false ≡ false) → ((v : ℕ) → (v ∈ met → ⊥) → get_or first v false ≡ get_or x.flags v false) →
+    ((v : ℕ) → v ∈ vars → get_or flags v false ≡ false) → ((v : ℕ) → (v ∈ vars → ⊥) → get_or flags v false ≡ get_or first v false) → (v : ℕ) →
     get_or flags v false ≡ false
-none-left {x = x} flags vars h e gone rest v = ⊎_elim
+none-left {x = x} first flags met vars h em e gone rest gone2 rest2 v = ⊎_elim
+    (λ i. gone2 v i)
+    (λ n. rest2 v n ∙ ⊎_elim
     (λ i. gone v i)
-    (λ n. rest v n ∙ ⊎_elim (λ m. absurd (n (subst (λ q. v ∈ q) (sym e) (h.marked v m)))) (λ m. m) (cases_Bool (get_or x.flags v false)))
+    (λ k. rest v k ∙ ⊎_elim
+    (λ m. ⊎_elim (λ j. absurd (k (subst (λ q. v ∈ q) (sym em) j))) (λ j. absurd (n (subst (λ q. v ∈ q) (sym e) j))) (h.marked v m))
+    (λ m. m)
+    (cases_Bool (get_or x.flags v false)))
+    (∈-or_not v met))
     (∈-or_not v vars)

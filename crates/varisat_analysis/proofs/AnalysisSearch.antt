@@ -17,7 +17,7 @@ use Rattle.varisat_prop.proofs.ViewGrowth.{append-nil}
 use Rattle.varisat_analysis.specs.Flags.{IsFlagged}
 use Rattle.varisat_analysis.specs.Marks.{Marking}
 use Rattle.varisat_analysis.specs.Redundancy.{IsImplied, IsReasoned, count_unmarked, ListsNew, Explores, TellsRedundancy}
-use Rattle.varisat_analysis.proofs.AnalysisMarks.{marked-old, marked-new, IsAt}
+use Rattle.varisat_analysis.proofs.AnalysisMarks.{fresh-before, marked-old, marked-new, IsAt}
 use Rattle.varisat_analysis.proofs.WellFormedViews.{true-same, has-clause, inside-true, names-clause, causes-false}
 
 pub unmarked-set : (f : List Bool) (v : ℕ) → v < length f → get_or f v false ≡ false → count_unmarked f ≡ count_unmarked (set f v true) + 1
@@ -26,10 +26,6 @@ unmarked-set (true ∷ f) zero h n = absurd cc
 unmarked-set (false ∷ f) zero h n = refl
 unmarked-set (true ∷ f) (suc v) h n = unmarked-set f v (omega arith) n
 unmarked-set (false ∷ f) (suc v) h n = let e = unmarked-set f v (omega arith) n in omega (arith, e)
-
--- a flag that is false later on was false before
-fresh-before : (f g : List Bool) (v : ℕ) → (IsFlagged f v → IsFlagged g v) → get_or g v false ≡ false → get_or f v false ≡ false
-fresh-before f g v h n = ⊎_elim (λ e. absurd (let x = sym (h e) ∙ n in cc)) (λ e. e) (cases_Bool (get_or f v false))
 
 pub listed-start : (x : Marking) → ListsNew x x
 listed-start x = record {
@@ -42,6 +38,7 @@ listed-start x = record {
   fresh = λ v i. absurd i;
   clause = refl;
   involved = refl;
+  met = refl;
 }
 
 -- one variable is marked and listed
@@ -56,6 +53,7 @@ listed-one x v stack h n = record {
   fresh = λ y i. ⊎_elim (λ e. subst (λ q. get_or x.flags q false ≡ false) (sym e) n) (λ z. absurd z) i;
   clause = refl;
   involved = refl;
+  met = refl;
 }
 
 pub listed-trans : (x y z : Marking) → length y.flags ≡ length x.flags → ListsNew x y → ListsNew y z → ListsNew x z
@@ -71,6 +69,7 @@ listed-trans x y z n a b = record {
   fresh = λ v i. ⊎_elim (a.fresh v) (λ j. fresh-before x.flags y.flags v (a.more v) (b.fresh v j)) (∈-append_cases v a.since b.since i);
   clause = b.clause ∙ a.clause;
   involved = b.involved ∙ a.involved;
+  met = b.met ∙ a.met;
 }
 
 -- the stack is not spoken of
@@ -85,6 +84,7 @@ listed-from y z stack a = record {
       a.fresh;
   clause = a.clause;
   involved = a.involved;
+  met = a.met;
 }
 
 pub explores-start : (s : View) (x : Marking) → Explores s [] true x x
@@ -176,6 +176,7 @@ search-begin {s = s} {l = l} x r stack h p n q = record {
         clause =
             a.clause;
         involved = a.involved;
+        met = a.met;
       };
   implied = λ m i. ⊎_elim (λ z. subst (IsImplied s) (sym z) implied) (λ z. absurd z) (subst (λ y. m ∈ y) q i);
   reasoned = λ m i k. inl k;
@@ -262,6 +263,7 @@ search-found {s = s} {l = l} left e a = record {
         a.list.fresh;
     clause = a.list.clause;
     involved = a.list.involved;
+    met = a.list.met;
   };
   reasoned = ⊎_elim (λ i. absurd (subst (λ q. opposite l ∈ q) e i)) (λ k. k) a.start;
   others = λ m i o. ⊎_elim inl (λ z. ⊎_elim (λ j. absurd (subst (λ q. m ∈ q) e j)) inr z) (a.reasoned m i o);
@@ -315,6 +317,7 @@ since-cleared {x = x} {y = y} {part = part} s l flags to_clean b q gone rest = r
   to_clean = q ∙ ap (λ k. take k y.to_clean) b.top_is ∙ ap (λ k. take (length x.to_clean) k) a.longer ∙ take-front x.to_clean a.since;
   clause = a.clause;
   involved = a.involved;
+  met = a.met;
 }
   where
     a : ListsNew x y

@@ -4,7 +4,7 @@ use Rattle.std.proofs.lemmas.Bool.{cases_lt}
 use Rattle.varisat_theory.specs.Membership.{◌∈◌, IsDistinct}
 use Rattle.varisat_theory.specs.Literals.{Literal, Clause, variable_of, opposite}
 use Rattle.varisat_theory.specs.Analysis.{AtStart, InReason}
-use Rattle.varisat_theory.proofs.Members.{∈-append_left, ∈-append_right, ∈-append_cases}
+use Rattle.varisat_theory.proofs.Members.{equal_or_not, ∈-append_left, ∈-append_right, ∈-append_cases, distinct_append}
 use Rattle.varisat_theory.proofs.Places.{∈-get_or, place_in}
 use Rattle.varisat_theory.proofs.Values.{opposite_twice}
 use Rattle.varisat_theory.proofs.Learning.{Pending, IsPassed, pending_start, pending_skip, pending_resolve, pending_end}
@@ -17,6 +17,8 @@ use Rattle.varisat_prop.proofs.ReadElements.{element}
 use Rattle.varisat_prop.specs.View.{View, clause_at, literal_at, decision_at, node_of, node_at, level_of, is_clause, StandsBefore, Implies, IsReason, WellFormed, ViewFits}
 use Rattle.varisat_prop.proofs.LiteralValues.{variable-opposite}
 use Rattle.varisat_analysis.specs.Flags.{IsFlagged}
+use Rattle.varisat_analysis.specs.Bumps.{literals_among, AreVariablesAbove}
+use Rattle.varisat_analysis.proofs.BumpedVariables.{among-append}
 use Rattle.varisat_analysis.specs.Learned.{current_level, IsOfCurrentLevel, implying_clause, names_of, reason_clause, IsReachedDownTo, IsImplicationPoint, IsFirstPoint, IsInvolved, IsOfConflict, IsReasonOf}
 use Rattle.varisat_analysis.specs.Marks.{Marking, IsDeepConflict, IsClean, IsMarkOf, OfClause, OfCurrentLevel, Marks, is_open, open_below, one_if, AreFalseBefore, AreOfKept, AddsMarks, AddsReason, IsResolved}
 use Rattle.varisat_analysis.proofs.CopiedLiterals.{distinct-push}
@@ -41,6 +43,13 @@ pub record ListsResolved (s : View) (cf : Conflict) (i : ℕ) (involved : List C
   pub all : (p : Conflict) → WasResolved s cf i p → p ∈ involved
   pub distinct : IsDistinct involved
 
+-- The variables that were met are those above level 0 of the clauses that were resolved, each once. Those that are marked are
+-- among them, and each other one stands at a place from i on.
+pub record HasMet (s : View) (mark : Marking) (i : ℕ) : Type 0 where
+  pub above : AreVariablesAbove s.nodes (literals_among s.clauses mark.involved) mark.met
+  pub marked : (v : ℕ) → IsFlagged mark.flags v → v ∈ mark.met
+  pub behind : (v : ℕ) → v ∈ mark.met → IsFlagged mark.flags v ⊎ ((k : ℕ) × (i ≤ k) × (k < length s.trail) × (variable_of (literal_at s k) ≡ v))
+
 -- The places from i on were walked over; `count` places before i are of the current level and marked.
 pub record Walk (s : View) (cf : Conflict) (mark : Marking) (count i : ℕ) : Type 0 where
   pub within : i ≤ length s.trail
@@ -57,6 +66,7 @@ pub record Walk (s : View) (cf : Conflict) (mark : Marking) (count i : ℕ) : Ty
   pub none_later : (q : ℕ) → i ≤ q → IsImplicationPoint s cf q → ⊥
   pub pending : (held : List Clause) → ViewFits held s → Pending held mark.clause s.trail (Seen s mark.flags) i
   pub involved : ListsResolved s cf i mark.involved
+  pub met : HasMet s mark i
 
 -- what is reached from further down is reached from further up too
 pub reached-down : (s : View) (cf : Conflict) (p q : ℕ) (x : Literal) → q ≤ p → IsReachedDownTo s cf p x → IsReachedDownTo s cf q x
@@ -74,6 +84,7 @@ marks-with s i mark involved k = record {
   lower = k.lower;
   marked = k.marked;
   distinct = k.distinct;
+  met = k.met;
   listed = k.listed;
   known = λ v m. mark-of s i mark (record mark { involved = involved }) v (λ y j. j) (λ j. j) (k.known v m);
 }
@@ -218,6 +229,15 @@ module _ (s : View) (w : WellFormed s) (cf : Conflict) where
       all = λ p i. subst (λ x. p ∈ x) (sym a.involved) (inl (alone p i));
       distinct = subst IsDistinct (sym a.involved) ((λ i. i), tt);
     };
+    met = record {
+      above = record {
+        distinct = subst IsDistinct (sym met-is) a.met.distinct;
+        all = λ l i b. marked-met (variable_of l) (a.all l (of-one l i) b);
+        only = λ v i. let (l, j, b, e) = a.met.only v (subst (λ x. v ∈ x) met-is i) in (l, to-one l j, b, e);
+      };
+      marked = marked-met;
+      behind = λ v i. inl (let (l, j, b, e) = a.met.only v (subst (λ x. v ∈ x) met-is i) in subst (IsFlagged next.flags) e (a.all l j b));
+    };
   }
     where
       d : 0 < current_level s
@@ -242,6 +262,21 @@ module _ (s : View) (w : WellFormed s) (cf : Conflict) where
       none : (v : ℕ) → IsFlagged mark.flags v → ⊥
       none v i = let z = sym (clean.unmarked v) ∙ i in absurd cc
 
+      met-is : next.met ≡ a.met.since
+      met-is = a.met.longer ∙ ap (λ x. x ++ a.met.since) clean.met
+
+      marked-met : (v : ℕ) → IsFlagged next.flags v → v ∈ next.met
+      marked-met v i = subst (λ x. v ∈ x) (sym met-is) (⊎_elim (λ z. absurd (none v z)) (λ z. z) (a.met.listed v i))
+
+      among-is : literals_among s.clauses next.involved ≡ named_in s.clauses cf ++ []
+      among-is = ap (literals_among s.clauses) a.involved
+
+      of-one : (l : Literal) → l ∈ literals_among s.clauses next.involved → l ∈ named_in s.clauses cf
+      of-one l i = ⊎_elim (λ z. z) (λ z. absurd z) (∈-append_cases l (named_in s.clauses cf) [] (subst (λ x. l ∈ x) among-is i))
+
+      to-one : (l : Literal) → l ∈ named_in s.clauses cf → l ∈ literals_among s.clauses next.involved
+      to-one l i = subst (λ x. l ∈ x) (sym among-is) (∈-append_left l (named_in s.clauses cf) [] i)
+
       empty : (m : Literal) → m ∈ mark.clause → ⊥
       empty m i = subst (λ x. m ∈ x) clean.clause i
 
@@ -250,6 +285,7 @@ module _ (s : View) (w : WellFormed s) (cf : Conflict) where
         lower = λ m i. absurd (empty m i);
         marked = λ m i. absurd (empty m i);
         distinct = subst (λ x. IsDistinct x) (sym clean.clause) tt;
+        met = λ v i. absurd (subst (λ x. v ∈ x) clean.met i);
         listed = λ v i. absurd (subst (λ x. v ∈ x) clean.to_clean i);
         known = λ v i. absurd (none v i);
       }
@@ -295,6 +331,7 @@ module _ (s : View) (w : WellFormed s) (cf : Conflict) where
       lower = u.marks.lower;
       marked = u.marks.marked;
       distinct = u.marks.distinct;
+      met = u.marks.met;
       listed = u.marks.listed;
       known = λ v i. below v i (u.marks.known v i);
     };
@@ -316,6 +353,11 @@ module _ (s : View) (w : WellFormed s) (cf : Conflict) where
       only = λ p i. resolved-down s cf j p (u.involved.only p i);
       all = λ p i. u.involved.all p (later p i);
       distinct = u.involved.distinct;
+    };
+    met = record {
+      above = u.met.above;
+      marked = u.met.marked;
+      behind = λ v i. ⊎_elim inl (λ (k, a, b, e). inr (k, omega (arith, a), b, e)) (u.met.behind v i);
     };
     pending = λ held h. pending_skip held mark.clause s.trail (Seen s mark.flags) j
         (subst (Pending held mark.clause s.trail (Seen s mark.flags)) (sym (add-one j)) (u.pending held h)) (λ z. not-marked z.0);
@@ -390,6 +432,7 @@ module _ (s : View) (w : WellFormed s) (cf : Conflict) where
           (λ e. let x = level-same s m (literal_at s j) e in let y = (u.marks.lower m i).below in let z = current-here.1 in omega (arith, x, y, z))
           (u.marks.marked m i);
       distinct = u.marks.distinct;
+      met = u.marks.met;
       listed = u.marks.listed;
       known = λ v i. let (x, y) = was v i in below v y (u.marks.known v x);
     }
@@ -431,6 +474,7 @@ module _ (s : View) (w : WellFormed s) (cf : Conflict) where
           lower = marks-here.lower;
           marked = marks-here.marked;
           distinct = marks-here.distinct;
+          met = marks-here.met;
           listed = marks-here.listed;
           known = λ v i. of-clause v i (marks-here.known v i);
         };
@@ -442,6 +486,7 @@ module _ (s : View) (w : WellFormed s) (cf : Conflict) where
           distinct = u.involved.distinct;
           named = λ p i. named-is p (u.involved.only p i);
         };
+        met = u.met.above;
       }
         where
           of-clause : (v : ℕ) → IsFlagged g v → IsMarkOf s j cleared v → IsMarkOf s 0 cleared v
@@ -562,6 +607,34 @@ module _ (s : View) (w : WellFormed s) (cf : Conflict) where
             distinct = subst IsDistinct (sym (listed-is ∙ ap (λ x. mark.involved ++ x) name.1))
                 (distinct-push mark.involved name.0 u.involved.distinct (λ i. new-reason (u.involved.only name.0 i)));
           };
+          met = record {
+            above = record {
+              distinct = subst IsDistinct (sym a.met.longer)
+                  (distinct_append mark.met a.met.since u.met.above.distinct a.met.distinct (λ v i o. not-again v i o));
+              all = λ l i b. ⊎_elim
+                  (λ o. old-met (variable_of l) (u.met.above.all l o b))
+                  (λ o. ⊎_elim
+                  (λ q. subst (λ x. variable_of x ∈ next.met) (sym q) (old-met (variable_of (literal_at s j)) (u.met.marked (variable_of (literal_at s j)) n)))
+                  (λ q. marked-met (variable_of l) (a.all l q b))
+                  (split l o))
+                  (of-both l i);
+              only = λ v i. ⊎_elim
+                  (λ o. let (l, p, b, q) = u.met.above.only v o in (l, to-both l (inl p), b, q))
+                  (λ o. let (l, p, b, q) = a.met.only v o in (l, to-both l (inr (join l p).0), b, q))
+                  (∈-append_cases v mark.met a.met.since (subst (λ x. v ∈ x) a.met.longer i));
+            };
+            marked = marked-met;
+            behind = λ v i. ⊎_elim
+                (λ o. ⊎_elim
+                (λ m. ⊎_elim
+                (λ (q : v ≡ variable_of (literal_at s j)). inr (j, omega arith, at, sym q))
+                (λ q. inl (a.more v (still v q m)))
+                (equal_or_not v (variable_of (literal_at s j))))
+                (λ (k, b, c, q). inr (k, omega (arith, b), c, q))
+                (u.met.behind v o))
+                (λ o. inl (let (l, p, b, q) = a.met.only v o in subst (IsFlagged next.flags) q (a.all l p b)))
+                (∈-append_cases v mark.met a.met.since (subst (λ x. v ∈ x) a.met.longer i));
+          };
           pending = λ held k.
               let (y, z, same) = reason-kept s w j r c why in
               let (x, i, o) = k.stored y z in
@@ -575,6 +648,29 @@ module _ (s : View) (w : WellFormed s) (cf : Conflict) where
           where
             a : AddsMarks s lits e (record cleared { involved = next.involved }) next
             a = subst (λ x. AddsMarks s (causes_of s.clauses x) e (record cleared { involved = next.involved }) next) is ar.adds
+
+            old-met : (v : ℕ) → v ∈ mark.met → v ∈ next.met
+            old-met v i = subst (λ x. v ∈ x) (sym a.met.longer) (∈-append_left v mark.met a.met.since i)
+
+            marked-met : (v : ℕ) → IsFlagged next.flags v → v ∈ next.met
+            marked-met v i = ⊎_elim
+                (λ o. old-met v (u.met.marked v (was v o).0))
+                (λ o. subst (λ x. v ∈ x) (sym a.met.longer) (∈-append_right v mark.met a.met.since o))
+                (a.met.listed v i)
+
+            -- a variable of the reason stands before the place, and so was not met before, unless it is marked
+            not-again : (v : ℕ) → v ∈ mark.met → v ∈ a.met.since → ⊥
+            not-again v i o =
+                let (l, p, b, q) = a.met.only v o in
+                let (k, c, e) = (join l p).1 in
+                let same : variable_of (literal_at s k) ≡ v = ap variable_of e ∙ variable-opposite l ∙ q in
+                ⊎_elim
+                (λ m.
+                let f = still v (λ z. other-place k c (same ∙ z)) m in
+                let z = sym (a.met.fresh v o) ∙ f in
+                absurd cc)
+                (λ (k', c', t, e'). let z = same-place s w k k' (omega (arith, c, at)) t (same ∙ sym e') in omega (arith, z, c, c'))
+                (u.met.behind v i)
 
             of-reason : AreOfKept s lits
             of-reason m i = let (x, y, same) = reason-kept s w j r c why in (x, y, same.1 m (join m i).0)
@@ -603,6 +699,21 @@ module _ (s : View) (w : WellFormed s) (cf : Conflict) where
 
             named : named_in s.clauses name.0 ≡ clause
             named = (reason-named s w j r name.0 why name-in).1
+
+            among-is : literals_among s.clauses next.involved ≡ literals_among s.clauses mark.involved ++ (clause ++ [])
+            among-is =
+                ap (literals_among s.clauses) (listed-is ∙ ap (λ x. mark.involved ++ x) name.1) ∙ among-append s.clauses mark.involved (name.0 ∷ [])
+                ∙ ap (λ x. literals_among s.clauses mark.involved ++ (x ++ [])) named
+
+            of-both : (l : Literal) → l ∈ literals_among s.clauses next.involved → (l ∈ literals_among s.clauses mark.involved) ⊎ (l ∈ clause)
+            of-both l i = ⊎_elim inl (λ z. inr (⊎_elim (λ t. t) (λ t. absurd t) (∈-append_cases l clause [] z)))
+                (∈-append_cases l (literals_among s.clauses mark.involved) (clause ++ []) (subst (λ x. l ∈ x) among-is i))
+
+            to-both : (l : Literal) → (l ∈ literals_among s.clauses mark.involved) ⊎ (l ∈ clause) → l ∈ literals_among s.clauses next.involved
+            to-both l h = subst (λ x. l ∈ x) (sym among-is) (⊎_elim
+                (λ z. ∈-append_left l (literals_among s.clauses mark.involved) (clause ++ []) z)
+                (λ z. ∈-append_right l (literals_among s.clauses mark.involved) (clause ++ []) (∈-append_left l clause [] z))
+                h)
 
             -- the reason of another place, and the conflict's clause, are other clauses
             new-reason : WasResolved s cf (suc j) name.0 → ⊥

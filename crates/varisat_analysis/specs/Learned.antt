@@ -15,15 +15,16 @@ use Rattle.varisat_prop.specs.Parts.{TrailParts}
 use Rattle.varisat_prop.specs.Changes.{named_in, NamesKeptClause}
 use Rattle.varisat_prop.specs.View.{View, kept, clause_at, literal_at, node_at, node_of, level_of, ViewFits}
 
--- the learned clause, the clauses that it came from, and for how many variables there are flags
+-- the learned clause, the clauses that it came from, their variables above level 0, and for how many variables there are flags
 pub record Analysis : Type 0 where
   pub clause : Clause
   pub involved : List Conflict
+  pub met : List ℕ
   pub var_count : ℕ
 
 -- before the first conflict
 abbrev pub no_analysis : Analysis
-no_analysis = record { clause = []; involved = []; var_count = 0 }
+no_analysis = record { clause = []; involved = []; met = []; var_count = 0 }
 
 -- The view has the clauses of a sound store, and these nodes, literals and decisions.
 pub record Shows (s : View) (store : Store) (nodes : List ImplNode) (trail : TrailParts) : Type 0 where

@@ -9,6 +9,7 @@ use Rattle.varisat_clause.specs.Collected.{live_clauses}
 use Rattle.varisat_prop.specs.Changes.{causes_of, IsConflicting}
 use Rattle.varisat_prop.specs.View.{View, literal_at, node_at, node_of, level_of, StandsBefore, WellFormed, LevelsSettled, ViewFits}
 use Rattle.varisat_analysis.specs.Flags.{IsFlagged}
+use Rattle.varisat_analysis.specs.Bumps.{literals_among, AreVariablesAbove}
 use Rattle.varisat_analysis.specs.declared.analyze_conflict.Parts.{Parts}
 use Rattle.varisat_analysis.specs.declared.analyze_conflict.Scratch.{Scratch}
 use Rattle.varisat_analysis.specs.Learned.{current_level, IsOfCurrentLevel, names_of, IsFirstPoint, ListsInvolved, IsAsserting, IsOfKept}
@@ -38,8 +39,9 @@ pub record Marking : Type 0 where
   -- the clause that becomes the learned one, and the names of the clauses that it came from
   pub clause : Clause
   pub involved : List Conflict
-  -- for each variable whether it is marked, and the marked ones whose flags are to be cleared
+  -- for each variable whether it is marked; those that resolution marked, and those that minimization did
   pub flags : List Bool
+  pub met : List ℕ
   pub to_clean : List ℕ
   -- literals whose reasons are still to be looked at
   pub stack : List Literal
@@ -47,13 +49,21 @@ pub record Marking : Type 0 where
 -- what is in the scratch space, with these flags
 abbrev pub marking : {A : Type 0} → Scratch A → List Bool → Marking
 marking scratch flags =
-    record { clause = scratch.clause.items; involved = scratch.involved.items; flags = flags; to_clean = scratch.to_clean.items; stack = scratch.stack.items }
+    record {
+      clause = scratch.clause.items;
+      involved = scratch.involved.items;
+      flags = flags;
+      met = scratch.met.items;
+      to_clean = scratch.to_clean.items;
+      stack = scratch.stack.items;
+    }
 
 -- no variable is marked, and no clause is begun
 pub record IsClean (x : Marking) : Type 0 where
   pub unmarked : (v : ℕ) → slice_index_or x.flags v false ≡ false
   pub clause : x.clause ≡ []
   pub involved : x.involved ≡ []
+  pub met : x.met ≡ []
   pub to_clean : x.to_clean ≡ []
 
 -- Analysis may begin: it has a flag for each variable, there is a conflict above level 0, and nothing is marked.
@@ -64,7 +74,8 @@ pub record MayBegin {A : Type 0} (s : View) (parts : Parts A) (f : Conflict) (x 
 
 -- each marked variable is listed, and each listed one has a flag
 pub record MarksAreListed (x : Marking) : Type 0 where
-  pub marked : (v : ℕ) → IsFlagged x.flags v → v ∈ x.to_clean
+  pub marked : (v : ℕ) → IsFlagged x.flags v → (v ∈ x.met) ⊎ (v ∈ x.to_clean)
+  pub met : (v : ℕ) → v ∈ x.met → v < length x.flags
   pub listed : (v : ℕ) → v ∈ x.to_clean → v < length x.flags
 
 -- the literal is false, at a level above 0 and below the current one, and one of a kept clause
@@ -74,17 +85,18 @@ pub record IsLower (s : View) (m : Literal) : Type 0 where
   pub below : level_of s m < current_level s
   pub of_kept : IsOfKept s m
 
--- The variable is that of a literal of the clause and listed, or that of a literal of the current level before place i.
+-- The variable is that of a literal of the clause and was met, or that of a literal of the current level before place i.
 pub data IsMarkOf (s : View) (i : ℕ) (x : Marking) (v : ℕ) : Type 0 where
-  OfClause : (m : Literal) → m ∈ x.clause → variable_of m ≡ v → v ∈ x.to_clean → IsMarkOf s i x v
+  OfClause : (m : Literal) → m ∈ x.clause → variable_of m ≡ v → v ∈ x.met → IsMarkOf s i x v
   OfCurrentLevel : (k : ℕ) → k < i → IsOfCurrentLevel s k → variable_of (literal_at s k) ≡ v → IsMarkOf s i x v
 
--- The clause's literals are false, of levels between 0 and the current one. The marked variables are theirs, which are listed,
+-- The clause's literals are false, of levels between 0 and the current one. The marked variables are theirs, which were met,
 -- and some of the current level that stand before place i.
 pub record Marks (s : View) (i : ℕ) (x : Marking) : Type 0 where
   pub lower : (m : Literal) → m ∈ x.clause → IsLower s m
   pub marked : (m : Literal) → m ∈ x.clause → IsFlagged x.flags (variable_of m)
   pub distinct : IsDistinct x.clause
+  pub met : (v : ℕ) → v ∈ x.met → v < length s.nodes
   pub listed : (v : ℕ) → v ∈ x.to_clean → v < length s.nodes
   pub known : (v : ℕ) → IsFlagged x.flags v → IsMarkOf s i x v
 
@@ -110,6 +122,15 @@ AreFalseBefore s i lits = (m : Literal) → m ∈ lits → StandsBefore s i (opp
 abbrev pub AreOfKept : View → List Literal → Type 0
 AreOfKept s lits = (m : Literal) → m ∈ lits → IsOfKept s m
 
+-- The variables that were met since are those of the literals above level 0 that were not marked, each once.
+pub record MeetsNew (s : View) (lits : List Literal) (x y : Marking) : Type 0 where
+  pub since : List ℕ
+  pub longer : y.met ≡ x.met ++ since
+  pub distinct : IsDistinct since
+  pub only : (v : ℕ) → v ∈ since → (l : Literal) × (l ∈ lits) × (0 < level_of s l) × (variable_of l ≡ v)
+  pub fresh : (v : ℕ) → v ∈ since → slice_index_or x.flags v false ≡ false
+  pub listed : (v : ℕ) → IsFlagged y.flags v → IsFlagged x.flags v ⊎ (v ∈ since)
+
 -- False literals were marked, those above level 0 in so far as they weren't, and joined the clause where they are below the
 -- current level. As many as `count` of the current level are new.
 pub record AddsMarks (s : View) (lits : List Literal) (count : ℕ) (x y : Marking) : Type 0 where
@@ -119,6 +140,7 @@ pub record AddsMarks (s : View) (lits : List Literal) (count : ℕ) (x y : Marki
   pub longer : x.clause ⊆ y.clause
   pub marks : (i : ℕ) → AreFalseBefore s i lits → AreOfKept s lits → i ≤ length s.trail → Marks s i x → Marks s i y
   pub counted : (i : ℕ) → AreFalseBefore s i lits → i ≤ length s.trail → open_below s y.flags i ≡ open_below s x.flags i + count
+  pub met : MeetsNew s lits x y
   pub involved : y.involved ≡ x.involved
 
 -- The literal's reason was listed, and the other literals of the reason added.
@@ -134,6 +156,7 @@ pub record IsResolved (s : View) (f : Conflict) (first : Literal) (x : Marking) 
   pub follows : (held : List Clause) → ViewFits held s → Follows held (first ∷ x.clause)
   pub marks : Marks s 0 x
   pub involved : ListsInvolved s f x.involved
+  pub met : AreVariablesAbove s.nodes (literals_among s.clauses x.involved) x.met
 
 -- What minimization leaves of the literals below the current level: the clause with the first literal follows where it did before.
 pub record IsMinimized (s : View) (others left : Clause) : Type 0 where
@@ -146,6 +169,7 @@ pub record Minimizes (s : View) (x y : Marking) : Type 0 where
   pub minimized : IsMinimized s x.clause y.clause
   pub cleaned : MarksAreListed y
   pub involved : y.involved ≡ x.involved
+  pub met : y.met ≡ x.met
 
 -- What a conflict above level 0 teaches, and from which clauses.
 pub record Teaches (s : View) (f : Conflict) (c : Clause) (involved : List Conflict) (level : ℕ) : Type 0 where

@@ -33,6 +33,7 @@ pub record ListsNew (x y : Marking) : Type 0 where
   pub fresh : (v : ℕ) → v ∈ since → slice_index_or x.flags v false ≡ false
   pub clause : y.clause ≡ x.clause
   pub involved : y.involved ≡ x.involved
+  pub met : y.met ≡ x.met
 
 -- Of false literals those above level 0 were marked, in so far as they weren't, and their opposites, which are implied, put on
 -- the stack; all of them where it was `done`.
@@ -56,6 +57,7 @@ pub record IsAsBefore (x y : Marking) : Type 0 where
   pub to_clean : y.to_clean ≡ x.to_clean
   pub clause : y.clause ≡ x.clause
   pub involved : y.involved ≡ x.involved
+  pub met : y.met ≡ x.met
 
 -- What the search for the literal's redundancy leaves, by its result.
 abbrev pub TellsRedundancy : View → Literal → Bool → Marking → Marking → Type 0

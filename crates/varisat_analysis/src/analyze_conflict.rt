@@ -7,6 +7,7 @@ ghost use Rattle.varisat_prop.specs.View.{View, level_of, WellFormed, LevelsSett
 ghost use Rattle.varisat_prop.specs.Changes.{IsConflicting};
 ghost use Rattle.varisat_analysis.specs.Learned.{no_analysis, names_of, Shows, IsLevelOf, IsLearned, AreInvolved};
 ghost use Rattle.varisat_analysis.specs.Marks.{Sees, CanMark, marking, MayBegin, MarksAreListed, Marks, AddsMarks, AddsReason, IsResolved, Minimizes, Teaches};
+ghost use Rattle.varisat_analysis.specs.Bumps.{literals_among, AreVariablesAbove};
 ghost use Rattle.varisat_analysis.specs.Redundancy.{Explores, TellsRedundancy};
 
 use crate::glue::LevelAbstraction;
@@ -16,8 +17,8 @@ use varisat_literals::{Lit, Var};
 use varisat_prop::clause::ClauseAlloc;
 use varisat_prop::prop::{Conflict, ImplGraph, Reason, Trail};
 
-/// The learned clause, the clauses that it came from, and a flag for each variable. The flags are false between calls,
-/// also after a call that was out of memory.
+/// The learned clause, the clauses that it came from, their variables above level 0, and a flag for each variable. The
+/// flags are false between calls, also after a call that was out of memory.
 #[derive(Drop)]
 pub struct AnalyzeConflict<A: Allocator + Copy> {
     scratch: Scratch<A>,
@@ -31,7 +32,9 @@ struct Scratch<A: Allocator + Copy> {
     clause: Vec<Lit, A>,
     /// The clauses that were resolved.
     involved: Vec<Conflict, A>,
-    /// The variables whose flags are to be cleared.
+    /// The variables above level 0 of the clauses that were resolved, each once.
+    met: Vec<Var, A>,
+    /// The variables that minimization marked.
     to_clean: Vec<Var, A>,
     /// True literals whose reasons the search for a redundant literal has still to look at.
     stack: Vec<Lit, A>,
@@ -51,7 +54,12 @@ impl<A: Allocator + Copy> Model for AnalyzeConflict<A> {
 
     ghost Value = { Analysis };
 
-    ghost view = { λ a. record { clause = a.scratch.clause.items; involved = a.scratch.involved.items; var_count = length a.var_flags.items } };
+    ghost view = { λ a. record {
+      clause = a.scratch.clause.items;
+      involved = a.scratch.involved.items;
+      met = a.scratch.met.items;
+      var_count = length a.var_flags.items;
+    } };
 
     ghost invariant = { λ a. (v : ℕ) → slice_index_or a.var_flags.items v false ≡ false };
 }
@@ -65,6 +73,7 @@ impl<A: Allocator + Copy> AnalyzeConflict<A> {
             scratch: Scratch {
                 clause: Vec::new(alloc),
                 involved: Vec::new(alloc),
+                met: Vec::new(alloc),
                 to_clean: Vec::new(alloc),
                 stack: Vec::new(alloc),
             },
@@ -86,6 +95,13 @@ impl<A: Allocator + Copy> AnalyzeConflict<A> {
         ensures { result.now ≡ self.now.clause }
     {
         self.scratch.clause.as_slice()
+    }
+
+    /// The variables above level 0 of the clauses that were resolved, each once.
+    pub fn met(&self) -> &[Var]
+        ensures { result.now ≡ self.now.met }
+    {
+        self.scratch.met.as_slice()
     }
 
     /// The clauses that were resolved to make the learned one.
@@ -141,11 +157,11 @@ fn add_literals<A: Allocator + Copy>(
         let Some(level) = level_to_mark(parts, var_flags, *lit) else {
             continue;
         };
+        scratch.met.push(lit.var())?;
         if level == current {
             count += 1;
         } else {
             scratch.clause.push(*lit)?;
-            scratch.to_clean.push(lit.var())?;
         }
         var_flags[lit.index()] = true;
     }
@@ -379,8 +395,7 @@ fn put_highest_first<A: Allocator + Copy>(parts: Parts<'_, A>, clause: &mut Vec<
     parts.impl_graph.level(clause[0].var())
 }
 
-/// Learns a clause from a conflict above level 0. Returns the level to backtrack to. The marked variables are those to
-/// clean.
+/// Learns a clause from a conflict above level 0. Returns the level to backtrack to. The marked variables are listed.
 fn learn<A: Allocator + Copy>(
     parts: Parts<'_, A>,
     scratch: &mut Scratch<A>,
@@ -390,6 +405,7 @@ fn learn<A: Allocator + Copy>(
     ghost s: { View }
     requires { MayBegin s parts conflict (marking scratch.old var_flags.old) }
     ensures teaches { IfOk result (λ level. Teaches s conflict scratch.new.clause.items scratch.new.involved.items level) }
+    ensures met { OnOk result (AreVariablesAbove s.nodes (literals_among s.clauses scratch.new.involved.items) scratch.new.met.items) }
     ensures cleaned { OnOk result (MarksAreListed (marking scratch.new var_flags.new)) }
 {
     let first = resolve(parts, scratch, var_flags, conflict)?;
@@ -412,9 +428,11 @@ fn learn_and_clear<A: Allocator + Copy>(
     requires { MayBegin s parts conflict (marking scratch.old var_flags.old) }
     ensures unmarked { (v : ℕ) → slice_index_or var_flags.new v false ≡ false }
     ensures teaches { IfOk result (λ level. Teaches s conflict scratch.new.clause.items scratch.new.involved.items level) }
+    ensures met { OnOk result (AreVariablesAbove s.nodes (literals_among s.clauses scratch.new.involved.items) scratch.new.met.items) }
 {
     match learn(parts, scratch, var_flags, conflict) {
         Ok(level) => {
+            clear_flags(var_flags, &scratch.met);
             clear_flags(var_flags, &scratch.to_clean);
             Ok(level)
         }
@@ -443,6 +461,7 @@ pub fn analyze_conflict<A: Allocator + Copy>(
     ensures count { analyze.new.var_count ≡ analyze.old.var_count }
     ensures learned { IfOk result (λ level. IsLearned s conflict analyze.new.clause level) }
     ensures involved { OnOk result (AreInvolved s conflict analyze.new.involved) }
+    ensures met { OnOk result (AreVariablesAbove s.nodes (literals_among s.clauses analyze.new.involved) analyze.new.met) }
 {
     let parts = Parts {
         clause_alloc,
@@ -451,6 +470,7 @@ pub fn analyze_conflict<A: Allocator + Copy>(
     };
     analyze.scratch.clause.clear();
     analyze.scratch.involved.clear();
+    analyze.scratch.met.clear();
     analyze.scratch.to_clean.clear();
     if trail.current_level() == 0 {
         return Ok(0);

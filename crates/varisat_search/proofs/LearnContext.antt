@@ -16,7 +16,7 @@ use Rattle.varisat_prop.proofs.TrailValues.{trail-true}
 use Rattle.varisat_prop.proofs.LongVisited.{listed}
 use Rattle.varisat_prop.specs.View.{View, kept, WellFormed, LevelsSettled}
 use Rattle.varisat_prop.specs.Watches.{Watches, IsPropagated}
-use Rattle.varisat_prop.specs.Changes.{enqueued, NamesKeptClause, NamesPlace, IsConflicting}
+use Rattle.varisat_prop.specs.Changes.{enqueued, NamesPlace, IsConflicting}
 use Rattle.varisat_vsids.specs.Activities.{Activities}
 use Rattle.varisat_search.specs.declared.context.Context.{Context}
 use Rattle.varisat_search.specs.declared.state.SatState.TheVariants as verdict
@@ -33,7 +33,7 @@ use Rattle.varisat_search.specs.Decisions.{HasActivities, AreDecidable, SameDeci
 use Rattle.varisat_clause.specs.Stores.{Store}
 use Rattle.varisat_clause.specs.Collected.{live_clauses}
 use Rattle.varisat_clause.specs.ClauseActivities.{ActivityScale}
-use Rattle.varisat_analysis.specs.Bumps.{BumpsInvolved, literals_among}
+use Rattle.varisat_analysis.specs.Bumps.{BumpsInvolved, AreVariablesAbove, literals_among}
 use Rattle.varisat_analysis.specs.Assessments.{BumpsClauses, IsAssigned}
 use Rattle.varisat_analysis.specs.HeaderChanges.{SameButHeaders, ChangesHeaders}
 use Rattle.varisat_search.proofs.HeaderChanges.{header-seen}
@@ -173,16 +173,16 @@ pub record Analysing {A : Type 0} (x0 x : Context A) (i : Conflict) (level : ℕ
   pub learned : IsLearned (view x0) i x.analyze_conflict.clause level
 
 pub analyzed-bumped : {A : Type 0} {x0 x x1 : Context A} {i : Conflict} {level : ℕ} → Analysing x0 x i level →
-    x1 ≡ record x { tmp_flags = x1.tmp_flags; vsids = x1.vsids } → x1.tmp_flags.flags.items ≡ x.tmp_flags.flags.items →
-    x1.vsids.available ≡ x.vsids.available → x1.vsids.decay ≡ x.vsids.decay → HasActivities (view x1) x1.vsids → Analyzed x0 x1 i level
-analyzed-bumped {A} {x0} {x} {x1} {i} {level} d k f a q e =
+    x1 ≡ record x { vsids = x1.vsids } → x1.vsids.available ≡ x.vsids.available → x1.vsids.decay ≡ x.vsids.decay →
+    HasActivities (view x1) x1.vsids → Analyzed x0 x1 i level
+analyzed-bumped {A} {x0} {x} {x1} {i} {level} d k a q e =
     let analysis : x1.analyze_conflict ≡ x.analyze_conflict = ap (λ (y : Context A). y.analyze_conflict) k in
     record {
       ready = d.ready;
       unknown = d.unknown;
       analyzed = subst (λ (y : Context A). ChangesAnalyzed x0 y) (sym k)
-          (subst (λ (y : Context A). ChangesAnalyzed x0 (record y { tmp_flags = x1.tmp_flags; vsids = x1.vsids })) (sym d.kept) refl);
-      flags = f ∙ ap (λ (y : Context A). y.tmp_flags.flags.items) d.kept;
+          (subst (λ (y : Context A). ChangesAnalyzed x0 (record y { vsids = x1.vsids })) (sym d.kept) refl);
+      flags = ap (λ (y : Context A). y.tmp_flags.flags.items) k ∙ ap (λ (y : Context A). y.tmp_flags.flags.items) d.kept;
       available = a ∙ ap (λ (y : Context A). y.vsids.available) d.kept;
       decay = q ∙ ap (λ (y : Context A). y.vsids.decay) d.kept;
       entries = e;
@@ -196,14 +196,13 @@ pub analysis-ready : {A : Type 0} {x0 x : Context A} → ChangesAnalysis x0 x �
 analysis-ready {x0 = x0} {x = x} k r n = subst IsReady (sym k)
     (ready-with x0 (record x0 { analyze_conflict = x.analyze_conflict; counters = x.counters }) r refl n refl r.propagated r.decidable r.assumed r.assumable)
 
-pub involved-named : {A : Type 0} (x0 x : Context A) (i : Conflict) → ChangesAnalysis x0 x →
-    AreInvolved (view x0) i x.analyze_conflict.involved → (f : Conflict) → f ∈ x.analyze_conflict.involved → NamesKeptClause (view x) f
-involved-named {A} x0 x i k a f h =
-    subst (λ (y : Context A). NamesKeptClause (view y) f) (sym k)
-    (⊎_elim (λ o. (a.above o).named f h) (λ z. none-there (a.at_zero (omega (arith, z))) h) (cases_lt 0 (length (view x0).decisions)))
-  where
-    none-there : {X : Type 0} {fs : List Conflict} → fs ≡ [] → f ∈ fs → X
-    none-there e j = absurd (subst (λ qs. f ∈ qs) e j)
+-- so that the variables that it met are those of the view after it too
+pub analysis-met : {A : Type 0} (x0 x : Context A) → ChangesAnalysis x0 x →
+    AreVariablesAbove (view x0).nodes (literals_among (view x0).clauses x.analyze_conflict.involved) x.analyze_conflict.met →
+    AreVariablesAbove (view x).nodes (literals_among (view x).clauses x.analyze_conflict.involved) x.analyze_conflict.met
+analysis-met {A} x0 x k m =
+    subst (λ s. AreVariablesAbove s.nodes (literals_among s.clauses x.analyze_conflict.involved) x.analyze_conflict.met)
+    (sym (ap (λ (y : Context A). view y) k)) m
 
 pub bumps-learned : {A : Type 0} (x0 x x1 z : Context A) → ChangesAnalysis x0 x →
     (0 < length x.trail.decisions → BumpsInvolved (view x) x.analyze_conflict.involved x.vsids x1.vsids) → z.analyze_conflict ≡ x.analyze_conflict →

@@ -1,37 +1,29 @@
 //! What a conflict does to the activities of variables.
 ghost use Rattle.std.specs.Prelude.{◌≡◌, ◌<◌, [], length};
-ghost use Rattle.varisat_theory.specs.Membership.{◌∈◌};
-ghost use Rattle.varisat_prop.specs.Changes.{NamesKeptClause};
-ghost use Rattle.varisat_analysis.specs.Bumps.{BumpsInvolved};
+ghost use Rattle.varisat_analysis.specs.Bumps.{literals_among, AreVariablesAbove, BumpsInvolved};
 ghost use Rattle.varisat_search.specs.Contexts.{view, IsReady};
 ghost use Rattle.varisat_search.specs.Decisions.{HasActivities};
 
 use crate::context::Context;
 use std::alloc::Allocator;
-use varisat_analysis::bumps::bump_each_once;
+use varisat_analysis::bumps::bump_each;
 
 /// Bumps each variable above level 0 of the clauses that the conflict was analysed with, once, and then lets activities
 /// decay. Without decisions nothing happens.
 pub fn bump_involved<A: Allocator + Copy>(ctx: &mut Context<A>)
     requires ready { IsReady ctx.old }
-    requires named { (f : _) → f ∈ ctx.old.analyze_conflict.involved → NamesKeptClause (view ctx.old) f }
+    requires met { AreVariablesAbove (view ctx.old).nodes (literals_among (view ctx.old).clauses ctx.old.analyze_conflict.involved)
+        ctx.old.analyze_conflict.met }
     ensures undecided { ctx.old.trail.decisions ≡ [] → ctx.new ≡ ctx.old }
     ensures bumps { 0 < length ctx.old.trail.decisions → BumpsInvolved (view ctx.old) ctx.old.analyze_conflict.involved ctx.old.vsids ctx.new.vsids }
     ensures available { ctx.new.vsids.available ≡ ctx.old.vsids.available }
     ensures decay { ctx.new.vsids.decay ≡ ctx.old.vsids.decay }
     ensures entries { HasActivities (view ctx.new) ctx.new.vsids }
-    ensures flags { ctx.new.tmp_flags.flags.items ≡ ctx.old.tmp_flags.flags.items }
-    ensures kept { ctx.new ≡ record ctx.old { tmp_flags = ctx.new.tmp_flags; vsids = ctx.new.vsids } }
+    ensures kept { ctx.new ≡ record ctx.old { vsids = ctx.new.vsids } }
 {
     if ctx.trail.current_level() == 0 {
         return;
     }
-    bump_each_once(
-        &mut ctx.vsids,
-        &mut ctx.tmp_flags.flags,
-        &ctx.impl_graph,
-        &ctx.clause_alloc,
-        ctx.analyze_conflict.involved(),
-    );
+    bump_each(&mut ctx.vsids, ctx.analyze_conflict.met());
     ctx.vsids.decay();
 }

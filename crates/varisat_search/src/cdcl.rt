@@ -18,7 +18,7 @@ ghost use Rattle.varisat_search.specs.Steps.{SavesSome};
 ghost use Rattle.varisat_search.specs.Seen.{search_of};
 ghost use Rattle.varisat_theory.specs.Journals.{Fails};
 ghost use Rattle.varisat_trace.specs.Traces.{TakesLines, TakesStep, TellsLines, BreaksOff, faults_of, CanTake, CanFail, HoldsFor};
-ghost use Rattle.varisat_analysis.specs.Bumps.{BumpsInvolved};
+ghost use Rattle.varisat_analysis.specs.Bumps.{literals_among, AreVariablesAbove, BumpsInvolved};
 ghost use Rattle.varisat_analysis.specs.Assessments.{glue_of, assessed, BumpsClauses};
 ghost use Rattle.varisat_search.specs.AssumptionParts.{TakesOutImplied, EndsAssumed, HasFailed};
 ghost use Rattle.varisat_search.specs.Conflicts.{Stops, Keeping, IsKeptAsReason, IsStoredAsReason, IsWatchedAsReason};
@@ -179,6 +179,8 @@ fn analyze<A: Allocator + Copy>(
     ensures count { ctx.new.analyze_conflict.var_count ≡ ctx.old.analyze_conflict.var_count }
     ensures learned { IfOk result (λ level. IsLearned (view ctx.old) conflict ctx.new.analyze_conflict.clause level) }
     ensures involved { OnOk result (AreInvolved (view ctx.old) conflict ctx.new.analyze_conflict.involved) }
+    ensures met { OnOk result (AreVariablesAbove (view ctx.old).nodes (literals_among (view ctx.old).clauses ctx.new.analyze_conflict.involved)
+        ctx.new.analyze_conflict.met) }
 {
     let level = analyze_conflict(
         &mut ctx.analyze_conflict,

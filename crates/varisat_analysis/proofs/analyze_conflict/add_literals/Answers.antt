@@ -3,7 +3,7 @@ use Rattle.std.proofs.Common.{true, length, set, sym, ap, ◌∙◌, arith}
 use Rattle.varisat_analysis.specs.Marks.{marking}
 use Rattle.varisat_analysis.proofs.AnalysisMarks.{is-at, can-still, added-none, added-late, added-lower}
 use Rattle.varisat_analysis.proofs.analyze_conflict.add_literals.Goals as goal
-use Rattle.varisat_analysis.proofs.analyze_conflict.add_literals.Goals.{then-level-current, else-level-current+in_ok-push+in_ok-push-2}
+use Rattle.varisat_analysis.proofs.analyze_conflict.add_literals.Goals.{then-level-current, else-level-current+in_ok-push-2}
 
 pub level_to_mark-requires : goal.level_to_mark-requires
 level_to_mark-requires g c κs within =
@@ -30,13 +30,15 @@ loop-lit-preserved g c =
     elim c.if-level-current.branch [
       | then-level-current w ↦ record {
         adds = added-late sees.well p c.loop-lit.invariant.adds c.if-level-current.count c.index.result c.index.ensures.index f marked w.count-is
-            (sym lv ∙ w.if-level-current.true ∙ current) (ap (λ x. marking x (set c.loop-lit.var_flags c.index.result true)) w.scratch-is);
+            (omega (arith, lv, above)) (sym lv ∙ w.if-level-current.true ∙ current) _ c.var.result c.in_ok-push.ensures.items c.var.ensures
+            (ap (λ x. marking x (set c.loop-lit.var_flags c.index.result true)) w.scratch-is);
         small = let x = w.count-is in omega (arith, s, x);
       }
-      | else-level-current+in_ok-push+in_ok-push-2 w ↦ record {
+      | else-level-current+in_ok-push-2 w ↦ record {
         adds = added-lower sees.well p c.loop-lit.invariant.adds c.if-level-current.count c.index.result c.index.ensures.index f marked w.count-is
-            (omega (arith, lv, above)) (λ q. w.if-level-current.false (lv ∙ q ∙ sym current)) _ _ w.var.result w.in_ok-push.ensures.items
-            w.in_ok-push-2.ensures.items w.var.ensures (ap (λ x. marking x (set c.loop-lit.var_flags c.index.result true)) w.scratch-is);
+            (omega (arith, lv, above)) (λ q. w.if-level-current.false (lv ∙ q ∙ sym current)) _ _ c.var.result
+            w.in_ok-push-2.ensures.items c.in_ok-push.ensures.items c.var.ensures
+            (ap (λ x. marking x (set c.loop-lit.var_flags c.index.result true)) w.scratch-is);
         small = let x = w.count-is in omega (arith, s, x);
       }
     ]

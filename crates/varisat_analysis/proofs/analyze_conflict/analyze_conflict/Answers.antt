@@ -2,7 +2,7 @@ use Rattle.std.proofs.lemmas.Grind.{common_steps}
 use Rattle.std.proofs.Common.{◌≡◌, false, length, drop, get_or, refl, sym, ap, ◌∙◌, subst, arith}
 use Rattle.varisat_analysis.specs.Learned.{Analysis}
 use Rattle.varisat_analysis.proofs.AnalysisFlags.{given-back}
-use Rattle.varisat_analysis.proofs.AnalysisResult.{learned-at-zero}
+use Rattle.varisat_analysis.proofs.AnalysisResult.{learned-at-zero, met-none}
 use Rattle.varisat_analysis.proofs.analyze_conflict.analyze_conflict.Goals as goal
 
 pub returns-then-current_level-eq0-clause-learned : goal.returns-then-current_level-eq0-clause-learned
@@ -10,6 +10,9 @@ returns-then-current_level-eq0-clause-learned g c =
     let (_, (shows, (well, (_, (conflict, _))))) = c.requires in
     learned-at-zero g.s well c.args.conflict c.clear.new.self.items 0 conflict
     (sym (ap (λ x. length x) shows.decisions_are) ∙ sym c.current_level.ensures ∙ c.if-current_level-eq0.true) c.clear.ensures.items refl
+
+pub returns-then-current_level-eq0-clause-met : goal.returns-then-current_level-eq0-clause-met
+returns-then-current_level-eq0-clause-met g c = met-none g.s c.clear-2.new.self.items c.clear-3.new.self.items c.clear-2.ensures.items c.clear-3.ensures.items
 
 pub learn_and_clear-requires : goal.learn_and_clear-requires
 learn_and_clear-requires g c κs within =
@@ -39,7 +42,8 @@ learn_and_clear-requires g c κs within =
           clause =
               c.clear.ensures.items;
           involved = c.clear-2.ensures.items;
-          to_clean = c.clear-3.ensures.items;
+          met = c.clear-3.ensures.items;
+          to_clean = c.clear-4.ensures.items;
         };
       },
     )

@@ -1,7 +1,7 @@
 use Rattle.std.proofs.Common.{refl}
 use Rattle.varisat_analysis.proofs.WellFormedViews.{inside}
 use Rattle.varisat_analysis.proofs.AnalysisMarks.{can-still}
-use Rattle.varisat_analysis.proofs.AnalysisResult.{learned-teaches}
+use Rattle.varisat_analysis.proofs.AnalysisResult.{learned-teaches, learned-met}
 use Rattle.varisat_analysis.proofs.analyze_conflict.learn.Goals as goal
 
 pub minimize-requires : goal.minimize-requires
@@ -19,3 +19,10 @@ returns-clause-teaches g c =
     (c.in_ok-minimize.ensures {u = tt}) c.put_highest_first-level.new.clause.items c.insert.new.self.items
     c.put_highest_first-level.ensures.same c.put_highest_first-level.ensures.distinct c.in_ok-insert.ensures.items
     c.put_highest_first-level.result c.minimize.new.scratch.involved.items c.put_highest_first-level.ensures.level refl
+
+pub returns-clause-met : goal.returns-clause-met
+returns-clause-met g c =
+    learned-met c.requires.1.can.sees.well (c.in_ok-first.ensures {u = tt})
+    (c.in_ok-minimize.ensures {u = tt}) c.put_highest_first-level.new.clause.items c.insert.new.self.items
+    c.put_highest_first-level.ensures.same c.put_highest_first-level.ensures.distinct c.in_ok-insert.ensures.items
+    c.minimize.new.scratch.involved.items c.minimize.new.scratch.met.items refl refl

@@ -18,7 +18,7 @@ use Rattle.varisat_analysis.specs.Assessments.{glue_of, assessed}
 use Rattle.varisat_search.specs.Conflicts.{IsStoredAsReason}
 use Rattle.varisat_vsids.specs.Activities.{Activities}
 use Rattle.varisat_analysis.proofs.BumpedClauses.{tier-redundant}
-use Rattle.varisat_search.proofs.LearnContext.{analysis-ready, involved-named, bumps-learned, cut-activities, Analyzed, analyzed-bumped, analyzed-well, analyzed-tracks, analyzed-clear, learned-assigned, analyzed-named, analyzed-assigned, with_store, analyzed-noted, noted-further, noted-saves, noted-bumps, analyzed-flags, Backtracked, learned-length, learned-count, saves-some, learned-listed, learned-paired, learned-tracks, Learning, learning-free, learning-node, learning-further, learning-activities, learning-fixed, refuted-undecided, refuted-further}
+use Rattle.varisat_search.proofs.LearnContext.{analysis-ready, analysis-met, bumps-learned, cut-activities, Analyzed, analyzed-bumped, analyzed-well, analyzed-tracks, analyzed-clear, learned-assigned, analyzed-named, analyzed-assigned, with_store, analyzed-noted, noted-further, noted-saves, noted-bumps, analyzed-flags, Backtracked, learned-length, learned-count, saves-some, learned-listed, learned-paired, learned-tracks, Learning, learning-free, learning-node, learning-further, learning-activities, learning-fixed, refuted-undecided, refuted-further}
 use Rattle.varisat_search.proofs.cdcl.learn.Given.{Over}
 use Rattle.varisat_search.proofs.cdcl.learn.Goals.{After-backtrack, In_ok-reason, In_ok-enqueue_assignment}
 use Rattle.varisat_search.proofs.cdcl.learn.Goals as goal
@@ -27,8 +27,8 @@ use Rattle.varisat_trace.specs.Traces.{TakesLines}
 pub bump_involved-requires-clause-ready : goal.bump_involved-requires-clause-ready
 bump_involved-requires-clause-ready g c = analysis-ready c.analyze.ensures.kept c.requires.ready c.analyze.ensures.count
 
-pub bump_involved-requires-clause-named : goal.bump_involved-requires-clause-named
-bump_involved-requires-clause-named g c = involved-named c.args.ctx.now c.analyze.new.ctx c.args.conflict c.analyze.ensures.kept c.in_ok-level.ensures.involved
+pub bump_involved-requires-clause-met : goal.bump_involved-requires-clause-met
+bump_involved-requires-clause-met g c = analysis-met c.args.ctx.now c.analyze.new.ctx c.analyze.ensures.kept c.in_ok-level.ensures.met
 
 pub bump_involved_clauses-requires : goal.bump_involved_clauses-requires
 bump_involved_clauses-requires g c =
@@ -42,7 +42,7 @@ bump_involved_clauses-requires g c =
       learned =
           c.in_ok-level.ensures.learned;
     })
-    c.bump_involved.ensures.kept c.bump_involved.ensures.flags c.bump_involved.ensures.available c.bump_involved.ensures.decay
+    c.bump_involved.ensures.kept c.bump_involved.ensures.available c.bump_involved.ensures.decay
     c.bump_involved.ensures.entries in
     let a = subst (λ (x : Analysis). AreInvolved (view c.args.ctx.now) c.args.conflict x.involved)
     (sym (ap analysis c.bump_involved.ensures.kept)) c.in_ok-level.ensures.involved in
@@ -66,7 +66,7 @@ assess_learned-header-requires g c =
       learned =
           c.in_ok-level.ensures.learned;
     })
-    c.bump_involved.ensures.kept c.bump_involved.ensures.flags c.bump_involved.ensures.available c.bump_involved.ensures.decay
+    c.bump_involved.ensures.kept c.bump_involved.ensures.available c.bump_involved.ensures.decay
     c.bump_involved.ensures.entries in
     let e = analyzed-noted c.bump_involved_clauses.new.ctx d c.bump_involved_clauses.ensures.tracks c.bump_involved_clauses.ensures.headers
     c.bump_involved_clauses.ensures.kept c.bump_involved_clauses.ensures.flags in
@@ -83,7 +83,7 @@ backtrack-requires-clause-well g c =
       learned =
           c.in_ok-level.ensures.learned;
     })
-    c.bump_involved.ensures.kept c.bump_involved.ensures.flags c.bump_involved.ensures.available c.bump_involved.ensures.decay
+    c.bump_involved.ensures.kept c.bump_involved.ensures.available c.bump_involved.ensures.decay
     c.bump_involved.ensures.entries in
     let e = analyzed-noted c.bump_involved_clauses.new.ctx d c.bump_involved_clauses.ensures.tracks c.bump_involved_clauses.ensures.headers
     c.bump_involved_clauses.ensures.kept c.bump_involved_clauses.ensures.flags in
@@ -101,7 +101,7 @@ begun g c =
       learned =
           c.in_ok-level.ensures.learned;
     })
-    c.bump_involved.ensures.kept c.bump_involved.ensures.flags c.bump_involved.ensures.available c.bump_involved.ensures.decay c.bump_involved.ensures.entries
+    c.bump_involved.ensures.kept c.bump_involved.ensures.available c.bump_involved.ensures.decay c.bump_involved.ensures.entries
 
 undone : (g : Over) (c : After-backtrack g) → Backtracked (with_store c.args.ctx.now c.bump_involved_clauses.new.ctx)
     c.assess_learned-header.new.ctx c.backtrack.new.ctx c.args.conflict c.in_ok-level.level

@@ -11,7 +11,7 @@ use Rattle.varisat_search.specs.Seen.{search_of}
 use Rattle.varisat_search.specs.ProvedUnits.{HaveUnits, ProvesUnits, implied_units, units_in}
 use Rattle.varisat_search.proofs.ProvedUnits.{none-left, units-ready}
 use Rattle.varisat_search.proofs.ProvedUnitLines.{with_units, lines-prove, units-prove}
-use Rattle.varisat_trace.specs.Traces.{CanTake}
+use Rattle.varisat_trace.specs.Traces.{TakesLines, CanTake}
 use Rattle.varisat_trace.proofs.Traced.{can_take}
 use Rattle.varisat_analysis.proofs.WellFormedViews.{inside-at}
 use Rattle.varisat_search.proofs.unit_simplify.prove_units.Given.{Over}
@@ -47,6 +47,11 @@ forget_reasons-requires g c l h =
     let x = c.args.ctx.now in
     let (k, a, e) = place_in l x.trail.literals 0 (subst (λ ls. l ∈ ls) c.trail-2.ensures h) in
     subst (λ m. variable_of m < length x.impl_graph.nodes.items) e (inside-at (view x) c.requires.ready.well k a)
+
+pub returns-clause-takes : goal.returns-clause-takes
+returns-clause-takes g c none =
+    subst (λ (ls : List Literal). TakesLines g.P.ProofTracer.takes c.args.proof.now (unit_lines (units_in c.args.ctx.now.impl_graph.nodes.items ls))
+    c.trace_units.new.proof) c.trail.ensures (c.in_ok-trace_units.ensures {u = tt})
 
 pub returns-clause-proves : goal.returns-clause-proves
 returns-clause-proves g c none =

@@ -1,5 +1,5 @@
 -- How sources stand and what reading does to them, and what targets took.
-use Rattle.std.specs.Prelude.{◌≡◌, ℕ, zero, suc, ◌+◌, ◌-◌, ◌^◌, ◌≤◌, min, max, List, ◌++◌, length, take, nat_lt, Bool, true, false, if◌then◌else◌, Option, Result, Ok, Err, MatchResult}
+use Rattle.std.specs.Prelude.{◌≡◌, ℕ, zero, suc, ◌+◌, ◌-◌, ◌^◌, ◌≤◌, ◌⊎◌, min, max, List, ◌++◌, length, take, drop, nat_lt, Bool, true, false, if◌then◌else◌, Option, Some, Result, Ok, Err, MatchResult}
 use Rattle.std.specs.Io.KnownBytes.{Consumes, IsAtEnd}
 
 -- the bytes that were given; those that are left, where they are known; how many pieces may still come; how many faults there
@@ -62,6 +62,10 @@ pub record CutTaken : Type 0 where
   pub failing_flush : ℕ
   pub part : ℕ
 
+-- the failing `put` took the part of the bytes, or none of them
+abbrev pub TakesPart : CutTaken → List ℕ → CutTaken → Type 0
+TakesPart old bytes new = (new.bytes ≡ old.bytes) ⊎ (new.bytes ≡ old.bytes ++ take old.part bytes)
+
 -- A source for tests: its text, how much of that it gave, how large its first and its other pieces are at most, how often it was
 -- asked, which call fails, its faults, and whether it told its end.
 pub record CutText : Type 0 where
@@ -79,3 +83,17 @@ abbrev pub piece_size : ℕ → ℕ → ℕ → ℕ
 piece_size zero (suc first) size = suc first
 piece_size zero zero size = max size 1
 piece_size (suc place) first size = max size 1
+
+-- how many bytes come next into a buffer with so much room
+abbrev pub piece_count : CutText → ℕ → ℕ
+piece_count s room = min (min (length (drop s.place s.text)) room) (piece_size s.place s.first s.size)
+
+-- how the source stands: it gave the text up to the place, and each further piece has a byte at least
+abbrev pub cut_stand : CutText → Stand
+cut_stand s = record {
+  given = take s.place s.text;
+  left = Some (drop s.place s.text);
+  pieces = length s.text - s.place;
+  faults = s.faults;
+  ended = s.ended;
+}

@@ -1,7 +1,7 @@
 //! A target and a source of which a chosen call fails, for tests of what comes of a fault.
-ghost use Rattle.std.specs.Prelude.{◌≡◌, ◌≢◌, ℕ, List, [], Some, ◌++◌, ◌+◌, ◌-◌, ◌<◌, ◌≤◌, ◌^◌, ◌⊎◌, length, take, drop, min, false, OnOk, OnErr, IfOk};
+ghost use Rattle.std.specs.Prelude.{◌≡◌, ◌≢◌, ℕ, List, [], Some, ◌++◌, ◌+◌, ◌-◌, ◌<◌, ◌≤◌, ◌^◌, length, take, drop, min, false, OnOk, OnErr, IfOk};
 ghost use Rattle.std.specs.Io.KnownBytes.{ReadConsumes};
-ghost use Rattle.varisat_formula.specs.Streams.{FillsFrom, ended_after, ended_at, counted, piece_size};
+ghost use Rattle.varisat_formula.specs.Streams.{FillsFrom, TakesPart, cut_stand, ended_after, ended_at, counted, piece_count, piece_size};
 
 use crate::io::{ByteSource, ProofTarget};
 use std::alloc::Allocator;
@@ -26,7 +26,15 @@ impl<A: Allocator + Copy> Model for CutTarget<A> {
 
     ghost Value = { CutTaken };
 
-    ghost view = { λ t. record { bytes = t.bytes.items; faults = t.faults; puts = t.puts; flushes = t.flushes; failing_put = t.failing_put; failing_flush = t.failing_flush; part = t.part } };
+    ghost view = { λ t. record {
+      bytes = t.bytes.items;
+      faults = t.faults;
+      puts = t.puts;
+      flushes = t.flushes;
+      failing_put = t.failing_put;
+      failing_flush = t.failing_flush;
+      part = t.part;
+    } };
 }
 
 impl<A: Allocator + Copy> CutTarget<A> {
@@ -96,7 +104,7 @@ impl<A: Allocator + Copy> CutTarget<A> {
 
     /// Appends the part that the failing `put` takes, or no byte.
     fn append_part(&mut self, bytes: &[u8])
-        ensures bytes { (self.new.bytes ≡ self.old.bytes) ⊎ (self.new.bytes ≡ self.old.bytes ++ take self.old.part bytes.now) }
+        ensures bytes { TakesPart self.old bytes.now self.new }
         ensures stays { self.new ≡ record self.old { bytes = self.new.bytes } }
     {
         let _ = self.append(&bytes[..self.part.min(bytes.len())]);
@@ -115,8 +123,7 @@ impl<A: Allocator + Copy> ProofTarget for CutTarget<A> {
         ensures fault { OnErr result (self.new.faults ≡ self.old.faults + 1) }
         ensures counts { self.new ≡ record self.old { bytes = self.new.bytes; faults = self.new.faults; puts = counted self.old.puts } }
         ensures cut { OnOk result (counted self.old.puts ≢ self.old.failing_put) }
-        ensures part { counted self.old.puts ≡ self.old.failing_put →
-            (self.new.bytes ≡ self.old.bytes) ⊎ (self.new.bytes ≡ self.old.bytes ++ take self.old.part bytes.now) }
+        ensures part { counted self.old.puts ≡ self.old.failing_put → TakesPart self.old bytes.now self.new }
         ensures none { OnErr result (counted self.old.puts ≢ self.old.failing_put → self.new.bytes ≡ self.old.bytes) }
     {
         self.puts = self.puts.saturating_add(1);
@@ -176,7 +183,16 @@ impl<'a> Model for CutSource<'a> {
 
     ghost Value = { CutText };
 
-    ghost view = { λ s. record { text = s.text.now; place = s.place; first = s.first; size = s.size; fills = s.fills; failing_fill = s.failing_fill; faults = s.faults; ended = s.ended } };
+    ghost view = { λ s. record {
+      text = s.text.now;
+      place = s.place;
+      first = s.first;
+      size = s.size;
+      fills = s.fills;
+      failing_fill = s.failing_fill;
+      faults = s.faults;
+      ended = s.ended;
+    } };
 }
 
 impl<'a> CutSource<'a> {
@@ -236,8 +252,7 @@ impl<'a> CutSource<'a> {
     fn give(&mut self, buffer: &mut [u8]) -> usize
         ensures bound { result ≤ length buffer.new }
         ensures len { length buffer.new ≡ length buffer.old }
-        ensures count { result ≡ min (min (length (drop self.old.place self.old.text)) (length buffer.new))
-            (piece_size self.old.place self.old.first self.old.size) }
+        ensures count { result ≡ piece_count self.old (length buffer.new) }
         ensures bytes { take result buffer.new ≡ take result (drop self.old.place self.old.text) }
         ensures moves { self.new ≡ record self.old { place = self.new.place; ended = self.new.ended } }
         ensures ended { self.new.ended ≡ ended_at self.old.ended result buffer.new }
@@ -259,10 +274,26 @@ impl<'a> CutSource<'a> {
 }
 
 impl<'a> ByteSource for CutSource<'a> {
-    ghost stand = { λ s. record { given = take s.place s.text; left = Some (drop s.place s.text); pieces = length s.text - s.place; faults = s.faults; ended = s.ended } };
+    ghost stand = { cut_stand };
 
     /// Fails where it is the chosen call, and else gives the next piece.
-    fn fill(&mut self, buffer: &mut [u8]) -> io::Result<usize> {
+    fn fill(&mut self, buffer: &mut [u8]) -> io::Result<usize>
+        requires { self.old.faults < 2 ^ 64 - 1 }
+        ensures bound { IfOk result (λ n. n ≤ length buffer.new) }
+        ensures bytes { ReadConsumes (cut_stand self.old).left (cut_stand self.new).left result buffer.new }
+        ensures gives { FillsFrom (cut_stand self.old).given (cut_stand self.new).given result buffer.new }
+        ensures ends { self.new.ended ≡ ended_after self.old.ended result buffer.new }
+        ensures pieces { IfOk result (λ n. 0 < n → (cut_stand self.new).pieces < (cut_stand self.old).pieces) }
+        ensures no_more { (cut_stand self.new).pieces ≤ (cut_stand self.old).pieces }
+        ensures quiet { OnOk result (self.new.faults ≡ self.old.faults) }
+        ensures fault { OnErr result (self.new.faults ≡ self.old.faults + 1) }
+        ensures counts { self.new ≡
+            record self.old { place = self.new.place; fills = counted self.old.fills; faults = self.new.faults; ended = self.new.ended } }
+        ensures cut { OnOk result (counted self.old.fills ≢ self.old.failing_fill) }
+        ensures chosen { OnErr result (counted self.old.fills ≡ self.old.failing_fill) }
+        ensures stays { OnErr result (self.new.place ≡ self.old.place) }
+        ensures count { IfOk result (λ n. n ≡ piece_count self.old (length buffer.new)) }
+    {
         self.fills = self.fills.saturating_add(1);
         if self.fills == self.failing_fill {
             self.faults += 1;

@@ -6,7 +6,7 @@ use Rattle.varisat_formula.specs.declared.dimacs.error.DimacsErrorKind.TheVarian
 use Rattle.varisat_formula.specs.Formulas.{Formula}
 use Rattle.varisat_formula.specs.Streams.{Stand, Reads, HasEnded}
 use Rattle.varisat_formula.specs.Dimacs.{is_blank, Ending, Ends, GoesOn, BreaksOff, gives, dimacs, so_far, broken}
-use Rattle.varisat_formula.specs.Rest.{Progress, begin, gives_from, dimacs_from, AdvancesBy, IsEnding, RunsOut, RunsOutIn, failing, failing_by}
+use Rattle.varisat_formula.specs.Rest.{Progress, begin, gives_from, AdvancesBy, IsEnding, RunsOutIn, failing, failing_by}
 use Rattle.varisat_formula.specs.Parsed.{EndsInFault, PieceHasFault, PieceWantsRoom, SourceFailed, TakesPiece, EndsToken, IsFaultOf, InText, AtEnd, WantsMemory, OfSource, Parses}
 use Rattle.varisat_formula.proofs.ParserMemory.{kept_by}
 use Rattle.varisat_formula.proofs.TargetParts.{put_part}

@@ -1,10 +1,10 @@
 -- Texts that are read with a call of a function for each piece.
-use Rattle.std.proofs.Common.{◌≡◌, [], ◌∷◌, ◌++◌, ◌⊎◌, inl, inr, Bool, true, false, None, Some, Result, Ok, Err, refl, sym, ap, subst, ◌∙◌}
+use Rattle.std.proofs.Common.{◌≡◌, [], ◌∷◌, ◌++◌, inl, inr, Bool, true, false, None, Some, Result, Ok, Err, refl, sym, ap, subst, ◌∙◌}
 use Rattle.std.proofs.lemmas.Fn.{FoldsTo-push}
 use Rattle.varisat_formula.specs.declared.dimacs.error.DimacsError.{DimacsError}
 use Rattle.varisat_formula.specs.declared.dimacs.error.DimacsErrorKind.TheVariants.{OutOfMemory}
 use Rattle.varisat_formula.specs.Dimacs.{Ends, GoesOn, BreaksOff}
-use Rattle.varisat_formula.specs.Rest.{Progress, begin, dimacs_from, AdvancesBy, IsEnding, RunsOut, fault_of}
+use Rattle.varisat_formula.specs.Rest.{Progress, begin, dimacs_from, AdvancesBy, IsEnding, fault_of}
 use Rattle.varisat_formula.proofs.ParserMemory.{kept_by}
 use Rattle.varisat_formula.proofs.ParserProgress.{over_gives, breaks_off}
 use Rattle.varisat_formula.specs.Streams.{Stand}

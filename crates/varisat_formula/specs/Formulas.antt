@@ -1,5 +1,6 @@
 -- Formulas in conjunctive normal form.
-use Rattle.std.specs.Prelude.{◌≡◌, ℕ, ◌+◌, ◌/◌, ◌^◌, ◌<◌, ◌≤◌, max, List, [], ◌∷◌, ◌++◌, length, take, drop}
+use Rattle.std.specs.Prelude.{◌≡◌, ℕ, ◌+◌, ◌/◌, ◌^◌, ◌<◌, ◌≤◌, max, List, [], ◌∷◌, ◌++◌, length, take, drop, Result, Ok, Err}
+use Rattle.std.specs.List.{FoldsTo}
 use Rattle.varisat_theory.specs.Literals.{Literal, Clause}
 
 -- a count of variables, and clauses in order
@@ -24,6 +25,14 @@ with_one_more f c = record { var_count = max f.var_count (variables_of c); claus
 abbrev pub with_more : Formula → List Clause → Formula
 with_more f [] = f
 with_more f (c ∷ cs) = with_more (with_one_more f c) cs
+
+-- these variables were made in turn, where it is known how one is
+abbrev pub MakesVars : {F E : Type 0} → (F → Result ℕ E → F → Type 0) → F → List ℕ → F → Type 0
+MakesVars makes_var old vs new = FoldsTo (λ s v t. makes_var s (Ok v) t) old vs new
+
+-- of n variables one was refused, with this error, once those before it were made
+abbrev pub RefusesOneOf : {F E : Type 0} → ℕ → (F → Result ℕ E → F → Type 0) → F → E → F → Type 0
+RefusesOneOf {F} n makes_var old e new = (vs : List ℕ) × (s : F) × MakesVars makes_var old vs s × (length vs < n) × makes_var s (Err e) new
 
 -- the literals' variables are below the count
 abbrev pub AllBelow : ℕ → List Literal → Type 0

@@ -1,12 +1,14 @@
 -- Texts that are read from sources.
 use Rattle.std.specs.Prelude.{◌≡◌, ◌≢◌, ℕ, ◌+◌, ◌<◌, List, [], ◌∷◌, ◌++◌, ◌⊎◌, Bool, true, false, Some, None, Result, Ok, Err}
 use Rattle.std.specs.List.{FoldsTo}
+use Rattle.std.specs.Fn.{Mut, CalledAtMut}
+use Rattle.std.specs.Borrow.{MutBor}
 use Rattle.varisat_formula.specs.declared.dimacs.error.DimacsError.{DimacsError}
 use Rattle.varisat_formula.specs.declared.dimacs.error.DimacsErrorKind.TheVariants.{Io, OutOfMemory}
 use Rattle.varisat_formula.specs.Formulas.{Formula}
 use Rattle.varisat_formula.specs.Streams.{Stand, Reads, HasEnded}
 use Rattle.varisat_formula.specs.Dimacs.{is_blank, dimacs, so_far, broken, BreaksOff}
-use Rattle.varisat_formula.specs.Rest.{Progress, begin, gives_from, dimacs_from, AdvancesBy, KeepsToken, IsEnding, RunsOut, RunsOutIn, failing, fault_of}
+use Rattle.varisat_formula.specs.Rest.{Progress, begin, gives_from, dimacs_from, AdvancesBy, KeepsToken, IsEnding, RunsOutIn, failing, fault_of}
 
 -- Why a piece ended with the fault, and by how much the source's count of faults rose. The fault stands in the text; or memory
 -- ran out at a blank of the piece; or the source failed and gave nothing.
@@ -71,6 +73,11 @@ pub record Calling (F P E : Type 0) : Type 1 where
   pub progress : P → Progress
   pub calls : F → P → Result (Unit {0}) E → F → P → Type 0
   pub made : DimacsError → E → Type 0
+
+-- what reading goes by with a function that may change what it keeps, and that is lent the reader
+abbrev pub reading_with : {F P E : Type 0} → (P → Progress) → Mut F (MutBor P × Unit {0}) (Result (Unit {0}) E × (MutBor P × Unit {0})) →
+    (DimacsError → E → Type 0) → Calling F P E
+reading_with progress function made = record { progress = progress; calls = CalledAtMut function; made = made }
 
 module _ {F P E : Type 0} (by : Calling F P E) where
   -- the reader takes a piece of the source, which has bytes, without a fault, and then the function returns Ok

@@ -41,6 +41,10 @@ line_rest ended n Comment line = []
 line_rest ended n (Header h) line = header_items ended n (header_says (header_from h line))
 line_rest ended n (Plain w) line = plain_rest ended n w line
 
+-- what was read once the line ends here
+abbrev pub line_ended : Progress → Reading
+line_ended p = read p.reading (line_rest true p.line p.place [])
+
 -- the items of the rest of a text, the first line of it from a place on
 abbrev pub rest_items : Bool → ℕ → Place → List (List ℕ) → List Item
 rest_items ended n place [] = []

@@ -1,8 +1,7 @@
 //! Reads texts from sources, with a call of the caller's function after each piece and after the end.
 ghost use Rattle.std.specs.Prelude.{◌≡◌, ◌-◌, ◌<◌, ◌^◌, ◌⊎◌, [], true, length, IfOk, IfErr};
-ghost use Rattle.std.specs.Fn.{CalledAtMut};
 ghost use Rattle.varisat_formula.specs.Rest.{Progress, begin, dimacs_from, IsEnding, RunsOut, fault_of};
-ghost use Rattle.varisat_formula.specs.Parsed.{TakesPiece, Finishes, Refuses};
+ghost use Rattle.varisat_formula.specs.Parsed.{TakesPiece, reading_with, Finishes, Refuses};
 
 use crate::dimacs::error::DimacsError;
 use crate::dimacs::parse::PIECE;
@@ -48,10 +47,8 @@ pub trait PieceReader<A: Allocator + Copy>: Drop {
         F: Drop,
         requires few { (S.stand source.old).faults < 2 ^ 64 - 1 }
         requires callable { (state : F) (x : _) → F.pre state x }
-        ensures ok { IfOk result (Finishes (record { progress = progress; calls = CalledAtMut F.FnMut; made = E.from_gives }) (S.stand source.old) f
-            (S.stand source.new)) }
-        ensures err { IfErr result (Refuses (record { progress = progress; calls = CalledAtMut F.FnMut; made = E.from_gives }) (S.stand source.old) f
-            (S.stand source.new)) }
+        ensures ok { IfOk result (Finishes (reading_with progress F.FnMut E.from_gives) (S.stand source.old) f (S.stand source.new)) }
+        ensures err { IfErr result (Refuses (reading_with progress F.FnMut E.from_gives) (S.stand source.old) f (S.stand source.new)) }
     {
         let mut parser = Self::begin_in(alloc);
         let mut buffer = [0; PIECE];

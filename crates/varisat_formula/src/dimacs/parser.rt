@@ -4,7 +4,7 @@ ghost use Rattle.varisat_formula.specs.declared.dimacs.parser.Place.TheVariants.
 ghost use Rattle.varisat_formula.specs.declared.dimacs.error.DimacsErrorKind.TheVariants.{Io, OutOfMemory};
 ghost use Rattle.varisat_formula.specs.Dimacs.{Reading, failed, next, read, is_line_feed, is_blank, gives, Ending, BreaksOff};
 ghost use Rattle.varisat_formula.specs.Machine.{no_word};
-ghost use Rattle.varisat_formula.specs.Rest.{begin, word_items, line_rest, start_place, gives_from, dimacs_from, AdvancesBy, KeepsToken, WantsRoom, IsEnding, RunsOut, RunsOutIn, failing, fault_of, with_front};
+ghost use Rattle.varisat_formula.specs.Rest.{begin, word_items, line_ended, start_place, gives_from, dimacs_from, AdvancesBy, KeepsToken, WantsRoom, IsEnding, RunsOut, RunsOutIn, failing, fault_of, with_front};
 
 use crate::dimacs::error::{DimacsError, DimacsErrorKind};
 use crate::dimacs::header::HeaderPart;
@@ -77,7 +77,7 @@ impl<A: Allocator + Copy> DimacsParser<A> {
     /// Reads what the end of the line ends.
     fn end_place(&mut self) -> Result<(), AllocError>
         requires { self.old.reading.fault ≡ None }
-        ensures ok { OnOk result (self.new ≡ record self.old { reading = read self.old.reading (line_rest true self.old.line self.old.place []) }) }
+        ensures ok { OnOk result (self.new ≡ record self.old { reading = line_ended self.old }) }
         ensures err { OnErr result (self.new ≡ self.old) }
         ensures wants { OnErr result (WantsRoom self.old) }
     {
@@ -92,11 +92,7 @@ impl<A: Allocator + Copy> DimacsParser<A> {
     /// Ends the line.
     fn end_line(&mut self) -> Result<(), AllocError>
         requires { self.old.reading.fault ≡ None }
-        ensures ok { OnOk result (self.new ≡ record self.old {
-          line = next self.old.line;
-          place = Start;
-          reading = read self.old.reading (line_rest true self.old.line self.old.place []);
-        }) }
+        ensures ok { OnOk result (self.new ≡ record self.old { line = next self.old.line; place = Start; reading = line_ended self.old }) }
         ensures err { OnErr result (self.new ≡ self.old) }
         ensures wants { OnErr result (WantsRoom self.old) }
     {

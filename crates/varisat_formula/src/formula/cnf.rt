@@ -1,10 +1,9 @@
 //! Formulas in conjunctive normal form, and what takes clauses one at a time.
 ghost use Rattle.std.specs.Prelude.{◌≡◌, ℕ, List, ◌+◌, ◌∷◌, [], ◌<◌, ◌≤◌, ◌^◌, max, length, true, map, Result, Ok, Err, OnOk, OnErr, IfOk, IfErr, MatchResult, IsTrue, ◌↔◌};
-ghost use Rattle.std.specs.List.{FoldsTo};
 ghost use Rattle.std.specs.Iterator.{YieldsFirstRef, item_count};
 ghost use Rattle.varisat_theory.specs.Literals.{literal_of};
 ghost use Rattle.varisat_formula.specs.declared.formula.cnf.FormulaError.TheVariants.{Full, Memory};
-ghost use Rattle.varisat_formula.specs.Formulas.{no_clauses, variables_of, with_one_more, with_more, AreBelow};
+ghost use Rattle.varisat_formula.specs.Formulas.{no_clauses, variables_of, with_one_more, with_more, MakesVars, RefusesOneOf, AreBelow};
 ghost use Rattle.varisat_formula.specs.Equality.{same_formula, same_laws, same_equivalence};
 
 use std::alloc::{AllocError, Allocator};
@@ -62,9 +61,8 @@ pub trait ExtendFormula {
 /// Makes variables until the array is full, and returns them in the order of their making. At the first refusal the
 /// variables that were made before stay.
 pub fn new_vars<F: ExtendFormula, const N: usize>(formula: &mut F) -> Result<[Var; N], F::Error>
-    ensures ok { IfOk result (λ vs. FoldsTo (λ s v t. F.makes_var s (Ok v) t) formula.old vs formula.new) }
-    ensures err { IfErr result (λ e. (vs : List ℕ) × (s : F) × FoldsTo (λ s v t. F.makes_var s (Ok v) t) formula.old vs s × (length vs < N)
-        × F.makes_var s (Err e) formula.new) }
+    ensures ok { IfOk result (λ vs. MakesVars F.makes_var formula.old vs formula.new) }
+    ensures err { IfErr result (λ e. RefusesOneOf N F.makes_var formula.old e formula.new) }
 {
     let mut vars = [Var::from_index(0); N];
     for i in 0..N {
@@ -78,10 +76,8 @@ pub fn new_vars<F: ExtendFormula, const N: usize>(formula: &mut F) -> Result<[Va
 
 /// Makes variables as `new_vars` does, and returns their positive literals.
 pub fn new_lits<F: ExtendFormula, const N: usize>(formula: &mut F) -> Result<[Lit; N], F::Error>
-    ensures ok { IfOk result (λ ls. (vs : List ℕ) × FoldsTo (λ s v t. F.makes_var s (Ok v) t) formula.old vs formula.new
-        × (ls ≡ map (λ v. literal_of v true) vs)) }
-    ensures err { IfErr result (λ e. (vs : List ℕ) × (s : F) × FoldsTo (λ s v t. F.makes_var s (Ok v) t) formula.old vs s × (length vs < N)
-        × F.makes_var s (Err e) formula.new) }
+    ensures ok { IfOk result (λ ls. (vs : List ℕ) × MakesVars F.makes_var formula.old vs formula.new × (ls ≡ map (λ v. literal_of v true) vs)) }
+    ensures err { IfErr result (λ e. RefusesOneOf N F.makes_var formula.old e formula.new) }
 {
     let vars = match new_vars::<F, N>(formula) {
         Ok(vars) => vars,

@@ -1,11 +1,10 @@
 use Rattle.std.proofs.Common.{◌≡◌}
-use Rattle.std.specs.Fn.{CalledAtMut}
-use Rattle.varisat_formula.specs.Parsed.{Turns}
+use Rattle.varisat_formula.specs.Parsed.{reading_with, Turns}
 use Rattle.varisat_formula.proofs.dimacs.incremental.PieceReader.parse_incremental.Given as goal
 
 abbrev pub invariant-pieces : goal.invariant-pieces
 invariant-pieces g l = record {
-  turns : Turns (record { progress = g.Self.PieceReader.progress; calls = CalledAtMut g.F.FnMut; made = g.E.From.from_gives })
+  turns : Turns (reading_with g.Self.PieceReader.progress g.F.FnMut g.E.From.from_gives)
       (g.S.ByteSource.stand l.fn.source) l.fn.f
       (record { source = g.S.ByteSource.stand l.source; reader = l.parser; function = l.f });
   quiet : (g.S.ByteSource.stand l.source).faults ≡ (g.S.ByteSource.stand l.fn.source).faults;

@@ -1,7 +1,8 @@
 -- The settings of a solver, their ranges, and what an update does to them.
-use Rattle.std.specs.Prelude.{ℕ, ◌-◌, ◌^◌, ◌≤◌, Bool, true, false, ◌&&◌, nat_le, Option, Some, None, List, [], ◌∷◌, codes}
+use Rattle.std.specs.Prelude.{◌≡◌, ℕ, ◌-◌, ◌^◌, ◌≤◌, Bool, true, false, ◌&&◌, nat_le, Option, Some, None, List, [], ◌∷◌, codes, Result, MatchResult}
 use Rattle.std.specs.Option.{unwrap_or}
 use Rattle.varisat_names.specs.declared.config.SolverConfigUpdate.{SolverConfigUpdate}
+use Rattle.varisat_names.specs.declared.config.ConfigError.{ConfigError}
 use Rattle.varisat_names.specs.declared.config.ConfigField.{ConfigField}
 use Rattle.varisat_names.specs.declared.config.ConfigField.TheVariants.{VsidsDecay, ClauseActivityDecay, ReduceLocalsInterval, ReduceMidsInterval, LubyRestartIntervalScale, MaxSteps}
 
@@ -110,3 +111,9 @@ updated_settings s u = record {
   luby_restart_interval_scale = unwrap_or u.luby_restart_interval_scale s.luby_restart_interval_scale;
   max_steps = unwrap_or u.max_steps s.max_steps;
 }
+
+-- The settings are changed as the update says; or a value would be out of its range, the first such setting is told, and nothing changes.
+abbrev pub AppliesUpdate : SolverConfigUpdate → Settings → Result (Unit {0}) ConfigError → Settings → Type 0
+AppliesUpdate u old result new = MatchResult result
+    (λ _. (first_bad u ≡ None) × (new ≡ updated_settings old u))
+    (λ error. (first_bad u ≡ Some error.field) × (new ≡ old))

@@ -1,6 +1,6 @@
 -- A one-to-one map between the variables of two name spaces.
-use Rattle.std.specs.Prelude.{ℕ, Option, Some, None, List, []}
-use Rattle.varisat_names.specs.VarMap.{IsPut}
+use Rattle.std.specs.Prelude.{◌≡◌, ℕ, Option, Some, None, List, [], MatchOption}
+use Rattle.varisat_names.specs.VarMap.{at, IsPut}
 use Rattle.varisat_names.specs.declared.variables.var_map.Direction.{Direction}
 use Rattle.varisat_names.specs.declared.variables.var_map.Direction.TheVariants.{Forward, Backward}
 
@@ -31,3 +31,9 @@ pub record IsJoined (old new : BiMap) (from into : ℕ) : Type 0 where
 pub record IsParted (old new : BiMap) (from into : ℕ) : Type 0 where
   pub forward : IsPut old.forward from None new.forward
   pub backward : IsPut old.backward into None new.backward
+
+-- as they are seen in the direction, the pair of `from` was taken out, and leads to what is returned; or it has none, and nothing changed
+abbrev pub RemovesPair : Direction → BiMap → ℕ → Option ℕ → BiMap → Type 0
+RemovesPair direction old from returned new = MatchOption returned
+    ((at (directed direction old).forward from ≡ None) × (new ≡ old))
+    (λ into. (at (directed direction old).forward from ≡ Some into) × IsParted (directed direction old) (directed direction new) from into)

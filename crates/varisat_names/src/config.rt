@@ -1,6 +1,6 @@
 //! The settings of a solver, and updates of them.
 ghost use Rattle.std.specs.Prelude.{◌≡◌, ◌≢◌, ◌≤◌, ◌<◌, None, Some, true, false, MatchOption, MatchResult};
-ghost use Rattle.varisat_names.specs.Settings.{AreSettingsInRange, default_settings, may_take, first_bad, updated_settings, least_value, greatest_value, field_text, no_update, update_of};
+ghost use Rattle.varisat_names.specs.Settings.{AreSettingsInRange, default_settings, may_take, first_bad, AppliesUpdate, least_value, greatest_value, field_text, no_update, update_of};
 
 use std::fmt;
 use std::marker::Model;
@@ -303,9 +303,7 @@ impl SolverConfigUpdate {
     /// Changes the settings for which there are values. If some value is out of its range, the first such setting is
     /// returned and nothing changes.
     pub fn apply(&self, config: &mut SolverConfig) -> Result<(), ConfigError>
-        ensures { MatchResult result
-            (λ _. (first_bad self.now ≡ None) × (config.new ≡ updated_settings config.old self.now))
-            (λ error. (first_bad self.now ≡ Some error.field) × (config.new ≡ config.old)) }
+        ensures { AppliesUpdate self.now config.old result config.new }
     {
         self.check()?;
         *config = SolverConfig {

@@ -1,8 +1,8 @@
 //! Maps between the variables of two name spaces.
-ghost use Rattle.std.specs.Prelude.{ℕ, ◌≡◌, ◌≢◌, ◌<◌, ◌≤◌, ◌+◌, ◌-◌, ◌^◌, ◌++◌, max, length, replicate, take, List, [], Option, Some, None, MatchOption, OnOk, OnErr};
+ghost use Rattle.std.specs.Prelude.{ℕ, ◌≡◌, ◌≢◌, ◌<◌, ◌≤◌, ◌+◌, ◌-◌, ◌^◌, ◌++◌, max, length, replicate, take, List, [], Option, Some, None, OnOk, OnErr};
 ghost use Rattle.varisat_names.specs.Maps.{IsInverse};
 ghost use Rattle.varisat_names.specs.VarMap.{at, mapped, IsPut};
-ghost use Rattle.varisat_names.specs.VarBiMap.{no_pairs, directed, IsJoined, IsParted};
+ghost use Rattle.varisat_names.specs.VarBiMap.{no_pairs, directed, IsJoined, RemovesPair};
 
 use std::alloc::{AllocError, Allocator};
 use std::marker::Model;
@@ -218,8 +218,7 @@ impl<A: Allocator + Copy> VarBiMap<A> {
 
     /// Takes the pair of the variable out, if it is mapped.
     pub fn remove(&mut self, from: Var) -> Option<Var>
-        ensures { MatchOption result ((at self.old.forward from ≡ None) × (self.new ≡ self.old)) (λ into. (at self.old.forward from ≡ Some into)
-            × IsParted self.old self.new from into) }
+        ensures { RemovesPair Direction.Forward self.old from result self.new }
     {
         let into = self.fwd.get(from)?;
         self.fwd.remove(from);
@@ -229,8 +228,7 @@ impl<A: Allocator + Copy> VarBiMap<A> {
 
     /// Takes the pair out that leads to the variable, if there is one.
     fn remove_into(&mut self, target: Var) -> Option<Var>
-        ensures { MatchOption result ((at self.old.backward target ≡ None) × (self.new ≡ self.old))
-            (λ source. (at self.old.backward target ≡ Some source) × IsParted self.old self.new source target) }
+        ensures { RemovesPair Direction.Backward self.old target result self.new }
     {
         let source = self.bwd.get(target)?;
         self.bwd.remove(target);
@@ -276,9 +274,7 @@ impl<'a, A: Allocator + Copy> VarBiMapMut<'a, A> {
     pub fn remove(&mut self, from: Var) -> Option<Var>
         ensures same_reference { self.new.map.ghost_name ≡ self.old.map.ghost_name }
         ensures direction { self.new.direction ≡ self.old.direction }
-        ensures parted { MatchOption result ((at (directed self.old.direction self.old.map.now).forward from ≡ None)
-            × (self.new.map.now ≡ self.old.map.now)) (λ into. (at (directed self.old.direction self.old.map.now).forward from ≡ Some into)
-            × IsParted (directed self.old.direction self.old.map.now) (directed self.old.direction self.new.map.now) from into) }
+        ensures parted { RemovesPair self.old.direction self.old.map.now from result self.new.map.now }
     {
         let direction = self.direction;
         let map = &mut *self.map;

@@ -17,7 +17,7 @@ returns g c =
     rw (← c.self.view_is) (
       found,
       record {
-        forward = c.remove-2.ensures.below (at-inside c.self.inside.fwd c.in_ok-source.source c.args.target there);
-        backward = c.remove.ensures.below (at-inside c.self.inside.bwd c.args.target c.in_ok-source.source found);
+        forward = c.remove.ensures.below (at-inside c.self.inside.bwd c.args.target c.in_ok-source.source found);
+        backward = c.remove-2.ensures.below (at-inside c.self.inside.fwd c.in_ok-source.source c.args.target there);
       },
     )

@@ -1,5 +1,5 @@
 -- What the plain checker returns.
-use Rattle.std.specs.Prelude.{◌≡◌, ◌≢◌, ℕ, suc, List, [], ◌∷◌, ◌++◌, length, map, Vec}
+use Rattle.std.specs.Prelude.{◌≡◌, ◌≢◌, ℕ, suc, ◌<◌, slice_index_or, List, [], ◌∷◌, ◌++◌, length, map, Vec}
 use Rattle.varisat_theory.specs.Membership.{◌∈◌, SameSet}
 use Rattle.varisat_theory.specs.Literals.{Literal, Clause, opposite}
 use Rattle.varisat_theory.specs.Propagation.{IsFalse, LeavesOnly, Follows}
@@ -31,6 +31,10 @@ IsClauseStatus known c Open = (m n : Literal) × (m ∈ c) × (n ∈ c) × (m �
 -- the clause is equal to none of P as a set
 abbrev pub IsAbsent : List Clause → Clause → Type 0
 IsAbsent P c = (d : Clause) → d ∈ P → SameSet d c → ⊥
+
+-- at the place i stands a clause that is equal to c as a set
+abbrev pub IsPlaceOf : {A : Type 0} → List (Vec ℕ A) → Clause → ℕ → Type 0
+IsPlaceOf present c i = (i < length present) × SameSet (slice_index_or (clause_lists present) i []) c
 
 -- what becomes of a line where P is present: it is taken, after which Q is present, it adds what does not follow, or it deletes nothing
 abbrev pub IsLineStatus : List Clause → Line → LineStatus → List Clause → Type 0

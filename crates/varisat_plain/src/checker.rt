@@ -1,6 +1,6 @@
 //! A plain checker of proof lines: it keeps the present clauses in a list, and propagates anew for each line.
-ghost use Rattle.std.specs.Prelude.{◌≡◌, ◌<◌, ◌↔◌, length, map, slice_index_or, IfOk, IsTrue, MatchOption, [], true, false};
-ghost use Rattle.varisat_plain.specs.Checking.{IsAbsent, IsLineStatus, IsVerdict, clause_lists, line_of};
+ghost use Rattle.std.specs.Prelude.{◌≡◌, ◌↔◌, map, IfOk, IsTrue, MatchOption, true, false};
+ghost use Rattle.varisat_plain.specs.Checking.{IsAbsent, IsPlaceOf, IsLineStatus, IsVerdict, clause_lists, line_of};
 ghost use Rattle.varisat_theory.specs.Derivations.{TakesOut};
 ghost use Rattle.varisat_theory.specs.Membership.{◌⊆◌, SameSet};
 
@@ -61,8 +61,7 @@ fn is_same_set(one: &[u32], other: &[u32]) -> bool
 
 /// The place of a present clause that is equal as a set.
 fn place_of(present: &[Vec<u32>], clause: &[u32]) -> Option<usize>
-    ensures { MatchOption result (IsAbsent (clause_lists present.now) clause.now) (λ i. (i < length present.now)
-        × SameSet (slice_index_or (clause_lists present.now) i []) clause.now) }
+    ensures { MatchOption result (IsAbsent (clause_lists present.now) clause.now) (IsPlaceOf present.now clause.now) }
 {
     for (i, held) in present.iter().enumerate() {
         if is_same_set(held, clause) {

@@ -1,8 +1,9 @@
 -- Which states a solver stands for once a clause was accepted, or a list of assumptions.
-use Rattle.std.specs.Prelude.{ℕ, Option, List, [], ◌∷◌, ◌++◌, map}
+use Rattle.std.specs.Prelude.{◌≡◌, ℕ, ◌≤◌, Option, List, [], ◌∷◌, ◌++◌, map, length}
 use Rattle.varisat_theory.specs.Literals.{Literal, Clause}
 use Rattle.varisat_theory.specs.Journals.{Entry, Accepts, Assumes}
 use Rattle.varisat_search.specs.declared.context.Context.{Context}
+use Rattle.varisat_search.specs.declared.state.SolverState.{SolverState}
 use Rattle.varisat_tracer.specs.Tracing.{TracerState}
 use Rattle.varisat.specs.States.{State, with_variables, Verdict}
 use Rattle.varisat.specs.Names.{name_all, through_names}
@@ -14,6 +15,15 @@ use Rattle.varisat.specs.Summaries.{spaces_with}
 -- the literals over identities, once their names are named
 abbrev pub identity_literals : State → List Literal → List Literal
 identity_literals s d = map (through_names (name_all d s.naming)) d
+
+-- the verdict may change, and whether the formula is empty
+abbrev pub KeepsValidity : SolverState → SolverState → Type 0
+KeepsValidity old new = new ≡ record old { sat_state = new.sat_state; formula_is_empty = new.formula_is_empty }
+
+-- Once the names of the clause are in use, the search y has at most as many variables as there are identities.
+abbrev pub IsWithinIdentities : {A : Type 0} → Clause → TracerState → Context A → Context A → Type 0
+IsWithinIdentities d p x y =
+    (s : State) → SpacesFit (spaces_with p.tables p.proof.checker x) s → length y.assignment.current ≤ (name_all d s.naming).made
 
 -- The clause was accepted: the journal goes on with it, and then with lines, and so does what a proof was told. Identities that are
 -- new have variables then.

@@ -1,5 +1,5 @@
 -- What an accepted clause and a list of assumptions do to the maps between names, global variables and solver variables, and to the search.
-use Rattle.std.specs.Prelude.{◌≡◌, ◌≢◌, ◌⊎◌, ◌↔◌, ℕ, ◌<◌, ◌≤◌, Bool, true, false, Some, None, List, length, Result, Ok, Err, IsSome}
+use Rattle.std.specs.Prelude.{◌≡◌, ◌≢◌, ◌⊎◌, ◌↔◌, ℕ, ◌+◌, ◌-◌, ◌<◌, ◌≤◌, Bool, true, false, Some, None, List, length, Result, Ok, Err, IsSome}
 use Rattle.varisat_theory.specs.Membership.{◌∈◌}
 use Rattle.varisat_theory.specs.Literals.{Literal, variable_of}
 use Rattle.varisat_literals.specs.Numbers.{variable_limit}
@@ -37,6 +37,12 @@ naming_of t =
 -- The name is free and below the watermark, and none of the literals has it: once these were named, it comes into use alone.
 abbrev pub ComesAlone : Tables → List Literal → ℕ → Type 0
 ComesAlone t d u = (u < length t.users.forward) × (at t.users.forward u ≡ None) × ((l : Literal) → l ∈ d → variable_of l ≢ u)
+
+-- So many come into use alone where the literals are named: beside them are made those that are passed on the way up from the watermark.
+abbrev pub CountsAlone : Tables → List Literal → ℕ → Type 0
+CountsAlone t d count =
+    let named : Naming = name_all d (naming_of t) in
+    named.made ≡ length t.kept + (named.watermark - length t.users.forward) + count
 
 -- The names of the literals may come into use: none is past the limit, nor is the room spent for their variables.
 pub record CanBeNamed (clause : List Literal) (t : Tables) : Type 0 where

@@ -38,7 +38,8 @@ abbrev pub IsValid : State → Type 0
 IsValid s = is_valid s ≡ true
 
 -- What a user can know in t is what it is in s, but for what a call tells beside, lines that add no clause that counts and variables
--- that leave, for further bytes of an open proof, and for the words of the clause store. Variables left only where they may, and the lines told before are written as they were.
+-- that leave, for further bytes of an open proof, and for the words of the clause store. Variables left only where they may, and the
+-- lines told before are written as they were.
 pub record IsLikeButLeft (may_leave : Bool) (s t : State) : Type 0 where
   pub naming : t.naming ≡ s.naming
   pub ever_hidden : t.ever_hidden ≡ s.ever_hidden
@@ -298,6 +299,10 @@ Searches s (Err (ProofIoError cause)) t =
     IsOpen s.proof × (s.verdict ≡ Unknown) × CountsCall s (Err (ProofIoError cause)) t × Invalidates 1 (with_steps t.ledger.steps s) t
 Searches s (Err Interrupted) t = IsInterrupted s t
 Searches s (Err _) t = ⊥
+
+-- what the steps of a call come to that may make so many
+abbrev pub SearchesWithin : ℕ → State → Result Bool SolverError → State → Type 0
+SearchesWithin max_steps s r t = Searches (with_max_steps max_steps s) r (with_max_steps max_steps t)
 
 -- the same state, in which `solve` was called under an open proof
 abbrev pub once_searched : State → State

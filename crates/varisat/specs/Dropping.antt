@@ -25,7 +25,8 @@ use Rattle.varisat.specs.Journals.{retold, TellsLeaving}
 use Rattle.varisat.specs.SinceChange.{GoesOnWithin}
 use Rattle.varisat.specs.Spaces.{SpacesFit}
 use Rattle.varisat.specs.States.{State}
-use Rattle.varisat.specs.Summaries.{undecided_spaces, IsKept}
+use Rattle.varisat_search.specs.declared.state.SatState.TheVariants as verdict
+use Rattle.varisat.specs.Summaries.{Summary, undecided_spaces, IsKept}
 
 -- whether a global variable stands there that is not assumed
 abbrev pub leads_to_unassumed : Tables → Option ℕ → Bool
@@ -47,6 +48,10 @@ NoneIsToLeave t s = AreOverAssumed t (fixed_literals s)
 -- None is to leave, unless at level 0 literals are still to be propagated, with which the next step lets variables leave.
 abbrev pub LeavesInTime : Tables → View → Type 0
 LeavesInTime t s = NoneIsToLeave t s ⊎ IsUnsettled s
+
+-- Variables go on to leave in time in a valid solver, unless the clauses are refuted.
+abbrev pub GoesOnLeaving : Summary → Summary → Type 0
+GoesOnLeaving g h = LeavesInTime g.tables g.search → h.ledger.valid ≡ true → h.sat_state ≢ verdict.Unsat → LeavesInTime h.tables h.search
 
 -- As a step has begun: none is to leave, and at level 0 all is propagated, or a clause is false there.
 abbrev pub HasLetLeave : Tables → View → Type 0
@@ -97,6 +102,11 @@ AreReleased (l ∷ ls) p q = (mid : TracerState) × ((x : ℕ) × LosesSolverVar
 pub record LeavesNeeded (t : Tables) (s : View) : Type 0 where
   pub assumed : AreOverAssumed t s.trail
   pub needed : (v : ℕ) → IsSome (at t.solvers.backward v) → HasUser t v ⊎ IsMentioned (kept s) v
+
+-- Where the search x has literals still to be propagated at level 0, those variables leave that may, or a clause is false.
+abbrev pub LeavesWhereUnsettled : {A : Type 0} → Context A → Tables → View → Type 0
+LeavesWhereUnsettled x t s = x.trail.decisions ≡ [] → x.trail.queue_head ≢ length x.trail.literals →
+    ((conflict : Conflict) × IsConflicting s conflict) ⊎ LeavesNeeded t s
 
 -- What is left of the tables where the solver variables of the literals were dropped: names stay, and so do other solver
 -- variables and what is kept of their global variables.

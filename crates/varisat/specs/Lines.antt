@@ -1,5 +1,5 @@
 -- The commands of a session: what each one calls, how it is spelled on its line, and the texts of answers.
-use Rattle.std.specs.Prelude.{◌≡◌, ◌==◌, ◌<◌, ◌^◌, ◌+◌, ◌/◌, ◌%◌, nat_lt, if◌then◌else◌, ℕ, Bool, true, false, Option, Some, None, Result, Ok, Err, List, [], ◌∷◌, ◌++◌, map, flat_map, codes, decimal}
+use Rattle.std.specs.Prelude.{◌≡◌, ◌==◌, ◌<◌, ◌^◌, ◌+◌, ◌/◌, ◌%◌, nat_lt, if◌then◌else◌, ℕ, Bool, true, false, Option, Some, None, Result, Ok, Err, List, [], ◌∷◌, ◌++◌, ◌⊎◌, map, flat_map, take, codes, decimal}
 use Rattle.std.specs.List.{All, join_with_byte, slice_split}
 use Rattle.std.specs.declared.alloc.AllocError.{AllocError}
 use Rattle.varisat_theory.specs.Literals.{Literal}
@@ -7,6 +7,7 @@ use Rattle.varisat_literals.specs.Numbers.{variable_text, literal_text}
 use Rattle.varisat_formula.specs.Streams.{Taken}
 use Rattle.varisat_proof.specs.declared.proof.format.ProofFormat.TheVariants.{Drat, BinaryDrat, Marked}
 use Rattle.varisat_names.specs.declared.config.ConfigField.{ConfigField}
+use Rattle.varisat_names.specs.declared.config.SolverConfigUpdate.{SolverConfigUpdate}
 use Rattle.varisat_names.specs.Settings.{field_text, update_of}
 use Rattle.varisat.specs.Refusals.{refusal_number}
 use Rattle.varisat.specs.Told.{told_list, told_vars}
@@ -88,6 +89,14 @@ HasNumbersInRange SelfCheck = Unit {0}
 pub record MeansCommand (text : List ℕ) (command : Command) : Type 0 where
   pub spelled : spelling command ≡ text
   pub in_range : HasNumbersInRange command
+
+-- the text begins as that of a clause, or of a list of assumptions
+abbrev pub BeginsList : List ℕ → Type 0
+BeginsList text = (take 4 text ≡ codes "add ") ⊎ (take 7 text ≡ codes "assume ")
+
+-- the text means that one setting is changed, as the update does
+abbrev pub MeansUpdate : List ℕ → SolverConfigUpdate → Type 0
+MeansUpdate text update = (field : ConfigField) × (value : ℕ) × (update ≡ update_of field value) × MeansCommand text (Config field value)
 
 -- no two commands are spelled alike
 abbrev pub MeansOneCommand : Type 0

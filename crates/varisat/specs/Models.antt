@@ -1,7 +1,7 @@
 -- The models and failed cores that are told.
 use Rattle.std.specs.Prelude.{◌≡◌, ℕ, zero, suc, ◌≤◌, false, Option, Some, None, List, [], ◌∷◌, map}
 use Rattle.varisat_theory.specs.Membership.{◌∈◌}
-use Rattle.varisat_theory.specs.Literals.{Literal, Clause, Assignment, variable_of, literal_of, SatisfiesAll, MakesTrue}
+use Rattle.varisat_theory.specs.Literals.{Literal, Clause, Assignment, variable_of, literal_of, SatisfiesAll, MakesTrue, IsFailedCore}
 use Rattle.varisat.specs.States.{State, Verdict, Unknown, Sat, Unsat, UnsatUnderAssumptions}
 use Rattle.varisat.specs.Names.{Naming, through_names}
 
@@ -37,6 +37,14 @@ pub record IsCompletable (m : Naming) (clauses : List Clause) (assumptions : Lis
   pub uncounted : (l : Literal) (i : ℕ) → l ∈ model → m.names (variable_of l) ≡ Some i → (i ∈ counted → ⊥) → l ≡ literal_of (variable_of l) false
   pub satisfied : (a : Assignment) × MakesTrue a (map (through_names m) model) × SatisfiesAll a clauses × MakesTrue a assumptions
 
+-- so it is of what the state accepted and assumed
+abbrev pub IsCompletableIn : State → List Literal → Type 0
+IsCompletableIn s model = IsCompletable s.naming s.clauses s.assumptions s.counted model
+
+-- a model is known, and is completable
+abbrev pub HasModel : State → Type 0
+HasModel s = (model : List Literal) × (model_of s.naming s.verdict ≡ Some model) × IsCompletableIn s model
+
 -- the core that is known: under Unsat the empty one
 abbrev pub core_of : Verdict → Option (List Literal)
 core_of Unknown = None
@@ -44,9 +52,17 @@ core_of (Sat found) = None
 core_of Unsat = Some []
 core_of (UnsatUnderAssumptions core) = Some core
 
+-- a core is known, and is one
+abbrev pub HasCore : State → Type 0
+HasCore s = (core : List Literal) × (core_of s.verdict ≡ Some core) × IsFailedCore s.clauses s.assumptions core
+
 -- each literal's name is in use
 abbrev pub AreNamesInUse : Naming → List Literal → Type 0
 AreNamesInUse m ls = (l : Literal) → l ∈ ls → (i : ℕ) × (m.names (variable_of l) ≡ Some i)
+
+-- over names in use, which carry it to a failed core
+abbrev pub IsNamedCore : State → List Literal → Type 0
+IsNamedCore s core = AreNamesInUse s.naming core × IsFailedCore s.clauses s.assumptions (map (through_names s.naming) core)
 
 -- A core as it is told, over names in use, is the one that is known.
 abbrev pub IsCoreToTell : State → Option (List Literal) → Type 0

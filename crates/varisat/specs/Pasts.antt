@@ -46,11 +46,12 @@ pub record PastProof : Type 0 where
 --
 -- `valid`: no call failed from which there is no way back. `started`: a clause, a variable or a list of assumptions was accepted.
 -- `naming`: which identity each name has. `ever_hidden`: a variable was hidden. `clauses` were accepted, and `assumptions` given
--- last; `lists` are all that were given, in order. `counted`: the different identities that these clauses and all lists of assumptions so far name. `has_model`: `solve`
--- returned true, and no clause was accepted and nothing assumed since. `has_core`: it returned false, and nothing was assumed
--- since. `steps`: how many steps were made in all. `since`: how many of them since the last call that was not refused and did more
--- than to solve or to tell something. `settings`: those by which further steps are made. `told`: what a proof that was opened at
--- the beginning would have been told, over identities, as long as `valid`. `proof`: the proof that is open.
+-- last; `lists` are all that were given, in order. `counted`: the different identities that these clauses and all lists of
+-- assumptions so far name. `has_model`: `solve` returned true, and no clause was accepted and nothing assumed since. `has_core`: it
+-- returned false, and nothing was assumed since. `steps`: how many steps were made in all. `since`: how many of them since the last
+-- call that was not refused and did more than to solve or to tell something. `settings`: those by which further steps are made.
+-- `told`: what a proof that was opened at the beginning would have been told, over identities, as long as `valid`. `proof`: the
+-- proof that is open.
 pub record Past : Type 0 where
   pub valid : Bool
   pub started : Bool

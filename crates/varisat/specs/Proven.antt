@@ -1,5 +1,6 @@
 -- How the program's `solve` asks a new solver, what it leaves in the target of a proof, and when it fails.
 use Rattle.std.specs.Prelude.{◌≡◌, ◌≢◌, ◌⊎◌, ℕ, Bool, ◌-◌, ◌^◌, ◌<◌, ◌++◌, true, false, List, [], Option, Some, None, Result, Ok, Err}
+use Rattle.std.specs.Io.KnownBytes.{Appends}
 use Rattle.varisat_theory.specs.Literals.{Clause}
 use Rattle.varisat_theory.specs.Derivations.{IsDerivation, Refutes}
 use Rattle.varisat_theory.specs.Journals.{Entry, lines_of}
@@ -13,6 +14,7 @@ use Rattle.varisat_proof.specs.Lines.{encoding_of, plain_lines, has_marks}
 use Rattle.varisat_proof.specs.Telling.{lines_told, bytes_told}
 use Rattle.varisat_proof.specs.Steps.{lines_written}
 use Rattle.varisat_proof.specs.Written.{AreInRange}
+use Rattle.varisat_proof.specs.Verified.{fault_status}
 use Rattle.varisat.specs.OpenProofs.{first_proof}
 use Rattle.varisat.specs.ProofBytes.{IsMarkedDerivation}
 use Rattle.varisat.specs.ProofCalls.{with_proof, ClosesProof}
@@ -21,7 +23,8 @@ use Rattle.varisat.specs.Calls.{AddsDimacs, Solves, TellsModel, with_update, cou
 use Rattle.varisat.specs.declared.solver.SolverError.{SolverError}
 use Rattle.varisat.specs.declared.solver.SolverError.TheVariants.{Interrupted, OutOfMemory}
 use Rattle.varisat.specs.declared.deciding.Report.{Report}
-use Rattle.varisat.specs.Decided.{Conclusion, Decided, Unknown, concluded, Decides}
+use Rattle.varisat.specs.declared.deciding.SolveOptions.{SolveOptions}
+use Rattle.varisat.specs.Decided.{Conclusion, Decided, Unknown, concluded, allowed_steps, Decides, conclusion_text, conclusion_status}
 
 -- what a target over a writer took
 abbrev pub taken_by_writer : Output → Taken
@@ -96,3 +99,29 @@ pub data Fails {W : Type 0} (taken : W → Taken) (s : State) (old new : Stand) 
   AsListed : (t u : State) → AddsDimacs s old (Ok tt) new t → Solves t (Ok true) u → e ≡ OutOfMemory → Fails taken s old new e
   AsClosed : (t u v : State) (c : Conclusion) (back : W) → AddsDimacs s old (Ok tt) new t → Finds t c u → ClosesProof taken u (Err (e, back)) v →
       Fails taken s old new e
+
+-- the text is decided as the options ask
+abbrev pub DecidesBy : {W : Type 0} → (W → Taken) → SolveOptions → Stand → Stand → Option W → Option W → Conclusion → Type 0
+DecidesBy taken o old new target back conclusion =
+    DecidesProven taken o.format (allowed_steps o.max_steps) old new target back conclusion
+
+-- so it is, to a conclusion of this status
+abbrev pub DecidesWithStatus : {W : Type 0} → (W → Taken) → SolveOptions → Stand → Stand → Option W → Option W → ℕ → Type 0
+DecidesWithStatus taken o old new target back status =
+    (conclusion : Conclusion) × DecidesBy taken o old new target back conclusion × (status ≡ conclusion_status conclusion)
+
+-- deciding the text fails with the error, by a new solver that has settings, a checker and a proof as the options ask
+abbrev pub FailsBy : {W : Type 0} → (W → Taken) → SolveOptions → Option W → Stand → Stand → SolverError → Type 0
+FailsBy taken o target old new e = Fails taken (prepared taken o.format o.check o.max_steps target) old new e
+
+-- the conclusion was printed with its status, unless the writer failed
+abbrev pub Prints : Conclusion → ℕ → Option (List ℕ) → Option (List ℕ) → Type 0
+Prints conclusion status old new = (status ≡ fault_status) ⊎ ((status ≡ conclusion_status conclusion) × Appends old new (conclusion_text conclusion))
+
+-- What the program's `solve` comes to, by its status: deciding fails; or the text is decided, and the conclusion is printed, unless
+-- the writer fails. A fault's status comes only from these two failures.
+abbrev pub SolvesText : {W : Type 0} → (W → Taken) → SolveOptions → Stand → Stand → Option W → Option W →
+    Option (List ℕ) → Option (List ℕ) → ℕ → Type 0
+SolvesText taken o old new target back before printed status =
+    ((error : SolverError) × (status ≡ fault_status) × FailsBy taken o target old new error)
+    ⊎ ((conclusion : Conclusion) × DecidesBy taken o old new target back conclusion × Prints conclusion status before printed)

@@ -2,7 +2,7 @@
 use Rattle.std.specs.Prelude.{◌-◌, ◌^◌, ◌<◌, List, [], ◌∷◌}
 use Rattle.varisat_formula.specs.Streams.{Stand, Taken}
 use Rattle.varisat.specs.States.{State}
-use Rattle.varisat.specs.Journals.{IsJournal}
+use Rattle.varisat.specs.Journals.{IsJournal, IsToldWithin}
 use Rattle.varisat.specs.Calls.{adding, IsValid, MakesVar, Assumes, Solves, TellsModel, TellsCore, with_update}
 use Rattle.varisat.specs.ProofCalls.{begin_checking, OpensProof, ClosesProof}
 use Rattle.varisat.specs.VariableCalls.{named}
@@ -39,6 +39,10 @@ MakesCall seen taken s c a t = Makes calling seen taken s c a t
 -- The calls in turn may get the answers in turn, one each, and lead from one state to the other.
 abbrev pub Run : {W S A : Type 0} → (S → Stand) → (W → Taken) → State → List (Call W S A) → List (Answer W S A) → State → Type 0
 Run seen taken s calls answers t = MakesInTurn calling seen taken s calls answers t
+
+-- As long as it is valid what was told is right, and at most as many of the clauses that its lines add count as steps were made.
+abbrev pub HasToldRight : State → Type 0
+HasToldRight s = IsValid s → IsJournal s × IsToldWithin s.ledger.steps s.told
 
 -- What a call is given has counted fewer than 2^64-1 faults: a source that is read, and a target to which a proof is written.
 abbrev pub IsReady : {W S A : Type 0} → (S → Stand) → (W → Taken) → Call W S A → Type 0

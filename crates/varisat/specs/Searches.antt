@@ -1,5 +1,5 @@
 -- The steps of a solver, and what they come to.
-use Rattle.std.specs.Prelude.{◌≡◌, ◌≢◌, ℕ, ◌⊎◌, Bool, true, false, Option, Some, None, List, [], length, map}
+use Rattle.std.specs.Prelude.{◌≡◌, ◌≢◌, ℕ, Bool, true, false, Option, Some, None, List, length}
 use Rattle.varisat_theory.specs.Derivations.{Line}
 use Rattle.varisat_theory.specs.Outcomes.{Steps}
 use Rattle.varisat_theory.specs.Journals.{Entry}
@@ -8,10 +8,6 @@ use Rattle.varisat_trace.specs.Traces.{TakesStep}
 use Rattle.varisat_proof.specs.Proving.{ProofParts, IsTold}
 use Rattle.varisat_tracer.specs.Tracing.{TracerState, TakesGlobally, CanTell}
 use Rattle.varisat_schedule.specs.CallSteps.{steps_since}
-use Rattle.varisat_names.specs.Maps.{chain}
-use Rattle.varisat_names.specs.VarMap.{at}
-use Rattle.varisat_prop.specs.declared.prop.graph.Conflict.{Conflict}
-use Rattle.varisat_prop.specs.Changes.{IsConflicting}
 use Rattle.varisat_search.specs.declared.context.Context.{Context}
 use Rattle.varisat_search.specs.declared.state.SatState.{SatState}
 use Rattle.varisat_search.specs.declared.state.SatState.TheVariants as verdict
@@ -23,8 +19,8 @@ use Rattle.varisat_search.specs.Progress.{RaisesRank}
 use Rattle.varisat_search.specs.Seen.{search_of, outcome_of}
 use Rattle.varisat_search.specs.SettledUnits.{FixesByLearning}
 use Rattle.varisat.specs.Calls.{with_verdict}
-use Rattle.varisat.specs.Carried.{carry}
-use Rattle.varisat.specs.Dropping.{LeavesNeeded, LeavesInTime, HasLetLeave}
+use Rattle.varisat.specs.Carried.{named_literals}
+use Rattle.varisat.specs.Dropping.{LeavesWhereUnsettled, LeavesInTime, HasLetLeave}
 use Rattle.varisat.specs.Journals.{retold, TellsMore, EndBy, TellsProof}
 use Rattle.varisat.specs.SinceChange.{GoesOnSince, BeginsWithin}
 use Rattle.varisat.specs.Spaces.{Spaces, SpacesFit}
@@ -57,13 +53,16 @@ pub record ComesTo (n : ℕ) (s : State) (p q : ProofParts) (after : Spaces) : T
 abbrev pub ComesOn : ℕ → Spaces → Spaces → ProofParts → ProofParts → Type 0
 ComesOn n before after p q = (s : State) → SpacesFit before s → ComesTo n s p q after
 
+-- so it does while no verdict is known
+abbrev pub ComesOnUndecided : {A : Type 0} → ℕ → TracerState → Context A → TracerState → Context A → Type 0
+ComesOnUndecided n p x q y = ComesOn n (undecided_spaces p.tables p.proof.checker x) (undecided_spaces q.tables q.proof.checker y) p.proof q.proof
+
 -- Where the step begins at level 0 with literals still to be propagated, variables leave that may: those that have a value then
 -- and are not assumed, and hidden ones that no kept clause names; unless a clause is false.
 pub record LeavesIfNews {A : Type 0} (q : TracerState) (x y : Context A) : Type 0 where
   pub reduced : Context A
   pub begins : BeginsStep (λ lines. Unit {0}) x reduced
-  pub left : reduced.trail.decisions ≡ [] → reduced.trail.queue_head ≢ length reduced.trail.literals →
-      ((conflict : Conflict) × IsConflicting (view y) conflict) ⊎ LeavesNeeded q.tables (view y)
+  pub left : LeavesWhereUnsettled reduced q.tables (view y)
 
 -- A step has begun, and variables left. The solver keeps what it did, and stands for the same states, to which more was told.
 pub record BeginsSolverStep {A : Type 0} (p q : TracerState) (x y : Context A) : Type 0 where
@@ -75,7 +74,7 @@ pub record BeginsSolverStep {A : Type 0} (p q : TracerState) (x y : Context A) :
   pub count : length y.assignment.current ≡ length x.assignment.current
   pub left : LeavesIfNews q x y
   pub leaves : LeavesInTime p.tables (view x) → HasLetLeave q.tables (view y)
-  pub stands : ComesOn 0 (undecided_spaces p.tables p.proof.checker x) (undecided_spaces q.tables q.proof.checker y) p.proof q.proof
+  pub stands : ComesOnUndecided 0 p x q y
 
 -- A step leads from one context to the other, which has a verdict or none, as a tracer that was p takes its lines and the core;
 -- and a core that was found is kept over names too.
@@ -95,7 +94,7 @@ pub record MakesNamedStep {A : Type 0} (p q : TracerState) (x y : Context A) : T
   pub assumes : KeepsAssumptions (search_of (view x)) (outcome_of (view y) parts.failed_core y.solver_state.sat_state) x.assumptions parts
   pub rest : y.assumptions ≡ record parts { user_core = y.assumptions.user_core }
   pub core : y.solver_state.sat_state ≡ verdict.UnsatUnderAssumptions →
-      y.assumptions.user_core ≡ map (carry (chain (at p.tables.solvers.backward) (at p.tables.users.backward))) parts.failed_core
+      y.assumptions.user_core ≡ named_literals p.tables parts.failed_core
 
 -- A step of the solver was made, from one context to the other, which has a verdict or none: it began, and variables left; then
 -- came the conflict step, and the step was counted.

@@ -1,18 +1,16 @@
 //! What an accepted clause and a list of assumptions bring: their names, the solver variables of these, and the clause
 //! or the list itself.
-ghost use Rattle.std.specs.Prelude.{◌≡◌, ◌≢◌, ◌<◌, ◌≤◌, length, ◌∷◌, [], Some, false, OnOk, IfErr};
+ghost use Rattle.std.specs.Prelude.{◌≡◌, ◌≢◌, ◌<◌, ◌∷◌, [], Some, false, OnOk, IfErr};
 ghost use Rattle.varisat_theory.specs.Membership.{◌∈◌};
 ghost use Rattle.varisat_theory.specs.Literals.{Literal, variable_of};
 ghost use Rattle.varisat_names.specs.VarData.{kept_at};
 ghost use Rattle.varisat_names.specs.VarMap.{at};
 ghost use Rattle.varisat_search.specs.Contexts.{KeepsSchedule};
-ghost use Rattle.varisat.specs.Accepted.{StandsOnceAccepted, StandsOnceAssumed};
+ghost use Rattle.varisat.specs.Accepted.{KeepsValidity, IsWithinIdentities, StandsOnceAccepted, StandsOnceAssumed};
 ghost use Rattle.varisat_theory.specs.Journals.{Accepts, Assumes};
 ghost use Rattle.varisat_tracer.specs.Tracing.{parts_of, TakesGlobally, BreaksProof, CanTell};
 ghost use Rattle.varisat_search.specs.StepErrors.{step_faults, HasNoRoom};
-ghost use Rattle.varisat.specs.Names.{name_all};
-ghost use Rattle.varisat.specs.States.{State};
-ghost use Rattle.varisat.specs.Spaces.{SpacesFit, FitSome};
+ghost use Rattle.varisat.specs.Spaces.{FitSome};
 ghost use Rattle.varisat.specs.Summaries.{spaces_with, IsKept};
 ghost use Rattle.varisat.specs.Searches.{TellsSome};
 ghost use Rattle.varisat.specs.Accepting.{CanBeNamed, HasNames, AreJoined, AreMarked};
@@ -118,10 +116,7 @@ pub fn accept_clause<W: ProofTarget, A: Allocator + Copy>(
     // What the target of an open proof has after an error.
     ensures broken { IfErr result (λ error. BreaksProof tracer.old.proof (step_faults error) tracer.new.proof) }
     ensures full { IfErr result (λ error. error ≡ StepError.Full → HasNoRoom ctx.new) }
-    // Then there are no more variables than identities once the names of the clause are in use.
-    ensures size { IfErr result (λ error. error ≡ StepError.Full → (s : State) →
-        SpacesFit (spaces_with tracer.old.variables tracer.old.proof.checker ctx.old) s →
-        length ctx.new.assignment.current ≤ (name_all clause.now s.naming).made) }
+    ensures size { IfErr result (λ error. error ≡ StepError.Full → IsWithinIdentities clause.now (parts_of tracer.old) ctx.old ctx.new) }
 {
     // A model that was found may not satisfy the clause.
     ctx.solver_state.reopen();
@@ -148,8 +143,7 @@ pub fn assume_list<W: ProofTarget, A: Allocator + Copy>(
     requires names { CanBeNamed list.now tracer.old.variables }
     ensures kept { OnOk result (IsKept tracer.new.variables ctx.new) }
     ensures tells { OnOk result (CanTell tracer.new.proof) }
-    ensures state { OnOk result (ctx.new.solver_state ≡
-        record ctx.old.solver_state { sat_state = ctx.new.solver_state.sat_state; formula_is_empty = ctx.new.solver_state.formula_is_empty }) }
+    ensures state { OnOk result (KeepsValidity ctx.old.solver_state ctx.new.solver_state) }
     ensures schedule { KeepsSchedule ctx.old ctx.new }
     ensures told { OnOk result (TellsSome tracer.old.proof tracer.new.proof) }
     ensures assumed { OnOk result (StandsOnceAssumed list.now (parts_of tracer.old) ctx.old (parts_of tracer.new) ctx.new) }

@@ -4,8 +4,8 @@ ghost use Rattle.varisat_proof.specs.Proving.{IsClosed};
 ghost use Rattle.varisat.specs.States.{State, new_state};
 ghost use Rattle.varisat.specs.Summaries.{StandsFor};
 ghost use Rattle.varisat.specs.ProofCalls.{ClosesProof};
-ghost use Rattle.varisat.specs.Decided.{concluded, allowed_steps};
-ghost use Rattle.varisat.specs.Proven.{CanCountFault, prepared, Reports, DecidesProven, Fails};
+ghost use Rattle.varisat.specs.Decided.{concluded};
+ghost use Rattle.varisat.specs.Proven.{CanCountFault, prepared, Reports, DecidesBy, FailsBy};
 
 use crate::rounds::search;
 use crate::solver::{Solver, SolverError};
@@ -58,10 +58,8 @@ pub(crate) fn decide<W: ProofTarget, A: Allocator + Copy, S: ByteSource, E: Writ
 ) -> Result<Report<A>, SolverError>
     requires faults { (S.stand cnf.old).faults < 2 ^ 64 - 1 }
     requires room { CanCountFault W.taken target.old }
-    ensures decided { IfOk result (λ report. DecidesProven W.taken options.format (allowed_steps options.max_steps)
-        (S.stand cnf.old) (S.stand cnf.new) target.old target.new (concluded report)) }
-    ensures fails { IfErr result (λ error.
-        Fails W.taken (prepared W.taken options.format options.check options.max_steps target.old) (S.stand cnf.old) (S.stand cnf.new) error) }
+    ensures decided { IfOk result (λ report. DecidesBy W.taken options (S.stand cnf.old) (S.stand cnf.new) target.old target.new (concluded report)) }
+    ensures fails { IfErr result (λ error. FailsBy W.taken options target.old (S.stand cnf.old) (S.stand cnf.new) error) }
 {
     let mut solver: Solver<W, A> = new_solver(alloc, options.check);
     let report = decide_in(&mut solver, cnf, target, options, err);
@@ -93,10 +91,8 @@ fn decide_in<W: ProofTarget, A: Allocator + Copy, S: ByteSource, E: Write>(
     requires checks { options.check ≡ true → IsSome solver.old.checker }
     requires faults { (S.stand cnf.old).faults < 2 ^ 64 - 1 }
     requires room { CanCountFault W.taken target.old }
-    ensures decided { IfOk result (λ report. DecidesProven W.taken options.format (allowed_steps options.max_steps)
-        (S.stand cnf.old) (S.stand cnf.new) target.old target.new (concluded report)) }
-    ensures fails { IfErr result (λ error.
-        Fails W.taken (prepared W.taken options.format options.check options.max_steps target.old) (S.stand cnf.old) (S.stand cnf.new) error) }
+    ensures decided { IfOk result (λ report. DecidesBy W.taken options (S.stand cnf.old) (S.stand cnf.new) target.old target.new (concluded report)) }
+    ensures fails { IfErr result (λ error. FailsBy W.taken options target.old (S.stand cnf.old) (S.stand cnf.new) error) }
 {
     prepare(solver, target.take(), options);
     solver.add_dimacs_cnf(cnf)?;

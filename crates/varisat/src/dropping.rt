@@ -1,23 +1,21 @@
 //! Which variables leave the search as a step begins: those whose values are fixed, unless they are assumed,
 //! and hidden ones that no kept clause names. Fixed values are kept for the model and for clauses to come, and what
 //! stands for hidden variables may be used again.
-ghost use Rattle.std.specs.Prelude.{◌≡◌, ◌≢◌, ℕ, ◌<◌, ◌≤◌, ◌⊎◌, false, List, [], length, map, IsSome, OnOk, IfOk, IfErr};
+ghost use Rattle.std.specs.Prelude.{◌≡◌, ◌≢◌, ℕ, ◌<◌, ◌≤◌, false, List, length, map, IsSome, OnOk, IfOk, IfErr};
 ghost use Rattle.varisat_theory.specs.Membership.{◌∈◌, IsDistinct};
 ghost use Rattle.varisat_theory.specs.Literals.{Literal, variable_of};
 ghost use Rattle.varisat_literals.specs.Numbers.{variable_limit};
-ghost use Rattle.varisat_prop.specs.declared.prop.graph.Conflict.{Conflict};
-ghost use Rattle.varisat_prop.specs.Changes.{IsConflicting};
 ghost use Rattle.varisat_names.specs.VarMap.{at};
 ghost use Rattle.varisat_search.specs.Contexts.{view, KeepsSchedule};
 ghost use Rattle.varisat_search.specs.SettledUnits.{IsSettledDown};
 ghost use Rattle.varisat.specs.SinceChange.{GoesOnWithin};
 ghost use Rattle.varisat.specs.Accepting.{AreBounded};
-ghost use Rattle.varisat.specs.Searches.{TellsSome, ComesOn};
+ghost use Rattle.varisat.specs.Searches.{TellsSome, ComesOnUndecided};
 ghost use Rattle.varisat_tracer.specs.Tracing.{parts_of, open_parts, BreaksProof, CanTell};
 ghost use Rattle.varisat_search.specs.StepErrors.{step_faults};
 ghost use Rattle.varisat.specs.Spaces.{FitSome};
 ghost use Rattle.varisat.specs.Summaries.{undecided_spaces, IsKept};
-ghost use Rattle.varisat.specs.Dropping.{leads_to_unassumed, unassumed_among, AreOverAssumed, LeavesInTime, HasLetLeave, FlagsVariables, LosesSolverVar, AreDroppedAlone, leads_to_hidden, ListsUnneeded, AreReleased, LeavesNeeded, LeavesTables, LetsLeave};
+ghost use Rattle.varisat.specs.Dropping.{leads_to_unassumed, unassumed_among, AreOverAssumed, LeavesInTime, HasLetLeave, FlagsVariables, LosesSolverVar, AreDroppedAlone, leads_to_hidden, ListsUnneeded, AreReleased, LeavesNeeded, LeavesWhereUnsettled, LeavesTables, LetsLeave};
 
 use std::alloc::{AllocError, Allocator};
 use varisat_formula::io::ProofTarget;
@@ -256,12 +254,10 @@ pub fn drop_fixed<W: ProofTarget, A: Allocator + Copy>(
     ensures told { OnOk result (TellsSome tracer.old.proof tracer.new.proof) }
     ensures state { ctx.new.solver_state ≡ ctx.old.solver_state }
     ensures count { OnOk result (length ctx.new.assignment.current ≡ length ctx.old.assignment.current) }
-    ensures left { OnOk result (ctx.old.trail.decisions ≡ [] → ctx.old.trail.queue_head ≢ length ctx.old.trail.literals →
-        ((conflict : Conflict) × IsConflicting (view ctx.new) conflict) ⊎ LeavesNeeded tracer.new.variables (view ctx.new)) }
+    ensures left { OnOk result (LeavesWhereUnsettled ctx.old tracer.new.variables (view ctx.new)) }
     // Where none was to leave but with such news, none is now, unless a clause is false.
     ensures leaves { OnOk result (LeavesInTime tracer.old.variables (view ctx.old) → HasLetLeave tracer.new.variables (view ctx.new)) }
-    ensures stands { OnOk result (ComesOn 0 (undecided_spaces tracer.old.variables tracer.old.proof.checker ctx.old)
-        (undecided_spaces tracer.new.variables tracer.new.proof.checker ctx.new) tracer.old.proof tracer.new.proof) }
+    ensures stands { OnOk result (ComesOnUndecided 0 (parts_of tracer.old) ctx.old (parts_of tracer.new) ctx.new) }
     // What the target of an open proof has after an error, which is never that the store is full.
     ensures broken { IfErr result (λ error. BreaksProof tracer.old.proof (step_faults error) tracer.new.proof) }
     ensures full { IfErr result (λ error. error ≢ StepError.Full) }

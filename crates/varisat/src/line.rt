@@ -1,11 +1,10 @@
 //! The lines of a session: reading a line's command as a call, and writing the answer.
-ghost use Rattle.std.specs.Prelude.{◌≡◌, ◌≢◌, ◌==◌, ◌⊎◌, ℕ, ◌+◌, ◌<◌, ◌≤◌, ◌^◌, List, [], ◌∷◌, ◌++◌, map, take, IfOk, IfSome, IfNone, OnOk, decimal, length, codes};
+ghost use Rattle.std.specs.Prelude.{◌≡◌, ◌≢◌, ◌==◌, ℕ, ◌+◌, ◌<◌, ◌≤◌, ◌^◌, List, [], ◌∷◌, ◌++◌, map, IfOk, IfSome, IfNone, OnOk, decimal, length, codes};
 ghost use Rattle.std.specs.List.{All, join_with_byte};
 ghost use Rattle.std.specs.Io.KnownBytes.{Appends};
 ghost use Rattle.varisat_theory.specs.Literals.{Literal};
 ghost use Rattle.varisat_literals.specs.Numbers.{literal_text, variable_text};
-ghost use Rattle.varisat_names.specs.Settings.{update_of};
-ghost use Rattle.varisat.specs.Lines.{Command, Add, Assume, Config, words, MeansCommand, MeansOneCommand, AsksFor, SetsUsage, Opens, words_of, literals_text, variables_text, names_text, refusal_text, done_text, list_text, made_text, solved_text, truth_text, count_text, hex_digit, hex_text, bytes_text, opened_text, closed_text, answer_text};
+ghost use Rattle.varisat.specs.Lines.{Command, Add, Assume, Config, words, MeansCommand, BeginsList, MeansUpdate, MeansOneCommand, AsksFor, SetsUsage, Opens, words_of, literals_text, variables_text, names_text, refusal_text, done_text, list_text, made_text, solved_text, truth_text, count_text, hex_digit, hex_text, bytes_text, opened_text, closed_text, answer_text};
 ghost use Rattle.varisat.specs.Told.{told_list, told_vars};
 
 use crate::session::{Answer, Call};
@@ -52,8 +51,7 @@ fn parse_short<S: ByteSource, A: Allocator + Copy>(
     text: &[u8],
 ) -> Option<Call<MemoryTarget<A>, S, A>>
     ensures command { IfSome result (λ call. (command : Command) × AsksFor call command × MeansCommand text.now command) }
-    ensures no_command { IfNone result ((command : Command) → MeansCommand text.now command → (take 4 text.now ≡ codes "add ")
-        ⊎ (take 7 text.now ≡ codes "assume ")) }
+    ensures no_command { IfNone result ((command : Command) → MeansCommand text.now command → BeginsList text.now) }
 {
     match text.strip_prefix(b"config ") {
         Some(setting) => Some(Call::Config(parse_setting(setting)?)),
@@ -142,8 +140,7 @@ fn parse_word<S: ByteSource, A: Allocator + Copy>(
 
 // The update of a command that begins with `config` and a space, from what follows: a setting's name and a number.
 fn parse_setting(setting: &[u8]) -> Option<SolverConfigUpdate>
-    ensures command { IfSome result (λ update. (field : ConfigField) × (value : ℕ) × (update ≡ update_of field value)
-        × MeansCommand (codes "config " ++ setting.now) (Config field value)) }
+    ensures command { IfSome result (MeansUpdate (codes "config " ++ setting.now)) }
     ensures no_command { IfNone result ((command : Command) → MeansCommand (codes "config " ++ setting.now) command → ⊥) }
 {
     let (name, number) = split_word(setting);

@@ -1,10 +1,10 @@
 //! What a call finds out of the names that it is given, before anything changes.
-ghost use Rattle.std.specs.Prelude.{◌≡◌, ◌≢◌, ◌+◌, ◌-◌, length, MatchBool, MatchOption};
+ghost use Rattle.std.specs.Prelude.{◌≡◌, ◌≢◌, ◌+◌, ◌-◌, MatchBool, MatchOption};
 ghost use Rattle.varisat_theory.specs.Membership.{◌∈◌};
 ghost use Rattle.varisat_theory.specs.Literals.{Literal, variable_of};
 ghost use Rattle.varisat.specs.Names.{name_all, IsWitness, NameNoWitness, IsFirstWitness};
 ghost use Rattle.varisat.specs.Calls.{IsPastLimit, IsCrowded};
-ghost use Rattle.varisat.specs.Accepting.{AreBounded, naming_of, ComesAlone, CanBeNamed, ChecksNames};
+ghost use Rattle.varisat.specs.Accepting.{AreBounded, naming_of, ComesAlone, CountsAlone, CanBeNamed, ChecksNames};
 
 use crate::solver::SolverError;
 use std::alloc::Allocator;
@@ -69,8 +69,7 @@ fn comes_alone<A: Allocator + Copy>(
 /// How many names come into use alone, each once, where those of the clause are named. The work grows with the square
 /// of the length.
 fn count_alone<A: Allocator + Copy>(variables: &LinkedVariables<A>, clause: &[Lit]) -> usize
-    ensures { (name_all clause.now (naming_of variables.now)).made ≡ length variables.now.kept +
-        ((name_all clause.now (naming_of variables.now)).watermark - length variables.now.users.forward) + result }
+    ensures { CountsAlone variables.now clause.now result }
 {
     let mut count = 0;
     for index in 0..clause.len() {

@@ -1,8 +1,8 @@
 //! The commands of the program, over readers and writers.
-ghost use Rattle.std.specs.Prelude.{◌≡◌, ◌⊎◌, ◌-◌, ◌^◌, ◌<◌, OnOk, IfOk};
+ghost use Rattle.std.specs.Prelude.{◌≡◌, ◌-◌, ◌^◌, ◌<◌, OnOk, IfOk};
 ghost use Rattle.std.specs.Io.KnownBytes.{Appends};
-ghost use Rattle.varisat.specs.Decided.{Conclusion, concluded, allowed_steps, StatusIsTrue, model_text, conclusion_text, conclusion_status};
-ghost use Rattle.varisat.specs.Proven.{CanCountFault, prepared, DecidesProven, Fails};
+ghost use Rattle.varisat.specs.Decided.{concluded, StatusIsTrue, model_text, conclusion_text, conclusion_status};
+ghost use Rattle.varisat.specs.Proven.{CanCountFault, SolvesText};
 ghost use Rattle.varisat_proof.specs.Verified.{fault_status};
 
 use crate::deciding::decide;
@@ -59,13 +59,8 @@ pub fn solve_lines<A: Allocator + Copy, S: ByteSource, T: ProofTarget, W: Write,
     requires faults { (S.stand cnf.old).faults < 2 ^ 64 - 1 }
     requires room { CanCountFault T.taken proof.old }
     // Deciding fails; or the source gave a whole text, which was decided if the steps allowed it, with a proof in the target,
-    // and the outcome was printed, unless the writer failed. A fault's status comes only from these two failures.
-    ensures outcome { ((error : SolverError) × (result ≡ fault_status)
-        × Fails T.taken (prepared T.taken options.format options.check options.max_steps proof.old) (S.stand cnf.old) (S.stand cnf.new) error)
-        ⊎ ((conclusion : Conclusion)
-        × DecidesProven T.taken options.format (allowed_steps options.max_steps) (S.stand cnf.old) (S.stand cnf.new) proof.old proof.new conclusion
-        × ((result ≡ fault_status)
-        ⊎ ((result ≡ conclusion_status conclusion) × Appends (W.contents out.old) (W.contents out.new) (conclusion_text conclusion)))) }
+    // and the outcome was printed, unless the writer failed.
+    ensures outcome { SolvesText T.taken options (S.stand cnf.old) (S.stand cnf.new) proof.old proof.new (W.contents out.old) (W.contents out.new) result }
     ensures truth { StatusIsTrue (S.stand cnf.old) (S.stand cnf.new) result }
 {
     match decide(alloc, cnf, proof, options, err) {

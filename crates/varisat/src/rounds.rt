@@ -1,8 +1,8 @@
 //! A search in rounds, behind each of which it is told how far it is.
 ghost use Rattle.std.specs.Prelude.{◌≡◌, ◌↔◌, ◌<◌, ◌≤◌, IsTrue, Err};
 ghost use Rattle.varisat.specs.States.{State};
-ghost use Rattle.varisat.specs.Summaries.{StandsFor};
-ghost use Rattle.varisat.specs.Calls.{Searches, Solves, with_max_steps};
+ghost use Rattle.varisat.specs.Summaries.{StandsFor, StandsOnce};
+ghost use Rattle.varisat.specs.Calls.{SearchesWithin, Solves};
 
 use crate::progress::{write_head, write_row, write_summary};
 use crate::solver::{Solver, SolverError};
@@ -55,8 +55,7 @@ fn seek_in_rounds<W: ProofTarget, A: Allocator + Copy, E: Write>(
     interval: u64,
     err: &mut E,
 ) -> Result<bool, SolverError>
-    ensures { (s : State) → StandsFor solver.old s →
-        (t : State) × Searches (with_max_steps max_steps s) result (with_max_steps max_steps t) × StandsFor solver.new t }
+    ensures { StandsOnce solver.old (λ s t. SearchesWithin max_steps s result t) solver.new }
 {
     let mut rest = max_steps;
     'rounds: loop {

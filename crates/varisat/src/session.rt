@@ -1,10 +1,8 @@
 //! Any list of calls of a solver.
 ghost use Rattle.std.specs.Prelude.{◌≡◌, [], IfOk, OnErr};
 ghost use Rattle.varisat.specs.States.{State, empty_state};
-ghost use Rattle.varisat.specs.Calls.{IsValid};
-ghost use Rattle.varisat.specs.Journals.{IsJournal, IsToldWithin};
-ghost use Rattle.varisat.specs.Summaries.{StandsFor};
-ghost use Rattle.varisat.specs.Runs.{calling, MakesCall, Run, IsReady, AreReady};
+ghost use Rattle.varisat.specs.Summaries.{StandsFor, StandsOnce};
+ghost use Rattle.varisat.specs.Runs.{calling, MakesCall, Run, HasToldRight, IsReady, AreReady};
 ghost use Rattle.varisat.specs.Pasts.{empty_past};
 ghost use Rattle.varisat.specs.Histories.{telling, AreTrue};
 ghost use Rattle.varisat.specs.Moments.{HasFewSteps, HasFewStepsAlong};
@@ -111,8 +109,7 @@ pub fn run<W: ProofTarget, S: ByteSource, A: Allocator + Copy>(
     calls: Vec<Call<W, S, A>, A>,
 ) -> Result<Vec<Answer<W, S, A>, A>, AllocError>
     requires { AreReady S.stand W.taken calls.items }
-    ensures run { IfOk result (λ answers. (s : State) → StandsFor solver.old s →
-        (t : State) × Run S.stand W.taken s calls.items answers.items t × StandsFor solver.new t) }
+    ensures run { IfOk result (λ answers. StandsOnce solver.old (λ s t. Run S.stand W.taken s calls.items answers.items t) solver.new) }
     ensures few { IfOk result (λ answers. (s : State) → StandsFor solver.old s →
         HasFewStepsAlong calling S.stand W.taken s calls.items answers.items) }
     ensures err { OnErr result (solver.new ≡ solver.old) }
@@ -133,8 +130,7 @@ pub fn answers_of<W: ProofTarget, S: ByteSource, A: Allocator + Copy>(
     calls: Vec<Call<W, S, A>, A>,
 ) -> Result<Vec<Answer<W, S, A>, A>, AllocError>
     requires { AreReady S.stand W.taken calls.items }
-    ensures run { IfOk result (λ answers. (t : State) × Run S.stand W.taken empty_state calls.items answers.items t
-        × (IsValid t → IsJournal t × IsToldWithin t.ledger.steps t.told)) }
+    ensures run { IfOk result (λ answers. (t : State) × Run S.stand W.taken empty_state calls.items answers.items t × HasToldRight t) }
     ensures truth { IfOk result (λ answers. AreTrue S.stand W.taken empty_past calls.items answers.items) }
     ensures few { IfOk result (λ answers. HasFewStepsAlong telling S.stand W.taken empty_past calls.items answers.items) }
 {

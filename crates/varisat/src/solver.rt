@@ -197,22 +197,20 @@ impl<W: ProofTarget, A: Allocator + Copy> Model for Solver<W, A> {
 
 impl<W: ProofTarget, A: Allocator + Copy> Solver<W, A> {
     ghost use Rattle.std.specs.Prelude.{◌≡◌, ◌≢◌, ◌-◌, ◌<◌, ◌^◌, Ok, Err, Some, None, true, false, List, ℕ};
-    ghost use Rattle.std.specs.Prelude.{map, IsSome, option_copied};
-    ghost use Rattle.varisat_theory.specs.Literals.{IsSatisfiableWith, IsFailedCore};
+    ghost use Rattle.std.specs.Prelude.{IsSome, option_copied};
+    ghost use Rattle.varisat_theory.specs.Literals.{IsSatisfiableWith};
     ghost use Rattle.varisat_theory.specs.CallBounds.{AreFew};
-    ghost use Rattle.varisat_formula.specs.Rest.{Progress, IsEnding};
     ghost use Rattle.std.specs.declared.io.Error.{Error};
     ghost use Rattle.varisat.specs.States.{State, empty_state};
-    ghost use Rattle.varisat.specs.Models.{model_of, IsCompletable, core_of, AreNamesInUse};
-    ghost use Rattle.varisat.specs.Names.{through_names};
-    ghost use Rattle.varisat.specs.Calls.{IsValid, count_anew, with_max_steps, AddsClause, AddsAll, AddsFormula, AddsDimacs, AddsReading, TellsFault, MakesVar, Assumes, Searches, Solves, TellsModel, TellsCore, Configures, TellsSteps, TellsSince, TellsValid, answer_of};
+    ghost use Rattle.varisat.specs.Models.{IsCompletableIn, HasModel, HasCore, IsNamedCore};
+    ghost use Rattle.varisat.specs.Calls.{IsValid, count_anew, with_max_steps, AddsClause, AddsAll, AddsFormula, AddsDimacs, TellsFault, MakesVar, Assumes, Searches, Solves, TellsModel, TellsCore, Configures, TellsSteps, TellsSince, TellsValid, answer_of};
     ghost use Rattle.varisat.specs.Told.{told_list, lent_list};
-    ghost use Rattle.varisat.specs.Summaries.{StandsFor, EndsSearch, HasNoRoom};
+    ghost use Rattle.varisat.specs.Summaries.{StandsFor, StandsOnceEnded, EndsSearch, HasNoRoom};
     ghost use Rattle.varisat.specs.Targets.{WritesOn, WritesAll};
     ghost use Rattle.varisat_proof.specs.Proving.{marked_searched};
     ghost use Rattle.varisat.specs.Journals.{IsJournal};
     ghost use Rattle.varisat.specs.Refusals.{told_faults};
-    ghost use Rattle.varisat.specs.Dropping.{LeavesInTime};
+    ghost use Rattle.varisat.specs.Dropping.{GoesOnLeaving};
     ghost use Rattle.varisat_proof.specs.Proving.{IsClosed};
     ghost use Rattle.varisat.specs.ProofCalls.{OpensProof, EnablesChecking, ClosesProof};
 
@@ -424,8 +422,7 @@ impl<W: ProofTarget, A: Allocator + Copy> Solver<W, A> {
     fn end_text(&mut self, parser: &mut DimacsParser<A>) -> Result<(), SolverError>
         ensures target { WritesOn self.old.opened result self.new.opened }
         ensures full { result ≡ Err SolverError.ClauseStoreFull → HasNoRoom self.new }
-        ensures call { (s : State) → StandsFor self.old s → IsValid s → (p : Progress) × IsEnding parser.old p × (t : State)
-            × AddsReading s p.reading result t × StandsFor self.new t }
+        ensures call { (s : State) → StandsFor self.old s → IsValid s → StandsOnceEnded parser.old s result self.new }
     {
         let end = parser.finish();
         self.add_clauses(&parser.take_formula())?;
@@ -606,16 +603,13 @@ impl<W: ProofTarget, A: Allocator + Copy> Solver<W, A> {
         ensures call { (s : State) → StandsFor self.old s → (t : State) × Solves s result t × StandsFor self.new t }
         ensures satisfiable { result ≡ Ok true → (s : State) → StandsFor self.old s → IsSatisfiableWith s.clauses s.assumptions }
         ensures unsatisfiable { result ≡ Ok false → (s : State) → StandsFor self.old s → IsSatisfiableWith s.clauses s.assumptions → ⊥ }
-        ensures model { result ≡ Ok true → (s : State) → StandsFor self.new s → (m : List ℕ) × (model_of s.naming s.verdict ≡ Some m)
-            × IsCompletable s.naming s.clauses s.assumptions s.counted m }
-        ensures core { result ≡ Ok false → (s : State) → StandsFor self.new s → (core : List ℕ) × (core_of s.verdict ≡ Some core)
-            × IsFailedCore s.clauses s.assumptions core }
+        ensures model { result ≡ Ok true → (s : State) → StandsFor self.new s → HasModel s }
+        ensures core { result ≡ Ok false → (s : State) → StandsFor self.new s → HasCore s }
         // The target is as after the steps, but that a search is noted to have run under the proof.
         ensures target { WritesOn (marked_searched self.old.opened) result (marked_searched self.new.opened) }
         ensures full { result ≡ Err SolverError.ClauseStoreFull → HasNoRoom self.new }
         // Variables leave in time: those whose values are fixed, unless they are assumed.
-        ensures leaves { LeavesInTime self.old.tables self.old.search → self.new.ledger.valid ≡ true → self.new.sat_state ≢ SatState.Unsat →
-            LeavesInTime self.new.tables self.new.search }
+        ensures leaves { GoesOnLeaving self.old self.new }
     {
         let found = self.seek();
         if self.ctx.solver_state.state_is_invalid {
@@ -646,16 +640,13 @@ impl<W: ProofTarget, A: Allocator + Copy> Solver<W, A> {
         ensures call { (s : State) → StandsFor self.old s → (t : State) × Searches s result t × StandsFor self.new t }
         ensures satisfiable { result ≡ Ok true → (s : State) → StandsFor self.old s → IsSatisfiableWith s.clauses s.assumptions }
         ensures unsatisfiable { result ≡ Ok false → (s : State) → StandsFor self.old s → IsSatisfiableWith s.clauses s.assumptions → ⊥ }
-        ensures model { result ≡ Ok true → (s : State) → StandsFor self.new s → (m : List ℕ) × (model_of s.naming s.verdict ≡ Some m)
-            × IsCompletable s.naming s.clauses s.assumptions s.counted m }
-        ensures core { result ≡ Ok false → (s : State) → StandsFor self.new s → (core : List ℕ) × (core_of s.verdict ≡ Some core)
-            × IsFailedCore s.clauses s.assumptions core }
+        ensures model { result ≡ Ok true → (s : State) → StandsFor self.new s → HasModel s }
+        ensures core { result ≡ Ok false → (s : State) → StandsFor self.new s → HasCore s }
         ensures target { WritesOn self.old.opened result self.new.opened }
         // In a valid solver it has all lines.
         ensures whole { self.new.ledger.valid ≡ true → WritesAll self.old.opened self.new.opened }
         ensures full { result ≡ Err SolverError.ClauseStoreFull → HasNoRoom self.new }
-        ensures leaves { LeavesInTime self.old.tables self.old.search → self.new.ledger.valid ≡ true → self.new.sat_state ≢ SatState.Unsat →
-            LeavesInTime self.new.tables self.new.search }
+        ensures leaves { GoesOnLeaving self.old self.new }
     {
         if self.ctx.solver_state.state_is_invalid {
             return Err(SolverError::Invalid);
@@ -686,8 +677,7 @@ impl<W: ProofTarget, A: Allocator + Copy> Solver<W, A> {
     /// that the clauses are satisfiable; else None, as in an invalid solver. Where memory runs out nothing changes.
     pub fn model(&self) -> Result<Option<Vec<Lit, A>>, AllocError>
         ensures call { (s : State) → StandsFor self.now s → (t : State) × TellsModel s (told_list result) t × StandsFor self.now t }
-        ensures completable { (m : List ℕ) → told_list result ≡ Ok (Some m) → (s : State) → StandsFor self.now s →
-            IsCompletable s.naming s.clauses s.assumptions s.counted m }
+        ensures completable { (m : List ℕ) → told_list result ≡ Ok (Some m) → (s : State) → StandsFor self.now s → IsCompletableIn s m }
         ensures absent { told_list result ≡ Ok None → (s : State) → StandsFor self.now s → IsValid s → answer_of s.verdict ≡ Some true → ⊥ }
     {
         if self.ctx.solver_state.state_is_invalid {
@@ -708,8 +698,7 @@ impl<W: ProofTarget, A: Allocator + Copy> Solver<W, A> {
     /// are; else None, as in an invalid solver.
     pub fn failed_core(&self) -> Option<&[Lit]>
         ensures call { (s : State) → StandsFor self.now s → (t : State) × TellsCore s (Ok (lent_list result)) t × StandsFor self.now t }
-        ensures fails { (core : List ℕ) → lent_list result ≡ Some core → (s : State) → StandsFor self.now s → AreNamesInUse s.naming core
-            × IsFailedCore s.clauses s.assumptions (map (through_names s.naming) core) }
+        ensures fails { (core : List ℕ) → lent_list result ≡ Some core → (s : State) → StandsFor self.now s → IsNamedCore s core }
         ensures absent { lent_list result ≡ None → (s : State) → StandsFor self.now s → IsValid s → answer_of s.verdict ≡ Some false → ⊥ }
     {
         if self.ctx.solver_state.state_is_invalid {

@@ -1,9 +1,7 @@
 //! The steps of a solver, until the verdict is known or the steps are spent, and the core over names.
-ghost use Rattle.std.specs.Prelude.{◌≡◌, ◌≢◌, ◌≤◌, ◌<◌, ◌-◌, ◌^◌, ℕ, suc, length, map, OnOk, IfOk, OnErr, IfErr};
+ghost use Rattle.std.specs.Prelude.{◌≡◌, ◌≢◌, ◌≤◌, ◌<◌, ◌-◌, ◌^◌, ℕ, suc, length, OnOk, IfOk, OnErr, IfErr};
 ghost use Rattle.varisat_theory.specs.Membership.{◌∈◌};
 ghost use Rattle.varisat_theory.specs.Literals.{Literal, variable_of};
-ghost use Rattle.varisat_names.specs.Maps.{chain};
-ghost use Rattle.varisat_names.specs.VarMap.{at};
 ghost use Rattle.varisat_schedule.specs.Plans.{step_begun, next_plan};
 ghost use Rattle.varisat_search.specs.Contexts.{KeepsSchedule};
 ghost use Rattle.varisat_search.specs.StepErrors.{step_faults, HasNoRoom};
@@ -12,7 +10,7 @@ ghost use Rattle.varisat.specs.SinceChange.{CountsOnSince, CountsStepsFrom};
 ghost use Rattle.varisat_tracer.specs.Tracing.{parts_of, BreaksProof, CanTell};
 ghost use Rattle.varisat.specs.Searches.{BeginsSolverStep, MakesNamedStep, MakesSolverStep, FindsVerdict};
 ghost use Rattle.varisat.specs.Accepting.{HasUser};
-ghost use Rattle.varisat.specs.Carried.{carry};
+ghost use Rattle.varisat.specs.Carried.{named_literals};
 ghost use Rattle.varisat.specs.Spaces.{FitSome};
 ghost use Rattle.varisat.specs.Summaries.{undecided_spaces, IsKept};
 
@@ -62,8 +60,7 @@ fn name_core<A: Allocator + Copy>(
 ) -> Result<(), AllocError>
     requires { (l : Literal) → l ∈ ctx.old.assumptions.failed_core → HasUser variables.now (variable_of l) }
     ensures kept { ctx.new ≡ record ctx.old { assumptions = record ctx.old.assumptions { user_core = ctx.new.assumptions.user_core } } }
-    ensures named { OnOk result (ctx.new.assumptions.user_core ≡
-        map (carry (chain (at variables.now.solvers.backward) (at variables.now.users.backward))) ctx.old.assumptions.failed_core) }
+    ensures named { OnOk result (ctx.new.assumptions.user_core ≡ named_literals variables.now ctx.old.assumptions.failed_core) }
 {
     carry_literals(
         variables.global_from_solver(),

@@ -3,8 +3,8 @@
 
 ghost use Rattle.std.specs.Prelude.{◌≡◌, ◌≢◌, ◌↔◌, ◌⊎◌, ◌-◌, ◌^◌, ◌<◌, IsErr, IfOk, MatchBool, MatchOption};
 ghost use Rattle.std.specs.Fs.{file_type, IsDir};
-ghost use Rattle.varisat.specs.Decided.{Conclusion, StatusIsTrue, allowed_steps, conclusion_status};
-ghost use Rattle.varisat.specs.Proven.{CanCountFault, DecidesProven, taken_by_writer};
+ghost use Rattle.varisat.specs.Decided.{StatusIsTrue};
+ghost use Rattle.varisat.specs.Proven.{CanCountFault, DecidesWithStatus, taken_by_writer};
 ghost use Rattle.varisat_proof.specs.Verified.{GivesUnsatisfiable, EndsCheck, sources_of, fault_status};
 
 mod help;
@@ -361,10 +361,7 @@ fn decide_text<R: Read + Drop, W: Write, E: Write>(
     requires faults { cnf.old.faults < 2 ^ 64 - 1 }
     requires room { CanCountFault taken_by_writer proof.old }
     ensures truth { StatusIsTrue cnf.old cnf.new result }
-    ensures outcome { (result ≡ fault_status)
-        ⊎ ((conclusion : Conclusion)
-        × DecidesProven taken_by_writer options.format (allowed_steps options.max_steps) cnf.old cnf.new proof.old proof.new conclusion
-        × (result ≡ conclusion_status conclusion)) }
+    ensures outcome { (result ≡ fault_status) ⊎ DecidesWithStatus taken_by_writer options cnf.old cnf.new proof.old proof.new result }
 {
     match heap {
         None => solve_lines(rt.alloc(), cnf, proof, options, out, err),

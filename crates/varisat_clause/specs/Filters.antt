@@ -1,7 +1,7 @@
 -- What goes over the clauses of a store, and what a filter leaves of them.
-use Rattle.std.specs.Prelude.{◌≡◌, ℕ, Bool, true, false, not, List, [], ◌∷◌, ◌++◌, length, map}
-use Rattle.varisat_clause.specs.Stored.{StoredClause, stored_at, header_at, with_stored, with_header}
-use Rattle.varisat_clause.specs.Stores.{Store, stored_clauses, HoldsClauses}
+use Rattle.std.specs.Prelude.{◌≡◌, ℕ, Bool, true, false, not, List, [], ◌∷◌, ◌++◌, map}
+use Rattle.varisat_clause.specs.Stored.{StoredClause, stored_at, header_at, with_header}
+use Rattle.varisat_clause.specs.Stores.{Store, stored_clauses, RewritesClauseAt}
 use Rattle.varisat_clause.specs.Collected.{live_of}
 
 -- the places of the clauses that are not deleted
@@ -18,7 +18,7 @@ pub record Alters (old new : Store) (p : ℕ) : Type 0 where
   pub place : clause.place ≡ p
   pub tier : clause.header.tier ≡ (header_at (stored_clauses old) p).tier
   pub live : clause.header.deleted ≡ false
-  pub is : HoldsClauses new (length old.words) (with_stored (stored_clauses old) p clause)
+  pub is : RewritesClauseAt old new p (λ _. clause)
 
 -- the clause stays, or it is deleted
 abbrev pub left_if : Bool → StoredClause → StoredClause
@@ -30,7 +30,7 @@ pub record FiltersAt {F : Type 0} (Leaves : F → StoredClause → StoredClause 
   pub place : clause.place ≡ p
   pub tier : clause.header.tier ≡ (header_at (stored_clauses old) p).tier
   pub left : Leaves f (stored_at (stored_clauses old) p) clause g
-  pub is : HoldsClauses new (length old.words) (with_stored (stored_clauses old) p clause)
+  pub is : RewritesClauseAt old new p (λ _. clause)
 
 -- A filter f comes to the clause k, leaves j of it, and is g then. One that was deleted before is passed over. Another one
 -- keeps its place and its tier, and the rest is the filter's own relation.

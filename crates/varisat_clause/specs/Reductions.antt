@@ -4,7 +4,7 @@ use Rattle.varisat_theory.specs.Membership.{◌∈◌, IsDistinct}
 use Rattle.varisat_clause.specs.declared.header.Tier.{Tier}
 use Rattle.varisat_clause.specs.declared.header.Tier.TheVariants.{Mid, Local}
 use Rattle.varisat_clause.specs.Stored.{StoredClause, IsPlace, stored_at, header_at, with_stored}
-use Rattle.varisat_clause.specs.Stores.{Store, stored_clauses, IsSound, HoldsClauses}
+use Rattle.varisat_clause.specs.Stores.{Store, stored_clauses, IsSound, RewritesClauses}
 use Rattle.varisat_clause.specs.Databases.{is_live_in}
 use Rattle.varisat_clause.specs.Filters.{deleted_at}
 
@@ -55,7 +55,7 @@ pub record CanMarkTier (t : Tier) (s : Store) (ps : List ℕ) : Type 0 where
 -- the places are those of the clauses of the tier that are not deleted, each once, and these clauses are marked
 pub record MarksTier (t : Tier) (old new : Store) (ps : List ℕ) : Type 0 where
   pub listed : ListsTier t (stored_clauses old) ps
-  pub marked : HoldsClauses new (length old.words) (tier_marked t (stored_clauses old))
+  pub marked : RewritesClauses old new (tier_marked t)
 
 -- the clause at the first place is less active, or as active and before the other
 abbrev pub Precedes : List StoredClause → ℕ → ℕ → Type 0
@@ -83,7 +83,7 @@ pub record ReducesLocals (old new : Store) : Type 0 where
   pub order : List ℕ
   pub listed : ListsTier Local (stored_clauses old) order
   pub ranked : AreRanked (stored_clauses old) order
-  pub deleted : HoldsClauses new (length old.words) (all_deleted (unmarked_places (stored_clauses old) (length order / 2) order) (stored_clauses old))
+  pub deleted : RewritesClauses old new (all_deleted (unmarked_places (stored_clauses old) (length order / 2) order))
 
 -- A Mid clause that is active loses the flag, and one that is not becomes Local. Others stay.
 abbrev pub mid_reduced : StoredClause → StoredClause

@@ -35,6 +35,10 @@ literals_at ks p = (stored_at ks p).literals
 abbrev pub header_at : List StoredClause → ℕ → Header
 header_at ks p = (stored_at ks p).header
 
+-- a new clause at the place, whose header says how many literals it has
+abbrev pub new_clause : ℕ → Header → Clause → StoredClause
+new_clause p h c = record { place = p; header = record h { len = length c }; literals = c }
+
 -- another clause in place of the one at the place
 abbrev pub with_stored : List StoredClause → ℕ → StoredClause → List StoredClause
 with_stored [] p j = []

@@ -1,7 +1,8 @@
 -- A store of clauses: one list of words, and the places at which clauses begin in it.
 use Rattle.std.specs.Prelude.{◌≡◌, ℕ, ◌+◌, ◌^◌, ◌≤◌, ◌<◌, nat_le, nat_lt, List, [], ◌∷◌, ◌++◌, length, map, take, drop, Bool, ◌&&◌, slice_index, slice_set}
 use Rattle.varisat_clause.specs.Headers.{Header, header_of_words, flags_of}
-use Rattle.varisat_clause.specs.Stored.{StoredClause, AppendsClause}
+use Rattle.varisat_theory.specs.Literals.{Clause}
+use Rattle.varisat_clause.specs.Stored.{StoredClause, stored_at, header_at, literals_at, with_stored, with_literals, with_header, AppendsClause}
 
 -- A clause is three words for its header, and then its literals. A clause that was shortened leaves a gap behind it.
 pub record Store : Type 0 where
@@ -27,6 +28,10 @@ clause_in ws p = record { place = p; header = header_in ws p; literals = take (l
 -- the clauses of a store, also those that are deleted
 abbrev pub stored_clauses : Store → List StoredClause
 stored_clauses s = map (clause_in s.words) s.places
+
+-- the clause of the store at the place
+abbrev pub clause_of : Store → ℕ → StoredClause
+clause_of s p = stored_at (stored_clauses s) p
 
 -- a clause of three literals or more stands at the place, between low and high
 pub record Lies (ws : List ℕ) (low high p : ℕ) : Type 0 where
@@ -64,6 +69,22 @@ pub record HoldsClauses (s : Store) (size : ℕ) (ks : List StoredClause) : Type
   pub words : length s.words ≡ size
   pub clauses : stored_clauses s ≡ ks
 
+-- Of a store that is rewritten in place, the clauses are what f makes of them, in as many words.
+abbrev pub RewritesClauses : Store → Store → (List StoredClause → List StoredClause) → Type 0
+RewritesClauses old new f = HoldsClauses new (length old.words) (f (stored_clauses old))
+
+-- only the clause at the place is changed
+abbrev pub RewritesClauseAt : Store → Store → ℕ → (StoredClause → StoredClause) → Type 0
+RewritesClauseAt old new p f = HoldsClauses new (length old.words) (with_stored (stored_clauses old) p (f (stored_at (stored_clauses old) p)))
+
+-- only its header is changed
+abbrev pub RewritesHeaderAt : Store → Store → ℕ → (Header → Header) → Type 0
+RewritesHeaderAt old new p f = HoldsClauses new (length old.words) (with_header (stored_clauses old) p (f (header_at (stored_clauses old) p)))
+
+-- only its literals are changed
+abbrev pub RewritesLiteralsAt : Store → Store → ℕ → (Clause → Clause) → Type 0
+RewritesLiteralsAt old new p f = HoldsClauses new (length old.words) (with_literals (stored_clauses old) p (f (literals_at (stored_clauses old) p)))
+
 -- a clause stands behind the words that there were, and all else is as it was
 pub record AddsStored (old new : Store) (k : StoredClause) : Type 0 where
   pub sound : IsSound new
@@ -82,3 +103,7 @@ splice ws a xs = take a ws ++ (xs ++ drop (length xs) (drop a ws))
 -- the same, where what is too long is cut off
 abbrev pub put_words : Store → ℕ → List ℕ → Store
 put_words s a xs = record s { words = take (length s.words) (splice s.words a xs ++ drop (length (splice s.words a xs)) s.words) }
+
+-- n words that are written behind the header at the place become the literals of the clause there, and no other clause changes
+abbrev pub TakesLiteralsAt : Store → ℕ → ℕ → Type 0
+TakesLiteralsAt s p n = (ws : List ℕ) → length ws ≡ n → RewritesLiteralsAt s (put_words s (p + 3) ws) p (λ _. ws)

@@ -2,10 +2,10 @@
 //!
 //! A bump raises a clause's activity by the increment, and a decay raises the increment. Before numbers come near to
 //! 2^32 all are shifted, so that their order stays.
-ghost use Rattle.std.specs.Prelude.{◌≡◌, ℕ, ◌+◌, ◌*◌, ◌/◌, ◌^◌, ◌<◌, ◌≤◌, length, max, true, false};
-ghost use Rattle.varisat_clause.specs.Stored.{IsPlace, header_at};
-ghost use Rattle.varisat_clause.specs.Stores.{stored_clauses, IsSound, HoldsClauses};
-ghost use Rattle.varisat_clause.specs.ClauseActivities.{ActivityScale, least_clause_increment, clause_activity_limit, first_scale, AreWithinClauseLimits, with_activity, clauses_shifted, scale_shifted, clauses_rescaled, scale_rescaled, reaches_clause_limit};
+ghost use Rattle.std.specs.Prelude.{◌≡◌, ◌+◌, ◌*◌, ◌/◌, ◌^◌, ◌<◌, ◌≤◌, max, true, false};
+ghost use Rattle.varisat_clause.specs.Stored.{IsPlace};
+ghost use Rattle.varisat_clause.specs.Stores.{stored_clauses, IsSound, RewritesClauses, RewritesHeaderAt};
+ghost use Rattle.varisat_clause.specs.ClauseActivities.{ActivityScale, least_clause_increment, clause_activity_limit, first_scale, AreWithinClauseLimits, clauses_shifted, clauses_rescaled, scale_rescaled, reaches_clause_limit, scored, reaches_limit_at, RaisesActivity, RaisesAndShifts, increment_decayed, scale_decayed};
 
 use crate::alloc::{ClauseAlloc, ClauseRef};
 use std::alloc::Allocator;
@@ -78,7 +78,7 @@ impl ClauseActivity {
 
     /// The increment after a decay.
     fn decayed(&self) -> u64
-        ensures decayed { result ≡ self.now.increment * 1000 / self.now.decay }
+        ensures decayed { result ≡ increment_decayed self.now }
         ensures least { least_clause_increment ≤ result }
         ensures small { result < 2 ^ 30 }
     {
@@ -106,7 +106,7 @@ fn shifted_increment(increment: u64) -> u32
 /// Shifts the activities of all clauses right by 16.
 fn rescale<A: Allocator + Copy>(alloc: &mut ClauseAlloc<A>)
     requires { IsSound alloc.old }
-    ensures { HoldsClauses alloc.new (length alloc.old.words) (clauses_shifted (stored_clauses alloc.old)) }
+    ensures { RewritesClauses alloc.old alloc.new clauses_shifted }
 {
     'clauses: for index in 0..alloc.len() {
         let cref = alloc.place(index);
@@ -120,7 +120,7 @@ fn rescale<A: Allocator + Copy>(alloc: &mut ClauseAlloc<A>)
 fn set_activity<A: Allocator + Copy>(alloc: &mut ClauseAlloc<A>, cref: ClauseRef, activity: u32)
     requires sound { IsSound alloc.old }
     requires place { IsPlace (stored_clauses alloc.old) cref }
-    ensures { HoldsClauses alloc.new (length alloc.old.words) (with_activity (stored_clauses alloc.old) cref activity) }
+    ensures { RewritesHeaderAt alloc.old alloc.new cref (λ header. record header { activity = activity }) }
 {
     let mut header = alloc.header(cref);
     header.set_activity(activity);
@@ -136,15 +136,9 @@ pub fn bump_clause_activity<A: Allocator + Copy>(
 )
     requires sound { IsSound alloc.old }
     requires place { IsPlace (stored_clauses alloc.old) cref }
-    ensures raised { reaches_clause_limit ((header_at (stored_clauses alloc.old) cref).activity + activity.old.increment) ≡ false →
-        HoldsClauses alloc.new (length alloc.old.words)
-        (with_activity (stored_clauses alloc.old) cref ((header_at (stored_clauses alloc.old) cref).activity + activity.old.increment)) }
-    ensures shifted { reaches_clause_limit ((header_at (stored_clauses alloc.old) cref).activity + activity.old.increment) ≡ true →
-        HoldsClauses alloc.new (length alloc.old.words)
-        (with_activity (clauses_shifted (stored_clauses alloc.old)) cref
-        (((header_at (stored_clauses alloc.old) cref).activity + activity.old.increment) / 2 ^ 16)) }
-    ensures scale { activity.new ≡ scale_rescaled
-        (reaches_clause_limit ((header_at (stored_clauses alloc.old) cref).activity + activity.old.increment)) activity.old }
+    ensures raised { reaches_limit_at cref (scored alloc.old activity.old) ≡ false → RaisesActivity alloc.old alloc.new activity.old cref }
+    ensures shifted { reaches_limit_at cref (scored alloc.old activity.old) ≡ true → RaisesAndShifts alloc.old alloc.new activity.old cref }
+    ensures scale { activity.new ≡ scale_rescaled (reaches_limit_at cref (scored alloc.old activity.old)) activity.old }
 {
     let increment = activity.increment();
     let value = alloc.header(cref).activity() as u64 + increment as u64;
@@ -164,10 +158,8 @@ pub fn decay_clause_activities<A: Allocator + Copy>(
     activity: &mut ClauseActivity,
 )
     requires { IsSound alloc.old }
-    ensures clauses { HoldsClauses alloc.new (length alloc.old.words)
-        (clauses_rescaled (reaches_clause_limit (activity.old.increment * 1000 / activity.old.decay)) (stored_clauses alloc.old)) }
-    ensures scale { activity.new ≡ scale_rescaled (reaches_clause_limit (activity.old.increment * 1000 / activity.old.decay))
-        (record activity.old { increment = activity.old.increment * 1000 / activity.old.decay }) }
+    ensures clauses { RewritesClauses alloc.old alloc.new (clauses_rescaled (reaches_clause_limit (increment_decayed activity.old))) }
+    ensures scale { activity.new ≡ scale_rescaled (reaches_clause_limit (increment_decayed activity.old)) (scale_decayed activity.old) }
 {
     let increment = activity.decayed();
     if increment < ACTIVITY_LIMIT {

@@ -1,11 +1,11 @@
 //! The store of clauses: one buffer of words, in which each clause is its header and then its literals.
-ghost use Rattle.std.specs.Prelude.{◌≡◌, ℕ, ◌+◌, ◌<◌, ◌≤◌, ◌^◌, ◌++◌, ◌∷◌, [], List, length, slice_index, ◌↔◌, IsTrue, IfOk, IfErr, OnErr, if◌then◌else◌};
+ghost use Rattle.std.specs.Prelude.{◌≡◌, ℕ, ◌+◌, ◌<◌, ◌≤◌, ◌^◌, ◌++◌, ◌∷◌, [], length, slice_index, ◌↔◌, IsTrue, IfOk, IfErr, OnErr, if◌then◌else◌};
 ghost use Rattle.std.specs.List.{swap};
 ghost use Rattle.varisat_clause.specs.declared.alloc.StoreError.TheVariants.{Memory};
 ghost use Rattle.varisat_clause.specs.Headers.{header_of_words, flags_of};
-ghost use Rattle.varisat_clause.specs.Stored.{IsPlace, stored_at, header_at, literals_at, with_literals, with_header, shortened};
+ghost use Rattle.varisat_clause.specs.Stored.{IsPlace, header_at, literals_at, new_clause, shortened};
 ghost use Rattle.varisat_clause.specs.Reductions.{rank_in};
-ghost use Rattle.varisat_clause.specs.Stores.{Store, no_store, len_at, header_in, stored_clauses, IsSound, HoldsClauses, AddsStored, header_written, put_words};
+ghost use Rattle.varisat_clause.specs.Stores.{Store, no_store, header_in, stored_clauses, IsSound, HoldsClauses, RewritesClauses, RewritesHeaderAt, RewritesLiteralsAt, AddsStored, header_written, TakesLiteralsAt};
 
 use crate::header::ClauseHeader;
 use std::alloc::{AllocError, Allocator};
@@ -212,8 +212,7 @@ impl<A: Allocator + Copy> ClauseAlloc<A> {
     ) -> Result<ClauseRef, StoreError>
         requires long { 3 ≤ length lits.now }
         requires sound { IsSound self.old }
-        ensures added { IfOk result (λ cref. AddsStored self.old self.new
-            (record { place = cref; header = record header { len = length lits.now }; literals = lits.now })) }
+        ensures added { IfOk result (λ cref. AddsStored self.old self.new (new_clause cref header lits.now)) }
         ensures room { IfOk result (λ cref. length self.old.words + 3 + length lits.now < 2 ^ 32) }
         ensures full { IfErr result (λ error. (error ≡ StoreError.Full) ↔ (2 ^ 32 ≤ length self.old.words + 3 + length lits.now)) }
         ensures refused { OnErr result (self.new ≡ self.old) }
@@ -272,8 +271,7 @@ impl<A: Allocator + Copy> ClauseAlloc<A> {
         requires place { IsPlace (stored_clauses self.old) cref }
         ensures* lends { sem 𝓛 (lends_literals A.row A.Allocator self.entry cref result) }
         ensures value { result.now ≡ literals_at (stored_clauses self.old) cref }
-        ensures alone { (ws : List ℕ) → length ws ≡ length result.now →
-            HoldsClauses (put_words self.old (cref + 3) ws) (length self.old.words) (with_literals (stored_clauses self.old) cref ws) }
+        ensures alone { TakesLiteralsAt self.old cref (length result.now) }
     {
         let begin = cref.offset as usize + HEADER_LEN;
         let len = word(&self.buffer, cref.offset as usize + 2) as usize;
@@ -286,8 +284,7 @@ impl<A: Allocator + Copy> ClauseAlloc<A> {
         requires place { IsPlace (stored_clauses self.old) cref }
         requires first { first < length (literals_at (stored_clauses self.old) cref) }
         requires second { second < length (literals_at (stored_clauses self.old) cref) }
-        ensures { HoldsClauses self.new (length self.old.words)
-            (with_literals (stored_clauses self.old) cref (swap (literals_at (stored_clauses self.old) cref) first second)) }
+        ensures { RewritesLiteralsAt self.old self.new cref (λ lits. swap lits first second) }
     {
         let lits = self.lits_mut(cref);
         lits.swap(first, second);
@@ -298,7 +295,7 @@ impl<A: Allocator + Copy> ClauseAlloc<A> {
         requires sound { IsSound self.old }
         requires place { IsPlace (stored_clauses self.old) cref }
         requires length { header.len ≡ (header_at (stored_clauses self.old) cref).len }
-        ensures { HoldsClauses self.new (length self.old.words) (with_header (stored_clauses self.old) cref header) }
+        ensures { RewritesHeaderAt self.old self.new cref (λ _. header) }
     {
         write_header(&mut self.buffer, cref.offset as usize, header);
     }
@@ -309,7 +306,7 @@ impl<A: Allocator + Copy> ClauseAlloc<A> {
         requires place { IsPlace (stored_clauses self.old) cref }
         requires least { 3 ≤ count }
         requires most { count ≤ (header_at (stored_clauses self.old) cref).len }
-        ensures { HoldsClauses self.new (length self.old.words) (shortened (stored_clauses self.old) cref count) }
+        ensures { RewritesClauses self.old self.new (λ clauses. shortened clauses cref count) }
     {
         self.buffer[cref.offset as usize + 2] = Lit::from_code(count);
     }

@@ -1,7 +1,7 @@
 //! A clause of a store, to be read or changed.
-ghost use Rattle.std.specs.Prelude.{◌≡◌, ℕ, ◌+◌, ◌<◌, ◌≤◌, ◌^◌, List, length, min};
-ghost use Rattle.varisat_clause.specs.Stored.{IsPlace, stored_at, header_at, literals_at, with_literals, with_header, shortened};
-ghost use Rattle.varisat_clause.specs.Stores.{stored_clauses, IsSound, HoldsClauses, put_words};
+ghost use Rattle.std.specs.Prelude.{◌≡◌, ◌+◌, ◌≤◌, length, min};
+ghost use Rattle.varisat_clause.specs.Stored.{IsPlace, header_at, literals_at, shortened};
+ghost use Rattle.varisat_clause.specs.Stores.{stored_clauses, IsSound, RewritesClauses, RewritesHeaderAt, TakesLiteralsAt};
 
 use crate::alloc::{ClauseAlloc, ClauseRef};
 use crate::header::{ClauseHeader, Tier};
@@ -119,9 +119,7 @@ impl<'a, A: Allocator + Copy> ClauseMut<'a, A> {
         requires place { IsPlace (stored_clauses self.old.alloc.now) self.old.cref }
         ensures* lends { sem 𝓛 (lends_of_clause A.row A.Allocator self.entry result) }
         ensures value { result.now ≡ literals_at (stored_clauses self.old.alloc.now) self.old.cref }
-        ensures alone { (ws : List ℕ) → length ws ≡ length result.now →
-            HoldsClauses (put_words self.old.alloc.now (self.old.cref + 3) ws) (length self.old.alloc.now.words)
-            (with_literals (stored_clauses self.old.alloc.now) self.old.cref ws) }
+        ensures alone { TakesLiteralsAt self.old.alloc.now self.old.cref (length result.now) }
     {
         let cref = self.cref;
         let alloc = &mut *self.alloc;
@@ -146,8 +144,7 @@ impl<'a, A: Allocator + Copy> ClauseHeaderMut<'a, A> {
         requires length { header.len ≡ (header_at (stored_clauses self.old.alloc.now) self.old.cref).len }
         ensures same_reference { self.new.alloc.ghost_name ≡ self.old.alloc.ghost_name }
         ensures same_place { self.new.cref ≡ self.old.cref }
-        ensures changed { HoldsClauses self.new.alloc.now (length self.old.alloc.now.words)
-            (with_header (stored_clauses self.old.alloc.now) self.old.cref header) }
+        ensures changed { RewritesHeaderAt self.old.alloc.now self.new.alloc.now self.old.cref (λ _. header) }
     {
         let cref = self.cref;
         let alloc = &mut *self.alloc;
@@ -162,8 +159,7 @@ impl<'a, A: Allocator + Copy> ClauseHeaderMut<'a, A> {
         requires most { count ≤ (header_at (stored_clauses self.old.alloc.now) self.old.cref).len }
         ensures same_reference { self.new.alloc.ghost_name ≡ self.old.alloc.ghost_name }
         ensures same_place { self.new.cref ≡ self.old.cref }
-        ensures changed { HoldsClauses self.new.alloc.now (length self.old.alloc.now.words)
-            (shortened (stored_clauses self.old.alloc.now) self.old.cref count) }
+        ensures changed { RewritesClauses self.old.alloc.now self.new.alloc.now (λ clauses. shortened clauses self.old.cref count) }
     {
         let cref = self.cref;
         let alloc = &mut *self.alloc;
@@ -176,9 +172,7 @@ impl<'a, A: Allocator + Copy> ClauseHeaderMut<'a, A> {
         requires place { IsPlace (stored_clauses self.old.alloc.now) self.old.cref }
         ensures same_reference { self.new.alloc.ghost_name ≡ self.old.alloc.ghost_name }
         ensures same_place { self.new.cref ≡ self.old.cref }
-        ensures changed { HoldsClauses self.new.alloc.now (length self.old.alloc.now.words)
-            (with_header (stored_clauses self.old.alloc.now) self.old.cref
-            (record (header_at (stored_clauses self.old.alloc.now) self.old.cref) { deleted = deleted })) }
+        ensures changed { RewritesHeaderAt self.old.alloc.now self.new.alloc.now self.old.cref (λ header. record header { deleted = deleted }) }
     {
         let mut header = self.header();
         header.set_deleted(deleted);
@@ -191,9 +185,7 @@ impl<'a, A: Allocator + Copy> ClauseHeaderMut<'a, A> {
         requires place { IsPlace (stored_clauses self.old.alloc.now) self.old.cref }
         ensures same_reference { self.new.alloc.ghost_name ≡ self.old.alloc.ghost_name }
         ensures same_place { self.new.cref ≡ self.old.cref }
-        ensures changed { HoldsClauses self.new.alloc.now (length self.old.alloc.now.words)
-            (with_header (stored_clauses self.old.alloc.now) self.old.cref
-            (record (header_at (stored_clauses self.old.alloc.now) self.old.cref) { tier = tier })) }
+        ensures changed { RewritesHeaderAt self.old.alloc.now self.new.alloc.now self.old.cref (λ header. record header { tier = tier }) }
     {
         let mut header = self.header();
         header.set_tier(tier);
@@ -206,9 +198,7 @@ impl<'a, A: Allocator + Copy> ClauseHeaderMut<'a, A> {
         requires place { IsPlace (stored_clauses self.old.alloc.now) self.old.cref }
         ensures same_reference { self.new.alloc.ghost_name ≡ self.old.alloc.ghost_name }
         ensures same_place { self.new.cref ≡ self.old.cref }
-        ensures changed { HoldsClauses self.new.alloc.now (length self.old.alloc.now.words)
-            (with_header (stored_clauses self.old.alloc.now) self.old.cref
-            (record (header_at (stored_clauses self.old.alloc.now) self.old.cref) { mark = mark })) }
+        ensures changed { RewritesHeaderAt self.old.alloc.now self.new.alloc.now self.old.cref (λ header. record header { mark = mark }) }
     {
         let mut header = self.header();
         header.set_mark(mark);
@@ -221,9 +211,7 @@ impl<'a, A: Allocator + Copy> ClauseHeaderMut<'a, A> {
         requires place { IsPlace (stored_clauses self.old.alloc.now) self.old.cref }
         ensures same_reference { self.new.alloc.ghost_name ≡ self.old.alloc.ghost_name }
         ensures same_place { self.new.cref ≡ self.old.cref }
-        ensures changed { HoldsClauses self.new.alloc.now (length self.old.alloc.now.words)
-            (with_header (stored_clauses self.old.alloc.now) self.old.cref
-            (record (header_at (stored_clauses self.old.alloc.now) self.old.cref) { active = active })) }
+        ensures changed { RewritesHeaderAt self.old.alloc.now self.new.alloc.now self.old.cref (λ header. record header { active = active }) }
     {
         let mut header = self.header();
         header.set_active(active);
@@ -236,9 +224,7 @@ impl<'a, A: Allocator + Copy> ClauseHeaderMut<'a, A> {
         requires place { IsPlace (stored_clauses self.old.alloc.now) self.old.cref }
         ensures same_reference { self.new.alloc.ghost_name ≡ self.old.alloc.ghost_name }
         ensures same_place { self.new.cref ≡ self.old.cref }
-        ensures changed { HoldsClauses self.new.alloc.now (length self.old.alloc.now.words)
-            (with_header (stored_clauses self.old.alloc.now) self.old.cref
-            (record (header_at (stored_clauses self.old.alloc.now) self.old.cref) { glue = min glue 63 })) }
+        ensures changed { RewritesHeaderAt self.old.alloc.now self.new.alloc.now self.old.cref (λ header. record header { glue = min glue 63 }) }
     {
         let mut header = self.header();
         header.set_glue(glue);
@@ -251,9 +237,7 @@ impl<'a, A: Allocator + Copy> ClauseHeaderMut<'a, A> {
         requires place { IsPlace (stored_clauses self.old.alloc.now) self.old.cref }
         ensures same_reference { self.new.alloc.ghost_name ≡ self.old.alloc.ghost_name }
         ensures same_place { self.new.cref ≡ self.old.cref }
-        ensures changed { HoldsClauses self.new.alloc.now (length self.old.alloc.now.words)
-            (with_header (stored_clauses self.old.alloc.now) self.old.cref
-            (record (header_at (stored_clauses self.old.alloc.now) self.old.cref) { activity = activity })) }
+        ensures changed { RewritesHeaderAt self.old.alloc.now self.new.alloc.now self.old.cref (λ header. record header { activity = activity }) }
     {
         let mut header = self.header();
         header.set_activity(activity);

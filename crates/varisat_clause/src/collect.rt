@@ -1,9 +1,9 @@
 //! The collection of the words of deleted clauses.
-ghost use Rattle.std.specs.Prelude.{◌≡◌, ℕ, ◌+◌, ◌*◌, ◌<◌, ◌≤◌, length, ◌↔◌, IsTrue, IfOk, OnOk, OnErr, true, false};
-ghost use Rattle.varisat_clause.specs.Stored.{IsPlace, header_at, literals_at};
-ghost use Rattle.varisat_clause.specs.Stores.{stored_clauses, IsSound, AddsStored};
+ghost use Rattle.std.specs.Prelude.{◌≡◌, ◌+◌, ◌*◌, ◌<◌, length, ◌↔◌, IsTrue, IfOk, OnOk, OnErr, true, false};
+ghost use Rattle.varisat_clause.specs.Stored.{IsPlace};
+ghost use Rattle.varisat_clause.specs.Stores.{stored_clauses, clause_of, IsSound};
 ghost use Rattle.varisat_clause.specs.Databases.{Tracks};
-ghost use Rattle.varisat_clause.specs.Collected.{IsCollected};
+ghost use Rattle.varisat_clause.specs.Collected.{PacksClause, IsCollected};
 
 use crate::alloc::{ClauseAlloc, ClauseRef};
 use crate::db::{ClauseDb, add_clause};
@@ -26,13 +26,9 @@ fn copy_clause<A: Allocator + Copy>(
     requires sound { IsSound alloc.now }
     requires place { IsPlace (stored_clauses alloc.now) cref }
     requires tracks { Tracks new_db.old new_alloc.old }
-    ensures copied { OnOk result ((header_at (stored_clauses alloc.now) cref).deleted ≡ false →
-        AddsStored new_alloc.old new_alloc.new (record {
-          place = length new_alloc.old.words;
-          header = record (header_at (stored_clauses alloc.now) cref) { mark = false };
-          literals = literals_at (stored_clauses alloc.now) cref;
-        })) }
-    ensures passed_over { (header_at (stored_clauses alloc.now) cref).deleted ≡ true → new_alloc.new ≡ new_alloc.old }
+    ensures copied { OnOk result ((clause_of alloc.now cref).header.deleted ≡ false →
+        PacksClause new_alloc.old new_alloc.new (clause_of alloc.now cref)) }
+    ensures passed_over { (clause_of alloc.now cref).header.deleted ≡ true → new_alloc.new ≡ new_alloc.old }
     ensures tracks { Tracks new_db.new new_alloc.new }
 {
     let mut header = alloc.header(cref);

@@ -1,7 +1,7 @@
 //! The database of clauses: what is noted of a store's clauses as a whole.
-ghost use Rattle.std.specs.Prelude.{◌≡◌, ℕ, ◌+◌, ◌-◌, ◌<◌, ◌≤◌, ◌^◌, ◌++◌, ◌∷◌, [], List, length, ◌↔◌, IfOk, IfErr, OnOk, OnErr, true, false, not};
-ghost use Rattle.varisat_clause.specs.Stored.{IsPlace, header_at, literals_at, with_header};
-ghost use Rattle.varisat_clause.specs.Stores.{stored_clauses, IsSound, HoldsClauses, AddsStored};
+ghost use Rattle.std.specs.Prelude.{◌≡◌, ◌+◌, ◌<◌, ◌≤◌, ◌^◌, ◌++◌, ◌∷◌, [], length, ◌↔◌, IfOk, IfErr, OnOk, OnErr, true, false, not};
+ghost use Rattle.varisat_clause.specs.Stored.{IsPlace, header_at, literals_at, new_clause};
+ghost use Rattle.varisat_clause.specs.Stores.{stored_clauses, IsSound, RewritesHeaderAt, AddsStored};
 ghost use Rattle.varisat_clause.specs.Additions.{AddsOrRefuses};
 ghost use Rattle.varisat_clause.specs.Databases.{ListsByTier, Database, count_of, raised, lowered, no_lists, tier_list, with_tier_list, pushed, no_database, with_added, with_moved, with_deleted, Tracks};
 
@@ -247,8 +247,7 @@ pub fn add_clause<A: Allocator + Copy>(
     requires long { 3 ≤ length lits.now }
     requires live { header.deleted ≡ false }
     requires tracks { Tracks db.old alloc.old }
-    ensures added { IfOk result (λ cref. AddsStored alloc.old alloc.new
-        (record { place = cref; header = record header { len = length lits.now }; literals = lits.now })) }
+    ensures added { IfOk result (λ cref. AddsStored alloc.old alloc.new (new_clause cref header lits.now)) }
     ensures noted { IfOk result (λ cref. db.new ≡ with_added header.tier cref db.old) }
     ensures room { IfOk result (λ cref. length alloc.old.words + 3 + length lits.now < 2 ^ 32) }
     ensures full { IfErr result (λ error. (error ≡ StoreError.Full) ↔ (2 ^ 32 ≤ length alloc.old.words + 3 + length lits.now)) }
@@ -271,8 +270,7 @@ pub fn set_clause_tier<A: Allocator + Copy>(
     requires place { IsPlace (stored_clauses alloc.old) cref }
     requires live { (header_at (stored_clauses alloc.old) cref).deleted ≡ false }
     requires tracks { Tracks db.old alloc.old }
-    ensures moved { OnOk result (HoldsClauses alloc.new (length alloc.old.words) (with_header (stored_clauses alloc.old) cref
-        (record (header_at (stored_clauses alloc.old) cref) { tier = tier }))) }
+    ensures moved { OnOk result (RewritesHeaderAt alloc.old alloc.new cref (λ header. record header { tier = tier })) }
     ensures refused { OnErr result (alloc.new ≡ alloc.old) }
     ensures refused_too { OnErr result (db.new ≡ db.old) }
     ensures tracks { Tracks db.new alloc.new }
@@ -296,8 +294,7 @@ pub fn delete_clause<A: Allocator + Copy>(
     requires place { IsPlace (stored_clauses alloc.old) cref }
     requires live { (header_at (stored_clauses alloc.old) cref).deleted ≡ false }
     requires tracks { Tracks db.old alloc.old }
-    ensures deleted { HoldsClauses alloc.new (length alloc.old.words) (with_header (stored_clauses alloc.old) cref
-        (record (header_at (stored_clauses alloc.old) cref) { deleted = true })) }
+    ensures deleted { RewritesHeaderAt alloc.old alloc.new cref (λ header. record header { deleted = true }) }
     ensures noted { db.new ≡ with_deleted (header_at (stored_clauses alloc.old) cref).tier (length (literals_at (stored_clauses alloc.old) cref)) db.old }
     ensures tracks { Tracks db.new alloc.new }
 {
@@ -319,8 +316,7 @@ pub fn try_delete_clause<A: Allocator + Copy>(
     requires live { (header_at (stored_clauses alloc.old) cref).deleted ≡ false }
     requires tracks { Tracks db.old alloc.old }
     ensures deletes { result ≡ not is_reason }
-    ensures deleted { is_reason ≡ false → HoldsClauses alloc.new (length alloc.old.words) (with_header (stored_clauses alloc.old) cref
-        (record (header_at (stored_clauses alloc.old) cref) { deleted = true })) }
+    ensures deleted { is_reason ≡ false → RewritesHeaderAt alloc.old alloc.new cref (λ header. record header { deleted = true }) }
     ensures kept { is_reason ≡ true → alloc.new ≡ alloc.old }
     ensures kept_too { is_reason ≡ true → db.new ≡ db.old }
     ensures tracks { Tracks db.new alloc.new }

@@ -1,8 +1,8 @@
 //! Passes over the clauses that are not deleted, in which a filter changes or deletes them.
 ghost use Rattle.std.specs.Prelude.{◌≡◌, true, false, length, IfOk, OnOk, OnErr};
 ghost use Rattle.varisat_theory.specs.Membership.{◌∈◌};
-ghost use Rattle.varisat_clause.specs.Stored.{StoredClause, IsPlace, stored_at, header_at};
-ghost use Rattle.varisat_clause.specs.Stores.{stored_clauses, IsSound};
+ghost use Rattle.varisat_clause.specs.Stored.{StoredClause, IsPlace};
+ghost use Rattle.varisat_clause.specs.Stores.{stored_clauses, clause_of, IsSound};
 ghost use Rattle.varisat_clause.specs.Databases.{is_live, Tracks};
 ghost use Rattle.varisat_clause.specs.Filters.{Alters, left_if, FiltersAt, Filters, StopsWithin};
 
@@ -26,11 +26,10 @@ pub trait ClauseFilter<A: Allocator + Copy> {
     fn filter(&mut self, alloc: &mut ClauseAlloc<A>, cref: ClauseRef) -> Result<bool, Self::Error>
         requires sound { IsSound alloc.old }
         requires place { IsPlace (stored_clauses alloc.old) cref }
-        requires live { (header_at (stored_clauses alloc.old) cref).deleted ≡ false }
-        requires accepted { accepts self.old (stored_at (stored_clauses alloc.old) cref) }
+        requires live { (clause_of alloc.old cref).header.deleted ≡ false }
+        requires accepted { accepts self.old (clause_of alloc.old cref) }
         ensures altered { OnOk result (Alters alloc.old alloc.new cref) }
-        ensures left { IfOk result (λ stays. leaves self.old (stored_at (stored_clauses alloc.old) cref)
-            (left_if stays (stored_at (stored_clauses alloc.new) cref)) self.new) }
+        ensures left { IfOk result (λ stays. leaves self.old (clause_of alloc.old cref) (left_if stays (clause_of alloc.new cref)) self.new) }
         ensures accepts_more { OnOk result ((k : StoredClause) → accepts self.old k → accepts self.new k) }
         ensures refused { OnErr result (alloc.new ≡ alloc.old) };
 }
@@ -44,8 +43,8 @@ fn filter_clause<A: Allocator + Copy, F: ClauseFilter<A>>(
 ) -> Result<(), F::Error>
     requires tracks { Tracks db.old alloc.old }
     requires place { IsPlace (stored_clauses alloc.old) cref }
-    requires live { (header_at (stored_clauses alloc.old) cref).deleted ≡ false }
-    requires accepted { F.accepts filter.old (stored_at (stored_clauses alloc.old) cref) }
+    requires live { (clause_of alloc.old cref).header.deleted ≡ false }
+    requires accepted { F.accepts filter.old (clause_of alloc.old cref) }
     ensures changed { OnOk result (FiltersAt F.leaves filter.old filter.new alloc.old alloc.new cref) }
     ensures accepts_more { OnOk result ((k : StoredClause) → F.accepts filter.old k → F.accepts filter.new k) }
     ensures refused { OnErr result (alloc.new ≡ alloc.old) }

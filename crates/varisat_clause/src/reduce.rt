@@ -1,12 +1,12 @@
 //! The reductions of the redundant clauses, as far as they concern the store, and the list of a tier brought up to
 //! date.
-ghost use Rattle.std.specs.Prelude.{◌≡◌, ℕ, ◌+◌, ◌*◌, ◌/◌, ◌^◌, ◌<◌, ◌≤◌, length, slice_index, take, map, true, false, OnOk, OnErr, IfOk, not, ◌&&◌};
+ghost use Rattle.std.specs.Prelude.{◌≡◌, ℕ, ◌+◌, ◌/◌, ◌≤◌, length, take, map, true, false, OnOk, OnErr, IfOk, not, ◌&&◌};
 ghost use Rattle.std.specs.List.Sorted.{IsPermutation, IsNonDecreasingBy};
 ghost use Rattle.varisat_clause.specs.Tiers.{is_tier};
-ghost use Rattle.varisat_clause.specs.Stored.{IsPlace, stored_at, with_stored};
-ghost use Rattle.varisat_clause.specs.Stores.{stored_clauses, IsSound, HoldsClauses};
+ghost use Rattle.varisat_clause.specs.Stored.{IsPlace};
+ghost use Rattle.varisat_clause.specs.Stores.{stored_clauses, clause_of, IsSound, RewritesClauses, RewritesClauseAt};
 ghost use Rattle.varisat_clause.specs.Databases.{Database, tier_list, with_tier_list, Tracks};
-ghost use Rattle.varisat_clause.specs.Reductions.{rank_in, places_in, is_unmarked_in, AreUnmarkedIn, marked_as, with_mark, CanMarkTier, MarksTier, ListsTier, AreRanked, unmarked_places, all_deleted, ReducesLocals, mid_reduced, mids_reduced, mapped_up_to};
+ghost use Rattle.varisat_clause.specs.Reductions.{rank_in, places_in, is_unmarked_in, AreUnmarkedIn, marked_as, CanMarkTier, MarksTier, ListsTier, AreRanked, unmarked_places, all_deleted, ReducesLocals, mid_reduced, mids_reduced, mapped_up_to};
 
 use crate::alloc::{ClauseAlloc, ClauseRef};
 use crate::db::{ClauseDb, delete_clause, set_clause_tier};
@@ -43,7 +43,7 @@ pub fn clauses_of_tier<A: Allocator + Copy>(
 fn set_mark<A: Allocator + Copy>(alloc: &mut ClauseAlloc<A>, cref: ClauseRef, mark: bool)
     requires sound { IsSound alloc.old }
     requires place { IsPlace (stored_clauses alloc.old) cref }
-    ensures { HoldsClauses alloc.new (length alloc.old.words) (with_mark mark (stored_clauses alloc.old) cref) }
+    ensures { RewritesClauseAt alloc.old alloc.new cref (marked_as mark) }
 {
     let mut header = alloc.header(cref);
     header.set_mark(mark);
@@ -53,7 +53,7 @@ fn set_mark<A: Allocator + Copy>(alloc: &mut ClauseAlloc<A>, cref: ClauseRef, ma
 /// Clears the marks of all clauses.
 pub fn clear_marks<A: Allocator + Copy>(alloc: &mut ClauseAlloc<A>)
     requires { IsSound alloc.old }
-    ensures cleared { HoldsClauses alloc.new (length alloc.old.words) (map (marked_as false) (stored_clauses alloc.old)) }
+    ensures cleared { RewritesClauses alloc.old alloc.new (map (marked_as false)) }
     ensures unmarked { (tier : Tier) → AreUnmarkedIn tier (stored_clauses alloc.new) }
     ensures tracks { (db : Database) → Tracks db alloc.old → Tracks db alloc.new }
 {
@@ -67,8 +67,8 @@ pub fn clear_marks<A: Allocator + Copy>(alloc: &mut ClauseAlloc<A>)
 fn mark_new<A: Allocator + Copy>(alloc: &mut ClauseAlloc<A>, cref: ClauseRef, tier: Tier) -> bool
     requires sound { IsSound alloc.old }
     requires place { IsPlace (stored_clauses alloc.old) cref }
-    ensures new { result ≡ is_unmarked_in tier (stored_at (stored_clauses alloc.old) cref) }
-    ensures marked { result ≡ true → HoldsClauses alloc.new (length alloc.old.words) (with_mark true (stored_clauses alloc.old) cref) }
+    ensures new { result ≡ is_unmarked_in tier (clause_of alloc.old cref) }
+    ensures marked { result ≡ true → RewritesClauseAt alloc.old alloc.new cref (marked_as true) }
     ensures kept { result ≡ false → alloc.new ≡ alloc.old }
 {
     let header = alloc.header(cref);
@@ -153,8 +153,7 @@ pub fn delete_unmarked<A: Allocator + Copy>(
 )
     requires tracks { Tracks db.old alloc.old }
     requires listed { ListsTier Tier.Local (stored_clauses alloc.old) list.now }
-    ensures deleted { HoldsClauses alloc.new (length alloc.old.words)
-        (all_deleted (unmarked_places (stored_clauses alloc.old) count list.now) (stored_clauses alloc.old)) }
+    ensures deleted { RewritesClauses alloc.old alloc.new (all_deleted (unmarked_places (stored_clauses alloc.old) count list.now)) }
     ensures tracks { Tracks db.new alloc.new }
 {
     let mut left = count;
@@ -195,8 +194,7 @@ fn reduce_mid<A: Allocator + Copy>(
 ) -> Result<(), AllocError>
     requires tracks { Tracks db.old alloc.old }
     requires place { IsPlace (stored_clauses alloc.old) cref }
-    ensures reduced { OnOk result (HoldsClauses alloc.new (length alloc.old.words)
-        (with_stored (stored_clauses alloc.old) cref (mid_reduced (stored_at (stored_clauses alloc.old) cref)))) }
+    ensures reduced { OnOk result (RewritesClauseAt alloc.old alloc.new cref mid_reduced) }
     ensures refused { OnErr result (alloc.new ≡ alloc.old) }
     ensures refused_too { OnErr result (db.new ≡ db.old) }
     ensures tracks { Tracks db.new alloc.new }
@@ -221,8 +219,8 @@ pub fn reduce_mids<A: Allocator + Copy>(
     db: &mut ClauseDb<A>,
 ) -> Result<(), AllocError>
     requires { Tracks db.old alloc.old }
-    ensures reduced { OnOk result (HoldsClauses alloc.new (length alloc.old.words) (mids_reduced (stored_clauses alloc.old))) }
-    ensures refused { OnErr result ((i : ℕ) × HoldsClauses alloc.new (length alloc.old.words) (mapped_up_to mid_reduced i (stored_clauses alloc.old))) }
+    ensures reduced { OnOk result (RewritesClauses alloc.old alloc.new mids_reduced) }
+    ensures refused { OnErr result ((i : ℕ) × RewritesClauses alloc.old alloc.new (mapped_up_to mid_reduced i)) }
     ensures tracks { Tracks db.new alloc.new }
 {
     'clauses: for index in 0..alloc.len() {

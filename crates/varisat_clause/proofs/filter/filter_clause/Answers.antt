@@ -1,4 +1,4 @@
-use Rattle.std.proofs.Common.{Bool, true, false, subst}
+use Rattle.std.proofs.Common.{Bool, subst}
 use Rattle.varisat_clause.specs.Stored.{stored_at}
 use Rattle.varisat_clause.specs.Stores.{stored_clauses}
 use Rattle.varisat_clause.specs.Filters.{left_if}

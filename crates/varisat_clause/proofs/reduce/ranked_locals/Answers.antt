@@ -1,9 +1,9 @@
-use Rattle.std.proofs.Common.{◌≡◌, ℕ, List, length, sym, subst, ◌∙◌, arith}
+use Rattle.std.proofs.Common.{ℕ, List, sym, subst, ◌∙◌, arith}
 use Rattle.std.proofs.lemmas.List.{with_items_is}
-use Rattle.std.specs.List.Sorted.{IsPermutation, IsNonDecreasingBy}
+use Rattle.std.specs.List.Sorted.{IsPermutation}
 use Rattle.varisat_clause.specs.declared.header.Tier.TheVariants.{Local}
 use Rattle.varisat_clause.specs.Stores.{stored_clauses}
-use Rattle.varisat_clause.specs.Reductions.{rank_in, places_in, ListsTier, AreRanked}
+use Rattle.varisat_clause.specs.Reductions.{places_in, ListsTier, AreRanked}
 use Rattle.varisat_clause.proofs.TierPlaces.{tier-listed, listed-permutation, ranked-places}
 use Rattle.varisat_clause.proofs.reduce.ranked_locals.Goals as goal
 

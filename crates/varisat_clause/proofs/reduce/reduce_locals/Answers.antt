@@ -1,4 +1,4 @@
-use Rattle.std.proofs.Common.{◌≡◌, ℕ, List, ◌/◌, length, sym, subst, ◌∙◌, arith}
+use Rattle.std.proofs.Common.{◌≡◌, ℕ, ◌/◌, length, sym, subst, arith}
 use Rattle.varisat_clause.specs.declared.header.Tier.TheVariants.{Local}
 use Rattle.varisat_clause.specs.Stores.{stored_clauses, HoldsClauses}
 use Rattle.varisat_clause.specs.Reductions.{ListsTier, AreRanked, unmarked_places, all_deleted}

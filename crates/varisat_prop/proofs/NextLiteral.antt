@@ -14,7 +14,7 @@ use Rattle.varisat_prop.specs.Parts.{TrailParts}
 use Rattle.varisat_prop.specs.View.{View, IsTrueIn, implied_by, literal_at, WellFormed}
 use Rattle.varisat_prop.specs.Looks.{Propagates}
 use Rattle.varisat_prop.specs.Watches.{Watches, watches_of, with_watches, IsSettledTo, IsImpliedTo, IsWatched}
-use Rattle.varisat_prop.specs.QueueSteps.{SearchParts, view_of_parts, KeepsParts, IsNext, GoesOnWith, EndsPropagation}
+use Rattle.varisat_prop.specs.QueueSteps.{SearchParts, view_of_parts, KeepsParts, IsNext, GoesOnWith, EndsPropagation, IsNextSettled, IsNextPropagated}
 use Rattle.varisat_prop.proofs.LiteralValues.{made-inside}
 use Rattle.varisat_prop.proofs.TrailValues.{trail-short}
 use Rattle.varisat_prop.proofs.ViewGrowth.{grows-longer, literal-stays}
@@ -91,8 +91,7 @@ goes-then {p = p} {q = q} {r = r} g h = record {
 
 pub ends-both : {q r : SearchParts} {W V : Watches} {l : Literal} (end : Result (Unit {0}) Conflict) → IsNext W (view_of_parts q) l →
     GoesOnWith q r V → ((m : Literal) → m ∈ implied_by (view_of_parts q) l → m ∈ q.trail.literals)
-    → EndsPropagation (λ s. IsSettledTo s (suc s.queue_head)) (view_of_parts r) end →
-    EndsPropagation (λ s. IsSettledTo s (suc s.queue_head) × IsImpliedTo s (suc s.queue_head)) (view_of_parts r) end
+    → EndsPropagation IsNextSettled (view_of_parts r) end → EndsPropagation IsNextPropagated (view_of_parts r) end
 ends-both (Err f) n g d m = m
 ends-both {q = q} {r = r} {l = l} (Ok x) n g d m =
     let t = view_of_parts q in
@@ -127,6 +126,20 @@ queue-within : {W V : Watches} {q r : SearchParts} {l : Literal} → IsNext W (v
     r.trail.queue_head < length r.trail.literals
 queue-within {q = q} {r = r} n g = let a = grows-longer (view_of_parts q) (view_of_parts r) g.propagates.grows in let b = n.within in
     let c = g.keeps.head in omega (arith, a, b, c)
+
+-- it is still the next as long as it doesn't
+pub next-after : {W V : Watches} {p q : SearchParts} {l : Literal} → GoesOnWith p q V → IsNext W (view_of_parts p) l → IsNext V (view_of_parts q) l
+next-after {p = p} {q = q} g n = record {
+  well = g.propagates.well;
+  head = ap (λ h. literal_at (view_of_parts q) h) g.keeps.head
+      ∙ literal-stays (view_of_parts p) (view_of_parts q) g.propagates.grows p.trail.queue_head n.within ∙ n.head;
+  within = queue-within n g;
+  watched = g.watched;
+}
+
+pub goes-to : {V : Watches} {p q : SearchParts} {l : Literal} → KeepsParts p q → Propagates (view_of_parts p) (view_of_parts q) →
+    IsNext V (view_of_parts q) l → GoesOnWith p q V
+goes-to k g n = record { propagates = g; keeps = k; watched = n.watched }
 
 module _ {W V : Watches} {q r : SearchParts} {l : Literal} {o : Option ℕ} (tr : TrailParts) (n : IsNext W (view_of_parts q) l) (g : GoesOnWith q r V)
     (head : o ≡ slice_get r.trail.literals r.trail.queue_head)

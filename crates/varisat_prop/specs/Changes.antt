@@ -5,12 +5,15 @@ use Rattle.varisat_literals.specs.Numbers.{polarity_of}
 use Rattle.varisat_prop.specs.declared.prop.graph.Reason.{Reason}
 use Rattle.varisat_prop.specs.declared.prop.graph.Reason.TheVariants as reason
 use Rattle.varisat_prop.specs.declared.prop.graph.ImplNode.{ImplNode}
+use Rattle.varisat_prop.specs.declared.prop.graph.ImplGraph.{ImplGraph}
 use Rattle.varisat_prop.specs.declared.prop.graph.Conflict.{Conflict}
 use Rattle.varisat_prop.specs.declared.prop.graph.Conflict.TheVariants as conflict
 use Rattle.varisat_clause.specs.Stored.{StoredClause, IsPlace, literals_at}
+use Rattle.varisat_clause.specs.Stores.{Store}
 use Rattle.varisat_theory.specs.Membership.{◌∈◌}
 use Rattle.varisat_theory.specs.Propagation.{IsFalse}
-use Rattle.varisat_prop.specs.View.{View, implied_by}
+use Rattle.varisat_prop.specs.Parts.{Values, TrailParts}
+use Rattle.varisat_prop.specs.View.{View, view_of, implied_by}
 
 -- the clause that a reason names is one of the list, and is not empty
 abbrev pub NamesClause : List StoredClause → Reason → Type 0
@@ -60,6 +63,11 @@ enqueued s l r =
       trail = s.trail ++ l ∷ [];
       nodes = slice_set s.nodes (variable_of l) (record { reason = r; level = length s.decisions; depth = suc (length s.trail) });
     }
+
+-- With whatever clauses, the parts become those in which the literal is true, at the current level and for the reason.
+abbrev pub Enqueues : {A : Type 0} → Values → Values → TrailParts → TrailParts → ImplGraph A → ImplGraph A → Literal → Reason → Type 0
+Enqueues values values' trail trail' graph graph' l r =
+    (clauses : Store) (binary : List (List Literal)) → view_of clauses binary values' trail' graph' ≡ enqueued (view_of clauses binary values trail graph) l r
 
 -- the literal is decided, and is still to be propagated
 abbrev pub decided_on : View → Literal → View

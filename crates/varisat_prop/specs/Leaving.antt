@@ -1,8 +1,9 @@
 -- What is left where variables leave: `gone` says of each variable whether it does.
-use Rattle.std.specs.Prelude.{◌≡◌, ℕ, suc, ◌<◌, Bool, false, not, if◌then◌else◌, List, [], ◌∷◌, length, slice_index_or}
+use Rattle.std.specs.Prelude.{◌≡◌, ℕ, suc, ◌-◌, ◌^◌, ◌<◌, Bool, false, not, if◌then◌else◌, List, [], ◌∷◌, length, slice_index_or}
 use Rattle.std.specs.List.{filter}
 use Rattle.varisat_theory.specs.Literals.{Literal, variable_of}
 use Rattle.varisat_prop.specs.declared.prop.graph.ImplNode.{ImplNode}
+use Rattle.varisat_prop.specs.declared.prop.graph.Reason.TheVariants as reason
 use Rattle.varisat_prop.specs.View.{no_node}
 
 -- the variable leaves
@@ -12,6 +13,10 @@ leaves gone v = slice_index_or gone v false
 -- the literals of variables that stay
 abbrev pub staying : List Bool → List Literal → List Literal
 staying gone ls = filter (λ l. not (leaves gone (variable_of l))) ls
+
+-- the node of a variable that was fixed, once its literal was taken off the trail
+abbrev pub removed_unit : ImplNode → ImplNode
+removed_unit n = record n { reason = reason.Unit; depth = 2 ^ 64 - 1 }
 
 -- what there is for each variable, with x for those that leave
 abbrev pub cleared : {X : Type 0} → List Bool → X → List X → List X

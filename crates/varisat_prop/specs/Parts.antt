@@ -1,5 +1,5 @@
 -- What contracts see of the parts.
-use Rattle.std.specs.Prelude.{◌≡◌, ℕ, Bool, true, false, Option, Some, None, List, [], length, option_map, slice_index_or}
+use Rattle.std.specs.Prelude.{◌≡◌, ℕ, Bool, true, false, Option, Some, None, List, [], length, take, option_map, slice_index, slice_index_or}
 use Rattle.std.specs.Bool.{beq}
 use Rattle.varisat_theory.specs.Literals.{Literal, variable_of}
 use Rattle.varisat_literals.specs.Numbers.{polarity_of}
@@ -53,6 +53,15 @@ pub record TrailParts : Type 0 where
 -- before the first literal
 abbrev pub empty_trail : TrailParts
 empty_trail = record { literals = []; queue_head = 0; decisions = [] }
+
+-- what is left of the trail at the level, up to which it was propagated
+abbrev pub backtracked : TrailParts → ℕ → TrailParts
+backtracked t level =
+    record t {
+      literals = take (slice_index t.decisions level) t.literals;
+      queue_head = slice_index t.decisions level;
+      decisions = take level t.decisions;
+    }
 
 -- how many literals stand before the first decision
 abbrev pub top_level_count : TrailParts → ℕ

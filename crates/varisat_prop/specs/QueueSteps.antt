@@ -1,8 +1,10 @@
 -- How the next literal of the queue is propagated: what the functions that do so ask for and give.
-use Rattle.std.specs.Prelude.{◌≡◌, ℕ, ◌<◌, ◌*◌, List, length, Option, Bool, Result}
+use Rattle.std.specs.Prelude.{◌≡◌, ℕ, suc, ◌<◌, ◌*◌, List, length, Option, Bool, Result, IfOk}
 use Rattle.std.specs.Result.{MatchResult}
+use Rattle.std.specs.declared.alloc.AllocError.{AllocError}
 use Rattle.varisat_theory.specs.Membership.{◌∈◌}
 use Rattle.varisat_theory.specs.Literals.{Literal}
+use Rattle.varisat_theory.specs.Propagation.{IsComplete}
 use Rattle.varisat_clause.specs.Stored.{IsPlace, literals_at, with_literals}
 use Rattle.varisat_clause.specs.Stores.{Store, is_sound, IsSound}
 use Rattle.varisat_clause.specs.Collected.{live_clauses}
@@ -14,10 +16,10 @@ use Rattle.varisat_prop.specs.declared.prop.long.Found.{Found}
 use Rattle.varisat_prop.specs.declared.prop.long.Visit.{Visit}
 use Rattle.varisat_prop.specs.declared.prop.watch.Watch.{Watch}
 use Rattle.varisat_prop.specs.Parts.{Values, TrailParts}
-use Rattle.varisat_prop.specs.View.{View, IsTrueIn, clause_at, literal_at, WellFormed}
+use Rattle.varisat_prop.specs.View.{View, view_of, kept, implied_by, IsTrueIn, clause_at, literal_at, WellFormed}
 use Rattle.varisat_prop.specs.Changes.{IsConflicting}
 use Rattle.varisat_prop.specs.Looks.{Propagates}
-use Rattle.varisat_prop.specs.Watches.{Watches, IsWatched}
+use Rattle.varisat_prop.specs.Watches.{Watches, IsSettledTo, IsImpliedTo, IsWatched}
 use Rattle.varisat_prop.specs.Visits.{IsFound, IsVisited, IsVisit}
 
 -- what the parts of a search hold
@@ -70,6 +72,22 @@ pub record GoesOnWith (p q : SearchParts) (V : Watches) : Type 0 where
 abbrev pub EndsPropagation : (View → Type 0) → View → Result (Unit {0}) Conflict → Type 0
 EndsPropagation P t end = MatchResult end (λ _. P t) (λ conflict. IsConflicting t conflict)
 
+-- what the literal implies by clauses of two literals is true
+abbrev pub HasImplied : Literal → View → Type 0
+HasImplied l s = (m : Literal) → m ∈ implied_by s l → m ∈ s.trail
+
+-- the next literal of the queue is propagated too, over the clauses of three literals or more
+abbrev pub IsNextSettled : View → Type 0
+IsNextSettled s = IsSettledTo s (suc s.queue_head)
+
+-- and over all clauses
+abbrev pub IsNextPropagated : View → Type 0
+IsNextPropagated s = IsSettledTo s (suc s.queue_head) × IsImpliedTo s (suc s.queue_head)
+
+-- No clause is false, none leaves a literal that isn't true, and each literal was propagated.
+abbrev pub IsFullyPropagated : View → Type 0
+IsFullyPropagated s = IsComplete (kept s) s.trail × (s.queue_head ≡ length s.trail)
+
 -- A true literal has the watch of a kept clause, which can be looked at.
 pub record IsWatchOf (W : Watches) (s : View) (l : Literal) (w : Watch) : Type 0 where
   pub well : WellFormed s
@@ -99,3 +117,24 @@ pub record IsVisitedAs (x y : PartsWithLists) (l : Literal) (i : ℕ) (v : Visit
   pub visited : IsVisited (view_of_parts x.parts) (view_of_parts y.parts) x.lists y.lists i
   pub visit : IsVisit (view_of_parts y.parts) l i v
   pub keeps : KeepsParts x.parts y.parts
+
+-- The parts of a search one by one, of which the clauses of two literals stay: each as it was, and as it is then.
+module _ {A : Type 0} (store store' : Store) (binary : List (List Literal)) (values values' : Values) (trail trail' : TrailParts)
+    (graph graph' : ImplGraph A) where
+  -- the search went on without a decision
+  abbrev pub PartsPropagate : Type 0
+  PartsPropagate = Propagates (view_of store binary values trail graph) (view_of store' binary values' trail' graph')
+
+  -- the queue's head stays, and so does what the view doesn't show
+  abbrev pub PartsKeep : Type 0
+  PartsKeep = KeepsParts (parts_of store binary values trail graph) (parts_of store' binary values' trail' graph')
+
+  -- the search went on so, and the lists, which are V now, watch the clauses
+  abbrev pub PartsGoOn : Watches → Type 0
+  PartsGoOn V = GoesOnWith (parts_of store binary values trail graph) (parts_of store' binary values' trail' graph') V
+
+  -- Unless it is out of memory, the watch that l has was visited, by which the lists W became V, and came to the result.
+  abbrev pub PartsVisit : Watches → Watches → Literal → Watch → Result Visit AllocError → Type 0
+  PartsVisit W V l w result =
+      IfOk result (λ v. IsVisitedAs (with_lists (parts_of store binary values trail graph) W)
+      (with_lists (parts_of store' binary values' trail' graph') V) l w.cref v)

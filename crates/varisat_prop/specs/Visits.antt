@@ -17,6 +17,14 @@ use Rattle.varisat_prop.specs.declared.prop.long.Visit.TheVariants as visit
 abbrev pub IsPair : Clause → Literal → Literal → Type 0
 IsPair c l f = ((literal_in c 0 ≡ l) × (literal_in c 1 ≡ f)) ⊎ ((literal_in c 1 ≡ l) × (literal_in c 0 ≡ f))
 
+-- the literals of the clause c behind the first two are false, and it stays as it is
+abbrev pub HasNoOther : List (Option Bool) → Clause → Clause → Type 0
+HasNoOther values c d = (d ≡ c) × ((k : ℕ) → 2 ≤ k → k < length c → IsFalseAt values c k)
+
+-- the second literal is m, and isn't false
+abbrev pub HasOther : List (Option Bool) → Clause → Literal → Type 0
+HasOther values d m = (literal_in d 1 ≡ m) × (IsMadeTrue values (opposite m) → ⊥)
+
 -- what the clause c, reordered as d, comes to where its watched literal f is false
 abbrev pub IsFound : List (Option Bool) → Clause → Clause → Literal → Found → Type 0
 IsFound values c d f found.Stale = (d ≡ c) × (literal_in c 0 ≢ f) × (literal_in c 1 ≢ f)

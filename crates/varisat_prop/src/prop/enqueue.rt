@@ -1,9 +1,6 @@
 //! Making literals true.
-ghost use Rattle.std.specs.Prelude.{◌≡◌, List, OnOk};
-ghost use Rattle.varisat_theory.specs.Literals.{Literal};
-ghost use Rattle.varisat_clause.specs.Stores.{Store};
-ghost use Rattle.varisat_prop.specs.View.{view_of};
-ghost use Rattle.varisat_prop.specs.Changes.{IsAssignable, enqueued};
+ghost use Rattle.std.specs.Prelude.{◌≡◌, OnOk};
+ghost use Rattle.varisat_prop.specs.Changes.{IsAssignable, Enqueues};
 
 use crate::prop::assignment::Assignment;
 use crate::prop::graph::{ImplGraph, ImplNode, Reason};
@@ -20,9 +17,7 @@ pub fn enqueue_assignment<A: Allocator + Copy>(
     reason: Reason,
 ) -> Result<(), AllocError>
     requires { IsAssignable assignment.old.current impl_graph.old.nodes.items lit }
-    ensures view { OnOk result ((clauses : Store) (binary : List (List Literal)) →
-        view_of clauses binary assignment.new trail.new impl_graph.new ≡ enqueued
-        (view_of clauses binary assignment.old trail.old impl_graph.old) lit reason) }
+    ensures view { OnOk result (Enqueues assignment.old assignment.new trail.old trail.new impl_graph.old impl_graph.new lit reason) }
     ensures last { OnOk result (assignment.new.last ≡ assignment.old.last) }
 {
     trail.push(lit)?;

@@ -4,6 +4,7 @@ ghost use Rattle.varisat_clause.specs.Stores.{IsSound};
 ghost use Rattle.varisat_clause.specs.Collected.{live_clauses};
 ghost use Rattle.varisat_prop.specs.View.{no_node};
 ghost use Rattle.varisat_prop.specs.Changes.{NamesClause, causes_of, NamesPlace, named_in};
+ghost use Rattle.varisat_prop.specs.Leaving.{removed_unit};
 
 use crate::clause::{ClauseAlloc, ClauseRef};
 use std::alloc::{AllocError, Allocator};
@@ -150,8 +151,7 @@ impl<A: Allocator + Copy> ImplGraph<A> {
     /// Notes that the variable is a unit that was taken off the trail.
     pub fn update_removed_unit(&mut self, var: Var)
         requires { var < length self.old.nodes.items }
-        ensures { self.new.nodes.items ≡ slice_set self.old.nodes.items var
-            (record (slice_index_or self.old.nodes.items var no_node) { reason = Reason.Unit; depth = 2 ^ 64 - 1 }) }
+        ensures { self.new.nodes.items ≡ slice_set self.old.nodes.items var (removed_unit (slice_index_or self.old.nodes.items var no_node)) }
     {
         let node = &mut self.nodes[var.index()];
         node.reason = Reason::Unit;

@@ -1,15 +1,15 @@
 //! Propagation of long clauses.
-ghost use Rattle.std.specs.Prelude.{◌≡◌, ◌≢◌, ℕ, suc, ◌<◌, ◌≤◌, ◌++◌, IsTrue, length, take, drop, OnOk, IfOk, MatchOption};
+ghost use Rattle.std.specs.Prelude.{◌≡◌, ◌≢◌, ◌<◌, ◌≤◌, ◌++◌, IsTrue, length, take, drop, OnOk, IfOk, MatchOption};
 ghost use Rattle.varisat_theory.specs.Literals.{opposite};
 ghost use Rattle.varisat_clause.specs.Stored.{IsPlace, literals_at};
 ghost use Rattle.varisat_clause.specs.Stores.{IsSound};
 ghost use Rattle.varisat_clause.specs.Collected.{live_clauses};
 ghost use Rattle.varisat_prop.specs.Parts.{IsMadeTrue};
 ghost use Rattle.varisat_prop.specs.View.{view_of};
-ghost use Rattle.varisat_prop.specs.Looks.{IsInRange, IsFalseAt};
-ghost use Rattle.varisat_prop.specs.Watches.{with_watches, literal_in, IsRearranged, IsSettledTo};
-ghost use Rattle.varisat_prop.specs.Visits.{IsPair, IsFound};
-ghost use Rattle.varisat_prop.specs.QueueSteps.{parts_of, IsNext, GoesOnWith, EndsPropagation, IsWatchOf, IsReorderedAt, IsVisitedAs, with_lists};
+ghost use Rattle.varisat_prop.specs.Looks.{IsInRange};
+ghost use Rattle.varisat_prop.specs.Watches.{with_watches, literal_in, IsRearranged};
+ghost use Rattle.varisat_prop.specs.Visits.{IsPair, HasNoOther, HasOther, IsFound};
+ghost use Rattle.varisat_prop.specs.QueueSteps.{IsNext, EndsPropagation, IsNextSettled, IsWatchOf, IsReorderedAt, PartsPropagate, PartsKeep, PartsGoOn, PartsVisit};
 
 use crate::binary::BinaryClauses;
 use crate::clause::{ClauseAlloc, ClauseRef};
@@ -72,9 +72,7 @@ fn find_other<A: Allocator + Copy>(lits: &mut [Lit], assignment: &Assignment<A>)
     requires within { IsInRange assignment.now.current lits.old }
     ensures rearranged { IsRearranged lits.old lits.new }
     ensures first { literal_in lits.new 0 ≡ literal_in lits.old 0 }
-    ensures found { MatchOption result
-        ((lits.new ≡ lits.old) × ((k : ℕ) → 2 ≤ k → k < length lits.old → IsFalseAt assignment.now.current lits.old k))
-        (λ m. (literal_in lits.new 1 ≡ m) × (IsMadeTrue assignment.now.current (opposite m) → ⊥)) }
+    ensures found { MatchOption result (HasNoOther assignment.now.current lits.old lits.new) (HasOther assignment.now.current lits.new) }
 {
     for place in 2..lits.len() {
         let lit = lits[place];
@@ -119,40 +117,38 @@ fn reorder<A: Allocator + Copy>(
 
 /// Brings the literals of a kept clause into the order in which they are watched.
 fn reorder_clause<A: Allocator + Copy>(
-    clause_alloc: &mut ClauseAlloc<A>,
+    alloc: &mut ClauseAlloc<A>,
     assignment: &Assignment<A>,
     cref: ClauseRef,
     false_lit: Lit,
 ) -> Found
-    requires sound { IsSound clause_alloc.old }
-    requires place { IsPlace (live_clauses clause_alloc.old) cref }
-    requires long { 2 ≤ length (literals_at (live_clauses clause_alloc.old) cref) }
-    requires within { IsInRange assignment.now.current (literals_at (live_clauses clause_alloc.old) cref) }
+    requires sound { IsSound alloc.old }
+    requires place { IsPlace (live_clauses alloc.old) cref }
+    requires long { 2 ≤ length (literals_at (live_clauses alloc.old) cref) }
+    requires within { IsInRange assignment.now.current (literals_at (live_clauses alloc.old) cref) }
     requires is_false { IsMadeTrue assignment.now.current (opposite false_lit) }
-    ensures { IsReorderedAt clause_alloc.old clause_alloc.new assignment.now.current cref false_lit result }
+    ensures { IsReorderedAt alloc.old alloc.new assignment.now.current cref false_lit result }
 {
-    let lits = clause_alloc.lits_mut(cref);
+    let lits = alloc.lits_mut(cref);
     reorder(lits, assignment, false_lit)
 }
 
 /// Looks at the clause of a watch of the literal, which became true.
 fn visit_watch<A: Allocator + Copy>(
     assignment: &mut Assignment<A>,
-    clause_alloc: &mut ClauseAlloc<A>,
-    impl_graph: &mut ImplGraph<A>,
+    alloc: &mut ClauseAlloc<A>,
+    graph: &mut ImplGraph<A>,
     trail: &mut Trail<A>,
-    binary_clauses: &BinaryClauses<A>,
-    watchlists: &mut Watchlists<A>,
+    binary: &BinaryClauses<A>,
+    lists: &mut Watchlists<A>,
     lit: Lit,
     watch: Watch,
 ) -> Result<Visit, AllocError>
-    requires { IsWatchOf watchlists.old (view_of clause_alloc.old binary_clauses.now assignment.old trail.old impl_graph.old) lit watch }
-    ensures { IfOk result (λ visit. IsVisitedAs
-        (with_lists (parts_of clause_alloc.old binary_clauses.now assignment.old trail.old impl_graph.old) watchlists.old)
-        (with_lists (parts_of clause_alloc.new binary_clauses.now assignment.new trail.new impl_graph.new) watchlists.new) lit watch.cref visit) }
+    requires { IsWatchOf lists.old (view_of alloc.old binary.now assignment.old trail.old graph.old) lit watch }
+    ensures { PartsVisit alloc.old alloc.new binary.now assignment.old assignment.new trail.old trail.new graph.old graph.new lists.old lists.new lit watch result }
 {
     let cref = watch.cref;
-    match reorder_clause(clause_alloc, assignment, cref, !lit) {
+    match reorder_clause(alloc, assignment, cref, !lit) {
         Found::Stale => Ok(Visit::Dropped),
         Found::True(first) => Ok(Visit::Keep(first)),
         Found::Other(first, other) => {
@@ -160,12 +156,12 @@ fn visit_watch<A: Allocator + Copy>(
                 cref,
                 blocking: first,
             };
-            watchlists.add_watch(!other, moved)?;
+            lists.add_watch(!other, moved)?;
             Ok(Visit::Dropped)
         }
         Found::False(first) => Ok(Visit::Conflicting(first)),
         Found::Implied(first) => {
-            enqueue_assignment(assignment, impl_graph, trail, first, Reason::Long(cref))?;
+            enqueue_assignment(assignment, graph, trail, first, Reason::Long(cref))?;
             Ok(Visit::Keep(first))
         }
     }
@@ -189,21 +185,21 @@ fn close_gap<A: Allocator + Copy>(list: &mut Vec<Watch, A>, start: usize, end: u
 /// Visits the watches of a literal, which became true. Those that stay are moved to the front as it goes.
 fn visit_watches<A: Allocator + Copy>(
     assignment: &mut Assignment<A>,
-    clause_alloc: &mut ClauseAlloc<A>,
-    impl_graph: &mut ImplGraph<A>,
+    alloc: &mut ClauseAlloc<A>,
+    graph: &mut ImplGraph<A>,
     trail: &mut Trail<A>,
-    binary_clauses: &BinaryClauses<A>,
+    binary: &BinaryClauses<A>,
     watchlists: &mut Watchlists<A>,
     list: &mut Vec<Watch, A>,
     lit: Lit,
 ) -> Result<Result<(), Conflict>, AllocError>
     requires inside { lit < length watchlists.old.lists }
     requires next { IsNext (with_watches watchlists.old lit list.old.items)
-        (view_of clause_alloc.old binary_clauses.now assignment.old trail.old impl_graph.old) lit }
-    ensures goes { OnOk result (GoesOnWith (parts_of clause_alloc.old binary_clauses.now assignment.old trail.old impl_graph.old)
-        (parts_of clause_alloc.new binary_clauses.now assignment.new trail.new impl_graph.new) (with_watches watchlists.new lit list.new.items)) }
-    ensures ends { IfOk result (λ end. EndsPropagation
-        (λ s. IsSettledTo s (suc s.queue_head)) (view_of clause_alloc.new binary_clauses.now assignment.new trail.new impl_graph.new) end) }
+        (view_of alloc.old binary.now assignment.old trail.old graph.old) lit }
+    ensures propagates { OnOk result (PartsPropagate alloc.old alloc.new binary.now assignment.old assignment.new trail.old trail.new graph.old graph.new) }
+    ensures keeps { OnOk result (PartsKeep alloc.old alloc.new binary.now assignment.old assignment.new trail.old trail.new graph.old graph.new) }
+    ensures next { OnOk result (IsNext (with_watches watchlists.new lit list.new.items) (view_of alloc.new binary.now assignment.new trail.new graph.new) lit) }
+    ensures ends { IfOk result (EndsPropagation IsNextSettled (view_of alloc.new binary.now assignment.new trail.new graph.new)) }
     ensures lists { OnOk result (length watchlists.new.lists ≡ length watchlists.old.lists) }
 {
     let mut write = 0;
@@ -219,14 +215,7 @@ fn visit_watches<A: Allocator + Copy>(
         }
         let cref = watch.cref;
         match visit_watch(
-            assignment,
-            clause_alloc,
-            impl_graph,
-            trail,
-            binary_clauses,
-            watchlists,
-            lit,
-            watch,
+            assignment, alloc, graph, trail, binary, watchlists, lit, watch,
         )? {
             Visit::Dropped => {}
             Visit::Keep(blocking) => {
@@ -248,29 +237,20 @@ fn visit_watches<A: Allocator + Copy>(
 /// Makes true what the clauses imply that watch the literal, which became true.
 pub fn propagate_long<A: Allocator + Copy>(
     assignment: &mut Assignment<A>,
-    clause_alloc: &mut ClauseAlloc<A>,
-    impl_graph: &mut ImplGraph<A>,
+    alloc: &mut ClauseAlloc<A>,
+    graph: &mut ImplGraph<A>,
     trail: &mut Trail<A>,
-    binary_clauses: &BinaryClauses<A>,
+    binary: &BinaryClauses<A>,
     watchlists: &mut Watchlists<A>,
     lit: Lit,
 ) -> Result<Result<(), Conflict>, AllocError>
-    requires { IsNext watchlists.old (view_of clause_alloc.old binary_clauses.now assignment.old trail.old impl_graph.old) lit }
-    ensures goes { OnOk result (GoesOnWith (parts_of clause_alloc.old binary_clauses.now assignment.old trail.old impl_graph.old)
-        (parts_of clause_alloc.new binary_clauses.now assignment.new trail.new impl_graph.new) watchlists.new) }
-    ensures ends { IfOk result (λ end. EndsPropagation
-        (λ s. IsSettledTo s (suc s.queue_head)) (view_of clause_alloc.new binary_clauses.now assignment.new trail.new impl_graph.new) end) }
+    requires { IsNext watchlists.old (view_of alloc.old binary.now assignment.old trail.old graph.old) lit }
+    ensures goes { OnOk result (PartsGoOn alloc.old alloc.new binary.now assignment.old assignment.new trail.old trail.new graph.old graph.new watchlists.new) }
+    ensures ends { IfOk result (EndsPropagation IsNextSettled (view_of alloc.new binary.now assignment.new trail.new graph.new)) }
 {
     let mut list = watchlists.take_list(lit);
     let end = visit_watches(
-        assignment,
-        clause_alloc,
-        impl_graph,
-        trail,
-        binary_clauses,
-        watchlists,
-        &mut list,
-        lit,
+        assignment, alloc, graph, trail, binary, watchlists, &mut list, lit,
     )?;
     watchlists.put_list(lit, list);
     Ok(end)

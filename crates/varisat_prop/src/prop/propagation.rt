@@ -1,17 +1,14 @@
 //! Unit propagation over the queue of the trail.
-ghost use Rattle.std.specs.Prelude.{◌≡◌, suc, ◌<◌, ◌≤◌, true, false, [], length, OnOk, IfOk, MatchResult};
+ghost use Rattle.std.specs.Prelude.{◌≡◌, ◌<◌, true, false, [], length, OnOk, IfOk};
 ghost use Rattle.varisat_theory.specs.Membership.{◌∈◌};
 ghost use Rattle.varisat_theory.specs.Literals.{Literal, Clause, opposite};
-ghost use Rattle.varisat_theory.specs.Propagation.{IsComplete};
 ghost use Rattle.varisat_clause.specs.Stored.{literals_of};
 ghost use Rattle.varisat_clause.specs.Stores.{IsSound};
 ghost use Rattle.varisat_clause.specs.Collected.{live_clauses};
 ghost use Rattle.varisat_clause.specs.Shapes.{KeepsShapes};
-ghost use Rattle.varisat_prop.specs.View.{view_of, kept, WellFormed};
-ghost use Rattle.varisat_prop.specs.Changes.{IsConflicting};
-ghost use Rattle.varisat_prop.specs.Looks.{Propagates};
-ghost use Rattle.varisat_prop.specs.Watches.{watches_of, IsWatching, IsSettledTo, IsImpliedTo, IsPropagated};
-ghost use Rattle.varisat_prop.specs.QueueSteps.{parts_of, IsNext, GoesOnWith, EndsPropagation};
+ghost use Rattle.varisat_prop.specs.View.{view_of, WellFormed};
+ghost use Rattle.varisat_prop.specs.Watches.{watches_of, IsWatching, IsPropagated};
+ghost use Rattle.varisat_prop.specs.QueueSteps.{IsNext, EndsPropagation, IsNextPropagated, IsFullyPropagated, PartsPropagate, PartsGoOn};
 
 use crate::binary::BinaryClauses;
 use crate::clause::ClauseAlloc;
@@ -28,22 +25,22 @@ use varisat_literals::Lit;
 /// Fills the watch lists anew from the first two literals of each clause, where they are off.
 pub fn enable_watchlists<A: Allocator + Copy>(
     watchlists: &mut Watchlists<A>,
-    clause_alloc: &ClauseAlloc<A>,
+    alloc: &ClauseAlloc<A>,
 ) -> Result<(), AllocError>
-    requires sound { IsSound clause_alloc.now }
-    requires within { (c : Clause) → c ∈ literals_of (live_clauses clause_alloc.now) → (l : Literal) → l ∈ c → opposite l < length watchlists.old.lists }
+    requires sound { IsSound alloc.now }
+    requires within { (c : Clause) → c ∈ literals_of (live_clauses alloc.now) → (l : Literal) → l ∈ c → opposite l < length watchlists.old.lists }
     requires empty { watchlists.old.enabled ≡ false → (x : Literal) → watches_of watchlists.old x ≡ [] }
     ensures enabled { OnOk result (watchlists.new.enabled ≡ true) }
     ensures count { OnOk result (length watchlists.new.lists ≡ length watchlists.old.lists) }
     ensures same { OnOk result (watchlists.old.enabled ≡ true → watchlists.new ≡ watchlists.old) }
-    ensures watching { OnOk result (watchlists.old.enabled ≡ false → IsWatching watchlists.new (live_clauses clause_alloc.now)) }
+    ensures watching { OnOk result (watchlists.old.enabled ≡ false → IsWatching watchlists.new (live_clauses alloc.now)) }
 {
     if watchlists.enabled() {
         return Ok(());
     }
     watchlists.enable();
-    for cref in clauses_iter(clause_alloc) {
-        watchlists.watch_clause(cref, clause_alloc.lits(cref))?;
+    for cref in clauses_iter(alloc) {
+        watchlists.watch_clause(cref, alloc.lits(cref))?;
     }
     Ok(())
 }
@@ -51,38 +48,21 @@ pub fn enable_watchlists<A: Allocator + Copy>(
 /// Makes true what the clauses imply by the literal, the first of the queue: those of two literals first.
 fn propagate_lit<A: Allocator + Copy>(
     assignment: &mut Assignment<A>,
-    clause_alloc: &mut ClauseAlloc<A>,
-    impl_graph: &mut ImplGraph<A>,
+    alloc: &mut ClauseAlloc<A>,
+    graph: &mut ImplGraph<A>,
     trail: &mut Trail<A>,
-    binary_clauses: &BinaryClauses<A>,
+    binary: &BinaryClauses<A>,
     watchlists: &mut Watchlists<A>,
     lit: Lit,
 ) -> Result<Result<(), Conflict>, AllocError>
-    requires { IsNext watchlists.old (view_of clause_alloc.old binary_clauses.now assignment.old trail.old impl_graph.old) lit }
-    ensures goes { OnOk result (GoesOnWith (parts_of clause_alloc.old binary_clauses.now assignment.old trail.old impl_graph.old)
-        (parts_of clause_alloc.new binary_clauses.now assignment.new trail.new impl_graph.new) watchlists.new) }
-    ensures ends { IfOk result (λ end. EndsPropagation (λ s. IsSettledTo s (suc s.queue_head)
-        × IsImpliedTo s (suc s.queue_head)) (view_of clause_alloc.new binary_clauses.now assignment.new trail.new impl_graph.new) end) }
+    requires { IsNext watchlists.old (view_of alloc.old binary.now assignment.old trail.old graph.old) lit }
+    ensures goes { OnOk result (PartsGoOn alloc.old alloc.new binary.now assignment.old assignment.new trail.old trail.new graph.old graph.new watchlists.new) }
+    ensures ends { IfOk result (EndsPropagation IsNextPropagated (view_of alloc.new binary.now assignment.new trail.new graph.new)) }
 {
-    match propagate_binary(
-        assignment,
-        clause_alloc,
-        impl_graph,
-        trail,
-        binary_clauses,
-        lit,
-    )? {
+    match propagate_binary(assignment, alloc, graph, trail, binary, lit)? {
         Err(conflict) => Ok(Err(conflict)),
         Ok(()) => {
-            let end = propagate_long(
-                assignment,
-                clause_alloc,
-                impl_graph,
-                trail,
-                binary_clauses,
-                watchlists,
-                lit,
-            )?;
+            let end = propagate_long(assignment, alloc, graph, trail, binary, watchlists, lit)?;
             Ok(end)
         }
     }
@@ -92,39 +72,27 @@ fn propagate_lit<A: Allocator + Copy>(
 /// propagation must have come to its end. It has so afterwards too, where at a conflict the head may stay behind.
 pub fn propagate<A: Allocator + Copy>(
     assignment: &mut Assignment<A>,
-    clause_alloc: &mut ClauseAlloc<A>,
-    impl_graph: &mut ImplGraph<A>,
+    alloc: &mut ClauseAlloc<A>,
+    graph: &mut ImplGraph<A>,
     trail: &mut Trail<A>,
-    binary_clauses: &BinaryClauses<A>,
+    binary: &BinaryClauses<A>,
     watchlists: &mut Watchlists<A>,
 ) -> Result<Result<(), Conflict>, AllocError>
-    requires well { WellFormed (view_of clause_alloc.old binary_clauses.now assignment.old trail.old impl_graph.old) }
-    requires propagated { IsPropagated watchlists.old (view_of clause_alloc.old binary_clauses.now assignment.old trail.old impl_graph.old) }
+    requires well { WellFormed (view_of alloc.old binary.now assignment.old trail.old graph.old) }
+    requires propagated { IsPropagated watchlists.old (view_of alloc.old binary.now assignment.old trail.old graph.old) }
     // Each literal that was added has a clause as its reason, whose other literals are false and stand before it.
-    ensures propagates { OnOk result (Propagates (view_of clause_alloc.old binary_clauses.now assignment.old trail.old impl_graph.old)
-        (view_of clause_alloc.new binary_clauses.now assignment.new trail.new impl_graph.new)) }
-    ensures propagated { OnOk result (IsPropagated watchlists.new (view_of clause_alloc.new binary_clauses.now assignment.new trail.new impl_graph.new)) }
+    ensures propagates { OnOk result (PartsPropagate alloc.old alloc.new binary.now assignment.old assignment.new trail.old trail.new graph.old graph.new) }
+    ensures propagated { OnOk result (IsPropagated watchlists.new (view_of alloc.new binary.now assignment.new trail.new graph.new)) }
     // At a conflict all literals of the named clause are false. Else no clause is false, none leaves a literal that
     // isn't true, and each literal was propagated.
-    ensures ends { IfOk result (λ end. MatchResult end
-        (λ _. IsComplete (kept (view_of clause_alloc.new binary_clauses.now assignment.new trail.new impl_graph.new)) trail.new.literals
-        × (trail.new.queue_head ≡ length trail.new.literals))
-        (λ conflict. IsConflicting (view_of clause_alloc.new binary_clauses.now assignment.new trail.new impl_graph.new) conflict)) }
+    ensures ends { IfOk result (EndsPropagation IsFullyPropagated (view_of alloc.new binary.now assignment.new trail.new graph.new)) }
     ensures last { OnOk result (assignment.new.last ≡ assignment.old.last) }
     // Of the store of clauses only the order of literals changes, also where a clause is deleted.
-    ensures store { OnOk result (KeepsShapes clause_alloc.old clause_alloc.new) }
+    ensures store { OnOk result (KeepsShapes alloc.old alloc.new) }
 {
-    enable_watchlists(watchlists, clause_alloc)?;
+    enable_watchlists(watchlists, alloc)?;
     'queue: while let Some(lit) = trail.queue_head() {
-        match propagate_lit(
-            assignment,
-            clause_alloc,
-            impl_graph,
-            trail,
-            binary_clauses,
-            watchlists,
-            lit,
-        )? {
+        match propagate_lit(assignment, alloc, graph, trail, binary, watchlists, lit)? {
             // The literal counts as propagated only now: after a conflict it is looked at again.
             Ok(()) => {
                 trail.pop_queue();

@@ -1,7 +1,7 @@
 //! The trail: what was decided and propagated, in that order.
-ghost use Rattle.std.specs.Prelude.{◌≡◌, ◌<◌, ◌≤◌, ◌+◌, ◌++◌, ◌∷◌, ◌↔◌, IsTrue, [], length, take, slice_index, slice_get, Option, Some, None, MatchOption, OnOk, not};
+ghost use Rattle.std.specs.Prelude.{◌≡◌, ◌<◌, ◌≤◌, ◌+◌, ◌++◌, ◌∷◌, ◌↔◌, IsTrue, [], length, slice_index, slice_get, Option, Some, None, MatchOption, OnOk, not};
 ghost use Rattle.varisat_theory.specs.Literals.{variable_of};
-ghost use Rattle.varisat_prop.specs.Parts.{empty_trail, top_level_count};
+ghost use Rattle.varisat_prop.specs.Parts.{empty_trail, backtracked, top_level_count};
 ghost use Rattle.varisat_prop.specs.Leaving.{leaves, staying};
 
 use std::alloc::{AllocError, Allocator};
@@ -157,11 +157,7 @@ impl<A: Allocator + Copy> Trail<A> {
     pub fn truncate(&mut self, level: usize)
         requires level { level < length self.old.decisions }
         requires place { slice_index self.old.decisions level ≤ length self.old.literals }
-        ensures { self.new ≡ record self.old {
-          literals = take (slice_index self.old.decisions level) self.old.literals;
-          queue_head = slice_index self.old.decisions level;
-          decisions = take level self.old.decisions;
-        } }
+        ensures { self.new ≡ backtracked self.old level }
     {
         let end = self.level_end(level);
         self.trail.truncate(end);

@@ -7,9 +7,9 @@ use Rattle.varisat_prop.proofs.prop.binary.propagate_binary.Goals as goal
 
 pub loop-entry-init : goal.loop-entry-init
 loop-entry-init g c = record {
-  implying = implying-start (view_of c.args.clause_alloc.now c.args.binary_clauses.now c.args.assignment.now c.args.trail.now c.args.impl_graph.now)
+  implying = implying-start (view_of c.args.alloc.now c.args.binary.now c.args.assignment.now c.args.trail.now c.args.graph.now)
       c.args.lit c.requires.well c.requires.is_true;
-  keeps = keeps-refl (parts_of c.args.clause_alloc.now c.args.binary_clauses.now c.args.assignment.now c.args.trail.now c.args.impl_graph.now);
+  keeps = keeps-refl (parts_of c.args.alloc.now c.args.binary.now c.args.assignment.now c.args.trail.now c.args.graph.now);
 }
 
 pub lit_is_false-requires : goal.lit_is_false-requires
@@ -37,7 +37,7 @@ loop-entry-preserved-then-lit_is_true g c = record {
 pub loop-entry-preserved : goal.loop-entry-preserved
 loop-entry-preserved g c =
     let enters = c.in_ok-enqueue_assignment.ensures in
-    let view = enters.view c.args.clause_alloc.now c.args.binary_clauses.now in
+    let view = enters.view c.args.alloc.now c.args.binary.now in
     record {
       implying = implying-new c.loop-entry.invariant.implying c.implied-entry-items.ensures c.loop-entry-test.true c.entry-item.is
           (λ h. let b = c.if-lit_is_true.ensures.1 h in cc) (λ h. let b = c.if-lit_is_false.ensures.1 h in cc) c.not-in-loop-entry.ensures view;

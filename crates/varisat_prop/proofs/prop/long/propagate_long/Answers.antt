@@ -1,5 +1,5 @@
 use Rattle.std.proofs.Common.{arith}
-use Rattle.varisat_prop.proofs.NextLiteral.{next-list, taken-inside, taken-next, goes-put}
+use Rattle.varisat_prop.proofs.NextLiteral.{next-list, taken-inside, taken-next, goes-put, goes-to}
 use Rattle.varisat_prop.proofs.prop.long.propagate_long.Goals as goal
 
 pub take_list-list-requires : goal.take_list-list-requires
@@ -17,4 +17,6 @@ put_list-requires g c =
     omega (arith, h, c.in_ok-end.ensures.lists)
 
 pub returns-clause-goes : goal.returns-clause-goes
-returns-clause-goes g c = goes-put c.in_ok-end.ensures.goes c.put_list.ensures
+returns-clause-goes g c =
+    let e = c.in_ok-end.ensures in
+    goes-put (goes-to e.keeps e.propagates e.next) c.put_list.ensures

@@ -10,19 +10,19 @@ use Rattle.varisat_prop.specs.Visits.{IsFound}
 use Rattle.varisat_prop.proofs.prop.long.reorder_clause.Goals as goal
 
 pub lits_mut-lits-requires-clause-place : goal.lits_mut-lits-requires-clause-place
-lits_mut-lits-requires-clause-place g c = live-place (stored_clauses c.args.clause_alloc.now) c.args.cref c.requires.place
+lits_mut-lits-requires-clause-place g c = live-place (stored_clauses c.args.alloc.now) c.args.cref c.requires.place
 
 pub reorder-requires-clause-long : goal.reorder-requires-clause-long
 reorder-requires-clause-long g c = subst (λ x. 2 ≤ length x)
-    (sym (c.lits_mut-lits.ensures.value ∙ live-literals c.args.clause_alloc.now c.args.cref c.requires.sound c.requires.place)) c.requires.long
+    (sym (c.lits_mut-lits.ensures.value ∙ live-literals c.args.alloc.now c.args.cref c.requires.sound c.requires.place)) c.requires.long
 
 pub reorder-requires-clause-within : goal.reorder-requires-clause-within
 reorder-requires-clause-within g c = subst (IsInRange c.args.assignment.now.current)
-    (sym (c.lits_mut-lits.ensures.value ∙ live-literals c.args.clause_alloc.now c.args.cref c.requires.sound c.requires.place)) c.requires.within
+    (sym (c.lits_mut-lits.ensures.value ∙ live-literals c.args.alloc.now c.args.cref c.requires.sound c.requires.place)) c.requires.within
 
 pub returns : goal.returns
 returns g c =
-    let s = c.args.clause_alloc.now in
+    let s = c.args.alloc.now in
     let p = c.args.cref in
     let d = c.reorder.new.lits in
     let n = put_words s (p + 3) d in

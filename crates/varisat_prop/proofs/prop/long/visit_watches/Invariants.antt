@@ -5,8 +5,8 @@ use Rattle.varisat_prop.proofs.prop.long.visit_watches.Given as goal
 
 abbrev pub invariant-loop-read : goal.invariant-loop-read
 invariant-loop-read g l =
-    Visiting (parts_of l.fn.clause_alloc l.binary_clauses l.fn.assignment l.fn.trail l.fn.impl_graph)
-    (parts_of l.clause_alloc l.binary_clauses l.assignment l.trail l.impl_graph) l.fn.watchlists l.watchlists l.lit l.list.items l.write l.read
+    Visiting (parts_of l.fn.alloc l.binary l.fn.assignment l.fn.trail l.fn.graph)
+    (parts_of l.alloc l.binary l.assignment l.trail l.graph) l.fn.watchlists l.watchlists l.lit l.list.items l.write l.read
 
 abbrev pub decreases-loop-read : goal.decreases-loop-read
 decreases-loop-read g l = length l.list.items - l.read

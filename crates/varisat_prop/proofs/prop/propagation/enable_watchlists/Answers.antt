@@ -12,12 +12,12 @@ use Rattle.varisat_prop.proofs.prop.propagation.enable_watchlists.Goals as goal
 
 pub lits-requires-clause-place : goal.lits-requires-clause-place
 lits-requires-clause-place g c =
-    live-place (stored_clauses c.args.clause_alloc.now) c.in-Some.cref
+    live-place (stored_clauses c.args.alloc.now) c.in-Some.cref
     (c.loop-cref.invariant.but.places c.in-Some.cref (subst (λ (xs : List ℕ). c.in-Some.cref ∈ xs) (sym c.in-Some.ensures.steps) (inl refl)))
 
 pub watch_clause-requires-clause-several : goal.watch_clause-requires-clause-several
 watch_clause-requires-clause-several g c =
-    let s = c.args.clause_alloc.now in
+    let s = c.args.alloc.now in
     let p = c.in-Some.cref in
     let h = c.loop-cref.invariant.but.places p (subst (λ (xs : List ℕ). p ∈ xs) (sym c.in-Some.ensures.steps) (inl refl)) in
     let e = ap length (c.lits.ensures ∙ live-literals s p c.requires.sound h) in
@@ -26,7 +26,7 @@ watch_clause-requires-clause-several g c =
 
 pub watch_clause-requires-clause-listed : goal.watch_clause-requires-clause-listed
 watch_clause-requires-clause-listed g c = λ l m.
-    let s = c.args.clause_alloc.now in
+    let s = c.args.alloc.now in
     let p = c.in-Some.cref in
     let h = c.loop-cref.invariant.but.places p (subst (λ (xs : List ℕ). p ∈ xs) (sym c.in-Some.ensures.steps) (inl refl)) in
     let e = c.lits.ensures ∙ live-literals s p c.requires.sound h in
@@ -36,7 +36,7 @@ watch_clause-requires-clause-listed g c = λ l m.
 
 pub loop-cref-preserved : goal.loop-cref-preserved
 loop-cref-preserved g c =
-    let s = c.args.clause_alloc.now in
+    let s = c.args.alloc.now in
     let p = c.in-Some.cref in
     let W = c.loop-cref.watchlists in
     let V = c.watch_clause.new.self in
@@ -51,7 +51,7 @@ loop-cref-preserved g c =
 
 pub loop-cref-init : goal.loop-cref-init
 loop-cref-init g c =
-    let s = c.args.clause_alloc.now in
+    let s = c.args.alloc.now in
     let off : c.args.watchlists.now.enabled ≡ false = sym c.enabled.ensures ∙ c.if-enabled.false in
     let lists = ap (λ (x : Watches). x.lists) c.enable.ensures in
     record {
@@ -64,6 +64,6 @@ loop-cref-init g c =
 
 pub returns-clause-watching : goal.returns-clause-watching
 returns-clause-watching g c = λ e.
-    let s = c.args.clause_alloc.now in
+    let s = c.args.alloc.now in
     but-none c.loop-cref.watchlists (live_clauses s)
     (subst (λ (xs : List ℕ). WatchingBut c.loop-cref.watchlists (live_clauses s) xs) (c.in-None.ensures {u = tt}).steps.0 c.loop-cref.invariant.but)

@@ -5,7 +5,7 @@ use Rattle.varisat_prop.proofs.prop.propagation.enable_watchlists.Given as goal
 
 abbrev pub invariant-loop-cref : goal.invariant-loop-cref
 invariant-loop-cref g l = record {
-  but : WatchingBut l.watchlists (live_clauses l.clause_alloc) l.cref-iterator;
+  but : WatchingBut l.watchlists (live_clauses l.alloc) l.cref-iterator;
   enabled : l.watchlists.enabled ≡ true;
   count : length l.watchlists.lists ≡ length l.fn.watchlists.lists;
 }

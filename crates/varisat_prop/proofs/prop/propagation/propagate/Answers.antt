@@ -12,18 +12,18 @@ use Rattle.varisat_prop.proofs.NextLiteral.{next-taken, queue-more, queue-next, 
 use Rattle.varisat_prop.proofs.prop.propagation.propagate.Goals as goal
 
 pub enable_watchlists-requires-clause-sound : goal.enable_watchlists-requires-clause-sound
-enable_watchlists-requires-clause-sound g c = is-sound c.args.clause_alloc.now c.requires.well.sound
+enable_watchlists-requires-clause-sound g c = is-sound c.args.alloc.now c.requires.well.sound
 
 pub enable_watchlists-requires-clause-within : goal.enable_watchlists-requires-clause-within
 enable_watchlists-requires-clause-within g c = λ d h l m.
-    let s = view_of c.args.clause_alloc.now c.args.binary_clauses.now c.args.assignment.now c.args.trail.now c.args.impl_graph.now in
+    let s = view_of c.args.alloc.now c.args.binary.now c.args.assignment.now c.args.trail.now c.args.graph.now in
     let n = listed l (length s.values) (c.requires.well.in_range d (stored-kept s d h) l m) in
     let o = c.requires.propagated.lists in
     omega (arith, n, o)
 
 pub queue-init : goal.queue-init
 queue-init g c =
-    let s = view_of c.args.clause_alloc.now c.args.binary_clauses.now c.args.assignment.now c.args.trail.now c.args.impl_graph.now in
+    let s = view_of c.args.alloc.now c.args.binary.now c.args.assignment.now c.args.trail.now c.args.graph.now in
     let e = c.in_ok-enable_watchlists.ensures in
     record {
       propagates = propagates-refl s c.requires.well;
@@ -58,7 +58,7 @@ returns-clause-propagated g c = watched-propagated _ _ c.queue.invariant.watched
 
 pub returns-clause-ends : goal.returns-clause-ends
 returns-clause-ends g c =
-    let t = view_of c.queue.clause_alloc c.args.binary_clauses.now c.queue.assignment c.queue.trail c.queue.impl_graph in
+    let t = view_of c.queue.alloc c.args.binary.now c.queue.assignment c.queue.trail c.queue.graph in
     let past : length t.trail ≤ t.queue_head = at-end t.trail t.queue_head c.queue_head.result c.queue_head.ensures c.in_default.is in
     let w = c.queue.invariant.watched in
     let e : t.queue_head ≡ length t.trail = (let n = w.within in omega (arith, n, past)) in (

@@ -4,8 +4,8 @@ use Rattle.varisat_prop.proofs.NextLiteral.{QueueGoesOn}
 use Rattle.varisat_prop.proofs.prop.propagation.propagate.Given as goal
 
 abbrev pub invariant-queue : goal.invariant-queue
-invariant-queue g l = QueueGoesOn (parts_of l.fn.clause_alloc l.binary_clauses l.fn.assignment l.fn.trail l.fn.impl_graph)
-    (parts_of l.clause_alloc l.binary_clauses l.assignment l.trail l.impl_graph) l.watchlists
+invariant-queue g l = QueueGoesOn (parts_of l.fn.alloc l.binary l.fn.assignment l.fn.trail l.fn.graph)
+    (parts_of l.alloc l.binary l.assignment l.trail l.graph) l.watchlists
 
 abbrev pub decreases-queue : goal.decreases-queue
 decreases-queue g l = length l.assignment.current - l.trail.queue_head

@@ -10,7 +10,7 @@ use Rattle.varisat_clause.specs.Headers.{Header, no_header}
 use Rattle.varisat_clause.specs.Stored.{StoredClause, IsPlace, stored_at, header_at, literals_at, with_stored, with_header}
 use Rattle.varisat_clause.specs.Stores.{Store, stored_clauses, IsSound, HoldsClauses}
 use Rattle.varisat_clause.specs.Databases.{Database, tier_list, is_live, is_live_in, total, size_of, Tracks}
-use Rattle.varisat_clause.specs.ClauseActivities.{ActivityScale, with_activity, activity_shifted, clauses_shifted, clauses_rescaled, reaches_clause_limit}
+use Rattle.varisat_clause.specs.ClauseActivities.{ActivityScale, with_activity, activity_shifted, clauses_shifted, clauses_rescaled, reaches_clause_limit, Scored, scored, activity_bumped}
 use Rattle.varisat_clause.proofs.StoredClauses.{stored-∈, clause-same, clause-place, clause-twice}
 use Rattle.varisat_clause.proofs.DatabaseTracks.{place-is, header-self}
 use Rattle.varisat_clause.proofs.LiveStore.{live-∈, live-place, live-stored, live-literals}
@@ -19,7 +19,7 @@ use Rattle.varisat_prop.specs.declared.prop.graph.ImplNode.{ImplNode}
 use Rattle.varisat_prop.specs.declared.prop.graph.Conflict.{Conflict}
 use Rattle.varisat_prop.specs.declared.prop.graph.Conflict.TheVariants as conflict
 use Rattle.varisat_analysis.specs.HeaderChanges.{SameButHeaders}
-use Rattle.varisat_analysis.specs.Assessments.{glue_of, tier_by_glue, is_improved, improved, noted, Scored, activity_bumped, with_bump, clause_bumped, clauses_bumped, scored}
+use Rattle.varisat_analysis.specs.Assessments.{glue_of, tier_by_glue, is_improved, improved, noted, with_bump, clause_bumped, clauses_bumped}
 use Rattle.varisat_analysis.proofs.SameButHeaders.{held_clause, live-headers, map-same, with-same-look, headers-place, headers-at}
 use Rattle.varisat_clause.proofs.DatabaseTracks.{true-or-false}
 

@@ -1,5 +1,5 @@
 -- The glue of a clause, the tier by it, and what a conflict makes of the clauses that took part in it.
-use Rattle.std.specs.Prelude.{◌≡◌, ℕ, ◌+◌, ◌-◌, ◌*◌, ◌/◌, ◌^◌, ◌<◌, Bool, true, false, not, ◌&&◌, nat_eq, nat_le, nat_lt, min, if◌then◌else◌, List, [], ◌∷◌, length, map, slice_index_or, ◌⊎◌}
+use Rattle.std.specs.Prelude.{◌≡◌, ℕ, ◌-◌, ◌/◌, ◌^◌, ◌<◌, Bool, true, false, not, ◌&&◌, nat_eq, nat_le, nat_lt, min, if◌then◌else◌, List, [], ◌∷◌, length, map, slice_index_or, ◌⊎◌}
 use Rattle.std.specs.Set.{distinct_count}
 use Rattle.varisat_theory.specs.Membership.{◌∈◌}
 use Rattle.varisat_theory.specs.Literals.{Literal, variable_of, opposite}
@@ -7,10 +7,10 @@ use Rattle.varisat_clause.specs.declared.header.Tier.{Tier}
 use Rattle.varisat_clause.specs.declared.header.Tier.TheVariants.{Irred, Core, Mid, Local}
 use Rattle.varisat_clause.specs.Tiers.{is_tier}
 use Rattle.varisat_clause.specs.Headers.{Header, no_header}
-use Rattle.varisat_clause.specs.Stored.{StoredClause, IsPlace, header_at, literals_at, with_header}
+use Rattle.varisat_clause.specs.Stored.{IsPlace, header_at, literals_at, with_header}
 use Rattle.varisat_clause.specs.Stores.{Store, stored_clauses, HoldsClauses}
 use Rattle.varisat_clause.specs.Databases.{Database, Tracks}
-use Rattle.varisat_clause.specs.ClauseActivities.{ActivityScale, with_activity, clauses_rescaled, scale_rescaled, reaches_clause_limit}
+use Rattle.varisat_clause.specs.ClauseActivities.{ActivityScale, with_activity, clauses_rescaled, scale_rescaled, reaches_clause_limit, Scored, scored, activity_bumped, reaches_limit_at, increment_decayed, scale_decayed}
 use Rattle.varisat_prop.specs.declared.prop.graph.ImplNode.{ImplNode}
 use Rattle.varisat_prop.specs.declared.prop.graph.Conflict.{Conflict}
 use Rattle.varisat_prop.specs.declared.prop.graph.Conflict.TheVariants as conflict
@@ -20,6 +20,10 @@ use Rattle.varisat_analysis.specs.Bumps.{level_in}
 -- how many levels the literals have, less one
 abbrev pub glue_of : List ImplNode → List Literal → ℕ
 glue_of nodes lits = distinct_count nat_eq (map (level_in nodes) lits) - 1
+
+-- the glue of the clause of the store at the place
+abbrev pub glue_at : List ImplNode → Store → ℕ → ℕ
+glue_at nodes s p = glue_of nodes (literals_at (stored_clauses s) p)
 
 -- the tier of a clause of the glue that may be deleted
 abbrev pub tier_by_glue : ℕ → Tier
@@ -41,22 +45,13 @@ improved glue h = if is_improved glue h then record h { glue = glue; tier = tier
 abbrev pub noted : ℕ → Header → Header
 noted glue h = record (improved glue h) { active = true }
 
--- the clauses of a store, and what a bump adds to an activity
-pub record Scored : Type 0 where
-  pub clauses : List StoredClause
-  pub scale : ActivityScale
-
--- what a bump makes of the activity of the clause at the place
-abbrev pub activity_bumped : ℕ → Scored → ℕ
-activity_bumped p x = (header_at x.clauses p).activity + x.scale.increment
-
--- The clause at the place has that activity; where it reaches the limit, all are shifted.
+-- The clause at the place is bumped; where it comes to the limit, all are shifted.
 abbrev pub with_bump : ℕ → Scored → Scored
 with_bump p x = record {
   clauses =
-      with_activity (clauses_rescaled (reaches_clause_limit (activity_bumped p x)) x.clauses) p
-      (if reaches_clause_limit (activity_bumped p x) then activity_bumped p x / 2 ^ 16 else activity_bumped p x);
-  scale = scale_rescaled (reaches_clause_limit (activity_bumped p x)) x.scale;
+      with_activity (clauses_rescaled (reaches_limit_at p x) x.clauses) p
+      (if reaches_limit_at p x then activity_bumped p x / 2 ^ 16 else activity_bumped p x);
+  scale = scale_rescaled (reaches_limit_at p x) x.scale;
 }
 
 -- The clause at the place takes part in a conflict: it is active, its glue and its tier are improved, and it is bumped.
@@ -69,15 +64,11 @@ clauses_bumped nodes [] x = x
 clauses_bumped nodes (conflict.Binary lits ∷ names) x = clauses_bumped nodes names x
 clauses_bumped nodes (conflict.Long p ∷ names) x = clauses_bumped nodes names (clause_bumped nodes p x)
 
--- the increment after a decay
-abbrev pub increment_decayed : Scored → ℕ
-increment_decayed x = x.scale.increment * 1000 / x.scale.decay
-
 -- Later bumps add more; where the increment reaches the limit, it and all activities are shifted.
 abbrev pub clauses_decayed : Scored → Scored
 clauses_decayed x = record {
-  clauses = clauses_rescaled (reaches_clause_limit (increment_decayed x)) x.clauses;
-  scale = scale_rescaled (reaches_clause_limit (increment_decayed x)) (record x.scale { increment = increment_decayed x });
+  clauses = clauses_rescaled (reaches_clause_limit (increment_decayed x.scale)) x.clauses;
+  scale = scale_rescaled (reaches_clause_limit (increment_decayed x.scale)) (scale_decayed x.scale);
 }
 
 -- The literals' variables have a level, each of these has a flag, and no flag is set.
@@ -92,10 +83,6 @@ pub record CanBump (nodes : List ImplNode) (s : Store) (d : Database) (flags : L
   pub live : (header_at (stored_clauses s) p).deleted ≡ false
   pub tracks : Tracks d s
   pub count : CanCount nodes (literals_at (stored_clauses s) p) flags
-
--- the clauses of the store, with the scale
-abbrev pub scored : Store → ActivityScale → Scored
-scored s a = record { clauses = stored_clauses s; scale = a }
 
 -- The named clauses of the store take part in a conflict, in turn, and then the activities decay.
 pub record BumpsClauses (nodes : List ImplNode) (names : List Conflict) (s t : Store) (a b : ActivityScale) : Type 0 where

@@ -28,6 +28,14 @@ pub record CanMark {A : Type 0} (s : View) (parts : Parts A) (flags : List Bool)
   pub sees : Sees s parts
   pub flags_are : length flags ≡ length s.nodes
 
+-- a literal that is not to be marked: it is of level 0, or its variable is marked
+abbrev pub IsPassedOver : View → List Bool → Literal → Type 0
+IsPassedOver s flags l = (level_of s l ≡ 0) ⊎ (slice_index_or flags (variable_of l) false ≡ true)
+
+-- a literal that is to be marked, and its level: that is above 0, and its variable has a flag and is not marked
+abbrev pub IsToMark : View → List Bool → Literal → ℕ → Type 0
+IsToMark s flags l level = (level ≡ level_of s l) × (0 < level) × (slice_index_or flags (variable_of l) false ≡ false) × (variable_of l < length flags)
+
 -- A conflict above level 0, where each level began with propagation at its end.
 pub record IsDeepConflict (s : View) (f : Conflict) : Type 0 where
   pub settled : LevelsSettled s

@@ -18,11 +18,15 @@ is_clause_at reason.Unit p = false
 is_clause_at (reason.Binary ms) p = false
 is_clause_at (reason.Long q) p = nat_eq q p
 
+-- the variable of the clause's first literal
+abbrev pub first_variable : StoredClause → ℕ
+first_variable k = variable_of (literal_in k.literals 0)
+
 -- The clause is the reason of its first literal, whose variable has a value.
 abbrev pub is_reason : List (Option Bool) → List ImplNode → StoredClause → Bool
 is_reason values nodes k =
-    is_some (slice_index_or values (variable_of (literal_in k.literals 0)) None) && is_clause_at
-    (slice_index_or nodes (variable_of (literal_in k.literals 0)) no_node).reason k.place
+    is_some (slice_index_or values (first_variable k) None) && is_clause_at
+    (slice_index_or nodes (first_variable k) no_node).reason k.place
 
 -- A clause that is not deleted is marked exactly where it is a reason.
 abbrev pub reason_marked : List (Option Bool) → List ImplNode → StoredClause → StoredClause

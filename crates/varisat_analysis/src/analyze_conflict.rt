@@ -1,12 +1,12 @@
 //! Learns a clause from a conflict.
-ghost use Rattle.std.specs.Prelude.{◌≡◌, ℕ, ◌<◌, ◌≤◌, ◌⊎◌, ◌++◌, true, false, length, slice_index_or, OnOk, IfOk, MatchOption};
+ghost use Rattle.std.specs.Prelude.{◌≡◌, ℕ, ◌<◌, ◌≤◌, ◌++◌, true, false, length, slice_index_or, OnOk, IfOk, MatchOption};
 ghost use Rattle.varisat_theory.specs.Membership.{◌∈◌, SameSet, IsDistinct};
 ghost use Rattle.varisat_theory.specs.Literals.{variable_of, opposite};
 ghost use Rattle.varisat_theory.specs.Propagation.{IsFalse};
 ghost use Rattle.varisat_prop.specs.View.{View, level_of, WellFormed, LevelsSettled};
 ghost use Rattle.varisat_prop.specs.Changes.{IsConflicting};
 ghost use Rattle.varisat_analysis.specs.Learned.{no_analysis, names_of, Shows, IsLevelOf, IsLearned, AreInvolved};
-ghost use Rattle.varisat_analysis.specs.Marks.{Sees, CanMark, marking, MayBegin, MarksAreListed, Marks, AddsMarks, AddsReason, IsResolved, Minimizes, Teaches};
+ghost use Rattle.varisat_analysis.specs.Marks.{Sees, CanMark, IsPassedOver, IsToMark, marking, MayBegin, MarksAreListed, Marks, AddsMarks, AddsReason, IsResolved, Minimizes, Teaches};
 ghost use Rattle.varisat_analysis.specs.Bumps.{literals_among, AreVariablesAbove};
 ghost use Rattle.varisat_analysis.specs.Redundancy.{Explores, TellsRedundancy};
 
@@ -121,10 +121,7 @@ fn level_to_mark<A: Allocator + Copy>(
     ghost s: { View }
     requires can { CanMark s parts var_flags.now }
     requires falsified { opposite lit ∈ s.trail }
-    ensures { MatchOption result
-        ((level_of s lit ≡ 0) ⊎ (slice_index_or var_flags.now (variable_of lit) false ≡ true))
-        (λ level. (level ≡ level_of s lit) × (0 < level)
-        × (slice_index_or var_flags.now (variable_of lit) false ≡ false) × (variable_of lit < length var_flags.now)) }
+    ensures { MatchOption result (IsPassedOver s var_flags.now lit) (IsToMark s var_flags.now lit) }
 {
     // The flag first: it is one byte, and the level stands in a node of the graph, which is often not in the cache.
     if var_flags[lit.index()] {

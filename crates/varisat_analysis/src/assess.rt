@@ -1,14 +1,15 @@
 //! Tiers of learned clauses by their glue, and what a conflict does to the clauses that took part in it.
-ghost use Rattle.std.specs.Prelude.{◌≡◌, length, false, true, OnOk, OnErr};
+ghost use Rattle.std.specs.Prelude.{◌≡◌, true, OnOk, OnErr};
 ghost use Rattle.varisat_theory.specs.Membership.{◌∈◌};
-ghost use Rattle.varisat_clause.specs.Stored.{IsPlace, header_at, literals_at, with_header};
-ghost use Rattle.varisat_clause.specs.Stores.{stored_clauses, IsSound, HoldsClauses};
+ghost use Rattle.varisat_clause.specs.Stored.{IsPlace};
+ghost use Rattle.varisat_clause.specs.Stores.{stored_clauses, IsSound, RewritesHeaderAt};
+ghost use Rattle.varisat_clause.specs.ClauseActivities.{scored, RewritesScored};
 ghost use Rattle.varisat_clause.specs.Databases.{Tracks};
 ghost use Rattle.varisat_clause.specs.Collected.{live_clauses};
 ghost use Rattle.varisat_prop.specs.Changes.{NamesPlace};
 ghost use Rattle.varisat_analysis.specs.Bumps.{literals_among};
 ghost use Rattle.varisat_analysis.specs.HeaderChanges.{SameButHeaders};
-ghost use Rattle.varisat_analysis.specs.Assessments.{glue_of, tier_by_glue, assessed, improved, noted, scored, clause_bumped, clauses_bumped, CanBump, CanCount};
+ghost use Rattle.varisat_analysis.specs.Assessments.{glue_of, glue_at, tier_by_glue, assessed, improved, clause_bumped, clauses_bumped, CanBump, CanCount};
 
 use crate::glue::compute_glue;
 use std::alloc::{AllocError, Allocator};
@@ -65,9 +66,7 @@ fn improve_glue<A: Allocator + Copy>(
     cref: ClauseRef,
 ) -> Result<(), AllocError>
     requires { CanBump impl_graph.now.nodes.items alloc.old db.old flags.old cref }
-    ensures improved { OnOk result (HoldsClauses alloc.new (length alloc.old.words)
-        (with_header (stored_clauses alloc.old) cref
-        (improved (glue_of impl_graph.now.nodes.items (literals_at (stored_clauses alloc.old) cref)) (header_at (stored_clauses alloc.old) cref)))) }
+    ensures improved { OnOk result (RewritesHeaderAt alloc.old alloc.new cref (improved (glue_at impl_graph.now.nodes.items alloc.old cref))) }
     ensures refused { OnErr result (alloc.new ≡ alloc.old) }
     ensures refused_too { OnErr result (db.new ≡ db.old) }
     ensures flags { flags.new ≡ flags.old }
@@ -92,8 +91,7 @@ fn improve_glue<A: Allocator + Copy>(
 fn set_active<A: Allocator + Copy>(alloc: &mut ClauseAlloc<A>, cref: ClauseRef)
     requires sound { IsSound alloc.old }
     requires place { IsPlace (stored_clauses alloc.old) cref }
-    ensures { HoldsClauses alloc.new (length alloc.old.words) (with_header (stored_clauses alloc.old) cref
-        (record (header_at (stored_clauses alloc.old) cref) { active = true })) }
+    ensures { RewritesHeaderAt alloc.old alloc.new cref (λ header. record header { active = true }) }
 {
     let mut header = alloc.header(cref);
     header.set_active(true);
@@ -111,8 +109,7 @@ pub fn bump_clause<A: Allocator + Copy>(
     cref: ClauseRef,
 ) -> Result<(), AllocError>
     requires { CanBump impl_graph.now.nodes.items alloc.old db.old flags.old cref }
-    ensures bumped { OnOk result (HoldsClauses alloc.new (length alloc.old.words)
-        (clause_bumped impl_graph.now.nodes.items cref (scored alloc.old activity.old)).clauses) }
+    ensures bumped { OnOk result (RewritesScored alloc.old alloc.new activity.old (clause_bumped impl_graph.now.nodes.items cref)) }
     ensures scale { OnOk result (activity.new ≡ (clause_bumped impl_graph.now.nodes.items cref (scored alloc.old activity.old)).scale) }
     ensures refused { OnErr result (alloc.new ≡ alloc.old) }
     ensures refused_too { OnErr result (db.new ≡ db.old) }
@@ -138,8 +135,7 @@ pub fn bump_named<A: Allocator + Copy>(
     requires tracks { Tracks db.old alloc.old }
     requires named { (f : Conflict) → f ∈ names.now → NamesPlace (live_clauses alloc.old) f }
     requires count { CanCount impl_graph.now.nodes.items (literals_among (live_clauses alloc.old) names.now) flags.old }
-    ensures bumped { OnOk result (HoldsClauses alloc.new (length alloc.old.words)
-        (clauses_bumped impl_graph.now.nodes.items names.now (scored alloc.old activity.old)).clauses) }
+    ensures bumped { OnOk result (RewritesScored alloc.old alloc.new activity.old (clauses_bumped impl_graph.now.nodes.items names.now)) }
     ensures scale { OnOk result (activity.new ≡ (clauses_bumped impl_graph.now.nodes.items names.now (scored alloc.old activity.old)).scale) }
     ensures headers { SameButHeaders (live_clauses alloc.old) (live_clauses alloc.new) }
     ensures flags { flags.new ≡ flags.old }

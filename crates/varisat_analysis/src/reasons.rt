@@ -1,14 +1,12 @@
 //! The clauses that are reasons: their marks, and reasons that follow them to other places.
 ghost use Rattle.std.specs.Prelude.{◌≡◌, ◌<◌, false, length};
 ghost use Rattle.varisat_theory.specs.Membership.{◌∈◌};
-ghost use Rattle.varisat_theory.specs.Literals.{variable_of};
-ghost use Rattle.varisat_clause.specs.Stored.{StoredClause, IsPlace, stored_at, with_stored};
-ghost use Rattle.varisat_clause.specs.Stores.{stored_clauses, IsSound, HoldsClauses};
+ghost use Rattle.varisat_clause.specs.Stored.{StoredClause, IsPlace};
+ghost use Rattle.varisat_clause.specs.Stores.{stored_clauses, clause_of, IsSound, RewritesClauses, RewritesClauseAt};
 ghost use Rattle.varisat_clause.specs.Databases.{Database, Tracks};
 ghost use Rattle.varisat_clause.specs.Collected.{live_clauses};
-ghost use Rattle.varisat_prop.specs.Watches.{literal_in};
-ghost use Rattle.varisat_analysis.specs.Reductions.{is_reason, reason_marked, reasons_marked};
-ghost use Rattle.varisat_analysis.specs.Collections.{repointed, repointed_each};
+ghost use Rattle.varisat_analysis.specs.Reductions.{first_variable, is_reason, reason_marked, reasons_marked};
+ghost use Rattle.varisat_analysis.specs.Collections.{repointed, reasons_repointed};
 
 use std::alloc::Allocator;
 use varisat_clause::alloc::{ClauseAlloc, ClauseRef};
@@ -20,7 +18,7 @@ use varisat_prop::prop::{Assignment, ImplGraph, Reason};
 pub fn first_var<A: Allocator + Copy>(clause_alloc: &ClauseAlloc<A>, cref: ClauseRef) -> Var
     requires sound { IsSound clause_alloc.now }
     requires place { IsPlace (stored_clauses clause_alloc.now) cref }
-    ensures { result ≡ variable_of (literal_in (stored_at (stored_clauses clause_alloc.now) cref).literals 0) }
+    ensures { result ≡ first_variable (clause_of clause_alloc.now cref) }
 {
     clause_alloc.lits(cref)[0].var()
 }
@@ -34,9 +32,9 @@ pub fn is_reason_clause<A: Allocator + Copy>(
 ) -> bool
     requires sound { IsSound clause_alloc.now }
     requires place { IsPlace (stored_clauses clause_alloc.now) cref }
-    requires value { variable_of (literal_in (stored_at (stored_clauses clause_alloc.now) cref).literals 0) < length assignment.now.current }
-    requires node { variable_of (literal_in (stored_at (stored_clauses clause_alloc.now) cref).literals 0) < length impl_graph.now.nodes.items }
-    ensures { result ≡ is_reason assignment.now.current impl_graph.now.nodes.items (stored_at (stored_clauses clause_alloc.now) cref) }
+    requires value { first_variable (clause_of clause_alloc.now cref) < length assignment.now.current }
+    requires node { first_variable (clause_of clause_alloc.now cref) < length impl_graph.now.nodes.items }
+    ensures { result ≡ is_reason assignment.now.current impl_graph.now.nodes.items (clause_of clause_alloc.now cref) }
 {
     let var = first_var(clause_alloc, cref);
     if assignment.var_value(var).is_none() {
@@ -58,12 +56,10 @@ fn mark_reason<A: Allocator + Copy>(
 )
     requires sound { IsSound clause_alloc.old }
     requires place { IsPlace (stored_clauses clause_alloc.old) cref }
-    requires value { (stored_at (stored_clauses clause_alloc.old) cref).header.deleted ≡ false →
-        variable_of (literal_in (stored_at (stored_clauses clause_alloc.old) cref).literals 0) < length assignment.now.current }
+    requires value { (clause_of clause_alloc.old cref).header.deleted ≡ false →
+        first_variable (clause_of clause_alloc.old cref) < length assignment.now.current }
     requires nodes { length impl_graph.now.nodes.items ≡ length assignment.now.current }
-    ensures marked { HoldsClauses clause_alloc.new (length clause_alloc.old.words)
-        (with_stored (stored_clauses clause_alloc.old) cref
-        (reason_marked assignment.now.current impl_graph.now.nodes.items (stored_at (stored_clauses clause_alloc.old) cref))) }
+    ensures marked { RewritesClauseAt clause_alloc.old clause_alloc.new cref (reason_marked assignment.now.current impl_graph.now.nodes.items) }
     ensures tracks { (d : Database) → Tracks d clause_alloc.old → Tracks d clause_alloc.new }
 {
     let mut header = clause_alloc.header(cref);
@@ -81,10 +77,9 @@ pub fn mark_reasons<A: Allocator + Copy>(
     impl_graph: &ImplGraph<A>,
 )
     requires sound { IsSound clause_alloc.old }
-    requires values { (k : StoredClause) → k ∈ live_clauses clause_alloc.old → variable_of (literal_in k.literals 0) < length assignment.now.current }
+    requires values { (k : StoredClause) → k ∈ live_clauses clause_alloc.old → first_variable k < length assignment.now.current }
     requires nodes { length impl_graph.now.nodes.items ≡ length assignment.now.current }
-    ensures marked { HoldsClauses clause_alloc.new (length clause_alloc.old.words)
-        (reasons_marked assignment.now.current impl_graph.now.nodes.items (stored_clauses clause_alloc.old)) }
+    ensures marked { RewritesClauses clause_alloc.old clause_alloc.new (reasons_marked assignment.now.current impl_graph.now.nodes.items) }
     ensures tracks { (d : Database) → Tracks d clause_alloc.old → Tracks d clause_alloc.new }
 {
     'clauses: for index in 0..clause_alloc.len() {
@@ -103,10 +98,9 @@ fn repoint_reason<A: Allocator + Copy>(
 )
     requires sound { IsSound clause_alloc.now }
     requires place { IsPlace (stored_clauses clause_alloc.now) cref }
-    requires value { variable_of (literal_in (stored_at (stored_clauses clause_alloc.now) cref).literals 0) < length assignment.now.current }
-    requires node { variable_of (literal_in (stored_at (stored_clauses clause_alloc.now) cref).literals 0) < length impl_graph.old.nodes.items }
-    ensures { impl_graph.new.nodes.items ≡ repointed assignment.now.current impl_graph.old.nodes.items
-        (stored_at (stored_clauses clause_alloc.now) cref) new_cref }
+    requires value { first_variable (clause_of clause_alloc.now cref) < length assignment.now.current }
+    requires node { first_variable (clause_of clause_alloc.now cref) < length impl_graph.old.nodes.items }
+    ensures { impl_graph.new.nodes.items ≡ repointed assignment.now.current impl_graph.old.nodes.items (clause_of clause_alloc.now cref) new_cref }
 {
     if is_reason_clause(assignment, clause_alloc, impl_graph, cref) {
         let var = first_var(clause_alloc, cref);
@@ -124,10 +118,9 @@ pub fn repoint_reasons<A: Allocator + Copy>(
 )
     requires sound { IsSound clause_alloc.now }
     requires count { length (stored_clauses new_alloc.now) ≡ length (live_clauses clause_alloc.now) }
-    requires values { (k : StoredClause) → k ∈ live_clauses clause_alloc.now → variable_of (literal_in k.literals 0) < length assignment.now.current }
+    requires values { (k : StoredClause) → k ∈ live_clauses clause_alloc.now → first_variable k < length assignment.now.current }
     requires nodes { length impl_graph.old.nodes.items ≡ length assignment.now.current }
-    ensures { impl_graph.new.nodes.items ≡ repointed_each assignment.now.current (live_clauses clause_alloc.now)
-        (stored_clauses new_alloc.now) impl_graph.old.nodes.items }
+    ensures { impl_graph.new.nodes.items ≡ reasons_repointed clause_alloc.now new_alloc.now assignment.now.current impl_graph.old.nodes.items }
 {
     let mut index = 0;
     for cref in clauses_iter(clause_alloc) {

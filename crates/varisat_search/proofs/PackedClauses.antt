@@ -6,14 +6,10 @@ use Rattle.varisat_theory.proofs.Members.{equal_or_not}
 use Rattle.varisat_clause.specs.Stored.{StoredClause, IsPlace, AreRising, literals_of, literals_at}
 use Rattle.varisat_clause.specs.Stores.{Store, len_at, clause_in, FitsWords, IsSound}
 use Rattle.varisat_clause.specs.Databases.{size_of}
-use Rattle.varisat_clause.specs.Collected.{live_of, live_clauses, packed}
+use Rattle.varisat_clause.specs.Collected.{live_of, live_clauses, packed_at, packed}
 use Rattle.varisat_clause.proofs.StoredClauses.{is-same, is-other, stored-here, stored-later, place-later}
 use Rattle.varisat_analysis.specs.HeaderChanges.{kept_clause}
 use Rattle.varisat_analysis.specs.Collections.{new_place}
-
--- the clause as it is packed at the place
-abbrev pub packed_at : ℕ → StoredClause → StoredClause
-packed_at q k = record { place = q; header = record k.header { mark = false }; literals = k.literals }
 
 pub packed-low : (q : ℕ) (ks : List StoredClause) (j : StoredClause) → j ∈ packed q ks → q ≤ j.place
 packed-low q [] j h = absurd h

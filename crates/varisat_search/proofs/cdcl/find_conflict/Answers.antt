@@ -21,9 +21,9 @@ use Rattle.varisat_search.proofs.cdcl.find_conflict.Goals as goal
 abbrev mid : (g : Over) (c : After-count g) → Context g.row.A.Denot
 mid g c = record c.levels.ctx {
   assignment = c.propagate.new.assignment;
-  clause_alloc = c.propagate.new.clause_alloc;
+  clause_alloc = c.propagate.new.alloc;
   counters = record c.levels.ctx.counters { propagations = c.count.new.counter };
-  impl_graph = c.propagate.new.impl_graph;
+  impl_graph = c.propagate.new.graph;
   trail = c.propagate.new.trail;
   watchlists = c.propagate.new.watchlists;
 }

@@ -65,6 +65,24 @@ pub each-unassigned : (values : List (Option Bool)) (c : Clause) → ((l : Liter
 each-unassigned values [] h = refl
 each-unassigned values (m ∷ c) h = let e = h m (inl refl) in let f = each-unassigned values c (λ l i. h l (inr i)) in rw (e, f) refl
 
+pub one-assigned : (values : List (Option Bool)) (c : Clause) (l : Literal) → l ∈ c → is_unassigned values l ≡ false → are_unassigned values c ≡ false
+one-assigned values c l i e = go (are_unassigned values c) refl
+  where
+    go : (b : Bool) → are_unassigned values c ≡ b → b ≡ false
+    go true h = (let k : true ≡ false = sym (all-unassigned values c h l i) ∙ e in k)
+    go false h = refl
+
+-- a list of such literals stays as it is
+pub filtered-same : (values : List (Option Bool)) (ms : List Literal) → are_unassigned values ms ≡ true → filter (is_unassigned values) ms ≡ ms
+filtered-same values [] e = refl
+filtered-same values (m ∷ ms) e = go (is_unassigned values m) e (filtered-same values ms)
+  where
+    go : (b : Bool) → (b && are_unassigned values ms) ≡ true →
+        (are_unassigned values ms ≡ true → filter (is_unassigned values) ms ≡ ms) →
+        cond b (m ∷ filter (is_unassigned values) ms) (filter (is_unassigned values) ms) ≡ m ∷ ms
+    go true e f = ap (λ xs. m ∷ xs) (f e)
+    go false e f = absurd cc
+
 -- 3. What a literal implies then.
 pub unassigned-at : (values : List (Option Bool)) (k : ℕ) (B : List (List Literal)) (l : ℕ) →
     get_or (unassigned_from values k B) l [] ≡ unassigned_implied values (k + l) (get_or B l [])

@@ -136,3 +136,15 @@ false-told vs l v b e t = rw (variable-opposite l, polarity-opposite l)
     go (Some true) false = ((λ e. refl), (λ e. refl))
     go (Some false) true = ((λ e. refl), (λ e. refl))
     go (Some false) false = ((λ e. absurd cc), (λ e. absurd cc))
+
+-- and neither where its variable has no value
+pub unknown-told : (vs : List (Option Bool)) (l : Literal) (v : LitValue) (b : Bool) → v ≡ literal_value (value_in vs l) →
+    IsTrue b ↔ (v ≡ lit_value.Unknown) → IsTrue b ↔ (get_or vs (variable_of l) None ≡ None)
+unknown-told vs l v b e t = let (f, g) = go (get_or vs (variable_of l) None) (polarity_of l) in ((λ h. f (sym e ∙ t.0 h)), (λ h. t.1 (e ∙ g h)))
+  where
+    go : (o : Option Bool) (p : Bool) → (literal_value (option_map (λ x. beq x p) o) ≡ lit_value.Unknown) ↔ (o ≡ None)
+    go None p = ((λ e. refl), (λ e. refl))
+    go (Some true) true = ((λ e. absurd cc), (λ e. absurd cc))
+    go (Some true) false = ((λ e. absurd cc), (λ e. absurd cc))
+    go (Some false) true = ((λ e. absurd cc), (λ e. absurd cc))
+    go (Some false) false = ((λ e. absurd cc), (λ e. absurd cc))

@@ -1,8 +1,9 @@
 //! The kept clauses of two literals, as what each literal implies by them.
 ghost use Rattle.std.specs.Prelude.{◌≡◌, ◌<◌, ◌≤◌, ◌*◌, ◌-◌, ◌++◌, ◌∷◌, [], length, replicate, OnOk, slice_set, slice_index_or};
+ghost use Rattle.std.specs.List.{filter};
 ghost use Rattle.varisat_theory.specs.Literals.{opposite};
 ghost use Rattle.varisat_literals.specs.Numbers.{variable_limit};
-ghost use Rattle.varisat_prop.specs.Simplified.{is_unassigned, unassigned_implied, without_assigned};
+ghost use Rattle.varisat_prop.specs.Simplified.{is_unassigned, are_unassigned, unassigned_implied, without_assigned};
 
 use crate::lists::push_lists;
 use crate::prop::assignment::Assignment;
@@ -120,7 +121,7 @@ impl<A: Allocator + Copy> BinaryClauses<A> {
     {
         let implied = self.implied_mut(lit);
         if has_no_value(values, lit) {
-            implied.retain(|other| has_no_value(values, *other));
+            keep_unassigned(implied, values);
         } else {
             implied.clear();
         }
@@ -136,6 +137,28 @@ impl<A: Allocator + Copy> BinaryClauses<A> {
             self.simplify_list(Lit::from_code(code), values);
         }
     }
+}
+
+/// Keeps the literals whose variables have no value.
+fn keep_unassigned<A: Allocator + Copy>(implied: &mut Vec<Lit, A>, values: &[Option<bool>])
+    ensures { implied.new.items ≡ filter (is_unassigned values.now) implied.old.items }
+{
+    // Most lists stay as they are, and are only read.
+    if !have_no_value(values, implied) {
+        implied.retain(|other| has_no_value(values, *other));
+    }
+}
+
+/// Whether the variables of all the literals have no value.
+fn have_no_value(values: &[Option<bool>], lits: &[Lit]) -> bool
+    ensures { result ≡ are_unassigned values.now lits.now }
+{
+    for lit in lits {
+        if !has_no_value(values, *lit) {
+            return false;
+        }
+    }
+    true
 }
 
 /// Whether the literal's variable has no value.

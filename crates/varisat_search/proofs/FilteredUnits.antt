@@ -27,23 +27,14 @@ module _ (values : List (Option Bool)) (d c : Clause) (is : d ≡ c) where
   unsatisfied-read n = ⊎_elim (λ e. let (l, i, h) = some-true values c e in absurd (n (l, subst (λ x. l ∈ x) (sym is) i, h))) (λ e. e)
       (true-false (has_true values c))
 
--- a filter that leaves as many elements leaves all
-pub filter-full : (p : ℕ → Bool) (xs : List ℕ) → length xs ≤ length (filter p xs) → filter p xs ≡ xs
-filter-full p [] h = refl
-filter-full p (x ∷ xs) h = go (p x) h (filter-full p xs) (filter-short xs)
+-- a filter leaves no more elements
+pub filter-short : (p : ℕ → Bool) (xs : List ℕ) → length (filter p xs) ≤ length xs
+filter-short p [] = omega arith
+filter-short p (x ∷ xs) = go (p x) (filter-short p xs)
   where
-    filter-short : (ys : List ℕ) → length (filter p ys) ≤ length ys
-    filter-short [] = omega arith
-    filter-short (y ∷ ys) = go2 (p y) (filter-short ys)
-      where
-        go2 : (b : Bool) → length (filter p ys) ≤ length ys → length (cond b (y ∷ filter p ys) (filter p ys)) ≤ suc (length ys)
-        go2 true r = omega (arith, r)
-        go2 false r = omega (arith, r)
-
-    go : (b : Bool) → suc (length xs) ≤ length (cond b (x ∷ filter p xs) (filter p xs)) → (length xs ≤ length (filter p xs) → filter p xs ≡ xs) →
-        length (filter p xs) ≤ length xs → cond b (x ∷ filter p xs) (filter p xs) ≡ x ∷ xs
-    go true h r n = ap (λ ys. x ∷ ys) (r (omega (arith, h)))
-    go false h r n = absurd (omega (arith, h, n))
+    go : (b : Bool) → length (filter p xs) ≤ length xs → length (cond b (x ∷ filter p xs) (filter p xs)) ≤ length (x ∷ xs)
+    go true h = omega (arith, h)
+    go false h = omega (arith, h)
 
 -- a list of two elements
 pub two-elements : (xs : List ℕ) → length xs ≡ 2 → (get_or xs 0 0 ∷ get_or xs 1 0 ∷ []) ≡ xs

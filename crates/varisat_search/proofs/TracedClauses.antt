@@ -10,17 +10,10 @@ use Rattle.varisat_prop.specs.Simplified.{is_unassigned, are_unassigned}
 use Rattle.varisat_prop.specs.View.{pairs_with, pairs_from}
 use Rattle.varisat_search.specs.Simplifications.{has_true, unassigned, is_gone_pair, lines_of_pairs, lines_of_clause, lines_of_clauses}
 use Rattle.varisat_search.proofs.DecidableVariables.{true-or-false}
+use Rattle.varisat_search.proofs.FilteredUnits.{filter-short}
 use Rattle.varisat_search.proofs.UnassignedLiterals.{left-all}
 
 -- 1. One clause.
-
-filter-short : (p : ℕ → Bool) (xs : List ℕ) → length (filter p xs) ≤ length xs
-filter-short p [] = omega arith
-filter-short p (x ∷ xs) = go (p x) (filter-short p xs)
-  where
-    go : (b : Bool) → length (filter p xs) ≤ length xs → length (cond b (x ∷ filter p xs) (filter p xs)) ≤ length (x ∷ xs)
-    go true h = omega (arith, h)
-    go false h = omega (arith, h)
 
 -- a filter that leaves as many elements holds of all
 filter-all-of : (p : ℕ → Bool) (xs : List ℕ) → length xs ≤ length (filter p xs) → list_all p xs ≡ true

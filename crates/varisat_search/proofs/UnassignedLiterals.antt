@@ -1,5 +1,5 @@
 -- What is left of a clause without the literals that have a value.
-use Rattle.std.proofs.Common.{◌≡◌, ℕ, ◌<◌, ◌≤◌, Bool, true, false, not, ◌||◌, cond, Option, Some, None, List, [], ◌∷◌, get_or, ◌⊎◌, inl, inr, ⊎_elim, refl, sym, ap, ◌∙◌, arith}
+use Rattle.std.proofs.Common.{◌≡◌, ◌≢◌, ℕ, ◌<◌, ◌≤◌, Bool, true, false, not, ◌||◌, cond, Option, Some, None, List, [], ◌∷◌, get_or, ◌⊎◌, inl, inr, ⊎_elim, refl, sym, ap, ◌∙◌, subst, arith}
 use Rattle.std.specs.Prelude.{is_none, nat_le}
 use Rattle.std.specs.Bool.{beq}
 use Rattle.std.specs.Option.{option_map}
@@ -11,7 +11,7 @@ use Rattle.varisat_prop.specs.Parts.{IsMadeTrue, value_in, is_true_value}
 use Rattle.varisat_prop.proofs.LiteralValues.{variable-opposite, polarity-opposite}
 use Rattle.varisat_search.specs.Simplifications.{has_true, unassigned}
 use Rattle.varisat_prop.specs.Simplified.{is_unassigned, are_unassigned}
-use Rattle.varisat_prop.proofs.SimplifiedPairs.{filter-∈, ∈-filter, all-unassigned}
+use Rattle.varisat_prop.proofs.SimplifiedPairs.{filter-∈, ∈-filter, all-unassigned, each-unassigned, none-unassigned}
 
 -- 1. Tests over lists.
 
@@ -114,6 +114,15 @@ module _ (values : List (Option Bool)) where
   -- nothing goes where none has a value
   pub left-all : (c : Clause) → are_unassigned values c ≡ true → unassigned values c ≡ c
   left-all c e = filter-all (is_unassigned values) c (λ l i. all-unassigned values c e l i)
+
+-- no literal of the clause, as it was read, has a value
+pub unassigned-read : (values : List (Option Bool)) (lits c : Clause) → lits ≡ c →
+    ((l : Literal) × (l ∈ lits) × (get_or values (variable_of l) None ≢ None) → ⊥) → are_unassigned values c ≡ true
+unassigned-read values lits c is n = each-unassigned values c (λ l i. go l i (get_or values (variable_of l) None) refl)
+  where
+    go : (l : Literal) → l ∈ c → (o : Option Bool) → get_or values (variable_of l) None ≡ o → is_unassigned values l ≡ true
+    go l i None e = none-unassigned values l e
+    go l i (Some b) e = absurd (n (l, subst (λ x. l ∈ x) (sym is) i, λ z. (let y : Some b ≡ None = sym e ∙ z in cc)))
 
 pub at-least : (n m : ℕ) → n ≤ m → nat_le n m ≡ true
 at-least n m h = grind arith

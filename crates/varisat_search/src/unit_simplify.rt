@@ -1,5 +1,5 @@
 //! Simplification by the literals of level 0: they become unit clauses, and the kept clauses lose what these say.
-ghost use Rattle.std.specs.Prelude.{◌≡◌, ◌<◌, ◌≤◌, ◌↔◌, ◌++◌, IsTrue, false, [], length, drop, OnOk, OnErr, IfOk, IfErr};
+ghost use Rattle.std.specs.Prelude.{◌≡◌, ◌≢◌, ◌<◌, ◌≤◌, ◌↔◌, ◌++◌, IsTrue, None, false, [], length, drop, slice_index_or, OnOk, OnErr, IfOk, IfErr};
 ghost use Rattle.varisat_theory.specs.Membership.{◌∈◌};
 ghost use Rattle.varisat_theory.specs.Literals.{Literal, Clause, variable_of};
 ghost use Rattle.varisat_theory.specs.Outcomes.{Proves};
@@ -87,6 +87,19 @@ fn shrink<A: Allocator + Copy>(alloc: &mut ClauseAlloc<A>, cref: ClauseRef, left
     alloc.shorten(cref, left.len());
 }
 
+/// Whether a literal of the clause has a value.
+fn has_assigned<A: Allocator + Copy>(assignment: &Assignment<A>, lits: &[Lit]) -> bool
+    requires { IsInRange assignment.now.current lits.now }
+    ensures { IsTrue result ↔ ((l : Literal) × (l ∈ lits.now) × (slice_index_or assignment.now.current (variable_of l) None ≢ None)) }
+{
+    for lit in lits {
+        if !assignment.lit_is_unk(*lit) {
+            return true;
+        }
+    }
+    false
+}
+
 /// Takes satisfied clauses and false literals out of a store, and gathers the clauses of which two literals are left.
 #[derive(Drop)]
 struct UnitFilter<'a, A: Allocator + Copy> {
@@ -108,14 +121,16 @@ impl<'a, A: Allocator + Copy> ClauseFilter<A> for UnitFilter<'a, A> {
         if is_satisfied(self.assignment, lits) {
             return Ok(false);
         }
+        // Most clauses stay as they are, which costs no copy.
+        if !has_assigned(self.assignment, lits) {
+            return Ok(true);
+        }
         copy_unassigned(&mut self.left, self.assignment, lits)?;
         if self.left.len() == 2 {
             self.pairs.push([self.left[0], self.left[1]])?;
             return Ok(false);
         }
-        if self.left.len() < lits.len() {
-            shrink(alloc, cref, &self.left);
-        }
+        shrink(alloc, cref, &self.left);
         Ok(true)
     }
 }

@@ -146,7 +146,7 @@ impl<A: Allocator + Copy> Assignment<A> {
         requires { variable_of lit < length self.now.current }
         ensures { IsTrue result ↔ (slice_index_or self.now.current (variable_of lit) None ≡ None) }
     {
-        self.lit_value(lit).is_none()
+        self.lit_values[lit.code()].is_unknown()
     }
 
     /// Makes the literal true.

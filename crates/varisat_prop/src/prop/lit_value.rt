@@ -33,6 +33,13 @@ impl LitValue {
         }
     }
 
+    /// Whether the literal's variable has no value.
+    pub fn is_unknown(self) -> bool
+        ensures { IsTrue result ↔ (self ≡ LitValue.Unknown) }
+    {
+        matches!(self, LitValue::Unknown)
+    }
+
     /// Whether the literal is true.
     pub fn is_true(self) -> bool
         ensures { IsTrue result ↔ (self ≡ LitValue.True) }

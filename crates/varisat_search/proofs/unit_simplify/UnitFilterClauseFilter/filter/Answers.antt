@@ -8,7 +8,9 @@ use Rattle.varisat_prop.specs.Simplified.{is_unassigned}
 use Rattle.varisat_search.specs.Simplifications.{has_true, unassigned, shortened_to, LeavesOpen}
 use Rattle.varisat_analysis.proofs.CopiedLiterals.{only-two}
 use Rattle.varisat_search.proofs.ShrunkClauses.{header-length, shrunk-alters, shrunk-stored}
-use Rattle.varisat_search.proofs.FilteredUnits.{satisfied-read, unsatisfied-read, filter-full, leaves-none, leaves-pair, leaves-long, not-shortened}
+use Rattle.varisat_search.proofs.FilteredUnits.{satisfied-read, unsatisfied-read, filter-short, leaves-none, leaves-pair, leaves-long, not-shortened}
+use Rattle.varisat_search.proofs.UnassignedLiterals.{left-all, unassigned-read}
+use Rattle.varisat_clause.proofs.DatabaseTracks.{long-at}
 use Rattle.varisat_search.proofs.unit_simplify.UnitFilterClauseFilter.filter.Given.{Over}
 use Rattle.varisat_search.proofs.unit_simplify.UnitFilterClauseFilter.filter.Goals.{After-len}
 use Rattle.varisat_search.proofs.unit_simplify.UnitFilterClauseFilter.filter.Goals as goal
@@ -75,31 +77,39 @@ shrink-requires-clause-least g c =
     let m = ap (λ (d : Clause). length d) c.deref.ensures.value in
     omega (arith, three, m)
 
-pub returns-then-len-lits-clause-altered : goal.returns-then-len-lits-clause-altered
-returns-then-len-lits-clause-altered g c = shrunk-alters c.args.alloc.now c.shrink.new.alloc c.args.cref c.deref.result.now c.requires.place
+pub shrink-requires-clause-most : goal.shrink-requires-clause-most
+shrink-requires-clause-most g c =
+    let here = (goal.at.shrink-requires-clause-most g c).After-len in
+    let m = ap (λ (d : Clause). length d) c.deref.ensures.value in
+    let n = ap (λ (d : Clause). length d) (left-is g here) in
+    let short = filter-short (is_unassigned (values g here)) (clause g here).literals in
+    omega (arith, m, n, short)
+
+pub returns-clause-altered : goal.returns-clause-altered
+returns-clause-altered g c = shrunk-alters c.args.alloc.now c.shrink.new.alloc c.args.cref c.deref.result.now c.requires.place
     c.shrink.ensures c.requires.live
 
-pub returns-then-len-lits-clause-left : goal.returns-then-len-lits-clause-left
-returns-then-len-lits-clause-left g c =
-    let here = (goal.at.returns-then-len-lits-clause-left g c).After-len in
+pub returns-clause-left : goal.returns-clause-left
+returns-clause-left g c =
+    let here = (goal.at.returns-clause-left g c).After-len in
     let shrunk = shrunk-stored c.args.alloc.now c.shrink.new.alloc c.args.cref c.deref.result.now c.requires.place c.shrink.ensures in (
       refl,
       stays g here (stored_at (stored_clauses c.shrink.new.alloc) c.args.cref) c.if-len-eq2.false
           (shrunk ∙ ap (λ (d : Clause). shortened_to d (clause g here)) (c.deref.ensures.value ∙ left-is g here)),
     )
 
-pub returns-else-len-lits-clause-altered : goal.returns-else-len-lits-clause-altered
-returns-else-len-lits-clause-altered g c = alters-same c.args.alloc.now c.args.cref c.requires.sound c.requires.place c.requires.live
+pub returns-then-not-has_assigned-clause-altered : goal.returns-then-not-has_assigned-clause-altered
+returns-then-not-has_assigned-clause-altered g c = alters-same c.args.alloc.now c.args.cref c.requires.sound c.requires.place c.requires.live
 
-pub returns-else-len-lits-clause-left : goal.returns-else-len-lits-clause-left
-returns-else-len-lits-clause-left g c =
-    let here = (goal.at.returns-else-len-lits-clause-left g c).After-len in
-    let n = ap (λ (d : Clause). length d) (left-is g here) in
-    let m = ap (λ (d : Clause). length d) c.lits-lits.ensures in
-    let full = filter-full (is_unassigned (values g here)) (clause g here).literals
-    (omega (arith, c.copy_unassigned.new.left.ok.0, c.if-len-lits.false, n, m)) in (
+pub returns-then-not-has_assigned-clause-left : goal.returns-then-not-has_assigned-clause-left
+returns-then-not-has_assigned-clause-left g c =
+    let values = c.args.self.now.assignment.now.current in
+    let k = stored_at (stored_clauses c.args.alloc.now) c.args.cref in
+    let free = unsatisfied-read values c.lits-lits.result.now k.literals c.lits-lits.ensures (λ h. let b = c.if-is_satisfied.ensures.1 h in cc) in
+    let full : unassigned values k.literals ≡ k.literals = left-all values k.literals (unassigned-read values c.lits-lits.result.now k.literals
+    c.lits-lits.ensures (λ h. let b = c.has_assigned.ensures.1 h in let n = c.if-not-has_assigned.true in cc)) in
+    let long = long-at c.args.alloc.now c.args.cref c.requires.sound c.requires.place in (
       refl,
-      stays g here (clause g here) c.if-len-eq2.false
-          (not-shortened (values g here) (clause g here) c.args.self.now.pairs.items
-          (header-length c.args.alloc.now c.args.cref c.requires.sound c.requires.place) full),
+      leaves-long values k c.args.self.now.pairs.items k free (subst (λ (d : Clause). 3 ≤ length d) (sym full) long.0) c.requires.live
+          (not-shortened values k c.args.self.now.pairs.items (header-length c.args.alloc.now c.args.cref c.requires.sound c.requires.place) full),
     )

@@ -1,5 +1,5 @@
 -- The literals of level 0 as a search propagates, decides, backtracks and learns.
-use Rattle.std.proofs.Common.{◌≡◌, ◌≢◌, ℕ, zero, suc, ◌<◌, ◌≤◌, true, Result, Ok, List, [], ◌∷◌, ◌++◌, ◌⊎◌, length, get_or, take, inl, inr, ⊎_elim, refl, sym, ap, ap₂, ◌∙◌, subst, arith, length-append}
+use Rattle.std.proofs.Common.{◌≡◌, ℕ, zero, suc, ◌<◌, ◌≤◌, true, List, [], ◌∷◌, ◌++◌, ◌⊎◌, length, get_or, take, inl, inr, ⊎_elim, refl, sym, ap, ap₂, ◌∙◌, subst, arith, length-append}
 use Rattle.std.proofs.lemmas.List.{take-append-le, take-take, length-take-le}
 use Rattle.std.proofs.lemmas.Bool.{cases_lt}
 use Rattle.varisat_theory.specs.Membership.{◌∈◌}
@@ -18,7 +18,7 @@ use Rattle.varisat_prop.specs.View.{View, pairs_from, kept, clause_at, literal_a
 use Rattle.varisat_prop.specs.Changes.{IsConflicting, decided_on}
 use Rattle.varisat_prop.specs.Looks.{Propagates}
 use Rattle.varisat_prop.specs.Watches.{IsSettledTo, IsImpliedTo}
-use Rattle.varisat_prop.proofs.ViewGrowth.{append-nil, literal-stays, grows-longer}
+use Rattle.varisat_prop.proofs.ViewGrowth.{append-nil, literal-stays}
 use Rattle.varisat_prop.proofs.WatchSettled.{settled-complete, pairs-complete, complete-both}
 use Rattle.varisat_analysis.specs.Learned.{implying_clause}
 use Rattle.varisat_analysis.proofs.WellFormedViews.{named-kept, kept-reordered, reason-kept, reason-first, same-place}

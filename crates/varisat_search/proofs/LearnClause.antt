@@ -26,7 +26,7 @@ use Rattle.varisat_prop.specs.Pairs.{with_pair}
 use Rattle.varisat_clause.proofs.StoredClauses.{place-last}
 use Rattle.varisat_prop.proofs.PairAdded.{adds-pair, well-pair, propagated-learned-pair}
 use Rattle.varisat_prop.proofs.LongVisited.{listed}
-use Rattle.varisat_search.specs.Conflicts.{learned_at, Keeping, IsKeptAsReason, IsWatchedAsReason}
+use Rattle.varisat_search.specs.Conflicts.{learned_at, Keeping, keeping_of, IsKeptAsReason, IsWatchedAsReason}
 use Rattle.varisat_search.specs.Seen.{search_of}
 use Rattle.varisat_prop.specs.View.{View, kept, IsTrueIn, literal_at, decision_at, node_of, node_at, level_of, WellFormed, LevelsSettled, ViewFits, kinds, is_implied, is_clause}
 use Rattle.varisat_prop.specs.Changes.{enqueued}
@@ -209,9 +209,6 @@ stored-learned s n B (x ∷ y ∷ z ∷ c) p h l e d a = (refl, (p, h, e, live-a
 -- the view with other kept clauses
 abbrev pub keeping : View → Keeping → View
 keeping t k = record t { clauses = k.clauses; binary = k.binary }
-
-abbrev pub keeping_of : View → Keeping
-keeping_of t = record { clauses = t.clauses; binary = t.binary }
 
 -- the clause as a learned one
 abbrev pub learned : Clause → KeptClause

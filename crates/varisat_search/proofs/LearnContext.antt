@@ -28,7 +28,7 @@ use Rattle.varisat_search.specs.Frames.{ChangesAnalysis, ChangesAnalyzed, Change
 use Rattle.varisat_search.proofs.AssumptionLevels.{has-same-decisions}
 use Rattle.varisat_search.proofs.AssumptionContexts.{IsSameList, still-assumable, same-working, cut-assumed, cut-same-list}
 use Rattle.varisat_search.proofs.Backtrack.{cut-well}
-use Rattle.varisat_search.specs.Conflicts.{Keeping, IsKeptAsReason, IsWatchedAsReason}
+use Rattle.varisat_search.specs.Conflicts.{Keeping, keeping_of, IsKeptAsReason, IsWatchedAsReason}
 use Rattle.varisat_search.specs.Decisions.{HasActivities, AreDecidable, SameDecidable, MakesAvailable}
 use Rattle.varisat_clause.specs.Stores.{Store}
 use Rattle.varisat_clause.specs.Collected.{live_clauses}
@@ -54,7 +54,7 @@ use Rattle.varisat_search.proofs.ViewSearch.{view_reads}
 use Rattle.varisat_search.proofs.AddedClause.{last-one}
 use Rattle.varisat_search.proofs.DecidableVariables.{can-decide, same-read, same-trans, at-valued, enqueued-same}
 use Rattle.varisat_search.proofs.LearnLines.{steps_kept, steps_unit}
-use Rattle.varisat_search.proofs.LearnClause.{keeping, keeping_of, Result, second-level, first-inside, first-free, unit-result, unit-propagated, joins, kept-result, kept-propagated}
+use Rattle.varisat_search.proofs.LearnClause.{keeping, Result, second-level, first-inside, first-free, unit-result, unit-propagated, joins, kept-result, kept-propagated}
 use Rattle.varisat_search.proofs.ReadyAfter.{ready-with}
 
 same-first : (l m : Literal) (c d : Clause) → (l ∷ c) ≡ (m ∷ d) → l ≡ m

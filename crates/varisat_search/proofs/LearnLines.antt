@@ -17,11 +17,11 @@ use Rattle.varisat_prop.specs.View.{View, kept, is_clause, decision_at, node_of,
 use Rattle.varisat_prop.specs.Changes.{enqueued}
 use Rattle.varisat_clause.proofs.StoredClauses.{reordered-refl}
 use Rattle.varisat_prop.proofs.TrailExtend.{literal-new, node-new, node-other, fresh, true-old, true-new}
-use Rattle.varisat_search.specs.Conflicts.{Keeping, IsKeptAsReason}
+use Rattle.varisat_search.specs.Conflicts.{Keeping, keeping_of, IsKeptAsReason}
 use Rattle.varisat_analysis.specs.Learned.{IsAsserting, IsLevelOf, IsOfKept}
 use Rattle.varisat_search.specs.Steps.{IsCut}
 use Rattle.varisat_search.proofs.Backtrack.{cut-well, fixed-cut}
-use Rattle.varisat_search.proofs.LearnClause.{keeping, keeping_of, learned, level-below, first-free, first-inside, no-clash, no-part, unit-result, joins, kept-result}
+use Rattle.varisat_search.proofs.LearnClause.{keeping, learned, level-below, first-free, first-inside, no-clash, no-part, unit-result, joins, kept-result}
 use Rattle.varisat_search.proofs.PairSearch.{from-kept}
 use Rattle.varisat_theory.specs.Searches.{Search, clauses_of, IsLiteralOf}
 use Rattle.varisat_theory.specs.Outcomes.{Unknown, Proves, Steps}

@@ -1,5 +1,5 @@
 -- A search stays ready as it propagates.
-use Rattle.std.proofs.Common.{◌≡◌, inl, sym, ap, subst}
+use Rattle.std.proofs.Common.{inl, sym, ap, subst}
 use Rattle.varisat_clause.specs.Databases.{Tracks}
 use Rattle.varisat_clause.specs.Shapes.{KeepsShapes}
 use Rattle.varisat_clause.proofs.StoreSound.{is-sound}

@@ -1,6 +1,7 @@
 -- The conflict of a step, and the reason that its learned clause gives.
-use Rattle.std.specs.Prelude.{◌≡◌, ℕ, false, List, [], ◌∷◌, length}
+use Rattle.std.specs.Prelude.{◌≡◌, ℕ, ◌<◌, Bool, false, List, [], ◌∷◌, length, Result, MatchBool, MatchResult}
 use Rattle.varisat_theory.specs.Literals.{Literal, Clause}
+use Rattle.varisat_theory.specs.Propagation.{IsComplete}
 use Rattle.varisat_prop.specs.declared.prop.graph.Reason.{Reason}
 use Rattle.varisat_prop.specs.declared.prop.graph.Reason.TheVariants as reason
 use Rattle.varisat_clause.specs.declared.header.Tier.TheVariants as tier
@@ -8,12 +9,12 @@ use Rattle.varisat_clause.specs.Tiers.{is_tier}
 use Rattle.varisat_clause.specs.Headers.{Header}
 use Rattle.varisat_clause.specs.Stored.{StoredClause, AppendsClause}
 use Rattle.varisat_clause.specs.Stores.{Store, AddsStored}
-use Rattle.varisat_prop.specs.View.{View}
+use Rattle.varisat_prop.specs.View.{View, kept}
 use Rattle.varisat_prop.specs.Changes.{IsConflicting}
 use Rattle.varisat_prop.specs.Pairs.{with_pair}
 use Rattle.varisat_prop.specs.Watches.{Watches}
 use Rattle.varisat_prop.specs.Visits.{WatchesClause}
-use Rattle.varisat_search.specs.AssumptionParts.{AssumptionParts, HasFailed}
+use Rattle.varisat_search.specs.AssumptionParts.{AssumptionParts, EndsAssumed, HasFailed}
 use Rattle.varisat_search.specs.declared.cdcl.FoundConflict.{FoundConflict}
 use Rattle.varisat_search.specs.declared.cdcl.FoundConflict.TheVariants as found
 
@@ -21,6 +22,17 @@ use Rattle.varisat_search.specs.declared.cdcl.FoundConflict.TheVariants as found
 abbrev pub Stops : View → AssumptionParts → FoundConflict → Type 0
 Stops s x (found.Conflict c) = IsConflicting s c
 Stops s x found.Assumption = HasFailed s x
+
+-- What comes of a decision: the trail grows, or nothing is left to decide; or some assumption is false.
+abbrev pub ComesToDecision : View → View → AssumptionParts → Result Bool FoundConflict → Type 0
+ComesToDecision s t x decided =
+    MatchResult decided
+    (λ made. MatchBool made (length s.trail < length t.trail) ((t ≡ s) × EndsAssumed t x))
+    (λ conflict. (conflict ≡ found.Assumption) × HasFailed t x)
+
+-- Propagation came to its end and nothing is left to decide, or the search for a model stopped.
+abbrev pub EndsOrStops : View → AssumptionParts → Result (Unit {0}) FoundConflict → Type 0
+EndsOrStops s x end = MatchResult end (λ _. IsComplete (kept s) s.trail × EndsAssumed s x) (Stops s x)
 
 -- a learned clause at the place, with the header
 abbrev pub learned_at : ℕ → Header → Clause → StoredClause
@@ -30,6 +42,10 @@ learned_at p h c = record { place = p; header = record h { len = length c }; lit
 pub record Keeping : Type 0 where
   pub clauses : List StoredClause
   pub binary : List (List Literal)
+
+-- what of this a search keeps
+abbrev pub keeping_of : View → Keeping
+keeping_of s = record { clauses = s.clauses; binary = s.binary }
 
 -- A clause of two literals or more is kept and is the reason, one of three or more as learned; else nothing is kept.
 abbrev pub IsKeptAsReason : Keeping → Keeping → Clause → Reason → Type 0

@@ -1,13 +1,19 @@
 -- What calls do to a whole context.
-use Rattle.std.specs.Prelude.{◌≡◌, ℕ, ◌<◌, ◌≤◌, length}
-use Rattle.varisat_literals.specs.Numbers.{variable_limit}
+use Rattle.std.specs.Prelude.{◌≡◌, ℕ, ◌<◌, ◌≤◌, Bool, false, Some, None, length, slice_index_or, Result, MatchBool, MatchResult}
+use Rattle.std.specs.Option.{unwrap_or}
+use Rattle.varisat_theory.specs.Literals.{Literal, variable_of}
+use Rattle.varisat_literals.specs.Numbers.{polarity_of, variable_limit}
+use Rattle.varisat_names.specs.declared.config.ConfigError.{ConfigError}
+use Rattle.varisat_names.specs.declared.config.SolverConfigUpdate.{SolverConfigUpdate}
+use Rattle.varisat_names.specs.Settings.{first_bad, updated_settings}
+use Rattle.varisat_prop.specs.Changes.{decided_on}
 use Rattle.varisat_search.specs.declared.context.Context.{Context}
 use Rattle.varisat_search.specs.Contexts.{view, IsReady}
 use Rattle.varisat_search.specs.Frames.{ChangesLevels}
 use Rattle.varisat_search.specs.AssumptionParts.{with_levels_to}
 use Rattle.varisat_search.specs.Seen.{search_of}
-use Rattle.varisat_search.specs.Steps.{IsCut, Saves}
-use Rattle.varisat_search.specs.Decisions.{HasActivities, SameDecidable, MakesAvailable}
+use Rattle.varisat_search.specs.Steps.{IsCut, Saves, IsFree, IsTotal}
+use Rattle.varisat_search.specs.Decisions.{HasActivities, SameDecidable, MakesAvailable, IsNextDecision}
 
 -- The levels above the given one are undone, the values that variables lose are remembered, and these variables become available.
 -- Nothing happens where the level isn't below the current one.
@@ -21,6 +27,32 @@ pub record BacktracksTo {A : Type 0} (level : ℕ) (old new : Context A) : Type 
   pub decay : new.vsids.decay ≡ old.vsids.decay
   pub assumptions : level < length old.trail.decisions → new.assumptions ≡ with_levels_to level old.assumptions
   pub kept : ChangesLevels old new
+
+-- The variable that is next is decided, as it was last assigned.
+abbrev pub DecidesNext : {A : Type 0} → Context A → Context A → Type 0
+DecidesNext old new =
+    (l : Literal) × IsFree (view old) l × (view new ≡ decided_on (view old) l)
+    × (polarity_of l ≡ slice_index_or old.assignment.last (variable_of l) false)
+    × IsNextDecision old.assignment.current old.vsids (variable_of l)
+
+-- One is decided; or none is left to decide, and no part but the activities of variables changes.
+abbrev pub DecidesIfLeft : {A : Type 0} → Context A → Context A → Bool → Type 0
+DecidesIfLeft old new made = MatchBool made (DecidesNext old new) ((new ≡ record old { vsids = new.vsids }) × IsTotal (view old))
+
+-- the settings for which there are values are changed, and with them the decays that parts of the search keep a copy of
+abbrev pub with_settings : {A : Type 0} → SolverConfigUpdate → Context A → Context A
+with_settings update x = record x {
+  clause_activity = record x.clause_activity { decay = unwrap_or update.clause_activity_decay x.clause_activity.decay };
+  solver_config = updated_settings x.solver_config update;
+  vsids = record x.vsids { decay = unwrap_or update.vsids_decay x.vsids.decay };
+}
+
+-- Settings are changed, or the first whose value is out of its range is told, and nothing changes.
+abbrev pub ChangesSettings : {A : Type 0} → SolverConfigUpdate → Context A → Context A → Result (Unit {0}) ConfigError → Type 0
+ChangesSettings update old new r =
+    MatchResult r
+    (λ _. (first_bad update ≡ None) × (new ≡ with_settings update old))
+    (λ error. (first_bad update ≡ Some error.field) × (new ≡ old))
 
 -- The count of variables may be raised to this one.
 pub record CanRaise {A : Type 0} (n : ℕ) (x : Context A) : Type 0 where

@@ -1,5 +1,5 @@
 -- The context as its view, and what is kept of it between calls.
-use Rattle.std.specs.Prelude.{◌≡◌, ◌*◌, true, false, length, replicate}
+use Rattle.std.specs.Prelude.{◌≡◌, ◌≢◌, ◌*◌, true, false, length, replicate}
 use Rattle.varisat_clause.specs.Databases.{Tracks}
 use Rattle.varisat_prop.specs.View.{View, view_of, WellFormed, LevelsSettled}
 use Rattle.varisat_prop.specs.Watches.{IsPropagated}
@@ -12,6 +12,10 @@ use Rattle.varisat_search.specs.Decisions.{CanDecide, AreDecidable}
 -- the view of the context's parts
 abbrev pub view : {A : Type 0} → Context A → View
 view c = view_of c.clause_alloc c.binary_clauses c.assignment c.trail c.impl_graph
+
+-- the verdict is not Unsat
+abbrev pub IsNotUnsat : {A : Type 0} → Context A → Type 0
+IsNotUnsat c = c.solver_state.sat_state ≢ verdict.Unsat
 
 -- the state of a solver without clauses
 abbrev pub first_state : SolverState

@@ -1,7 +1,6 @@
 -- What the reductions and the collection that are due at a step do to a context.
 use Rattle.std.specs.Prelude.{◌≡◌, ◌≢◌, ◌*◌, ◌/◌, ◌%◌, ◌<◌, ◌≤◌, ◌++◌, List, [], length}
 use Rattle.varisat_theory.specs.Derivations.{Line}
-use Rattle.varisat_theory.specs.Outcomes.{Proves}
 use Rattle.varisat_clause.specs.Stores.{Store, stored_clauses, HoldsClauses}
 use Rattle.varisat_clause.specs.Collected.{IsCollected}
 use Rattle.varisat_clause.specs.Reductions.{ReducesLocals, mids_reduced}
@@ -9,11 +8,10 @@ use Rattle.varisat_search.specs.declared.context.Context.{Context}
 use Rattle.varisat_search.specs.Contexts.{view, IsReady}
 use Rattle.varisat_search.specs.Frames.{ChangesPlaces, ChangesRestarted}
 use Rattle.varisat_search.specs.Decisions.{SameDecidable}
-use Rattle.varisat_search.specs.Seen.{search_of}
 use Rattle.varisat_analysis.specs.HeaderChanges.{ChangesHeaders}
 use Rattle.varisat_analysis.specs.Reductions.{reasons_marked, Discards}
 use Rattle.varisat_analysis.specs.Collections.{Repacks}
-use Rattle.varisat_search.specs.Progress.{StepsTo}
+use Rattle.varisat_search.specs.Progress.{ProvesTo, StepsTo}
 use Rattle.varisat_search.specs.Restarts.{KeepsAssignment, RestartsIfDue, SavesIfDue}
 use Rattle.varisat_search.specs.SettledUnits.{SettlesFirst}
 use Rattle.varisat_search.specs.Deletions.{unmarked_deletions}
@@ -44,10 +42,14 @@ pub record ReducesMidsIfDue {A : Type 0} (x y : Context A) : Type 0 where
   pub headers : x.schedule.steps % x.solver_config.reduce_mids_interval ≡ 0 → ChangesHeaders (view x) (view y)
   pub stays : x.schedule.steps % x.solver_config.reduce_mids_interval ≢ 0 → y ≡ x
 
--- Where more than half of the words are garbage it is collected, and else nothing changes.
+-- more than half of the store's words are garbage
+abbrev pub IsCollectionDue : {A : Type 0} → Context A → Type 0
+IsCollectionDue x = length x.clause_alloc.words < 2 * x.clause_db.garbage
+
+-- Where that is so the garbage is collected, and else nothing changes.
 pub record CollectsIfDue {A : Type 0} (x y : Context A) : Type 0 where
-  pub collected : length x.clause_alloc.words < 2 * x.clause_db.garbage → IsCollected y.clause_alloc y.clause_db (stored_clauses x.clause_alloc)
-  pub repacks : length x.clause_alloc.words < 2 * x.clause_db.garbage → Repacks (view x) (view y)
+  pub collected : IsCollectionDue x → IsCollected y.clause_alloc y.clause_db (stored_clauses x.clause_alloc)
+  pub repacks : IsCollectionDue x → Repacks (view x) (view y)
   pub stays : 2 * x.clause_db.garbage ≤ length x.clause_alloc.words → y ≡ x
 
 -- The reductions in turn, and then the collection. Lines come from the first alone.
@@ -62,7 +64,7 @@ pub record ReducesIfDue {A : Type 0} (lines : List Line) (x z : Context A) : Typ
 pub record KeepsSearch {A : Type 0} (are : List Line → Type 0) (x y : Context A) : Type 0 where
   pub ready : IsReady y
   pub assigned : KeepsAssignment (view x) (view y)
-  pub proves : (lines : List Line) × Proves 0 (search_of (view x)) (search_of (view y)) lines × are lines
+  pub proves : (lines : List Line) × ProvesTo lines x y × are lines
   pub decidable : SameDecidable (view x) x.vsids (view y) y.vsids
 
 -- A step begins: a restart down to the last assumption, where that is due, and then the reductions and the collection, by
@@ -89,6 +91,10 @@ pub record GoesBySchedule {A : Type 0} (lines : List Line) (x z : Context A) : T
   pub rest : List Line
   pub parts : lines ≡ first ++ rest
   pub reduces : ReducesIfDue first begun reduced
-  pub deletes : Proves 0 (search_of (view begun)) (search_of (view reduced)) first
+  pub deletes : ProvesTo first begun reduced
   pub settles : SettlesFirst rest reduced z
   pub steps : StepsTo (λ ls. ls ≡ rest) reduced z
+
+-- such a step was made, by lines for which `are` holds
+abbrev pub StepsBySchedule : {A : Type 0} → (List Line → Type 0) → Context A → Context A → Type 0
+StepsBySchedule are x y = StepsTo (λ lines. GoesBySchedule lines x y × are lines) x y

@@ -1,5 +1,5 @@
 -- What a search is once it forgets variables: `gone` says of each variable whether it leaves.
-use Rattle.std.specs.Prelude.{◌≡◌, ◌↔◌, ◌⊎◌, ℕ, Bool, false, not, None, List, [], length, slice_index_or}
+use Rattle.std.specs.Prelude.{◌≡◌, ◌≢◌, ◌↔◌, ◌⊎◌, ℕ, Bool, false, not, None, List, [], length, slice_index_or}
 use Rattle.std.specs.List.{filter, list_any}
 use Rattle.varisat_theory.specs.Membership.{◌∈◌}
 use Rattle.varisat_theory.specs.Literals.{Literal, Clause, variable_of}
@@ -33,6 +33,14 @@ clauses_without gone P = filter (λ c. not (list_any (λ l. leaves gone (variabl
 -- one of the clauses names the variable
 abbrev pub IsMentioned : List Clause → ℕ → Type 0
 IsMentioned P v = (c : Clause) × (c ∈ P) × (l : Literal) × (l ∈ c) × (variable_of l ≡ v)
+
+-- no literal is of the variable
+abbrev pub AreNotOf : List Literal → ℕ → Type 0
+AreNotOf ls v = (l : Literal) → l ∈ ls → variable_of l ≢ v
+
+-- no clause names the variable
+abbrev pub IsUnmentioned : List Clause → ℕ → Type 0
+IsUnmentioned P v = (c : Clause) → c ∈ P → AreNotOf c v
 
 -- For each variable it says whether a kept clause names it.
 pub record FlagsMentioned (s : View) (flags : List Bool) : Type 0 where

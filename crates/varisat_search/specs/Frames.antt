@@ -1,10 +1,11 @@
 -- What the functions of a search leave as it was.
 use Rattle.std.specs.Prelude.{◌≡◌, length}
+use Rattle.varisat_schedule.specs.Plans.{Plan, step_begun}
 use Rattle.varisat_search.specs.declared.context.Context.{Context}
 use Rattle.varisat_search.specs.Contexts.{view}
 use Rattle.varisat_search.specs.Decisions.{SameDecidable}
 
--- 1. Frames: no parts change but those that are named. The counters may change in each of them, so that a function which counts
+-- 1. Frames: no parts change but those that are named. The counters may change in each of these, so that a function which counts
 -- has no clause more. A frame is an equation, by which a field that it does not name is read off.
 
 -- the parts that have something for each variable or literal
@@ -136,6 +137,28 @@ ChangesKept x y = y ≡ record x {
 abbrev pub ChangesRestarted : {A : Type 0} → Context A → Context A → Type 0
 ChangesRestarted x y = y ≡ record x { assignment = y.assignment; counters = y.counters; schedule = y.schedule; trail = y.trail; vsids = y.vsids }
 
+-- the plan once a step has begun
+abbrev pub begun_plan : {A : Type 0} → Context A → Plan
+begun_plan x = step_begun x.solver_config.luby_restart_interval_scale x.schedule
+
+-- a step begins by the plan, maybe with a restart
+abbrev pub ChangesBegun : {A : Type 0} → Context A → Context A → Type 0
+ChangesBegun x y = y ≡ record x { assignment = y.assignment; counters = y.counters; schedule = begun_plan x; trail = y.trail; vsids = y.vsids }
+
+-- and then maybe with reductions and a collection
+abbrev pub ChangesReduced : {A : Type 0} → Context A → Context A → Type 0
+ChangesReduced x y = y ≡ record x {
+  assignment = y.assignment;
+  clause_alloc = y.clause_alloc;
+  clause_db = y.clause_db;
+  counters = y.counters;
+  impl_graph = y.impl_graph;
+  schedule = begun_plan x;
+  trail = y.trail;
+  vsids = y.vsids;
+  watchlists = y.watchlists;
+}
+
 -- a conflict is analysed
 abbrev pub ChangesAnalysis : {A : Type 0} → Context A → Context A → Type 0
 ChangesAnalysis x y = y ≡ record x { analyze_conflict = y.analyze_conflict; counters = y.counters }
@@ -144,7 +167,22 @@ ChangesAnalysis x y = y ≡ record x { analyze_conflict = y.analyze_conflict; co
 abbrev pub ChangesAnalyzed : {A : Type 0} → Context A → Context A → Type 0
 ChangesAnalyzed x y = y ≡ record x { analyze_conflict = y.analyze_conflict; counters = y.counters; tmp_flags = y.tmp_flags; vsids = y.vsids }
 
--- 2. What is the same after a function that changes the search, whichever parts that takes.
+-- 2. Frames of functions that count nothing: the counters stay too.
+
+-- clauses of the store are bumped
+abbrev pub ChangesBumped : {A : Type 0} → Context A → Context A → Type 0
+ChangesBumped x y = y ≡ record x {
+  clause_activity = y.clause_activity;
+  clause_alloc = y.clause_alloc;
+  clause_db = y.clause_db;
+  tmp_flags = y.tmp_flags;
+}
+
+-- a core is found
+abbrev pub ChangesCore : {A : Type 0} → Context A → Context A → Type 0
+ChangesCore x y = y ≡ record x { assumptions = record x.assumptions { failed_core = y.assumptions.failed_core }; tmp_flags = y.tmp_flags }
+
+-- 3. What is the same after a function that changes the search, whichever parts that takes.
 
 -- The search went forward: it propagated or decided. The same variables are decidable, activities and what is remembered stay, and
 -- so does the verdict.

@@ -1,6 +1,7 @@
 pub mod Contexts
 pub mod Steps
 pub mod Conflicts
+pub mod Learning
 pub mod Loading
 pub mod Seen
 pub mod Progress

@@ -1,5 +1,6 @@
 -- What becomes of a clause's distinct literals.
 use Rattle.std.specs.Prelude.{◌≡◌, ℕ, Bool, Option, List, [], ◌∷◌, ◌++◌, ◌⊎◌, length}
+use Rattle.std.specs.List.Sorted.{IsPermutation}
 use Rattle.varisat_theory.specs.Membership.{◌∈◌, SameSet, IsDistinct}
 use Rattle.varisat_theory.specs.Literals.{Literal, Clause, opposite, IsUnit}
 use Rattle.varisat_theory.specs.Derivations.{Line, Delete}
@@ -14,6 +15,9 @@ use Rattle.varisat_prop.specs.Changes.{enqueued}
 use Rattle.varisat_prop.specs.Pairs.{with_pair}
 use Rattle.varisat_search.specs.declared.state.SatState.{SatState}
 use Rattle.varisat_search.specs.declared.state.SatState.TheVariants as verdict
+use Rattle.varisat_search.specs.declared.context.Context.{Context}
+use Rattle.varisat_search.specs.Contexts.{view}
+use Rattle.varisat_search.specs.Seen.{search_of}
 use Rattle.varisat_search.specs.Steps.{IsFree}
 
 -- a loaded clause at the place, which is Irred
@@ -64,6 +68,10 @@ pub record IsDeletedAtOnce (s : Search) (c : Clause) : Type 0 where
   pub inside : literal ∈ c
   pub fixed : literal ∈ s.fixed
 
+-- the second clause is the first in order, and `are` holds for the line that deletes it
+abbrev pub DeletesInOrder : (Clause → Type 0) → (List Line → Type 0) → Clause → Clause → Type 0
+DeletesInOrder ordered are c d = IsPermutation c d × ordered d × are (Delete d ∷ [])
+
 -- the one line deletes the clause, with each of its literals once and in order
 abbrev pub IsItsDeletion : (Clause → Type 0) → Clause → List Line → Type 0
 IsItsDeletion ordered c lines = (d : Clause) × (lines ≡ Delete d ∷ []) × SameSet d c × IsDistinct d × ordered d
@@ -78,3 +86,7 @@ pub record LoadsClause (ordered : Clause → Type 0) (are : List Line → Type 0
   pub due : AreLoadLines ordered s c lines
   pub loads : Loads s t c v lines
   pub written : are lines
+
+-- so a context comes to another, with its verdict
+abbrev pub LoadsTo : {A : Type 0} → (Clause → Type 0) → (List Line → Type 0) → Clause → Context A → Context A → Type 0
+LoadsTo ordered are c x y = LoadsClause ordered are (search_of (view x)) (search_of (view y)) c (loaded_outcome y.solver_state.sat_state)

@@ -1,7 +1,7 @@
 -- What a step of the search comes to, from one context to the next.
 use Rattle.std.specs.Prelude.{◌≡◌, ℕ, ◌<◌, ◌≤◌, ◌⊎◌, List, length}
 use Rattle.varisat_theory.specs.Derivations.{Line}
-use Rattle.varisat_theory.specs.Outcomes.{Outcome, Steps}
+use Rattle.varisat_theory.specs.Outcomes.{Outcome, Proves, Steps}
 use Rattle.varisat_theory.specs.Rank.{rank}
 use Rattle.varisat_prop.specs.View.{kinds}
 use Rattle.varisat_search.specs.declared.context.Context.{Context}
@@ -15,6 +15,10 @@ use Rattle.varisat_search.specs.Steps.{Remembers}
 -- what the context's verdict says, with the model or the core that was found
 abbrev pub outcome_at : {A : Type 0} → Context A → Outcome
 outcome_at x = outcome_of (view x) x.assumptions.failed_core x.solver_state.sat_state
+
+-- the lines lead from the search to the next one
+abbrev pub ProvesTo : {A : Type 0} → List Line → Context A → Context A → Type 0
+ProvesTo lines x y = Proves 0 (search_of (view x)) (search_of (view y)) lines
 
 -- lines for which `are` holds lead from the search to the next one, with its verdict
 abbrev pub StepsTo : {A : Type 0} → (List Line → Type 0) → Context A → Context A → Type 0

@@ -4,7 +4,6 @@ use Rattle.varisat_theory.specs.Membership.{◌∈◌}
 use Rattle.varisat_theory.specs.Literals.{Literal, Clause, variable_of}
 use Rattle.varisat_theory.specs.Propagation.{IsComplete}
 use Rattle.varisat_theory.specs.Derivations.{Line}
-use Rattle.varisat_theory.specs.Outcomes.{Proves}
 use Rattle.varisat_theory.specs.StepLaws.{unit_lines}
 use Rattle.varisat_prop.specs.declared.prop.graph.Conflict.{Conflict}
 use Rattle.varisat_prop.specs.declared.prop.graph.Reason.TheVariants as reason
@@ -15,11 +14,10 @@ use Rattle.varisat_search.specs.declared.context.Context.{Context}
 use Rattle.varisat_search.specs.declared.state.SatState.TheVariants as verdict
 use Rattle.varisat_search.specs.Contexts.{view, IsReady}
 use Rattle.varisat_search.specs.Decisions.{SameDecidable}
-use Rattle.varisat_search.specs.Progress.{StepsTo}
+use Rattle.varisat_search.specs.Progress.{ProvesTo, StepsTo, MakesStep}
 use Rattle.varisat_search.specs.ProvedUnits.{implied_units, ProvesUnits}
-use Rattle.varisat_search.specs.Seen.{search_of}
 use Rattle.varisat_search.specs.Simplifications.{IsSimplified, pair_lines, clause_lines}
-use Rattle.varisat_search.specs.Steps.{ExtendsTrail}
+use Rattle.varisat_search.specs.Steps.{IsPropagatedToEnd, ExtendsTrail}
 
 -- at level 0 literals are still to be propagated
 abbrev pub IsUnsettled : View → Type 0
@@ -63,11 +61,19 @@ pub record SettlesUnits (lines : List Line) (s t : View) (end : Result (Unit {0}
 -- The search goes on and takes nothing back; clauses may go from it and become shorter, by lines for which `are` holds.
 pub record GoesOnByLines {A : Type 0} (are : List Line → Type 0) (x y : Context A) : Type 0 where
   pub ready : IsReady y
-  pub proves : (lines : List Line) × Proves 0 (search_of (view x)) (search_of (view y)) lines × are lines
+  pub proves : (lines : List Line) × ProvesTo lines x y × are lines
   pub extends : ExtendsTrail (view x) (view y)
   pub kinds_more : (more : List Bool) × (kinds (view y) ≡ kinds (view x) ++ more)
   pub decidable : SameDecidable (view x) x.vsids (view y) y.vsids
   pub last : y.assignment.last ≡ x.assignment.last
+
+-- units are settled, by lines for which `are` holds
+abbrev pub SettlesByLines : {A : Type 0} → (List Line → Type 0) → Context A → Context A → Result (Unit {0}) Conflict → Type 0
+SettlesByLines are x y end = GoesOnByLines (λ lines. SettlesUnits lines (view x) (view y) end × are lines) x y
+
+-- where some are unsettled they are settled, and in any case the search goes on by lines for which `are` holds
+abbrev pub SettlesIfUnsettled : {A : Type 0} → (List Line → Type 0) → Context A → Context A → Result (Unit {0}) Conflict → Type 0
+SettlesIfUnsettled are x y end = GoesOnByLines (λ lines. (IsUnsettled (view x) → SettlesUnits lines (view x) (view y) end) × are lines) x y
 
 -- Units are settled, and the step goes on from there: the lines are those of both, in turn.
 pub record SettlesThenSteps {A : Type 0} (lines : List Line) (x z : Context A) : Type 0 where
@@ -83,6 +89,10 @@ pub record SettlesThenSteps {A : Type 0} (lines : List Line) (x z : Context A) :
 abbrev pub SettlesFirst : {A : Type 0} → List Line → Context A → Context A → Type 0
 SettlesFirst lines x z = IsUnsettled (view x) → SettlesThenSteps lines x z
 
+-- such a step was made, by lines for which `are` holds
+abbrev pub SettlesAndSteps : {A : Type 0} → (List Line → Type 0) → Context A → Context A → Type 0
+SettlesAndSteps are x y = MakesStep (λ lines. SettlesFirst lines x y × are lines) x y
+
 -- A search may be simplified: at level 0 propagation came to its end, and each literal of the trail is a unit.
 pub record CanSimplify {A : Type 0} (x : Context A) : Type 0 where
   pub ready : IsReady x
@@ -93,6 +103,6 @@ pub record CanSimplify {A : Type 0} (x : Context A) : Type 0 where
 -- At level 0 all of the trail is propagated and proved, and no kept clause names a variable that has a value.
 pub record IsSettledDown (s : View) : Type 0 where
   pub undecided : s.decisions ≡ []
-  pub propagated : s.queue_head ≡ length s.trail
+  pub propagated : IsPropagatedToEnd s
   pub proved : (k : ℕ) → k < length s.trail → (node_at s k).reason ≡ reason.Unit
   pub unassigned : (c : Clause) → c ∈ kept s → (l : Literal) → l ∈ c → slice_index_or s.values (variable_of l) None ≡ None

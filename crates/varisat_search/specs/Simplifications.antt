@@ -1,10 +1,10 @@
 -- What becomes of the kept clauses once literals are true for good, and the lines that say so.
-use Rattle.std.specs.Prelude.{◌≡◌, ◌≢◌, ◌<◌, ◌≤◌, Bool, false, not, ◌&&◌, nat_le, nat_lt, if◌then◌else◌, Option, None, List, [], ◌∷◌, ◌++◌, length, map, slice_index_or}
+use Rattle.std.specs.Prelude.{◌≡◌, ◌≢◌, ℕ, ◌<◌, ◌≤◌, Bool, false, not, ◌&&◌, nat_le, nat_lt, if◌then◌else◌, Option, None, List, [], ◌∷◌, ◌++◌, length, map, slice_index_or}
 use Rattle.std.specs.List.{filter, list_any}
 use Rattle.varisat_theory.specs.Membership.{◌∈◌}
 use Rattle.varisat_theory.specs.Literals.{Literal, Clause, variable_of, opposite}
 use Rattle.varisat_theory.specs.Derivations.{Line, Add, Delete}
-use Rattle.varisat_clause.specs.Stored.{StoredClause}
+use Rattle.varisat_clause.specs.Stored.{StoredClause, stored_at, with_stored}
 use Rattle.varisat_clause.specs.Collected.{live_of}
 use Rattle.varisat_prop.specs.Parts.{value_in, is_true_value}
 use Rattle.varisat_prop.specs.Looks.{IsInRange}
@@ -24,6 +24,10 @@ unassigned values c = filter (is_unassigned values) c
 -- the stored clause with these literals
 abbrev pub shortened_to : Clause → StoredClause → StoredClause
 shortened_to c k = record { place = k.place; header = record k.header { len = length c }; literals = c }
+
+-- the stored clauses, of which the one at the place has these literals
+abbrev pub with_shortened : List StoredClause → ℕ → Clause → List StoredClause
+with_shortened ks p c = with_stored ks p (shortened_to c (stored_at ks p))
 
 -- no literal of the clause is true, and three or more have no value
 abbrev pub stays_long : List (Option Bool) → Clause → Bool

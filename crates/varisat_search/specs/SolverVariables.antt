@@ -1,5 +1,5 @@
 -- What the search has to do with the variables of the user's names, and how names come to have solver variables.
-use Rattle.std.specs.Prelude.{◌≡◌, ◌≢◌, ℕ, ◌<◌, ◌≤◌, ◌↔◌, Option, Some, None, List, [], ◌∷◌, length, Bool, false, IsSome}
+use Rattle.std.specs.Prelude.{◌≡◌, ℕ, ◌<◌, ◌≤◌, ◌↔◌, Option, Some, None, List, [], ◌∷◌, length, Bool, false, IsSome}
 use Rattle.varisat_theory.specs.Literals.{Literal, variable_of, literal_of}
 use Rattle.varisat_theory.specs.Outcomes.{Loads}
 use Rattle.varisat_theory.specs.Outcomes as outcome
@@ -9,10 +9,10 @@ use Rattle.varisat_names.specs.VarData.{kept_at}
 use Rattle.varisat_names.specs.Variables.{Tables, AreLinked, IsNamed, IsTaken}
 use Rattle.varisat_search.specs.declared.context.Context.{Context}
 use Rattle.varisat_search.specs.declared.state.SatState.TheVariants as verdict
-use Rattle.varisat_search.specs.Contexts.{view, IsReady}
+use Rattle.varisat_search.specs.Contexts.{view, IsNotUnsat, IsReady}
 use Rattle.varisat_search.specs.Decisions.{IsDecidable}
 use Rattle.varisat_search.specs.Seen.{search_of}
-use Rattle.varisat_search.specs.Steps.{reopened_state}
+use Rattle.varisat_search.specs.Steps.{reopened_state, accepted_with}
 
 -- neither names nor global variables are past the limit
 abbrev pub HasRoom : Tables → Type 0
@@ -29,6 +29,10 @@ HasRoomFor (l ∷ ls) t =
 pub record Searched (A : Type 0) : Type 0 where
   pub tables : Tables
   pub context : Context A
+
+-- these
+abbrev pub searched_with : {A : Type 0} → Tables → Context A → Searched A
+searched_with t x = record { tables = t; context = x }
 
 -- No number is past the limit, and the search has the solver variables below the watermark, of which it may decide exactly those in use.
 pub record HasVariables {A : Type 0} (s : Searched A) : Type 0 where
@@ -47,10 +51,9 @@ pub record KeepsSeen {A : Type 0} (old new : Context A) : Type 0 where
 -- The unit clause of the literal is held again; under Unsat nothing is loaded.
 pub record HasUnitAgain {A : Type 0} (l : Literal) (old new : Context A) : Type 0 where
   pub unsat : old.solver_state.sat_state ≡ verdict.Unsat → KeepsSeen old new
-  pub lines : old.solver_state.sat_state ≢ verdict.Unsat → Loads (search_of (view old)) (search_of (view new)) (l ∷ []) outcome.Unknown []
-  pub state : old.solver_state.sat_state ≢ verdict.Unsat →
-      new.solver_state ≡ record old.solver_state { sat_state = reopened_state old.solver_state.sat_state; formula_is_empty = false }
-  pub assumptions : old.solver_state.sat_state ≢ verdict.Unsat → new.assumptions ≡ record old.assumptions { levels = 0 }
+  pub lines : IsNotUnsat old → Loads (search_of (view old)) (search_of (view new)) (l ∷ []) outcome.Unknown []
+  pub state : IsNotUnsat old → new.solver_state ≡ accepted_with (reopened_state old.solver_state.sat_state) old.solver_state
+  pub assumptions : IsNotUnsat old → new.assumptions ≡ record old.assumptions { levels = 0 }
 
 -- The global variable x has the solver variable v: it had it, it took it and has no unit, or it came back with its unit.
 pub data HasSolverVariable {A : Type 0} (x : ℕ) (old new : Searched A) (v : ℕ) : Type 0 where

@@ -1,5 +1,5 @@
 -- Why a step failed, and when the clause store is full.
-use Rattle.std.specs.Prelude.{ℕ, ◌+◌, ◌^◌, ◌≤◌, length}
+use Rattle.std.specs.Prelude.{◌≡◌, ℕ, ◌+◌, ◌^◌, ◌≤◌, length}
 use Rattle.varisat_clause.specs.declared.alloc.StoreError.{StoreError}
 use Rattle.varisat_clause.specs.declared.alloc.StoreError.TheVariants as store
 use Rattle.varisat_trace.specs.declared.tracer.TraceError.{TraceError}
@@ -23,6 +23,10 @@ abbrev pub step_faults : StepError → ℕ
 step_faults step.Full = 0
 step_faults step.Memory = 0
 step_faults (step.Target cause) = 1
+
+-- A clause of so many literals, with the three words before them, would bring the store to 2^32 words or more; values stayed.
+abbrev pub RefusesStoring : {A : Type 0} → ℕ → Context A → Context A → Type 0
+RefusesStoring n x y = (2 ^ 32 ≤ length y.clause_alloc.words + 3 + n) × (y.assignment.current ≡ x.assignment.current)
 
 -- A clause of all variables, with the three words before its literals, would bring the store to 2^32 words or more.
 abbrev pub HasNoRoom : {A : Type 0} → Context A → Type 0

@@ -6,6 +6,7 @@ use Rattle.varisat_prop.specs.Parts.{is_true_value}
 use Rattle.varisat_prop.specs.View.{View, IsTrueIn, kept, literal_at, decision_at}
 use Rattle.varisat_search.specs.declared.state.SatState.{SatState}
 use Rattle.varisat_search.specs.declared.state.SatState.TheVariants as verdict
+use Rattle.varisat_search.specs.declared.state.SolverState.{SolverState}
 
 -- the variable is one of the literals from place p on
 abbrev pub LeavesFrom : View → ℕ → ℕ → Type 0
@@ -61,6 +62,10 @@ IsFree s l = (variable_of l < length s.values) × (slice_index_or s.values (vari
 abbrev pub IsTotal : View → Type 0
 IsTotal s = (c : Clause) → c ∈ kept s → (l : Literal) → l ∈ c → slice_index_or s.values (variable_of l) None ≢ None
 
+-- no literal of the trail is left to be propagated
+abbrev pub IsPropagatedToEnd : View → Type 0
+IsPropagatedToEnd s = s.queue_head ≡ length s.trail
+
 -- what the values say of the variables, false where there is none
 abbrev pub assignment_of : View → Assignment
 assignment_of s v = is_true_value (slice_index_or s.values v None)
@@ -71,3 +76,11 @@ reopened_state verdict.Unknown = verdict.Unknown
 reopened_state verdict.Sat = verdict.Unknown
 reopened_state verdict.Unsat = verdict.Unsat
 reopened_state verdict.UnsatUnderAssumptions = verdict.UnsatUnderAssumptions
+
+-- the verdict after a clause is accepted: that one, or Unsat where the clause contradicts what is known
+abbrev pub IsVerdictAfter : SatState → SatState → Type 0
+IsVerdictAfter before after = (after ≡ reopened_state before) ⊎ (after ≡ verdict.Unsat)
+
+-- the state after a clause is accepted, with this verdict
+abbrev pub accepted_with : SatState → SolverState → SolverState
+accepted_with v s = record s { sat_state = v; formula_is_empty = false }

@@ -8,8 +8,10 @@ ghost use Rattle.varisat_prop.specs.View.{WellFormed};
 ghost use Rattle.varisat_prop.specs.Changes.{NamesPlace};
 ghost use Rattle.varisat_analysis.specs.Bumps.{literals_among};
 ghost use Rattle.varisat_analysis.specs.HeaderChanges.{SameButHeaders};
-ghost use Rattle.varisat_analysis.specs.Assessments.{glue_of, assessed, BumpsClauses, IsAssigned};
+ghost use Rattle.varisat_analysis.specs.Assessments.{glue_of, assessed, IsAssigned};
 ghost use Rattle.varisat_search.specs.Contexts.{view};
+ghost use Rattle.varisat_search.specs.Frames.{ChangesBumped};
+ghost use Rattle.varisat_search.specs.Learning.{BumpsStored};
 
 use crate::context::Context;
 use std::alloc::{AllocError, Allocator};
@@ -29,17 +31,11 @@ pub fn bump_involved_clauses<A: Allocator + Copy>(ctx: &mut Context<A>) -> Resul
     requires assigned { (l : Literal) → l ∈ literals_among (live_clauses ctx.old.clause_alloc) ctx.old.analyze_conflict.involved → IsAssigned (view ctx.old) l }
     ensures undecided { ctx.old.trail.decisions ≡ [] → ctx.new ≡ ctx.old }
     ensures bumped { OnOk result (0 < length ctx.old.trail.decisions →
-        BumpsClauses ctx.old.impl_graph.nodes.items ctx.old.analyze_conflict.involved
-        ctx.old.clause_alloc ctx.new.clause_alloc ctx.old.clause_activity ctx.new.clause_activity) }
+        BumpsStored ctx.old.analyze_conflict.involved ctx.old ctx.new) }
     ensures headers { SameButHeaders (live_clauses ctx.old.clause_alloc) (live_clauses ctx.new.clause_alloc) }
     ensures tracks { Tracks ctx.new.clause_db ctx.new.clause_alloc }
     ensures flags { ctx.new.tmp_flags.flags.items ≡ ctx.old.tmp_flags.flags.items }
-    ensures kept { ctx.new ≡ record ctx.old {
-      clause_activity = ctx.new.clause_activity;
-      clause_alloc = ctx.new.clause_alloc;
-      clause_db = ctx.new.clause_db;
-      tmp_flags = ctx.new.tmp_flags;
-    } }
+    ensures kept { ChangesBumped ctx.old ctx.new }
 {
     if ctx.trail.current_level() == 0 {
         return Ok(());

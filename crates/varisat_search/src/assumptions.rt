@@ -10,8 +10,8 @@ ghost use Rattle.varisat_prop.specs.View.{View, WellFormed, kept};
 ghost use Rattle.varisat_analysis.specs.Learned.{Shows};
 ghost use Rattle.varisat_analysis.specs.FailedCores.{ListsFailedCore};
 ghost use Rattle.varisat_search.specs.Contexts.{view, KeepsSchedule, IsReady};
-ghost use Rattle.varisat_search.specs.Frames.{ChangesAssumed, GoesForward, KeepsVariables};
-ghost use Rattle.varisat_search.specs.Steps.{SavesAll};
+ghost use Rattle.varisat_search.specs.Frames.{ChangesAssumed, ChangesCore, GoesForward, KeepsVariables};
+ghost use Rattle.varisat_search.specs.Steps.{IsPropagatedToEnd, SavesAll};
 ghost use Rattle.varisat_search.specs.Decisions.{AreDecidable};
 ghost use Rattle.varisat_search.specs.Seen.{search_of};
 ghost use Rattle.varisat_search.specs.AssumptionParts.{no_assumptions, newly_assumed, with_levels_to, assumed_state, TakesOutImplied, TakesOutTrue, IsNextAssumption, ComesToNext};
@@ -264,10 +264,7 @@ fn find_failed_core<A: Allocator + Copy>(
     requires ready { IsReady ctx.old }
     requires false_now { IsMadeTrue ctx.old.assignment.current (opposite failed) }
     requires seen { s ≡ view ctx.old }
-    ensures kept { ctx.new ≡ record ctx.old {
-      assumptions = record ctx.old.assumptions { failed_core = ctx.new.assumptions.failed_core };
-      tmp_flags = ctx.new.tmp_flags;
-    } }
+    ensures kept { ChangesCore ctx.old ctx.new }
     ensures flags { ctx.new.tmp_flags.flags.items ≡ ctx.old.tmp_flags.flags.items }
     ensures core { OnOk result (ListsFailedCore (view ctx.old) failed ctx.new.assumptions.failed_core) }
 {
@@ -288,7 +285,7 @@ pub fn enqueue_assumption<A: Allocator + Copy>(
 ) -> Result<EnqueueAssumption, AllocError>
     requires ready { IsReady ctx.old }
     requires complete { IsComplete (kept (view ctx.old)) ctx.old.trail.literals }
-    requires propagated { ctx.old.trail.queue_head ≡ length ctx.old.trail.literals }
+    requires propagated { IsPropagatedToEnd (view ctx.old) }
     ensures ready { OnOk result (IsReady ctx.new) }
     ensures taken { OnOk result (TakesOutImplied (view ctx.old) ctx.old.assumptions ctx.new.assumptions) }
     // What was taken out is implied by the assumptions before its place alone.

@@ -1,8 +1,9 @@
 //! What a conflict does to the activities of variables.
 ghost use Rattle.std.specs.Prelude.{◌≡◌, ◌<◌, [], length};
-ghost use Rattle.varisat_analysis.specs.Bumps.{literals_among, AreVariablesAbove, BumpsInvolved};
+ghost use Rattle.varisat_analysis.specs.Bumps.{BumpsInvolved};
 ghost use Rattle.varisat_search.specs.Contexts.{view, IsReady};
 ghost use Rattle.varisat_search.specs.Decisions.{HasActivities};
+ghost use Rattle.varisat_search.specs.Learning.{HasMet};
 
 use crate::context::Context;
 use std::alloc::Allocator;
@@ -12,8 +13,7 @@ use varisat_analysis::bumps::bump_each;
 /// decay. Without decisions nothing happens.
 pub fn bump_involved<A: Allocator + Copy>(ctx: &mut Context<A>)
     requires ready { IsReady ctx.old }
-    requires met { AreVariablesAbove (view ctx.old).nodes (literals_among (view ctx.old).clauses ctx.old.analyze_conflict.involved)
-        ctx.old.analyze_conflict.met }
+    requires met { HasMet (view ctx.old) ctx.old.analyze_conflict }
     ensures undecided { ctx.old.trail.decisions ≡ [] → ctx.new ≡ ctx.old }
     ensures bumps { 0 < length ctx.old.trail.decisions → BumpsInvolved (view ctx.old) ctx.old.analyze_conflict.involved ctx.old.vsids ctx.new.vsids }
     ensures available { ctx.new.vsids.available ≡ ctx.old.vsids.available }

@@ -1,32 +1,28 @@
 //! One step of the search: propagate and decide to a conflict or a model, and learn.
-ghost use Rattle.std.specs.Prelude.{◌≡◌, ◌≢◌, ℕ, ◌+◌, ◌^◌, ◌<◌, ◌≤◌, false, length, [], ◌∷◌, List, Ok, OnOk, IfOk, IfErr, MatchBool, MatchOption, MatchResult};
+ghost use Rattle.std.specs.Prelude.{◌≡◌, ◌≢◌, ℕ, ◌+◌, ◌^◌, ◌<◌, ◌≤◌, false, length, [], ◌∷◌, List, Ok, OnOk, IfOk, IfErr, MatchOption, MatchResult};
 ghost use Rattle.varisat_theory.specs.Membership.{◌∈◌};
 ghost use Rattle.varisat_theory.specs.Literals.{Literal, opposite};
 ghost use Rattle.varisat_theory.specs.Propagation.{IsComplete};
 ghost use Rattle.varisat_theory.specs.Derivations.{Add};
 ghost use Rattle.varisat_clause.specs.declared.header.Tier.TheVariants as tier;
 ghost use Rattle.varisat_clause.specs.Tiers.{is_tier};
-ghost use Rattle.varisat_clause.specs.Stores.{Store};
 ghost use Rattle.varisat_clause.specs.Databases.{Tracks};
-ghost use Rattle.varisat_clause.specs.Collected.{live_clauses};
 ghost use Rattle.varisat_prop.specs.View.{View, kept, GrowsTrail};
 ghost use Rattle.varisat_prop.specs.Changes.{IsConflicting};
 ghost use Rattle.varisat_analysis.specs.Learned.{IsLearned, AreInvolved};
-ghost use Rattle.varisat_search.specs.Contexts.{view, KeepsSchedule, IsReady};
+ghost use Rattle.varisat_search.specs.Contexts.{view, IsNotUnsat, KeepsSchedule, IsReady};
 ghost use Rattle.varisat_search.specs.Frames.{ChangesAnalysis, ChangesClauses, ChangesSettled, GoesForward};
-ghost use Rattle.varisat_search.specs.Steps.{SavesSome};
+ghost use Rattle.varisat_search.specs.Steps.{IsPropagatedToEnd, SavesSome};
 ghost use Rattle.varisat_search.specs.Seen.{search_of};
 ghost use Rattle.varisat_theory.specs.Journals.{Fails};
 ghost use Rattle.varisat_trace.specs.Traces.{TakesLines, TakesStep, TellsLines, BreaksOff, faults_of, CanTake, CanFail, HoldsFor};
-ghost use Rattle.varisat_analysis.specs.Bumps.{literals_among, AreVariablesAbove, BumpsInvolved};
-ghost use Rattle.varisat_analysis.specs.Assessments.{glue_of, assessed, BumpsClauses};
-ghost use Rattle.varisat_search.specs.AssumptionParts.{TakesOutImplied, EndsAssumed, HasFailed};
-ghost use Rattle.varisat_search.specs.Conflicts.{Stops, Keeping, IsKeptAsReason, IsStoredAsReason, IsWatchedAsReason};
-ghost use Rattle.varisat_search.specs.SettledUnits.{IsUnsettled, FixesNone, KeepsFixed, FixesByLearning, SettlesUnits, GoesOnByLines, IsSettledDown, SettlesFirst};
+ghost use Rattle.varisat_search.specs.AssumptionParts.{TakesOutImplied};
+ghost use Rattle.varisat_search.specs.Conflicts.{ComesToDecision, EndsOrStops, keeping_of, IsKeptAsReason, IsStoredAsReason, IsWatchedAsReason};
+ghost use Rattle.varisat_search.specs.Learning.{HasMet, BumpsVariables, BumpsAndStores};
+ghost use Rattle.varisat_search.specs.SettledUnits.{IsUnsettled, FixesNone, KeepsFixed, FixesByLearning, SettlesByLines, SettlesIfUnsettled, IsSettledDown, SettlesAndSteps};
 ghost use Rattle.varisat_search.specs.StepErrors.{HasNoRoom, step_faults};
 ghost use Rattle.varisat_search.specs.Progress.{outcome_at, IsStepFurther, MakesStep};
 ghost use Rattle.varisat_search.specs.FoundCores.{HasCoreIfFailed};
-ghost use Rattle.varisat_vsids.specs.Activities.{Activities};
 
 use crate::assess::{assess_learned, bump_involved_clauses};
 use crate::assumptions::{EnqueueAssumption, enqueue_assumption};
@@ -62,15 +58,12 @@ fn decide<A: Allocator + Copy>(
 ) -> Result<Result<bool, FoundConflict>, AllocError>
     requires ready { IsReady ctx.old }
     requires complete { IsComplete (kept (view ctx.old)) ctx.old.trail.literals }
-    requires propagated { ctx.old.trail.queue_head ≡ length ctx.old.trail.literals }
+    requires propagated { IsPropagatedToEnd (view ctx.old) }
     ensures ready { OnOk result (IsReady ctx.new) }
     ensures grows { OnOk result (GrowsTrail (view ctx.old) (view ctx.new)) }
     ensures fixed { OnOk result (FixesNone (view ctx.old) (view ctx.new)) }
     ensures taken { OnOk result (TakesOutImplied (view ctx.old) ctx.old.assumptions ctx.new.assumptions) }
-    ensures decided { IfOk result (λ decided. MatchResult decided
-        (λ made. MatchBool made (length ctx.old.trail.literals < length ctx.new.trail.literals)
-        ((view ctx.new ≡ view ctx.old) × EndsAssumed (view ctx.new) ctx.new.assumptions))
-        (λ found. (found ≡ FoundConflict.Assumption) × HasFailed (view ctx.new) ctx.new.assumptions)) }
+    ensures decided { IfOk result (λ decided. ComesToDecision (view ctx.old) (view ctx.new) ctx.new.assumptions decided) }
     ensures forward { OnOk result (GoesForward ctx.old ctx.new) }
     ensures schedule { KeepsSchedule ctx.old ctx.new }
 {
@@ -92,9 +85,7 @@ fn find_conflict<A: Allocator + Copy>(
     ensures grows { OnOk result (GrowsTrail (view ctx.old) (view ctx.new)) }
     ensures fixed { OnOk result ((IsUnsettled (view ctx.old) → ⊥) → FixesNone (view ctx.old) (view ctx.new)) }
     ensures taken { OnOk result (TakesOutImplied (view ctx.old) ctx.old.assumptions ctx.new.assumptions) }
-    ensures found { IfOk result (λ found. MatchResult found
-        (λ _. IsComplete (kept (view ctx.new)) ctx.new.trail.literals × EndsAssumed (view ctx.new) ctx.new.assumptions)
-        (λ conflict. Stops (view ctx.new) ctx.new.assumptions conflict)) }
+    ensures found { IfOk result (λ end. EndsOrStops (view ctx.new) ctx.new.assumptions end) }
     ensures forward { OnOk result (GoesForward ctx.old ctx.new) }
     ensures schedule { KeepsSchedule ctx.old ctx.new }
 {
@@ -141,8 +132,7 @@ fn keep_learned<A: Allocator + Copy>(
     requires tracks { Tracks ctx.old.clause_db ctx.old.clause_alloc }
     ensures tracks { OnOk result (Tracks ctx.new.clause_db ctx.new.clause_alloc) }
     ensures kept { ChangesClauses ctx.old ctx.new }
-    ensures reason { IfOk result (λ reason. IsKeptAsReason (record { clauses = live_clauses ctx.old.clause_alloc; binary = ctx.old.binary_clauses })
-        (record { clauses = live_clauses ctx.new.clause_alloc; binary = ctx.new.binary_clauses }) ctx.old.analyze_conflict.clause reason) }
+    ensures reason { IfOk result (λ reason. IsKeptAsReason (keeping_of (view ctx.old)) (keeping_of (view ctx.new)) ctx.old.analyze_conflict.clause reason) }
     ensures stored { IfOk result (λ reason. IsStoredAsReason ctx.old.clause_alloc ctx.new.clause_alloc header ctx.old.analyze_conflict.clause reason) }
     ensures watched { IfOk result (λ reason. IsWatchedAsReason ctx.old.watchlists ctx.new.watchlists ctx.old.analyze_conflict.clause reason) }
     ensures full { IfErr result (λ error. error ≡ StoreError.Full → 2 ^ 32 ≤ length ctx.new.clause_alloc.words + 3 + length ctx.old.analyze_conflict.clause) }
@@ -179,8 +169,7 @@ fn analyze<A: Allocator + Copy>(
     ensures count { ctx.new.analyze_conflict.var_count ≡ ctx.old.analyze_conflict.var_count }
     ensures learned { IfOk result (λ level. IsLearned (view ctx.old) conflict ctx.new.analyze_conflict.clause level) }
     ensures involved { OnOk result (AreInvolved (view ctx.old) conflict ctx.new.analyze_conflict.involved) }
-    ensures met { OnOk result (AreVariablesAbove (view ctx.old).nodes (literals_among (view ctx.old).clauses ctx.new.analyze_conflict.involved)
-        ctx.new.analyze_conflict.met) }
+    ensures met { OnOk result (HasMet (view ctx.old) ctx.new.analyze_conflict) }
 {
     let level = analyze_conflict(
         &mut ctx.analyze_conflict,
@@ -221,19 +210,12 @@ fn learn<A: Allocator + Copy, P: ProofTracer>(
     requires holds { HoldsFor (P.holds proof.old) (search_of (view ctx.old)) }
     ensures further { OnOk result (IsStepFurther (λ lines. TakesLines P.takes proof.old lines proof.new) ctx.old ctx.new) }
     // Above level 0 the variables of the clauses that the learned one came from are bumped, and activities decay.
-    ensures bumps { OnOk result (0 < length ctx.old.trail.decisions → (b : Activities)
-        × BumpsInvolved (view ctx.old) ctx.new.analyze_conflict.involved ctx.old.vsids b
-        × (ctx.new.vsids ≡ record b { available = ctx.new.vsids.available })) }
+    ensures bumps { OnOk result (0 < length ctx.old.trail.decisions → BumpsVariables ctx.old ctx.new) }
     // So are the clauses of the store among them, and the learned one gets the glue of the conflict, and its tier.
-    ensures stored { OnOk result (0 < length ctx.old.trail.decisions → (s : Store)
-        × BumpsClauses ctx.old.impl_graph.nodes.items ctx.new.analyze_conflict.involved ctx.old.clause_alloc s
-        ctx.old.clause_activity ctx.new.clause_activity
-        × ((r : Reason) × IsStoredAsReason s ctx.new.clause_alloc
-        (assessed (glue_of ctx.old.impl_graph.nodes.items ctx.new.analyze_conflict.clause)) ctx.new.analyze_conflict.clause r)) }
+    ensures stored { OnOk result (0 < length ctx.old.trail.decisions → BumpsAndStores ctx.old ctx.new) }
     ensures involved { OnOk result (AreInvolved (view ctx.old) conflict ctx.new.analyze_conflict.involved) }
     ensures last { OnOk result (SavesSome (view ctx.old) ctx.old.assignment.last ctx.new.assignment.last) }
-    ensures fixed { OnOk result (ctx.new.solver_state.sat_state ≢ SatState.Unsat →
-        (0 < length ctx.old.trail.decisions) × KeepsFixed (view ctx.old) (view ctx.new)) }
+    ensures fixed { OnOk result (IsNotUnsat ctx.new → (0 < length ctx.old.trail.decisions) × KeepsFixed (view ctx.old) (view ctx.new)) }
     ensures schedule { KeepsSchedule ctx.old ctx.new }
     // The store is full only where it has no room for a clause of all variables.
     ensures full { IfErr result (λ error. error ≡ StepError.Full → HasNoRoom ctx.new) }
@@ -274,9 +256,7 @@ pub fn settle<A: Allocator + Copy, P: ProofTracer>(
     requires undecided { ctx.old.trail.decisions ≡ [] }
     requires holds { HoldsFor (P.holds proof.old) (search_of (view ctx.old)) }
     // Simplification relies on the unit clauses, so that their lines come first.
-    ensures goes_on { IfOk result (λ end. GoesOnByLines
-        (λ lines. SettlesUnits lines (view ctx.old) (view ctx.new) end × TakesLines P.takes proof.old lines proof.new)
-        ctx.old ctx.new) }
+    ensures goes_on { IfOk result (λ end. SettlesByLines (λ lines. TakesLines P.takes proof.old lines proof.new) ctx.old ctx.new end) }
     ensures settled { IfOk result (λ end. MatchResult end (λ _. IsSettledDown (view ctx.new)) (λ _. Unit {0})) }
     ensures conflict { IfOk result (λ end. MatchResult end (λ _. Unit {0}) (λ conflict. IsConflicting (view ctx.new) conflict)) }
     // A clause that is false before is found.
@@ -312,9 +292,7 @@ fn settle_units<A: Allocator + Copy, P: ProofTracer>(
 ) -> Result<Result<(), Conflict>, TraceError>
     requires ready { IsReady ctx.old }
     requires holds { HoldsFor (P.holds proof.old) (search_of (view ctx.old)) }
-    ensures goes_on { IfOk result (λ end. GoesOnByLines
-        (λ lines. (IsUnsettled (view ctx.old) → SettlesUnits lines (view ctx.old) (view ctx.new) end) × TakesLines P.takes proof.old lines proof.new)
-        ctx.old ctx.new) }
+    ensures goes_on { IfOk result (λ end. SettlesIfUnsettled (λ lines. TakesLines P.takes proof.old lines proof.new) ctx.old ctx.new end) }
     ensures stays { IfOk result (λ end. (IsUnsettled (view ctx.old) → ⊥) → (ctx.new ≡ ctx.old) × (end ≡ Ok tt)) }
     ensures finds { IfOk result (λ end. ctx.old.trail.decisions ≡ [] → (c : Conflict) → IsConflicting (view ctx.old) c → end ≢ Ok tt) }
     ensures at_zero { IfOk result (λ end. end ≢ Ok tt → ctx.new.trail.decisions ≡ []) }
@@ -353,8 +331,7 @@ fn find_and_learn<A: Allocator + Copy, P: ProofTracer>(
     requires holds { HoldsFor (P.holds proof.old) (search_of (view ctx.old)) }
     ensures made { OnOk result (MakesStep (λ lines. TakesStep P.takes proof.old lines (outcome_at ctx.new) proof.new) ctx.old ctx.new) }
     ensures core { OnOk result (HasCoreIfFailed ctx.new) }
-    ensures fixed { OnOk result ((IsUnsettled (view ctx.old) → ⊥) → ctx.new.solver_state.sat_state ≢ SatState.Unsat →
-        KeepsFixed (view ctx.old) (view ctx.new)) }
+    ensures fixed { OnOk result ((IsUnsettled (view ctx.old) → ⊥) → IsNotUnsat ctx.new → KeepsFixed (view ctx.old) (view ctx.new)) }
     ensures schedule { KeepsSchedule ctx.old ctx.new }
     ensures full { IfErr result (λ error. error ≡ StepError.Full → HasNoRoom ctx.new) }
     // Then there are as many variables as before.
@@ -384,9 +361,7 @@ pub fn conflict_step<A: Allocator + Copy, P: ProofTracer>(
     // The tracer may hold what fits the search.
     requires holds { HoldsFor (P.holds proof.old) (search_of (view ctx.old)) }
     // It took the lines of the step, and then the core, where assumptions failed.
-    ensures made { OnOk result (MakesStep
-        (λ lines. SettlesFirst lines ctx.old ctx.new × TakesStep P.takes proof.old lines (outcome_at ctx.new) proof.new)
-        ctx.old ctx.new) }
+    ensures made { OnOk result (SettlesAndSteps (λ lines. TakesStep P.takes proof.old lines (outcome_at ctx.new) proof.new) ctx.old ctx.new) }
     ensures core { OnOk result (HasCoreIfFailed ctx.new) }
     ensures fixes { OnOk result (FixesByLearning ctx.old ctx.new) }
     ensures schedule { KeepsSchedule ctx.old ctx.new }

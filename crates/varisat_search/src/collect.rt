@@ -1,9 +1,10 @@
 //! The collection of the words of deleted clauses in a search.
-ghost use Rattle.std.specs.Prelude.{◌≡◌, ◌<◌, ◌≤◌, ◌*◌, false, length, OnOk, OnErr};
+ghost use Rattle.std.specs.Prelude.{◌≡◌, ◌≤◌, ◌*◌, false, length, OnOk, OnErr};
 ghost use Rattle.varisat_clause.specs.Stores.{stored_clauses};
 ghost use Rattle.varisat_clause.specs.Collected.{IsCollected};
 ghost use Rattle.varisat_analysis.specs.Collections.{Repacks};
 ghost use Rattle.varisat_search.specs.Contexts.{view, IsReady};
+ghost use Rattle.varisat_search.specs.DueReductions.{IsCollectionDue};
 ghost use Rattle.varisat_search.specs.Frames.{ChangesPlaces};
 
 use crate::context::Context;
@@ -41,10 +42,10 @@ fn collect<A: Allocator + Copy>(ctx: &mut Context<A>) -> Result<(), AllocError>
 /// changes nothing, as where a growth was refused.
 pub fn collect_garbage<A: Allocator + Copy>(ctx: &mut Context<A>) -> Result<(), AllocError>
     requires { IsReady ctx.old }
-    ensures collected { OnOk result (length ctx.old.clause_alloc.words < 2 * ctx.old.clause_db.garbage →
+    ensures collected { OnOk result (IsCollectionDue ctx.old →
         IsCollected ctx.new.clause_alloc ctx.new.clause_db (stored_clauses ctx.old.clause_alloc)) }
-    ensures repacks { OnOk result (length ctx.old.clause_alloc.words < 2 * ctx.old.clause_db.garbage → Repacks (view ctx.old) (view ctx.new)) }
-    ensures off { OnOk result (length ctx.old.clause_alloc.words < 2 * ctx.old.clause_db.garbage → ctx.new.watchlists.enabled ≡ false) }
+    ensures repacks { OnOk result (IsCollectionDue ctx.old → Repacks (view ctx.old) (view ctx.new)) }
+    ensures off { OnOk result (IsCollectionDue ctx.old → ctx.new.watchlists.enabled ≡ false) }
     ensures stays { OnOk result (2 * ctx.old.clause_db.garbage ≤ length ctx.old.clause_alloc.words → ctx.new ≡ ctx.old) }
     ensures ready { OnOk result (IsReady ctx.new) }
     ensures kept { ChangesPlaces ctx.old ctx.new }

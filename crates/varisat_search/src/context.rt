@@ -1,13 +1,12 @@
 //! All parts of a search.
-ghost use Rattle.std.specs.Prelude.{◌≡◌, None, Some, MatchResult, ℕ, ◌≤◌, ◌+◌, ◌-◌, ◌^◌, ◌++◌, [], length, min, replicate, slice_index_or, false, OnOk};
-ghost use Rattle.std.specs.Option.{unwrap_or};
+ghost use Rattle.std.specs.Prelude.{◌≡◌, ℕ, ◌≤◌, ◌+◌, ◌-◌, ◌^◌, ◌++◌, [], length, min, replicate, slice_index_or, false, OnOk};
 ghost use Rattle.varisat_search.specs.Contexts.{view, IsReady, first_state};
 ghost use Rattle.varisat_search.specs.Frames.{ChangesVariables};
 ghost use Rattle.varisat_search.specs.AssumptionParts.{no_assumptions};
-ghost use Rattle.varisat_search.specs.ContextChanges.{CanRaise, IsRaisedTo};
+ghost use Rattle.varisat_search.specs.ContextChanges.{ChangesSettings, CanRaise, IsRaisedTo};
 ghost use Rattle.varisat_search.specs.Seen.{search_of, first_search};
 ghost use Rattle.varisat_search.specs.Decisions.{IsDecidable, SameDecidable};
-ghost use Rattle.varisat_names.specs.Settings.{default_settings, first_bad, updated_settings};
+ghost use Rattle.varisat_names.specs.Settings.{default_settings};
 ghost use Rattle.varisat_prop.specs.Parts.{top_level_count};
 ghost use Rattle.varisat_schedule.specs.Plans.{first_plan};
 ghost use Rattle.varisat_clause.specs.Stores.{no_store};
@@ -96,16 +95,9 @@ impl<A: Allocator + Copy> Context<A> {
 
     /// Changes the settings for which there are values. If some value is out of its range, the first such setting is
     /// returned and nothing changes. Another scale of the restarts counts from the next restart that is planned, and
-    /// other decays of the
-    /// activities of variables and of clauses from the next conflict.
+    /// other decays of the activities of variables and of clauses from the next conflict.
     pub fn config_changed(&mut self, update: &SolverConfigUpdate) -> Result<(), ConfigError>
-        ensures changed { MatchResult result
-            (λ _. (first_bad update.now ≡ None) × (self.new ≡ record self.old {
-              clause_activity = record self.old.clause_activity { decay = unwrap_or update.now.clause_activity_decay self.old.clause_activity.decay };
-              solver_config = updated_settings self.old.solver_config update.now;
-              vsids = record self.old.vsids { decay = unwrap_or update.now.vsids_decay self.old.vsids.decay };
-            }))
-            (λ error. (first_bad update.now ≡ Some error.field) × (self.new ≡ self.old)) }
+        ensures changed { ChangesSettings update.now self.old self.new result }
         ensures ready { IsReady self.old → IsReady self.new }
         ensures decidable { SameDecidable (view self.old) self.old.vsids (view self.new) self.new.vsids }
     {

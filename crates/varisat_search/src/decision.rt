@@ -1,16 +1,13 @@
 //! The choice of a literal to decide.
-ghost use Rattle.std.specs.Prelude.{◌≡◌, ◌≢◌, ℕ, None, ◌<◌, ◌≤◌, true, false, length, slice_index_or, OnOk, IfOk, MatchBool};
-ghost use Rattle.varisat_theory.specs.Membership.{◌∈◌};
-ghost use Rattle.varisat_theory.specs.Literals.{Literal, Clause, variable_of};
-ghost use Rattle.varisat_literals.specs.Numbers.{polarity_of};
+ghost use Rattle.std.specs.Prelude.{◌≡◌, ℕ, None, ◌<◌, ◌≤◌, true, false, length, slice_index_or, OnOk, IfOk};
 ghost use Rattle.varisat_prop.specs.View.{WellFormed, kept};
 ghost use Rattle.varisat_prop.specs.Changes.{IsAssignable, decided_on};
 ghost use Rattle.varisat_vsids.specs.Activities.{with_available};
 ghost use Rattle.varisat_search.specs.Contexts.{view, IsReady};
 ghost use Rattle.varisat_search.specs.Frames.{ChangesDecisions, ChangesTrail, ChangesVariables, GoesForward};
-ghost use Rattle.varisat_search.specs.ContextChanges.{CanRaise, IsRaisedTo};
-ghost use Rattle.varisat_search.specs.Steps.{IsFree, IsTotal};
-ghost use Rattle.varisat_search.specs.Decisions.{CanDecide, IsDecidable, SameDecidable, SameDecidableBut, AddsDecidable, IsNextDecision, TakesUnassigned, initialized};
+ghost use Rattle.varisat_search.specs.ContextChanges.{DecidesIfLeft, CanRaise, IsRaisedTo};
+ghost use Rattle.varisat_search.specs.Decisions.{CanDecide, IsDecidable, SameDecidable, SameDecidableBut, AddsDecidable, TakesUnassigned, initialized};
+ghost use Rattle.varisat_search.specs.Forgotten.{AreNotOf, IsUnmentioned};
 
 use crate::context::{Context, set_var_count};
 use std::alloc::{AllocError, Allocator};
@@ -61,11 +58,7 @@ pub fn decide_lit<A: Allocator + Copy>(ctx: &mut Context<A>, lit: Lit) -> Result
 pub fn make_decision<A: Allocator + Copy>(ctx: &mut Context<A>) -> Result<bool, AllocError>
     requires well { WellFormed (view ctx.old) }
     requires decidable { CanDecide (view ctx.old) ctx.old.vsids }
-    ensures decided { IfOk result (λ made. MatchBool made
-        ((l : Literal) × IsFree (view ctx.old) l × (view ctx.new ≡ decided_on (view ctx.old) l)
-        × (polarity_of l ≡ slice_index_or ctx.old.assignment.last (variable_of l) false)
-        × IsNextDecision ctx.old.assignment.current ctx.old.vsids (variable_of l))
-        ((ctx.new ≡ record ctx.old { vsids = ctx.new.vsids }) × IsTotal (view ctx.old))) }
+    ensures decided { IfOk result (λ made. DecidesIfLeft ctx.old ctx.new made) }
     ensures forward { OnOk result (GoesForward ctx.old ctx.new) }
     ensures decidable { OnOk result (CanDecide (view ctx.new) ctx.new.vsids) }
     ensures kept { ChangesDecisions ctx.old ctx.new }
@@ -134,8 +127,7 @@ pub fn remove_var<A: Allocator + Copy>(ctx: &mut Context<A>, var: Var)
     ensures removed { ctx.new ≡ record ctx.old { vsids = with_available var false ctx.old.vsids } }
     ensures not_decidable { slice_index_or ctx.old.assignment.current var None ≡ None → IsDecidable (view ctx.new) ctx.new.vsids var → ⊥ }
     ensures others { SameDecidableBut var (view ctx.old) ctx.old.vsids (view ctx.new) ctx.new.vsids }
-    ensures ready { ((c : Clause) → c ∈ kept (view ctx.old) → (l : Literal) → l ∈ c → variable_of l ≢ var) →
-        ((l : Literal) → l ∈ ctx.old.assumptions.working → variable_of l ≢ var) → IsReady ctx.new }
+    ensures ready { IsUnmentioned (kept (view ctx.old)) var → AreNotOf ctx.old.assumptions.working var → IsReady ctx.new }
 {
     ctx.vsids.make_unavailable(var);
 }

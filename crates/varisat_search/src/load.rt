@@ -1,9 +1,8 @@
 //! Loading of clauses.
-ghost use Rattle.std.specs.Prelude.{◌≡◌, ◌≢◌, [], ◌∷◌, Ok, Some, length, slice_get, replicate, ◌+◌, ◌*◌, ◌^◌, ◌<◌, ◌≤◌, false, OnOk, IfOk, IfErr, IsTrue, ◌↔◌, ◌⊎◌};
+ghost use Rattle.std.specs.Prelude.{◌≡◌, [], ◌∷◌, Ok, Some, length, slice_get, replicate, ◌+◌, ◌*◌, ◌<◌, ◌≤◌, false, OnOk, IfOk, IfErr, IsTrue, ◌↔◌};
 ghost use Rattle.varisat_theory.specs.Membership.{◌∈◌, SameSet, IsDistinct};
-ghost use Rattle.varisat_theory.specs.Literals.{Literal, Clause, variable_of, opposite};
+ghost use Rattle.varisat_theory.specs.Literals.{Literal, variable_of, opposite};
 ghost use Rattle.varisat_theory.specs.Searches.{IsTautology};
-ghost use Rattle.std.specs.List.Sorted.{IsPermutation};
 ghost use Rattle.varisat_theory.specs.Derivations.{Delete};
 ghost use Rattle.varisat_theory.specs.Outcomes.{Loads};
 ghost use Rattle.varisat_theory.specs.Outcomes as outcome;
@@ -12,13 +11,14 @@ ghost use Rattle.varisat_prop.specs.Parts.{IsMadeTrue};
 ghost use Rattle.varisat_prop.specs.Looks.{IsInRange};
 ghost use Rattle.varisat_prop.specs.View.{WellFormed, kept};
 ghost use Rattle.varisat_prop.specs.Watches.{IsPropagated};
-ghost use Rattle.varisat_search.specs.Contexts.{view, KeepsSchedule, IsReady};
-ghost use Rattle.varisat_search.specs.Steps.{SavesAll, reopened_state};
+ghost use Rattle.varisat_search.specs.Contexts.{view, IsNotUnsat, KeepsSchedule, IsReady};
+ghost use Rattle.varisat_search.specs.Steps.{IsPropagatedToEnd, SavesAll, reopened_state, IsVerdictAfter, accepted_with};
 ghost use Rattle.varisat_search.specs.Decisions.{AreDecidable};
 ghost use Rattle.varisat_search.specs.Frames.{ChangesLoaded, KeepsVariables};
-ghost use Rattle.varisat_search.specs.Loading.{HasFalseLiteral, IsHeadAfter, IsAdded, LoadsUnit, LoadsClause, loaded_outcome};
+ghost use Rattle.varisat_search.specs.Loading.{HasFalseLiteral, IsHeadAfter, IsAdded, LoadsUnit, DeletesInOrder, LoadsTo};
+ghost use Rattle.varisat_search.specs.Forgotten.{IsUnmentioned};
 ghost use Rattle.varisat_trace.specs.Traces.{TakesLines, BreaksOff, faults_of, CanTake, HoldsWith};
-ghost use Rattle.varisat_search.specs.StepErrors.{HasNoRoom, step_faults};
+ghost use Rattle.varisat_search.specs.StepErrors.{RefusesStoring, HasNoRoom, step_faults};
 ghost use Rattle.varisat_search.specs.Seen.{search_of};
 
 use crate::cdcl::first_of;
@@ -96,8 +96,7 @@ fn add_distinct<A: Allocator + Copy>(ctx: &mut Context<A>) -> Result<(), StoreEr
     ensures last { OnOk result (ctx.new.assignment.last ≡ ctx.old.assignment.last) }
     ensures added { OnOk result (IsAdded (view ctx.old)
         (view ctx.new) ctx.old.tmp_data.lits.items ctx.old.solver_state.sat_state ctx.new.solver_state.sat_state) }
-    ensures full { IfErr result (λ error. error ≡ StoreError.Full →
-        (2 ^ 32 ≤ length ctx.new.clause_alloc.words + 3 + length ctx.old.tmp_data.lits.items) × (ctx.new.assignment.current ≡ ctx.old.assignment.current)) }
+    ensures full { IfErr result (λ error. error ≡ StoreError.Full → RefusesStoring (length ctx.old.tmp_data.lits.items) ctx.old ctx.new) }
 {
     let Some(first) = first_of(&ctx.tmp_data.lits) else {
         ctx.solver_state.sat_state = SatState::Unsat;
@@ -139,7 +138,7 @@ fn trace_satisfied<P: ProofTracer>(proof: &mut P, lits: &mut [Lit]) -> Result<()
     requires { CanTake (P.holds proof.old) (Delete lits.old ∷ []) }
     ensures unit { OnOk result (length lits.old < 2 → TakesLines P.takes proof.old [] proof.new) }
     ensures longer { OnOk result (2 ≤ length lits.old →
-        IsPermutation lits.old lits.new × P.in_order proof.old lits.new × TakesLines P.takes proof.old (Delete lits.new ∷ []) proof.new) }
+        DeletesInOrder (P.in_order proof.old) (λ ls. TakesLines P.takes proof.old ls proof.new) lits.old lits.new) }
     ensures broken { IfErr result (λ error. BreaksOff P.breaks_off proof.old (faults_of error) proof.new) }
 {
     if lits.len() < 2 {
@@ -160,24 +159,21 @@ pub fn load_clause<A: Allocator + Copy, P: ProofTracer>(
     lits: &[Lit],
 ) -> Result<(), StepError>
     // The tracer may hold what fits the search and the clause itself.
-    requires holds { ctx.old.solver_state.sat_state ≢ SatState.Unsat → HoldsWith (P.holds proof.old) (search_of (view ctx.old)) lits.now }
+    requires holds { IsNotUnsat ctx.old → HoldsWith (P.holds proof.old) (search_of (view ctx.old)) lits.now }
     requires ready { IsReady ctx.old }
     requires in_range { IsInRange ctx.old.assignment.current lits.now }
     requires decidable { AreDecidable (view ctx.old) ctx.old.vsids lits.now }
     ensures ready { OnOk result (IsReady ctx.new) }
     ensures unsat { ctx.old.solver_state.sat_state ≡ SatState.Unsat → (result ≡ Ok tt) × (ctx.new ≡ ctx.old) × (proof.new ≡ proof.old) }
     // Under assumptions the verdict stays, unless it becomes Unsat.
-    ensures lines { OnOk result (ctx.old.solver_state.sat_state ≢ SatState.Unsat → LoadsClause
-        (P.in_order proof.old) (λ lines. TakesLines P.takes proof.old lines proof.new)
-        (search_of (view ctx.old)) (search_of (view ctx.new)) lits.now (loaded_outcome ctx.new.solver_state.sat_state)) }
-    ensures verdict { OnOk result ((ctx.new.solver_state.sat_state ≡ reopened_state ctx.old.solver_state.sat_state)
-        ⊎ (ctx.new.solver_state.sat_state ≡ SatState.Unsat)) }
-    ensures assumptions { OnOk result (ctx.old.solver_state.sat_state ≢ SatState.Unsat → ctx.new.assumptions ≡ record ctx.old.assumptions { levels = 0 }) }
+    ensures lines { OnOk result (IsNotUnsat ctx.old →
+        LoadsTo (P.in_order proof.old) (λ ls. TakesLines P.takes proof.old ls proof.new) lits.now ctx.old ctx.new) }
+    ensures verdict { OnOk result (IsVerdictAfter ctx.old.solver_state.sat_state ctx.new.solver_state.sat_state) }
+    ensures assumptions { OnOk result (IsNotUnsat ctx.old → ctx.new.assumptions ≡ record ctx.old.assumptions { levels = 0 }) }
     ensures keeps { OnOk result (KeepsVariables ctx.old ctx.new) }
-    ensures last { OnOk result (ctx.old.solver_state.sat_state ≢ SatState.Unsat → SavesAll (view ctx.old) ctx.old.assignment.last ctx.new.assignment.last) }
-    ensures state { OnOk result (ctx.old.solver_state.sat_state ≢ SatState.Unsat →
-        ctx.new.solver_state ≡ record ctx.old.solver_state { sat_state = ctx.new.solver_state.sat_state; formula_is_empty = false }) }
-    ensures undecided { OnOk result (ctx.old.solver_state.sat_state ≢ SatState.Unsat → ctx.new.trail.decisions ≡ []) }
+    ensures last { OnOk result (IsNotUnsat ctx.old → SavesAll (view ctx.old) ctx.old.assignment.last ctx.new.assignment.last) }
+    ensures state { OnOk result (IsNotUnsat ctx.old → ctx.new.solver_state ≡ accepted_with ctx.new.solver_state.sat_state ctx.old.solver_state) }
+    ensures undecided { OnOk result (IsNotUnsat ctx.old → ctx.new.trail.decisions ≡ []) }
     ensures single { OnOk result ((l : Literal) → lits.now ≡ l ∷ [] → LoadsUnit (view ctx.old) (view ctx.new) l) }
     ensures schedule { KeepsSchedule ctx.old ctx.new }
     // The store is full only where it has no room for a clause of all variables.
@@ -207,7 +203,7 @@ fn skip_unmentioned<A: Allocator + Copy>(ctx: &mut Context<A>, lit: Lit)
     requires ready { IsReady ctx.old }
     requires undecided { ctx.old.trail.decisions ≡ [] }
     requires head { slice_get ctx.old.trail.literals ctx.old.trail.queue_head ≡ Some lit }
-    requires unmentioned { (c : Clause) → c ∈ kept (view ctx.old) → (m : Literal) → m ∈ c → variable_of m ≢ variable_of lit }
+    requires unmentioned { IsUnmentioned (kept (view ctx.old)) (variable_of lit) }
     ensures ready { IsReady ctx.new }
     ensures kept { ctx.new ≡ record ctx.old { trail = record ctx.old.trail { queue_head = ctx.old.trail.queue_head + 1 } } }
 {
@@ -221,19 +217,18 @@ pub fn resurrect_unit<A: Allocator + Copy>(ctx: &mut Context<A>, lit: Lit) -> Re
     requires in_range { IsInRange ctx.old.assignment.current (lit ∷ []) }
     requires decidable { AreDecidable (view ctx.old) ctx.old.vsids (lit ∷ []) }
     requires unopposed { opposite lit ∈ (search_of (view ctx.old)).fixed → ⊥ }
-    requires unmentioned { (c : Clause) → c ∈ kept (view ctx.old) → (m : Literal) → m ∈ c → variable_of m ≢ variable_of lit }
+    requires unmentioned { IsUnmentioned (kept (view ctx.old)) (variable_of lit) }
     ensures ready { OnOk result (IsReady ctx.new) }
     ensures unsat { ctx.old.solver_state.sat_state ≡ SatState.Unsat → ctx.new ≡ ctx.old }
     // Its unit clause is held again, and the verdict is not Unsat.
-    ensures lines { OnOk result (ctx.old.solver_state.sat_state ≢ SatState.Unsat →
+    ensures lines { OnOk result (IsNotUnsat ctx.old →
         Loads (search_of (view ctx.old)) (search_of (view ctx.new)) (lit ∷ []) outcome.Unknown []) }
-    ensures state { OnOk result (ctx.old.solver_state.sat_state ≢ SatState.Unsat →
-        ctx.new.solver_state ≡ record ctx.old.solver_state { sat_state = reopened_state ctx.old.solver_state.sat_state; formula_is_empty = false }) }
-    ensures assumptions { OnOk result (ctx.old.solver_state.sat_state ≢ SatState.Unsat → ctx.new.assumptions ≡ record ctx.old.assumptions { levels = 0 }) }
+    ensures state { OnOk result (IsNotUnsat ctx.old →
+        ctx.new.solver_state ≡ accepted_with (reopened_state ctx.old.solver_state.sat_state) ctx.old.solver_state) }
+    ensures assumptions { OnOk result (IsNotUnsat ctx.old → ctx.new.assumptions ≡ record ctx.old.assumptions { levels = 0 }) }
     ensures keeps { OnOk result (KeepsVariables ctx.old ctx.new) }
     // Where all was propagated at level 0, all is.
-    ensures quiet { OnOk result (ctx.old.solver_state.sat_state ≢ SatState.Unsat → ctx.old.trail.decisions ≡ [] →
-        ctx.old.trail.queue_head ≡ length ctx.old.trail.literals → ctx.new.trail.queue_head ≡ length ctx.new.trail.literals) }
+    ensures quiet { OnOk result (IsNotUnsat ctx.old → ctx.old.trail.decisions ≡ [] → IsPropagatedToEnd (view ctx.old) → IsPropagatedToEnd (view ctx.new)) }
     ensures schedule { KeepsSchedule ctx.old ctx.new }
 {
     if let SatState::Unsat = ctx.solver_state.sat_state {

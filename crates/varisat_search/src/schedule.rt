@@ -1,16 +1,16 @@
 //! The steps of a search by its schedule.
 ghost use Rattle.std.specs.Prelude.{◌≡◌, ◌-◌, ◌^◌, ◌<◌, List, [], length, OnOk, OnErr, IfErr};
 ghost use Rattle.varisat_prop.specs.View.{kinds};
-ghost use Rattle.varisat_schedule.specs.Plans.{step_begun, next_plan};
+ghost use Rattle.varisat_schedule.specs.Plans.{next_plan};
 ghost use Rattle.varisat_schedule.specs.CallSteps.{IsPlannedStep};
 ghost use Rattle.varisat_search.specs.AssumptionParts.{KeepsAssumptions};
 ghost use Rattle.varisat_search.specs.Contexts.{view, IsReady};
-ghost use Rattle.varisat_search.specs.Frames.{ChangesPlaces, ChangesStore, ChangesTiers, KeepsVariables};
+ghost use Rattle.varisat_search.specs.Frames.{ChangesBegun, ChangesReduced, ChangesPlaces, ChangesStore, ChangesTiers, KeepsVariables};
 ghost use Rattle.varisat_search.specs.Decisions.{SameDecidable};
-ghost use Rattle.varisat_search.specs.Progress.{outcome_at, StepsTo};
+ghost use Rattle.varisat_search.specs.Progress.{outcome_at};
 ghost use Rattle.varisat_search.specs.FoundCores.{HasCoreIfFailed};
 ghost use Rattle.varisat_search.specs.Restarts.{RestartsIfDue, SavesIfDue, RestartsAndRemembers};
-ghost use Rattle.varisat_search.specs.DueReductions.{ReducesLocalsIfDue, ReducesMidsIfDue, ReducesIfDue, KeepsSearch, BeginsStep, GoesBySchedule};
+ghost use Rattle.varisat_search.specs.DueReductions.{ReducesLocalsIfDue, ReducesMidsIfDue, ReducesIfDue, KeepsSearch, BeginsStep, StepsBySchedule};
 ghost use Rattle.varisat_search.specs.StepErrors.{HasNoRoom, step_faults};
 ghost use Rattle.varisat_search.specs.Seen.{search_of};
 ghost use Rattle.varisat_trace.specs.Traces.{TakesLines, TakesStep, BreaksOff, faults_of, HoldsFor};
@@ -38,13 +38,7 @@ fn restart_if_due<A: Allocator + Copy>(ctx: &mut Context<A>)
     ensures decidable { SameDecidable (view ctx.old) ctx.old.vsids (view ctx.new) ctx.new.vsids }
     ensures later { ctx.new.schedule.steps < ctx.new.schedule.next_restart }
     ensures decay { ctx.new.vsids.decay ≡ ctx.old.vsids.decay }
-    ensures kept { ctx.new ≡ record ctx.old {
-      assignment = ctx.new.assignment;
-      counters = ctx.new.counters;
-      trail = ctx.new.trail;
-      vsids = ctx.new.vsids;
-      schedule = step_begun ctx.old.solver_config.luby_restart_interval_scale ctx.old.schedule;
-    } }
+    ensures kept { ChangesBegun ctx.old ctx.new }
 {
     let scale = ctx.solver_config.luby_restart_interval_scale();
     if !ctx.schedule.begin_step(scale) {
@@ -118,17 +112,7 @@ pub fn begin_step<A: Allocator + Copy, P: ProofTracer>(
     ensures begins { OnOk result (BeginsStep (λ lines. TakesLines P.takes proof.old lines proof.new) ctx.old ctx.new) }
     ensures holds { OnOk result (HoldsFor (P.holds proof.new) (search_of (view ctx.new))) }
     ensures later { ctx.new.schedule.steps < ctx.new.schedule.next_restart }
-    ensures kept { ctx.new ≡ record ctx.old {
-      assignment = ctx.new.assignment;
-      clause_alloc = ctx.new.clause_alloc;
-      clause_db = ctx.new.clause_db;
-      counters = ctx.new.counters;
-      impl_graph = ctx.new.impl_graph;
-      schedule = step_begun ctx.old.solver_config.luby_restart_interval_scale ctx.old.schedule;
-      trail = ctx.new.trail;
-      vsids = ctx.new.vsids;
-      watchlists = ctx.new.watchlists;
-    } }
+    ensures kept { ChangesReduced ctx.old ctx.new }
     ensures broken { IfErr result (λ error. BreaksOff P.breaks_off proof.old (faults_of error) proof.new) }
 {
     restart_if_due(ctx);
@@ -149,9 +133,7 @@ pub fn schedule_step<A: Allocator + Copy, P: ProofTracer>(
     requires counted { ctx.old.schedule.steps < 2 ^ 64 - 1 }
     ensures ready { OnOk result (IsReady ctx.new) }
     // The tracer took the lines of the step, in the order of its parts, and then the core, where assumptions failed.
-    ensures steps { OnOk result (StepsTo
-        (λ lines. GoesBySchedule lines ctx.old ctx.new × TakesStep P.takes proof.old lines (outcome_at ctx.new) proof.new)
-        ctx.old ctx.new) }
+    ensures steps { OnOk result (StepsBySchedule (λ lines. TakesStep P.takes proof.old lines (outcome_at ctx.new) proof.new) ctx.old ctx.new) }
     ensures assumes { OnOk result (KeepsAssumptions (search_of (view ctx.old)) (outcome_at ctx.new) ctx.old.assumptions ctx.new.assumptions) }
     ensures core { OnOk result (HasCoreIfFailed ctx.new) }
     ensures rises { OnOk result (ctx.new.solver_state.sat_state ≡ SatState.Unknown →

@@ -1,7 +1,6 @@
 //! Solver variables, which variables take once a clause or an assumption names them.
 ghost use Rattle.std.specs.Prelude.{◌≡◌, ◌≢◌, ◌<◌, None, false, length, slice_index_or, IsSome, OnOk, IfOk, OnErr, MatchOption};
-ghost use Rattle.varisat_theory.specs.Membership.{◌∈◌};
-ghost use Rattle.varisat_theory.specs.Literals.{Clause, Literal, variable_of, literal_of};
+ghost use Rattle.varisat_theory.specs.Literals.{Literal, variable_of, literal_of};
 ghost use Rattle.varisat_theory.specs.Searches.{IsLiteralOf};
 ghost use Rattle.varisat_literals.specs.Numbers.{variable_limit};
 ghost use Rattle.varisat_names.specs.Maps.{chain};
@@ -12,8 +11,9 @@ ghost use Rattle.varisat_prop.specs.View.{kept};
 ghost use Rattle.varisat_vsids.specs.Activities.{with_available};
 ghost use Rattle.varisat_search.specs.Contexts.{view, IsReady, KeepsSchedule};
 ghost use Rattle.varisat_search.specs.Decisions.{IsDecidable, SameDecidableBut};
+ghost use Rattle.varisat_search.specs.Forgotten.{AreNotOf, IsUnmentioned};
 ghost use Rattle.varisat_search.specs.Seen.{search_of};
-ghost use Rattle.varisat_search.specs.SolverVariables.{HasRoom, HasRoomFor, HasVariables, KeepsSeen, HasUnitAgain, HasSolverVariable, NameHasSolver, HaveSolversInTurn, AreOver};
+ghost use Rattle.varisat_search.specs.SolverVariables.{HasRoom, HasRoomFor, searched_with, HasVariables, KeepsSeen, HasUnitAgain, HasSolverVariable, NameHasSolver, HaveSolversInTurn, AreOver};
 
 use crate::context::Context;
 use crate::decision::{add_variables, make_available, remove_var};
@@ -55,11 +55,10 @@ pub fn solver_from_global<A: Allocator + Copy>(
     variables: &mut LinkedVariables<A>,
     global: Var,
 ) -> Result<Var, AllocError>
-    requires variables { HasVariables (record { tables = variables.old; context = ctx.old }) }
+    requires variables { HasVariables (searched_with variables.old ctx.old) }
     requires live { (kept_at variables.old.kept global).deleted ≡ false }
-    ensures variables { OnOk result (HasVariables (record { tables = variables.new; context = ctx.new })) }
-    ensures solver { IfOk result (HasSolverVariable global (record { tables = variables.old; context = ctx.old })
-        (record { tables = variables.new; context = ctx.new })) }
+    ensures variables { OnOk result (HasVariables (searched_with variables.new ctx.new)) }
+    ensures solver { IfOk result (HasSolverVariable global (searched_with variables.old ctx.old) (searched_with variables.new ctx.new)) }
     ensures schedule { KeepsSchedule ctx.old ctx.new }
 {
     if let Some(solver) = variables.solver_from_global().get(global) {
@@ -79,11 +78,10 @@ pub fn solver_from_user<A: Allocator + Copy>(
     variables: &mut LinkedVariables<A>,
     user: Var,
 ) -> Result<Var, AllocError>
-    requires variables { HasVariables (record { tables = variables.old; context = ctx.old }) }
+    requires variables { HasVariables (searched_with variables.old ctx.old) }
     requires in_range { user < variable_limit }
     requires room { (mid : Tables) → IsNamed user variables.old mid → HasRoom mid }
-    ensures solver { IfOk result (NameHasSolver user (record { tables = variables.old; context = ctx.old })
-        (record { tables = variables.new; context = ctx.new })) }
+    ensures solver { IfOk result (NameHasSolver user (searched_with variables.old ctx.old) (searched_with variables.new ctx.new)) }
     ensures schedule { KeepsSchedule ctx.old ctx.new }
 {
     let global = global_from_user(variables, user)?;
@@ -100,11 +98,10 @@ pub fn solver_from_user_lits<A: Allocator + Copy>(
     solver_lits: &mut Vec<Lit, A>,
     user_lits: &[Lit],
 ) -> Result<(), AllocError>
-    requires variables { HasVariables (record { tables = variables.old; context = ctx.old }) }
+    requires variables { HasVariables (searched_with variables.old ctx.old) }
     requires room { HasRoomFor user_lits.now variables.old }
-    ensures variables { OnOk result (HasVariables (record { tables = variables.new; context = ctx.new })) }
-    ensures in_turn { OnOk result (HaveSolversInTurn user_lits.now (record { tables = variables.old; context = ctx.old })
-        (record { tables = variables.new; context = ctx.new })) }
+    ensures variables { OnOk result (HasVariables (searched_with variables.new ctx.new)) }
+    ensures in_turn { OnOk result (HaveSolversInTurn user_lits.now (searched_with variables.old ctx.old) (searched_with variables.new ctx.new)) }
     ensures literals { OnOk result (AreOver (chain (at variables.new.users.forward) (at variables.new.solvers.forward)) user_lits.now solver_lits.new.items) }
     ensures schedule { KeepsSchedule ctx.old ctx.new }
 {
@@ -131,8 +128,7 @@ pub fn remove_solver_var<A: Allocator + Copy>(
     ensures removed { OnOk result (ctx.new ≡ record ctx.old { vsids = with_available solver false ctx.old.vsids }) }
     ensures not_decidable { OnOk result (slice_index_or ctx.old.assignment.current solver None ≡ None → IsDecidable (view ctx.new) ctx.new.vsids solver → ⊥) }
     ensures others { OnOk result (SameDecidableBut solver (view ctx.old) ctx.old.vsids (view ctx.new) ctx.new.vsids) }
-    ensures ready { OnOk result (((c : Clause) → c ∈ kept (view ctx.old) → (l : Literal) → l ∈ c → variable_of l ≢ solver) →
-        ((l : Literal) → l ∈ ctx.old.assumptions.working → variable_of l ≢ solver) → IsReady ctx.new) }
+    ensures ready { OnOk result (IsUnmentioned (kept (view ctx.old)) solver → AreNotOf ctx.old.assumptions.working solver → IsReady ctx.new) }
     ensures refused { OnErr result ((variables.new ≡ variables.old) × (ctx.new ≡ ctx.old)) }
 {
     let global = variables.drop_solver_var(solver)?;

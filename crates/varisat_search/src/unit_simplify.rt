@@ -2,20 +2,20 @@
 ghost use Rattle.std.specs.Prelude.{◌≡◌, ◌≢◌, ◌<◌, ◌≤◌, ◌↔◌, ◌++◌, IsTrue, None, false, [], length, drop, slice_index_or, OnOk, OnErr, IfOk, IfErr};
 ghost use Rattle.varisat_theory.specs.Membership.{◌∈◌};
 ghost use Rattle.varisat_theory.specs.Literals.{Literal, Clause, variable_of};
-ghost use Rattle.varisat_theory.specs.Outcomes.{Proves};
 ghost use Rattle.varisat_theory.specs.StepLaws.{unit_lines};
-ghost use Rattle.varisat_clause.specs.Stored.{IsPlace, stored_at, literals_at, with_stored};
+ghost use Rattle.varisat_clause.specs.Stored.{IsPlace, literals_at};
 ghost use Rattle.varisat_clause.specs.Stores.{stored_clauses, IsSound, HoldsClauses};
 ghost use Rattle.varisat_prop.specs.Looks.{IsInRange};
 ghost use Rattle.varisat_prop.specs.Simplified.{without_assigned};
 ghost use Rattle.varisat_search.specs.Contexts.{view, IsReady};
 ghost use Rattle.varisat_search.specs.Frames.{ChangesClauses};
 ghost use Rattle.varisat_search.specs.Decisions.{SameDecidable};
+ghost use Rattle.varisat_search.specs.Progress.{ProvesTo};
 ghost use Rattle.varisat_search.specs.Seen.{search_of};
 ghost use Rattle.varisat_search.specs.SettledUnits.{CanSimplify};
 ghost use Rattle.varisat_search.specs.ProvedUnits.{units_in, implied_units, HaveUnits, ProvesUnits};
 ghost use Rattle.varisat_trace.specs.Traces.{TakesLines, BreaksOff, faults_of, CanTake, HoldsFor};
-ghost use Rattle.varisat_search.specs.Simplifications.{unassigned, shortened_to, with_pairs, IsSimplified, pair_lines, clause_lines, IsPairIn, IsLeftOpen, LeavesOpen};
+ghost use Rattle.varisat_search.specs.Simplifications.{unassigned, with_shortened, with_pairs, IsSimplified, pair_lines, clause_lines, IsPairIn, IsLeftOpen, LeavesOpen};
 
 use crate::context::Context;
 use crate::trace::{copy_unassigned, trace_pairs, trace_stored, trace_units};
@@ -49,8 +49,7 @@ pub fn prove_units<A: Allocator + Copy, P: ProofTracer>(
     requires holds { HoldsFor (P.holds proof.old) (search_of (view ctx.old)) }
     ensures found { IfOk result (λ found. IsTrue found ↔ ((ctx.old.trail.decisions ≡ []) × (0 < length ctx.old.trail.literals))) }
     ensures proved { OnOk result (ctx.old.trail.decisions ≡ [] → ProvesUnits (view ctx.old) (view ctx.new)) }
-    ensures proves { OnOk result (ctx.old.trail.decisions ≡ [] →
-        Proves 0 (search_of (view ctx.old)) (search_of (view ctx.new)) (unit_lines (implied_units (view ctx.old)))) }
+    ensures proves { OnOk result (ctx.old.trail.decisions ≡ [] → ProvesTo (unit_lines (implied_units (view ctx.old))) ctx.old ctx.new) }
     ensures takes { OnOk result (ctx.old.trail.decisions ≡ [] → TakesLines P.takes proof.old (unit_lines (implied_units (view ctx.old))) proof.new) }
     ensures stays { 0 < length ctx.old.trail.decisions → (ctx.new ≡ ctx.old) × (proof.new ≡ proof.old) }
     ensures failed { OnErr result (ctx.new ≡ ctx.old) }
@@ -80,8 +79,7 @@ fn shrink<A: Allocator + Copy>(alloc: &mut ClauseAlloc<A>, cref: ClauseRef, left
     requires place { IsPlace (stored_clauses alloc.old) cref }
     requires least { 3 ≤ length left.now }
     requires most { length left.now ≤ length (literals_at (stored_clauses alloc.old) cref) }
-    ensures { HoldsClauses alloc.new (length alloc.old.words)
-        (with_stored (stored_clauses alloc.old) cref (shortened_to left.now (stored_at (stored_clauses alloc.old) cref))) }
+    ensures { HoldsClauses alloc.new (length alloc.old.words) (with_shortened (stored_clauses alloc.old) cref left.now) }
 {
     write_front(alloc.lits_mut(cref), left);
     alloc.shorten(cref, left.len());
@@ -159,7 +157,7 @@ pub fn simplify_binary<A: Allocator + Copy, P: ProofTracer>(
     requires can { CanSimplify ctx.old }
     requires holds { HoldsFor (P.holds proof.old) (search_of (view ctx.old)) }
     ensures simplified { OnOk result (ctx.new.binary_clauses ≡ without_assigned ctx.old.assignment.current ctx.old.binary_clauses) }
-    ensures proves { OnOk result (Proves 0 (search_of (view ctx.old)) (search_of (view ctx.new)) (pair_lines (view ctx.old))) }
+    ensures proves { OnOk result (ProvesTo (pair_lines (view ctx.old)) ctx.old ctx.new) }
     ensures takes { OnOk result (TakesLines P.takes proof.old (pair_lines (view ctx.old)) proof.new) }
     ensures ready { OnOk result (IsReady ctx.new) }
     ensures failed { OnErr result (ctx.new ≡ ctx.old) }
@@ -183,7 +181,7 @@ fn simplify_stored<A: Allocator + Copy, P: ProofTracer>(
     requires left { without_assigned ctx.old.assignment.current ctx.old.binary_clauses ≡ ctx.old.binary_clauses }
     ensures simplified { OnOk result (IsSimplified (view ctx.old) (view ctx.new)) }
     ensures off { OnOk result (ctx.new.watchlists.enabled ≡ false) }
-    ensures proves { OnOk result (Proves 0 (search_of (view ctx.old)) (search_of (view ctx.new)) (clause_lines (view ctx.old))) }
+    ensures proves { OnOk result (ProvesTo (clause_lines (view ctx.old)) ctx.old ctx.new) }
     ensures takes { OnOk result (TakesLines P.takes proof.old (clause_lines (view ctx.old)) proof.new) }
     ensures ready { OnOk result (IsReady ctx.new) }
     ensures decidable { OnOk result (SameDecidable (view ctx.old) ctx.old.vsids (view ctx.new) ctx.new.vsids) }
@@ -216,7 +214,7 @@ pub fn unit_simplify<A: Allocator + Copy, P: ProofTracer>(
     requires holds { HoldsFor (P.holds proof.old) (search_of (view ctx.old)) }
     ensures simplified { OnOk result (IsSimplified (view ctx.old) (view ctx.new)) }
     ensures off { OnOk result (ctx.new.watchlists.enabled ≡ false) }
-    ensures proves { OnOk result (Proves 0 (search_of (view ctx.old)) (search_of (view ctx.new)) (pair_lines (view ctx.old) ++ clause_lines (view ctx.old))) }
+    ensures proves { OnOk result (ProvesTo (pair_lines (view ctx.old) ++ clause_lines (view ctx.old)) ctx.old ctx.new) }
     ensures takes { OnOk result (TakesLines P.takes proof.old (pair_lines (view ctx.old) ++ clause_lines (view ctx.old)) proof.new) }
     ensures ready { OnOk result (IsReady ctx.new) }
     ensures decidable { OnOk result (SameDecidable (view ctx.old) ctx.old.vsids (view ctx.new) ctx.new.vsids) }

@@ -1,4 +1,4 @@
-use Rattle.std.proofs.Common.{◌≡◌, length, sym, ap, ◌∙◌, subst, arith}
+use Rattle.std.proofs.Common.{length, ap, ◌∙◌, subst, arith}
 use Rattle.varisat_theory.specs.Membership.{◌∈◌}
 use Rattle.varisat_vsids.specs.Activities.{Activities, decayed}
 use Rattle.varisat_search.specs.Contexts.{view}

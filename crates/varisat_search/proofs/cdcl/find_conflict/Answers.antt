@@ -1,9 +1,8 @@
-use Rattle.std.proofs.Common.{refl, ap, ◌∙◌, arith}
+use Rattle.std.proofs.Common.{refl, ◌∙◌, arith}
 use Rattle.varisat_prop.specs.View.{GrowsTrail}
 use Rattle.varisat_prop.proofs.ViewGrowth.{grows-refl, grows-trans, grows-longer}
 use Rattle.varisat_prop.proofs.TrailValues.{trail-short}
 use Rattle.varisat_search.specs.declared.context.Context.{Context}
-use Rattle.varisat_vsids.specs.Activities.{Activities}
 use Rattle.varisat_search.specs.Contexts.{view, IsReady}
 use Rattle.varisat_search.specs.Frames.{GoesForward}
 use Rattle.varisat_search.proofs.AssumedTruths.{takes-refl, takes-trans}

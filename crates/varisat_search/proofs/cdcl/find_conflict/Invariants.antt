@@ -1,4 +1,4 @@
-use Rattle.std.proofs.Common.{◌≡◌, ◌-◌, length}
+use Rattle.std.proofs.Common.{◌-◌, length}
 use Rattle.varisat_prop.specs.View.{GrowsTrail}
 use Rattle.varisat_search.specs.AssumptionParts.{TakesOutImplied}
 use Rattle.varisat_search.specs.Contexts.{view, KeepsSchedule, IsReady}

@@ -1,6 +1,5 @@
 use Rattle.varisat_trace.proofs.Broken.{error-broken}
-use Rattle.std.proofs.Common.{List, refl, sym, subst}
-use Rattle.varisat_theory.specs.Derivations.{Line}
+use Rattle.std.proofs.Common.{refl, sym, subst}
 use Rattle.varisat_search.specs.declared.context.Context.{Context}
 use Rattle.varisat_search.specs.Contexts.{view}
 use Rattle.varisat_search.specs.Frames.{ChangesRestarted}

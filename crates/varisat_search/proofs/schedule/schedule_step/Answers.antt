@@ -5,7 +5,6 @@ use Rattle.varisat_theory.specs.Derivations.{Line}
 use Rattle.varisat_theory.specs.Outcomes.{Proves, Steps}
 use Rattle.varisat_schedule.specs.Plans.{Plan}
 use Rattle.varisat_search.specs.declared.context.Context.{Context}
-use Rattle.varisat_search.specs.AssumptionParts.{AssumptionParts}
 use Rattle.varisat_search.specs.Contexts.{view}
 use Rattle.varisat_search.specs.Progress.{outcome_at}
 use Rattle.varisat_search.specs.Seen.{search_of}

@@ -1,5 +1,5 @@
 use Rattle.std.proofs.lemmas.Grind.{common_steps}
-use Rattle.std.proofs.Common.{ℕ, ◌≢◌, None, get_or, refl, arith}
+use Rattle.std.proofs.Common.{◌≢◌, None, get_or, arith}
 use Rattle.varisat_theory.specs.Literals.{variable_of}
 use Rattle.varisat_prop.proofs.ReadElements.{item-∈}
 use Rattle.varisat_analysis.proofs.FoundLiterals.{one-found, none-so-far}

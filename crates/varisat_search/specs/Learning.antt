@@ -1,0 +1,34 @@
+-- What a conflict that is learned from does to activities, and where the learned clause is stored.
+use Rattle.std.specs.Prelude.{◌≡◌, List}
+use Rattle.varisat_prop.specs.declared.prop.graph.Reason.{Reason}
+use Rattle.varisat_prop.specs.declared.prop.graph.Conflict.{Conflict}
+use Rattle.varisat_prop.specs.View.{View}
+use Rattle.varisat_clause.specs.Stores.{Store}
+use Rattle.varisat_analysis.specs.Learned.{Analysis}
+use Rattle.varisat_analysis.specs.Bumps.{literals_among, AreVariablesAbove, BumpsInvolved}
+use Rattle.varisat_analysis.specs.Assessments.{glue_of, assessed, BumpsClauses}
+use Rattle.varisat_vsids.specs.Activities.{Activities}
+use Rattle.varisat_search.specs.declared.context.Context.{Context}
+use Rattle.varisat_search.specs.Contexts.{view}
+use Rattle.varisat_search.specs.Conflicts.{IsStoredAsReason}
+
+-- analysis met each variable above level 0 of the clauses that it went over, once
+abbrev pub HasMet : View → Analysis → Type 0
+HasMet s x = AreVariablesAbove s.nodes (literals_among s.clauses x.involved) x.met
+
+-- These variables are bumped, and activities decay. Which variables are available is left open.
+abbrev pub BumpsVariables : {A : Type 0} → Context A → Context A → Type 0
+BumpsVariables x y =
+    (b : Activities) × BumpsInvolved (view x) y.analyze_conflict.involved x.vsids b × (y.vsids ≡ record b { available = y.vsids.available })
+
+-- the named clauses of the store are bumped by the levels at the conflict, and activities decay
+abbrev pub BumpsStored : {A : Type 0} → List Conflict → Context A → Context A → Type 0
+BumpsStored names x y = BumpsClauses x.impl_graph.nodes.items names x.clause_alloc y.clause_alloc x.clause_activity y.clause_activity
+
+-- The clauses that analysis went over are bumped in the store, and then the learned one has the glue of the conflict, and its tier.
+abbrev pub BumpsAndStores : {A : Type 0} → Context A → Context A → Type 0
+BumpsAndStores x y =
+    (s : Store)
+    × BumpsClauses x.impl_graph.nodes.items y.analyze_conflict.involved x.clause_alloc s x.clause_activity y.clause_activity
+    × ((r : Reason) × IsStoredAsReason s y.clause_alloc
+    (assessed (glue_of x.impl_graph.nodes.items y.analyze_conflict.clause)) y.analyze_conflict.clause r)

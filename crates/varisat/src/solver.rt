@@ -306,9 +306,10 @@ impl<W: ProofTarget, A: Allocator + Copy> Solver<W, A> {
         self.changed_at = self.ctx.schedule.steps();
     }
 
-    /// One above the highest variable that the search ever had. As `solve` begins with units that it has not propagated
-    /// yet, variables leave the search whose values are fixed, unless they are assumed, and hidden ones that no clause
-    /// names that it still keeps. The next variable that clauses or assumptions name takes the place of one of them.
+    /// One above the highest variable that the search ever had. As a step of `solve` begins at level 0 with literals that
+    /// are not propagated yet, variables leave the search whose values are fixed, unless they are assumed, and hidden ones
+    /// that no clause names that it still keeps. The next variable that clauses or assumptions name takes the place of one
+    /// of them.
     pub fn solver_watermark(&self) -> usize
         ensures { result ≡ length self.now.tables.solvers.backward }
     {

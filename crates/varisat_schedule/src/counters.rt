@@ -1,4 +1,5 @@
-//! What is counted of a search. No contract reads it, so that each number costs a field and the line that counts.
+//! What is counted of a search. Contracts read `removed_units` alone, so that any other number costs a field and the
+//! line that counts.
 ghost use Rattle.std.specs.Prelude.{◌≡◌, ◌+◌, ◌-◌, ◌^◌, min};
 
 /// How often a search did what. A number stays at 2^64-1 once it is there. It takes no memory.

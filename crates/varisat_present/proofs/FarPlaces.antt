@@ -3,12 +3,26 @@ use Rattle.std.specs.BTreeMap.{BTreeMap, get, Updates, is_at}
 use Rattle.std.specs.Ordering.{nat_cmp, is_eq}
 use Rattle.std.specs.Cmp.{nat_cmp_is}
 use Rattle.std.specs.declared.cmp.Ordering.TheVariants.{Less, Greater}
-use Rattle.std.proofs.Common.{◌≡◌, ℕ, ◌<◌, ◌≤◌, false, List, [], ◌∷◌, ◌++◌, ◌⊎◌, Option, Some, None, length, take, get_or, sym, ap, ◌∙◌, subst, ⊎_elim, arith}
+use Rattle.std.proofs.Common.{◌≡◌, ℕ, zero, suc, ◌+◌, ◌<◌, ◌≤◌, false, List, [], ◌∷◌, ◌++◌, ◌⊎◌, Option, Some, None, length, take, get_or, sym, ap, ◌∙◌, subst, ⊎_elim, arith, length-append}
 use Rattle.std.proofs.lemmas.List.{get_or_append_left, get_or_at, get_or-take}
 use Rattle.varisat_theory.specs.Membership.{◌∈◌}
 use Rattle.varisat_theory.proofs.Places.{∈-get_or, place_in}
 use Rattle.varisat_present.specs.Places.{AreFarPlaced, place_limit}
-use Rattle.varisat_present.proofs.KnownPlaces.{cases, take_short}
+
+take_short : (n : ℕ) (xs : List ℕ) (k : ℕ) → k < length (take n xs) → (k < n) × (k < length xs)
+take_short zero xs k h = absurd (omega arith)
+take_short (suc n) [] k h = absurd (omega arith)
+take_short (suc n) (x ∷ xs) zero h = (omega arith, omega arith)
+take_short (suc n) (x ∷ xs) (suc k) h = let (a, b) = take_short n xs k (omega arith) in (omega (arith, a), omega (arith, b))
+
+cases : (xs : List ℕ) (l k : ℕ) → k < length (xs ++ (l ∷ [])) → (k < length xs) ⊎ (length xs ≡ k)
+cases xs l k h = let m = length-append xs (l ∷ []) in split (length xs) (length (xs ++ (l ∷ []))) k h m
+  where
+    split : (a b k : ℕ) → k < b → b ≡ a + 1 → (k < a) ⊎ (a ≡ k)
+    split a b k h e = grind arith
+
+pub held_there : (xs : List ℕ) (l p v : ℕ) → p < length xs → v ≡ get_or xs p v → v ≡ l → l ∈ xs
+held_there xs l p v h g e = subst (λ x. x ∈ xs) (sym g ∙ e) (∈-get_or xs p v h)
 
 pub far_none : (m : BTreeMap ℕ ℕ) → AreFarPlaced [] m
 far_none m k h s = absurd (omega arith)

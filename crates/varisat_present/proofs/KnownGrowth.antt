@@ -155,6 +155,13 @@ round_false P first known known' passed c i r w =
       rest = λ e. absurd cc;
     }
 
+-- one clause alone
+pub passed_finds : (P : List Clause) (old new : List Literal) (c : Clause) (found : Bool) → (HasClash old → ⊥) → c ∈ P → IsPassed c old found new →
+    Finds P old found new
+passed_finds P old new c true n i w = subst (λ (k : List Literal). Finds P old true k) (sym w.0) (finds_conflict P old n (FalseClause c i w.1))
+passed_finds P old new c false n i (inl w) = subst (λ (k : List Literal). Finds P old false k) (sym w.0) (finds_none P old n)
+passed_finds P old new c false n i (inr (l, j, u, o, m, f)) = finds_no_more P old new (grows_by P old new c l n i j o u f)
+
 pub round_end : (P : List Clause) (first known : List Literal) (passed : List Clause) → passed ≡ P → Round P first known passed → Passes P first false known
 round_end P first known passed e r = record {
   finds = finds_no_more P first known r.grows;

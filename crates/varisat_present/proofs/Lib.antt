@@ -1,7 +1,7 @@
 pub mod Elements
 pub mod MarkedLists
 pub mod Mentions
-pub mod KnownPlaces
+pub mod KnownMarks
 pub mod FarPlaces
 pub mod PlacedClauses
 pub mod KnownGrowth

@@ -9,10 +9,10 @@ use Rattle.varisat_present.specs.Visits.{IsLook}
 
 pub look_grows : (P : List Clause) (old new : List Literal) (look : Looked) → IsLook P old look new → GrowsKnown P old new
 look_grows P old new looked.Conflict f = f.grows
-look_grows P old new looked.Stays f = f.grows
+look_grows P old new (looked.Stays l) f = f.grows
 look_grows P old new looked.Gone f = f.grows
 
 pub look_conflict : (P : List Clause) (old new : List Literal) (look : Looked) → look ≡ looked.Conflict → IsLook P old look new → Conflicts P new
 look_conflict P old new looked.Conflict e f = f.conflict refl
-look_conflict P old new looked.Stays e f = absurd cc
+look_conflict P old new (looked.Stays l) e f = absurd cc
 look_conflict P old new looked.Gone e f = absurd cc

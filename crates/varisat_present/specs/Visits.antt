@@ -13,11 +13,11 @@ abbrev pub TellsVisit : List Clause → List Literal → Literal → Visited →
 TellsVisit P known other visit.Conflict = Conflicts P known
 TellsVisit P known other visit.Leaves = LeavesNew P known other
 TellsVisit P known other (visit.Moves l) = Unit {0}
-TellsVisit P known other visit.Stays = Unit {0}
+TellsVisit P known other (visit.Stays l) = Unit {0}
 TellsVisit P known other visit.Gone = Unit {0}
 
 -- a clause is false, or what was left joined the known literals
 abbrev pub IsLook : List Clause → List Literal → Looked → List Literal → Type 0
 IsLook P old look.Conflict new = Finds P old true new
-IsLook P old look.Stays new = Finds P old false new
+IsLook P old (look.Stays l) new = Finds P old false new
 IsLook P old look.Gone new = Finds P old false new

@@ -96,10 +96,10 @@ fn is_other<A: Allocator + Copy>(known: &Known<A>, literal: Lit, given: Lit) -> 
     ensures yes { result ≡ true → (literal ≢ given) × (opposite literal ∈ known.now → ⊥) }
     ensures no { result ≡ false → (literal ≡ given) ⊎ (opposite literal ∈ known.now) }
 {
-    if literal.code() == given.code() {
+    if known.is_false(literal) {
         return false;
     }
-    if known.is_false(literal) {
+    if literal.code() == given.code() {
         return false;
     }
     true

@@ -25,8 +25,8 @@ pub enum Visited {
     Leaves,
     /// This literal is to be watched in place of the false one.
     Moves(Lit),
-    /// Nothing follows from it.
-    Stays,
+    /// Nothing follows from it as long as this literal is true.
+    Stays(Lit),
     /// There is no clause.
     Gone,
 }
@@ -36,8 +36,8 @@ pub enum Visited {
 pub enum Looked {
     /// Its clause is false.
     Conflict,
-    /// It stays.
-    Stays,
+    /// It stays, with this blocking literal.
+    Stays(Lit),
     /// It is taken out.
     Gone,
 }
@@ -52,7 +52,7 @@ fn visit<A: Allocator + Copy>(
     ensures { TellsVisit (present places.now) known.now other result }
 {
     if known.holds(other) {
-        return Visited::Stays;
+        return Visited::Stays(other);
     }
     match clause_at(places, place) {
         None => Visited::Gone,
@@ -65,27 +65,24 @@ fn visit<A: Allocator + Copy>(
                 if holds(clause, other) {
                     return Visited::Leaves;
                 }
-                Visited::Stays
+                Visited::Stays(other)
             }
         },
     }
 }
 
-/// Looks at a watch on a literal that is false.
+/// Looks at a watch on a literal that is false, whose blocking literal is not true.
 fn look<A: Allocator + Copy>(
     places: &[Option<Vec<Lit, A>>],
     known: &mut Known<A>,
     watches: &mut Watches<A>,
     literal: Lit,
-    watch: Watch,
+    number: u32,
 ) -> Result<Looked, AllocError>
     requires { HasClash known.old → ⊥ }
     ensures { IfOk result (λ look. IsLook (present places.now) known.old look known.new) }
 {
-    if known.holds(watch.blocking) {
-        return Ok(Looked::Stays);
-    }
-    let place = watch.place as usize;
+    let place = number as usize;
     let other = match watches.other(place, literal) {
         None => return Ok(Looked::Gone),
         Some(other) => other,
@@ -94,13 +91,13 @@ fn look<A: Allocator + Copy>(
         Visited::Conflict => Ok(Looked::Conflict),
         Visited::Leaves => {
             known.push(other)?;
-            Ok(Looked::Stays)
+            Ok(Looked::Stays(other))
         }
         Visited::Moves(free) => {
-            watches.watch(watch.place, free, other)?;
+            watches.watch(number, free, other)?;
             Ok(Looked::Gone)
         }
-        Visited::Stays => Ok(Looked::Stays),
+        Visited::Stays(blocking) => Ok(Looked::Stays(blocking)),
         Visited::Gone => Ok(Looked::Gone),
     }
 }
@@ -118,10 +115,19 @@ fn propagate_literal<A: Allocator + Copy>(
 {
     let mut i = 0;
     'watches: while i < list.len() {
-        let looked = look(places, known, watches, literal, list[i])?;
+        let watch = list[i];
+        if known.holds(watch.blocking) {
+            i += 1;
+            continue;
+        }
+        let looked = look(places, known, watches, literal, watch.place)?;
         match looked {
             Looked::Conflict => return Ok(true),
-            Looked::Stays => {
+            Looked::Stays(blocking) => {
+                list[i] = Watch {
+                    place: watch.place,
+                    blocking,
+                };
                 i += 1;
                 continue;
             }
@@ -199,6 +205,28 @@ fn pass<A: Allocator + Copy>(
     Ok(false)
 }
 
+/// Passes the newest clause, and propagates what it leaves as far as watches lead. Returns whether a clause is false.
+fn take_newest<A: Allocator + Copy>(
+    places: &[Option<Vec<Lit, A>>],
+    known: &mut Known<A>,
+    watches: &mut Watches<A>,
+) -> Result<bool, AllocError>
+    requires { HasClash known.old → ⊥ }
+    ensures { IfOk result (λ found. Finds (present places.now) known.old found known.new) }
+{
+    let count = known.len();
+    let clause = match clause_at(places, places.len().saturating_sub(1)) {
+        None => return Ok(false),
+        Some(clause) => clause,
+    };
+    let is_false = pass_clause(known, clause)?;
+    if is_false {
+        return Ok(true);
+    }
+    let found = propagate(places, known, watches, count)?;
+    Ok(found)
+}
+
 /// Propagates to the end. The known literals were propagated already, as far as watches lead. Returns whether a clause
 /// is false.
 pub fn settle<A: Allocator + Copy>(
@@ -209,6 +237,10 @@ pub fn settle<A: Allocator + Copy>(
     requires { HasClash known.old → ⊥ }
     ensures { IfOk result (λ found. Settles (present places.now) known.old found known.new) }
 {
+    let is_refuted = take_newest(places, known, watches)?;
+    if is_refuted {
+        return Ok(true);
+    }
     'rounds: loop {
         let count = known.len();
         let is_false = pass(places, known)?;

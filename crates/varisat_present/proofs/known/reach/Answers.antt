@@ -1,6 +1,7 @@
-use Rattle.std.proofs.lemmas.Grind.{common_steps}
 use Rattle.std.proofs.Common.{arith}
+use Rattle.varisat_present.proofs.KnownMarks.{resized}
 use Rattle.varisat_present.proofs.known.reach.Goals as goal
 
-pub returns-in_ok-resize-clause-grown : goal.returns-in_ok-resize-clause-grown
-returns-in_ok-resize-clause-grown g c = grind (arith, common_steps)
+pub returns-in_ok-resize-clause-same : goal.returns-in_ok-resize-clause-same
+returns-in_ok-resize-clause-same g c =
+    resized c.args.marks.now.items c.resize.new.self.items _ _ (omega (arith, c.if-code-len.true, c.len.ensures)) (c.in_ok-resize.ensures {u = tt}).items

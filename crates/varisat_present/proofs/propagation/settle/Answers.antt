@@ -1,10 +1,15 @@
 use Rattle.std.proofs.Common.{arith}
 use Rattle.varisat_present.specs.Places.{present}
-use Rattle.varisat_present.proofs.KnownGrowth.{grows_none, grows_on, settles_found, settles_end, less_left}
+use Rattle.varisat_present.proofs.KnownGrowth.{grows_on, settles_early, settles_found, settles_end, less_left}
 use Rattle.varisat_present.proofs.propagation.settle.Goals as goal
 
 pub rounds-init : goal.rounds-init
-rounds-init g c = grows_none (present c.args.places.now) c.args.known.now c.requires
+rounds-init g c = c.in_ok-is_refuted.ensures.grows
+
+pub returns-then-is_refuted : goal.returns-then-is_refuted
+returns-then-is_refuted g c =
+    settles_early (present c.args.places.now) c.args.known.now c.take_newest.new.known c.in_ok-is_refuted.is_refuted c.if-is_refuted.true
+    c.in_ok-is_refuted.ensures
 
 pub returns-then-is_false : goal.returns-then-is_false
 returns-then-is_false g c =

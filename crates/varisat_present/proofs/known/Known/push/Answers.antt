@@ -1,10 +1,9 @@
-use Rattle.std.proofs.lemmas.Grind.{common_steps}
 use Rattle.std.specs.BTreeMap.{Updates}
 use Rattle.std.specs.Ordering.{nat_cmp}
-use Rattle.std.proofs.Common.{Some, ℕ, List, length, ◌≤◌, subst, sym, arith}
+use Rattle.std.proofs.Common.{Some, ℕ, List, subst, sym, arith}
 use Rattle.varisat_theory.specs.Membership.{◌∈◌}
-use Rattle.varisat_present.specs.Places.{ArePlaced, AreFarPlaced, place_limit}
-use Rattle.varisat_present.proofs.KnownPlaces.{placed_grown, placed_at, placed_far}
+use Rattle.varisat_present.specs.Places.{MarksKnown, AreFarPlaced}
+use Rattle.varisat_present.proofs.KnownMarks.{marked_same, marked_at, marked_far}
 use Rattle.varisat_present.proofs.FarPlaces.{far_near, far_other, far_pushed}
 use Rattle.varisat_present.proofs.known.Known.push.Given.{Over}
 use Rattle.varisat_present.proofs.known.Known.push.Goals.{In_ok-insert}
@@ -12,22 +11,30 @@ use Rattle.varisat_present.proofs.known.Known.push.Goals as goal
 
 pub invariant_of-self-2 : goal.invariant_of-self-2
 invariant_of-self-2 g c =
-    let (more, e) = c.in_ok-reach.ensures.grown in (
-      placed_at c.self.inside.literals.items c.reach.new.places.items c.push-2.new.self.items c.args.literal c.code-code.result c.len-place.result
-          (subst (λ (ps : List ℕ). ArePlaced c.self.inside.literals.items ps) (sym e)
-          (placed_grown c.self.inside.literals.items c.self.inside.places.items more
-          (subst (λ (ps : List ℕ). length ps ≤ place_limit) e c.in_ok-reach.ensures.short) c.self.invariant.0))
-          (λ m. c.requires (subst (λ (xs : List ℕ). c.args.literal ∈ xs) c.self.view_is m))
-          c.in_ok-reach.ensures.reached c.code-code.ensures.code (omega (arith, c.len-place.ensures)) c.in_ok-push-2.ensures.items,
-      far_near c.self.inside.literals.items c.push-2.new.self.items c.self.inside.far c.args.literal c.self.invariant.1
+    let old = c.self.inside in
+    let grown = c.in_ok-reach.ensures in (
+      marked_at old.literals.items c.push-2.new.self.items c.reach.new.marks.items c.args.literal c.code-code.result
+          (marked_same old.literals.items old.marks.items c.reach.new.marks.items grown.short grown.same c.self.invariant.0)
+          (λ m. c.requires (subst (λ (xs : List ℕ). c.args.literal ∈ xs) c.self.view_is m)) grown.reached c.code-code.ensures.code c.in_ok-push-2.ensures.items,
+      far_near old.literals.items c.push-2.new.self.items old.far c.args.literal c.self.invariant.1
           (omega (arith, c.if-code-ge-PLACE_LIMIT.false, c.code-code.ensures.code)) c.in_ok-push-2.ensures.items,
     )
 
 pub invariant_of-self-in_err-reach : goal.invariant_of-self-in_err-reach
-invariant_of-self-in_err-reach g c = grind (arith, common_steps)
+invariant_of-self-in_err-reach g c =
+    let old = c.self.inside in (
+      marked_same old.literals.items old.marks.items c.reach.new.marks.items c.in_err-reach.ensures.short c.in_err-reach.ensures.same c.self.invariant.0,
+      c.self.invariant.1,
+    )
 
 pub invariant_of-self-in_err-push-2 : goal.invariant_of-self-in_err-push-2
-invariant_of-self-in_err-push-2 g c = grind (arith, common_steps)
+invariant_of-self-in_err-push-2 g c =
+    let old = c.self.inside in
+    let grown = c.in_ok-reach.ensures in
+    subst (λ (xs : List ℕ). MarksKnown xs c.reach.new.marks.items × AreFarPlaced xs old.far) (sym c.in_err-push-2.ensures.items) (
+      marked_same old.literals.items old.marks.items c.reach.new.marks.items grown.short grown.same c.self.invariant.0,
+      c.self.invariant.1,
+    )
 
 -- the place of the literal in the map
 updates : (g : Over) (c : In_ok-insert g) → Updates nat_cmp c.self.inside.far c.insert.new.self c.args.literal (Some c.len-place.result)
@@ -41,7 +48,7 @@ pub invariant_of-self-in_err-push : goal.invariant_of-self-in_err-push
 invariant_of-self-in_err-push g c =
     let here = (goal.at.invariant_of-self-in_err-push g c).In_ok-insert in
     let old = c.self.inside in
-    subst (λ (xs : List ℕ). ArePlaced xs old.places.items × AreFarPlaced xs c.insert.new.self) (sym c.in_err-push.ensures.items) (
+    subst (λ (xs : List ℕ). MarksKnown xs old.marks.items × AreFarPlaced xs c.insert.new.self) (sym c.in_err-push.ensures.items) (
       c.self.invariant.0,
       far_other old.literals.items old.far c.insert.new.self c.args.literal c.len-place.result c.self.invariant.1 (absent g here) (updates g here),
     )
@@ -50,7 +57,7 @@ pub invariant_of-self-then-code-ge-PLACE_LIMIT : goal.invariant_of-self-then-cod
 invariant_of-self-then-code-ge-PLACE_LIMIT g c =
     let here = (goal.at.invariant_of-self-then-code-ge-PLACE_LIMIT g c).In_ok-insert in
     let old = c.self.inside in (
-      placed_far old.literals.items old.places.items c.push.new.self.items c.args.literal c.code-code.result c.self.invariant.0 c.code-code.ensures.code
+      marked_far old.literals.items c.push.new.self.items old.marks.items c.args.literal c.code-code.result c.self.invariant.0 (absent g here) c.code-code.ensures.code
           (omega (arith, c.if-code-ge-PLACE_LIMIT.true)) c.in_ok-push.ensures.items,
       far_pushed old.literals.items c.push.new.self.items old.far c.insert.new.self c.args.literal c.len-place.result c.self.invariant.1 (absent g here)
           (updates g here) (omega (arith, c.len-place.ensures)) c.in_ok-push.ensures.items,

@@ -23,7 +23,14 @@ pub struct Watches<A: Allocator + Copy> {
     lists: Vec<Vec<Watch, A>, A>,
     /// For the others.
     far: BTreeMap<usize, Vec<Watch, A>, A>,
-    pairs: Vec<[Lit; 2], A>,
+    /// By place, what `pair_of` makes of the clause's two watched literals.
+    pairs: Vec<u32, A>,
+}
+
+/// Two literals as one number, from which either one gives the other. So nothing depends on which of them comes first,
+/// which no processor could foretell.
+fn pair_of(one: Lit, other: Lit) -> u32 {
+    one.code() as u32 ^ other.code() as u32
 }
 
 impl<A: Allocator + Copy> Watches<A> {
@@ -62,19 +69,13 @@ impl<A: Allocator + Copy> Watches<A> {
         }
     }
 
-    /// The other watched literal of the clause at the place, if the literal is one of them.
+    /// The other watched literal of the clause at the place, where the literal is one of them.
     pub fn other(&self, place: usize, literal: Lit) -> Option<Lit> {
         if place >= self.pairs.len() {
             return None;
         }
-        let pair = self.pairs[place];
-        if pair[0].code() == literal.code() {
-            Some(pair[1])
-        } else if pair[1].code() == literal.code() {
-            Some(pair[0])
-        } else {
-            None
-        }
+        let code = self.pairs[place] ^ literal.code() as u32;
+        Some(Lit::from_code(code as usize))
     }
 
     /// One more watch on a literal.
@@ -100,7 +101,7 @@ impl<A: Allocator + Copy> Watches<A> {
     pub fn watch(&mut self, place: u32, one: Lit, other: Lit) -> Result<(), AllocError> {
         let index = place as usize;
         if index < self.pairs.len() {
-            self.pairs[index] = [one, other];
+            self.pairs[index] = pair_of(one, other);
         }
         self.add(
             one,
@@ -118,7 +119,7 @@ impl<A: Allocator + Copy> Watches<A> {
         match best_two(known, clause) {
             Some((one, other)) if place < 0xffff_ffff => {
                 let number = place as u32;
-                self.pairs.push([one, other])?;
+                self.pairs.push(pair_of(one, other))?;
                 self.add(
                     one,
                     Watch {
@@ -134,10 +135,7 @@ impl<A: Allocator + Copy> Watches<A> {
                     },
                 )?;
             }
-            _ => {
-                let none = Lit::from_code(0);
-                self.pairs.push([none, none])?;
-            }
+            _ => self.pairs.push(0)?,
         }
         Ok(())
     }

@@ -119,6 +119,10 @@ abbrev pub IsOfBytes : {V : Type 0} → Result V CheckerError → Type 0
 IsOfBytes (Ok v) = Unit {0}
 IsOfBytes (Err e) = is_of_bytes e ≡ true
 
+-- Where the source had these bytes left, and the result speaks of them, it is right for them.
+abbrev pub IsRightFor : {V : Type 0} → CheckerStanding → Result V CheckerError → (List ℕ → Type 0) → Type 0
+IsRightFor old result is_right = (bytes : List ℕ) → old.checker.spent ≡ false → old.source.left ≡ Some bytes → IsOfBytes result → is_right bytes
+
 -- What a check of a source returns, where its result is right for some bytes, over what the source gave meanwhile.
 pub data ChecksBytes {V : Type 0} (is_right : List ℕ → Type 0) (old : Stand) (result : Result V CheckerError) (new : Stand) : Type 0 where
   -- the source ended, and the result is that of all it gave

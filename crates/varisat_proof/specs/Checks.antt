@@ -7,6 +7,7 @@ use Rattle.varisat_theory.specs.Propagation.{Conflicts}
 use Rattle.varisat_formula.specs.declared.dimacs.error.DimacsError.{DimacsError}
 use Rattle.varisat_formula.specs.declared.dimacs.error.DimacsErrorKind.TheVariants as kind
 use Rattle.varisat_proof.specs.declared.proof.format.Encoding.{Encoding}
+use Rattle.varisat_proof.specs.declared.proof.format.LineKind.{LineKind}
 use Rattle.varisat_proof.specs.declared.checker.line.LineStatus.{LineStatus}
 use Rattle.varisat_proof.specs.declared.checker.line.LineStatus.TheVariants.{Taken, Unproved, Absent, Unassumed}
 use Rattle.varisat_proof.specs.declared.checker.error.CheckVerdict.{CheckVerdict}
@@ -14,17 +15,22 @@ use Rattle.varisat_proof.specs.declared.checker.error.CheckVerdict.TheVariants.{
 use Rattle.varisat_proof.specs.declared.checker.error.CheckerError.{CheckerError}
 use Rattle.varisat_proof.specs.declared.checker.error.CheckerError.TheVariants.{CheckFailed, NoSuchClause, CoreNotAssumed, Parse, Io, OutOfMemory, Dimacs, Spent}
 use Rattle.varisat_proof.specs.declared.checker.check.Count.{Count}
-use Rattle.varisat_proof.specs.Lines.{ProofLine, step_number}
+use Rattle.varisat_proof.specs.Lines.{ProofLine, line_of_kind, step_number}
 use Rattle.varisat_proof.specs.Machine.{Parsed, ReaderState, parsed, parsed_from}
-use Rattle.varisat_proof.specs.Marked.{ProofState, Takes, IsWrongBy, Goes, IsCheckOf}
+use Rattle.varisat_proof.specs.Marked.{ProofState, MarkedTold, state_of, Takes, IsWrongBy, Goes, IsCheckOf}
 use Rattle.varisat_theory.specs.StepLaws.{unit_lines}
-use Rattle.varisat_proof.specs.Calls.{CheckerState, FailsAt}
+use Rattle.varisat_proof.specs.Calls.{CheckerState, CheckerStanding, ChecksBytes, FailsAt}
 
 -- 1. Lines.
 -- what becomes of a line: it is taken, or it is wrong and nothing changes
 abbrev pub IsLineStatus : ProofState → ProofLine → LineStatus → ProofState → Type 0
 IsLineStatus s line Taken t = Takes s line t
 IsLineStatus s line status t = IsWrongBy s line status × (t ≡ s)
+
+-- the status tells it, unless memory ran out
+abbrev pub TellsStatus : {E : Type 0} → ProofState → ProofLine → Result LineStatus E → ProofState → Type 0
+TellsStatus s line (Ok status) t = IsLineStatus s line status t
+TellsStatus s line (Err e) t = Unit {0}
 
 -- t is there behind a beginning of the lines, where propagation conflicts
 pub record HasRefuted (s : ProofState) (lines : List ProofLine) (t : ProofState) : Type 0 where
@@ -66,6 +72,12 @@ abbrev pub TakesLine : ProofState → List ProofLine → Result (Unit {0}) Check
 TakesLine s lines (Ok u) t count = StandsAfterLines s lines t count
 TakesLine s lines (Err e) t count = IsWrongLast s lines e t
 
+-- whichever lines were looked at before
+abbrev pub TakesNext : ProofState → Count → LineKind → Clause → Result (Unit {0}) CheckerError → ProofState → Count → Type 0
+TakesNext old before kind clause result new after =
+    (s : ProofState) (lines : List ProofLine)
+    → StandsAfterLines s lines old before → TakesLine s (lines ++ line_of_kind kind clause ∷ []) result new after
+
 -- 2. Bytes.
 abbrev pub with_lines : List ProofLine → Parsed → Parsed
 with_lines ls t = record { lines = ls ++ t.lines; fault = t.fault }
@@ -80,6 +92,10 @@ pub record Position : Type 0 where
   pub count : Count
   pub progress : ReaderState
 
+-- all of these
+abbrev pub position_of : CheckerState → MarkedTold → Count → ReaderState → Position
+position_of checker told count progress = record { state = state_of checker.clauses told; count = count; progress = progress }
+
 -- a check breaks off in the text, whatever comes behind it
 abbrev pub BreaksOff : Encoding → ProofState → List ℕ → CheckerError → ProofState → Type 0
 BreaksOff encoding s text OutOfMemory t = Unit {0}
@@ -90,6 +106,12 @@ abbrev pub ReadsPiece : Encoding → ProofState → List ℕ → Result (Unit {0
 ReadsPiece encoding s text (Ok u) at = (lines : List ProofLine) × HasRead encoding text lines at.progress × StandsAfterLines s lines at.state at.count
 ReadsPiece encoding s text (Err e) at = BreaksOff encoding s text e at.state
 
+-- whatever was read before
+abbrev pub ReadsNext : List ℕ → Position → Result (Unit {0}) CheckerError → Position → Type 0
+ReadsNext piece old result new =
+    (e : Encoding) (s : ProofState) (text : List ℕ) (lines : List ProofLine)
+    → HasRead e text lines old.progress → StandsAfterLines s lines old.state old.count → ReadsPiece e s (text ++ piece) result new
+
 -- what a check returns where the bytes end, of which all lines were checked
 abbrev pub result_at_end : ReaderState → Count → Result CheckVerdict CheckerError
 result_at_end p count = if p.place.inside then Err (Parse p.at) else Ok (if count.refuted then Refutation else Derivation)
@@ -98,6 +120,18 @@ result_at_end p count = if p.place.inside then Err (Parse p.at) else Ok (if coun
 abbrev pub EndsWith : Encoding → ProofState → List ℕ → Result CheckVerdict CheckerError → ProofState → Type 0
 EndsWith encoding s text (Err OutOfMemory) t = Unit {0}
 EndsWith encoding s text result t = IsCheckOf encoding s text result t
+
+-- whatever was read before
+abbrev pub EndsBehind : Position → Result CheckVerdict CheckerError → ProofState → Type 0
+EndsBehind old result t =
+    (e : Encoding) (s : ProofState) (text : List ℕ) (lines : List ProofLine)
+    → HasRead e text lines old.progress → StandsAfterLines s lines old.state old.count → EndsWith e s text result t
+
+-- a source is read as one proof
+abbrev pub ChecksFrom : Encoding → CheckerStanding → MarkedTold → Result CheckVerdict CheckerError → CheckerStanding → MarkedTold → Type 0
+ChecksFrom encoding old before result new after =
+    ChecksBytes (λ bytes. IsCheckOf encoding (state_of old.checker.clauses before) bytes result (state_of new.checker.clauses after))
+    old.source result new.source
 
 -- 3. Steps.
 -- a line is taken, or it is wrong and nothing changes, or memory runs out

@@ -11,7 +11,8 @@ use Rattle.varisat_proof.specs.Calls.{CheckerState}
 use Rattle.varisat_proof.specs.Present.{IsLeftAfter}
 use Rattle.varisat_proof.specs.declared.proof.format.Encoding.{Encoding}
 use Rattle.varisat_proof.specs.Lines.{ProofLine, encoding_of, has_marks}
-use Rattle.varisat_proof.specs.Steps.{lines_written}
+use Rattle.varisat_proof.specs.declared.proof.writer.WriteError.{WriteError}
+use Rattle.varisat_proof.specs.Steps.{lines_written, PutsLines}
 use Rattle.varisat_proof.specs.Telling.{lines_told}
 
 -- an open proof: its format, what its target took, and whether a search ran under it
@@ -40,6 +41,10 @@ pub record IsWritten (old : OpenState) (lines : List ProofLine) (new : OpenState
   pub rest : new ≡ record old { taken = new.taken }
   pub bytes : new.taken.bytes ≡ old.taken.bytes ++ lines_written (encoding_of old.format) lines
   pub faults : new.taken.faults ≡ old.taken.faults
+
+-- what putting the lines of its encoding into it returns, and what the target took then
+abbrev pub PutsInto : OpenState → (Encoding → List ProofLine) → Result (Unit {0}) WriteError → Taken → Type 0
+PutsInto old lines result taken = PutsLines (encoding_of old.format) old.taken result (lines (encoding_of old.format)) taken
 
 -- It took a beginning of them, and this many faults came.
 pub record IsBegun (old : OpenState) (lines : List ProofLine) (more : ℕ) (new : OpenState) : Type 0 where

@@ -111,3 +111,7 @@ abbrev pub EndsCheck : ProofFormat → Sources → Sources → ℕ → Option (L
 EndsCheck format old new status before after =
     ((status ≡ fault_status) × ((after ≡ before) ⊎ ((verified : Bool) × VerifiesBy format old new verified)))
     ⊎ ((verified : Bool) × VerifiesBy format old new verified × (status ≡ verdict_status verified) × Appends before after (verdict_text verified))
+
+-- the same, by the sources
+abbrev pub EndsBy : ProofFormat → Stand → Stand → Stand → Stand → ℕ → Option (List ℕ) → Option (List ℕ) → Type 0
+EndsBy format cnf proof cnf' proof' status before after = EndsCheck format (sources_of cnf proof) (sources_of cnf' proof') status before after

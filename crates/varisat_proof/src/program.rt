@@ -3,7 +3,7 @@ ghost use Rattle.std.specs.Prelude.{◌≡◌, ◌⊎◌, ◌-◌, ◌^◌, ◌<
 ghost use Rattle.std.specs.Io.KnownBytes.{Appends};
 ghost use Rattle.varisat_proof.specs.declared.checker.error.CheckVerdict.TheVariants.{Refutation};
 ghost use Rattle.varisat_proof.specs.Calls.{is_of_bytes};
-ghost use Rattle.varisat_proof.specs.Verified.{sources_of, Verifies, VerifiesMarked, VerifiesBy, AreGiven, EndsCheck, GivesUnsatisfiable, verdict_of, verdict_text, verdict_status, fault_status};
+ghost use Rattle.varisat_proof.specs.Verified.{sources_of, Verifies, VerifiesMarked, VerifiesBy, AreGiven, EndsBy, GivesUnsatisfiable, verdict_of, verdict_text, verdict_status, fault_status};
 
 use crate::checker::{CheckVerdict, Checker, CheckerError, MarkedReport};
 use crate::proof::ProofFormat;
@@ -38,7 +38,7 @@ pub fn check_lines<A: Allocator + Copy, S: ByteSource, P: ByteSource, W: Write, 
 ) -> u8
     requires cnf_faults { (S.stand cnf.old).faults < 2 ^ 64 - 1 }
     requires proof_faults { (P.stand proof.old).faults < 2 ^ 64 - 1 }
-    ensures outcome { EndsCheck format (sources_of (S.stand cnf.old) (P.stand proof.old)) (sources_of (S.stand cnf.new) (P.stand proof.new))
+    ensures outcome { EndsBy format (S.stand cnf.old) (P.stand proof.old) (S.stand cnf.new) (P.stand proof.new)
         result (W.contents out.old) (W.contents out.new) }
     ensures truth { result ≡ 0 → GivesUnsatisfiable (S.stand cnf.old) (S.stand cnf.new) }
 {
@@ -60,8 +60,7 @@ fn verify_by<A: Allocator + Copy, S: ByteSource, P: ByteSource>(
 ) -> Result<bool, CheckerError>
     requires cnf_faults { (S.stand cnf.old).faults < 2 ^ 64 - 1 }
     requires proof_faults { (P.stand proof.old).faults < 2 ^ 64 - 1 }
-    ensures { IfOk result (λ verified.
-        VerifiesBy format (sources_of (S.stand cnf.old) (P.stand proof.old)) (sources_of (S.stand cnf.new) (P.stand proof.new)) verified) }
+    ensures { IfOk result (VerifiesBy format (sources_of (S.stand cnf.old) (P.stand proof.old)) (sources_of (S.stand cnf.new) (P.stand proof.new))) }
 {
     match format {
         ProofFormat::Drat => verify(alloc, cnf, proof, ProofFormat::Drat),
@@ -120,8 +119,7 @@ fn verify_marked_in<A: Allocator + Copy, S: ByteSource, P: ByteSource>(
     requires checker_new { checker.old ≡ record { clauses = []; spent = false } }
     requires cnf_faults { (S.stand cnf.old).faults < 2 ^ 64 - 1 }
     requires proof_faults { (P.stand proof.old).faults < 2 ^ 64 - 1 }
-    ensures { IfOk result (λ verified.
-        VerifiesMarked (sources_of (S.stand cnf.old) (P.stand proof.old)) (sources_of (S.stand cnf.new) (P.stand proof.new)) verified) }
+    ensures { IfOk result (VerifiesMarked (sources_of (S.stand cnf.old) (P.stand proof.old)) (sources_of (S.stand cnf.new) (P.stand proof.new))) }
 {
     match given.add_dimacs_cnf(cnf) {
         Ok(()) => {}
@@ -145,8 +143,7 @@ fn verify_marked<A: Allocator + Copy, S: ByteSource, P: ByteSource>(
 ) -> Result<bool, CheckerError>
     requires cnf_faults { (S.stand cnf.old).faults < 2 ^ 64 - 1 }
     requires proof_faults { (P.stand proof.old).faults < 2 ^ 64 - 1 }
-    ensures { IfOk result (λ verified.
-        VerifiesMarked (sources_of (S.stand cnf.old) (P.stand proof.old)) (sources_of (S.stand cnf.new) (P.stand proof.new)) verified) }
+    ensures { IfOk result (VerifiesMarked (sources_of (S.stand cnf.old) (P.stand proof.old)) (sources_of (S.stand cnf.new) (P.stand proof.new))) }
 {
     let mut given = Checker::new_in(alloc);
     let mut checker = Checker::new_in(alloc);
@@ -167,8 +164,7 @@ fn verify<A: Allocator + Copy, S: ByteSource, P: ByteSource>(
 ) -> Result<bool, CheckerError>
     requires cnf_faults { (S.stand cnf.old).faults < 2 ^ 64 - 1 }
     requires proof_faults { (P.stand proof.old).faults < 2 ^ 64 - 1 }
-    ensures { IfOk result (λ verified.
-        Verifies format (sources_of (S.stand cnf.old) (P.stand proof.old)) (sources_of (S.stand cnf.new) (P.stand proof.new)) verified) }
+    ensures { IfOk result (Verifies format (sources_of (S.stand cnf.old) (P.stand proof.old)) (sources_of (S.stand cnf.new) (P.stand proof.new))) }
 {
     let mut checker = Checker::new_in(alloc);
     let verified = verify_in(&mut checker, cnf, proof, format);
@@ -201,8 +197,7 @@ fn verify_in<A: Allocator + Copy, S: ByteSource, P: ByteSource>(
     requires new { checker.old ≡ record { clauses = []; spent = false } }
     requires cnf_faults { (S.stand cnf.old).faults < 2 ^ 64 - 1 }
     requires proof_faults { (P.stand proof.old).faults < 2 ^ 64 - 1 }
-    ensures { IfOk result (λ verified.
-        Verifies format (sources_of (S.stand cnf.old) (P.stand proof.old)) (sources_of (S.stand cnf.new) (P.stand proof.new)) verified) }
+    ensures { IfOk result (Verifies format (sources_of (S.stand cnf.old) (P.stand proof.old)) (sources_of (S.stand cnf.new) (P.stand proof.new))) }
 {
     match checker.add_dimacs_cnf(cnf) {
         Ok(()) => {}

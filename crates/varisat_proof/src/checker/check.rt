@@ -1,5 +1,5 @@
 //! The checker. It keeps the present clauses, and propagates over them for each line.
-ghost use Rattle.std.specs.Prelude.{◌≡◌, ◌≢◌, ℕ, List, [], ◌∷◌, ◌++◌, ◌+◌, ◌-◌, ◌<◌, ◌^◌, ◌↔◌, length, true, false, Ok, Err, Some, OnOk, OnErr, IfOk, IfErr, IsTrue, ◌||◌, slice_index_or};
+ghost use Rattle.std.specs.Prelude.{◌≡◌, ◌≢◌, [], ◌∷◌, ◌++◌, ◌-◌, ◌<◌, ◌^◌, ◌↔◌, length, true, false, Ok, Err, OnOk, OnErr, IfOk, IfErr, IsTrue, ◌||◌, slice_index_or};
 ghost use Rattle.varisat_theory.specs.Membership.{◌∈◌, SameSet};
 ghost use Rattle.varisat_theory.specs.Literals.{Clause, IsSatisfiable};
 ghost use Rattle.varisat_formula.specs.Rest.{Progress, IsEnding};
@@ -12,11 +12,11 @@ ghost use Rattle.varisat_proof.specs.declared.proof.format.Encoding.TheVariants.
 ghost use Rattle.varisat_proof.specs.declared.checker.line.LineStatus.TheVariants.{Taken};
 ghost use Rattle.varisat_proof.specs.declared.checker.error.CheckVerdict.TheVariants.{Refutation};
 ghost use Rattle.varisat_proof.specs.declared.checker.error.CheckerError.TheVariants.{OutOfMemory, Spent};
-ghost use Rattle.varisat_proof.specs.Lines.{ProofLine, line_of_kind};
-ghost use Rattle.varisat_proof.specs.Marked.{ProofState, state_of, IsCheckOf};
+ghost use Rattle.varisat_proof.specs.Lines.{line_of_kind};
+ghost use Rattle.varisat_proof.specs.Marked.{state_of};
 ghost use Rattle.varisat_proof.specs.Results.{IsResult};
-ghost use Rattle.varisat_proof.specs.Checks.{IsLineStatus, StandsAfterLines, TakesLine, HasRead, ReadsPiece, EndsWith, result_at_end, ChecksLine, ChecksUnits, ChecksCore, RefusesText};
-ghost use Rattle.varisat_proof.specs.Calls.{with_clause, standing_of, BecomesOrRefuses, AddsRead, AddsText, IsStep, ChecksBytes, Checks, ChecksMarked, IsMarkedResult, IsTrueReport, IsOfBytes, spends};
+ghost use Rattle.varisat_proof.specs.Checks.{TellsStatus, TakesNext, position_of, ReadsNext, EndsBehind, ChecksFrom, result_at_end, ChecksLine, ChecksUnits, ChecksCore, RefusesText};
+ghost use Rattle.varisat_proof.specs.Calls.{with_clause, standing_of, BecomesOrRefuses, AddsRead, AddsText, IsStep, Checks, ChecksMarked, IsMarkedResult, IsTrueReport, IsRightFor, spends};
 
 use crate::checker::error::{CheckVerdict, CheckerError};
 use crate::checker::line::LineStatus;
@@ -273,8 +273,7 @@ impl<A: Allocator + Copy> Checker<A> {
         builder: &mut ReportBuilder<A>,
         core: &[Lit],
     ) -> Result<LineStatus, AllocError>
-        ensures status { IfOk result (λ status.
-            IsLineStatus (state_of self.old.clauses builder.old) (line_of_kind Fails core.now) status (state_of self.new.clauses builder.new)) }
+        ensures status { TellsStatus (state_of self.old.clauses builder.old) (line_of_kind Fails core.now) result (state_of self.new.clauses builder.new) }
         ensures spent { self.new.spent ≡ self.old.spent }
     {
         if !builder.assumes(core) {
@@ -295,8 +294,7 @@ impl<A: Allocator + Copy> Checker<A> {
         kind: LineKind,
         clause: &[Lit],
     ) -> Result<LineStatus, AllocError>
-        ensures status { IfOk result (λ status.
-            IsLineStatus (state_of self.old.clauses builder.old) (line_of_kind kind clause.now) status (state_of self.new.clauses builder.new)) }
+        ensures status { TellsStatus (state_of self.old.clauses builder.old) (line_of_kind kind clause.now) result (state_of self.new.clauses builder.new) }
         ensures spent { self.new.spent ≡ self.old.spent }
     {
         match kind {
@@ -336,9 +334,8 @@ impl<A: Allocator + Copy> Checker<A> {
         kind: LineKind,
         clause: &[Lit],
     ) -> Result<(), CheckerError>
-        ensures takes { (s : ProofState) (lines : List ProofLine) →
-            StandsAfterLines s lines (state_of self.old.clauses builder.old) count.old →
-            TakesLine s (lines ++ line_of_kind kind clause.now ∷ []) result (state_of self.new.clauses builder.new) count.new }
+        ensures takes { TakesNext (state_of self.old.clauses builder.old) count.old kind clause.now result
+            (state_of self.new.clauses builder.new) count.new }
         ensures spent { self.new.spent ≡ self.old.spent }
     {
         if count.refuted {
@@ -374,9 +371,8 @@ impl<A: Allocator + Copy> Checker<A> {
         count: &mut Count,
         piece: &[u8],
     ) -> Result<(), CheckerError>
-        ensures reads { (e : Encoding) (s : ProofState) (text : List ℕ) (lines : List ProofLine) → HasRead e text lines reader.old →
-            StandsAfterLines s lines (state_of self.old.clauses builder.old) count.old →
-            ReadsPiece e s (text ++ piece.now) result (record { state = state_of self.new.clauses builder.new; count = count.new; progress = reader.new }) }
+        ensures reads { ReadsNext piece.now (position_of self.old builder.old count.old reader.old) result
+            (position_of self.new builder.new count.new reader.new) }
         ensures spent { self.new.spent ≡ self.old.spent }
     {
         for b in piece {
@@ -409,9 +405,7 @@ impl<A: Allocator + Copy> Checker<A> {
         reader: &mut ProofReader<A>,
         count: &mut Count,
     ) -> Result<CheckVerdict, CheckerError>
-        ensures ends { (e : Encoding) (s : ProofState) (text : List ℕ) (lines : List ProofLine) → HasRead e text lines reader.old →
-            StandsAfterLines s lines (state_of self.old.clauses builder.old) count.old →
-            EndsWith e s text result (state_of self.new.clauses builder.new) }
+        ensures ends { EndsBehind (position_of self.old builder.old count.old reader.old) result (state_of self.new.clauses builder.new) }
         ensures spent { self.new.spent ≡ self.old.spent }
     {
         let last = reader.last_fault();
@@ -438,9 +432,8 @@ impl<A: Allocator + Copy> Checker<A> {
         encoding: Encoding,
     ) -> Result<CheckVerdict, CheckerError>
         requires few { (S.stand source.old).faults < 2 ^ 64 - 1 }
-        ensures checks { ChecksBytes
-            (λ bytes. IsCheckOf encoding (state_of self.old.clauses builder.old) bytes result (state_of self.new.clauses builder.new))
-            (S.stand source.old) result (S.stand source.new) }
+        ensures checks { ChecksFrom encoding (standing_of self.old (S.stand source.old)) builder.old result
+            (standing_of self.new (S.stand source.new)) builder.new }
         ensures spent { self.new.spent ≡ self.old.spent }
     {
         let refuted = match self.is_refuted() {
@@ -566,8 +559,8 @@ impl<A: Allocator + Copy> Checker<A> {
         ensures refused { self.old.spent ≡ true → (result ≡ Err Spent) × (self.new ≡ self.old) × (source.new ≡ source.old) }
         ensures usable { OnOk result (self.new.spent ≡ self.old.spent) }
         ensures spends { IfErr result (λ e. self.new.spent ≡ (self.old.spent || spends e)) }
-        ensures exact { (bytes : List ℕ) → self.old.spent ≡ false → (S.stand source.old).left ≡ Some bytes → IsOfBytes result →
-            IsResult format self.old.clauses bytes result self.new.clauses }
+        ensures exact { IsRightFor (standing_of self.old (S.stand source.old)) result
+            (λ bytes. IsResult format self.old.clauses bytes result self.new.clauses) }
         ensures sound { result ≡ Ok Refutation → IsSatisfiable self.old.clauses → ⊥ }
     {
         if self.spent {
@@ -599,8 +592,8 @@ impl<A: Allocator + Copy> Checker<A> {
         ensures refused { self.old.spent ≡ true → (result ≡ Err Spent) × (self.new ≡ self.old) × (source.new ≡ source.old) }
         ensures usable { OnOk result (self.new.spent ≡ self.old.spent) }
         ensures spends { IfErr result (λ e. self.new.spent ≡ (self.old.spent || spends e)) }
-        ensures exact { (bytes : List ℕ) → self.old.spent ≡ false → (S.stand source.old).left ≡ Some bytes → IsOfBytes result →
-            IsMarkedResult self.old.clauses bytes result self.new.clauses }
+        ensures exact { IsRightFor (standing_of self.old (S.stand source.old)) result
+            (λ bytes. IsMarkedResult self.old.clauses bytes result self.new.clauses) }
         ensures sound { IfOk result (λ report. IsTrueReport self.old.clauses report) }
     {
         if self.spent {

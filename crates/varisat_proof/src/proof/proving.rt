@@ -5,11 +5,10 @@ ghost use Rattle.varisat_theory.specs.Journals.{Accepts, Assumes, Leaves};
 ghost use Rattle.varisat_trace.specs.Traces.{CanTakeStep, entries_of};
 ghost use Rattle.varisat_proof.specs.declared.checker.error.CheckerError.TheVariants.{OutOfMemory};
 ghost use Rattle.varisat_proof.specs.declared.proof.format.LineKind.TheVariants as kinds;
-ghost use Rattle.varisat_proof.specs.Lines.{encoding_of, line_of_kind};
-ghost use Rattle.varisat_proof.specs.Steps.{PutsLines};
-ghost use Rattle.varisat_proof.specs.Telling.{marked_line, lines_told};
+ghost use Rattle.varisat_proof.specs.Lines.{line_of_kind};
+ghost use Rattle.varisat_proof.specs.Telling.{marked_line};
 ghost use Rattle.varisat_proof.specs.Present.{IsLeftAfter};
-ghost use Rattle.varisat_proof.specs.Proving.{is_telling, bars_clauses, bars_assumptions, marked_searched, WritesLines, told, Tells, Flushes, HasRoom, MayHold, IsUsable, IsCheckedIf, IsTold, IsSpent, IsClosed};
+ghost use Rattle.varisat_proof.specs.Proving.{PutsInto, is_telling, bars_clauses, bars_assumptions, marked_searched, WritesLines, told, Tells, Flushes, HasRoom, MayHold, IsUsable, IsCheckedIf, IsTold, IsSpent, IsClosed};
 
 use crate::checker::{Checker, CheckerError};
 use crate::proof::format::{LineKind, ProofFormat};
@@ -46,8 +45,7 @@ impl<W: ProofTarget> OpenProof<W> {
         step: &ProofStep<'_>,
     ) -> Result<(), WriteError>
         requires { self.old.taken.faults < 2 ^ 64 - 1 }
-        ensures puts { PutsLines (encoding_of self.old.format) self.old.taken result
-            (lines_told (encoding_of self.old.format) (entries_of step.now)) self.new.taken }
+        ensures puts { PutsInto self.old (told (entries_of step.now)) result self.new.taken }
         ensures rest { self.new ≡ record self.old { taken = self.new.taken } }
     {
         write_entries(&mut self.target, buffer, self.format.encoding(), step)
@@ -61,8 +59,7 @@ impl<W: ProofTarget> OpenProof<W> {
         literals: &[Lit],
     ) -> Result<(), WriteError>
         requires { self.old.taken.faults < 2 ^ 64 - 1 }
-        ensures puts { PutsLines (encoding_of self.old.format) self.old.taken result
-            (marked_line (encoding_of self.old.format) (line_of_kind kind literals.now)) self.new.taken }
+        ensures puts { PutsInto self.old (λ e. marked_line e (line_of_kind kind literals.now)) result self.new.taken }
         ensures rest { self.new ≡ record self.old { taken = self.new.taken } }
     {
         write_marked(

@@ -78,18 +78,37 @@ impl<A: Allocator + Copy> Watches<A> {
         Some(Lit::from_code(code as usize))
     }
 
+    // The rare cases of `add` have functions of their own, so that it saves few registers.
+    /// One more watch on a literal whose code is not below `PLACE_LIMIT`.
+    #[cold]
+    #[inline(never)]
+    fn add_far(&mut self, literal: Lit, watch: Watch) -> Result<(), AllocError> {
+        self.far
+            .entry(literal.code())?
+            .or_insert(Vec::new(self.alloc))
+            .push(watch)?;
+        Ok(())
+    }
+
+    /// Makes lists up to that of the literal.
+    #[cold]
+    #[inline(never)]
+    fn reach(&mut self, literal: Lit) -> Result<(), AllocError> {
+        for _ in self.lists.len()..literal.code() + 1 {
+            self.lists.push(Vec::new(self.alloc))?;
+        }
+        Ok(())
+    }
+
     /// One more watch on a literal.
     fn add(&mut self, literal: Lit, watch: Watch) -> Result<(), AllocError> {
         let code = literal.code();
         if code >= PLACE_LIMIT {
-            self.far
-                .entry(code)?
-                .or_insert(Vec::new(self.alloc))
-                .push(watch)?;
+            self.add_far(literal, watch)?;
             return Ok(());
         }
-        for _ in self.lists.len()..code + 1 {
-            self.lists.push(Vec::new(self.alloc))?;
+        if code >= self.lists.len() {
+            self.reach(literal)?;
         }
         if code < self.lists.len() {
             self.lists[code].push(watch)?;

@@ -283,18 +283,29 @@ fn solve_from<R: Read + Drop>(
     if is_written_over(rt, found, words.proof) {
         return tell_file(&mut err, proof_path, &SAME_FILE);
     }
-    let mut proof = match create_target(rt, words.proof) {
-        Ok(proof) => proof,
-        Err(error) => return tell_file(&mut err, proof_path, &error),
-    };
-    let options = words.options();
+    match create_target(rt, words.proof) {
+        Ok(mut proof) => decide_from(rt, cnf, &mut proof, words),
+        Err(error) => tell_file(&mut err, proof_path, &error),
+    }
+}
+
+// Decides the formula that a reader gives, with a proof if there is a target for it.
+fn decide_from<R: Read + Drop>(
+    rt: &HostRuntime,
+    cnf: R,
+    proof: &mut Option<FileTarget>,
+    words: &SolveWords<'_>,
+) -> u8
+    requires { CanCountFault taken_by_writer proof.old }
+{
+    let mut err = rt.stderr();
     match BufWriter::new(rt.alloc(), io::writer(rt)) {
         Ok(mut out) => decide_text(
             rt,
             words.heap,
             &mut ReadSource::new(cnf),
-            &mut proof,
-            options,
+            proof,
+            words.options(),
             &mut out,
             &mut err,
         ),

@@ -15,7 +15,7 @@ use thiserror::Error;
 use varisat_clause::header::Tier;
 use varisat_formula::dimacs::{DimacsError, DimacsErrorKind, DimacsParser};
 use varisat_formula::formula::{CnfFormula, ExtendFormula};
-use varisat_formula::io::{ByteSource, ProofTarget};
+use varisat_formula::io::{ByteSource, PIECE, ProofTarget};
 use varisat_literals::{Lit, Var};
 use varisat_names::config::{ConfigField, SolverConfigUpdate};
 use varisat_names::variables::LinkedVariables;
@@ -31,9 +31,6 @@ use varisat_search::error::StepError;
 use varisat_search::model::reconstruct_global_model;
 use varisat_search::state::SatState;
 use varisat_tracer::SolverTracer;
-
-/// How many bytes of a text are asked for at a time.
-const PIECE: usize = 0x2000;
 
 /// Why a call was refused.
 #[derive(Debug, Drop, Error)]
@@ -205,7 +202,7 @@ impl<W: ProofTarget, A: Allocator + Copy> Solver<W, A> {
     ghost use Rattle.varisat.specs.Models.{IsCompletableIn, HasModel, HasCore, IsNamedCore};
     ghost use Rattle.varisat.specs.Calls.{IsValid, count_anew, with_max_steps, AddsClause, AddsAll, AddsFormula, AddsDimacs, TellsFault, MakesVar, Assumes, Searches, Solves, TellsModel, TellsCore, Configures, TellsSteps, TellsSince, TellsValid, answer_of};
     ghost use Rattle.varisat.specs.Told.{told_list, lent_list};
-    ghost use Rattle.varisat.specs.Summaries.{StandsFor, StandsOnceEnded, EndsSearch, HasNoRoom};
+    ghost use Rattle.varisat.specs.Summaries.{StandsFor, StandsOnceEnded, EndsSearch, HasFullStore};
     ghost use Rattle.varisat.specs.Targets.{WritesOn, WritesAll};
     ghost use Rattle.varisat_proof.specs.Proving.{marked_searched};
     ghost use Rattle.varisat.specs.Journals.{IsJournal};
@@ -344,7 +341,7 @@ impl<W: ProofTarget, A: Allocator + Copy> Solver<W, A> {
     /// out, the clause store is full or the target of an open proof fails, the solver is invalid.
     pub fn add_clause(&mut self, clause: &[Lit]) -> Result<(), SolverError>
         ensures target { WritesOn self.old.opened result self.new.opened }
-        ensures full { result ≡ Err SolverError.ClauseStoreFull → HasNoRoom self.new }
+        ensures full { result ≡ Err SolverError.ClauseStoreFull → HasFullStore self.new }
         ensures call { (s : State) → StandsFor self.old s → (t : State) × AddsClause s clause.now result t × StandsFor self.new t }
     {
         if self.ctx.solver_state.state_is_invalid {
@@ -378,7 +375,7 @@ impl<W: ProofTarget, A: Allocator + Copy> Solver<W, A> {
         formula: &CnfFormula<B>,
     ) -> Result<(), SolverError>
         ensures target { WritesOn self.old.opened result self.new.opened }
-        ensures full { result ≡ Err SolverError.ClauseStoreFull → HasNoRoom self.new }
+        ensures full { result ≡ Err SolverError.ClauseStoreFull → HasFullStore self.new }
         ensures call { (s : State) → StandsFor self.old s → (t : State) × AddsAll s formula.now.clauses result t × StandsFor self.new t }
     {
         for clause in formula.iter() {
@@ -394,7 +391,7 @@ impl<W: ProofTarget, A: Allocator + Copy> Solver<W, A> {
         formula: &CnfFormula<B>,
     ) -> Result<(), SolverError>
         ensures target { WritesOn self.old.opened result self.new.opened }
-        ensures full { result ≡ Err SolverError.ClauseStoreFull → HasNoRoom self.new }
+        ensures full { result ≡ Err SolverError.ClauseStoreFull → HasFullStore self.new }
         ensures call { (s : State) → StandsFor self.old s → (t : State) × AddsFormula s formula.now.clauses result t × StandsFor self.new t }
     {
         if self.ctx.solver_state.state_is_invalid {
@@ -422,7 +419,7 @@ impl<W: ProofTarget, A: Allocator + Copy> Solver<W, A> {
     /// Ends the text, accepts the clauses that it leaves, and returns its fault, if there is one.
     fn end_text(&mut self, parser: &mut DimacsParser<A>) -> Result<(), SolverError>
         ensures target { WritesOn self.old.opened result self.new.opened }
-        ensures full { result ≡ Err SolverError.ClauseStoreFull → HasNoRoom self.new }
+        ensures full { result ≡ Err SolverError.ClauseStoreFull → HasFullStore self.new }
         ensures call { (s : State) → StandsFor self.old s → IsValid s → StandsOnceEnded parser.old s result self.new }
     {
         let end = parser.finish();
@@ -442,7 +439,7 @@ impl<W: ProofTarget, A: Allocator + Copy> Solver<W, A> {
     pub fn add_dimacs_cnf<S: ByteSource>(&mut self, source: &mut S) -> Result<(), SolverError>
         requires { (S.stand source.old).faults < 2 ^ 64 - 1 }
         ensures target { WritesOn self.old.opened result self.new.opened }
-        ensures full { result ≡ Err SolverError.ClauseStoreFull → HasNoRoom self.new }
+        ensures full { result ≡ Err SolverError.ClauseStoreFull → HasFullStore self.new }
         ensures call { (s : State) → StandsFor self.old s → (t : State) × AddsDimacs s (S.stand source.old) result (S.stand source.new) t
             × StandsFor self.new t }
     {
@@ -608,7 +605,7 @@ impl<W: ProofTarget, A: Allocator + Copy> Solver<W, A> {
         ensures core { result ≡ Ok false → (s : State) → StandsFor self.new s → HasCore s }
         // The target is as after the steps, but that a search is noted to have run under the proof.
         ensures target { WritesOn (marked_searched self.old.opened) result (marked_searched self.new.opened) }
-        ensures full { result ≡ Err SolverError.ClauseStoreFull → HasNoRoom self.new }
+        ensures full { result ≡ Err SolverError.ClauseStoreFull → HasFullStore self.new }
         // Variables leave in time: those whose values are fixed, unless they are assumed.
         ensures leaves { GoesOnLeaving self.old self.new }
     {
@@ -646,7 +643,7 @@ impl<W: ProofTarget, A: Allocator + Copy> Solver<W, A> {
         ensures target { WritesOn self.old.opened result self.new.opened }
         // In a valid solver it has all lines.
         ensures whole { self.new.ledger.valid ≡ true → WritesAll self.old.opened self.new.opened }
-        ensures full { result ≡ Err SolverError.ClauseStoreFull → HasNoRoom self.new }
+        ensures full { result ≡ Err SolverError.ClauseStoreFull → HasFullStore self.new }
         ensures leaves { GoesOnLeaving self.old self.new }
     {
         if self.ctx.solver_state.state_is_invalid {

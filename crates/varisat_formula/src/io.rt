@@ -9,7 +9,7 @@ pub mod source;
 
 pub use cut::{CutSource, CutTarget};
 pub use output::IoTarget;
-pub use source::{ByteSource, ReadSource};
+pub use source::{ByteSource, PIECE, ReadSource};
 use std::alloc::Allocator;
 use std::io;
 use std::marker::Model;

@@ -1,5 +1,5 @@
 -- What contracts see of the parts.
-use Rattle.std.specs.Prelude.{◌≡◌, ℕ, Bool, true, false, Option, Some, None, List, [], length, take, option_map, slice_index, slice_index_or}
+use Rattle.std.specs.Prelude.{◌≡◌, ℕ, Bool, true, false, Option, Some, None, List, [], length, take, option_map, slice_index, slice_index_or, slice_set}
 use Rattle.std.specs.Bool.{beq}
 use Rattle.varisat_theory.specs.Literals.{Literal, variable_of}
 use Rattle.varisat_literals.specs.Numbers.{polarity_of}
@@ -14,6 +14,10 @@ pub record Values : Type 0 where
 -- no variable
 abbrev pub no_values : Values
 no_values = record { current = []; last = [] }
+
+-- the variable has no value any more, and the last one that it had is the given one
+abbrev pub without_value : ℕ → Bool → Values → Values
+without_value v last values = record { current = slice_set values.current v None; last = slice_set values.last v last }
 
 -- the literal's variable has the value that makes it true
 abbrev pub IsMadeTrue : List (Option Bool) → Literal → Type 0

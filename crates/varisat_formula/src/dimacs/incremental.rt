@@ -4,9 +4,8 @@ ghost use Rattle.varisat_formula.specs.Rest.{Progress, begin, dimacs_from, IsEnd
 ghost use Rattle.varisat_formula.specs.Parsed.{TakesPiece, reading_with, Finishes, Refuses};
 
 use crate::dimacs::error::DimacsError;
-use crate::dimacs::parse::PIECE;
 use crate::dimacs::parser::DimacsParser;
-use crate::io::ByteSource;
+use crate::io::{ByteSource, PIECE};
 use std::alloc::Allocator;
 
 /// A reader of texts in pieces.

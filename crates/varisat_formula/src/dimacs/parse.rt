@@ -5,11 +5,8 @@ ghost use Rattle.varisat_formula.specs.Parsed.{TakesPiece, Parses};
 use crate::dimacs::error::DimacsError;
 use crate::dimacs::parser::DimacsParser;
 use crate::formula::CnfFormula;
-use crate::io::ByteSource;
+use crate::io::{ByteSource, PIECE};
 use std::alloc::Allocator;
-
-/// How many bytes of a source are asked for at a time.
-pub(crate) const PIECE: usize = 0x2000;
 
 impl<A: Allocator + Copy> DimacsParser<A> {
     /// Reads the next piece of the source, with room for it in the buffer. Returns false at the source's end, and the

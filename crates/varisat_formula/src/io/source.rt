@@ -8,6 +8,9 @@ use std::io;
 use std::io::{ErrorKind, Read};
 use std::marker::Model;
 
+/// How many bytes of a source are asked for at a time.
+pub const PIECE: usize = 0x2000;
+
 /// Gives bytes in pieces, and counts its faults.
 pub trait ByteSource: Drop {
     /// The bytes that it gave and those that are left, the pieces that may come, the faults, and whether it told its

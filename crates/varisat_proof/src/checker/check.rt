@@ -29,12 +29,9 @@ use std::alloc::{AllocError, Allocator};
 use std::marker::Model;
 use varisat_formula::dimacs::{DimacsError, DimacsErrorKind, DimacsParser};
 use varisat_formula::formula::CnfFormula;
-use varisat_formula::io::ByteSource;
+use varisat_formula::io::{ByteSource, PIECE};
 use varisat_literals::{Lit, Var};
 use varisat_present::PresentClauses;
-
-/// How many bytes of a source are asked for at a time.
-const PIECE: usize = 0x2000;
 
 /// How many lines were looked at, and whether the present clauses conflicted.
 #[derive(Clone, Copy)]

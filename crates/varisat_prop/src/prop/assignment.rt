@@ -2,7 +2,7 @@
 ghost use Rattle.std.specs.Prelude.{◌≡◌, ◌<◌, ◌≤◌, ◌↔◌, ◌++◌, ◌-◌, IsTrue, [], length, replicate, slice_index_or, slice_set, Option, Some, None, true, false, OnOk, OnErr};
 ghost use Rattle.varisat_theory.specs.Literals.{variable_of, opposite};
 ghost use Rattle.varisat_literals.specs.Numbers.{polarity_of};
-ghost use Rattle.varisat_prop.specs.Parts.{IsMadeTrue, value_in, no_values, is_true_value};
+ghost use Rattle.varisat_prop.specs.Parts.{IsMadeTrue, value_in, no_values, is_true_value, without_value};
 
 use crate::prop::lit_value::LitValue;
 use std::alloc::{AllocError, Allocator};
@@ -83,10 +83,7 @@ impl<A: Allocator + Copy> Assignment<A> {
     pub fn release_var(&mut self, var: Var)
         requires { var < length self.old.current }
         ensures count { length self.old.last ≡ length self.old.current }
-        ensures released { self.new ≡ record {
-          current = slice_set self.old.current var None;
-          last = slice_set self.old.last var (is_true_value (slice_index_or self.old.current var None));
-        } }
+        ensures released { self.new ≡ without_value var (is_true_value (slice_index_or self.old.current var None)) self.old }
     {
         self.last_value[var.index()] = self.assignment[var.index()] == Some(true);
         self.unassign_var(var);
@@ -95,7 +92,7 @@ impl<A: Allocator + Copy> Assignment<A> {
     /// Takes the variable's value away, and also what was remembered of it: the last is false, as at first.
     pub fn forget_var(&mut self, var: Var)
         requires { var < length self.old.current }
-        ensures { self.new ≡ record { current = slice_set self.old.current var None; last = slice_set self.old.last var false } }
+        ensures { self.new ≡ without_value var false self.old }
     {
         self.last_value[var.index()] = false;
         self.unassign_var(var);

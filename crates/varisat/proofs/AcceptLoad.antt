@@ -24,7 +24,7 @@ use Rattle.varisat.specs.States.{State, Verdict, Unknown, Unsat, IsRight}
 use Rattle.varisat.specs.Names.{through_names}
 use Rattle.varisat.specs.Calls.{ContradictsUnit, VerdictAfter, Refuted, Reopened}
 use Rattle.varisat.specs.Carried.{carry, is_forced}
-use Rattle.varisat.specs.Spaces.{Spaces, Carrying, IsWide, IsApart, IsolationCase, NotIsolated, Apart, Forced, IsolationFits, Translation, translation, CheckerFits, SharesHeld, IsCounted, IsGone, IsTold, SearchHolds, CoreFits, without_core, VerdictFits, Links}
+use Rattle.varisat.specs.Spaces.{Spaces, Carrying, IsWide, IsApart, IsolationCase, NotIsolated, Apart, Forced, IsolationFits, Translation, translation, CheckerFits, SharesHeld, IsCounted, IsGone, TellsWhole, SearchHolds, CoreFits, without_core, VerdictFits, Links}
 use Rattle.varisat.proofs.SpacesMoves.{AreTaken, solver_literal, IsTouched, IsMarkedFor, accept, AreLong, AreInUse}
 use Rattle.varisat_names.proofs.Maps.{chain-some, chain-through}
 use Rattle.varisat.proofs.SearchLinks.{relinked-marks}
@@ -258,7 +258,7 @@ module _ (w : Carrying) (p : Spaces) (s : State) (d : Clause) (k : Links w p s) 
             (∈-or_not i (map variable_of (map (through_names s.naming) d)))
         go (Forced b e) = Forced b e
 
-    stands : (told : List Entry) → IsTold told (s.clauses ++ c ∷ []) s.assumptions s.counted s.ever_hidden (IsGone w s) →
+    stands : (told : List Entry) → TellsWhole told (s.clauses ++ c ∷ []) s.assumptions s.counted s.ever_hidden (IsGone w s) →
         (t : Search) (v : Outcome) (m : ℕ → Bool) (checker : Option CheckerState) (x : Verdict) →
         (without_core v ≢ outcome.Unsat → CheckerFits w.global told checker) →
         SearchHolds (s.clauses ++ c ∷ []) (with_told told r) t (without_core v) → VerdictFits w.identity m v x →

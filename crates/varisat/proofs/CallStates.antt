@@ -7,7 +7,7 @@ use Rattle.varisat_names.specs.Settings.{Settings}
 use Rattle.varisat.specs.States.{State, with_variables, with_words, Ledger, IsWellFormed, FlagsFit, Unknown}
 use Rattle.varisat_search.specs.StepErrors.{step_faults}
 use Rattle.varisat.specs.Refusals.{step_refusal}
-use Rattle.varisat.specs.Calls.{IsLikeButLeft, IsLike, IsValid, Invalidates, IsFull, MayConstrain, IsExtensible, AddsClause, CountsCall, Searches, with_steps, Assumes}
+use Rattle.varisat.specs.Calls.{IsLikeButLeft, IsLike, IsValid, Invalidates, IsStoreFull, MayConstrain, IsExtensible, AddsClause, CountsCall, Searches, with_steps, Assumes}
 use Rattle.varisat_theory.specs.Journals.{Entry}
 use Rattle.varisat.specs.Journals.{TellsMore, TellsStaying, AreDerived}
 use Rattle.varisat.specs.Names.{name_all}
@@ -154,7 +154,15 @@ pub record Begins (g : Summary) (s : State) : Type 0 where
   pub flags : FlagsFit s
 
 pub begins : {g : Summary} {s : State} → StandsFor g s → g.ledger.valid ≡ true → Begins g s
-begins {g} {s} st v = record { valid = stands-valid g s st v; ledger = st.ledger; words = st.words; fits = st.fits v; proof = proof-fits st v; flags = st.flags v }
+begins {g} {s} st v = record {
+  valid = stands-valid g s st v;
+  ledger = st.ledger;
+  words = st.words;
+  fits = st.fits v;
+  proof =
+      proof-fits st v;
+  flags = st.flags v;
+}
 
 -- What two flags say of a state, they say of one with the same clauses and assumptions, to which nothing more was told, and whose
 -- proof bars no other assumptions.
@@ -218,7 +226,7 @@ broken-untold s words v w = broken-invalid 0 s s.proof words v (goes-on-unfailed
 
 -- a clause could not be kept
 pub adds-broken : (e : StepError) (s t : State) (d : Clause) → (step_faults e ≡ 1 → IsOpen s.proof) → IsExtensible s → MayConstrain s.naming d →
-    Invalidates (step_faults e) s t → (e ≡ step.Full → IsFull (name_all d s.naming).made t) → AddsClause s d (Err (step_refusal e)) t
+    Invalidates (step_faults e) s t → (e ≡ step.Full → IsStoreFull (name_all d s.naming).made t) → AddsClause s d (Err (step_refusal e)) t
 adds-broken step.Full s t d o n l i f = (n, l, i, f refl)
 adds-broken step.Memory s t d o n l i f = (n, l, i)
 adds-broken (step.Target cause) s t d o n l i f = (o refl, n, l, i)
@@ -233,7 +241,7 @@ assumes-broken (step.Target cause) s t list n o b l i = (o refl, b, l, i)
 -- so it is where a step came to no end
 pub searches-broken : (e : StepError) (s t : State) → (step_faults e ≡ 1 → IsOpen s.proof) → s.verdict ≡ Unknown →
     CountsCall s (Err (step_refusal e)) t → Invalidates (step_faults e) (with_steps t.ledger.steps s) t →
-    (e ≡ step.Full → IsFull s.naming.made t) → Searches s (Err (step_refusal e)) t
+    (e ≡ step.Full → IsStoreFull s.naming.made t) → Searches s (Err (step_refusal e)) t
 searches-broken step.Full s t o u c i f = (u, c, i, f refl)
 searches-broken step.Memory s t o u c i f = (u, c, i)
 searches-broken (step.Target cause) s t o u c i f = (o refl, u, c, i)

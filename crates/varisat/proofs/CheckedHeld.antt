@@ -20,7 +20,7 @@ use Rattle.varisat_names.specs.Variables.{Tables}
 use Rattle.varisat_names.proofs.Maps.{chain-through}
 use Rattle.varisat_proof.specs.Calls.{CheckerState}
 use Rattle.varisat_proof.specs.Present.{IsLeftAfter}
-use Rattle.varisat_proof.specs.Proving.{ProofParts, IsCheckedIf, MayHold}
+use Rattle.varisat_proof.specs.Proving.{ProofParts, IsCheckedIf, MayBeHeld}
 use Rattle.varisat_search.specs.AssumptionParts.{AssumptionParts}
 use Rattle.varisat_search.specs.Seen.{search_of}
 use Rattle.varisat_search.specs.Steps.{assignment_of}
@@ -64,8 +64,8 @@ left-as f (Fails core ∷ es) held after P Q n s (R, (g, e), d) l =
 left-as f (Leaves v ∷ es) held after P Q n s d l = absurd n
 
 may-hold-on : (f : Literal → Literal) (k k' : Option CheckerState) (es : List Entry) (held after : List Clause) → NoneLeaves es →
-    IsCheckedIf k (told_as f es) k' → Leads held es after → MayHold k (rename f held) → MayHold k' (rename f after)
-may-hold-on f None k' es held after n e d h = subst (λ o. MayHold o (rename f after)) (sym e) tt
+    IsCheckedIf k (told_as f es) k' → Leads held es after → MayBeHeld k (rename f held) → MayBeHeld k' (rename f after)
+may-hold-on f None k' es held after n e d h = subst (λ o. MayBeHeld o (rename f after)) (sym e) tt
 may-hold-on f (Some a) None es held after n e d h = absurd e
 may-hold-on f (Some a) (Some b) es held after n (l, e) d (s, u) = (left-as f es held after a.clauses b.clauses n s d l, e ∙ u)
 
@@ -101,7 +101,7 @@ checked-assumed (Some x) (Some y) a (c, u) = checked-nothing (Some x) (Some y) (
 pub checker-alike : (f g : ℕ → Option ℕ) (told : List Entry) (k : Option CheckerState) →
     ((held : List Clause) → Leads [] told held → (c : Clause) (l : Literal) → c ∈ held → l ∈ c → f (variable_of l) ≡ g (variable_of l)) →
     CheckerFits f told k → CheckerFits g told k
-checker-alike f g told k same fits held led = subst (MayHold k)
+checker-alike f g told k same fits held led = subst (MayBeHeld k)
     (rename-same (carry f) (carry g) held (λ c l h i. carry-same f g l (same held led c l h i))) (fits held led)
 
 -- a clause mentions the one variable just where it mentions the other under the other name
@@ -134,14 +134,14 @@ pub checker-without : (f g : ℕ → Option ℕ) (told : List Entry) (i x : ℕ)
     CheckerFits f told k → CheckerFits g (told ++ Leaves i ∷ []) k'
 checker-without f g told i x k k' same other c fits after led =
     let (held, first, (R, e, d)) = leads_cut [] told (Leaves i ∷ []) after led in
-    subst (λ (X : List Clause). MayHold k' (rename (carry g) X)) (sym e ∙ d)
-    (subst (MayHold k') (rename-same (carry f) (carry g) (without i held) (λ d l h j. carry-same f g l (other (variable_of l) (left-apart i held d l h j))))
+    subst (λ (X : List Clause). MayBeHeld k' (rename (carry g) X)) (sym e ∙ d)
+    (subst (MayBeHeld k') (rename-same (carry f) (carry g) (without i held) (λ d l h j. carry-same f g l (other (variable_of l) (left-apart i held d l h j))))
     (go k k' c held (λ d l h j. same held first d l h j) (fits held first)))
   where
     go : (k k' : Option CheckerState) → IsCheckedIf k (Leaves x ∷ []) k' → (held : List Clause) →
-        ((c : Clause) (l : Literal) → c ∈ held → l ∈ c → (variable_of (carry f l) ≡ x) ↔ (variable_of l ≡ i)) → MayHold k (rename (carry f) held) →
-        MayHold k' (rename (carry f) (without i held))
-    go None k' e held same h = subst (λ o. MayHold o (rename (carry f) (without i held))) (sym e) tt
+        ((c : Clause) (l : Literal) → c ∈ held → l ∈ c → (variable_of (carry f l) ≡ x) ↔ (variable_of l ≡ i)) → MayBeHeld k (rename (carry f) held) →
+        MayBeHeld k' (rename (carry f) (without i held))
+    go None k' e held same h = subst (λ o. MayBeHeld o (rename (carry f) (without i held))) (sym e) tt
     go (Some a) None e held same h = absurd e
     go (Some a) (Some b) (l, u) held same (s, v) = (
       subst (λ (X : List Clause). SameClauses X b.clauses) (without-alike (carry f) x i held same)
@@ -179,19 +179,19 @@ module _ (w : Carrying) (p : Spaces) (s : State) (k : Links w p s) where
 
   -- Clauses that it shares are, with those that were forgotten, what the checker has.
   pub shared-held : {fixed : List Literal} (share : List Clause) → SharesHeld (translation w p s.told) fixed share →
-      CheckerFits w.global s.told p.checker → (others : List Clause) × MayHold p.checker (others ++ rename (global.carry p.global_from_solver) share)
+      CheckerFits w.global s.told p.checker → (others : List Clause) × MayBeHeld p.checker (others ++ rename (global.carry p.global_from_solver) share)
   shared-held share q fits =
       let f = carry (translation w p s.told).identity in
       let g = carry w.global in
       let names : rename g (q.forgotten ++ rename f share) ≡ rename g q.forgotten ++ rename (global.carry p.global_from_solver) share =
       map-append (map g) q.forgotten (rename f share) ∙ ap (λ xs. rename g q.forgotten ++ xs) (renamed share q.inside) in (
         rename g q.forgotten,
-        subst (MayHold p.checker) names
+        subst (MayBeHeld p.checker) names
             (held-as p.checker (rename g q.held) (rename g (q.forgotten ++ rename f share))
             (same_clauses_renamed g q.held (q.forgotten ++ rename f share) q.same) (fits q.held q.led)),
       )
     where
-      held-as : (o : Option CheckerState) (P Q : List Clause) → SameClauses P Q → MayHold o P → MayHold o Q
+      held-as : (o : Option CheckerState) (P Q : List Clause) → SameClauses P Q → MayBeHeld o P → MayBeHeld o Q
       held-as None P Q same h = tt
       held-as (Some c) P Q same (h, u) = (same_clauses-through Q P c.clauses (same_clauses-back P Q same) h, u)
 

@@ -12,7 +12,7 @@ use Rattle.varisat.specs.Additions as additions
 use Rattle.varisat.specs.Additions.{Gave, NoFault, MemoryFault, Fault, ClauseRefused, ClausesAdded, RefusedEarly, FaultInText, Whole, MemoryRanOut, SourceFailed, Read, Unread}
 use Rattle.varisat.specs.Decided as conclusion
 use Rattle.varisat.specs.Decided.{Conclusion}
-use Rattle.varisat.specs.Proven.{Finds}
+use Rattle.varisat.specs.Proven.{Concludes}
 use Rattle.varisat.proofs.NamesInOrder.{stay-in-order}
 use Rattle.varisat.proofs.ProgramDecides.{done, broken-fails}
 
@@ -94,7 +94,7 @@ first-of-text n s t old new o (Read v g a) = (g.text, g.reads.gave, first-given 
 first-of-text n s t old new o (Unread e k f) = absurd cc
 
 -- Where they are known to be unsatisfiable no other conclusion is found.
-pub finds-refuted : (t u : State) (c : Conclusion) → Finds t c u → t.verdict ≡ Unsat → c ≡ conclusion.Decided None
+pub finds-refuted : (t u : State) (c : Conclusion) → Concludes t c u → t.verdict ≡ Unsat → c ≡ conclusion.Decided None
 finds-refuted t u conclusion.Unknown r e = let z : Unsat ≡ Unknown = sym e ∙ r.unknown in absurd cc
 finds-refuted t u (conclusion.Decided None) r e = refl
 finds-refuted t u (conclusion.Decided (Some model)) (r, m) e =

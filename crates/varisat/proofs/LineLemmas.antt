@@ -16,7 +16,7 @@ use Rattle.std.proofs.lemmas.List.Splits.{slice_split_none, slice_split_at, join
 use Rattle.varisat_literals.specs.Numbers.{literal_number}
 use Rattle.varisat_literals.specs.Numbers.{literal_text, variable_text}
 use Rattle.varisat_formula.specs.Streams.{Stand, Taken}
-use Rattle.varisat.specs.Runs.{IsReady}
+use Rattle.varisat.specs.Runs.{MayStillFail}
 use Rattle.varisat.specs.declared.session.Call.{Call}
 use Rattle.varisat.specs.declared.session.Call.TheVariants as call
 use Rattle.varisat_names.specs.declared.config.ConfigField.{ConfigField}
@@ -473,7 +473,7 @@ pub hide_read : (text number : List ℕ) (v : ℕ) → pointwise nat_eq (take 5 
 hide_read text number v t d e h = record { spelled = ap (λ xs. codes "hide " ++ xs) e ∙ behind_name text (codes "hide ") number 5 t d; in_range = h }
 
 -- what a command asks for reads no source, and opens a proof in memory
-pub asked-ready : {S A : Type 0} (seen : S → Stand) (c : Call Taken S A) (command : Command) → AsksFor c command → IsReady seen (λ t. t) c
+pub asked-ready : {S A : Type 0} (seen : S → Stand) (c : Call Taken S A) (command : Command) → AsksFor c command → MayStillFail seen (λ t. t) c
 asked-ready seen (call.WriteProof target format) ProofText (e, f) = subst (λ (t : Taken). t.faults < 2 ^ 64 - 1) (sym e) (omega arith)
 asked-ready seen (call.WriteProof target format) ProofBinary (e, f) = subst (λ (t : Taken). t.faults < 2 ^ 64 - 1) (sym e) (omega arith)
 asked-ready seen (call.WriteProof target format) ProofMarked (e, f) = subst (λ (t : Taken). t.faults < 2 ^ 64 - 1) (sym e) (omega arith)

@@ -21,7 +21,7 @@ use Rattle.varisat_proof.specs.Proving as proving
 use Rattle.varisat_tracer.specs.Tracing.{BreaksProof}
 use Rattle.varisat_tracer.proofs.Telling.{unopened-unbroken}
 use Rattle.varisat.specs.Carried.{carry}
-use Rattle.varisat.specs.OpenProofs.{OpenProof, opened_state, IsOpen, lines_over, IsWrittenIf, ProofFits, GoesOnWriting, GoesOnFailing, searched_under, first_proof, taken_of, BarsClauses, BarsAssumptions, entries_over}
+use Rattle.varisat.specs.OpenProofs.{OpenProof, opened_state, IsOpen, lines_over, IsWrittenWhereOpen, ProofFits, GoesOnWriting, GoesOnFailing, searched_under, first_proof, taken_of, BarsClauses, BarsAssumptions, entries_over}
 use Rattle.varisat.specs.Journals.{TellsProof}
 use Rattle.varisat.proofs.ToldEntries.{OnlyLeave}
 
@@ -107,7 +107,7 @@ lines-of-entries old new told e = sym (lines-renamed (carry new) told) ∙ ap li
 
 -- entries were told to it
 on-told : (variables : ℕ → Option ℕ) (before after entries : List Entry) (proof : Option OpenProof) (new : Option OpenState) →
-    IsWrittenIf variables before proof →
+    IsWrittenWhereOpen variables before proof →
     proving.IsWrittenIf (opened_state proof) (told (map (rename_entry (carry variables)) entries)) new → after ≡ before ++ entries →
     (now : Option OpenProof) × GoesOnWriting proof now × ProofFits new variables after now
 on-told variables before after entries None new w e joined = (None, refl, record { same = e; written = tt })
@@ -131,7 +131,7 @@ on-told variables before after entries (Some p) (Some o) w e joined =
 
 -- what was told before is written as it was
 other-told : (old new : ℕ → Option ℕ) (told : List Entry) (proof : Option OpenProof) → entries_over new told ≡ entries_over old told →
-    IsWrittenIf old told proof → IsWrittenIf new told proof
+    IsWrittenWhereOpen old told proof → IsWrittenWhereOpen new told proof
 other-told old new told None e w = tt
 other-told old new told (Some p) e w = w ∙ ap (bytes_told p.format) (sym e)
 
@@ -208,7 +208,7 @@ leaves-unwritten variables e (Fails core ∷ es) o = absurd o
 leaves-unwritten variables e (Leaves v ∷ es) o = leaves-unwritten variables e es o
 
 pub first-written : (variables : ℕ → Option ℕ) (f : ProofFormat) (t : Taken) (told : List Entry) → OnlyLeave told →
-    IsWrittenIf variables told (Some (first_proof f t))
+    IsWrittenWhereOpen variables told (Some (first_proof f t))
 first-written variables f t told o = ap (lines_written (encoding_of f)) (sym (leaves-unwritten variables (encoding_of f) told o))
 
 -- what comes back as a proof closes, whatever errors may be
@@ -239,8 +239,8 @@ pub searched-state : (o : Option OpenProof) → marked_searched (opened_state o)
 searched-state None = refl
 searched-state (Some p) = refl
 
-pub searched-written : (variables : ℕ → Option ℕ) (told : List Entry) (o : Option OpenProof) → IsWrittenIf variables told o →
-    IsWrittenIf variables told (searched_under o)
+pub searched-written : (variables : ℕ → Option ℕ) (told : List Entry) (o : Option OpenProof) → IsWrittenWhereOpen variables told o →
+    IsWrittenWhereOpen variables told (searched_under o)
 searched-written variables told None w = tt
 searched-written variables told (Some p) w = w
 
@@ -254,7 +254,7 @@ pub fitted-before : (o : Option OpenState) (variables : ℕ → Option ℕ) (tol
     ProofFits (marked_searched o) variables told proof → (before : Option OpenProof) × ProofFits o variables told before
 fitted-before o variables told proof f = go o proof f.same f.written
   where
-    go : (o : Option OpenState) (proof : Option OpenProof) → marked_searched o ≡ opened_state proof → IsWrittenIf variables told proof →
+    go : (o : Option OpenState) (proof : Option OpenProof) → marked_searched o ≡ opened_state proof → IsWrittenWhereOpen variables told proof →
         (before : Option OpenProof) × ProofFits o variables told before
     go None proof e w = (None, record { same = refl; written = tt })
     go (Some a) None e w = absurd cc

@@ -224,7 +224,8 @@ accepted p s t d n (w, after, e) g v =
       capped = subst IsCapped (sym e.naming) (capped-all d s.naming k.capped);
       clauses = e.clauses ∙ ap (λ P. P ++ c ∷ []) k.clauses ∙ ap (λ (m : Naming). p.clauses ++ map (through_names (name_all d m)) d ∷ []) k.naming;
       assumed = e.assumptions ∙ k.assumed;
-      lists = lists-on (s.told ++ Accepts c ∷ []) t.told e.told (lists-derived e.told.entries e.derived) ∙ lists-append s.told (Accepts c ∷ []) ∙ append-nil (lists_of s.told) ∙ k.lists;
+      lists = lists-on (s.told ++ Accepts c ∷ []) t.told e.told (lists-derived e.told.entries e.derived) ∙ lists-append s.told (Accepts c ∷ [])
+          ∙ append-nil (lists_of s.told) ∙ k.lists;
       counted = e.counted ∙ ap (λ xs. join_counted xs (map variable_of c)) k.counted
           ∙ ap (λ (m : Naming). join_counted p.counted (map variable_of (map (through_names (name_all d m)) d))) k.naming;
       model = λ h. absurd cc;
@@ -514,7 +515,8 @@ assumed-list p s t list e g v =
       capped = subst IsCapped (sym e.naming) (capped-all list s.naming k.capped);
       clauses = e.clauses ∙ k.clauses;
       assumed = e.assumptions ∙ ap (λ (m : Naming). map (through_names (name_all list m)) list) k.naming;
-      lists = lists-on (s.told ++ Assumes c ∷ []) t.told e.told (lists-derived e.told.entries e.derived) ∙ lists-append s.told (Assumes c ∷ []) ∙ ap (λ x. x ++ c ∷ []) k.lists
+      lists = lists-on (s.told ++ Assumes c ∷ []) t.told e.told (lists-derived e.told.entries e.derived) ∙ lists-append s.told (Assumes c ∷ [])
+          ∙ ap (λ x. x ++ c ∷ []) k.lists
           ∙ ap (λ (m : Naming). p.lists ++ map (through_names (name_all list m)) list ∷ []) k.naming;
       counted = e.counted ∙ ap (λ xs. join_counted xs (map variable_of c)) k.counted
           ∙ ap (λ (m : Naming). join_counted p.counted (map variable_of (map (through_names (name_all list m)) list))) k.naming;

@@ -15,7 +15,7 @@ use Rattle.varisat_names.specs.declared.config.SolverConfigUpdate.{SolverConfigU
 use Rattle.varisat_names.specs.Settings.{Settings, no_update}
 use Rattle.varisat_proof.specs.declared.proof.format.ProofFormat.{ProofFormat}
 use Rattle.varisat.specs.ProofCalls.{OpensProof, EnablesChecking}
-use Rattle.varisat.specs.Proven.{file_update, configured, prepared, Finds}
+use Rattle.varisat.specs.Proven.{file_update, configured, prepared, Concludes}
 use Rattle.varisat.specs.States.{State, join_counted, empty_state, new_state}
 use Rattle.varisat.specs.Names.{Naming, AreInOrder}
 use Rattle.varisat.specs.Models.{IsCompletable}
@@ -347,7 +347,7 @@ module _ (proof : Option PastProof) (limit : Option ℕ) (old new : Stand) (s t 
           let told = subst (λ Q. IsCompletable z.naming Q z.assumptions z.counted model) (ap (λ (y : Past). y.clauses) e ∙ clauses) o in
           own-model P z.naming z.assumptions z.counted model (subst (AreInOrder (count-all 0 P)) (sym (ap (λ (y : Past). y.naming) e)) order) told
 
-  pub found : (c : Conclusion) (u : State) → Finds t c u → Found c
+  pub found : (c : Conclusion) (u : State) → Concludes t c u → Found c
   found Unknown u f = found-unknown u f
   found (Decided None) u f = found-none u f
   found (Decided (Some model)) u (f, d) = found-model model u u f d

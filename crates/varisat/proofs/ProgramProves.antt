@@ -19,7 +19,7 @@ use Rattle.varisat.specs.Additions as additions
 use Rattle.varisat.specs.Additions.{Gave, NoFault, MemoryFault, Fault, ClauseRefused, ClausesAdded, RefusedEarly, FaultInText, Whole, MemoryRanOut, SourceFailed, Read, Unread}
 use Rattle.varisat.specs.Decided as conclusion
 use Rattle.varisat.specs.Decided.{Conclusion, allowed_steps}
-use Rattle.varisat.specs.Proven.{prepared, Finds, Reports, IsProven, IsProvenIf, DecidesProven, Fails, AsSearched, AsListed}
+use Rattle.varisat.specs.Proven.{prepared, Concludes, Reports, IsProven, IsProvenIf, DecidesProven, Fails, AsSearched, AsListed}
 use Rattle.varisat.specs.declared.solver.SolverError.{SolverError}
 use Rattle.varisat.specs.declared.solver.SolverError.TheVariants.{Interrupted, ProofIoError, OutOfMemory, Invalid, ClauseStoreFull, WitnessVar, VariableLimit, AssumedVar, ClauseAfterSolve, ProofOpen, ProofTooLate, ConfigOutOfRange, Dimacs}
 use Rattle.varisat.proofs.OpenProofs.{goes-on-none, goes-on-through, plain-bytes}
@@ -93,7 +93,7 @@ asks-told t u b r = record {
   clauses = r.rest.clauses;
 }
 
-asks : (t u : State) (c : Conclusion) → Finds t c u → Asks t u
+asks : (t u : State) (c : Conclusion) → Concludes t c u → Asks t u
 asks t u conclusion.Unknown r = record {
   valid = ap (λ (l : Ledger). l.valid) r.rest.ledger ∙ r.valid;
   proof = r.rest.proof;
@@ -104,11 +104,11 @@ asks t u conclusion.Unknown r = record {
 asks t u (conclusion.Decided None) r = asks-told t u false r
 asks t u (conclusion.Decided (Some model)) (r, m) = asks-told t u true r
 
-pub finds-valid : (t u : State) (c : Conclusion) → Finds t c u → IsValid u
+pub finds-valid : (t u : State) (c : Conclusion) → Concludes t c u → IsValid u
 finds-valid t u c f = (asks t u c f).valid
 
 -- where none was found the answer was false, and as nothing was assumed it speaks of the clauses
-finds-none : (t u : State) (c : Conclusion) (f : ProofFormat) → Finds t c u → t.assumptions ≡ [] → c ≡ conclusion.Decided None → IsRefuted f u.verdict
+finds-none : (t u : State) (c : Conclusion) (f : ProofFormat) → Concludes t c u → t.assumptions ≡ [] → c ≡ conclusion.Decided None → IsRefuted f u.verdict
 finds-none t u conclusion.Unknown f r n e = absurd cc
 finds-none t u (conclusion.Decided (Some model)) f r n e = let z : Some model ≡ None = cc in absurd cc
 finds-none t u (conclusion.Decided None) Drat r n e = r.answer
@@ -177,7 +177,7 @@ proven-bytes taken format target back u bytes P c e h has unassumed carries give
     }
 
 pub proven : {W : Type 0} (taken : W → Taken) (format : ProofFormat) (check : Bool) (limit : Option ℕ) (old new : Stand) (target back : Option W) (t u : State)
-    (c : Conclusion) (opened : Option OpenState) → state.AddsDimacs (prepared taken format check limit target) old done new t → Finds t c u → HasProof u →
+    (c : Conclusion) (opened : Option OpenState) → state.AddsDimacs (prepared taken format check limit target) old done new t → Concludes t c u → HasProof u →
     opened ≡ opened_state u.proof → IsClosed {E = SolverError} taken opened (Ok back) →
     DecidesProven taken format (allowed_steps limit) old new target back c
 proven {W = W} taken format check limit old new target back t u c opened adds finds has is closed =

@@ -4,7 +4,7 @@ use Rattle.varisat_formula.specs.Streams.{Stand, Taken}
 use Rattle.varisat.specs.States.{State}
 use Rattle.varisat.specs.Calls.{IsValid}
 use Rattle.varisat.specs.Journals.{IsJournal}
-use Rattle.varisat.specs.Runs.{MakesCall, Run, IsReady, AreReady}
+use Rattle.varisat.specs.Runs.{MakesCall, Run, MayStillFail, AreReady}
 use Rattle.varisat.specs.declared.session.Call.{Call}
 use Rattle.varisat.specs.declared.session.Answer.{Answer}
 
@@ -19,6 +19,6 @@ run-push seen taken s t u (d ∷ calls) (b ∷ answers) c a r g j = (r.0, r.1, r
 
 -- what calls that go on are given is ready
 pub ready-next : {W S A : Type 0} (seen : S → Stand) (taken : W → Taken) (before after : List (Call W S A)) (c : Call W S A) →
-    AreReady seen taken (before ++ c ∷ after) → IsReady seen taken c
+    AreReady seen taken (before ++ c ∷ after) → MayStillFail seen taken c
 ready-next seen taken [] after c r = r.0
 ready-next seen taken (b ∷ before) after c r = ready-next seen taken before after c r.1

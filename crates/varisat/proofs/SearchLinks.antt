@@ -3,7 +3,7 @@ use Rattle.std.proofs.Common.{◌≡◌, ◌≢◌, ◌≤◌, ℕ, length, ◌�
 use Rattle.varisat_names.specs.declared.variables.data.VarData.{VarData}
 use Rattle.varisat_theory.specs.Outcomes as outcome
 use Rattle.varisat.specs.States.{State, HasRightVerdict, IsWellFormed}
-use Rattle.varisat.specs.Spaces.{Spaces, Carrying, translation, CheckerFits, SolversFit, IsGone, IsTold, SearchHolds, AssumptionsFit, IsolationFits, MarksFit, WorkingFits, CoreFits, VerdictFits, without_core, Links}
+use Rattle.varisat.specs.Spaces.{Spaces, Carrying, translation, CheckerFits, SolversFit, IsGone, TellsWhole, SearchHolds, AssumptionsFit, IsolationFits, MarksFit, WorkingFits, CoreFits, VerdictFits, without_core, Links}
 use Rattle.varisat.proofs.CallStates.{told_as, told-well}
 use Rattle.varisat.proofs.SpacesAgree.{identities-same, modes-same, units-same}
 
@@ -31,7 +31,7 @@ pub record SearchLinks (w : Carrying) (p : Spaces) (s : State) : Type 0 where
   pub core : CoreFits s.naming.names p.core s.verdict
   pub right : HasRightVerdict s
   pub few : p.var_count ≤ length s.counted
-  pub told : IsTold s.told s.clauses s.assumptions s.counted s.ever_hidden (IsGone w s)
+  pub told : TellsWhole s.told s.clauses s.assumptions s.counted s.ever_hidden (IsGone w s)
   pub checked : without_core p.outcome ≢ outcome.Unsat → CheckerFits w.global s.told p.checker
 
 pub relinked : (w : Carrying) (p q : Spaces) (s t : State) → Links w p s → SearchLinks w (with_search_side q p) (told_as t s) →

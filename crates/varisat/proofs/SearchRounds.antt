@@ -9,7 +9,7 @@ use Rattle.varisat_theory.proofs.Journals.{goes_on_further}
 use Rattle.varisat_theory.proofs.NewClauses.{goes_adding_none, goes_adding_further}
 use Rattle.varisat_names.specs.Settings.{Settings}
 use Rattle.varisat.specs.Budgets.{CountsSteps}
-use Rattle.varisat.specs.Calls.{TellsVerdict, IsInterrupted, Invalidates, IsFull, Searches, with_steps, with_max_steps}
+use Rattle.varisat.specs.Calls.{TellsVerdict, IsInterrupted, Invalidates, IsStoreFull, Searches, with_steps, with_max_steps}
 use Rattle.varisat.specs.Journals.{TellsMore, AreDerived}
 use Rattle.varisat.specs.Names.{Naming}
 use Rattle.varisat.specs.OpenProofs.{GoesOnWriting, lines_over}
@@ -309,7 +309,7 @@ comes-to k n a s m t (Err ClauseStoreFull) w (u, c, i, full) least all small = (
   sym w.verdict ∙ u,
   counts-on k a n s m t.ledger.steps (Err ClauseStoreFull) w c least (λ e. absurd cc) small,
   invalid-on 0 k n a s m t w (counts-low _ _ _ _ _ (Err ClauseStoreFull) c) i,
-  subst (λ (named : Naming). IsFull named.made (with_max_steps n t)) w.naming full,
+  subst (λ (named : Naming). IsStoreFull named.made (with_max_steps n t)) w.naming full,
 )
 comes-to k n a s m t (Err (ProofIoError cause)) w (o, u, c, i) least all small = (
   open-before s.proof m.proof w.proof o,

@@ -70,5 +70,6 @@ stands-checking tables p q started changed_at anew x s n e runs fresh st =
       same = same-opened p q e ∙ t.same;
       written = t.written;
       bounded = t.bounded;
-      flags = λ v. let f = t.flags v in record { clauses = f.clauses; assumptions = f.assumptions; counted = f.counted; unlisted = f.unlisted; unassumed = f.unassumed };
+      flags = λ v. let f = t.flags v in
+          record { clauses = f.clauses; assumptions = f.assumptions; counted = f.counted; unlisted = f.unlisted; unassumed = f.unassumed };
     }

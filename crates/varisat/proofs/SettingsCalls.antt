@@ -20,7 +20,7 @@ use Rattle.varisat.specs.Calls.{with_update, with_max_steps, count_anew}
 use Rattle.varisat.specs.Summaries.{Summary, IsKept, StandsFor, spaces_of}
 use Rattle.varisat_proof.specs.Calls.{CheckerState}
 use Rattle.varisat_proof.specs.Proving.{ProofParts, is_there}
-use Rattle.varisat.specs.OpenProofs.{OpenProof, opened_state, BarsAssumptions, IsWrittenIf}
+use Rattle.varisat.specs.OpenProofs.{OpenProof, opened_state, BarsAssumptions, IsWrittenWhereOpen}
 use Rattle.varisat.specs.ProofCalls.{with_proof}
 use Rattle.varisat.proofs.AcceptClause.{ledger-free, proof-free}
 use Rattle.varisat.proofs.CallStates.{ledger_of, none-since}
@@ -63,7 +63,8 @@ stands-updated {A = A} parts started changed_at anew x y u b a s e n st =
       bounded = st.bounded;
       same = st.same;
       written = st.written;
-      flags = λ v. let f = st.flags v in record { clauses = f.clauses; assumptions = f.assumptions; counted = f.counted; unlisted = f.unlisted; unassumed = f.unassumed };
+      flags = λ v. let f = st.flags v in
+          record { clauses = f.clauses; assumptions = f.assumptions; counted = f.counted; unlisted = f.unlisted; unassumed = f.unassumed };
     })
 
 pub stands-same : {A : Type 0} (parts : TracerState) (started : Bool) (changed_at : ℕ) (x y : Context A) (s : State) → y ≡ x →
@@ -117,7 +118,8 @@ stands-limited {A = A} parts started changed_at n x y b a s e st =
       bounded = st.bounded;
       same = st.same;
       written = st.written;
-      flags = λ v. let f = st.flags v in record { clauses = f.clauses; assumptions = f.assumptions; counted = f.counted; unlisted = f.unlisted; unassumed = f.unassumed };
+      flags = λ v. let f = st.flags v in
+          record { clauses = f.clauses; assumptions = f.assumptions; counted = f.counted; unlisted = f.unlisted; unassumed = f.unassumed };
     })
 
 -- and the steps since its last change are counted on
@@ -155,13 +157,14 @@ stands-anew parts started changed_at anew x s n st = record {
   bounded = st.bounded;
   same = st.same;
   written = st.written;
-  flags = λ v. let f = st.flags v in record { clauses = f.clauses; assumptions = f.assumptions; counted = f.counted; unlisted = f.unlisted; unassumed = f.unassumed };
+  flags = λ v. let f = st.flags v in
+      record { clauses = f.clauses; assumptions = f.assumptions; counted = f.counted; unlisted = f.unlisted; unassumed = f.unassumed };
 }
 
 -- the same solver with another proof, or none, and the same checker, where steps are counted anew
 pub stands-with-proof : {A : Type 0} (tables : Tables) (p q : ProofParts) (started : Bool) (changed_at anew : ℕ) (x : Context A) (s : State)
     (proof : Option OpenProof) → anew ≡ x.schedule.steps → q.checker ≡ p.checker → q.opened ≡ opened_state proof →
-    (not x.solver_state.state_is_invalid ≡ true → IsWrittenIf s.variables s.told proof) → (BarsAssumptions proof → s.assumptions ≡ []) →
+    (not x.solver_state.state_is_invalid ≡ true → IsWrittenWhereOpen s.variables s.told proof) → (BarsAssumptions proof → s.assumptions ≡ []) →
     StandsFor (summary_of (record { tables = tables; proof = p }) started changed_at x) s →
     StandsFor (summary_of (record { tables = tables; proof = q }) started anew x) (count_anew (with_proof proof s))
 stands-with-proof tables p q started changed_at anew x s proof n checker e f unassumed st = record {
@@ -180,7 +183,8 @@ stands-with-proof tables p q started changed_at anew x s proof n checker e f una
   bounded = st.bounded;
   same = e;
   written = f;
-  flags = λ v. let f = st.flags v in record { clauses = f.clauses; assumptions = f.assumptions; counted = f.counted; unlisted = f.unlisted; unassumed = unassumed };
+  flags = λ v. let f = st.flags v in
+      record { clauses = f.clauses; assumptions = f.assumptions; counted = f.counted; unlisted = f.unlisted; unassumed = unassumed };
 }
 
 -- what a solver keeps with other settings

@@ -30,7 +30,7 @@ use Rattle.varisat.specs.States.{State, Verdict, Unknown, Sat, Unsat, UnsatUnder
 use Rattle.varisat.specs.Names.{identity_of}
 use Rattle.varisat.specs.Calls.{with_verdict}
 use Rattle.varisat.specs.Carried.{carry, is_forced, value_or}
-use Rattle.varisat.specs.Spaces.{Spaces, Carrying, Translation, translation, CheckerFits, IsCounted, IsTold, SearchHolds, AssumptionsFit, MarksFit, WorkingFits, CoreFits, without_core, VerdictFits, Links, SpacesFit, IsGone}
+use Rattle.varisat.specs.Spaces.{Spaces, Carrying, Translation, translation, CheckerFits, IsCounted, TellsWhole, SearchHolds, AssumptionsFit, MarksFit, WorkingFits, CoreFits, without_core, VerdictFits, Links, SpacesFit, IsGone}
 use Rattle.varisat.specs.Journals.{retold, TellsMore, AreDerived, EndWithCore}
 use Rattle.varisat.proofs.SpacesMoves.{AreLong, AreInUse}
 use Rattle.varisat.proofs.CheckedHeld.{checker-on, told-carried, global-carried}
@@ -64,7 +64,7 @@ known-unknown : (v : Outcome) → v ≡ outcome.Unknown → without_core v ≢ o
 known-unknown v e q = let z : outcome.Unknown ≡ outcome.Unsat = sym (ap without_core e) ∙ q in cc
 
 -- another verdict of the state, which is right
-decided : (w : Carrying) (p : Spaces) (s : State) (told : List Entry) → IsTold told s.clauses s.assumptions s.counted s.ever_hidden (IsGone w s) →
+decided : (w : Carrying) (p : Spaces) (s : State) (told : List Entry) → TellsWhole told s.clauses s.assumptions s.counted s.ever_hidden (IsGone w s) →
     (t : Search) (v : Outcome) (m : ℕ → Bool) (ws core : List Literal) (checker : Option CheckerState) (x : Verdict) → Links w p s →
     (without_core v ≢ outcome.Unsat → CheckerFits w.global told checker) → SearchHolds s.clauses (translation w p told) t (without_core v) →
     WorkingFits s.clauses (translation w p s.told).identity s.assumptions ws → VerdictFits w.identity m v x →
@@ -200,7 +200,7 @@ module _ (w : Carrying) (p : Spaces) (s : State) (k : Links w p s) (unknown : p.
       (same_clauses-back q.held (q.forgotten ++ rename f before.held) q.same) adding in
       goes_adding n s.told (told_lines r lines) q.held last q.led a
 
-  pub steps-are-told : IsTold (told-with w p s lines) s.clauses s.assumptions s.counted s.ever_hidden (IsGone w s)
+  pub steps-are-told : TellsWhole (told-with w p s lines) s.clauses s.assumptions s.counted s.ever_hidden (IsGone w s)
   steps-are-told =
       let to = (translation w p s.told).identity in
       told-written s.told s.clauses s.assumptions s.counted s.ever_hidden (map (rename_line (carry to)) lines)
@@ -351,7 +351,8 @@ module _ (w : Carrying) (p : Spaces) (s : State) (k : Links w p s) (unknown : p.
         let last = Fails (map (carry s.naming.names) told) in
         let some : map (carry s.naming.names) told ≢ [] = (λ q. (keeps.core found e).1 (map-empty (carry to) found (sym same-core ∙ q))) in
         decided w p s ((told-with w p s lines) ++ last ∷ [])
-        (told-failed (told-with w p s lines) s.clauses s.assumptions s.counted s.ever_hidden (map (carry s.naming.names) told) part steps-are-told) t v m y.working
+        (told-failed (told-with w p s lines) s.clauses s.assumptions s.counted s.ever_hidden (map (carry s.naming.names) told) part steps-are-told)
+        t v m y.working
         told checker (UnsatUnderAssumptions (map (carry s.naming.names) told)) k
         (λ _. core-checked found told c e same-core)
         (holds-same s.clauses (translation w p (told-with w p s lines)) (translation w p ((told-with w p s lines) ++ last ∷ [])) t (without_core v)

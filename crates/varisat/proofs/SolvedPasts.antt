@@ -217,10 +217,12 @@ tells-false p q s t g k r steps same = subst (λ n. past.TellsFalse p (record q 
         past.TellsFalse p (record q { steps = t.ledger.steps; told = t.told })
     go Unknown e c = absurd (let z : None ≡ Some false = ap answer_of (sym e) ∙ r.answer in cc)
     go (Sat a) e c = absurd (let z : Some true ≡ Some false = ap answer_of (sym e) ∙ r.answer in let y : true ≡ false = cc in cc)
-    go Unsat e (inl u) = past.Refuted (steps-told p s t g k r.told) (steps-derived p s t g k r.told (subst (λ v. EndBy v r.told.entries) e (r.ends u))) (r.refuted e)
+    go Unsat e (inl u) = past.Refuted (steps-told p s t g k r.told)
+        (steps-derived p s t g k r.told (subst (λ v. EndBy v r.told.entries) e (r.ends u))) (r.refuted e)
     go Unsat e (inr n) =
         let nothing = (r.known n).2 ∙ k.told.same in
-        past.Refuted (said-nothing (t.ledger.steps - p.steps) p.told t.told nothing) (nothing-said (t.ledger.steps - p.steps) p.told t.told nothing) (r.refuted e)
+        past.Refuted (said-nothing (t.ledger.steps - p.steps) p.told t.told nothing) (nothing-said (t.ledger.steps - p.steps) p.told t.told nothing)
+        (r.refuted e)
     go (UnsatUnderAssumptions core) e (inl u) =
         let fails = subst (IsRight t.clauses t.assumptions t.counted) e r.right in
         past.Failed (steps-told p s t g k r.told) core (subst (λ A. core ⊆ A) (r.rest.assumptions ∙ k.assumed) fails.0)

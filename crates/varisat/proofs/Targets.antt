@@ -15,7 +15,7 @@ use Rattle.varisat_search.specs.declared.error.StepError.TheVariants as step
 use Rattle.varisat.specs.Accepting.{ChecksNames}
 use Rattle.varisat.specs.Refusals.{step_refusal, told_faults}
 use Rattle.varisat.specs.Searches.{TellsSome}
-use Rattle.varisat.specs.Summaries.{Summary, EndsSearch, HasNoRoom}
+use Rattle.varisat.specs.Summaries.{Summary, EndsSearch, HasFullStore}
 use Rattle.varisat.specs.Targets.{WritesAll, WritesUpTo, WritesOn}
 use Rattle.varisat.specs.declared.solver.SolverError.{SolverError}
 use Rattle.varisat.specs.declared.solver.SolverError.TheVariants.{ProofIoError, ClauseStoreFull, VariableLimit, WitnessVar}
@@ -143,8 +143,8 @@ pub ends-not-full : (g h : Summary) (e : SolverError) → EndsSearch g (Err e) h
 ends-not-full g h (ProofIoError cause) k f = cc
 ends-not-full g h e k f = absurd k
 
-pub still-full : (g h : Summary) → EndsSearch g (Ok tt) h → HasNoRoom g → HasNoRoom h
-still-full g h e n = subst HasNoRoom (sym e) n
+pub still-full : (g h : Summary) → EndsSearch g (Ok tt) h → HasFullStore g → HasFullStore h
+still-full g h e n = subst HasFullStore (sym e) n
 
 -- where a flush fails, a proof is open
 pub flushed-open : (o h : Option OpenState) (cause : Error) → Flushes {E = Error} (marked_searched o) (Err cause) h → is_some o ≡ true

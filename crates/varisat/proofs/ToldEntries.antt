@@ -13,7 +13,7 @@ use Rattle.varisat_theory.proofs.Members.{∈-append_left, ∈-append_right, ∈
 use Rattle.varisat_theory.proofs.HeldDrops.{without_less}
 use Rattle.varisat_theory.proofs.Renaming.{map-∈}
 use Rattle.varisat_theory.proofs.Sound.{conflicts_sound}
-use Rattle.varisat.specs.Spaces.{IsCounted, IsTold, AllSpeakOf}
+use Rattle.varisat.specs.Spaces.{IsCounted, TellsWhole, AllSpeakOf}
 use Rattle.varisat.specs.Journals.{TellsMore, TellsStaying, AreDerived, EndWithCore, EndBy}
 use Rattle.varisat.specs.States.{Verdict, Unknown, Sat, Unsat, UnsatUnderAssumptions}
 use Rattle.varisat.proofs.GivenEntries.{all-wider, all-join, written-speak, assumed-append, cores-append, assumed-written, cores-written, assumed-spoken}
@@ -138,7 +138,7 @@ left-on told es n k i = (
 )
 
 pub told-written : {gone : ℕ → Type 0} (told : List Entry) (P : List Clause) (A : List Literal) (C : List ℕ) (hidden : Bool) (lines : List Line) →
-    SpeakOf (IsCounted C) lines → IsTold told P A C hidden gone → IsTold (told ++ written lines) P A C hidden gone
+    SpeakOf (IsCounted C) lines → TellsWhole told P A C hidden gone → TellsWhole (told ++ written lines) P A C hidden gone
 told-written told P A C hidden lines s t = record {
   accepted = accepted_append told (written lines) ∙ ap (λ x. accepted_of told ++ x) (written_accepts lines) ∙ append-nil (accepted_of told) ∙ t.accepted;
   assumed = assumed-on told (written lines) A A t.assumed (assumed-written A lines);
@@ -149,7 +149,7 @@ told-written told P A C hidden lines s t = record {
 }
 
 pub told-accepted : {gone : ℕ → Type 0} (told : List Entry) (P : List Clause) (A : List Literal) (C : List ℕ) (hidden : Bool) (c : Clause) →
-    ((l : Literal) → l ∈ c → IsCounted C l) → IsTold told P A C hidden gone → IsTold (told ++ Accepts c ∷ []) (P ++ c ∷ []) A C hidden gone
+    ((l : Literal) → l ∈ c → IsCounted C l) → TellsWhole told P A C hidden gone → TellsWhole (told ++ Accepts c ∷ []) (P ++ c ∷ []) A C hidden gone
 told-accepted told P A C hidden c s t = record {
   accepted = accepted_append told (Accepts c ∷ []) ∙ ap (λ x. x ++ c ∷ []) t.accepted;
   assumed = assumed-on told (Accepts c ∷ []) A A t.assumed refl;
@@ -160,7 +160,7 @@ told-accepted told P A C hidden c s t = record {
 }
 
 pub told-assumed : {gone : ℕ → Type 0} (told : List Entry) (P : List Clause) (A : List Literal) (C : List ℕ) (hidden : Bool) (a : List Literal) →
-    ((l : Literal) → l ∈ a → IsCounted C l) → IsTold told P A C hidden gone → IsTold (told ++ Assumes a ∷ []) P a C hidden gone
+    ((l : Literal) → l ∈ a → IsCounted C l) → TellsWhole told P A C hidden gone → TellsWhole (told ++ Assumes a ∷ []) P a C hidden gone
 told-assumed told P A C hidden a s t = record {
   accepted = accepted_append told (Assumes a ∷ []) ∙ append-nil (accepted_of told) ∙ t.accepted;
   assumed = assumed-on told (Assumes a ∷ []) A a t.assumed refl;
@@ -172,7 +172,7 @@ told-assumed told P A C hidden a s t = record {
 
 -- a core of what is assumed
 pub told-failed : {gone : ℕ → Type 0} (told : List Entry) (P : List Clause) (A : List Literal) (C : List ℕ) (hidden : Bool) (core : List Literal) →
-    core ⊆ A → IsTold told P A C hidden gone → IsTold (told ++ Fails core ∷ []) P A C hidden gone
+    core ⊆ A → TellsWhole told P A C hidden gone → TellsWhole (told ++ Fails core ∷ []) P A C hidden gone
 told-failed told P A C hidden core within t = record {
   accepted = accepted_append told (Fails core ∷ []) ∙ append-nil (accepted_of told) ∙ t.accepted;
   assumed = assumed-on told (Fails core ∷ []) A A t.assumed refl;
@@ -187,7 +187,8 @@ told-failed told P A C hidden core within t = record {
 
 -- a variable left
 pub told-left : {before after : ℕ → Type 0} (told : List Entry) (P : List Clause) (A : List Literal) (C : List ℕ) (hidden : Bool) (v : ℕ) →
-    (hidden ≡ false → ⊥) → ((i : ℕ) → after i ↔ (before i ⊎ (i ≡ v))) → IsTold told P A C hidden before → IsTold (told ++ Leaves v ∷ []) P A C hidden after
+    (hidden ≡ false → ⊥) → ((i : ℕ) → after i ↔ (before i ⊎ (i ≡ v))) → TellsWhole told P A C hidden before →
+    TellsWhole (told ++ Leaves v ∷ []) P A C hidden after
 told-left told P A C hidden v n gone t = record {
   accepted = accepted_append told (Leaves v ∷ []) ∙ append-nil (accepted_of told) ∙ t.accepted;
   assumed = assumed-on told (Leaves v ∷ []) A A t.assumed refl;
@@ -208,7 +209,7 @@ told-left told P A C hidden v n gone t = record {
 
 -- more identities are counted
 pub told-counted : {gone : ℕ → Type 0} (told : List Entry) (P : List Clause) (A : List Literal) (C D : List ℕ) (hidden : Bool) → C ⊆ D →
-    IsTold told P A C hidden gone → IsTold told P A D hidden gone
+    TellsWhole told P A C hidden gone → TellsWhole told P A D hidden gone
 told-counted told P A C D hidden m t = record {
   accepted = t.accepted;
   assumed = t.assumed;

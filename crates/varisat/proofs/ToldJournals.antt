@@ -30,7 +30,7 @@ use Rattle.varisat_proof.specs.Written.{AreInRange}
 use Rattle.varisat.specs.States.{State, Verdict, Unknown, Sat, Unsat, UnsatUnderAssumptions, IsRight}
 use Rattle.varisat.specs.Calls.{answer_of}
 use Rattle.varisat.specs.Journals.{IsJournal}
-use Rattle.varisat.specs.OpenProofs.{OpenProof, entries_over, IsWrittenAs, IsWrittenIf}
+use Rattle.varisat.specs.OpenProofs.{OpenProof, entries_over, IsWrittenAs, IsWrittenWhereOpen}
 use Rattle.varisat.proofs.OpenProofs.{lines-renamed, plain-bytes}
 use Rattle.varisat.proofs.WrittenVariables.{there-present, there-apart, written-plain}
 use Rattle.varisat.specs.ProofBytes.{IsMarkedDerivation}
@@ -212,7 +212,7 @@ marked-of g s st v shown refuted u =
 pub proof-of : (g : Summary) (s : State) → StandsFor g s → g.ledger.valid ≡ true → HasProof s
 proof-of g s st v p e =
     let j = journal-of g s st v in
-    let w : IsWrittenAs s.variables s.told p = subst (IsWrittenIf s.variables s.told) e j.written in
+    let w : IsWrittenAs s.variables s.told p = subst (IsWrittenWhereOpen s.variables s.told) e j.written in
     record {
       variables = s.variables;
       written = w;

@@ -69,8 +69,8 @@ pub record Invalidates (faults : ℕ) (s t : State) : Type 0 where
 
 -- A clause of as many literals as identities were made, with the three words before its literals, would bring the clause store to
 -- 2^32 words or more.
-abbrev pub IsFull : ℕ → State → Type 0
-IsFull made t = 2 ^ 32 ≤ t.words + 3 + made
+abbrev pub IsStoreFull : ℕ → State → Type 0
+IsStoreFull made t = 2 ^ 32 ≤ t.words + 3 + made
 
 -- the call is refused: the solver is invalid, and nothing changes
 abbrev pub IsRefusedInvalid : State → State → Type 0
@@ -154,7 +154,7 @@ AddsClause s d (Err ClauseAfterSolve) t = IsValid s × (s.verdict ≢ Unsat) × 
 AddsClause s d (Err VariableLimit) t = IsValid s × IsExtensible s × (IsPastLimit d ⊎ IsCrowded (name_all d s.naming)) × (t ≡ s)
 AddsClause s d (Err (WitnessVar u)) t = IsValid s × IsExtensible s × (IsPastLimit d → ⊥) × IsFirstWitness s.naming d u × (t ≡ s)
 AddsClause s d (Err OutOfMemory) t = IsExtensible s × MayConstrain s.naming d × Invalidates 0 s t
-AddsClause s d (Err ClauseStoreFull) t = IsExtensible s × MayConstrain s.naming d × Invalidates 0 s t × IsFull (name_all d s.naming).made t
+AddsClause s d (Err ClauseStoreFull) t = IsExtensible s × MayConstrain s.naming d × Invalidates 0 s t × IsStoreFull (name_all d s.naming).made t
 AddsClause s d (Err (ProofIoError cause)) t = IsOpen s.proof × IsExtensible s × MayConstrain s.naming d × Invalidates 1 s t
 AddsClause s d (Err _) t = ⊥
 
@@ -294,7 +294,7 @@ Searches s (Ok b) t = TellsVerdict s b t
 Searches s (Err Invalid) t = IsRefusedInvalid s t
 Searches s (Err OutOfMemory) t = (s.verdict ≡ Unknown) × CountsCall s (Err OutOfMemory) t × Invalidates 0 (with_steps t.ledger.steps s) t
 Searches s (Err ClauseStoreFull) t =
-    (s.verdict ≡ Unknown) × CountsCall s (Err ClauseStoreFull) t × Invalidates 0 (with_steps t.ledger.steps s) t × IsFull s.naming.made t
+    (s.verdict ≡ Unknown) × CountsCall s (Err ClauseStoreFull) t × Invalidates 0 (with_steps t.ledger.steps s) t × IsStoreFull s.naming.made t
 Searches s (Err (ProofIoError cause)) t =
     IsOpen s.proof × (s.verdict ≡ Unknown) × CountsCall s (Err (ProofIoError cause)) t × Invalidates 1 (with_steps t.ledger.steps s) t
 Searches s (Err Interrupted) t = IsInterrupted s t

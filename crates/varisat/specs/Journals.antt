@@ -9,7 +9,7 @@ use Rattle.varisat_proof.specs.Proving.{ProofParts, IsTold}
 use Rattle.varisat_proof.specs.Written.{AreInRange}
 use Rattle.varisat.specs.Carried.{carry}
 use Rattle.varisat_proof.specs.Assumed.{assumed_behind, CoresAreAssumed}
-use Rattle.varisat.specs.OpenProofs.{entries_over, IsWrittenIf, HaveOwnVariables}
+use Rattle.varisat.specs.OpenProofs.{entries_over, IsWrittenWhereOpen, HaveOwnVariables}
 use Rattle.varisat.specs.States.{State, Verdict, Unsat, UnsatUnderAssumptions}
 
 -- the same state once more was told
@@ -65,7 +65,7 @@ pub record IsJournal (s : State) : Type 0 where
   pub accepted : accepted_of s.told ≡ s.clauses
   pub assumed : assumed_behind [] s.told ≡ s.assumptions
   pub cores : CoresAreAssumed [] s.told
-  pub written : IsWrittenIf s.variables s.told s.proof
+  pub written : IsWrittenWhereOpen s.variables s.told s.proof
   pub apart : HaveOwnVariables s.variables s.naming.made s.told
   pub plain : s.ever_hidden ≡ false → entries_over s.variables s.told ≡ s.told
   pub stays : s.ever_hidden ≡ false → NoneLeaves s.told

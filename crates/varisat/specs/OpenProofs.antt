@@ -64,14 +64,14 @@ abbrev pub IsWrittenAs : (ℕ → Option ℕ) → List Entry → OpenProof → T
 IsWrittenAs variables told p = p.bytes ≡ bytes_told p.format (entries_over variables told)
 
 -- so it is where a proof is open
-abbrev pub IsWrittenIf : (ℕ → Option ℕ) → List Entry → Option OpenProof → Type 0
-IsWrittenIf variables told None = Unit {0}
-IsWrittenIf variables told (Some p) = IsWrittenAs variables told p
+abbrev pub IsWrittenWhereOpen : (ℕ → Option ℕ) → List Entry → Option OpenProof → Type 0
+IsWrittenWhereOpen variables told None = Unit {0}
+IsWrittenWhereOpen variables told (Some p) = IsWrittenAs variables told p
 
 -- What holds the proof fits what a user knows of it.
 pub record ProofFits (opened : Option OpenState) (variables : ℕ → Option ℕ) (told : List Entry) (proof : Option OpenProof) : Type 0 where
   pub same : opened ≡ opened_state proof
-  pub written : IsWrittenIf variables told proof
+  pub written : IsWrittenWhereOpen variables told proof
 
 -- A proof that is open stays so, with further bytes.
 abbrev pub GoesOnWriting : Option OpenProof → Option OpenProof → Type 0

@@ -49,14 +49,14 @@ prepared taken format check limit None = configured check limit
 prepared taken format check limit (Some target) = count_anew (with_proof (Some (first_proof format (taken target))) (configured check limit))
 
 -- What a solver in the state s comes to as it is asked: a model that it tells, that there is none, or that its steps are spent.
-abbrev pub Finds : State → Conclusion → State → Type 0
-Finds s Unknown t = Solves s (Err Interrupted) t
-Finds s (Decided None) t = Solves s (Ok false) t
-Finds s (Decided (Some model)) t = Solves s (Ok true) t × TellsModel t (Ok (Some model)) t
+abbrev pub Concludes : State → Conclusion → State → Type 0
+Concludes s Unknown t = Solves s (Err Interrupted) t
+Concludes s (Decided None) t = Solves s (Ok false) t
+Concludes s (Decided (Some model)) t = Solves s (Ok true) t × TellsModel t (Ok (Some model)) t
 
 -- The same with the errors: those of the search, and out of memory also where a model was found that could not be listed.
 abbrev pub Reports : {A : Type 0} → State → Result (Report A) SolverError → State → Type 0
-Reports s (Ok report) t = Finds s (concluded report) t
+Reports s (Ok report) t = Concludes s (concluded report) t
 Reports s (Err Interrupted) t = ⊥
 Reports s (Err OutOfMemory) t = Solves s (Err OutOfMemory) t ⊎ Solves s (Ok true) t
 Reports s (Err e) t = Solves s (Err e) t
@@ -97,7 +97,7 @@ pub data Fails {W : Type 0} (taken : W → Taken) (s : State) (old new : Stand) 
   AsRead : (t : State) → AddsDimacs s old (Err e) new t → Fails taken s old new e
   AsSearched : (t u : State) → AddsDimacs s old (Ok tt) new t → Solves t (Err e) u → e ≢ Interrupted → Fails taken s old new e
   AsListed : (t u : State) → AddsDimacs s old (Ok tt) new t → Solves t (Ok true) u → e ≡ OutOfMemory → Fails taken s old new e
-  AsClosed : (t u v : State) (c : Conclusion) (back : W) → AddsDimacs s old (Ok tt) new t → Finds t c u → ClosesProof taken u (Err (e, back)) v →
+  AsClosed : (t u v : State) (c : Conclusion) (back : W) → AddsDimacs s old (Ok tt) new t → Concludes t c u → ClosesProof taken u (Err (e, back)) v →
       Fails taken s old new e
 
 -- the text is decided as the options ask

@@ -45,12 +45,12 @@ abbrev pub HasToldRight : State → Type 0
 HasToldRight s = IsValid s → IsJournal s × IsToldWithin s.ledger.steps s.told
 
 -- What a call is given has counted fewer than 2^64-1 faults: a source that is read, and a target to which a proof is written.
-abbrev pub IsReady : {W S A : Type 0} → (S → Stand) → (W → Taken) → Call W S A → Type 0
-IsReady seen taken (call.AddDimacsCnf source) = (seen source).faults < 2 ^ 64 - 1
-IsReady seen taken (call.WriteProof target format) = (taken target).faults < 2 ^ 64 - 1
-IsReady seen taken _ = Unit {0}
+abbrev pub MayStillFail : {W S A : Type 0} → (S → Stand) → (W → Taken) → Call W S A → Type 0
+MayStillFail seen taken (call.AddDimacsCnf source) = (seen source).faults < 2 ^ 64 - 1
+MayStillFail seen taken (call.WriteProof target format) = (taken target).faults < 2 ^ 64 - 1
+MayStillFail seen taken _ = Unit {0}
 
 -- so is what each of the calls is given
 abbrev pub AreReady : {W S A : Type 0} → (S → Stand) → (W → Taken) → List (Call W S A) → Type 0
 AreReady seen taken [] = Unit {0}
-AreReady seen taken (c ∷ cs) = IsReady seen taken c × AreReady seen taken cs
+AreReady seen taken (c ∷ cs) = MayStillFail seen taken c × AreReady seen taken cs

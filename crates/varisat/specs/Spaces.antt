@@ -16,7 +16,7 @@ use Rattle.varisat_literals.specs.Numbers.{polarity_of}
 use Rattle.varisat_names.specs.Maps.{IsInverse, chain}
 use Rattle.varisat_proof.specs.Assumed.{assumed_behind, CoresAreAssumed}
 use Rattle.varisat_proof.specs.Calls.{CheckerState}
-use Rattle.varisat_proof.specs.Proving.{MayHold}
+use Rattle.varisat_proof.specs.Proving.{MayBeHeld}
 use Rattle.varisat_names.specs.declared.variables.data.SamplingMode.{SamplingMode}
 use Rattle.varisat_names.specs.declared.variables.data.SamplingMode.TheVariants as sampling
 use Rattle.varisat_names.specs.declared.variables.data.VarData.{VarData}
@@ -230,7 +230,7 @@ AllSpeakOf are (e ∷ es) = SpeaksOf are e × AllSpeakOf are es
 -- The accepted clauses are those that were told, in order, the list told last is that of the assumptions, and cores are of what was
 -- assumed; literals are of counted identities; just those identities were told to have left that are gone; and none left as long as
 -- nothing was hidden.
-pub record IsTold (told : List Entry) (clauses : List Clause) (assumptions : List Literal) (counted : List ℕ) (ever_hidden : Bool)
+pub record TellsWhole (told : List Entry) (clauses : List Clause) (assumptions : List Literal) (counted : List ℕ) (ever_hidden : Bool)
     (gone : ℕ → Type 0) : Type 0 where
   pub accepted : accepted_of told ≡ clauses
   pub assumed : assumed_behind [] told ≡ assumptions
@@ -246,7 +246,7 @@ pub record IsPlain (identity : ℕ → Option ℕ) (made : ℕ) : Type 0 where
 
 -- The checker that runs inside has what was told so far leads to, over global variables: the same clauses, each as often.
 abbrev pub CheckerFits : (ℕ → Option ℕ) → List Entry → Option CheckerState → Type 0
-CheckerFits global told checker = (held : List Clause) → Leads [] told held → MayHold checker (rename (carry global) held)
+CheckerFits global told checker = (held : List Clause) → Leads [] told held → MayBeHeld checker (rename (carry global) held)
 
 -- What a solver holds stands for the state.
 pub record Links (w : Carrying) (p : Spaces) (s : State) : Type 0 where
@@ -275,7 +275,7 @@ pub record Links (w : Carrying) (p : Spaces) (s : State) : Type 0 where
   pub plain : s.ever_hidden ≡ false → IsPlain w.identity s.naming.made
   -- a proof writes each live identity as its global variable
   pub variables : (i x : ℕ) → w.global i ≡ Some x → s.variables i ≡ Some x
-  pub told : IsTold s.told s.clauses s.assumptions s.counted s.ever_hidden (IsGone w s)
+  pub told : TellsWhole s.told s.clauses s.assumptions s.counted s.ever_hidden (IsGone w s)
   -- under Unsat the checker is told nothing more, and nothing is said of it
   pub checked : without_core p.outcome ≢ outcome.Unsat → CheckerFits w.global s.told p.checker
 

@@ -18,7 +18,7 @@ use Rattle.std.specs.declared.io.Error.{Error}
 use Rattle.varisat_formula.specs.Rest.{Progress, IsEnding}
 use Rattle.varisat_proof.specs.Calls.{CheckerState}
 use Rattle.varisat_proof.specs.Proving.{OpenState, ProofParts, marked_searched, Flushes}
-use Rattle.varisat.specs.OpenProofs.{opened_state, IsWrittenIf}
+use Rattle.varisat.specs.OpenProofs.{opened_state, IsWrittenWhereOpen}
 use Rattle.varisat_tracer.specs.Tracing.{CanTell}
 use Rattle.varisat.specs.States.{State, Ledger, FlagsFit}
 use Rattle.varisat.specs.Accepting.{AreBounded, DecidesInUse, IsAssumedSolver}
@@ -44,8 +44,8 @@ pub record Summary : Type 0 where
   pub ledger : Ledger
 
 -- A clause of all variables of the search, with the three words before its literals, would bring the store to 2^32 words or more.
-abbrev pub HasNoRoom : Summary → Type 0
-HasNoRoom g = 2 ^ 32 ≤ g.words + 3 + length g.search.values
+abbrev pub HasFullStore : Summary → Type 0
+HasFullStore g = 2 ^ 32 ≤ g.words + 3 + length g.search.values
 
 -- The model is read from the search.
 abbrev pub spaces_of : Tables → Option CheckerState → View → AssumptionParts → SatState → Spaces
@@ -120,7 +120,7 @@ pub record StandsFor (g : Summary) (s : State) : Type 0 where
   pub words : s.words ≡ g.words
   pub same : g.opened ≡ opened_state s.proof
   pub fits : g.ledger.valid ≡ true → SpacesFit (spaces g) s
-  pub written : g.ledger.valid ≡ true → IsWrittenIf s.variables s.told s.proof
+  pub written : g.ledger.valid ≡ true → IsWrittenWhereOpen s.variables s.told s.proof
   pub flags : g.ledger.valid ≡ true → FlagsFit s
   pub bounded : g.ledger.valid ≡ true → AreBounded g.tables
 

@@ -8,7 +8,7 @@ ghost use Rattle.varisat_names.specs.VarMap.{at};
 ghost use Rattle.varisat_search.specs.Contexts.{KeepsSchedule};
 ghost use Rattle.varisat.specs.Accepted.{KeepsValidity, IsWithinIdentities, StandsOnceAccepted, StandsOnceAssumed};
 ghost use Rattle.varisat_theory.specs.Journals.{Accepts, Assumes};
-ghost use Rattle.varisat_tracer.specs.Tracing.{parts_of, TakesGlobally, BreaksProof, CanTell};
+ghost use Rattle.varisat_tracer.specs.Tracing.{tracer_state, TakesGlobally, BreaksProof, CanTell};
 ghost use Rattle.varisat_search.specs.StepErrors.{step_faults, HasNoRoom};
 ghost use Rattle.varisat.specs.Spaces.{FitSome};
 ghost use Rattle.varisat.specs.Summaries.{spaces_with, IsKept};
@@ -71,7 +71,7 @@ fn tell_clause<W: ProofTarget, A: Allocator + Copy>(
     clause: &[Lit],
 ) -> Result<(), StepError>
     requires { CanTell tracer.old.proof }
-    ensures told { OnOk result (TakesGlobally (parts_of tracer.old) (Accepts clause.now ∷ []) (parts_of tracer.new)) }
+    ensures told { OnOk result (TakesGlobally (tracer_state tracer.old) (Accepts clause.now ∷ []) (tracer_state tracer.new)) }
     ensures broken { IfErr result (λ error. BreaksProof tracer.old.proof (step_faults error) tracer.new.proof) }
     ensures unstored { IfErr result (λ error. error ≢ StepError.Full) }
 {
@@ -85,7 +85,7 @@ fn tell_assumptions<W: ProofTarget, A: Allocator + Copy>(
     list: &[Lit],
 ) -> Result<(), StepError>
     requires { CanTell tracer.old.proof }
-    ensures told { OnOk result (TakesGlobally (parts_of tracer.old) (Assumes list.now ∷ []) (parts_of tracer.new)) }
+    ensures told { OnOk result (TakesGlobally (tracer_state tracer.old) (Assumes list.now ∷ []) (tracer_state tracer.new)) }
     ensures broken { IfErr result (λ error. BreaksProof tracer.old.proof (step_faults error) tracer.new.proof) }
     ensures unstored { IfErr result (λ error. error ≢ StepError.Full) }
 {
@@ -112,11 +112,11 @@ pub fn accept_clause<W: ProofTarget, A: Allocator + Copy>(
         record ctx.old.solver_state { sat_state = ctx.new.solver_state.sat_state; formula_is_empty = false }) }
     ensures schedule { KeepsSchedule ctx.old ctx.new }
     ensures told { OnOk result (TellsSome tracer.old.proof tracer.new.proof) }
-    ensures accepted { OnOk result (StandsOnceAccepted clause.now (parts_of tracer.old) ctx.old (parts_of tracer.new) ctx.new) }
+    ensures accepted { OnOk result (StandsOnceAccepted clause.now (tracer_state tracer.old) ctx.old (tracer_state tracer.new) ctx.new) }
     // What the target of an open proof has after an error.
     ensures broken { IfErr result (λ error. BreaksProof tracer.old.proof (step_faults error) tracer.new.proof) }
     ensures full { IfErr result (λ error. error ≡ StepError.Full → HasNoRoom ctx.new) }
-    ensures size { IfErr result (λ error. error ≡ StepError.Full → IsWithinIdentities clause.now (parts_of tracer.old) ctx.old ctx.new) }
+    ensures size { IfErr result (λ error. error ≡ StepError.Full → IsWithinIdentities clause.now (tracer_state tracer.old) ctx.old ctx.new) }
 {
     // A model that was found may not satisfy the clause.
     ctx.solver_state.reopen();
@@ -146,7 +146,7 @@ pub fn assume_list<W: ProofTarget, A: Allocator + Copy>(
     ensures state { OnOk result (KeepsValidity ctx.old.solver_state ctx.new.solver_state) }
     ensures schedule { KeepsSchedule ctx.old ctx.new }
     ensures told { OnOk result (TellsSome tracer.old.proof tracer.new.proof) }
-    ensures assumed { OnOk result (StandsOnceAssumed list.now (parts_of tracer.old) ctx.old (parts_of tracer.new) ctx.new) }
+    ensures assumed { OnOk result (StandsOnceAssumed list.now (tracer_state tracer.old) ctx.old (tracer_state tracer.new) ctx.new) }
     // What the target of an open proof has after an error. The clause store is not asked for room.
     ensures broken { IfErr result (λ error. BreaksProof tracer.old.proof (step_faults error) tracer.new.proof) }
     ensures unstored { IfErr result (λ error. error ≢ StepError.Full) }

@@ -11,7 +11,7 @@ ghost use Rattle.varisat_search.specs.SettledUnits.{IsSettledDown};
 ghost use Rattle.varisat.specs.SinceChange.{GoesOnWithin};
 ghost use Rattle.varisat.specs.Accepting.{AreBounded};
 ghost use Rattle.varisat.specs.Searches.{TellsSome, ComesOnUndecided};
-ghost use Rattle.varisat_tracer.specs.Tracing.{parts_of, open_parts, BreaksProof, CanTell};
+ghost use Rattle.varisat_tracer.specs.Tracing.{tracer_state, open_parts, BreaksProof, CanTell};
 ghost use Rattle.varisat_search.specs.StepErrors.{step_faults};
 ghost use Rattle.varisat.specs.Spaces.{FitSome};
 ghost use Rattle.varisat.specs.Summaries.{undecided_spaces, IsKept};
@@ -80,7 +80,7 @@ fn drop_solver_var<W: ProofTarget, A: Allocator + Copy>(
     solver: Var,
 ) -> Result<(), AllocError>
     requires { IsSome (at tracer.old.variables.solvers.backward solver) }
-    ensures dropped { OnOk result ((x : ℕ) × LosesSolverVar x solver (parts_of tracer.old) (parts_of tracer.new)) }
+    ensures dropped { OnOk result ((x : ℕ) × LosesSolverVar x solver (tracer_state tracer.old) (tracer_state tracer.new)) }
     ensures opened { open_parts tracer.new.proof ≡ open_parts tracer.old.proof }
 {
     tracer.variables.prove_linked();
@@ -97,7 +97,7 @@ fn drop_solver_vars<W: ProofTarget, A: Allocator + Copy>(
 ) -> Result<(), AllocError>
     requires taken { (l : Literal) → l ∈ lits.now → IsSome (at tracer.old.variables.solvers.backward (variable_of l)) }
     requires distinct { IsDistinct (map variable_of lits.now) }
-    ensures dropped { OnOk result (AreDroppedAlone lits.now (parts_of tracer.old) (parts_of tracer.new)) }
+    ensures dropped { OnOk result (AreDroppedAlone lits.now (tracer_state tracer.old) (tracer_state tracer.new)) }
     ensures rest { OnOk result (LeavesTables lits.now tracer.old.variables tracer.new.variables) }
     ensures opened { open_parts tracer.new.proof ≡ open_parts tracer.old.proof }
 {
@@ -166,7 +166,7 @@ fn release_solver_vars<W: ProofTarget, A: Allocator + Copy>(
 ) -> Result<(), AllocError>
     requires taken { (l : Literal) → l ∈ lits.now → IsSome (at tracer.old.variables.solvers.backward (variable_of l)) }
     requires distinct { IsDistinct (map variable_of lits.now) }
-    ensures released { OnOk result (AreReleased lits.now (parts_of tracer.old) (parts_of tracer.new)) }
+    ensures released { OnOk result (AreReleased lits.now (tracer_state tracer.old) (tracer_state tracer.new)) }
     ensures rest { OnOk result (LeavesTables lits.now tracer.old.variables tracer.new.variables) }
     ensures opened { open_parts tracer.new.proof ≡ open_parts tracer.old.proof }
 {
@@ -186,7 +186,7 @@ fn drop_listed<W: ProofTarget, A: Allocator + Copy>(
 ) -> Result<(), AllocError>
     requires kept { IsKept tracer.old.variables ctx.old }
     requires settled { IsSettledDown (view ctx.old) }
-    ensures leave { OnOk result (LetsLeave (parts_of tracer.old) ctx.old (parts_of tracer.new) ctx.new) }
+    ensures leave { OnOk result (LetsLeave (tracer_state tracer.old) ctx.old (tracer_state tracer.new) ctx.new) }
     ensures schedule { KeepsSchedule ctx.old ctx.new }
     ensures state { ctx.new.solver_state ≡ ctx.old.solver_state }
     ensures settled { OnOk result (IsSettledDown (view ctx.new)) }
@@ -213,7 +213,7 @@ fn drop_unneeded<W: ProofTarget, A: Allocator + Copy>(
     requires kept { IsKept tracer.old.variables ctx.old }
     requires settled { IsSettledDown (view ctx.old) }
     requires left { AreOverAssumed tracer.old.variables ctx.old.trail.literals }
-    ensures leave { OnOk result (LetsLeave (parts_of tracer.old) ctx.old (parts_of tracer.new) ctx.new) }
+    ensures leave { OnOk result (LetsLeave (tracer_state tracer.old) ctx.old (tracer_state tracer.new) ctx.new) }
     ensures schedule { KeepsSchedule ctx.old ctx.new }
     ensures state { ctx.new.solver_state ≡ ctx.old.solver_state }
     ensures settled { OnOk result (IsSettledDown (view ctx.new)) }
@@ -257,7 +257,7 @@ pub fn drop_fixed<W: ProofTarget, A: Allocator + Copy>(
     ensures left { OnOk result (LeavesWhereUnsettled ctx.old tracer.new.variables (view ctx.new)) }
     // Where none was to leave but with such news, none is now, unless a clause is false.
     ensures leaves { OnOk result (LeavesInTime tracer.old.variables (view ctx.old) → HasLetLeave tracer.new.variables (view ctx.new)) }
-    ensures stands { OnOk result (ComesOnUndecided 0 (parts_of tracer.old) ctx.old (parts_of tracer.new) ctx.new) }
+    ensures stands { OnOk result (ComesOnUndecided 0 (tracer_state tracer.old) ctx.old (tracer_state tracer.new) ctx.new) }
     // What the target of an open proof has after an error, which is never that the store is full.
     ensures broken { IfErr result (λ error. BreaksProof tracer.old.proof (step_faults error) tracer.new.proof) }
     ensures full { IfErr result (λ error. error ≢ StepError.Full) }

@@ -2,7 +2,7 @@
 ghost use Rattle.std.specs.Prelude.{◌≡◌, [], IfOk, OnErr};
 ghost use Rattle.varisat.specs.States.{State, empty_state};
 ghost use Rattle.varisat.specs.Summaries.{StandsFor, StandsOnce};
-ghost use Rattle.varisat.specs.Runs.{calling, MakesCall, Run, HasToldRight, IsReady, AreReady};
+ghost use Rattle.varisat.specs.Runs.{calling, MakesCall, Run, HasToldRight, MayStillFail, AreReady};
 ghost use Rattle.varisat.specs.Pasts.{empty_past};
 ghost use Rattle.varisat.specs.Histories.{telling, AreTrue};
 ghost use Rattle.varisat.specs.Moments.{HasFewSteps, HasFewStepsAlong};
@@ -69,7 +69,7 @@ pub fn make_call<W: ProofTarget, S: ByteSource, A: Allocator + Copy>(
     solver: &mut Solver<W, A>,
     call: Call<W, S, A>,
 ) -> Answer<W, S, A>
-    requires { IsReady S.stand W.taken call }
+    requires { MayStillFail S.stand W.taken call }
     ensures { (s : State) → StandsFor solver.old s → (t : State) × MakesCall S.stand W.taken s call result t × StandsFor solver.new t }
 {
     match call {

@@ -7,7 +7,7 @@ ghost use Rattle.varisat_search.specs.Contexts.{KeepsSchedule};
 ghost use Rattle.varisat_search.specs.StepErrors.{step_faults, HasNoRoom};
 ghost use Rattle.varisat.specs.Budgets.{told_verdict};
 ghost use Rattle.varisat.specs.SinceChange.{CountsOnSince, CountsStepsFrom};
-ghost use Rattle.varisat_tracer.specs.Tracing.{parts_of, BreaksProof, CanTell};
+ghost use Rattle.varisat_tracer.specs.Tracing.{tracer_state, BreaksProof, CanTell};
 ghost use Rattle.varisat.specs.Searches.{BeginsSolverStep, MakesNamedStep, MakesSolverStep, FindsVerdict};
 ghost use Rattle.varisat.specs.Accepting.{HasUser};
 ghost use Rattle.varisat.specs.Carried.{named_literals};
@@ -39,7 +39,7 @@ fn begin<W: ProofTarget, A: Allocator + Copy>(
     requires stands { FitSome (undecided_spaces tracer.old.variables tracer.old.proof.checker ctx.old) }
     requires unknown { ctx.old.solver_state.sat_state ≡ SatState.Unknown }
     requires counted { ctx.old.schedule.steps < 2 ^ 64 - 1 }
-    ensures begins { OnOk result (BeginsSolverStep (parts_of tracer.old) (parts_of tracer.new) ctx.old ctx.new) }
+    ensures begins { OnOk result (BeginsSolverStep (tracer_state tracer.old) (tracer_state tracer.new) ctx.old ctx.new) }
     ensures schedule { ctx.new.schedule ≡ step_begun ctx.old.solver_config.luby_restart_interval_scale ctx.old.schedule }
     ensures later { ctx.new.schedule.steps < ctx.new.schedule.next_restart }
     ensures config { ctx.new.solver_config ≡ ctx.old.solver_config }
@@ -83,7 +83,7 @@ fn named_conflict_step<W: ProofTarget, A: Allocator + Copy>(
     requires tells { CanTell tracer.old.proof }
     requires stands { FitSome (undecided_spaces tracer.old.variables tracer.old.proof.checker ctx.old) }
     requires unknown { ctx.old.solver_state.sat_state ≡ SatState.Unknown }
-    ensures made { OnOk result (MakesNamedStep (parts_of tracer.old) (parts_of tracer.new) ctx.old ctx.new) }
+    ensures made { OnOk result (MakesNamedStep (tracer_state tracer.old) (tracer_state tracer.new) ctx.old ctx.new) }
     ensures schedule { KeepsSchedule ctx.old ctx.new }
     ensures broken { IfErr result (λ error. BreaksProof tracer.old.proof (step_faults error) tracer.new.proof) }
     ensures full { IfErr result (λ error. error ≡ StepError.Full → HasNoRoom ctx.new) }
@@ -110,7 +110,7 @@ fn make_step<W: ProofTarget, A: Allocator + Copy>(
     requires stands { FitSome (undecided_spaces tracer.old.variables tracer.old.proof.checker ctx.old) }
     requires unknown { ctx.old.solver_state.sat_state ≡ SatState.Unknown }
     requires counted { ctx.old.schedule.steps < 2 ^ 64 - 1 }
-    ensures made { OnOk result (MakesSolverStep (parts_of tracer.old) (parts_of tracer.new) ctx.old ctx.new) }
+    ensures made { OnOk result (MakesSolverStep (tracer_state tracer.old) (tracer_state tracer.new) ctx.old ctx.new) }
     ensures schedule { OnOk result (ctx.new.schedule ≡ next_plan ctx.old.solver_config.luby_restart_interval_scale ctx.old.schedule) }
     ensures uncounted { OnErr result (ctx.new.schedule.steps ≡ ctx.old.schedule.steps) }
     ensures config { ctx.new.solver_config ≡ ctx.old.solver_config }
@@ -141,7 +141,7 @@ pub fn find_verdict<W: ProofTarget, A: Allocator + Copy>(
     requires tells { CanTell tracer.old.proof }
     requires stands { FitSome (undecided_spaces tracer.old.variables tracer.old.proof.checker ctx.old) }
     requires unknown { ctx.old.solver_state.sat_state ≡ SatState.Unknown }
-    ensures found { IfOk result (λ found. FindsVerdict (parts_of tracer.old) (parts_of tracer.new) ctx.old ctx.new found) }
+    ensures found { IfOk result (λ found. FindsVerdict (tracer_state tracer.old) (tracer_state tracer.new) ctx.old ctx.new found) }
     ensures counted { CountsStepsFrom max_steps ctx.old ctx.new (told_verdict result) }
     ensures since { OnOk result (CountsOnSince ctx.old ctx.new) }
     ensures config { ctx.new.solver_config ≡ ctx.old.solver_config }

@@ -2,7 +2,7 @@
 ghost use Rattle.std.specs.Prelude.{◌≡◌, ◌≢◌, false, None, MatchBool, IfOk, OnOk, OnErr};
 ghost use Rattle.varisat_names.specs.VarData.{kept_at};
 ghost use Rattle.varisat_names.specs.VarMap.{at};
-ghost use Rattle.varisat_tracer.specs.Tracing.{parts_of};
+ghost use Rattle.varisat_tracer.specs.Tracing.{tracer_state};
 ghost use Rattle.varisat.specs.Accepting.{AreBounded};
 ghost use Rattle.varisat_names.specs.declared.variables.data.SamplingMode.TheVariants as sampling;
 ghost use Rattle.varisat.specs.VariableChanges.{CanBeChanged, ChecksChange, IsMarkedName, SetsNamedMode, LeavesIfUnused, HidesNamed};
@@ -73,7 +73,7 @@ fn leave_if_unused<W: ProofTarget, A: Allocator + Copy>(
 ) -> Result<(), AllocError>
     requires live { (kept_at tracer.old.variables.kept global).deleted ≡ false }
     requires unnamed { at tracer.old.variables.users.backward global ≡ None }
-    ensures leaves { OnOk result (LeavesIfUnused (parts_of tracer.old) global (parts_of tracer.new)) }
+    ensures leaves { OnOk result (LeavesIfUnused (tracer_state tracer.old) global (tracer_state tracer.new)) }
     ensures proof { OnErr result (tracer.new.proof ≡ tracer.old.proof) }
 {
     tracer.variables.delete_global_if_unused(global)?;
@@ -89,7 +89,7 @@ pub fn hide_named<W: ProofTarget, A: Allocator + Copy>(
     verdict: SatState,
 ) -> Result<(), AllocError>
     requires { CanBeChanged var tracer.old.variables }
-    ensures hides { OnOk result (HidesNamed var verdict (parts_of tracer.old) (parts_of tracer.new)) }
+    ensures hides { OnOk result (HidesNamed var verdict (tracer_state tracer.old) (tracer_state tracer.new)) }
     ensures proof { OnErr result (tracer.new.proof ≡ tracer.old.proof) }
 {
     let global = set_named_mode(&mut tracer.variables, var, SamplingMode::Hide)?;

@@ -3,5 +3,5 @@ use Rattle.std.specs.Prelude.{◌≡◌, ℕ, ◌%◌}
 use Rattle.std.specs.Int.{bit_at}
 
 -- the bit of the level is set
-abbrev pub MayHold : ℕ → ℕ → Type 0
-MayHold bits level = bit_at bits (level % 64) ≡ 1
+abbrev pub HasLevelBit : ℕ → ℕ → Type 0
+HasLevelBit bits level = bit_at bits (level % 64) ≡ 1

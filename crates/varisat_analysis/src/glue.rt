@@ -5,7 +5,7 @@ ghost use Rattle.varisat_theory.specs.Membership.{◌∈◌};
 ghost use Rattle.varisat_theory.specs.Literals.{Literal, variable_of};
 ghost use Rattle.varisat_analysis.specs.Bumps.{level_in};
 ghost use Rattle.varisat_analysis.specs.Assessments.{glue_of, CanCount};
-ghost use Rattle.varisat_analysis.specs.Levels.{MayHold};
+ghost use Rattle.varisat_analysis.specs.Levels.{HasLevelBit};
 
 use std::alloc::Allocator;
 use std::marker::Model;
@@ -29,9 +29,9 @@ impl Model for LevelAbstraction {
 
 impl Default for LevelAbstraction {
     ghost use Rattle.std.specs.Prelude.{ℕ};
-    ghost use Rattle.varisat_analysis.specs.Levels.{MayHold};
+    ghost use Rattle.varisat_analysis.specs.Levels.{HasLevelBit};
 
-    ghost is_default = { λ a. (level : ℕ) → MayHold a level → ⊥ };
+    ghost is_default = { λ a. (level : ℕ) → HasLevelBit a level → ⊥ };
 
     /// No levels.
     fn default() -> LevelAbstraction {
@@ -42,22 +42,22 @@ impl Default for LevelAbstraction {
 impl LevelAbstraction {
     /// No levels.
     pub fn new() -> LevelAbstraction
-        ensures { (level : ℕ) → MayHold result level → ⊥ }
+        ensures { (level : ℕ) → HasLevelBit result level → ⊥ }
     {
         LevelAbstraction { bits: 0 }
     }
 
     /// Adds the level.
     pub fn add(&mut self, level: usize)
-        ensures added { MayHold self.new level }
-        ensures rest { (other : ℕ) → other % 64 ≢ level % 64 → MayHold self.new other ↔ MayHold self.old other }
+        ensures added { HasLevelBit self.new level }
+        ensures rest { (other : ℕ) → other % 64 ≢ level % 64 → HasLevelBit self.new other ↔ HasLevelBit self.old other }
     {
         self.bits |= 1 << (level % 64);
     }
 
     /// Whether the level may have been added.
     pub fn test(&self, level: usize) -> bool
-        ensures { IsTrue result ↔ MayHold self.now level }
+        ensures { IsTrue result ↔ HasLevelBit self.now level }
     {
         self.bits & (1 << (level % 64)) != 0
     }

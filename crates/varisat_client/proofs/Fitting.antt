@@ -16,8 +16,8 @@ use Rattle.varisat.specs.declared.solver.SolverError.TheVariants.{Interrupted}
 use Rattle.varisat.proofs.NamesInOrder.{stay-in-order, count-above, count-within}
 use Rattle.varisat.proofs.VerdictAnswers.{reopened-not-unsat, assumed-unsat}
 use Rattle.varisat.proofs.NameLaws.{names-are-identities, crowded-is-past-limit}
-use Rattle.varisat_client.specs.Pasts.{IsModel}
-use Rattle.varisat_client.specs.Clients.{Fits}
+use Rattle.varisat_client.specs.Pasts.{IsFoundModel}
+use Rattle.varisat_client.specs.Clients.{WasGiven}
 
 -- 1. Names are in range.
 
@@ -37,10 +37,10 @@ stays-in-range d n m o h none =
 -- 2. A clause is taken.
 
 -- what one more clause makes of the state
-taken : (s t : State) (P : List Clause) (A : List Literal) (n most : ℕ) (d : Clause) → AddsClause s d (Ok tt) t → Fits s P A n most →
-    Fits t (P ++ d ∷ []) A n most
+taken : (s t : State) (P : List Clause) (A : List Literal) (n most : ℕ) (d : Clause) → AddsClause s d (Ok tt) t → WasGiven s P A n most →
+    WasGiven t (P ++ d ∷ []) A n most
 taken s t P A n most d (v, Ignored u e) f =
-    subst (λ x. Fits x (P ++ d ∷ []) A n most) (sym e) (record {
+    subst (λ x. WasGiven x (P ++ d ∷ []) A n most) (sym e) (record {
       valid = f.valid;
       count = f.count;
       order = f.order;
@@ -86,14 +86,14 @@ taken s t P A n most d (v, Accepted ext may (w, after, like)) f =
     unsat w (Refuted q r) u h = r h
     unsat w (Reopened q r) u h = reopened-not-unsat s.verdict ext.unrefuted (sym q ∙ u)
 
-pub added : (s t : State) (P : List Clause) (A : List Literal) (n most : ℕ) (d c : Clause) → AddsClause s d (Ok tt) t → d ≡ c → Fits s P A n most →
-    Fits t (P ++ c ∷ []) A n most
-added s t P A n most d c call e f = subst (λ (x : Clause). Fits t (P ++ x ∷ []) A n most) e (taken s t P A n most d call f)
+pub added : (s t : State) (P : List Clause) (A : List Literal) (n most : ℕ) (d c : Clause) → AddsClause s d (Ok tt) t → d ≡ c → WasGiven s P A n most →
+    WasGiven t (P ++ c ∷ []) A n most
+added s t P A n most d c call e f = subst (λ (x : Clause). WasGiven t (P ++ x ∷ []) A n most) e (taken s t P A n most d call f)
 
 -- 3. Other assumptions.
 
-supposed : (s t : State) (P : List Clause) (A : List Literal) (n most : ℕ) (d : List Literal) → Assumes s d (Ok tt) t → Fits s P A n most →
-    Fits t P d n most
+supposed : (s t : State) (P : List Clause) (A : List Literal) (n most : ℕ) (d : List Literal) → Assumes s d (Ok tt) t → WasGiven s P A n most →
+    WasGiven t P d n most
 supposed s t P A n most d (v, none, may, like) f =
     let (order, own) = stay-in-order f.count s.naming d f.order in
     let more = count-above d f.count in
@@ -113,15 +113,15 @@ supposed s t P A n most d (v, none, may, like) f =
       limit = ap (λ l. l.settings.max_steps) like.ledger ∙ f.limit;
     }
 
-pub begun : (s t : State) (P : List Clause) (A : List Literal) (n most : ℕ) (d B : List Literal) → Assumes s d (Ok tt) t → d ≡ B → Fits s P A n most →
-    Fits t P B n most
-begun s t P A n most d B call e f = subst (λ (x : List Literal). Fits t P x n most) e (supposed s t P A n most d call f)
+pub begun : (s t : State) (P : List Clause) (A : List Literal) (n most : ℕ) (d B : List Literal) → Assumes s d (Ok tt) t → d ≡ B → WasGiven s P A n most →
+    WasGiven t P B n most
+begun s t P A n most d B call e f = subst (λ (x : List Literal). WasGiven t P x n most) e (supposed s t P A n most d call f)
 
 -- another limit
 pub limited : (s t : State) (P : List Clause) (A : List Literal) (n most steps : ℕ) (u : SolverConfigUpdate) → Configures s u (Ok tt) t →
-    u.max_steps ≡ Some steps → Fits s P A n most → Fits t P A n steps
+    u.max_steps ≡ Some steps → WasGiven s P A n most → WasGiven t P A n steps
 limited s t P A n most steps u (v, good, e) q f =
-    subst (λ x. Fits x P A n steps) (sym e) (record {
+    subst (λ x. WasGiven x P A n steps) (sym e) (record {
       valid = f.valid;
       count = f.count;
       order = f.order;
@@ -140,8 +140,8 @@ limited s t P A n most steps u (v, good, e) q f =
 
 -- a state with the same clauses, assumptions and names, after further steps
 searched : (s t : State) (P : List Clause) (A : List Literal) (n most : ℕ) → t.ledger.valid ≡ true → t.naming ≡ s.naming → t.clauses ≡ s.clauses →
-    t.assumptions ≡ s.assumptions → t.ledger.settings ≡ s.ledger.settings → (t.verdict ≡ Unsat → IsSatisfiable t.clauses → ⊥) → Fits s P A n most →
-    Fits t P A t.ledger.steps most
+    t.assumptions ≡ s.assumptions → t.ledger.settings ≡ s.ledger.settings → (t.verdict ≡ Unsat → IsSatisfiable t.clauses → ⊥) → WasGiven s P A n most →
+    WasGiven t P A t.ledger.steps most
 searched s t P A n most v m c a l u f = record {
   valid = v;
   count = f.count;
@@ -157,20 +157,20 @@ searched s t P A n most v m c a l u f = record {
   limit = ap (λ x. x.max_steps) l ∙ f.limit;
 }
 
-pub decided : (s t : State) (b : Bool) (P : List Clause) (A : List Literal) (n most : ℕ) → Solves s (Ok b) t → Fits s P A n most →
-    Fits t P A t.ledger.steps most
+pub decided : (s t : State) (b : Bool) (P : List Clause) (A : List Literal) (n most : ℕ) → Solves s (Ok b) t → WasGiven s P A n most →
+    WasGiven t P A t.ledger.steps most
 decided s t b P A n most r f =
     searched s t P A n most (ap (λ l. l.valid) r.rest.ledger ∙ f.valid) r.rest.naming r.rest.clauses r.rest.assumptions
     (ap (λ l. l.settings) r.rest.ledger) (λ u h. subst (IsRight t.clauses t.assumptions t.counted) u r.right h) f
 
-pub interrupted : (s t : State) (P : List Clause) (A : List Literal) (n most : ℕ) → Solves s (Err Interrupted) t → Fits s P A n most →
-    Fits t P A t.ledger.steps most
+pub interrupted : (s t : State) (P : List Clause) (A : List Literal) (n most : ℕ) → Solves s (Err Interrupted) t → WasGiven s P A n most →
+    WasGiven t P A t.ledger.steps most
 interrupted s t P A n most r f =
     searched s t P A n most (ap (λ l. l.valid) r.rest.ledger ∙ f.valid) r.rest.naming r.rest.clauses r.rest.assumptions
     (ap (λ l. l.settings) r.rest.ledger) (λ u h. f.refuted (sym r.rest.verdict ∙ u) (subst IsSatisfiable r.rest.clauses h)) f
 
 -- the steps are spent
-pub all-spent : (s t : State) (P : List Clause) (A : List Literal) (n most : ℕ) → Solves s (Err Interrupted) t → Fits s P A n most →
+pub all-spent : (s t : State) (P : List Clause) (A : List Literal) (n most : ℕ) → Solves s (Err Interrupted) t → WasGiven s P A n most →
     (t.ledger.steps ≡ n + most) ⊎ (t.ledger.steps ≡ 2 ^ 64 - 1)
 all-spent s t P A n most r f =
     let k = r.steps in
@@ -197,8 +197,8 @@ same-variable l = ⊎_elim (λ a. omega (arith, a)) (λ a. omega (arith, a)) (pa
 both-true : (a : Assignment) (k l : Literal) → variable_of k ≡ variable_of l → value a k ≡ true → value a l ≡ true → k ≡ l
 both-true a k l e x y = ⊎_elim (λ q. q) (λ q. absurd (not_both a l y (subst (λ z. value a z ≡ true) q x))) (either k l e)
 
-pub is-model : (s : State) (P : List Clause) (A : List Literal) (n most : ℕ) (m : List Literal) → Fits s P A n most →
-    IsCompletable s.naming s.clauses s.assumptions s.counted m → IsModel P A m
+pub is-model : (s : State) (P : List Clause) (A : List Literal) (n most : ℕ) (m : List Literal) → WasGiven s P A n most →
+    IsCompletable s.naming s.clauses s.assumptions s.counted m → IsFoundModel P A m
 is-model s P A n most m f c =
     let (a, makes, all, true-assumed) = c.satisfied in
     let own = names-are-identities f.count s.naming m f.order c.in_use in
@@ -219,7 +219,7 @@ is-model s P A n most m f c =
       assumed_too = λ l i. let j = subst (λ (ls : List Literal). l ∈ ls) (sym f.assumed) i in listed l (f.assumed_named l j) (true-assumed l j);
     }
 
-pub is-core : (s : State) (P : List Clause) (A : List Literal) (n most : ℕ) (core : List Literal) → Fits s P A n most → AreNamesInUse s.naming core →
+pub is-core : (s : State) (P : List Clause) (A : List Literal) (n most : ℕ) (core : List Literal) → WasGiven s P A n most → AreNamesInUse s.naming core →
     IsFailedCore s.clauses s.assumptions (map (through_names s.naming) core) → IsFailedCore P A core
 is-core s P A n most core f named failed =
     let own = names-are-identities f.count s.naming core f.order named in

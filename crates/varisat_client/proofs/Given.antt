@@ -2,10 +2,10 @@
 use Rattle.std.proofs.Common.{◌≡◌, ◌≢◌, ℕ, zero, suc, ℤ, pos, negsuc, Bool, true, false, Some, None, List, [], ◌∷◌, ◌++◌, if◌then◌else◌, refl, sym, ap, ◌∙◌, subst}
 use Rattle.varisat_theory.specs.Literals.{Literal, IsSatisfiableWith}
 use Rattle.varisat_literals.specs.Numbers.{literal_numbered}
-use Rattle.varisat_client.specs.Pasts.{Past, refuse, Refuses, AddsNumber, AssumesNumber, Begins, LimitsSteps, Searches}
+use Rattle.varisat_client.specs.Pasts.{Past, refuse, Refuses, AddsNumber, AssumesNumber, Begins, LimitsSteps, IsSearchEnd}
 use Rattle.varisat_client.specs.Pasts as past
 use Rattle.varisat_client.specs.Runs.{Makes, MakeInTurn}
-use Rattle.varisat_client.specs.Given.{Given, is_zero, give, IsDecided, AreDecided}
+use Rattle.varisat_client.specs.Given.{Given, is_zero, give, IsRightAnswer, AreDecided}
 use Rattle.varisat_client.specs.declared.client.SearchEnd.{SearchEnd}
 use Rattle.varisat_client.specs.declared.refusal.Refusal.{Refusal}
 use Rattle.varisat_client.specs.declared.refusal.Refusal.TheVariants as refusal
@@ -86,7 +86,7 @@ limit-agrees : (n : ℕ) (p q : Past) (g : Given) → LimitsSteps n p q → Agre
 limit-agrees n p q g (past.Refused h e) a = after-again p q g h e
 limit-agrees n p q g (past.Limited r e) a = agree-by q (record p { limit = n }) g g e (a r) refl
 
-search-agrees : (end : SearchEnd) (p q : Past) (g : Given) → Searches end p q → Agrees p g → Agrees q g
+search-agrees : (end : SearchEnd) (p q : Past) (g : Given) → IsSearchEnd end p q → Agrees p g → Agrees q g
 search-agrees end p q g (past.Refused o r) a = refused-agrees [] true p q g r
 search-agrees end p q g (past.Satisfiable o r m e) a = agree-by q (record p { model = q.model; steps = q.steps }) g g e (a r) refl
 search-agrees end p q g (past.Unsatisfiable o r m e) a = agree-by q (record p { core = q.core; steps = q.steps }) g g e (a r) refl
@@ -139,18 +139,18 @@ moves-alike p q g call.Refusal (answer.HasFailed r) m h = absurd m
 moves-alike p q g call.Refusal (answer.Refusal r) m h = same-agrees p q g m.1 h
 
 -- a search ends as it may
-search-decides : (r : SearchEnd) (p q : Past) (g : Given) → Searches r p q → Agrees p g → IsDecided g call.Search (answer.Search r)
-search-decides r p q g (past.Refused o e) a = subst (λ x. IsDecided g call.Search (answer.Search x)) (sym o) tt
+search-decides : (r : SearchEnd) (p q : Past) (g : Given) → IsSearchEnd r p q → Agrees p g → IsRightAnswer g call.Search (answer.Search r)
+search-decides r p q g (past.Refused o e) a = subst (λ x. IsRightAnswer g call.Search (answer.Search x)) (sym o) tt
 search-decides r p q g (past.Satisfiable o f m e) a =
     let (s, makes, all, assumed) = m.satisfied in
-    subst (λ x. IsDecided g call.Search (answer.Search x)) (sym o) (subst (λ (x : Given). IsSatisfiableWith x.clauses x.assumed) (a f) (s, all, assumed))
+    subst (λ x. IsRightAnswer g call.Search (answer.Search x)) (sym o) (subst (λ (x : Given). IsSatisfiableWith x.clauses x.assumed) (a f) (s, all, assumed))
 search-decides r p q g (past.Unsatisfiable o f m e) a =
-    subst (λ x. IsDecided g call.Search (answer.Search x)) (sym o)
+    subst (λ x. IsRightAnswer g call.Search (answer.Search x)) (sym o)
     (λ h. let (s, all, assumed) = subst (λ (x : Given). IsSatisfiableWith x.clauses x.assumed) (sym (a f)) h in
     m.1 (s, all, (λ l i. assumed l (m.0 l i))))
-search-decides r p q g (past.Interrupted o f m e) a = subst (λ x. IsDecided g call.Search (answer.Search x)) (sym o) tt
+search-decides r p q g (past.Interrupted o f m e) a = subst (λ x. IsRightAnswer g call.Search (answer.Search x)) (sym o) tt
 
-decides : (p q : Past) (g : Given) (c : Call) (a : Answer) → Makes p c a q → Agrees p g → IsDecided g c a
+decides : (p q : Past) (g : Given) (c : Call) (a : Answer) → Makes p c a q → Agrees p g → IsRightAnswer g c a
 decides p q g (call.Add n) a m h = tt
 decides p q g (call.Assume n) a m h = tt
 decides p q g call.Begin a m h = tt

@@ -14,16 +14,16 @@ use Rattle.varisat.proofs.NameLaws.{none-in-order}
 use Rattle.varisat.specs.Calls.{AddsClause, Assumes, Solves, Configures}
 use Rattle.varisat.specs.declared.solver.SolverError.{SolverError}
 use Rattle.varisat.specs.declared.solver.SolverError.TheVariants as error
-use Rattle.varisat.specs.Summaries.{Summary, StandsFor, HasNoRoom}
+use Rattle.varisat.specs.Summaries.{Summary, StandsFor, HasFullStore}
 use Rattle.varisat_client.specs.declared.client.SearchEnd.{SearchEnd}
 use Rattle.varisat_client.specs.declared.client.SearchEnd.TheVariants as end
 use Rattle.varisat_client.specs.declared.refusal.Refusal.{Refusal}
 use Rattle.varisat_client.specs.declared.refusal.Refusal.TheVariants.{OutOfMemory, ClauseStoreFull}
 use Rattle.varisat_client.specs.Refusals.{refusal_for}
 use Rattle.varisat_client.specs.LiteralSets.{Has, IsSetOf}
-use Rattle.varisat_client.specs.Pasts.{Past, empty_past, refuse, Again, Memory, AddsNumber, AssumesNumber, Begins, LimitsSteps, Searches, TellsFailed}
+use Rattle.varisat_client.specs.Pasts.{Past, empty_past, refuse, Again, Memory, AddsNumber, AssumesNumber, Begins, LimitsSteps, IsSearchEnd, TellsFailed}
 use Rattle.varisat_client.specs.Pasts as past
-use Rattle.varisat_client.specs.Clients.{Client, Holds, Stands, Moves, KeepsModel, KeepsCore}
+use Rattle.varisat_client.specs.Clients.{Client, HoldsPast, StandsForPast, Moves, KeepsModel, KeepsCore}
 use Rattle.varisat_client.specs.Clients as client
 use Rattle.varisat_client.proofs.Fitting as fitting
 use Rattle.varisat_client.proofs.Refusing.{is-full, clause-refused, list-refused, list-stored, search-refused, never-refused}
@@ -31,12 +31,12 @@ use Rattle.varisat_client.proofs.Refusing.{is-full, clause-refused, list-refused
 -- 1. A new client.
 
 -- what a client stands for that refused no call
-stands-free : (g : Client) (p : Past) → g.refusal ≡ p.refusal → p.refusal ≡ None → Holds g p → Stands g p
+stands-free : (g : Client) (p : Past) → g.refusal ≡ p.refusal → p.refusal ≡ None → HoldsPast g p → StandsForPast g p
 stands-free g p e free k = record { refusal = e; full = λ f. absurd (let z : None ≡ Some ClauseStoreFull = sym free ∙ f in cc); holds = λ _. k }
 
 -- nothing was given yet
 pub is-new : (g : Client) → g.refusal ≡ None → StandsFor g.solver empty_state → g.clause ≡ [] → g.assumptions ≡ [] → IsSetOf [] g.model → IsSetOf [] g.core →
-    Stands g empty_past
+    StandsForPast g empty_past
 is-new g r s c a m k = stands-free g empty_past r refl (record {
   state = empty_state;
   stands = s;
@@ -63,11 +63,11 @@ is-new g r s c a m k = stands-free g empty_past r refl (record {
 -- 2. Refusals.
 
 -- no call was refused
-pub not-refused : (g : Client) (p : Past) → Stands g p → is_some g.refusal ≡ false → p.refusal ≡ None
+pub not-refused : (g : Client) (p : Past) → StandsForPast g p → is_some g.refusal ≡ false → p.refusal ≡ None
 not-refused g p st e = is_none-none p.refusal (ap is_some (sym st.refusal) ∙ e)
 
 -- one was
-pub was-refused : (g : Client) (p : Past) → Stands g p → is_some g.refusal ≡ true → p.refusal ≢ None
+pub was-refused : (g : Client) (p : Past) → StandsForPast g p → is_some g.refusal ≡ true → p.refusal ≢ None
 was-refused g p st e n = let z : true ≡ false = sym e ∙ ap is_some (st.refusal ∙ n) in cc
 
 -- each call is refused once one was
@@ -76,7 +76,7 @@ stays-refused R g e f p st = (p, f p (was-refused g p st e), st)
 
 -- the first call that is refused
 refused-now : (R : Past → Past → Type 0) (g h : Client) (why : Refusal) → is_some g.refusal ≡ false → h.refusal ≡ Some why →
-    ((p : Past) → Stands g p → p.refusal ≡ None → R p (refuse why p) × (why ≡ ClauseStoreFull → HasNoRoom h.solver)) → Moves R g h
+    ((p : Past) → StandsForPast g p → p.refusal ≡ None → R p (refuse why p) × (why ≡ ClauseStoreFull → HasFullStore h.solver)) → Moves R g h
 refused-now R g h why e f r p st =
     let (moves, full) = r p st (not-refused g p st e) in (
       refuse why p,
@@ -113,7 +113,7 @@ add-stays n g e = stays-refused (AddsNumber n) g e (λ p r. at n p r)
 -- a clause that is not taken
 pub end-refused : (n : ℤ) (g h : Client) (d : List Literal) (e : SolverError) → n ≡ pos 0 → is_some g.refusal ≡ false → d ≡ g.clause →
     ((s : State) → StandsFor g.solver s → (t : State) × AddsClause s d (Err e) t × StandsFor h.solver t) →
-    (e ≡ error.ClauseStoreFull → HasNoRoom h.solver) → h.refusal ≡ Some (refusal_for e) → Moves (AddsNumber n) g h
+    (e ≡ error.ClauseStoreFull → HasFullStore h.solver) → h.refusal ≡ Some (refusal_for e) → Moves (AddsNumber n) g h
 end-refused n g h d e z free own call full why = refused-now (AddsNumber n) g h (refusal_for e) free why (λ p st r.
     let k = st.holds r in
     let (t, adds, stands) = call k.state k.stands in (
@@ -134,8 +134,8 @@ begin-refused g h d e free own call why = refused-now Begins g h (refusal_for e)
 -- a search
 pub search-fails : (g h : Client) (e : SolverError) → is_some g.refusal ≡ false →
     ((s : State) → StandsFor g.solver s → (t : State) × Solves s (Err e) t × StandsFor h.solver t) →
-    (e ≡ error.ClauseStoreFull → HasNoRoom h.solver) → h.refusal ≡ Some (refusal_for e) → Moves (Searches end.Refused) g h
-search-fails g h e free call full why = refused-now (Searches end.Refused) g h (refusal_for e) free why (λ p st r.
+    (e ≡ error.ClauseStoreFull → HasFullStore h.solver) → h.refusal ≡ Some (refusal_for e) → Moves (IsSearchEnd end.Refused) g h
+search-fails g h e free call full why = refused-now (IsSearchEnd end.Refused) g h (refusal_for e) free why (λ p st r.
     let k = st.holds r in
     let (t, solves, stands) = call k.state k.stands in
     (past.Refused refl (search-refused e k.state t p solves r), (λ q. full (is-full e q))))
@@ -263,12 +263,12 @@ limit-refused steps u g h after e free given call p st =
     let (t, configures, stands) = call k.state k.stands in
     absurd (never-refused e k.state t u configures k.fits.valid (ap first_bad given))
 
--- 5. Searches.
+-- 5. IsSearchEnd.
 
 -- a search that found a model
 pub finds-model : (r : SearchEnd) (g m h : Client) → is_some g.refusal ≡ false → m ≡ record g { solver = m.solver } →
-    ((s : State) → StandsFor g.solver s → (t : State) × Solves s (Ok true) t × StandsFor m.solver t) → KeepsModel r m h → Moves (Searches r) g h
-finds-model r g m h e q call (client.Refused x) = runs-out (Searches r) g h e x.refusal (λ p free. past.Refused x.answer (Memory free refl))
+    ((s : State) → StandsFor g.solver s → (t : State) × Solves s (Ok true) t × StandsFor m.solver t) → KeepsModel r m h → Moves (IsSearchEnd r) g h
+finds-model r g m h e q call (client.Refused x) = runs-out (IsSearchEnd r) g h e x.refusal (λ p free. past.Refused x.answer (Memory free refl))
 finds-model r g m h e q call (client.Kept list found tells set o) = λ p st.
     let free = not-refused g p st e in
     let k = st.holds free in
@@ -290,8 +290,8 @@ finds-model r g m h e q call (client.Kept list found tells set o) = λ p st.
 
 -- a search that found that there is none
 pub finds-core : (r : SearchEnd) (g m h : Client) → is_some g.refusal ≡ false → m ≡ record g { solver = m.solver } →
-    ((s : State) → StandsFor g.solver s → (t : State) × Solves s (Ok false) t × StandsFor m.solver t) → KeepsCore r m h → Moves (Searches r) g h
-finds-core r g m h e q call (client.Refused x) = runs-out (Searches r) g h e x.refusal (λ p free. past.Refused x.answer (Memory free refl))
+    ((s : State) → StandsFor g.solver s → (t : State) × Solves s (Ok false) t × StandsFor m.solver t) → KeepsCore r m h → Moves (IsSearchEnd r) g h
+finds-core r g m h e q call (client.Refused x) = runs-out (IsSearchEnd r) g h e x.refusal (λ p free. past.Refused x.answer (Memory free refl))
 finds-core r g m h e q call (client.Kept core found tells set o) = λ p st.
     let free = not-refused g p st e in
     let k = st.holds free in
@@ -314,7 +314,7 @@ finds-core r g m h e q call (client.Kept core found tells set o) = λ p st.
 
 -- a search whose steps are spent
 pub spends-steps : (g h : Client) → is_some g.refusal ≡ false → h ≡ record g { solver = h.solver } →
-    ((s : State) → StandsFor g.solver s → (t : State) × Solves s (Err error.Interrupted) t × StandsFor h.solver t) → Moves (Searches end.Interrupted) g h
+    ((s : State) → StandsFor g.solver s → (t : State) × Solves s (Err error.Interrupted) t × StandsFor h.solver t) → Moves (IsSearchEnd end.Interrupted) g h
 spends-steps g h e q call p st =
     let free = not-refused g p st e in
     let k = st.holds free in
@@ -336,11 +336,12 @@ spends-steps g h e q call p st =
 -- 6. What is asked of the last model and the last core.
 
 -- whether a literal is in the model
-pub in-model : (g : Client) (p : Past) (l k : Literal) → Stands g p → is_some g.refusal ≡ false → l ≡ k → Has g.model l ↔ (k ∈ p.model)
+pub in-model : (g : Client) (p : Past) (l k : Literal) → StandsForPast g p → is_some g.refusal ≡ false → l ≡ k → Has g.model l ↔ (k ∈ p.model)
 in-model g p l k st e q = subst (λ x. Has g.model l ↔ (x ∈ p.model)) q ((st.holds (not-refused g p st e)).model l)
 
 -- or in the core
-pub tells-failed : (n : ℤ) (b : Bool) (g : Client) (p : Past) (l : Literal) → n ≢ pos 0 → Stands g p → is_some g.refusal ≡ false → l ≡ literal_numbered n →
+pub tells-failed : (n : ℤ) (b : Bool) (g : Client) (p : Past) (l : Literal) → n ≢ pos 0 → StandsForPast g p → is_some g.refusal ≡ false →
+    l ≡ literal_numbered n →
     IsTrue b ↔ Has g.core l → TellsFailed n b p
 tells-failed n true g p l z st e q (f, h) =
     let r = not-refused g p st e in past.Failed refl r z (subst (λ x. x ∈ p.core) q (((st.holds r).core l).0 (f refl)))

@@ -10,7 +10,7 @@ use Rattle.varisat.specs.declared.solver.SolverError.TheVariants as error
 use Rattle.varisat_client.specs.declared.refusal.Refusal.TheVariants.{OutOfMemory, VariableLimit, ClauseStoreFull}
 use Rattle.varisat_client.specs.Refusals.{refusal_for}
 use Rattle.varisat_client.specs.Pasts.{Past, refuse, Refuses, Memory, Limit, Full}
-use Rattle.varisat_client.specs.Clients.{Fits}
+use Rattle.varisat_client.specs.Clients.{WasGiven}
 use Rattle.varisat_client.proofs.Fitting.{past-limit}
 
 -- what errors are told as
@@ -51,7 +51,7 @@ reason e given stores p free limit store =
 
 -- a clause that is not taken
 pub clause-refused : (e : SolverError) (s t : State) (P : List Clause) (A : List Literal) (n most : ℕ) (d c : Clause) (p : Past) →
-    AddsClause s d (Err e) t → d ≡ c → Fits s P A n most → p.refusal ≡ None → Refuses c true p (refuse (refusal_for e) p)
+    AddsClause s d (Err e) t → d ≡ c → WasGiven s P A n most → p.refusal ≡ None → Refuses c true p (refuse (refusal_for e) p)
 clause-refused e s t P A n most d c p adds own f free =
     reason e c true p free
     (λ v. let (valid, may, past, same) = subst (λ x. AddsClause s d (Err x) t) v adds in
@@ -60,7 +60,7 @@ clause-refused e s t P A n most d c p adds own f free =
 
 -- a list that is not assumed
 pub list-refused : (e : SolverError) (s t : State) (P : List Clause) (A : List Literal) (n most : ℕ) (d B : List Literal) (p : Past) →
-    Assumes s d (Err e) t → d ≡ B → Fits s P A n most → p.refusal ≡ None → Refuses B false p (refuse (refusal_for e) p)
+    Assumes s d (Err e) t → d ≡ B → WasGiven s P A n most → p.refusal ≡ None → Refuses B false p (refuse (refusal_for e) p)
 list-refused e s t P A n most d B p assumes own f free =
     reason e B false p free
     (λ v. let (valid, none, past, same) = subst (λ x. Assumes s d (Err x) t) v assumes in

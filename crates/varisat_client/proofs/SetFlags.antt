@@ -2,7 +2,7 @@
 use Rattle.std.proofs.Common.{◌≡◌, ℕ, zero, suc, ◌<◌, ◌≤◌, Bool, true, false, List, [], ◌∷◌, ◌++◌, ◌-◌, length, get_or, set, take, replicate, inl, ⊎_elim, refl, sym, ap, ◌∙◌, subst, arith, get_or-set_same, get_or-set_other}
 use Rattle.varisat_theory.specs.Literals.{Literal}
 use Rattle.varisat_theory.proofs.Members.{equal_or_not, ∈-append_left, ∈-append_right, ∈-append_cases}
-use Rattle.varisat_client.specs.LiteralSets.{IsSetOf, AreBelow}
+use Rattle.varisat_client.specs.LiteralSets.{IsSetOf, HaveFlags}
 
 -- one more literal joins the set
 pub set-push : (ls : List Literal) (l : Literal) (flags : List Bool) (i : ℕ) → i ≡ l → i < length flags → IsSetOf ls flags →
@@ -22,7 +22,7 @@ set-push ls l flags i e h f = λ k. (
 )
 
 -- one more literal is below a count that is no smaller
-pub below-push : (n m : ℕ) (ls : List Literal) (l : Literal) → n ≤ m → l < m → AreBelow n ls → AreBelow m (ls ++ l ∷ [])
+pub below-push : (n m : ℕ) (ls : List Literal) (l : Literal) → n ≤ m → l < m → HaveFlags n ls → HaveFlags m (ls ++ l ∷ [])
 below-push n m ls l h k b = λ x i. ⊎_elim
     (λ j. let q = b x j in omega (arith, q, h))
     (λ j. ⊎_elim (λ e. omega (arith, e, k)) (λ z. absurd z) j)
@@ -47,8 +47,8 @@ fresh k n xs ys zs e z q r =
     rest zero zs = refl
     rest (suc k) zs = refl
 
-pub fresh-count : (k : ℕ) (zs : List Bool) (lits : List Literal) → zs ≡ replicate k false → AreBelow k lits → AreBelow (length zs) lits
-fresh-count k zs lits e b = subst (λ n. AreBelow n lits) (sym (ap length e ∙ count k)) b
+pub fresh-count : (k : ℕ) (zs : List Bool) (lits : List Literal) → zs ≡ replicate k false → HaveFlags k lits → HaveFlags (length zs) lits
+fresh-count k zs lits e b = subst (λ n. HaveFlags n lits) (sym (ap length e ∙ count k)) b
   where
     count : (k : ℕ) → length (replicate k false) ≡ k
     count zero = refl

@@ -6,7 +6,7 @@ use Rattle.varisat_literals.specs.Numbers.{variable_limit}
 use Rattle.varisat.specs.States.{State, Unsat}
 use Rattle.varisat.specs.Names.{through_names, AreInOrder}
 use Rattle.varisat.specs.Models.{IsCompletable, AreNamesInUse}
-use Rattle.varisat.specs.Summaries.{Summary, StandsFor, HasNoRoom}
+use Rattle.varisat.specs.Summaries.{Summary, StandsFor, HasFullStore}
 use Rattle.varisat_client.specs.LiteralSets.{IsSetOf}
 use Rattle.varisat_client.specs.Pasts.{Past}
 use Rattle.varisat_client.specs.declared.client.SearchEnd.{SearchEnd}
@@ -26,7 +26,7 @@ pub record Client : Type 0 where
 
 -- The state of the solver has the clauses P that were given to their end, and the assumptions A; it made so many steps in all, and may
 -- make `most` in one call. As no name is ever freed, names are in order, and each literal stands for itself.
-pub record Fits (s : State) (P : List Clause) (A : List Literal) (made most : ℕ) : Type 0 where
+pub record WasGiven (s : State) (P : List Clause) (A : List Literal) (made most : ℕ) : Type 0 where
   pub valid : s.ledger.valid ≡ true
   pub count : ℕ
   pub order : AreInOrder count s.naming
@@ -42,10 +42,10 @@ pub record Fits (s : State) (P : List Clause) (A : List Literal) (made most : �
   pub limit : s.ledger.settings.max_steps ≡ most
 
 -- What is held stands for the past, where no call was refused.
-pub record Holds (g : Client) (p : Past) : Type 0 where
+pub record HoldsPast (g : Client) (p : Past) : Type 0 where
   pub state : State
   pub stands : StandsFor g.solver state
-  pub fits : Fits state p.clauses p.assumed p.steps p.limit
+  pub fits : WasGiven state p.clauses p.assumed p.steps p.limit
   pub clause : g.clause ≡ p.clause
   pub assumptions : g.assumptions ≡ p.assumptions
   pub model : IsSetOf p.model g.model
@@ -53,30 +53,30 @@ pub record Holds (g : Client) (p : Past) : Type 0 where
 
 -- The client stands for the past. Of one that refused a call only the reason is told, and where that is a full store of clauses, that
 -- a clause of all variables of the search would bring it to 2^32 words or more.
-pub record Stands (g : Client) (p : Past) : Type 0 where
+pub record StandsForPast (g : Client) (p : Past) : Type 0 where
   pub refusal : g.refusal ≡ p.refusal
-  pub full : p.refusal ≡ Some ClauseStoreFull → HasNoRoom g.solver
-  pub holds : p.refusal ≡ None → Holds g p
+  pub full : p.refusal ≡ Some ClauseStoreFull → HasFullStore g.solver
+  pub holds : p.refusal ≡ None → HoldsPast g p
 
 -- The call moves any past that the client stands for so.
 abbrev pub Moves : (Past → Past → Type 0) → Client → Client → Type 0
-Moves R g h = (p : Past) → Stands g p → (q : Past) × R p q × Stands h q
+Moves R g h = (p : Past) → StandsForPast g p → (q : Past) × R p q × StandsForPast h q
 
 -- memory ran out
-pub record RunsOut (r : SearchEnd) (h : Client) : Type 0 where
+pub record RunsOutOfMemory (r : SearchEnd) (h : Client) : Type 0 where
   pub answer : r ≡ end.Refused
   pub refusal : h.refusal ≡ Some OutOfMemory
 
 -- The model is kept that the solver tells, or memory ran out.
 pub data KeepsModel (r : SearchEnd) (g h : Client) : Type 0 where
-  Refused : RunsOut r h → KeepsModel r g h
+  Refused : RunsOutOfMemory r h → KeepsModel r g h
   Kept : (m : List Literal) → r ≡ end.Satisfiable →
       ((s : State) → StandsFor g.solver s → IsCompletable s.naming s.clauses s.assumptions s.counted m) →
       IsSetOf m h.model → h ≡ record g { model = h.model } → KeepsModel r g h
 
 -- The core is kept that the solver tells, or memory ran out.
 pub data KeepsCore (r : SearchEnd) (g h : Client) : Type 0 where
-  Refused : RunsOut r h → KeepsCore r g h
+  Refused : RunsOutOfMemory r h → KeepsCore r g h
   Kept : (core : List Literal) → r ≡ end.Unsatisfiable →
       ((s : State) → StandsFor g.solver s → AreNamesInUse s.naming core × IsFailedCore s.clauses s.assumptions (map (through_names s.naming) core)) →
       IsSetOf core h.core → h ≡ record g { core = h.core } → KeepsCore r g h

@@ -12,5 +12,5 @@ abbrev pub IsSetOf : List Literal → List Bool → Type 0
 IsSetOf lits flags = (l : Literal) → Has flags l ↔ (l ∈ lits)
 
 -- there is a flag for each literal of the list
-abbrev pub AreBelow : ℕ → List Literal → Type 0
-AreBelow count lits = (l : Literal) → l ∈ lits → l < count
+abbrev pub HaveFlags : ℕ → List Literal → Type 0
+HaveFlags count lits = (l : Literal) → l ∈ lits → l < count

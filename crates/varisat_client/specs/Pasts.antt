@@ -67,7 +67,7 @@ pub data LimitsSteps (steps : ℕ) (p q : Past) : Type 0 where
 
 -- The literals that are true in a model: one of each clause and all assumptions are among them, of each literal of a clause it or its
 -- opposite, and some assignment makes them true that satisfies the clauses. So none is among them together with its opposite.
-pub record IsModel (clauses : List Clause) (assumed model : List Literal) : Type 0 where
+pub record IsFoundModel (clauses : List Clause) (assumed model : List Literal) : Type 0 where
   pub satisfied : (a : Assignment) × MakesTrue a model × SatisfiesAll a clauses × MakesTrue a assumed
   pub each : (c : Clause) → c ∈ clauses → (l : Literal) × (l ∈ c) × (l ∈ model)
   pub whole : (c : Clause) (l : Literal) → c ∈ clauses → l ∈ c → (l ∈ model) ⊎ (opposite l ∈ model)
@@ -76,14 +76,14 @@ pub record IsModel (clauses : List Clause) (assumed model : List Literal) : Type
 -- How a search ends: Satisfiable with a model of the clauses that makes the assumptions true; Unsatisfiable where no assignment
 -- satisfies the clauses and makes them true, with some of them for which it is so already; Interrupted where it made all the steps
 -- that it may, or no more can be counted; or it is refused.
-pub data Searches (r : SearchEnd) (p q : Past) : Type 0 where
-  Refused : r ≡ end.Refused → Refuses [] true p q → Searches r p q
-  Satisfiable : r ≡ end.Satisfiable → p.refusal ≡ None → IsModel p.clauses p.assumed q.model → q ≡ record p { model = q.model; steps = q.steps } →
-      Searches r p q
+pub data IsSearchEnd (r : SearchEnd) (p q : Past) : Type 0 where
+  Refused : r ≡ end.Refused → Refuses [] true p q → IsSearchEnd r p q
+  Satisfiable : r ≡ end.Satisfiable → p.refusal ≡ None → IsFoundModel p.clauses p.assumed q.model → q ≡ record p { model = q.model; steps = q.steps } →
+      IsSearchEnd r p q
   Unsatisfiable : r ≡ end.Unsatisfiable → p.refusal ≡ None → IsFailedCore p.clauses p.assumed q.core →
-      q ≡ record p { core = q.core; steps = q.steps } → Searches r p q
+      q ≡ record p { core = q.core; steps = q.steps } → IsSearchEnd r p q
   Interrupted : r ≡ end.Interrupted → p.refusal ≡ None → (q.steps ≡ p.steps + p.limit) ⊎ (q.steps ≡ 2 ^ 64 - 1) →
-      q ≡ record p { steps = q.steps } → Searches r p q
+      q ≡ record p { steps = q.steps } → IsSearchEnd r p q
 
 -- A number is told where its literal is true in the last model, the opposite number where that is, and else 0: so it is for 0, for
 -- the number that has no opposite, and once a call was refused.

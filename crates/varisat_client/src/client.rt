@@ -69,12 +69,12 @@ impl<A: Allocator + Copy> Model for Client<A> {
 }
 
 impl<A: Allocator + Copy> Client<A> {
-    ghost use Rattle.varisat_client.specs.Pasts.{Past, empty_past, AddsNumber, AssumesNumber, Begins, LimitsSteps, Searches, TellsValue, TellsFailed};
-    ghost use Rattle.varisat_client.specs.Clients.{Stands, Moves, RunsOut, KeepsModel, KeepsCore};
+    ghost use Rattle.varisat_client.specs.Pasts.{Past, empty_past, AddsNumber, AssumesNumber, Begins, LimitsSteps, IsSearchEnd, TellsValue, TellsFailed};
+    ghost use Rattle.varisat_client.specs.Clients.{StandsForPast, Moves, RunsOutOfMemory, KeepsModel, KeepsCore};
 
     /// A client with a new solver. It takes no memory.
     pub fn new_in(alloc: A) -> Client<A>
-        ensures { Stands result empty_past }
+        ensures { StandsForPast result empty_past }
     {
         Client {
             solver: Solver::new_in(alloc),
@@ -149,10 +149,10 @@ impl<A: Allocator + Copy> Client<A> {
         }
     }
 
-    /// Searches until it is known whether some assignment satisfies the clauses and makes the assumptions true, or the
+    /// IsSearchEnd until it is known whether some assignment satisfies the clauses and makes the assumptions true, or the
     /// steps of one call are spent.
     pub fn search(&mut self) -> SearchEnd
-        ensures { Moves (Searches result) self.old self.new }
+        ensures { Moves (IsSearchEnd result) self.old self.new }
     {
         if self.refusal.is_some() {
             return SearchEnd::Refused;
@@ -170,7 +170,7 @@ impl<A: Allocator + Copy> Client<A> {
 
     /// Refuses, since memory ran out.
     fn run_out(&mut self) -> SearchEnd
-        ensures { RunsOut result self.new }
+        ensures { RunsOutOfMemory result self.new }
     {
         self.refusal = Some(Refusal::OutOfMemory);
         SearchEnd::Refused
@@ -204,7 +204,7 @@ impl<A: Allocator + Copy> Client<A> {
 
     /// The number where its literal is true in the model that was found last, the opposite number where that is, else 0.
     pub fn value(&self, number: i32) -> i32
-        ensures { (p : Past) → Stands self.now p → TellsValue number result p }
+        ensures { (p : Past) → StandsForPast self.now p → TellsValue number result p }
     {
         if self.refusal.is_some() {
             return 0;
@@ -224,7 +224,7 @@ impl<A: Allocator + Copy> Client<A> {
 
     /// Whether the literal of the number is in the core that was found last.
     pub fn has_failed(&self, number: i32) -> bool
-        ensures { (p : Past) → Stands self.now p → TellsFailed number result p }
+        ensures { (p : Past) → StandsForPast self.now p → TellsFailed number result p }
     {
         if self.refusal.is_some() {
             return false;
@@ -237,7 +237,7 @@ impl<A: Allocator + Copy> Client<A> {
 
     /// Why calls are refused, if they are.
     pub fn refusal(&self) -> Option<Refusal>
-        ensures { (p : Past) → Stands self.now p → result ≡ p.refusal }
+        ensures { (p : Past) → StandsForPast self.now p → result ≡ p.refusal }
     {
         self.refusal
     }

@@ -1,6 +1,6 @@
 //! Sets of literals that are asked for in one step each.
 ghost use Rattle.std.specs.Prelude.{◌≡◌, [], length, ◌↔◌, IsTrue, OnOk, ◌^◌, ◌≤◌};
-ghost use Rattle.varisat_client.specs.LiteralSets.{Has, IsSetOf, AreBelow};
+ghost use Rattle.varisat_client.specs.LiteralSets.{Has, IsSetOf, HaveFlags};
 
 use std::alloc::{AllocError, Allocator};
 use std::marker::Model;
@@ -8,7 +8,7 @@ use varisat_literals::Lit;
 
 /// How many flags the literals take.
 fn flags_for(lits: &[Lit]) -> usize
-    ensures enough { AreBelow result lits.now }
+    ensures enough { HaveFlags result lits.now }
     ensures small { result ≤ 2 ^ 32 }
 {
     let mut count = 0;
@@ -24,7 +24,7 @@ fn flags_for(lits: &[Lit]) -> usize
 /// Sets the flags of the literals, where none is set.
 fn set_flags(flags: &mut [bool], lits: &[Lit])
     requires clear { IsSetOf [] flags.old }
-    requires known { AreBelow (length flags.old) lits.now }
+    requires known { HaveFlags (length flags.old) lits.now }
     ensures { IsSetOf lits.now flags.new }
 {
     for lit in lits {

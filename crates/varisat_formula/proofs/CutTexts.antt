@@ -70,7 +70,8 @@ left_less p n q text piece e f =
 pub at_end : (p n q m first size : ℕ) (text : List ℕ) → q ≡ min p (length text) + n → n ≡ min (min (length (drop p text)) m) (piece_size p first size) →
     n ≡ 0 → 0 < m → drop q text ≡ []
 at_end p n q m first size text e f z h =
-    ap (λ k. drop k text) (e ∙ still (min p (length text)) n z) ∙ left_behind p text ∙ empty (drop p text) (shorter (length (drop p text)) (z_of f) (one p first size))
+    ap (λ k. drop k text) (e ∙ still (min p (length text)) n z) ∙ left_behind p text
+    ∙ empty (drop p text) (shorter (length (drop p text)) (z_of f) (one p first size))
   where
     z_of : {k : ℕ} → n ≡ k → k ≡ 0
     z_of g = sym g ∙ z

@@ -4,7 +4,7 @@ use Rattle.varisat_client.specs.declared.client.SearchEnd.{SearchEnd}
 use Rattle.varisat_client.specs.declared.client.SearchEnd.TheVariants.{Satisfiable, Unsatisfiable, Interrupted, Refused}
 use Rattle.varisat_client.specs.declared.refusal.Refusal.{Refusal}
 use Rattle.varisat_client.specs.declared.refusal.Refusal.TheVariants.{OutOfMemory, VariableLimit, ClauseStoreFull}
-use Rattle.varisat_client.specs.Pasts.{Past, Searches}
+use Rattle.varisat_client.specs.Pasts.{Past, IsSearchEnd}
 
 -- the number of an end
 abbrev pub end_code : SearchEnd → ℕ
@@ -22,4 +22,4 @@ refusal_code (Some ClauseStoreFull) = 3
 
 -- the search that the number tells of moves the past so
 abbrev pub SearchesBy : ℕ → Past → Past → Type 0
-SearchesBy code p q = (end : SearchEnd) × (code ≡ end_code end) × Searches end p q
+SearchesBy code p q = (end : SearchEnd) × (code ≡ end_code end) × IsSearchEnd end p q

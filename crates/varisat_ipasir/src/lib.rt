@@ -3,7 +3,7 @@
 
 ghost use Rattle.std.specs.Prelude.{◌≡◌, Some, None, IsSome, IsTrue, IfSome};
 ghost use Rattle.varisat_client.specs.Pasts.{empty_past, AddsNumber, AssumesNumber, Begins, LimitsSteps, TellsValue, TellsFailed};
-ghost use Rattle.varisat_client.specs.Clients.{Stands};
+ghost use Rattle.varisat_client.specs.Clients.{StandsForPast};
 ghost use Rattle.varisat_ipasir.specs.Codes.{SearchesBy, refusal_code};
 ghost use Rattle.varisat_ipasir.specs.Handles.{MovesHeld, TellsHeld};
 
@@ -21,7 +21,7 @@ use varisat_client::client::Client;
 pub extern "C" fn varisat_open(alloc: Global, handle: &mut Handle) -> bool
     requires { handle.old.held ≡ None }
     ensures made { IsTrue result → IsSome handle.new.held }
-    ensures new { IfSome handle.new.held (λ g. Stands g empty_past) }
+    ensures new { IfSome handle.new.held (λ g. StandsForPast g empty_past) }
 {
     match Box::new(alloc, Client::new_in(alloc)) {
         Ok(client) => {

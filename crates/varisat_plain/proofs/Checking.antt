@@ -5,7 +5,7 @@ use Rattle.varisat_theory.specs.Literals.{Clause}
 use Rattle.varisat_theory.specs.Propagation.{Conflicts}
 use Rattle.varisat_theory.specs.Derivations.{Line, Add, Delete, TakesOut, IsPresentAfter, IsDerivation, Refutes, Derives}
 use Rattle.varisat_theory.specs.Held.{SameClauses}
-use Rattle.varisat_plain.specs.Checking.{IsAbsent, IsLineStatus, IsWrong, IsFirstWrong, IsVerdict, clause_lists, line_of}
+use Rattle.varisat_plain.specs.Checking.{IsAbsent, IsPlainLineStatus, IsWrong, IsFirstWrong, IsVerdict, clause_lists, line_of}
 use Rattle.varisat_plain.specs.declared.checker.PlainLine.{PlainLine}
 use Rattle.varisat_plain.specs.declared.checker.PlainLine.TheVariants.{Deletes}
 use Rattle.varisat_plain.specs.declared.checker.LineStatus.{LineStatus}
@@ -190,17 +190,17 @@ lines_all : (ls : List PlainLine) (i : ℕ) → length ls ≤ i → take i (map 
 lines_all ls i h = take_all i (map line_of ls) (let e = length-map ls line_of in omega (arith, e))
 
 -- what the status of a line says
-unproved : (Q : List Clause) (l : Line) (R : List Clause) → IsLineStatus Q l Unproved R → (c : Clause) × (l ≡ Add c) × IsWrong Q (Add c)
+unproved : (Q : List Clause) (l : Line) (R : List Clause) → IsPlainLineStatus Q l Unproved R → (c : Clause) × (l ≡ Add c) × IsWrong Q (Add c)
 unproved Q (Add c) R h = (c, refl, h)
 unproved Q (Delete c) R h = absurd h
 
-absent : (Q : List Clause) (l : Line) (R : List Clause) → IsLineStatus Q l Absent R → (c : Clause) × (l ≡ Delete c) × IsWrong Q (Delete c)
+absent : (Q : List Clause) (l : Line) (R : List Clause) → IsPlainLineStatus Q l Absent R → (c : Clause) × (l ≡ Delete c) × IsWrong Q (Delete c)
 absent Q (Add c) R h = absurd h
 absent Q (Delete c) R h = (c, refl, h)
 
 pub absent_line : (Q R : List Clause) (line : PlainLine) (v : Vec ℕ Global) (c : Clause) → line ≡ Deletes v → c ≡ v.items → IsAbsent Q c →
-    IsLineStatus Q (line_of line) Absent R
-absent_line Q R line v c e f a = subst (λ l. IsLineStatus Q (line_of l) Absent R) (sym e) (subst (IsAbsent Q) f a)
+    IsPlainLineStatus Q (line_of line) Absent R
+absent_line Q R line v c e f a = subst (λ l. IsPlainLineStatus Q (line_of l) Absent R) (sym e) (subst (IsAbsent Q) f a)
 
 pub deleted_line : (Q R : List Clause) (line : PlainLine) (v : Vec ℕ Global) (c : Clause) → line ≡ Deletes v → c ≡ v.items → TakesOut Q c R →
     Derives Q (line_of line ∷ []) R
@@ -216,10 +216,10 @@ module _ (P : List Clause) (ls : List PlainLine) (i : ℕ) (Q : List Clause) (ch
       (derivation_found P (map line_of ls) Q (subst (λ l. Checked P l Q) (lines_all ls i h) checked) none)
 
   module _ (v : PlainLine) (h : i < length ls) (e : v ≡ get_or ls i v) (none : Conflicts Q [] → ⊥) (s : LineStatus) (R : List Clause)
-      (w : IsLineStatus Q (line_of v) s R) where
+      (w : IsPlainLineStatus Q (line_of v) s R) where
     pub on_taken : s ≡ Taken → Checked P (take (i + 1) (map line_of ls)) R
     on_taken f = subst (λ l. Checked P l R) (sym (lines_more ls i v h e))
-        (checked_more P (take i (map line_of ls)) Q (line_of v) R checked none (subst (λ t. IsLineStatus Q (line_of v) t R) f w))
+        (checked_more P (take i (map line_of ls)) Q (line_of v) R checked none (subst (λ t. IsPlainLineStatus Q (line_of v) t R) f w))
 
     at_wrong : (line : Line) → line_of v ≡ line → IsWrong Q line → IsFirstWrong P (map line_of ls) (i + 1) line
     at_wrong line g x =
@@ -228,12 +228,12 @@ module _ (P : List Clause) (ls : List PlainLine) (i : ℕ) (Q : List Clause) (ch
 
     pub on_unproved : s ≡ Unproved → (x : PlainVerdict) → (DoesNotFollow (i + 1) ≡ x) ↔ IsVerdict P (map line_of ls) x
     on_unproved f =
-        let u = unproved Q (line_of v) R (subst (λ t. IsLineStatus Q (line_of v) t R) f w) in
+        let u = unproved Q (line_of v) R (subst (λ t. IsPlainLineStatus Q (line_of v) t R) f w) in
         exact P (map line_of ls) (DoesNotFollow (i + 1)) (u.0, at_wrong (Add u.0) u.1 u.2)
 
     pub on_absent : s ≡ Absent → (x : PlainVerdict) → (DeletesNothing (i + 1) ≡ x) ↔ IsVerdict P (map line_of ls) x
     on_absent f =
-        let u = absent Q (line_of v) R (subst (λ t. IsLineStatus Q (line_of v) t R) f w) in
+        let u = absent Q (line_of v) R (subst (λ t. IsPlainLineStatus Q (line_of v) t R) f w) in
         exact P (map line_of ls) (DeletesNothing (i + 1)) (u.0, at_wrong (Delete u.0) u.1 u.2)
 
 -- what the test of the slice says of the list

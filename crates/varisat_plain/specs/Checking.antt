@@ -37,12 +37,12 @@ abbrev pub IsPlaceOf : {A : Type 0} → List (Vec ℕ A) → Clause → ℕ → 
 IsPlaceOf present c i = (i < length present) × SameSet (slice_index_or (clause_lists present) i []) c
 
 -- what becomes of a line where P is present: it is taken, after which Q is present, it adds what does not follow, or it deletes nothing
-abbrev pub IsLineStatus : List Clause → Line → LineStatus → List Clause → Type 0
-IsLineStatus P l Taken Q = Derives P (l ∷ []) Q
-IsLineStatus P (Add c) Unproved Q = Follows P c → ⊥
-IsLineStatus P (Delete c) Unproved Q = ⊥
-IsLineStatus P (Add c) Absent Q = ⊥
-IsLineStatus P (Delete c) Absent Q = IsAbsent P c
+abbrev pub IsPlainLineStatus : List Clause → Line → LineStatus → List Clause → Type 0
+IsPlainLineStatus P l Taken Q = Derives P (l ∷ []) Q
+IsPlainLineStatus P (Add c) Unproved Q = Follows P c → ⊥
+IsPlainLineStatus P (Delete c) Unproved Q = ⊥
+IsPlainLineStatus P (Add c) Absent Q = ⊥
+IsPlainLineStatus P (Delete c) Absent Q = IsAbsent P c
 
 -- a line is wrong where Q is present: it adds what does not follow, or deletes what is absent
 abbrev pub IsWrong : List Clause → Line → Type 0

@@ -1,6 +1,6 @@
 //! A plain checker of proof lines: it keeps the present clauses in a list, and propagates anew for each line.
 ghost use Rattle.std.specs.Prelude.{◌≡◌, ◌↔◌, map, IfOk, IsTrue, MatchOption, true, false};
-ghost use Rattle.varisat_plain.specs.Checking.{IsAbsent, IsPlaceOf, IsLineStatus, IsVerdict, clause_lists, line_of};
+ghost use Rattle.varisat_plain.specs.Checking.{IsAbsent, IsPlaceOf, IsPlainLineStatus, IsVerdict, clause_lists, line_of};
 ghost use Rattle.varisat_theory.specs.Derivations.{TakesOut};
 ghost use Rattle.varisat_theory.specs.Membership.{◌⊆◌, SameSet};
 
@@ -92,7 +92,7 @@ fn take_line(
     present: &mut Vec<Vec<u32>>,
     line: &PlainLine,
 ) -> Result<LineStatus, AllocError>
-    ensures { IfOk result (λ status. IsLineStatus (clause_lists present.old.items) (line_of line.now) status (clause_lists present.new.items)) }
+    ensures { IfOk result (λ status. IsPlainLineStatus (clause_lists present.old.items) (line_of line.now) status (clause_lists present.new.items)) }
 {
     match line {
         PlainLine::Adds(clause) => {

@@ -24,7 +24,7 @@ use Rattle.varisat_proof.specs.Grammar.{Accepted, Faulty, tag_kind}
 use Rattle.varisat_proof.specs.Machine.{Place, Parsed, ReaderState, line_at, number_event, begin_event, event, begin_line, after_number, moved, last_symbol, put, at_end, happens, after, parsed, parsed_from, begin, last_event, last_place, last_offset}
 use Rattle.varisat_proof.specs.Means.{BytesMean, Means}
 use Rattle.varisat_proof.specs.Marked.{MarkedTold, ProofState, Takes, IsWrongBy, Goes, IsCheckOf, state_of}
-use Rattle.varisat_proof.specs.Checks.{IsLineStatus, StandsBy, StandsAfterLines, LastIsWrong, IsWrongLast, with_lines, HasRead, BreaksOff, EndsWith, result_at_end}
+use Rattle.varisat_proof.specs.Checks.{IsLineStatus, StandsBy, StandsAfterLines, LastIsWrong, IsWrongLast, with_lines, HasRead, CheckBreaksOff, EndsWith, result_at_end}
 use Rattle.varisat_proof.proofs.TokenLines.{parsed_means}
 
 -- 1. Lines.
@@ -239,7 +239,7 @@ accepted f bytes lines e = subst (λ t. Means f bytes t) e (parsed_means f bytes
 
 pub reads_fault : (f : Encoding) (P : ProofState) (text more : List ℕ) (lines : List ProofLine) (p : ReaderState) (b : ℕ) (Q : ProofState)
     (count : Count) → HasRead f text lines p → Fault ≡ happens p b → StandsAfterLines P lines Q count →
-    BreaksOff f P ((text ++ b ∷ []) ++ more) (Parse p.start) Q
+    CheckBreaksOff f P ((text ++ b ∷ []) ++ more) (Parse p.start) Q
 reads_fault f P text more lines p b Q count r h s = λ rest.
     fault_result count.refuted f P (((text ++ b ∷ []) ++ more) ++ rest) lines p.start Q count.steps
     (faulty f (((text ++ b ∷ []) ++ more) ++ rest) lines p.start
@@ -252,7 +252,7 @@ begins f text more rest lines p r = subst (λ t. Means f ((text ++ more) ++ rest
     (ap (λ x. parsed f x) (append_assoc text more rest) ∙ r.rest_is (more ++ rest)) (parsed_means f ((text ++ more) ++ rest))
 
 pub reads_wrong : (f : Encoding) (P : ProofState) (text more : List ℕ) (lines : List ProofLine) (p : ReaderState) (e : CheckerError) (Q : ProofState) →
-    HasRead f text lines p → IsWrongLast P lines e Q → BreaksOff f P (text ++ more) e Q
+    HasRead f text lines p → IsWrongLast P lines e Q → CheckBreaksOff f P (text ++ more) e Q
 reads_wrong f P text more lines p (CheckFailed step) Q r w = λ rest. wrong_result f P ((text ++ more) ++ rest) lines (parsed_from p (more ++ rest)).lines
     (parsed_from p (more ++ rest)).fault (CheckFailed step) Q (λ e. cc) (begins f text more rest lines p r) w
 reads_wrong f P text more lines p (NoSuchClause step) Q r w = λ rest. wrong_result f P ((text ++ more) ++ rest) lines (parsed_from p (more ++ rest)).lines
@@ -357,19 +357,19 @@ so_far_line f P text piece i Q Q' count count' p q d c h s e g w t = (
 
 pub piece_fault : (f : Encoding) (P : ProofState) (text piece : List ℕ) (i : ℕ) (Q : ProofState) (count : Count) (p : ReaderState) (o : ℕ) →
     i < length piece → SoFar f P (text ++ take i piece) Q count p → Fault ≡ happens p (get_or piece i 0) → o ≡ p.start →
-    BreaksOff f P (text ++ piece) (Parse o) Q
+    CheckBreaksOff f P (text ++ piece) (Parse o) Q
 piece_fault f P text piece i Q count p o h s e g =
-    subst (λ x. BreaksOff f P (text ++ piece) (Parse x) Q) (sym g)
-    (subst (λ x. BreaksOff f P x (Parse p.start) Q) (piece_whole text piece i h)
+    subst (λ x. CheckBreaksOff f P (text ++ piece) (Parse x) Q) (sym g)
+    (subst (λ x. CheckBreaksOff f P x (Parse p.start) Q) (piece_whole text piece i h)
     (reads_fault f P (text ++ take i piece) (drop (i + 1) piece) s.0 p (get_or piece i 0) Q count s.1 e s.2))
 
 pub piece_wrong : (f : Encoding) (P : ProofState) (text piece : List ℕ) (i : ℕ) (Q Q' : ProofState) (count : Count) (p q : ReaderState) (d : LineKind)
     (c : Clause) (error : CheckerError) → i < length piece → SoFar f P (text ++ take i piece) Q count p →
     Ended ≡ happens p (get_or piece i 0) → q ≡ after p (get_or piece i 0) → LineEnds q d c →
     ((P : ProofState) (lines : List ProofLine) → StandsAfterLines P lines Q count → IsWrongLast P (lines ++ line_of_kind d c ∷ []) error Q') →
-    BreaksOff f P (text ++ piece) error Q'
+    CheckBreaksOff f P (text ++ piece) error Q'
 piece_wrong f P text piece i Q Q' count p q d c error h s e g w t =
-    subst (λ x. BreaksOff f P x error Q') (piece_whole text piece i h)
+    subst (λ x. CheckBreaksOff f P x error Q') (piece_whole text piece i h)
     (reads_wrong f P ((text ++ take i piece) ++ get_or piece i 0 ∷ []) (drop (i + 1) piece) (s.0 ++ line_at q.place ∷ []) q error Q'
     (reads_line f (text ++ take i piece) s.0 p q (get_or piece i 0) s.1 e g)
     (subst (λ x. IsWrongLast P (s.0 ++ x ∷ []) error Q') (line_ends q d c w) (t P s.0 s.2)))

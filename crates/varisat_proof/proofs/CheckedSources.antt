@@ -13,7 +13,7 @@ use Rattle.varisat_proof.specs.declared.checker.check.Count.{Count}
 use Rattle.varisat_proof.specs.Lines.{ProofLine}
 use Rattle.varisat_proof.specs.Machine.{ReaderState, begin}
 use Rattle.varisat_proof.specs.Marked.{ProofState, IsCheckOf}
-use Rattle.varisat_proof.specs.Checks.{StandsBy, StandsAfterLines, HasRead, BreaksOff, EndsWith}
+use Rattle.varisat_proof.specs.Checks.{StandsBy, StandsAfterLines, HasRead, CheckBreaksOff, EndsWith}
 use Rattle.varisat_proof.specs.Calls.{ChecksBytes, AtEnd, InText, SourceFailed, RanOut, IsOfBytes, is_of_bytes, is_io}
 use Rattle.varisat_proof.proofs.CheckedLines.{SoFar, reads_start}
 
@@ -80,7 +80,7 @@ underway_more f s t t' old mid new count count' p q piece w g h = record {
 
 -- a check that breaks off inside the text
 inside : (f : Encoding) (s t : ProofState) (old new : Stand) (text : List ℕ) (e : CheckerError) → streams.Reads old text new → new.faults ≡ old.faults →
-    BreaksOff f s text e t → ChecksBytes {V = CheckVerdict} (Right f s t (Err e)) old (Err e) new
+    CheckBreaksOff f s text e t → ChecksBytes {V = CheckVerdict} (Right f s t (Err e)) old (Err e) new
 inside f s t old new text (CheckFailed n) r q b = InText text r q b
 inside f s t old new text (NoSuchClause n) r q b = InText text r q b
 inside f s t old new text (CoreNotAssumed n) r q b = InText text r q b
@@ -93,7 +93,7 @@ inside f s t old new text Spent r q b = InText text r q b
 pub breaks_inside : (f : Encoding) (s t t' : ProofState) (old mid new : Stand) (count : Count) (p : ReaderState) (piece : List ℕ) (e : CheckerError) →
     Underway f s t old mid count p → Gave mid piece new →
     ((f : Encoding) (P : ProofState) (text : List ℕ) (lines : List ProofLine) → HasRead f text lines p → StandsAfterLines P lines t count →
-    BreaksOff f P (text ++ piece) e t') → ChecksBytes {V = CheckVerdict} (Right f s t' (Err e)) old (Err e) new
+    CheckBreaksOff f P (text ++ piece) e t') → ChecksBytes {V = CheckVerdict} (Right f s t' (Err e)) old (Err e) new
 breaks_inside f s t t' old mid new count p piece e w g h =
     inside f s t' old new (w.text ++ piece) e (reads_more old mid new w.text piece w.reads g.reads) (g.quiet ∙ w.quiet) (h f s w.text w.so.0 w.so.1 w.so.2)
 

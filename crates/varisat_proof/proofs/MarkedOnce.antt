@@ -18,7 +18,7 @@ use Rattle.varisat_proof.specs.declared.checker.error.CheckerError.{CheckerError
 use Rattle.varisat_proof.specs.declared.checker.error.CheckerError.TheVariants.{CheckFailed, NoSuchClause, CoreNotAssumed, Parse}
 use Rattle.varisat_proof.specs.Lines.{ProofLine, step_number}
 use Rattle.varisat_proof.specs.Machine.{Parsed, parsed}
-use Rattle.varisat_proof.specs.Marked.{MarkedTold, ProofState, TakesKind, Takes, IsWrongKind, IsWrongBy, Goes, TakesAll, GoesThrough, StopsBefore, Stops, CheckOnce, CheckGoesThrough}
+use Rattle.varisat_proof.specs.Marked.{MarkedTold, ProofState, TakesKind, Takes, IsWrongKind, IsWrongBy, Goes, TakesAll, GoesThrough, StopsBefore, StopsCheck, CheckOnce, CheckGoesThrough}
 use Rattle.varisat_proof.proofs.CheckedLines.{error_of}
 use Rattle.varisat_proof.proofs.TokenLines.{only_parsed}
 
@@ -109,7 +109,7 @@ before_line : (fault : Option ℕ) (n : ℕ) (t : ProofState) (back : List Proof
 before_line fault n t [] status step s = absurd s
 before_line fault n t (line ∷ lines) status step s = AtLine s.0 line lines refl status s.1 (ap (λ x. Err (error_of status x)) s.2)
 
-halts : (fault : Option ℕ) (n : ℕ) (t : ProofState) (back : List ProofLine) (r : Result CheckVerdict CheckerError) → Stops fault n t back r →
+halts : (fault : Option ℕ) (n : ℕ) (t : ProofState) (back : List ProofLine) (r : Result CheckVerdict CheckerError) → StopsCheck fault n t back r →
     Halts fault n t back r
 halts fault n t back (Ok Refutation) s = Refuted s.1 (sym (ap refuted_result s.0))
 halts fault n t back (Ok Derivation) s = AtEnd s.2 s.1 (sym (ap ended_result s.0))
@@ -201,7 +201,7 @@ taken_through fault n (l ∷ f) back r s s' t u w g a h =
     taken_through fault n f back r g.1 a.0 t u (same_taken s s' l.kind l.clause g.1 a.0 w g.2 a.1) g.3 a.2 h
 
 through : (s : ProofState) (lines front back : List ProofLine) (u : ProofState) (r : Result CheckVerdict CheckerError) (t : ProofState)
-    (fault : Option ℕ) → lines ≡ front ++ back → Goes s front t → Stops fault (length front) t back r →
+    (fault : Option ℕ) → lines ≡ front ++ back → Goes s front t → StopsCheck fault (length front) t back r →
     ((r ≡ Ok Refutation) ⊎ ((r ≡ Ok Derivation) × (Conflicts u.present [] → ⊥) × (t.told ≡ u.told))) →
     GoesThrough s lines r t × (Conflicts u.present [] → r ≡ Ok Refutation)
 through s lines front back u (Ok Refutation) t fault e g k x = ((front, back, e, g, k.1), λ _. refl)

@@ -12,7 +12,7 @@ use Rattle.varisat_proof.specs.declared.checker.error.CheckVerdict.{CheckVerdict
 use Rattle.varisat_proof.specs.declared.checker.error.CheckVerdict.TheVariants.{Refutation}
 use Rattle.varisat_proof.specs.declared.checker.marked.MarkedReport.{MarkedReport}
 use Rattle.varisat_proof.specs.Lines.{ProofLine}
-use Rattle.varisat_proof.specs.Marked.{MarkedTold, ProofState, nothing_told, TakesKind, Goes, Stops, IsCheckOf, state_of}
+use Rattle.varisat_proof.specs.Marked.{MarkedTold, ProofState, nothing_told, TakesKind, Goes, StopsCheck, IsCheckOf, state_of}
 use Rattle.varisat_proof.specs.Calls.{core_lists, IsMarkedResult, IsTrueReport}
 
 -- what satisfies all of both lists satisfies each
@@ -88,7 +88,7 @@ refutation_sound P Q bytes told v e k (a, i) =
     let s : ProofState = state_of P nothing_told in
     let t : ProofState = state_of Q told in
     let w = goes_sound P k.front s t (sound_start P) k.goes in
-    let h = subst (λ v. Stops k.fault (length k.front) t k.back (Ok v)) e k.stops in
+    let h = subst (λ v. StopsCheck k.fault (length k.front) t k.back (Ok v)) e k.stops in
     conflicts_sound Q [] a (w.present a (satisfies_left a P told.inputs.clauses i) (satisfies_right a P told.inputs.clauses i)) (λ l m. absurd m) h.1
 
 -- a report is true

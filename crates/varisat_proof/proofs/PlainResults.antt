@@ -20,7 +20,7 @@ use Rattle.varisat_proof.specs.declared.checker.error.CheckerError.{CheckerError
 use Rattle.varisat_proof.specs.declared.checker.error.CheckerError.TheVariants.{CheckFailed, NoSuchClause, CoreNotAssumed, Parse}
 use Rattle.varisat_proof.specs.Lines.{ProofLine, line_of_kind, plain_line, plain_lines, plain_encoding, has_kind, HasKinds, step_number}
 use Rattle.varisat_proof.specs.Means.{BytesMean}
-use Rattle.varisat_proof.specs.Marked.{MarkedTold, ProofState, Takes, Goes, StopsBefore, Stops, IsCheckOf, state_of}
+use Rattle.varisat_proof.specs.Marked.{MarkedTold, ProofState, Takes, Goes, StopsBefore, StopsCheck, IsCheckOf, state_of}
 use Rattle.varisat_proof.specs.Results.{result_of, StopsAt, IsResult}
 
 -- 1. Lines.
@@ -147,7 +147,7 @@ module _ (format : ProofFormat) (P : List Clause) (bytes : List ℕ) (ls : List 
   no_core n step (Add c ∷ lines) s = s.1
   no_core n step (Delete c ∷ lines) s = s.1
 
-  by_result : (n : ℕ) → n ≡ length a → (r : Result CheckVerdict CheckerError) → Stops fault n t (plain_lines b) r → IsResult format P bytes r t.present
+  by_result : (n : ℕ) → n ≡ length a → (r : Result CheckVerdict CheckerError) → StopsCheck fault n t (plain_lines b) r → IsResult format P bytes r t.present
   by_result n e (Ok Refutation) s = refuted s.1 (Ok Refutation) (sym (ap (λ f. result_of f plain.Refutation) s.0))
   by_result n e (Ok Derivation) s = derived (none_plain b s.1) s.2 (Ok Derivation) (sym (ap (λ f. result_of f plain.Derivation) s.0))
   by_result n e (Err (CheckFailed step)) s = failed n step e b refl s
@@ -167,7 +167,7 @@ plain_right format P told t bytes r k =
     let checked : Checked P w.a t.present = goes_checked P [] w.a s t (checked_start P P refl) (subst (λ x. Goes s x t) w.front_is k.goes) in
     by_result format P bytes ls.0 k.fault (subst (λ x. BytesMean (plain_encoding format) bytes x k.fault) ls.1 k.means) w.a w.b t w.splits checked
     (length k.front) (ap length w.front_is ∙ length_plain w.a) r
-    (subst (λ x. Stops k.fault (length k.front) t x r) w.back_is k.stops)
+    (subst (λ x. StopsCheck k.fault (length k.front) t x r) w.back_is k.stops)
 
 -- 3. A refutation is one of the clauses at entry.
 refuting : (v : PlainVerdict) (fault : Option ℕ) (P : List Clause) (lines : List Line) → Ok Refutation ≡ result_of fault v → IsVerdict P lines v →

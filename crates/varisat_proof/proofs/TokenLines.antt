@@ -9,7 +9,7 @@ use Rattle.varisat_proof.specs.declared.checker.token.Symbol.{Symbol}
 use Rattle.varisat_proof.specs.declared.checker.token.Symbol.TheVariants.{Mark, Number, Cut, Bad}
 use Rattle.varisat_proof.specs.declared.checker.token.Event.TheVariants.{Fault}
 use Rattle.varisat_proof.specs.Lines.{ProofLine, line_of_kind, has_kind, HasKinds, letter, letter_kind}
-use Rattle.varisat_proof.specs.Grammar.{Token, symbols, literal_symbols, begun_symbols, line_symbols, is_some, is_kind, tag_kind, fits, IsBegun, IsCutOff, WrongToken, EndsInside, tokens, end_of}
+use Rattle.varisat_proof.specs.Grammar.{Token, symbols, literal_symbols, begun_symbols, line_symbols, is_some, is_kind, tag_kind, fits, IsBegunLine, IsCutOff, WrongToken, EndsInside, tokens, end_of}
 use Rattle.varisat_proof.specs.Machine.{Place, Parsed, line_at, number_event, begin_event, begin_place, event, begin_line, after_number, moved, put, fault_offset, read, between, parsed}
 use Rattle.varisat_proof.specs.Means.{Means, BytesMean}
 use Rattle.varisat_proof.proofs.TokenSymbols.{code_event, code_place, at_place, Tells, sound_parsed}
@@ -251,7 +251,7 @@ consume_begun_kind Binary end d c Accepts k front h e = absurd cc
 consume_begun_kind Binary end d c Assumes k front h e = absurd cc
 consume_begun_kind Binary end d c Fails k front h e = absurd cc
 
-consume_begun : (f : Encoding) (end : ℕ) (d : LineKind) (c : Clause) (begun : List Symbol) (front : List Token) → IsBegun f begun → symbols front ≡ begun →
+consume_begun : (f : Encoding) (end : ℕ) (d : LineKind) (c : Clause) (begun : List Symbol) (front : List Token) → IsBegunLine f begun → symbols front ≡ begun →
     BegunConsumed f end d c front begun
 consume_begun f end d c begun front (inl b) e =
     subst (λ x. BegunConsumed f end d c front x) (sym b) (record
@@ -265,7 +265,7 @@ record AllConsumed (f : Encoding) (end : ℕ) (front : List Token) (lines : List
   inside_is : place.inside ≡ is_some begun
   reads : (more : List Token) → read f end between (front ++ more) ≡ with_lines lines (read f end place more)
 
-consume_all : (f : Encoding) (end : ℕ) (lines : List ProofLine) (begun : List Symbol) (front : List Token) → HasKinds f lines → IsBegun f begun →
+consume_all : (f : Encoding) (end : ℕ) (lines : List ProofLine) (begun : List Symbol) (front : List Token) → HasKinds f lines → IsBegunLine f begun →
     symbols front ≡ flat_map (line_symbols f) lines ++ begun → AllConsumed f end front lines begun
 consume_all f end lines begun front h b e =
     let one = consume_lines f end lines Adds [] front begun h e in

@@ -9,7 +9,7 @@ use Rattle.varisat_proof.specs.declared.checker.token.Symbol.{Symbol}
 use Rattle.varisat_proof.specs.declared.checker.token.Symbol.TheVariants.{Mark, Number, Cut, Bad}
 use Rattle.varisat_proof.specs.declared.checker.token.Event.{Event}
 use Rattle.varisat_proof.specs.declared.checker.token.Event.TheVariants.{More, Ended, Fault}
-use Rattle.varisat_proof.specs.Grammar.{Token, symbols, literal_symbols, mark_symbols, begun_symbols, line_symbols, is_some, is_kind, tag_kind, fits, IsBegun, IsCutOff, WrongToken, EndsInside}
+use Rattle.varisat_proof.specs.Grammar.{Token, symbols, literal_symbols, mark_symbols, begun_symbols, line_symbols, is_some, is_kind, tag_kind, fits, IsBegunLine, IsCutOff, WrongToken, EndsInside}
 use Rattle.varisat_proof.specs.Lines.{ProofLine, line_of_kind, has_kind, HasKinds, letter_kind}
 use Rattle.varisat_proof.specs.Machine.{Place, Parsed, line_at, number_event, begin_event, begin_place, event, begin_line, after_number, moved, put, at_end, fault_offset, read, between}
 
@@ -189,7 +189,7 @@ record WrongFrom (f : Encoding) (pre : List Symbol) (us : List Token) (lines : L
   tokens_are : us ≡ front ++ token ∷ back
   has_kinds : HasKinds f lines
   begun : List Symbol
-  is_begun : IsBegun f begun
+  is_begun : IsBegunLine f begun
   says : pre ++ symbols front ≡ flat_map (line_symbols f) lines ++ begun
   wrong : fits f (is_some begun) token.symbol ≡ false
   offset_is : offset ≡ token.at
@@ -201,7 +201,7 @@ record EndsFrom (f : Encoding) (pre : List Symbol) (us : List Token) (lines : Li
   has_kinds : HasKinds f lines
   cut : IsCutOff back
   begun : List Symbol
-  is_begun : IsBegun f begun
+  is_begun : IsBegunLine f begun
   some : is_some begun ≡ true
   says : pre ++ symbols front ≡ flat_map (line_symbols f) lines ++ begun
 
@@ -212,7 +212,7 @@ SoFrom f end pre us lines (Some o) = WrongFrom f pre us lines o ⊎ (EndsFrom f 
 abbrev So : Encoding → ℕ → List Symbol → List Token → Parsed → Type 0
 So f end pre us t = SoFrom f end pre us t.lines t.fault
 
-place_begun : (f : Encoding) (i : Bool) (d : LineKind) (c : Clause) → has_kind f d ≡ true → IsBegun f (place_symbols f (at_place i d c))
+place_begun : (f : Encoding) (i : Bool) (d : LineKind) (c : Clause) → has_kind f d ≡ true → IsBegunLine f (place_symbols f (at_place i d c))
 place_begun f true d c k = inr (line_at (at_place true d c), refl, k)
 place_begun f false d c k = inl refl
 
@@ -270,7 +270,7 @@ outside_signs : (f : Encoding) (p : Place) → p.inside ≡ false → has_kind f
 outside_signs f p e k = let h : place_symbols f p ≡ [] = ap (λ t. if t then begun_symbols f (line_at p) else []) e in
     (h, record { some = ap is_some h ∙ sym e; has = k })
 
-inside_begun : (f : Encoding) (p : Place) → has_kind f p.kind ≡ true → IsBegun f (place_symbols f p)
+inside_begun : (f : Encoding) (p : Place) → has_kind f p.kind ≡ true → IsBegunLine f (place_symbols f p)
 inside_begun f p k = place_begun f p.inside p.kind p.clause k
 
 so_step : (f : Encoding) (end : ℕ) (p q : Place) (u : Token) (us : List Token) (e : Event) (t : Parsed) → IsPlace f p → Does f p u.symbol e q →

@@ -97,14 +97,14 @@ abbrev pub position_of : CheckerState → MarkedTold → Count → ReaderState �
 position_of checker told count progress = record { state = state_of checker.clauses told; count = count; progress = progress }
 
 -- a check breaks off in the text, whatever comes behind it
-abbrev pub BreaksOff : Encoding → ProofState → List ℕ → CheckerError → ProofState → Type 0
-BreaksOff encoding s text OutOfMemory t = Unit {0}
-BreaksOff encoding s text e t = (rest : List ℕ) → IsCheckOf encoding s (text ++ rest) (Err e) t
+abbrev pub CheckBreaksOff : Encoding → ProofState → List ℕ → CheckerError → ProofState → Type 0
+CheckBreaksOff encoding s text OutOfMemory t = Unit {0}
+CheckBreaksOff encoding s text e t = (rest : List ℕ) → IsCheckOf encoding s (text ++ rest) (Err e) t
 
 -- a piece more of the text was read
 abbrev pub ReadsPiece : Encoding → ProofState → List ℕ → Result (Unit {0}) CheckerError → Position → Type 0
 ReadsPiece encoding s text (Ok u) at = (lines : List ProofLine) × HasRead encoding text lines at.progress × StandsAfterLines s lines at.state at.count
-ReadsPiece encoding s text (Err e) at = BreaksOff encoding s text e at.state
+ReadsPiece encoding s text (Err e) at = CheckBreaksOff encoding s text e at.state
 
 -- whatever was read before
 abbrev pub ReadsNext : List ℕ → Position → Result (Unit {0}) CheckerError → Position → Type 0

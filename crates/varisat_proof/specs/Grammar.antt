@@ -119,8 +119,8 @@ is_some [] = false
 is_some (s ∷ ss) = true
 
 -- nothing, or the beginning of a line
-abbrev pub IsBegun : Encoding → List Symbol → Type 0
-IsBegun encoding begun = (begun ≡ []) ⊎ ((line : ProofLine) × (begun ≡ begun_symbols encoding line) × (has_kind encoding line.kind ≡ true))
+abbrev pub IsBegunLine : Encoding → List Symbol → Type 0
+IsBegunLine encoding begun = (begun ≡ []) ⊎ ((line : ProofLine) × (begun ≡ begun_symbols encoding line) × (has_kind encoding line.kind ≡ true))
 
 -- the kind of binary line that a tag begins
 abbrev pub tag_kind : ℕ → Option LineKind
@@ -147,7 +147,7 @@ pub record WrongToken (encoding : Encoding) (us : List Token) (lines : List Proo
   pub tokens_are : us ≡ front ++ token ∷ back
   pub has_kinds : HasKinds encoding lines
   pub begun : List Symbol
-  pub is_begun : IsBegun encoding begun
+  pub is_begun : IsBegunLine encoding begun
   pub says : symbols front ≡ flat_map (line_symbols encoding) lines ++ begun
   pub wrong : fits encoding (is_some begun) token.symbol ≡ false
   pub offset_is : offset ≡ token.at
@@ -165,7 +165,7 @@ pub record EndsInside (encoding : Encoding) (us : List Token) (lines : List Proo
   pub has_kinds : HasKinds encoding lines
   pub cut : IsCutOff back
   pub begun : List Symbol
-  pub is_begun : IsBegun encoding begun
+  pub is_begun : IsBegunLine encoding begun
   pub some : is_some begun ≡ true
   pub says : symbols front ≡ flat_map (line_symbols encoding) lines ++ begun
 

@@ -83,14 +83,14 @@ StopsBefore status before t (line ∷ lines) step = (Conflicts t.present [] → 
 
 -- Where a check stops that was handed lines up to a fault of the bytes, has taken so many of them, and has these before it: as soon as
 -- propagation conflicts it only reads on.
-abbrev pub Stops : Option ℕ → ℕ → ProofState → List ProofLine → Result CheckVerdict CheckerError → Type 0
-Stops fault before t back (Ok Refutation) = (fault ≡ None) × Conflicts t.present []
-Stops fault before t back (Ok Derivation) = (fault ≡ None) × (back ≡ []) × (Conflicts t.present [] → ⊥)
-Stops fault before t back (Err (CheckFailed step)) = StopsBefore Unproved before t back step
-Stops fault before t back (Err (NoSuchClause step)) = StopsBefore Absent before t back step
-Stops fault before t back (Err (CoreNotAssumed step)) = StopsBefore Unassumed before t back step
-Stops fault before t back (Err (Parse offset)) = (fault ≡ Some offset) × (Conflicts t.present [] ⊎ ((back ≡ []) × (Conflicts t.present [] → ⊥)))
-Stops fault before t back (Err error) = ⊥
+abbrev pub StopsCheck : Option ℕ → ℕ → ProofState → List ProofLine → Result CheckVerdict CheckerError → Type 0
+StopsCheck fault before t back (Ok Refutation) = (fault ≡ None) × Conflicts t.present []
+StopsCheck fault before t back (Ok Derivation) = (fault ≡ None) × (back ≡ []) × (Conflicts t.present [] → ⊥)
+StopsCheck fault before t back (Err (CheckFailed step)) = StopsBefore Unproved before t back step
+StopsCheck fault before t back (Err (NoSuchClause step)) = StopsBefore Absent before t back step
+StopsCheck fault before t back (Err (CoreNotAssumed step)) = StopsBefore Unassumed before t back step
+StopsCheck fault before t back (Err (Parse offset)) = (fault ≡ Some offset) × (Conflicts t.present [] ⊎ ((back ≡ []) × (Conflicts t.present [] → ⊥)))
+StopsCheck fault before t back (Err error) = ⊥
 
 -- 3. Bytes.
 -- The lines in front of the bytes' first fault, that fault, and how many of the lines are taken from s on to t; and what the check
@@ -103,7 +103,7 @@ pub record IsCheckOf (encoding : Encoding) (s : ProofState) (bytes : List ℕ) (
   pub back : List ProofLine
   pub splits : lines ≡ front ++ back
   pub goes : Goes s front t
-  pub stops : Stops fault (length front) t back result
+  pub stops : StopsCheck fault (length front) t back result
 
 -- all bytes have one result from a state on, and what was told then is one thing too
 abbrev pub CheckOnce : Encoding → Type 0

@@ -93,27 +93,27 @@ IsSpent _ _ = ⊥
 
 -- Memory ran out: for a line, so that a beginning of the lines was written and the checker was told nothing; or in the checker, behind all
 -- the lines.
-abbrev pub RunsOut : ProofParts → List Entry → ProofParts → Type 0
-RunsOut old entries new =
+abbrev pub RunsOutTelling : ProofParts → List Entry → ProofParts → Type 0
+RunsOutTelling old entries new =
     (IsBegunIf old.opened (told entries) 0 new.opened × (new.checker ≡ old.checker))
     ⊎ (IsWrittenIf old.opened (told entries) new.opened × IsSpent old.checker new.checker)
 
 -- What telling entries returns and leaves. Where the target failed, a beginning of the lines was written and the checker was told nothing.
 abbrev pub Tells : ProofParts → List Entry → Result (Unit {0}) TraceError → ProofParts → Type 0
 Tells old entries (Ok u) new = IsTold old entries new
-Tells old entries (Err Memory) new = RunsOut old entries new
+Tells old entries (Err Memory) new = RunsOutTelling old entries new
 Tells old entries (Err (Target cause)) new = IsBegunIf old.opened (told entries) 1 new.opened × (new.checker ≡ old.checker)
 
 -- 3. What can be told.
 -- a target can be used that may still count a fault
-abbrev pub HasRoom : Option OpenState → Type 0
-HasRoom None = Unit {0}
-HasRoom (Some p) = p.taken.faults < 2 ^ 64 - 1
+abbrev pub CanCountTargetFault : Option OpenState → Type 0
+CanCountTargetFault None = Unit {0}
+CanCountTargetFault (Some p) = p.taken.faults < 2 ^ 64 - 1
 
 -- The clauses that a checker may hold: the same as sets that it has, each as often, in whatever order. Where none runs it may be any.
-abbrev pub MayHold : Option CheckerState → List Clause → Type 0
-MayHold None held = Unit {0}
-MayHold (Some c) held = SameClauses held c.clauses × (c.spent ≡ false)
+abbrev pub MayBeHeld : Option CheckerState → List Clause → Type 0
+MayBeHeld None held = Unit {0}
+MayBeHeld (Some c) held = SameClauses held c.clauses × (c.spent ≡ false)
 
 -- a checker that runs is not spent
 abbrev pub IsUsable : Option CheckerState → Type 0

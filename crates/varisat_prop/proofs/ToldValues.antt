@@ -20,7 +20,8 @@ padded [] (suc n) (suc i) d = padded [] n i d
 padded (x ∷ xs) n zero d = refl
 padded (x ∷ xs) n (suc i) d = padded xs n i d
 
-pub tells-more : (vs : List (Option Bool)) (fs : List LitValue) (m n : ℕ) → TellsValues vs fs → TellsValues (vs ++ replicate m None) (fs ++ replicate n lit_value.Unknown)
+pub tells-more : (vs : List (Option Bool)) (fs : List LitValue) (m n : ℕ) → TellsValues vs fs →
+    TellsValues (vs ++ replicate m None) (fs ++ replicate n lit_value.Unknown)
 tells-more vs fs m n t l =
     padded fs n l lit_value.Unknown ∙ t l ∙ ap (λ (o : Option Bool). literal_value (option_map (λ b. beq b (polarity_of l)) o))
     (sym (padded vs m (variable_of l) None))
@@ -73,7 +74,8 @@ module _ (vs : List (Option Bool)) (fs : List LitValue) (v : ℕ) (o : Option Bo
       (equal_or_not (variable_of l) v)
 
 -- what the parts of an assignment keep to each other, after the value of one variable was written
-pub parts-set : (vs : List (Option Bool)) (last : List Bool) (fs : List LitValue) (v : ℕ) (o : Option Bool) (p n : ℕ) (a b : LitValue) → (length last ≡ length vs)
+pub parts-set : (vs : List (Option Bool)) (last : List Bool) (fs : List LitValue) (v : ℕ) (o : Option Bool) (p n : ℕ) (a b : LitValue) →
+    (length last ≡ length vs)
     × (length fs ≡ 2 * length vs) × TellsValues vs fs → v < length vs → p ≡ 2 * v → n ≡ 2 * v + 1 → a ≡ literal_value o →
     b ≡ negated (literal_value o) → (length last ≡ length (set vs v o)) × (length (set (set fs p a) n b) ≡ 2 * length (set vs v o))
     × TellsValues (set vs v o) (set (set fs p a) n b)

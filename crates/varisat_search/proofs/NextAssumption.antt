@@ -99,7 +99,14 @@ module _ {A : Type 0} (x : Context A) (y : AssumptionParts) (r : IsReady x)
 
     pub next-ready : (z : Context A) (m : ℕ) → IsComplete (kept (view x)) x.trail.literals → x.trail.queue_head ≡ length x.trail.literals →
         IsFree (view x) l → view z ≡ decided_on (view x) l → m ≡ length z.trail.decisions →
-        z ≡ record x { assignment = z.assignment; assumptions = record y { levels = m }; counters = z.counters; impl_graph = z.impl_graph; trail = z.trail } → IsReady z
+        z ≡ record x {
+          assignment = z.assignment;
+          assumptions = record y { levels = m };
+          counters = z.counters;
+          impl_graph = z.impl_graph;
+          trail =
+              z.trail;
+        } → IsReady z
     next-ready z m q head free d c k =
         let vsids = ap (λ (u : Context A). u.vsids) k in
         let list = ap (λ (u : Context A). u.assumptions) k in

@@ -221,7 +221,8 @@ spoken_cut are (Delete c ∷ first) second (f, p) = let (a, b) = spoken_cut are 
 
 -- The names are one-to-one on some literals. Of each clause of `more` that is a part of a clause over these, by its names, a part
 -- stands among the copies.
-module _ (f : Literal → Literal) (keeps : KeepsOpposites f) (are : Literal → Type 0) (turned : (l : Literal) → are l → are (opposite l)) (one : (l m : Literal) → are l → are m → f l ≡ f m → l ≡ m)
+module _ (f : Literal → Literal) (keeps : KeepsOpposites f) (are : Literal → Type 0) (turned : (l : Literal) → are l → are (opposite l))
+    (one : (l m : Literal) → are l → are m → f l ≡ f m → l ≡ m)
     (more copies : List Clause) (copied : (d c : Clause) → d ∈ more → ((l : Literal) → l ∈ c → are l) → d ⊆ map f c → (e : Clause) × (e ∈ copies)
     × (e ⊆ c)) where
   -- what is new beside the copies is so, by its names, beside the others

@@ -9,7 +9,7 @@ use Rattle.varisat_theory.specs.Journals.{Entry, Leads}
 use Rattle.varisat_names.specs.VarMap.{at}
 use Rattle.varisat_names.specs.Variables.{Tables}
 use Rattle.varisat_proof.specs.Calls.{CheckerState}
-use Rattle.varisat_proof.specs.Proving.{OpenState, is_there, is_telling, IsWrittenIf, IsCheckedIf, IsTold, IsBegunIf, HasRoom, IsUsable, MayHold, told}
+use Rattle.varisat_proof.specs.Proving.{OpenState, is_there, is_telling, IsWrittenIf, IsCheckedIf, IsTold, IsBegunIf, CanCountTargetFault, IsUsable, MayBeHeld, told}
 use Rattle.varisat_tracer.specs.Carried.{told_as}
 use Rattle.varisat_tracer.specs.Tracing.{TracerState, global_literal, Relies, TakesGlobally, BreaksGlobally}
 use Rattle.varisat_tracer.specs.Told.{told_as-append, told-none, told-more, told-idle, begun-none, begun-behind, begun-idle}
@@ -56,8 +56,8 @@ breaks-idle x y entries faults h b =
     begun-idle x.proof.opened x.proof.checker y.proof.opened (told (told_as (global_literal x.tables) entries)) faults h b.begun
 
 -- what a target may take and whether a checker can be used stay
-pub room-stays : (o p : Option OpenState) (lines : List Entry) → IsWrittenIf o (told lines) p → HasRoom o → HasRoom p
-room-stays None p lines e h = subst HasRoom (sym e) tt
+pub room-stays : (o p : Option OpenState) (lines : List Entry) → IsWrittenIf o (told lines) p → CanCountTargetFault o → CanCountTargetFault p
+room-stays None p lines e h = subst CanCountTargetFault (sym e) tt
 room-stays (Some a) None lines w h = absurd w
 room-stays (Some a) (Some b) lines w h = subst (λ n. n < 2 ^ 64 - 1) (sym w.faults) h
 
@@ -67,9 +67,9 @@ usable-stays (Some a) None entries k h = absurd k
 usable-stays (Some a) (Some b) entries k h = k.1 ∙ h
 
 holds-on : (f : Literal → Literal) → KeepsOpposites f → (o p : Option CheckerState) (entries : List Entry) (held after others : List Clause) →
-    IsCheckedIf o (told_as f entries) p → MayHold o (others ++ rename f held) → Leads held entries after → (more : List Clause)
-    × MayHold p (more ++ rename f after)
-holds-on f keeps None p entries held after others e h d = (others, subst (λ k. MayHold k (others ++ rename f after)) (sym e) tt)
+    IsCheckedIf o (told_as f entries) p → MayBeHeld o (others ++ rename f held) → Leads held entries after → (more : List Clause)
+    × MayBeHeld p (more ++ rename f after)
+holds-on f keeps None p entries held after others e h d = (others, subst (λ k. MayBeHeld k (others ++ rename f after)) (sym e) tt)
 holds-on f keeps (Some a) None entries held after others k h d = absurd k
 holds-on f keeps (Some a) (Some b) entries held after others k h d =
     let (Q, more, l, t) = leads-renamed f keeps entries held after others (others ++ rename f held) (same_clauses-self (others ++ rename f held)) d in (
@@ -91,12 +91,12 @@ relies-after x y entries held after h r d =
       room = room-stays x.proof.opened y.proof.opened (told_as f entries) h.told.written r.room;
       usable = usable-stays x.proof.checker y.proof.checker (told_as f entries) h.told.checked r.usable;
       others = more;
-      holds = subst (λ (t : Tables). MayHold y.proof.checker (more ++ rename (global_literal t) after)) (sym h.tables) m;
+      holds = subst (λ (t : Tables). MayBeHeld y.proof.checker (more ++ rename (global_literal t) after)) (sym h.tables) m;
     }
 
 -- what a search relies on leads on by entries, and so does what the checker may hold by those that it is told
 pub leads-globally : (x : TracerState) (entries : List Entry) (held after : List Clause) → Relies x held → Leads held entries after →
-    (now next : List Clause) × MayHold x.proof.checker now × Leads now (told_as (global_literal x.tables) entries) next
+    (now next : List Clause) × MayBeHeld x.proof.checker now × Leads now (told_as (global_literal x.tables) entries) next
 leads-globally x entries held after r d =
     let f = global_literal x.tables in
     let now = r.others ++ rename f held in

@@ -8,7 +8,7 @@ use Rattle.varisat_trace.specs.declared.tracer.TraceError.{TraceError}
 use Rattle.varisat_names.specs.VarMap.{at}
 use Rattle.varisat_names.specs.VarData.{kept_at}
 use Rattle.varisat_names.specs.Variables.{Tables}
-use Rattle.varisat_proof.specs.Proving.{OpenState, ProofParts, is_there, IsTold, IsBegunIf, Tells, told, HasRoom, IsUsable, MayHold}
+use Rattle.varisat_proof.specs.Proving.{OpenState, ProofParts, is_there, IsTold, IsBegunIf, Tells, told, CanCountTargetFault, IsUsable, MayBeHeld}
 use Rattle.varisat_tracer.specs.declared.tracer.SolverTracer.{SolverTracer}
 use Rattle.varisat_tracer.specs.Carried.{carry, told_as}
 
@@ -18,8 +18,8 @@ pub record TracerState : Type 0 where
   pub proof : ProofParts
 
 -- both together
-abbrev pub parts_of : {W A : Type 0} → SolverTracer W A → TracerState
-parts_of t = record { tables = t.variables; proof = t.proof }
+abbrev pub tracer_state : {W A : Type 0} → SolverTracer W A → TracerState
+tracer_state t = record { tables = t.variables; proof = t.proof }
 
 -- the literal of the global variable that the solver variable stands for
 abbrev pub global_literal : Tables → Literal → Literal
@@ -32,10 +32,10 @@ IsInOrder x clause = IsNonDecreasingBy (global_literal x.tables) clause
 -- Clauses that a search may rely on: with others that it knows nothing of they are, over global variables, what the checker has. The target
 -- can still count a fault, and the checker is not spent.
 pub record Relies (x : TracerState) (held : List Clause) : Type 0 where
-  pub room : HasRoom x.proof.opened
+  pub room : CanCountTargetFault x.proof.opened
   pub usable : IsUsable x.proof.checker
   pub others : List Clause
-  pub holds : MayHold x.proof.checker (others ++ rename (global_literal x.tables) held)
+  pub holds : MayBeHeld x.proof.checker (others ++ rename (global_literal x.tables) held)
 
 -- The entries were told to the proof, over global variables; names and variables stay.
 pub record TakesGlobally (x : TracerState) (entries : List Entry) (y : TracerState) : Type 0 where
@@ -74,5 +74,5 @@ leaves_if_deleted t x = if (kept_at t.kept x).deleted then Leaves x ∷ [] else 
 
 -- A target that may still count a fault, if a proof is open, and a checker that is not spent, if one runs.
 pub record CanTell (p : ProofParts) : Type 0 where
-  pub room : HasRoom p.opened
+  pub room : CanCountTargetFault p.opened
   pub usable : IsUsable p.checker

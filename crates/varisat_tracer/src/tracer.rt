@@ -5,8 +5,8 @@ ghost use Rattle.varisat_names.specs.VarMap.{at};
 ghost use Rattle.varisat_names.specs.Variables.{no_variables};
 ghost use Rattle.varisat_tracer.specs.Carried.{carry, variable_or_first};
 ghost use Rattle.varisat_theory.specs.Journals.{Accepts, Assumes};
-ghost use Rattle.varisat_proof.specs.Proving.{HasRoom, IsUsable, IsTold};
-ghost use Rattle.varisat_tracer.specs.Tracing.{global_literal, parts_of, open_parts, TellsGlobally, leaves_if_deleted};
+ghost use Rattle.varisat_proof.specs.Proving.{CanCountTargetFault, IsUsable, IsTold};
+ghost use Rattle.varisat_tracer.specs.Tracing.{global_literal, tracer_state, open_parts, TellsGlobally, leaves_if_deleted};
 
 use std::alloc::{AllocError, Allocator};
 use varisat_formula::io::ProofTarget;
@@ -74,9 +74,9 @@ impl<W: ProofTarget, A: Allocator + Copy> SolverTracer<W, A> {
     /// Tells the proof an accepted clause, which is over solver variables. `Target`: the target failed. `Memory`: out of
     /// memory, which may have spent the checker. A beginning of the clause's line may stand in the target after an error.
     pub fn add_clause(&mut self, clause: &[Lit]) -> Result<(), TraceError>
-        requires room { HasRoom self.old.proof.opened }
+        requires room { CanCountTargetFault self.old.proof.opened }
         requires usable { IsUsable self.old.proof.checker }
-        ensures { TellsGlobally (parts_of self.old) (Accepts clause.now ∷ []) result (parts_of self.new) }
+        ensures { TellsGlobally (tracer_state self.old) (Accepts clause.now ∷ []) result (tracer_state self.new) }
     {
         if !self.proof.is_active() {
             return Ok(());
@@ -91,9 +91,9 @@ impl<W: ProofTarget, A: Allocator + Copy> SolverTracer<W, A> {
 
     /// Tells the proof an accepted list of assumptions, which is over solver variables. Errors are those of `add_clause`.
     pub fn add_assumptions(&mut self, assumptions: &[Lit]) -> Result<(), TraceError>
-        requires room { HasRoom self.old.proof.opened }
+        requires room { CanCountTargetFault self.old.proof.opened }
         requires usable { IsUsable self.old.proof.checker }
-        ensures { TellsGlobally (parts_of self.old) (Assumes assumptions.now ∷ []) result (parts_of self.new) }
+        ensures { TellsGlobally (tracer_state self.old) (Assumes assumptions.now ∷ []) result (tracer_state self.new) }
     {
         if !self.proof.is_active() {
             return Ok(());
@@ -122,18 +122,18 @@ impl<W: ProofTarget, A: Allocator + Copy> SolverTracer<W, A> {
 
 impl<W: ProofTarget, A: Allocator + Copy> ProofTracer for SolverTracer<W, A> {
     ghost use Rattle.varisat_proof.specs.Proving.{is_telling};
-    ghost use Rattle.varisat_tracer.specs.Tracing.{parts_of, IsInOrder, Relies, TakesGlobally, BreaksGlobally};
+    ghost use Rattle.varisat_tracer.specs.Tracing.{tracer_state, IsInOrder, Relies, TakesGlobally, BreaksGlobally};
     ghost use Rattle.varisat_tracer.specs.TracerLaws.{takes-none, takes-more, takes-idle, breaks-none, breaks-behind, breaks-idle, relies-after};
 
     ghost active = { λ x. is_telling x.proof };
 
-    ghost holds = { λ x held. Relies (parts_of x) held };
+    ghost holds = { λ x held. Relies (tracer_state x) held };
 
-    ghost takes = { λ x entries y. TakesGlobally (parts_of x) entries (parts_of y) };
+    ghost takes = { λ x entries y. TakesGlobally (tracer_state x) entries (tracer_state y) };
 
-    ghost breaks_off = { λ x entries faults y. BreaksGlobally (parts_of x) entries faults (parts_of y) };
+    ghost breaks_off = { λ x entries faults y. BreaksGlobally (tracer_state x) entries faults (tracer_state y) };
 
-    ghost in_order = { λ x clause. IsInOrder (parts_of x) clause };
+    ghost in_order = { λ x clause. IsInOrder (tracer_state x) clause };
 
     fn is_active(&self) -> bool {
         self.proof.is_active()
@@ -179,17 +179,17 @@ impl<W: ProofTarget, A: Allocator + Copy> ProofTracer for SolverTracer<W, A> {
         Ok(())
     }
 
-    ghost takes_none = { λ x. takes-none (parts_of x) };
+    ghost takes_none = { λ x. takes-none (tracer_state x) };
 
-    ghost takes_more = { λ x y z. takes-more (parts_of x) (parts_of y) (parts_of z) };
+    ghost takes_more = { λ x y z. takes-more (tracer_state x) (tracer_state y) (tracer_state z) };
 
-    ghost takes_idle = { λ x. takes-idle (parts_of x) };
+    ghost takes_idle = { λ x. takes-idle (tracer_state x) };
 
-    ghost breaks_none = { λ x. breaks-none (parts_of x) };
+    ghost breaks_none = { λ x. breaks-none (tracer_state x) };
 
-    ghost breaks_behind = { λ x y z. breaks-behind (parts_of x) (parts_of y) (parts_of z) };
+    ghost breaks_behind = { λ x y z. breaks-behind (tracer_state x) (tracer_state y) (tracer_state z) };
 
-    ghost breaks_idle = { λ x y. breaks-idle (parts_of x) (parts_of y) };
+    ghost breaks_idle = { λ x y. breaks-idle (tracer_state x) (tracer_state y) };
 
-    ghost holds_after = { λ x y. relies-after (parts_of x) (parts_of y) };
+    ghost holds_after = { λ x y. relies-after (tracer_state x) (tracer_state y) };
 }

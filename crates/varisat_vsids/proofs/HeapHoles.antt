@@ -32,7 +32,8 @@ hole_known heap position k v l h =
     let b : v < length (set heap k v) = rw (get_or-set_same heap k v 0 h) at a in
     omega (arith, b, l.count, length-set heap k v, length-set position v k)
 
-pub hole_others : (heap position : List ℕ) (k v j : ℕ) → IsLinked (set heap k v) (set position v k) → j ≢ k → j < length heap → get_or heap j 0 < length position
+pub hole_others : (heap position : List ℕ) (k v j : ℕ) → IsLinked (set heap k v) (set position v k) → j ≢ k → j < length heap →
+    get_or heap j 0 < length position
 hole_others heap position k v j l n h =
     let a : get_or (set heap k v) j 0 < length (set heap k v) = l.known j (rw length-set h) in
     let b : get_or heap j 0 < length (set heap k v) = rw (get_or-set_other heap k j v 0 n) at a in

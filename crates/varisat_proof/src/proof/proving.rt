@@ -8,7 +8,7 @@ ghost use Rattle.varisat_proof.specs.declared.proof.format.LineKind.TheVariants 
 ghost use Rattle.varisat_proof.specs.Lines.{line_of_kind};
 ghost use Rattle.varisat_proof.specs.Telling.{marked_line};
 ghost use Rattle.varisat_proof.specs.Present.{IsLeftAfter};
-ghost use Rattle.varisat_proof.specs.Proving.{PutsInto, is_telling, bars_clauses, bars_assumptions, marked_searched, WritesLines, told, Tells, Flushes, HasRoom, MayHold, IsUsable, IsCheckedIf, IsTold, IsSpent, IsClosed};
+ghost use Rattle.varisat_proof.specs.Proving.{PutsInto, is_telling, bars_clauses, bars_assumptions, marked_searched, WritesLines, told, Tells, Flushes, CanCountTargetFault, MayBeHeld, IsUsable, IsCheckedIf, IsTold, IsSpent, IsClosed};
 
 use crate::checker::{Checker, CheckerError};
 use crate::proof::format::{LineKind, ProofFormat};
@@ -78,7 +78,7 @@ fn write_step_if<W: ProofTarget, A: Allocator + Copy>(
     buffer: &mut Vec<u8, A>,
     step: &ProofStep<'_>,
 ) -> Result<(), TraceError>
-    requires { HasRoom opened.old }
+    requires { CanCountTargetFault opened.old }
     ensures { WritesLines opened.old (told (entries_of step.now)) result opened.new }
 {
     let Some(proof) = opened else {
@@ -98,7 +98,7 @@ fn write_marked_if<W: ProofTarget, A: Allocator + Copy>(
     kind: LineKind,
     literals: &[Lit],
 ) -> Result<(), TraceError>
-    requires { HasRoom opened.old }
+    requires { CanCountTargetFault opened.old }
     ensures { WritesLines opened.old (λ e. marked_line e (line_of_kind kind literals.now)) result opened.new }
 {
     let Some(proof) = opened else {
@@ -118,7 +118,7 @@ fn check_step_if<A: Allocator + Copy>(
     step: &ProofStep<'_>,
 ) -> Result<(), CheckerError>
     requires usable { IsUsable checker.old }
-    requires right { CanTakeStep (MayHold checker.old) step.now }
+    requires right { CanTakeStep (MayBeHeld checker.old) step.now }
     ensures taken { OnOk result (IsCheckedIf checker.old (entries_of step.now) checker.new) }
     ensures right { IfErr result (λ e. e ≡ OutOfMemory) }
     ensures spent { IfErr result (λ e. IsSpent checker.old checker.new) }
@@ -246,7 +246,7 @@ pub fn add_clause<W: ProofTarget, A: Allocator + Copy>(
     proof: &mut Proof<W, A>,
     clause: &[Lit],
 ) -> Result<(), TraceError>
-    requires room { HasRoom proof.old.opened }
+    requires room { CanCountTargetFault proof.old.opened }
     requires usable { IsUsable proof.old.checker }
     ensures { Tells proof.old (Accepts clause.now ∷ []) result proof.new }
 {
@@ -268,7 +268,7 @@ pub fn add_assumptions<W: ProofTarget, A: Allocator + Copy>(
     proof: &mut Proof<W, A>,
     assumptions: &[Lit],
 ) -> Result<(), TraceError>
-    requires room { HasRoom proof.old.opened }
+    requires room { CanCountTargetFault proof.old.opened }
     requires usable { IsUsable proof.old.checker }
     ensures { Tells proof.old (Assumes assumptions.now ∷ []) result proof.new }
 {
@@ -286,9 +286,9 @@ pub fn add_step<W: ProofTarget, A: Allocator + Copy>(
     proof: &mut Proof<W, A>,
     step: &ProofStep<'_>,
 ) -> Result<(), TraceError>
-    requires room { HasRoom proof.old.opened }
+    requires room { CanCountTargetFault proof.old.opened }
     requires usable { IsUsable proof.old.checker }
-    requires right { CanTakeStep (MayHold proof.old.checker) step.now }
+    requires right { CanTakeStep (MayBeHeld proof.old.checker) step.now }
     ensures { Tells proof.old (entries_of step.now) result proof.new }
 {
     write_step_if(&mut proof.open, &mut proof.buffer, step)?;
@@ -311,7 +311,7 @@ pub fn delete_var<W: ProofTarget, A: Allocator + Copy>(proof: &mut Proof<W, A>, 
 
 /// Flushes the target, if a proof is open. It takes no memory, and an error is the target's.
 pub fn flush_proof<W: ProofTarget, A: Allocator + Copy>(proof: &mut Proof<W, A>) -> io::Result<()>
-    requires { HasRoom proof.old.opened }
+    requires { CanCountTargetFault proof.old.opened }
     ensures flushed { Flushes proof.old.opened result proof.new.opened }
     ensures rest { proof.new ≡ record proof.old { opened = proof.new.opened } }
 {
@@ -329,7 +329,7 @@ pub fn flush_proof<W: ProofTarget, A: Allocator + Copy>(proof: &mut Proof<W, A>)
 pub fn solve_finished<W: ProofTarget, A: Allocator + Copy>(
     proof: &mut Proof<W, A>,
 ) -> io::Result<()>
-    requires { HasRoom proof.old.opened }
+    requires { CanCountTargetFault proof.old.opened }
     ensures flushed { Flushes (marked_searched proof.old.opened) result proof.new.opened }
     ensures rest { proof.new ≡ record proof.old { opened = proof.new.opened } }
 {
@@ -355,7 +355,7 @@ pub fn take_target<W: ProofTarget, A: Allocator + Copy>(proof: &mut Proof<W, A>)
 pub fn close_proof<W: ProofTarget, A: Allocator + Copy>(
     proof: &mut Proof<W, A>,
 ) -> Result<Option<W>, (io::Error, W)>
-    requires { HasRoom proof.old.opened }
+    requires { CanCountTargetFault proof.old.opened }
     ensures taken { IsClosed W.taken proof.old.opened result }
     ensures closed { proof.new ≡ record proof.old { opened = None } }
 {

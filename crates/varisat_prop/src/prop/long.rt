@@ -145,7 +145,8 @@ fn visit_watch<A: Allocator + Copy>(
     watch: Watch,
 ) -> Result<Visit, AllocError>
     requires { IsWatchOf lists.old (view_of alloc.old binary.now assignment.old trail.old graph.old) lit watch }
-    ensures { PartsVisit alloc.old alloc.new binary.now assignment.old assignment.new trail.old trail.new graph.old graph.new lists.old lists.new lit watch result }
+    ensures { PartsVisit alloc.old alloc.new binary.now assignment.old assignment.new trail.old trail.new graph.old graph.new
+        lists.old lists.new lit watch result }
 {
     let cref = watch.cref;
     match reorder_clause(alloc, assignment, cref, !lit) {

@@ -16,7 +16,7 @@ use Rattle.varisat_theory.specs.Literals.{Literal}
 use Rattle.varisat_theory.specs.Journals.{Accepts, written}
 use Rattle.varisat_tracer.specs.Carried.{told_as}
 use Rattle.varisat_tracer.specs.Carried as global
-use Rattle.varisat_tracer.specs.Tracing.{TracerState, parts_of, global_literal, CanTell, BreaksProof}
+use Rattle.varisat_tracer.specs.Tracing.{TracerState, tracer_state, global_literal, CanTell, BreaksProof}
 use Rattle.varisat_tracer.specs.TracerLaws.{takes-more, relies-after}
 use Rattle.varisat.proofs.ToldProofs.{AreToldAs, proof-told}
 use Rattle.varisat_tracer.proofs.Telling.{relies-alike, tells-on, breaks-proof, proof-unbroken, proof-breaks-on}
@@ -81,7 +81,7 @@ load_clause-requires-clause-decidable g c l h =
 
 -- the proof can be told of the search once the clause was
 can-tell : (g : Over) (c : In_ok-tell_clause g) → CanTell c.tell_clause.new.tracer.proof
-can-tell g c = tells-on (record { tables = c.mark_joined.new.variables; proof = c.args.tracer.now.proof }) (parts_of c.tell_clause.new.tracer) _
+can-tell g c = tells-on (record { tables = c.mark_joined.new.variables; proof = c.args.tracer.now.proof }) (tracer_state c.tell_clause.new.tracer) _
     (c.in_ok-tell_clause.ensures {u = tt}).told c.requires.tells
 
 -- the verdict is not Unsat when the clause is loaded
@@ -127,7 +127,7 @@ load_clause-requires-clause-holds g c n =
     (_, named) in
     let before : TracerState = record { tables = c.mark_joined.new.variables; proof = p } in (
       held,
-      relies-after before (parts_of c.tell_clause.new.tracer) (Accepts lits ∷ []) held (held ++ lits ∷ [])
+      relies-after before (tracer_state c.tell_clause.new.tracer) (Accepts lits ∷ []) held (held ++ lits ∷ [])
           (c.in_ok-tell_clause.ensures {u = tt}).told (relies-alike m c.mark_joined.new.variables p held c.mark_joined.ensures.solvers relies)
           (held ++ lits ∷ [], refl, refl),
       fits,
@@ -178,7 +178,7 @@ returns-clause-kept g c =
 pub returns-clause-tells : goal.returns-clause-tells
 returns-clause-tells g c =
     let here = goal.at.returns-clause-tells g c in
-    tells-on (parts_of c.tell_clause.new.tracer) (parts_of c.load_clause.new.proof) _
+    tells-on (tracer_state c.tell_clause.new.tracer) (tracer_state c.load_clause.new.proof) _
     ((c.in_ok-load_clause.ensures {u = tt}).lines (opened g here.In_ok-solver_from_user_lits)).written (can-tell g here.In_ok-tell_clause)
 
 pub returns-clause-told : goal.returns-clause-told
@@ -206,8 +206,8 @@ returns-clause-accepted g c s f =
     let n = with_naming (name_all list s.naming) s in
     let lines = (r.lines (opened g here)).lines in
     let before : TracerState = record { tables = joined; proof = c.args.tracer.now.proof } in
-    let after = parts_of c.load_clause.new.proof in
-    let taken = takes-more before (parts_of c.tell_clause.new.tracer) after (Accepts c.as_slice-lits.result.now ∷ []) (written lines)
+    let after = tracer_state c.load_clause.new.proof in
+    let taken = takes-more before (tracer_state c.tell_clause.new.tracer) after (Accepts c.as_slice-lits.result.now ∷ []) (written lines)
     (c.in_ok-tell_clause.ensures {u = tt}).told (r.lines (opened g here)).written in
     let (variables, keep, named) = all-named-in g here s f in
     let n2 = with_variables variables (with_verdict (reopened_verdict s.verdict) n) in
@@ -281,7 +281,7 @@ returns-in_err-load_clause-clause-broken g c =
     let r = c.load_clause.new.proof in
     passed-on c.from_residual-in_err-load_clause.result e (λ z. BreaksProof p (step_faults z) r.proof) c.from_residual-in_err-load_clause.ensures
     (proof-breaks-on p q.proof r.proof _ (step_faults e) (c.in_ok-tell_clause.ensures {u = tt}).told.told
-    (breaks-proof (parts_of q) (parts_of r) (step_faults e) (c.in_err-load_clause.ensures {u = tt}).broken))
+    (breaks-proof (tracer_state q) (tracer_state r) (step_faults e) (c.in_err-load_clause.ensures {u = tt}).broken))
 
 pub returns-in_err-tell_clause-clause-full : goal.returns-in_err-tell_clause-clause-full
 returns-in_err-tell_clause-clause-full g c =

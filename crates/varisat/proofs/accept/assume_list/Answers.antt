@@ -7,7 +7,7 @@ use Rattle.varisat_names.specs.VarMap.{at}
 use Rattle.varisat_names.specs.VarBiMap.{BiMap}
 use Rattle.varisat_names.specs.Variables.{Tables}
 use Rattle.varisat_tracer.specs.Carried as global
-use Rattle.varisat_tracer.specs.Tracing.{TracerState, parts_of, global_literal, BreaksProof}
+use Rattle.varisat_tracer.specs.Tracing.{TracerState, tracer_state, global_literal, BreaksProof}
 use Rattle.varisat_tracer.proofs.Telling.{tells-on, proof-unbroken}
 use Rattle.varisat_trace.proofs.Broken.{passed-on}
 use Rattle.varisat_search.specs.declared.error.StepError.{StepError}
@@ -128,7 +128,7 @@ returns-clause-kept g c =
 
 pub returns-clause-tells : goal.returns-clause-tells
 returns-clause-tells g c =
-    tells-on (record { tables = c.mark_assumed-2.new.variables; proof = c.args.tracer.now.proof }) (parts_of c.tell_assumptions.new.tracer) _
+    tells-on (record { tables = c.mark_assumed-2.new.variables; proof = c.args.tracer.now.proof }) (tracer_state c.tell_assumptions.new.tracer) _
     (c.in_ok-tell_assumptions.ensures {u = tt}).told c.requires.tells
 
 pub returns-clause-told : goal.returns-clause-told
@@ -150,7 +150,7 @@ returns-clause-assumed g c s f =
     let to = chain (at m.users.forward) (at m.solvers.forward) in
     let items = c.as_slice-lits.ensures.value ∙ over-carried to list c.solver_from_user_lits.new.solver_lits.items over in
     let before : TracerState = record { tables = marked; proof = c.args.tracer.now.proof } in
-    let after = parts_of c.tell_assumptions.new.tracer in
+    let after = tracer_state c.tell_assumptions.new.tracer in
     let taken = (c.in_ok-tell_assumptions.ensures {u = tt}).told in
     let first : Summary = record {
       tables = c.args.tracer.now.variables;

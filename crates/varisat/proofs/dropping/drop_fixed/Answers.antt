@@ -10,7 +10,7 @@ use Rattle.varisat_search.proofs.FixedLiterals.{fixed-undecided}
 use Rattle.varisat.specs.Dropping.{AreOverAssumed}
 use Rattle.varisat.proofs.LeavesInTime.{failed-there}
 use Rattle.varisat_names.specs.Variables.{Tables}
-use Rattle.varisat_tracer.specs.Tracing.{parts_of, open_parts, BreaksProof}
+use Rattle.varisat_tracer.specs.Tracing.{tracer_state, open_parts, BreaksProof}
 use Rattle.varisat_proof.specs.Proving.{ProofParts}
 use Rattle.varisat_tracer.proofs.Telling.{tells-told, breaks-proof, open-unbroken, proof-breaks-on}
 use Rattle.varisat.specs.Searches.{TellsSome, ComesOn}
@@ -36,7 +36,7 @@ begun : (g : Over) (c : In-Ok g) → ComesOn 0 (undecided_spaces c.args.tracer.n
 begun g c =
     let goes = (c.in-Ok.ensures {u = tt}).goes_on in
     let (lines, proves, (settles, takes)) = goes.proves in
-    part-comes (parts_of c.args.tracer.now) (parts_of c.settle.new.proof) c.args.ctx.now c.settle.new.ctx lines c.requires.kept proves takes
+    part-comes (tracer_state c.args.tracer.now) (tracer_state c.settle.new.proof) c.args.ctx.now c.settle.new.ctx lines c.requires.kept proves takes
     goes.ready goes.extends.count goes.decidable
     (ap (λ (z : Context g.row.A.Denot). z.assumptions) c.settle.ensures.kept)
 
@@ -165,7 +165,8 @@ returns-in-Err-clause-broken g c =
     let p = c.args.tracer.now in
     let q = c.settle.new.proof in
     subst (λ z. BreaksProof p.proof (step_faults z) q.proof) (sym c.from.ensures)
-    (subst (λ n. BreaksProof p.proof n q.proof) (trace-faults e) (breaks-proof (parts_of p) (parts_of q) (faults_of e) (c.in-Err.ensures {u = tt}).broken))
+    (subst (λ n. BreaksProof p.proof n q.proof) (trace-faults e)
+    (breaks-proof (tracer_state p) (tracer_state q) (faults_of e) (c.in-Err.ensures {u = tt}).broken))
 
 pub returns-in-Err-clause-full : goal.returns-in-Err-clause-full
 returns-in-Err-clause-full g c = subst (λ z. z ≢ step.Full) (sym c.from.ensures) (trace-unfilled c.in-Err.error)

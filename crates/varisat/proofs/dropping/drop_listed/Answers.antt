@@ -8,7 +8,7 @@ use Rattle.varisat_search.specs.declared.context.Context.{Context}
 use Rattle.varisat_search.specs.Forgotten.{search_without}
 use Rattle.varisat_search.specs.Seen.{search_of}
 use Rattle.varisat_search.specs.Contexts.{view}
-use Rattle.varisat_tracer.specs.Tracing.{parts_of}
+use Rattle.varisat_tracer.specs.Tracing.{tracer_state}
 use Rattle.varisat.specs.Dropping.{leads_to_unassumed, unassumed_among, FlagsVariables, AreDroppedAlone, LeavesTables}
 use Rattle.varisat.proofs.DroppedAlone.{dropped-told}
 use Rattle.varisat.proofs.DroppedKept.{HaveLeft, have-left, values-left}
@@ -67,10 +67,10 @@ drop_solver_vars-requires-clause-distinct g c =
 
 -- just these were dropped from the tables
 dropped : (g : Over) (c : In_ok-drop_solver_vars g) → AreDroppedAlone (unassumed_among c.args.tracer.now.variables c.args.ctx.now.trail.literals)
-    (parts_of c.args.tracer.now) (parts_of c.drop_solver_vars.new.tracer)
+    (tracer_state c.args.tracer.now) (tracer_state c.drop_solver_vars.new.tracer)
 dropped g c =
     let m = c.args.tracer.now.variables in
-    subst (λ ls. AreDroppedAlone ls (parts_of c.args.tracer.now) (parts_of c.drop_solver_vars.new.tracer))
+    subst (λ ls. AreDroppedAlone ls (tracer_state c.args.tracer.now) (tracer_state c.drop_solver_vars.new.tracer))
     (c.deref-3.ensures.value ∙ c.in_ok-list_unassumed.ensures {u = tt} ∙ ap (unassumed_among m) c.trail.ensures)
     (c.in_ok-drop_solver_vars.ensures {u = tt}).dropped
 
@@ -107,8 +107,8 @@ returns-clause-leave g c =
       within = come-dropped c.deref-2.result.now x y c.requires.kept.ready c.requires.settled e.ready e.dropped e.decidable
           (ap (λ (z : Context g.row.A.Denot). z.solver_config) e.kept);
       count = values-left gone;
-      given = dropped-told (unassumed_among c.args.tracer.now.variables x.trail.literals) (parts_of c.args.tracer.now)
-          (parts_of c.drop_solver_vars.new.tracer) (dropped g here.In_ok-drop_solver_vars);
+      given = dropped-told (unassumed_among c.args.tracer.now.variables x.trail.literals) (tracer_state c.args.tracer.now)
+          (tracer_state c.drop_solver_vars.new.tracer) (dropped g here.In_ok-drop_solver_vars);
       stands = λ s fit.
           stands-dropped gone c.requires.settled (dropped g here.In_ok-drop_solver_vars)
           (subst (λ fs. search_of (view y) ≡ search_without fs (search_of (view x))) c.deref-2.ensures.value e.seen) s fit;

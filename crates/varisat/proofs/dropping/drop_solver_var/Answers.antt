@@ -1,6 +1,6 @@
 use Rattle.std.proofs.Common.{sym, subst, arith}
 use Rattle.varisat_names.specs.Variables.{Tables}
-use Rattle.varisat_tracer.specs.Tracing.{parts_of}
+use Rattle.varisat_tracer.specs.Tracing.{tracer_state}
 use Rattle.varisat.specs.Dropping.{LosesSolverVar}
 use Rattle.varisat.proofs.DroppedAlone.{taken-live}
 use Rattle.varisat.proofs.dropping.drop_solver_var.Goals as goal
@@ -15,7 +15,7 @@ delete_var_if_gone-requires g c =
 pub returns-clause-dropped : goal.returns-clause-dropped
 returns-clause-dropped g c =
     let x = c.in_ok-global.global in
-    let before = parts_of c.args.tracer.now in
+    let before = tracer_state c.args.tracer.now in
     let proof = c.delete_var_if_gone.new.self.proof in (
       x,
       subst (λ (t : Tables). LosesSolverVar x c.args.solver before (record { tables = t; proof = proof }))

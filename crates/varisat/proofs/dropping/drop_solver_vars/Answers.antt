@@ -9,7 +9,7 @@ use Rattle.varisat_names.specs.declared.variables.data.VarData.{VarData}
 use Rattle.varisat_names.proofs.Maps.{updated-at}
 use Rattle.varisat_literals.specs.Numbers.{polarity_of}
 use Rattle.varisat_prop.proofs.ReadElements.{item-∈}
-use Rattle.varisat_tracer.specs.Tracing.{parts_of, open_parts}
+use Rattle.varisat_tracer.specs.Tracing.{tracer_state, open_parts}
 use Rattle.varisat.specs.Dropping.{fixed_to, LosesSolverVar, IsDroppedAlone, AreDroppedAlone, LeavesTables}
 use Rattle.varisat.proofs.ReadPlaces.{take-item, split-item}
 use Rattle.varisat.proofs.PlainTables.{is-there, there-is}
@@ -56,9 +56,9 @@ loop-lit-preserved g c =
     let l = c.lit-item.result in
     let d = take c.loop-lit.lit-index ls in
     let t = take-item ls c.loop-lit.lit-index l c.loop-lit-test.true c.lit-item.is in
-    let first = parts_of c.args.tracer.now in
-    let before = parts_of c.loop-lit.tracer in
-    let last = parts_of c.drop_solver_var.new.tracer in
+    let first = tracer_state c.args.tracer.now in
+    let before = tracer_state c.loop-lit.tracer in
+    let last = tracer_state c.drop_solver_var.new.tracer in
     let mid = c.loop-lit.tracer.variables in
     let e : at mid.solvers.backward c.var-solver.result ≡ Some c.unwrap-global.result =
     ap (λ m. at m c.var-solver.result) (sym c.global_from_solver.ensures) ∙ sym c.get.ensures ∙ c.unwrap-global.ensures in

@@ -6,7 +6,7 @@ use Rattle.varisat_search.specs.declared.context.Context.{Context}
 use Rattle.varisat_search.specs.Forgotten.{search_without}
 use Rattle.varisat_search.specs.Seen.{search_of}
 use Rattle.varisat_search.specs.Contexts.{view}
-use Rattle.varisat_tracer.specs.Tracing.{parts_of}
+use Rattle.varisat_tracer.specs.Tracing.{tracer_state}
 use Rattle.varisat.specs.Dropping.{FlagsVariables, ListsUnneeded, AreReleased, LeavesTables}
 use Rattle.varisat.proofs.DroppedKept.{HaveLeft, have-left, values-left}
 use Rattle.varisat.proofs.SinceSteps.{come-dropped}
@@ -19,7 +19,7 @@ pub has_hidden-requires : goal.has_hidden-requires
 has_hidden-requires g c = c.requires.kept.bounded
 
 pub returns-then-not-has_hidden-clause-leave : goal.returns-then-not-has_hidden-clause-leave
-returns-then-not-has_hidden-clause-leave g c = none-leaves (parts_of c.args.tracer.now) c.args.ctx.now c.requires.kept
+returns-then-not-has_hidden-clause-leave g c = none-leaves (tracer_state c.args.tracer.now) c.args.ctx.now c.requires.kept
 
 pub returns-then-not-has_hidden-clause-left : goal.returns-then-not-has_hidden-clause-left
 returns-then-not-has_hidden-clause-left g c =
@@ -99,8 +99,8 @@ returns-clause-leave g c =
     let e = c.drop_variables.ensures in
     let list = listed g here.In_ok-list_unneeded in
     let gone = left g here.In_ok-release_solver_vars (flags g here.In_ok-gone) in
-    let p = parts_of c.args.tracer.now in
-    let q = parts_of c.release_solver_vars.new.tracer in
+    let p = tracer_state c.args.tracer.now in
+    let q = tracer_state c.release_solver_vars.new.tracer in
     let released = subst (λ xs. AreReleased xs p q) c.deref-4.ensures.value (c.in_ok-release_solver_vars.ensures {u = tt}).released in
     record {
       kept = kept-released c.requires.left c.in_ok-mentioned.ensures list gone;

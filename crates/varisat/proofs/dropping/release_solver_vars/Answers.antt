@@ -2,7 +2,7 @@ use Rattle.std.proofs.Common.{◌≡◌, sym, ap, ◌∙◌, subst, take, map, r
 use Rattle.varisat_theory.specs.Membership.{IsDistinct}
 use Rattle.varisat_theory.specs.Literals.{variable_of}
 use Rattle.varisat_names.specs.VarMap.{at}
-use Rattle.varisat_tracer.specs.Tracing.{parts_of, open_parts}
+use Rattle.varisat_tracer.specs.Tracing.{tracer_state, open_parts}
 use Rattle.varisat_prop.proofs.ReadElements.{item-∈}
 use Rattle.varisat.specs.Dropping.{LosesSolverVar, AreReleased, LeavesTables}
 use Rattle.varisat.proofs.ReadPlaces.{take-item, split-item}
@@ -31,9 +31,9 @@ pub loop-lit-preserved : goal.loop-lit-preserved
 loop-lit-preserved g c =
     let l = c.lit-item.result in
     let d = take c.loop-lit.lit-index c.args.lits.now in
-    let first = parts_of c.args.tracer.now in
-    let before = parts_of c.loop-lit.tracer in
-    let last = parts_of c.drop_solver_var.new.tracer in
+    let first = tracer_state c.args.tracer.now in
+    let before = tracer_state c.loop-lit.tracer in
+    let last = tracer_state c.drop_solver_var.new.tracer in
     let (x, loses) = c.in_ok-drop_solver_var.ensures.dropped in
     let one : LosesSolverVar x (variable_of l) before last = subst (λ v. LosesSolverVar x v before last) c.var.ensures loses in
     let (a, b, same) = c.loop-lit.invariant in

@@ -8,7 +8,7 @@ use Rattle.varisat_search.specs.StepErrors.{step_error_of_trace, step_faults}
 use Rattle.varisat_search.proofs.StepErrors.{trace-faults, trace-unfilled}
 use Rattle.varisat_trace.specs.Traces.{TakesLines, faults_of}
 use Rattle.varisat_trace.proofs.Broken.{passed-on}
-use Rattle.varisat_tracer.specs.Tracing.{parts_of, TakesGlobally, BreaksProof}
+use Rattle.varisat_tracer.specs.Tracing.{tracer_state, TakesGlobally, BreaksProof}
 use Rattle.varisat_tracer.proofs.Telling.{breaks-proof, proof-breaks-on}
 use Rattle.varisat.specs.Summaries.{undecided_spaces, IsKept}
 use Rattle.varisat.proofs.LeavesInTime.{leaves-begun}
@@ -25,22 +25,23 @@ begin_step-requires-clause-holds g c = relied c.args.tracer.now.variables c.args
 
 -- how the step began
 begun : (g : Over) (c : In_ok-begin_step g) →
-    BeginsStep (λ lines. TakesLines TakesGlobally (parts_of c.args.tracer.now) lines (parts_of c.begin_step.new.proof)) c.args.ctx.now c.begin_step.new.ctx
+    BeginsStep (λ lines. TakesLines TakesGlobally (tracer_state c.args.tracer.now) lines (tracer_state c.begin_step.new.proof)) c.args.ctx.now
+    c.begin_step.new.ctx
 begun g c = (c.in_ok-begin_step.ensures {u = tt}).begins
 
 kept : (g : Over) (c : In_ok-begin_step g) → IsKept c.begin_step.new.proof.variables c.begin_step.new.ctx
 kept g c =
     let b = begun g c in
     subst (λ (t : Tables). IsKept t c.begin_step.new.ctx)
-    (sym (begin-tables (parts_of c.args.tracer.now) (parts_of c.begin_step.new.proof) c.args.ctx.now c.begin_step.new.ctx b))
+    (sym (begin-tables (tracer_state c.args.tracer.now) (tracer_state c.begin_step.new.proof) c.args.ctx.now c.begin_step.new.ctx b))
     (begin-kept c.args.ctx.now c.begin_step.new.ctx b c.requires.kept.ready c.args.tracer.now.variables c.requires.kept)
 
 pub drop_fixed-requires-clause-kept : goal.drop_fixed-requires-clause-kept
 drop_fixed-requires-clause-kept g c = kept g (goal.at.drop_fixed-requires-clause-kept g c).In_ok-begin_step
 
 pub drop_fixed-requires-clause-tells : goal.drop_fixed-requires-clause-tells
-drop_fixed-requires-clause-tells g c = begin-tells (parts_of c.args.tracer.now)
-    (parts_of c.begin_step.new.proof) c.args.ctx.now c.begin_step.new.ctx
+drop_fixed-requires-clause-tells g c = begin-tells (tracer_state c.args.tracer.now)
+    (tracer_state c.begin_step.new.proof) c.args.ctx.now c.begin_step.new.ctx
     (begun g (goal.at.drop_fixed-requires-clause-tells g c).In_ok-begin_step) c.requires.tells
 
 pub drop_fixed-requires-clause-unknown : goal.drop_fixed-requires-clause-unknown
@@ -48,8 +49,8 @@ drop_fixed-requires-clause-unknown g c = ap (λ (x : Context g.row.A.Denot). x.s
 
 pub drop_fixed-requires-clause-stands : goal.drop_fixed-requires-clause-stands
 drop_fixed-requires-clause-stands g c =
-    let p = parts_of c.args.tracer.now in
-    let q = parts_of c.begin_step.new.proof in
+    let p = tracer_state c.args.tracer.now in
+    let q = tracer_state c.begin_step.new.proof in
     some-on 0 _ _ p.proof q.proof (begin-comes p q c.args.ctx.now c.begin_step.new.ctx c.requires.kept
     (begun g (goal.at.drop_fixed-requires-clause-stands g c).In_ok-begin_step)) c.requires.stands
 
@@ -68,17 +69,17 @@ returns-clause-begins g c =
     record {
       kept = e.kept;
       tells = e.tells;
-      told = some-through p.proof q.proof r.proof (begin-told (parts_of p) (parts_of q) x y b) e.told;
+      told = some-through p.proof q.proof r.proof (begin-told (tracer_state p) (tracer_state q) x y b) e.told;
       within = λ i k. e.within i x.schedule
           (come-begun _ x y c.requires.kept.ready c.prove_in_range.ensures.luby_restart_interval_scale c.requires.counted b config count i k);
       state = c.drop_fixed.ensures.state ∙ ap (λ (c : Context g.row.A.Denot). c.solver_state) c.begin_step.ensures.kept;
       count = e.count ∙ count;
       left = record { reduced = y; begins = begins-any x y b; left = e.left };
-      leaves = λ h. e.leaves (leaves-begun p.variables q.variables x y c.requires.kept.ready b (begin-tables (parts_of p) (parts_of q) x y b) h);
+      leaves = λ h. e.leaves (leaves-begun p.variables q.variables x y c.requires.kept.ready b (begin-tables (tracer_state p) (tracer_state q) x y b) h);
       stands = comes-through 0 0 0 p.proof q.proof r.proof (undecided_spaces p.variables p.proof.checker x)
           (undecided_spaces q.variables q.proof.checker y) (undecided_spaces r.variables r.proof.checker z) refl (λ z. refl)
           (unknown-undecided q.variables q.proof.checker y)
-          (begin-comes (parts_of p) (parts_of q) x y c.requires.kept b) e.stands;
+          (begin-comes (tracer_state p) (tracer_state q) x y c.requires.kept b) e.stands;
     }
 
 pub returns-clause-schedule : goal.returns-clause-schedule
@@ -102,7 +103,7 @@ returns-in_err-begin_step-clause-broken g c =
     let q = c.begin_step.new.proof in
     passed-on c.from_residual.result (step_error_of_trace e) (λ z. BreaksProof p.proof (step_faults z) q.proof) c.from_residual.ensures
     (subst (λ n. BreaksProof p.proof n q.proof) (trace-faults e)
-    (breaks-proof (parts_of p) (parts_of q) (faults_of e) (c.in_err-begin_step.ensures {u = tt}).broken))
+    (breaks-proof (tracer_state p) (tracer_state q) (faults_of e) (c.in_err-begin_step.ensures {u = tt}).broken))
 
 pub returns-in_err-begin_step-clause-full : goal.returns-in_err-begin_step-clause-full
 returns-in_err-begin_step-clause-full g c =
@@ -115,7 +116,7 @@ returns-in_err-drop_fixed-clause-broken g c =
     let p = c.args.tracer.now in
     let q = c.begin_step.new.proof in
     let r = c.drop_fixed.new.tracer in
-    let (given, told) = begin-told (parts_of p) (parts_of q) c.args.ctx.now c.begin_step.new.ctx
+    let (given, told) = begin-told (tracer_state p) (tracer_state q) c.args.ctx.now c.begin_step.new.ctx
     (begun g (goal.at.returns-in_err-drop_fixed-clause-broken g c).In_ok-begin_step) in
     passed-on c.from_residual-in_err-drop_fixed.result e (λ z. BreaksProof p.proof (step_faults z) r.proof) c.from_residual-in_err-drop_fixed.ensures
     (proof-breaks-on p.proof q.proof r.proof given (step_faults e) told (c.in_err-drop_fixed.ensures {u = tt}).broken)

@@ -5,7 +5,7 @@ use Rattle.varisat_search.specs.StepErrors.{step_faults}
 use Rattle.varisat_search.specs.declared.state.SolverState.{SolverState}
 use Rattle.varisat_search.specs.declared.state.SatState.TheVariants as verdict
 use Rattle.varisat_schedule.specs.CallSteps.{steps_since}
-use Rattle.varisat_tracer.specs.Tracing.{parts_of, BreaksProof}
+use Rattle.varisat_tracer.specs.Tracing.{tracer_state, BreaksProof}
 use Rattle.varisat_tracer.proofs.Telling.{proof-breaks-on}
 use Rattle.varisat.specs.Budgets.{CountsSteps}
 use Rattle.varisat.specs.Searches.{answer_at, ComesOn, MakesSolverStep, FindsVerdict}
@@ -19,7 +19,7 @@ use Rattle.varisat.proofs.solving.find_verdict.Goals as goal
 use Rattle.varisat.proofs.solving.find_verdict.Goals.{then-steps-first-via-then-steps-first, then-steps-first-via-else-steps-first+then-steps}
 
 -- the step that was made
-made : (g : Over) (c : In_ok-make_step g) → MakesSolverStep (parts_of c.steps.tracer) (parts_of c.make_step.new.tracer) c.steps.ctx c.make_step.new.ctx
+made : (g : Over) (c : In_ok-make_step g) → MakesSolverStep (tracer_state c.steps.tracer) (tracer_state c.make_step.new.tracer) c.steps.ctx c.make_step.new.ctx
 made g c = (c.in_ok-make_step.ensures {u = tt}).made
 
 stepping : (g : Over) (c : In_ok-make_step g) → Stepping c.args.ctx.now c.steps.ctx c.make_step.new.ctx c.args.max_steps
@@ -57,7 +57,7 @@ same-state g c = (made g c).state ∙ ap (λ (s : SolverState). record s { sat_s
 
 -- a verdict that it comes to
 found : (g : Over) (c : In_ok-make_step g) (answer : Option Bool) → answer ≡ answer_at c.make_step.new.ctx.solver_state.sat_state →
-    FindsVerdict (parts_of c.args.tracer.now) (parts_of c.make_step.new.tracer) c.args.ctx.now c.make_step.new.ctx answer
+    FindsVerdict (tracer_state c.args.tracer.now) (tracer_state c.make_step.new.tracer) c.args.ctx.now c.make_step.new.ctx answer
 found g c answer e = record {
   kept = (made g c).kept;
   tells = (made g c).tells;

@@ -1,6 +1,6 @@
 use Rattle.std.proofs.Common.{◌≡◌, ◌+◌, ◌-◌, ◌*◌, ◌^◌, length}
 use Rattle.varisat_schedule.specs.CallSteps.{steps_since}
-use Rattle.varisat_tracer.specs.Tracing.{parts_of, CanTell}
+use Rattle.varisat_tracer.specs.Tracing.{tracer_state, CanTell}
 use Rattle.varisat_search.specs.Contexts.{view}
 use Rattle.varisat.specs.Dropping.{LeavesInTime}
 use Rattle.varisat.specs.Searches.{TellsSome, ComesOn}
@@ -20,7 +20,7 @@ invariant-steps g l = record {
   leaves : LeavesInTime l.fn.tracer.variables (view l.fn.ctx) → LeavesInTime l.tracer.variables (view l.ctx);
   stands : ComesOn (steps_since l.fn.ctx.schedule l.ctx.schedule) (undecided_spaces l.fn.tracer.variables l.fn.tracer.proof.checker l.fn.ctx)
       (undecided_spaces l.tracer.variables l.tracer.proof.checker l.ctx) l.fn.tracer.proof l.tracer.proof;
-  still : l.ctx.schedule.steps ≡ l.fn.ctx.schedule.steps → (l.ctx ≡ l.fn.ctx) × (parts_of l.tracer ≡ parts_of l.fn.tracer);
+  still : l.ctx.schedule.steps ≡ l.fn.ctx.schedule.steps → (l.ctx ≡ l.fn.ctx) × (tracer_state l.tracer ≡ tracer_state l.fn.tracer);
 }
 
 abbrev pub decreases-steps : goal.decreases-steps

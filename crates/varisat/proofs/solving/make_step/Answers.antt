@@ -5,7 +5,7 @@ use Rattle.varisat_search.specs.declared.error.StepError.TheVariants as step
 use Rattle.varisat_search.specs.declared.state.SolverState.{SolverState}
 use Rattle.varisat_search.specs.StepErrors.{step_faults, HasNoRoom}
 use Rattle.varisat_trace.proofs.Broken.{passed-on, on-error}
-use Rattle.varisat_tracer.specs.Tracing.{parts_of, BreaksProof}
+use Rattle.varisat_tracer.specs.Tracing.{tracer_state, BreaksProof}
 use Rattle.varisat_tracer.proofs.Telling.{proof-breaks-on, tells-on}
 use Rattle.varisat.specs.Searches.{BeginsSolverStep, MakesNamedStep}
 use Rattle.varisat.specs.Summaries.{undecided_spaces, spaces_with}
@@ -19,12 +19,12 @@ use Rattle.varisat.proofs.solving.make_step.Goals.{In_ok-begin, In_ok-named_conf
 use Rattle.varisat.proofs.solving.make_step.Goals as goal
 
 -- how the step began
-begun : (g : Over) (c : In_ok-begin g) → BeginsSolverStep (parts_of c.args.tracer.now) (parts_of c.begin.new.tracer) c.args.ctx.now c.begin.new.ctx
+begun : (g : Over) (c : In_ok-begin g) → BeginsSolverStep (tracer_state c.args.tracer.now) (tracer_state c.begin.new.tracer) c.args.ctx.now c.begin.new.ctx
 begun g c = (c.in_ok-begin.ensures {u = tt}).begins
 
 -- and what came of it
-named : (g : Over) (c : In_ok-named_conflict_step g) → MakesNamedStep (parts_of c.begin.new.tracer)
-    (parts_of c.named_conflict_step.new.tracer) c.begin.new.ctx c.named_conflict_step.new.ctx
+named : (g : Over) (c : In_ok-named_conflict_step g) → MakesNamedStep (tracer_state c.begin.new.tracer)
+    (tracer_state c.named_conflict_step.new.tracer) c.begin.new.ctx c.named_conflict_step.new.ctx
 named g c = (c.in_ok-named_conflict_step.ensures {u = tt}).made
 
 pub named_conflict_step-requires-clause-kept : goal.named_conflict_step-requires-clause-kept
@@ -56,12 +56,12 @@ returns-clause-made g c =
     let (lines, steps, takes) = m.steps in
     let same = c.named_conflict_step.ensures.schedule in
     record {
-      mid = parts_of q;
+      mid = tracer_state q;
       middle = y;
       begins = b;
-      ends = named-counted (parts_of q) (parts_of r) y z y.schedule m;
-      kept = kept-counted r.variables z plan (kept-named (parts_of q) (parts_of r) y z b.kept m);
-      tells = tells-on (parts_of q) (parts_of r) _ takes b.tells;
+      ends = named-counted (tracer_state q) (tracer_state r) y z y.schedule m;
+      kept = kept-counted r.variables z plan (kept-named (tracer_state q) (tracer_state r) y z b.kept m);
+      tells = tells-on (tracer_state q) (tracer_state r) _ takes b.tells;
       told = some-through p.proof q.proof r.proof b.told (_, takes.told);
       since = λ u i k.
           come-ended i x.schedule y (record z { schedule = plan }) b.kept.ready (ready-counted z plan m.ready) (m.rises u)
@@ -74,7 +74,7 @@ returns-clause-made g c =
       stands = comes-through 0 1 1 p.proof q.proof r.proof (undecided_spaces p.variables p.proof.checker x)
           (undecided_spaces q.variables q.proof.checker y) (spaces_with r.variables r.proof.checker (record z { schedule = plan })) refl (λ z. refl)
           (unknown-undecided q.variables q.proof.checker y)
-          b.stands (named-comes (parts_of q) (parts_of r) y z b.kept m);
+          b.stands (named-comes (tracer_state q) (tracer_state r) y z b.kept m);
     }
 
 pub returns-clause-schedule : goal.returns-clause-schedule

@@ -6,7 +6,7 @@ use Rattle.varisat_search.specs.Contexts.{view}
 use Rattle.varisat_search.specs.Seen.{outcome_of}
 use Rattle.varisat_search.specs.StepErrors.{step_faults}
 use Rattle.varisat_trace.proofs.Broken.{passed-on}
-use Rattle.varisat_tracer.specs.Tracing.{parts_of, BreaksProof}
+use Rattle.varisat_tracer.specs.Tracing.{tracer_state, BreaksProof}
 use Rattle.varisat_tracer.proofs.Telling.{breaks-proof, proof-unbroken, proof-breaks-on}
 use Rattle.varisat.specs.Accepting.{HasUser}
 use Rattle.varisat.proofs.CheckedHeld.{relied}
@@ -29,13 +29,13 @@ name_core-requires g c l h =
 
 pub returns-clause-made : goal.returns-clause-made
 returns-clause-made g c =
-    named-also (parts_of c.args.tracer.now) (parts_of c.conflict_step.new.proof) c.args.ctx.now c.conflict_step.new.ctx
+    named-also (tracer_state c.args.tracer.now) (tracer_state c.conflict_step.new.proof) c.args.ctx.now c.conflict_step.new.ctx
     (c.in_ok-conflict_step.ensures {u = tt}).made (c.in_ok-conflict_step.ensures {u = tt}).fixes c.name_core.new.ctx c.name_core.ensures.kept
     (c.in_ok-name_core.ensures {u = tt}).named
 
 pub returns-in_default-clause-made : goal.returns-in_default-clause-made
 returns-in_default-clause-made g c =
-    named-plainly (parts_of c.args.tracer.now) (parts_of c.conflict_step.new.proof) c.args.ctx.now c.conflict_step.new.ctx
+    named-plainly (tracer_state c.args.tracer.now) (tracer_state c.conflict_step.new.proof) c.args.ctx.now c.conflict_step.new.ctx
     (c.in_ok-conflict_step.ensures {u = tt}).made (c.in_ok-conflict_step.ensures {u = tt}).fixes c.in_default.not-UnsatUnderAssumptions
 
 pub returns-in_err-conflict_step-clause-broken : goal.returns-in_err-conflict_step-clause-broken
@@ -44,7 +44,7 @@ returns-in_err-conflict_step-clause-broken g c =
     let p = c.args.tracer.now in
     let q = c.conflict_step.new.proof in
     passed-on c.from_residual.result e (λ z. BreaksProof p.proof (step_faults z) q.proof) c.from_residual.ensures
-    (breaks-proof (parts_of p) (parts_of q) (step_faults e) (c.in_err-conflict_step.ensures {u = tt}).broken)
+    (breaks-proof (tracer_state p) (tracer_state q) (step_faults e) (c.in_err-conflict_step.ensures {u = tt}).broken)
 
 pub returns-in_err-name_core-clause-broken : goal.returns-in_err-name_core-clause-broken
 returns-in_err-name_core-clause-broken g c =

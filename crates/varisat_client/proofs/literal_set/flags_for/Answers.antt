@@ -1,7 +1,7 @@
 use Rattle.std.proofs.Common.{◌<◌, ◌≤◌, ◌^◌, take, sym, subst, arith}
 use Rattle.varisat_theory.proofs.Places.{∈-take_all}
 use Rattle.varisat.proofs.ReadPlaces.{take-item}
-use Rattle.varisat_client.specs.LiteralSets.{AreBelow}
+use Rattle.varisat_client.specs.LiteralSets.{HaveFlags}
 use Rattle.varisat_client.proofs.SetFlags.{below-push}
 use Rattle.varisat_client.proofs.literal_set.flags_for.Goals as goal
 use Rattle.varisat_client.proofs.literal_set.flags_for.Goals.{then-count-code, else-count-code}
@@ -25,7 +25,7 @@ loop-lit-preserved c =
         omega (arith, w.count-is, small),
       )
     ] in (
-      subst (AreBelow c.if-count-code.count) (sym (take-item ls k l c.loop-lit-test.true c.lit-item.is))
+      subst (HaveFlags c.if-count-code.count) (sym (take-item ls k l c.loop-lit-test.true c.lit-item.is))
           (below-push c.loop-lit.count c.if-count-code.count (take k ls) l b.0 b.1 c.loop-lit.invariant.0),
       b.2,
     )

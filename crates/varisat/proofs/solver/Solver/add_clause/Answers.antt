@@ -6,7 +6,7 @@ use Rattle.varisat.specs.States.{State, Ledger}
 use Rattle.varisat.specs.Calls.{count_anew, IsExtensible, Ignored, Accepted, AddsClause}
 use Rattle.varisat.proofs.CallStates.{ledger-is, none-since, stands-valid, proof-fits, broken, broken-invalid, adds-broken}
 use Rattle.varisat.proofs.AcceptClause.{not-refuted}
-use Rattle.varisat_tracer.specs.Tracing.{parts_of, BreaksProof}
+use Rattle.varisat_tracer.specs.Tracing.{tracer_state, BreaksProof}
 use Rattle.varisat_search.specs.StepErrors.{step_faults}
 use Rattle.varisat.specs.Refusals.{told_faults}
 use Rattle.varisat.specs.Summaries.{Summary, StandsFor, spaces_with}
@@ -60,7 +60,7 @@ returns-in_err-check_names-clause-call g c s st =
 
 -- the state in which the clause is accepted
 joins : (g : Over) (c : In-Ok g) (s : State) → StandsFor
-    (summary_of (parts_of c.self.inside.tracer) c.self.inside.started c.self.inside.changed_at c.self.inside.ctx) s →
+    (summary_of (tracer_state c.self.inside.tracer) c.self.inside.started c.self.inside.changed_at c.self.inside.ctx) s →
     ClauseJoins s c.args.clause.now
     (spaces_with c.accept_clause.new.tracer.variables c.accept_clause.new.tracer.proof.checker c.accept_clause.new.ctx)
     c.accept_clause.new.tracer.proof.opened (length c.accept_clause.new.ctx.clause_alloc.words)
@@ -128,7 +128,8 @@ returns-in-Err-clause-call g c s st =
           (λ f. broken-open c.self.inside.tracer.proof c.accept_clause.new.tracer.proof s.variables s.told s.proof (proof-fits q ok)
           (subst (λ n. BreaksProof c.self.inside.tracer.proof n c.accept_clause.new.tracer.proof) f c.in-Err.ensures.broken)) bad
           (may-constrain _ s q (ap not c.if-self.false) c.args.clause.now c.in_ok-check_names.ensures.0 c.in_ok-check_names.ensures.1)
-          (broken-invalid (step_faults c.in-Err.error) s now words (stands-valid _ s q (ap not c.if-self.false)) goes (q.fits (ap not c.if-self.false)).1.well_formed)
+          (broken-invalid (step_faults c.in-Err.error) s now words (stands-valid _ s q (ap not c.if-self.false)) goes
+          (q.fits (ap not c.if-self.false)).1.well_formed)
           (λ f. let room = c.in-Err.ensures.full f in let few = c.in-Err.ensures.size f s (q.fits ok) in omega (arith, room, few))),
       record {
         ledger = ledger-is _ _ _ _ _ _ _ refl (ap (λ (x : Ledger). x.started) q.ledger)

@@ -5,7 +5,7 @@ use Rattle.varisat_tracer.specs.TracerLaws.{checked-runs}
 use Rattle.varisat.specs.Refusals.{told_faults}
 use Rattle.varisat_search.specs.StepErrors.{step_faults}
 use Rattle.varisat.specs.Targets.{WritesUpTo}
-use Rattle.varisat_tracer.specs.Tracing.{parts_of, BreaksProof}
+use Rattle.varisat_tracer.specs.Tracing.{tracer_state, BreaksProof}
 use Rattle.varisat.specs.OpenProofs.{BarsAssumptions}
 use Rattle.varisat.specs.Summaries.{spaces_with, StandsFor}
 use Rattle.varisat.proofs.SettingsCalls.{summary_of}
@@ -53,7 +53,7 @@ returns-in_err-check_names-clause-call g c s st =
 
 -- the state in which the list is assumed
 joins : (g : Over) (c : In-Ok g) (s : State) → StandsFor
-    (summary_of (parts_of c.self.inside.tracer) c.self.inside.started c.self.inside.changed_at c.self.inside.ctx) s → (BarsAssumptions s.proof → ⊥) →
+    (summary_of (tracer_state c.self.inside.tracer) c.self.inside.started c.self.inside.changed_at c.self.inside.ctx) s → (BarsAssumptions s.proof → ⊥) →
     ListJoins s c.args.lits.now (spaces_with c.assume_list.new.tracer.variables c.assume_list.new.tracer.proof.checker c.assume_list.new.ctx)
     c.assume_list.new.tracer.proof.opened (length c.assume_list.new.ctx.clause_alloc.words)
 joins g c s st free =

@@ -1,7 +1,7 @@
 use Rattle.std.proofs.Common.{not, refl, ap, sym, subst}
 use Rattle.varisat_search.specs.declared.context.Context.{Context}
 use Rattle.varisat.specs.Summaries.{spaces_with, StandsForSome}
-use Rattle.varisat_tracer.specs.Tracing.{parts_of}
+use Rattle.varisat_tracer.specs.Tracing.{tracer_state}
 use Rattle.varisat.specs.Calls.{with_update}
 use Rattle.varisat.proofs.CallStates.{stands-valid}
 use Rattle.varisat.proofs.SettingsCalls.{stands-updated, stands-same, kept-updated}
@@ -15,7 +15,7 @@ returns g c s st =
       with_update c.args.update.now s,
       (stands-valid _ s q (ap not c.if-self.false), e.0, refl),
       stands-updated
-          (parts_of c.self.inside.tracer) c.self.inside.started c.self.inside.changed_at c.steps-self-inside.result c.self.inside.ctx
+          (tracer_state c.self.inside.tracer) c.self.inside.started c.self.inside.changed_at c.steps-self-inside.result c.self.inside.ctx
           c.config_changed.new.self c.args.update.now _ _ s e.1 c.steps-self-inside.ensures.steps q,
     )
 
@@ -26,7 +26,7 @@ returns-in-Err g c s st =
       s,
       (stands-valid _ s q (ap not c.if-self.false), e.0, refl),
       stands-same
-          (parts_of c.self.inside.tracer) c.self.inside.started c.self.inside.changed_at c.self.inside.ctx c.config_changed.new.self s e.1 q,
+          (tracer_state c.self.inside.tracer) c.self.inside.started c.self.inside.changed_at c.self.inside.ctx c.config_changed.new.self s e.1 q,
     )
 
 pub invariant_of-self-2 : goal.invariant_of-self-2

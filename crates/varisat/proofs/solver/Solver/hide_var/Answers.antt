@@ -1,6 +1,6 @@
 use Rattle.std.proofs.Common.{◌∙◌, not, subst, sym, ap, refl, true, false}
 use Rattle.varisat_proof.specs.Proving.{ProofParts, is_there}
-use Rattle.varisat_tracer.specs.Tracing.{parts_of}
+use Rattle.varisat_tracer.specs.Tracing.{tracer_state}
 use Rattle.varisat_tracer.proofs.Telling.{tells-told}
 use Rattle.varisat_tracer.specs.TracerLaws.{checked-runs}
 use Rattle.varisat.proofs.VariableChanges.{hides-stay, hides-told}
@@ -24,15 +24,15 @@ invariant_of-self g c v =
     let k = (c.self.invariant c.if-self.false).kept in
     record {
       kept = kept-after c.self.inside.ctx c.self.inside.tracer.variables c.hide_named.new.tracer.variables k
-          (hides-stay c.args.var c.self.inside.ctx.solver_state.sat_state (parts_of c.self.inside.tracer) (parts_of c.hide_named.new.tracer)
+          (hides-stay c.args.var c.self.inside.ctx.solver_state.sat_state (tracer_state c.self.inside.tracer) (tracer_state c.hide_named.new.tracer)
           (c.in-Ok.ensures {u = tt}).hides);
-      tells = let (given, told, opened) = hides-told c.args.var c.self.inside.ctx.solver_state.sat_state (parts_of c.self.inside.tracer)
-          (parts_of c.hide_named.new.tracer) (c.in-Ok.ensures {u = tt}).hides in
+      tells = let (given, told, opened) = hides-told c.args.var c.self.inside.ctx.solver_state.sat_state (tracer_state c.self.inside.tracer)
+          (tracer_state c.hide_named.new.tracer) (c.in-Ok.ensures {u = tt}).hides in
           tells-told c.self.inside.tracer.proof c.hide_named.new.tracer.proof given told (c.self.invariant c.if-self.false).tells;
       stands = let (s, f, fresh) = (c.self.invariant c.if-self.false).stands in
           let (variables, told, keep, more, fits) = hide-state
-          (summary_of (parts_of c.self.inside.tracer) c.self.inside.started c.self.inside.changed_at c.self.inside.ctx) s c.args.var
-          c.self.inside.tracer.proof (parts_of c.hide_named.new.tracer) refl f (c.in-Ok.ensures {u = tt}).hides in (_, fits, fresh);
+          (summary_of (tracer_state c.self.inside.tracer) c.self.inside.started c.self.inside.changed_at c.self.inside.ctx) s c.args.var
+          c.self.inside.tracer.proof (tracer_state c.hide_named.new.tracer) refl f (c.in-Ok.ensures {u = tt}).hides in (_, fits, fresh);
       counts = since-now c.steps-self-inside.result c.self.inside.ctx c.steps-self-inside.ensures.steps k.ready c.steps-self-inside.ensures.plan;
     }
 
@@ -50,12 +50,12 @@ pub returns-in-Ok : goal.returns-in-Ok
 returns-in-Ok g c s st =
     let k = begins (rw (← c.self.view_is) at st) (ap not c.if-self.false) in
     let p = c.self.inside.tracer.proof in
-    let q = parts_of c.hide_named.new.tracer in
+    let q = tracer_state c.hide_named.new.tracer in
     let v = c.self.inside.ctx.solver_state.sat_state in
     let hides = (c.in-Ok.ensures {u = tt}).hides in
     let (before, links) = k.fits in
     let (variables, told, keep, more, (w, left)) = hide-state
-    (summary_of (parts_of c.self.inside.tracer) c.self.inside.started c.self.inside.changed_at c.self.inside.ctx) s c.args.var p q refl k.fits hides in
+    (summary_of (tracer_state c.self.inside.tracer) c.self.inside.started c.self.inside.changed_at c.self.inside.ctx) s c.args.var p q refl k.fits hides in
     let alike = written-alike before _ s links variables keep in
     let (now, grows, goes) = proof-goes-on p q.proof s.variables variables s.told told s.proof k.proof alike more.proof in
     let u = hide_name c.args.var (name_var named c.args.var s) in
@@ -80,7 +80,7 @@ returns-in-Ok g c s st =
         written = λ _. goes.written;
         bounded = λ _. (kept-after c.self.inside.ctx c.self.inside.tracer.variables c.hide_named.new.tracer.variables
             (c.self.invariant c.if-self.false).kept
-            (hides-stay c.args.var c.self.inside.ctx.solver_state.sat_state (parts_of c.self.inside.tracer) q (c.in-Ok.ensures {u = tt}).hides)).bounded;
+            (hides-stay c.args.var c.self.inside.ctx.solver_state.sat_state (tracer_state c.self.inside.tracer) q (c.in-Ok.ensures {u = tt}).hides)).bounded;
         flags = λ _. let f = k.flags in
             record {
               clauses = f.clauses;

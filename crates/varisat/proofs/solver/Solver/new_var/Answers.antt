@@ -3,7 +3,7 @@ use Rattle.varisat_theory.specs.Literals.{variable_of}
 use Rattle.varisat_names.specs.VarMap.{at}
 use Rattle.varisat_search.specs.Contexts.{view}
 use Rattle.varisat_names.proofs.NamedVariables.{unmapped-near, unmapped-same}
-use Rattle.varisat_tracer.specs.Tracing.{parts_of}
+use Rattle.varisat_tracer.specs.Tracing.{tracer_state}
 use Rattle.varisat.specs.Summaries.{spaces}
 use Rattle.varisat.specs.States.{Ledger, with_variables}
 use Rattle.varisat.specs.Names.{Naming, name_one}
@@ -67,7 +67,7 @@ invariant_of-self g c v =
       };
       stands = let (s, f, fresh) = (c.self.invariant c.if-self.false).stands in
           let (variables, keep, fits) = new-named
-          (summary_of (parts_of c.self.inside.tracer) c.self.inside.started c.self.inside.changed_at c.self.inside.ctx) s new u x f
+          (summary_of (tracer_state c.self.inside.tracer) c.self.inside.started c.self.inside.changed_at c.self.inside.ctx) s new u x f
           least.least (unmapped-near old.users.forward u least.least) t in
           (_, fits, λ e. absurd cc);
       tells = (c.self.invariant c.if-self.false).tells;
@@ -77,7 +77,7 @@ invariant_of-self g c v =
 pub returns-in-Ok : goal.returns-in-Ok
 returns-in-Ok g c s st =
     let q = rw (← c.self.view_is) at st in
-    let old = summary_of (parts_of c.self.inside.tracer) c.self.inside.started c.self.inside.changed_at c.self.inside.ctx in
+    let old = summary_of (tracer_state c.self.inside.tracer) c.self.inside.started c.self.inside.changed_at c.self.inside.ctx in
     let f = q.fits (ap not c.if-self.false) in
     let u = c.in-Ok.user in
     let new = c.new_user_var.new.variables in
@@ -115,7 +115,7 @@ pub returns-in-Err : goal.returns-in-Err
 returns-in-Err g c s st =
     let q = rw (← c.self.view_is) at st in
     let f = q.fits (ap not c.if-self.false) in
-    let least = least-free (summary_of (parts_of c.self.inside.tracer) c.self.inside.started c.self.inside.changed_at c.self.inside.ctx) s
+    let least = least-free (summary_of (tracer_state c.self.inside.tracer) c.self.inside.started c.self.inside.changed_at c.self.inside.ctx) s
     c.next_unmapped_user-next.result f c.next_unmapped_user-next.ensures.least in (
       broken s.proof s.words s,
       (
@@ -137,7 +137,7 @@ pub returns-then-index-max_count : goal.returns-then-index-max_count
 returns-then-index-max_count g c s st =
     let q = rw (← c.self.view_is) at st in
     let ok = ap not c.if-self.false in
-    let old = summary_of (parts_of c.self.inside.tracer) c.self.inside.started c.self.inside.changed_at c.self.inside.ctx in
+    let old = summary_of (tracer_state c.self.inside.tracer) c.self.inside.started c.self.inside.changed_at c.self.inside.ctx in
     let f = q.fits ok in
     let u = c.next_unmapped_user-next.result in
     let least = least-free old s u f c.next_unmapped_user-next.ensures.least in

@@ -5,7 +5,7 @@ use Rattle.varisat.proofs.AcceptClause.{ledger-free}
 use Rattle.varisat.proofs.CallStates.{ledger-is, none-since, begins, like-refl, broken, broken-untold}
 use Rattle.varisat.proofs.VariableChanges.{turns-stay}
 use Rattle.varisat.proofs.SettingsCalls.{summary_of}
-use Rattle.varisat_tracer.specs.Tracing.{parts_of}
+use Rattle.varisat_tracer.specs.Tracing.{tracer_state}
 use Rattle.varisat.proofs.SinceSteps.{since-now}
 use Rattle.varisat.proofs.VariableStates.{show-state, kept-after}
 use Rattle.varisat.proofs.solver.Solver.observe_internal_vars.Goals as goal
@@ -20,7 +20,7 @@ invariant_of-self g c v =
       kept = kept-after c.self.inside.ctx old new k (turns-stay c.in-Ok.shown.items old new c.prove_linked.ensures k.bounded shown.in_turn).0;
       stands = let (s, f, fresh) = (c.self.invariant c.if-self.false).stands in
           let (m, all, fits) = show-state c.in-Ok.shown.items
-          (summary_of (parts_of c.self.inside.tracer) c.self.inside.started c.self.inside.changed_at c.self.inside.ctx) s new f
+          (summary_of (tracer_state c.self.inside.tracer) c.self.inside.started c.self.inside.changed_at c.self.inside.ctx) s new f
           c.prove_linked.ensures k.bounded shown in (_, fits, fresh);
       tells = (c.self.invariant c.if-self.false).tells;
       counts = since-now c.steps-self-inside.result c.self.inside.ctx c.steps-self-inside.ensures.steps k.ready c.steps-self-inside.ensures.plan;
@@ -31,7 +31,7 @@ returns-in-Ok g c s st =
     let q = rw (← c.self.view_is) at st in
     let k = begins q (ap not c.if-self.false) in
     let (m, shown, fits) = show-state c.in-Ok.shown.items
-    (summary_of (parts_of c.self.inside.tracer) c.self.inside.started c.self.inside.changed_at c.self.inside.ctx) s
+    (summary_of (tracer_state c.self.inside.tracer) c.self.inside.started c.self.inside.changed_at c.self.inside.ctx) s
     c.observe_internal_vars.new.variables k.fits c.prove_linked.ensures (c.self.invariant c.if-self.false).kept.bounded
     (c.in-Ok.ensures {u = tt}).shown in (
       count_anew (with_naming m s),
@@ -53,7 +53,14 @@ returns-in-Ok g c s st =
             (kept-after c.self.inside.ctx old new k
             (turns-stay c.in-Ok.shown.items old new c.prove_linked.ensures k.bounded (c.in-Ok.ensures {u = tt}).shown.in_turn).0).bounded;
         flags =
-            λ _. let f = k.flags in record { clauses = f.clauses; assumptions = f.assumptions; counted = f.counted; unlisted = f.unlisted; unassumed = f.unassumed };
+            λ _. let f = k.flags in record {
+              clauses = f.clauses;
+              assumptions = f.assumptions;
+              counted = f.counted;
+              unlisted =
+                  f.unlisted;
+              unassumed = f.unassumed;
+            };
       },
     )
 

@@ -8,7 +8,7 @@ use Rattle.varisat_schedule.specs.CallSteps.{steps_since}
 use Rattle.varisat_tracer.specs.TracerLaws.{checked-runs}
 use Rattle.varisat.specs.Budgets.{told_verdict, CountsSteps}
 use Rattle.varisat.specs.States.{State, Ledger}
-use Rattle.varisat_tracer.specs.Tracing.{TracerState, parts_of, BreaksProof}
+use Rattle.varisat_tracer.specs.Tracing.{TracerState, tracer_state, BreaksProof}
 use Rattle.varisat.specs.OpenProofs.{OpenProof, ProofFits, GoesOnWriting}
 use Rattle.varisat.specs.Targets.{WritesUpTo}
 use Rattle.varisat.proofs.Targets.{writes-nothing, refused-unwritten, tells-writes, tells-refused, breaks-writes, refused-full, same-error}
@@ -73,7 +73,8 @@ module _ {A : Type 0} {p q : TracerState} {started : Bool} {changed_at : ℕ} {x
 
   -- the solver stands for the state that it came to
   stands-after : {r : Result Bool SolverError} → CountsSteps (length s.counted) s.ledger.settings.max_steps s.ledger.since s.ledger.steps
-      y.schedule.steps r → StandsFor (summary_of q started changed_at y) (after-solve comes.told comes.verdict y.schedule.steps goes-on.0 (length y.clause_alloc.words) s)
+      y.schedule.steps r → StandsFor (summary_of q started changed_at y)
+      (after-solve comes.told comes.verdict y.schedule.steps goes-on.0 (length y.clause_alloc.words) s)
   stands-after k = record {
     ledger = ledger-is _ _ _ _ _ _ _ (ap (λ (l : Ledger). l.valid) d.stood.ledger
         ∙ ap (λ (b : SolverState). not b.state_is_invalid) (sym d.finds.state)) (ap (λ (l : Ledger). l.started) d.stood.ledger) refl (since-after k)
@@ -96,7 +97,8 @@ found-call : {A : Type 0} {p q : TracerState} {started : Bool} {changed_at : ℕ
     × StandsFor (summary_of q started changed_at y) t
 found-call {p = p} {q = q} {started = started} {changed_at = changed_at} {x = x} {y = y} {b = b} {s = s} d k = (
   after-solve (comes d).told (comes d).verdict y.schedule.steps (goes-on d).0 (length y.clause_alloc.words) s,
-  comes-verdict q.tables y (comes d) y.schedule.steps (goes-on d).0 (length y.clause_alloc.words) b (stands-valid (summary_of p started changed_at x) s d.stood d.valid)
+  comes-verdict q.tables y (comes d) y.schedule.steps (goes-on d).0 (length y.clause_alloc.words) b
+      (stands-valid (summary_of p started changed_at x) s d.stood d.valid)
       (was-unknown (summary_of p started changed_at x) s d.stood d.valid d.unknown) k (sym d.finds.answer) (made d) (goes-on d).1,
   stands-after d k,
 )
@@ -108,12 +110,14 @@ moved-call : {A : Type 0} {p q : TracerState} {started : Bool} {changed_at : ℕ
     s.ledger.steps < y.schedule.steps → (t : State) × IsInterrupted s t × StandsFor (summary_of q started changed_at y) t
 moved-call {p = p} {q = q} {started = started} {changed_at = changed_at} {x = x} {y = y} {s = s} d k h =
     let last = answered-none y.solver_state.sat_state (sym d.finds.answer) in
-    let unknown = unknown-undecided q.tables q.proof.checker y (after-solve (comes d).told (comes d).verdict y.schedule.steps (goes-on d).0 (length y.clause_alloc.words) s)
+    let unknown = unknown-undecided q.tables q.proof.checker y
+    (after-solve (comes d).told (comes d).verdict y.schedule.steps (goes-on d).0 (length y.clause_alloc.words) s)
     (subst (λ b. SpacesFit (spaces_of q.tables q.proof.checker (view y) y.assumptions b)
     (after-solve (comes d).told (comes d).verdict y.schedule.steps (goes-on d).0 (length y.clause_alloc.words) s)) last
     (comes-fits q.tables y (comes d) y.schedule.steps (goes-on d).0 (length y.clause_alloc.words))) in (
       after-solve (comes d).told (comes d).verdict y.schedule.steps (goes-on d).0 (length y.clause_alloc.words) s,
-      comes-interrupted q.tables y (comes d) y.schedule.steps (goes-on d).0 (length y.clause_alloc.words) (stands-valid (summary_of p started changed_at x) s d.stood d.valid)
+      comes-interrupted q.tables y (comes d) y.schedule.steps (goes-on d).0 (length y.clause_alloc.words)
+          (stands-valid (summary_of p started changed_at x) s d.stood d.valid)
           (was-unknown (summary_of p started changed_at x) s d.stood d.valid d.unknown) k unknown (made d) (λ e. omega (arith, h, e)) (goes-on d).1,
       stands-after d k,
     )
@@ -144,8 +148,8 @@ spent-call {A} {p} {q} {started} {changed_at} {x} {y} {s} d k =
 -- 2. The answers.
 
 sought-some : (g : Over) (c : In-Ok-Some g) (s : State) → StandsFor
-    (summary_of (parts_of c.self.inside.tracer) c.self.inside.started c.self.inside.changed_at c.self.inside.ctx) s →
-    Sought (parts_of c.self.inside.tracer) (parts_of c.find_verdict.new.tracer) c.self.inside.started c.self.inside.changed_at c.self.inside.ctx
+    (summary_of (tracer_state c.self.inside.tracer) c.self.inside.started c.self.inside.changed_at c.self.inside.ctx) s →
+    Sought (tracer_state c.self.inside.tracer) (tracer_state c.find_verdict.new.tracer) c.self.inside.started c.self.inside.changed_at c.self.inside.ctx
     c.find_verdict.new.ctx (Some c.in-Ok-Some.found) s
 sought-some g c s st = record {
   stood = st;
@@ -157,8 +161,8 @@ sought-some g c s st = record {
 }
 
 sought-none : (g : Over) (c : In-Ok-None g) (s : State) → StandsFor
-    (summary_of (parts_of c.self.inside.tracer) c.self.inside.started c.self.inside.changed_at c.self.inside.ctx) s →
-    Sought (parts_of c.self.inside.tracer) (parts_of c.find_verdict.new.tracer) c.self.inside.started c.self.inside.changed_at c.self.inside.ctx
+    (summary_of (tracer_state c.self.inside.tracer) c.self.inside.started c.self.inside.changed_at c.self.inside.ctx) s →
+    Sought (tracer_state c.self.inside.tracer) (tracer_state c.find_verdict.new.tracer) c.self.inside.started c.self.inside.changed_at c.self.inside.ctx
     c.find_verdict.new.ctx None s
 sought-none g c s st = record {
   stood = st;
@@ -251,7 +255,7 @@ returns-in-Ok-Some-clause-unsatisfiable g c b s st =
 
 pub returns-in-Ok-Some-clause-model : goal.returns-in-Ok-Some-clause-model
 returns-in-Ok-Some-clause-model g c b s st =
-    let f : FindsVerdict (parts_of c.self.inside.tracer) (parts_of c.find_verdict.new.tracer) c.self.inside.ctx c.find_verdict.new.ctx
+    let f : FindsVerdict (tracer_state c.self.inside.tracer) (tracer_state c.find_verdict.new.tracer) c.self.inside.ctx c.find_verdict.new.ctx
     (Some c.in-Ok-Some.found) = rw c.in-Ok-Some.field-0-is at c.in-Ok-Some.ensures.found in
     let sat : c.in-Ok-Some.found ≡ true = cc in
     let r = sat-model _ s st (ap (λ (x : SolverState). not x.state_is_invalid) f.state ∙ ap not c.if-self.false)
@@ -260,7 +264,7 @@ returns-in-Ok-Some-clause-model g c b s st =
 
 pub returns-in-Ok-Some-clause-core : goal.returns-in-Ok-Some-clause-core
 returns-in-Ok-Some-clause-core g c b s st =
-    let f : FindsVerdict (parts_of c.self.inside.tracer) (parts_of c.find_verdict.new.tracer) c.self.inside.ctx c.find_verdict.new.ctx
+    let f : FindsVerdict (tracer_state c.self.inside.tracer) (tracer_state c.find_verdict.new.tracer) c.self.inside.ctx c.find_verdict.new.ctx
     (Some c.in-Ok-Some.found) = rw c.in-Ok-Some.field-0-is at c.in-Ok-Some.ensures.found in
     let unsat : c.in-Ok-Some.found ≡ false = cc in
     false-core _ s st (ap (λ (x : SolverState). not x.state_is_invalid) f.state ∙ ap not c.if-self.false) (sym f.answer ∙ ap Some unsat)

@@ -8,7 +8,7 @@ use Rattle.varisat.proofs.Additions.{told-error}
 use Rattle.varisat.proofs.OpenProofs.{lines-of-entries, fits-alike}
 use Rattle.varisat.proofs.WrittenVariables.{written-alike}
 use Rattle.varisat.proofs.SettingsCalls.{summary_of}
-use Rattle.varisat_tracer.specs.Tracing.{parts_of}
+use Rattle.varisat_tracer.specs.Tracing.{tracer_state}
 use Rattle.varisat.proofs.SinceSteps.{since-now}
 use Rattle.varisat.proofs.VariableStates.{unassumed-state, free-state, mode-refused, not-hide, mode-state, kept-after}
 use Rattle.varisat.proofs.solver.Solver.set_mode.Goals as goal
@@ -20,7 +20,7 @@ invariant_of-self g c v =
       kept = kept-after c.self.inside.ctx c.self.inside.tracer.variables c.set_named_mode.new.variables k (c.in-Ok.ensures {u = tt}).set.stays;
       stands = let (s, f, fresh) = (c.self.invariant c.if-self.false).stands in
           let (variables, keep, fits) = mode-state
-          (summary_of (parts_of c.self.inside.tracer) c.self.inside.started c.self.inside.changed_at c.self.inside.ctx) s
+          (summary_of (tracer_state c.self.inside.tracer) c.self.inside.started c.self.inside.changed_at c.self.inside.ctx) s
           c.set_named_mode.new.variables c.args.var c.in-Ok.field-0 c.args.mode (mode_of c.args.mode) f c.requires (c.in-Ok.ensures {u = tt}).set in
           (_, fits, fresh);
       tells = (c.self.invariant c.if-self.false).tells;
@@ -47,11 +47,20 @@ returns-in-Ok g c s st =
     let t = with_mode u (mode_of m) (name_var named u s) in
     let (w, links) = k.fits in
     let (variables, keep, fits) = mode-state
-    (summary_of (parts_of c.self.inside.tracer) c.self.inside.started c.self.inside.changed_at c.self.inside.ctx) s
+    (summary_of (tracer_state c.self.inside.tracer) c.self.inside.started c.self.inside.changed_at c.self.inside.ctx) s
     c.set_named_mode.new.variables u c.in-Ok.field-0 m (mode_of m) k.fits c.requires (c.in-Ok.ensures {u = tt}).set in
     let alike = written-alike w _ s links variables keep in (
       with_variables variables t,
-      ((k.valid, may.in_range, unassumed-state u k may.unassumed, like-varied t variables s.words (lines-of-entries s.variables variables s.told alike)), λ e. absurd cc),
+      (
+        (
+          k.valid,
+          may.in_range,
+          unassumed-state u k may.unassumed,
+          like-varied t variables s.words
+              (lines-of-entries s.variables variables s.told alike),
+        ),
+        λ e. absurd cc,
+      ),
       record {
         ledger = ledger-is _ _ _ _ _ _ _ (ap (λ (x : Ledger). x.valid) k.ledger) (ap (λ (x : Ledger). x.started) k.ledger)
             (ap (λ (x : Ledger). x.steps) k.ledger)

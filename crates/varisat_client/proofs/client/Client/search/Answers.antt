@@ -1,11 +1,11 @@
 use Rattle.std.proofs.Common.{◌∙◌, refl, sym, ap, Some, Err}
-use Rattle.varisat_client.specs.Pasts.{Searches, Refused, Again}
+use Rattle.varisat_client.specs.Pasts.{IsSearchEnd, Refused, Again}
 use Rattle.varisat_client.proofs.Moving.{stays-refused, finds-model, finds-core, spends-steps, search-fails}
 use Rattle.varisat_client.proofs.client.Client.search.Goals as goal
 
 pub returns-then-is_some : goal.returns-then-is_some
 returns-then-is_some g c = rw (← c.self.view_is)
-    (stays-refused (Searches _) _ (sym c.is_some.ensures ∙ c.if-is_some.true) (λ p r. Refused refl (Again r refl)))
+    (stays-refused (IsSearchEnd _) _ (sym c.is_some.ensures ∙ c.if-is_some.true) (λ p r. Refused refl (Again r refl)))
 
 pub returns-in-Ok-true : goal.returns-in-Ok-true
 returns-in-Ok-true g c = rw (← c.self.view_is)

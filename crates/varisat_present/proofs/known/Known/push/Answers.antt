@@ -38,7 +38,8 @@ invariant_of-self-in_err-push-2 g c =
 
 -- the place of the literal in the map
 updates : (g : Over) (c : In_ok-insert g) → Updates nat_cmp c.self.inside.far c.insert.new.self c.args.literal (Some c.len-place.result)
-updates g c = subst (λ (x : ℕ). Updates nat_cmp c.self.inside.far c.insert.new.self x (Some c.len-place.result)) c.code-code.ensures.code c.in_ok-insert.ensures.updates
+updates g c = subst (λ (x : ℕ). Updates nat_cmp c.self.inside.far c.insert.new.self x (Some c.len-place.result)) c.code-code.ensures.code
+    c.in_ok-insert.ensures.updates
 
 -- it is not known yet
 absent : (g : Over) (c : In_ok-insert g) → c.args.literal ∈ c.self.inside.literals.items → ⊥
@@ -57,7 +58,8 @@ pub invariant_of-self-then-code-ge-PLACE_LIMIT : goal.invariant_of-self-then-cod
 invariant_of-self-then-code-ge-PLACE_LIMIT g c =
     let here = (goal.at.invariant_of-self-then-code-ge-PLACE_LIMIT g c).In_ok-insert in
     let old = c.self.inside in (
-      marked_far old.literals.items c.push.new.self.items old.marks.items c.args.literal c.code-code.result c.self.invariant.0 (absent g here) c.code-code.ensures.code
+      marked_far old.literals.items c.push.new.self.items old.marks.items c.args.literal c.code-code.result c.self.invariant.0
+          (absent g here) c.code-code.ensures.code
           (omega (arith, c.if-code-ge-PLACE_LIMIT.true)) c.in_ok-push.ensures.items,
       far_pushed old.literals.items c.push.new.self.items old.far c.insert.new.self c.args.literal c.len-place.result c.self.invariant.1 (absent g here)
           (updates g here) (omega (arith, c.len-place.ensures)) c.in_ok-push.ensures.items,

@@ -9,7 +9,7 @@ use Rattle.varisat_theory.specs.Journals.{Writes, Fails, written}
 use Rattle.varisat_trace.specs.Traces.{CanTakeStep, entries_of}
 use Rattle.varisat_trace.specs.declared.step.ProofStep.{ProofStep}
 use Rattle.varisat_tracer.specs.Carried.{told_as}
-use Rattle.varisat_tracer.specs.Tracing.{TracerState, parts_of, global_literal, Relies, TakesGlobally, BreaksGlobally}
+use Rattle.varisat_tracer.specs.Tracing.{TracerState, tracer_state, global_literal, Relies, TakesGlobally, BreaksGlobally}
 use Rattle.varisat_tracer.proofs.GlobalSteps.{added-parts, units-parts, deleted-parts, fails-parts, takes-parts, told-units, breaks-told, breaks-before}
 use Rattle.varisat_tracer.proofs.tracer.SolverTracerProofTracer.add_step.Goals as goal
 
@@ -73,7 +73,7 @@ returns-in_ok-add_step-in-DeleteClause g c =
 pub returns-in_err-map_lits-in-AtClause : goal.returns-in_err-map_lits-in-AtClause
 returns-in_err-map_lits-in-AtClause g c =
     let y : TracerState = record { tables = c.args.self.now.variables; proof = c.args.self.now.proof } in
-    step-broken (λ a es b. TakesGlobally (parts_of a) es (parts_of b)) (λ a es n b. BreaksGlobally (parts_of a) es n (parts_of b))
+    step-broken (λ a es b. TakesGlobally (tracer_state a) es (tracer_state b)) (λ a es n b. BreaksGlobally (tracer_state a) es n (tracer_state b))
     (is_telling c.args.self.now.proof) c.args.self.now _ (entries_of c.args.step.now) c.from_residual.result Memory c.from_residual.ensures
     (sym c.is_active.ensures ∙ c.if-not-is_active.false) (breaks-before y (entries_of c.args.step.now))
 
@@ -83,7 +83,7 @@ returns-in_err-add_step-in-AtClause g c =
     let z : TracerState = record { tables = c.args.self.now.variables; proof = c.add_step.new.proof } in
     let f = global_literal c.args.self.now.variables in
     let e = c.in_err-add_step-in-AtClause.field-0.0 in
-    step-broken (λ a es b. TakesGlobally (parts_of a) es (parts_of b)) (λ a es n b. BreaksGlobally (parts_of a) es n (parts_of b))
+    step-broken (λ a es b. TakesGlobally (tracer_state a) es (tracer_state b)) (λ a es n b. BreaksGlobally (tracer_state a) es n (tracer_state b))
     (is_telling c.args.self.now.proof) c.args.self.now _ (entries_of c.args.step.now) c.from_residual-in_err-add_step-in-AtClause.result e
     c.from_residual-in_err-add_step-in-AtClause.ensures
     (sym c.is_active.ensures ∙ c.if-not-is_active.false)
@@ -94,7 +94,7 @@ returns-in_err-add_step-in-AtClause g c =
 pub returns-in_err-map_lits-in-UnitClauses : goal.returns-in_err-map_lits-in-UnitClauses
 returns-in_err-map_lits-in-UnitClauses g c =
     let y : TracerState = record { tables = c.args.self.now.variables; proof = c.args.self.now.proof } in
-    step-broken (λ a es b. TakesGlobally (parts_of a) es (parts_of b)) (λ a es n b. BreaksGlobally (parts_of a) es n (parts_of b))
+    step-broken (λ a es b. TakesGlobally (tracer_state a) es (tracer_state b)) (λ a es n b. BreaksGlobally (tracer_state a) es n (tracer_state b))
     (is_telling c.args.self.now.proof) c.args.self.now _ (entries_of c.args.step.now) c.from_residual-in_err-map_lits-in-UnitClauses.result
     Memory c.from_residual-in_err-map_lits-in-UnitClauses.ensures
     (sym c.is_active.ensures ∙ c.if-not-is_active.false) (breaks-before y (entries_of c.args.step.now))
@@ -105,7 +105,7 @@ returns-in_err-add_step-in-UnitClauses g c =
     let z : TracerState = record { tables = c.args.self.now.variables; proof = c.add_step-in-UnitClauses.new.proof } in
     let f = global_literal c.args.self.now.variables in
     let e = c.in_err-add_step-in-UnitClauses.field-0.0 in
-    step-broken (λ a es b. TakesGlobally (parts_of a) es (parts_of b)) (λ a es n b. BreaksGlobally (parts_of a) es n (parts_of b))
+    step-broken (λ a es b. TakesGlobally (tracer_state a) es (tracer_state b)) (λ a es n b. BreaksGlobally (tracer_state a) es n (tracer_state b))
     (is_telling c.args.self.now.proof) c.args.self.now _ (entries_of c.args.step.now) c.from_residual-in_err-add_step-in-UnitClauses.result e
     c.from_residual-in_err-add_step-in-UnitClauses.ensures
     (sym c.is_active.ensures ∙ c.if-not-is_active.false)
@@ -117,7 +117,7 @@ returns-in_err-add_step-in-UnitClauses g c =
 pub returns-in_err-map_lits-in-DeleteClause : goal.returns-in_err-map_lits-in-DeleteClause
 returns-in_err-map_lits-in-DeleteClause g c =
     let y : TracerState = record { tables = c.args.self.now.variables; proof = c.args.self.now.proof } in
-    step-broken (λ a es b. TakesGlobally (parts_of a) es (parts_of b)) (λ a es n b. BreaksGlobally (parts_of a) es n (parts_of b))
+    step-broken (λ a es b. TakesGlobally (tracer_state a) es (tracer_state b)) (λ a es n b. BreaksGlobally (tracer_state a) es n (tracer_state b))
     (is_telling c.args.self.now.proof) c.args.self.now _ (entries_of c.args.step.now) c.from_residual-in_err-map_lits-in-DeleteClause.result
     Memory c.from_residual-in_err-map_lits-in-DeleteClause.ensures
     (sym c.is_active.ensures ∙ c.if-not-is_active.false) (breaks-before y (entries_of c.args.step.now))
@@ -128,7 +128,7 @@ returns-in_err-add_step-in-DeleteClause g c =
     let z : TracerState = record { tables = c.args.self.now.variables; proof = c.add_step-in-DeleteClause.new.proof } in
     let f = global_literal c.args.self.now.variables in
     let e = c.in_err-add_step-in-DeleteClause.field-0.0 in
-    step-broken (λ a es b. TakesGlobally (parts_of a) es (parts_of b)) (λ a es n b. BreaksGlobally (parts_of a) es n (parts_of b))
+    step-broken (λ a es b. TakesGlobally (tracer_state a) es (tracer_state b)) (λ a es n b. BreaksGlobally (tracer_state a) es n (tracer_state b))
     (is_telling c.args.self.now.proof) c.args.self.now _ (entries_of c.args.step.now) c.from_residual-in_err-add_step-in-DeleteClause.result e
     c.from_residual-in_err-add_step-in-DeleteClause.ensures
     (sym c.is_active.ensures ∙ c.if-not-is_active.false)
@@ -139,7 +139,7 @@ returns-in_err-add_step-in-DeleteClause g c =
 pub returns-in_err-map_lits-in-FailedAssumptions : goal.returns-in_err-map_lits-in-FailedAssumptions
 returns-in_err-map_lits-in-FailedAssumptions g c =
     let y : TracerState = record { tables = c.args.self.now.variables; proof = c.args.self.now.proof } in
-    step-broken (λ a es b. TakesGlobally (parts_of a) es (parts_of b)) (λ a es n b. BreaksGlobally (parts_of a) es n (parts_of b))
+    step-broken (λ a es b. TakesGlobally (tracer_state a) es (tracer_state b)) (λ a es n b. BreaksGlobally (tracer_state a) es n (tracer_state b))
     (is_telling c.args.self.now.proof) c.args.self.now _ (entries_of c.args.step.now)
     c.from_residual-in_err-map_lits-in-FailedAssumptions.result Memory c.from_residual-in_err-map_lits-in-FailedAssumptions.ensures
     (sym c.is_active.ensures ∙ c.if-not-is_active.false) (breaks-before y (entries_of c.args.step.now))
@@ -150,7 +150,7 @@ returns-in_err-add_step-in-FailedAssumptions g c =
     let z : TracerState = record { tables = c.args.self.now.variables; proof = c.add_step-in-FailedAssumptions.new.proof } in
     let f = global_literal c.args.self.now.variables in
     let e = c.in_err-add_step-in-FailedAssumptions.field-0.0 in
-    step-broken (λ a es b. TakesGlobally (parts_of a) es (parts_of b)) (λ a es n b. BreaksGlobally (parts_of a) es n (parts_of b))
+    step-broken (λ a es b. TakesGlobally (tracer_state a) es (tracer_state b)) (λ a es n b. BreaksGlobally (tracer_state a) es n (tracer_state b))
     (is_telling c.args.self.now.proof) c.args.self.now _ (entries_of c.args.step.now)
     c.from_residual-in_err-add_step-in-FailedAssumptions.result e c.from_residual-in_err-add_step-in-FailedAssumptions.ensures
     (sym c.is_active.ensures ∙ c.if-not-is_active.false)

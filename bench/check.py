@@ -1,5 +1,6 @@
 """How long checking a proof of another solver takes, and how much memory."""
 import os
+import shutil
 import statistics
 import subprocess
 import tempfile
@@ -20,6 +21,8 @@ FORMULAS = {
 # program takes for itself counts little only in a proof of some length.
 LINES, SECONDS, TIMES_BYTES, LONG = 100_000, 20, 3, 50_000
 VERIFIED = 0
+# The checker of the format's authors, where it is there. With -f it checks the lines in turn, as ours does.
+OTHER = "drat-trim"
 
 
 def add_arguments(command):
@@ -46,32 +49,40 @@ def lines_of(proof):
     return lines, literals
 
 
-def check(path, proof, limit):
-    """The seconds of the processor that our check takes, or None past the limit."""
-    status, taken = programs.run_command([programs.PROGRAM, "check", path, proof], subprocess.DEVNULL, subprocess.DEVNULL, limit)
+def check(command, limit):
+    """The seconds of the processor that a check takes, or None past the limit."""
+    status, taken = programs.run_command(command, subprocess.DEVNULL, subprocess.DEVNULL, limit)
     if programs.was_killed(status, taken, limit):
         return None
     if status != VERIFIED:
-        programs.stop(f"varisat check ended with status {status} on {proof}")
+        programs.stop(f"{' '.join(command)} ended with status {status}")
     return taken.processor
 
 
+def check_in_turn(commands, repetitions, limit):
+    """The median seconds of each command, which run in turn, or None for one that came past the limit."""
+    runs = [[check(command, limit) for command in commands] for _ in range(repetitions)]
+    return [None if None in taken else statistics.median(taken) for taken in zip(*runs)]
+
+
 def print_row(name, path, proof, repetitions, limit):
-    """Prints what one proof takes, and gives its lines and seconds."""
+    """Prints what one proof takes, and gives its lines, its seconds, and its memory divided by its bytes."""
     writing = prove(path, proof)
     lines, literals = lines_of(proof)
     size = os.path.getsize(proof)
-    runs = []
-    for _ in range(repetitions):
-        taken = check(path, proof, limit)
-        if taken is None:
-            print(f"{name:14} {lines:8,} {literals / lines:9.1f} {size:11,} {writing:10.2f}    > {limit}")
-            return None
-        runs.append(taken)
-    seconds = statistics.median(runs)
+    commands = [[programs.PROGRAM, "check", path, proof]]
+    if shutil.which(OTHER):
+        commands.append([OTHER, path, proof, "-f"])
+    seconds, *others = check_in_turn(commands, repetitions, limit)
+    other = others[0] if others else None
+    row = f"{name:14} {lines:8,} {literals / lines:9.1f} {size:11,} {writing:10.2f}"
+    if seconds is None:
+        print(f"{row}    > {limit}")
+        return None
     check_program = programs.Program("varisat check", [programs.PROGRAM, "check", path])
     memory = programs.peak_memory(check_program, proof, VERIFIED) * 1024
-    print(f"{name:14} {lines:8,} {literals / lines:9.1f} {size:11,} {writing:10.2f} {seconds:8.2f} {lines / seconds:11,.0f} {memory / size:15.1f}")
+    compared = f"{other:12.2f} {seconds / other:6.2f}" if other else f"{'-':>12} {'-':>6}"
+    print(f"{row} {seconds:8.2f} {compared} {lines / seconds:11,.0f} {memory / size:15.1f}")
     return lines, seconds, memory / size
 
 
@@ -79,8 +90,8 @@ def run(arguments):
     programs.check_tools("cadical", "/usr/bin/time")
     programs.build_ours()
     print(programs.machine())
-    print(f"the median of {arguments.repetitions} checks; times are the processor's\n")
-    print(f"{'proof':14} {'lines':>8} {'literals':>9} {'bytes':>11} {'cadical s':>10} {'check s':>8} {'lines a s':>11} {'memory / bytes':>15}")
+    print(f"the median of {arguments.repetitions} checks; times are the processor's; ratio: ours to {OTHER} -f\n")
+    print(f"{'proof':14} {'lines':>8} {'literals':>9} {'bytes':>11} {'cadical s':>10} {'check s':>8} {'drat-trim s':>12} {'ratio':>6} {'lines a s':>11} {'memory / bytes':>15}")
     rows = []
     with tempfile.TemporaryDirectory() as folder:
         for name, make in FORMULAS.items():

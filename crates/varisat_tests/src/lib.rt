@@ -3,5 +3,6 @@
 //! another that compares.
 #![tactic(auto)]
 
+pub mod settings;
 #[cfg(test)]
 mod tests;

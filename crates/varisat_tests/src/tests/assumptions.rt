@@ -1,6 +1,6 @@
 //! Assumptions and failed cores: the exact cores of small formulas, and random lists beside new solvers that have them
 //! as unit clauses.
-use super::settings::{Settings, all_settings, reducing_every};
+use crate::settings::{Settings, all_settings, reducing_every};
 use rand_core::Rng;
 use rand_pcg::Pcg32;
 use std::alloc::Global;

@@ -3,7 +3,7 @@ ghost use Rattle.std.specs.Prelude.{IfSome};
 ghost use Rattle.varisat.specs.Runs.{AreReady};
 
 use super::readers::in_pieces;
-use super::settings::rare_and_frequent;
+use crate::settings::rare_and_frequent;
 use std::alloc::{AllocError, Global};
 use std::io::{self, Write};
 use varisat::line::write_answer;

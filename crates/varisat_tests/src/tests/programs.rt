@@ -2,7 +2,7 @@
 ghost use Rattle.std.specs.Prelude.{◌<◌, ◌-◌, ◌^◌};
 
 use super::readers::in_pieces;
-use super::settings::reducing_every;
+use crate::settings::reducing_every;
 use linked_list_allocator::LocalHeap;
 use rand_core::Rng;
 use rand_pcg::Pcg32;

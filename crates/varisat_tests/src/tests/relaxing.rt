@@ -2,7 +2,7 @@
 //! each core one clause is relaxed for good, and its variable hidden.
 ghost use Rattle.std.specs.Prelude.{◌<◌};
 
-use super::settings::rare_and_frequent;
+use crate::settings::rare_and_frequent;
 use std::alloc::{AllocError, Global};
 use varisat::solver::{Solver, SolverError};
 use varisat_formula::formula::{Lit, Var};

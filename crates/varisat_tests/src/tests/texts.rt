@@ -1,6 +1,6 @@
 //! A text that breaks off, given in pieces and cut anywhere.
 use super::readers::in_pieces;
-use super::settings::{Settings, all_settings};
+use crate::settings::{Settings, all_settings};
 use std::alloc::Global;
 use std::io::Read;
 use varisat::solver::{Solver, SolverError};

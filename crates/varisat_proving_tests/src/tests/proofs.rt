@@ -1,7 +1,6 @@
 //! Calls under an open proof: which of them are refused, and when the target is flushed.
 ghost use Rattle.std.specs.Prelude.{◌≡◌, ◌-◌, ◌<◌, ◌^◌};
 
-use super::settings::{Settings, all_settings};
 use linked_list_allocator::LocalHeap;
 use std::alloc::{AllocError, Allocator, Global};
 use varisat::ProofFormat;
@@ -9,6 +8,7 @@ use varisat::solver::{Solver, SolverError};
 use varisat_formula::formula::{Lit, Var};
 use varisat_formula::io::{CutTarget, ProofTarget};
 use varisat_names::config::{ConfigField, SolverConfigUpdate};
+use varisat_tests::settings::{Settings, all_settings};
 
 // A solver whose proof has a target that fails where that is wanted.
 type CutSolver = Solver<CutTarget<Global>, Global>;

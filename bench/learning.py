@@ -99,7 +99,7 @@ def positive(text):
 def add_arguments(command):
     command.add_argument("--limit", type=positive, default=LIMIT, metavar="SECONDS", help=f"seconds of the processor for a run ({LIMIT})")
     command.add_argument("--only", action="append", choices=FORMULAS, metavar="NAME", help=f"this formula, and others named so: {', '.join(FORMULAS)}")
-    command.add_argument("--plot", action="store_true", help="draw formulas decided against time into bench/learning.svg; the Rust crate too, where its program varisat is installed")
+    command.add_argument("--plot", action="store_true", help="draw formulas decided against time into bench/learning.svg; the Rust crate too, where bench/crate is built")
     command.add_argument("--repetitions", type=positive, default=REPETITIONS, help=f"runs of each program on each formula, where they take less than {SHORT:.0f} s ({REPETITIONS})")
 
 

@@ -14,6 +14,8 @@ from typing import Callable, Optional
 
 ROOT = os.path.dirname(os.path.dirname(os.path.abspath(__file__)))
 PROGRAM = f"{ROOT}/crates/varisat_cli/out/varisat_cli"
+# What cargo builds in bench/crate.
+CRATE = f"{ROOT}/bench/crate/target/release/varisat-in-rust"
 # Each tool that is not ours, and the Debian package that has it.
 PACKAGES = {"minisat": "minisat", "cadical": "cadical", "/usr/bin/time": "time", "gcc": "gcc", "g++": "g++"}
 # The one that draws.
@@ -86,8 +88,8 @@ def cadical():
 
 
 def rust_crate():
-    """The program of the Rust crate varisat, where it is installed (cargo install varisat-cli), or None."""
-    return Program("varisat in Rust", ["varisat"]) if shutil.which("varisat") else None
+    """A program over the Rust crate varisat, where it is built, or None."""
+    return Program("varisat in Rust", [CRATE]) if os.path.exists(CRATE) else None
 
 
 def readers():

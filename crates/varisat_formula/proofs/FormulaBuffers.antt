@@ -107,6 +107,19 @@ clause_added count next n ns ls c ms ks f e p q h =
     ap (λ x. made next (cut x ks)) p ∙ ap (λ x. made next (cut (ns ++ n ∷ []) x)) q
     ∙ ap (λ x. made next x) (cut-append ns ls c n f.used e) ∙ ap (λ v. made v (cut ns ls ++ c ∷ [])) h
 
+-- a clause more whose variables are counted
+pub counted_fits : (count n : ℕ) (ns ls c ms ks : List ℕ) → BuffersFit count ns ls → n ≡ length c → ms ≡ ns ++ n ∷ [] → ks ≡ ls ++ c →
+    variables_of c ≤ count → BuffersFit count ms ks
+counted_fits count n ns ls c ms ks f e p q h =
+    let s = f.small in
+    fits_append count count n ns ls c ms ks f e p q (omega (arith, h)) (omega (arith, h, s))
+
+pub counted_added : (count n : ℕ) (ns ls c ms ks : List ℕ) → BuffersFit count ns ls → n ≡ length c → ms ≡ ns ++ n ∷ [] → ks ≡ ls ++ c →
+    ◌≡◌ {A = Formula} (record { var_count = count; clauses = cut ms ks }) (record { var_count = count; clauses = cut ns ls ++ c ∷ [] })
+counted_added count n ns ls c ms ks f e p q =
+    let made : List (List ℕ) → Formula = λ cs. record { var_count = count; clauses = cs } in
+    ap (λ x. made (cut x ks)) p ∙ ap (λ x. made (cut (ns ++ n ∷ []) x)) q ∙ ap made (cut-append ns ls c n f.used e)
+
 pub with_more-append : (f : Formula) (cs : List (List ℕ)) (c : List ℕ) → with_more f (cs ++ c ∷ []) ≡ with_one_more (with_more f cs) c
 with_more-append f [] c = refl
 with_more-append f (d ∷ cs) c = with_more-append (with_one_more f d) cs c

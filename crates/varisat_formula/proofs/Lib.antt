@@ -11,5 +11,6 @@ pub mod PieceReaders
 pub mod SmallTexts
 pub mod TargetParts
 pub mod TokenBytes
+pub mod TokenRuns
 pub mod WriterBytes
 pub mod WrittenTexts

@@ -66,7 +66,7 @@ digits_agree m (b ∷ bs) h =
     digit_case (is_digit b) (digits_after (10 * m + (b - 48)) bs) (state_of (10 * m + (b - 48))) bs (digits_agree (10 * m + (b - 48)) bs (omega arith))
     ∙ sym (ap (λ d. says (digits_from d bs)) (next_state m b h))
 
-digit_bound : (b : ℕ) → is_digit b ≡ true → (48 ≤ b) × (b ≤ 57)
+pub digit_bound : (b : ℕ) → is_digit b ≡ true → (48 ≤ b) × (b ≤ 57)
 digit_bound b e = search (rules, e)
 
 one_digit : (t : Bool) (b : ℕ) → is_digit b ≡ t → option_map capped (if t then Some (10 * 0 + (b - 48)) else None) ≡ says

@@ -1,5 +1,5 @@
 -- Tokens and header lines, a byte at a time.
-use Rattle.std.specs.Prelude.{ℕ, zero, suc, ◌+◌, ◌-◌, ◌*◌, ◌^◌, Bool, true, false, ◌&&◌, not, if◌then◌else◌, nat_lt, ◌==◌, List, [], ◌∷◌, Option, Some, None}
+use Rattle.std.specs.Prelude.{◌≡◌, ℕ, zero, suc, ◌+◌, ◌-◌, ◌*◌, ◌^◌, Bool, true, false, ◌&&◌, not, if◌then◌else◌, nat_lt, ◌==◌, List, [], ◌∷◌, Option, Some, None}
 use Rattle.varisat_formula.specs.declared.dimacs.token.Digits.{Digits}
 use Rattle.varisat_formula.specs.declared.dimacs.token.Digits.TheVariants.{Empty, Number, Large, NoNumber}
 use Rattle.varisat_formula.specs.declared.dimacs.token.Word.{Word}
@@ -57,6 +57,15 @@ after_byte w b = if is_none w && (b == 45) then record { minus = true; digits = 
 abbrev pub word_from : Word → List ℕ → Word
 word_from w [] = w
 word_from w (b ∷ bs) = word_from (after_byte w b) bs
+
+-- behind digits that write the number, with a minus sign before them or none
+abbrev pub a_number : Bool → ℕ → Word
+a_number m n = record { minus = m; digits = Number n }
+
+-- the bytes go on with the token, to which they make it: none of them is a blank
+abbrev pub GoesOnTo : Word → List ℕ → Word → Type 0
+GoesOnTo w [] v = w ≡ v
+GoesOnTo w (b ∷ bs) v = (is_blank b ≡ false) × GoesOnTo (after_byte w b) bs v
 
 -- what the token means that was read
 abbrev pub word_says : Word → Meaning

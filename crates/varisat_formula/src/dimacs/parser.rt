@@ -1,5 +1,5 @@
 //! A reader of DIMACS CNF text.
-ghost use Rattle.std.specs.Prelude.{◌≡◌, ℕ, List, [], ◌∷◌, ◌++◌, ◌⊎◌, ◌≢◌, true, false, Option, None, Some, Result, Ok, Err, OnOk, OnErr};
+ghost use Rattle.std.specs.Prelude.{◌≡◌, ℕ, List, [], ◌∷◌, ◌++◌, ◌⊎◌, ◌≢◌, true, false, Option, None, Some, Result, Ok, Err, OnOk, OnErr, ◌≤◌, length, take};
 ghost use Rattle.varisat_formula.specs.declared.dimacs.parser.Place.TheVariants.{Start};
 ghost use Rattle.varisat_formula.specs.declared.dimacs.error.DimacsErrorKind.TheVariants.{Io, OutOfMemory};
 ghost use Rattle.varisat_formula.specs.Dimacs.{Reading, failed, next, read, is_line_feed, is_blank, gives, Ending, BreaksOff};
@@ -164,6 +164,23 @@ impl<A: Allocator + Copy> DimacsParser<A> {
         }
     }
 
+    /// Reads the bytes that go on with the token, where the reader stands in one or before one. Returns how many these are.
+    fn go_on(&mut self, bytes: &[u8]) -> usize
+        requires { self.old.over ≡ false }
+        ensures within { result ≤ length bytes.now }
+        ensures reads { AdvancesBy self.old (take result bytes.now) self.new }
+        ensures place { self.new ≡ record self.old { place = self.new.place } }
+    {
+        match self.place {
+            Place::Plain(word) => {
+                let (longer, count) = word.with_bytes(bytes);
+                self.place = Place::Plain(longer);
+                count
+            }
+            Place::Start | Place::Comment | Place::Header(_) => 0,
+        }
+    }
+
     /// The bytes of the piece in turn.
     fn read_piece(&mut self, piece: &[u8]) -> Result<(), DimacsError>
         requires open { self.old.over ≡ false }
@@ -172,9 +189,15 @@ impl<A: Allocator + Copy> DimacsParser<A> {
         ensures answer { fault_of result ≡ self.new.reading.fault }
         ensures open { self.new.over ≡ false }
     {
-        for b in piece {
-            match self.byte(*b) {
-                Ok(()) => {}
+        let mut at = 0;
+        'bytes: while at < piece.len() {
+            // Most bytes stand in a token and change nothing else, so they are read at once.
+            at += self.go_on(&piece[at..]);
+            if at == piece.len() {
+                return Ok(());
+            }
+            match self.byte(piece[at]) {
+                Ok(()) => at += 1,
                 Err(_) => return Err(self.run_out()),
             }
             if let Some(fault) = self.told() {

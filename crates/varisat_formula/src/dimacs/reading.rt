@@ -110,14 +110,10 @@ impl<A: Allocator + Copy> Reader<A> {
         ensures ok { OnOk result (self.new ≡ record self.old { clauses = self.old.clauses ++ self.old.begun ∷ []; begun = []; count = next self.old.count }) }
         ensures err { OnErr result (self.new ≡ self.old) }
     {
-        match self.formula.add_clause(self.begun.as_slice()) {
-            Ok(()) => {
-                self.begun.clear();
-                self.count = self.count.saturating_add(1);
-                Ok(())
-            }
-            Err(_) => Err(AllocError),
-        }
+        self.formula.add_counted_clause(self.begun.as_slice())?;
+        self.begun.clear();
+        self.count = self.count.saturating_add(1);
+        Ok(())
     }
 
     /// Takes a literal into the open clause, unless memory runs out: then nothing changes.

@@ -1,8 +1,8 @@
 //! Tokens, a byte at a time. A piece may end inside a token; what its bytes say so far is kept in place of the bytes,
 //! so that a token of any length takes no memory, also one with a fault.
-ghost use Rattle.std.specs.Prelude.{◌≡◌, ◌<◌, ◌≤◌, ◌^◌, ℕ, Some};
+ghost use Rattle.std.specs.Prelude.{◌≡◌, ◌<◌, ◌≤◌, ◌^◌, ℕ, Bool, Some, length, take};
 ghost use Rattle.varisat_formula.specs.Dimacs.{positive, negative, in_range, is_digit, is_blank};
-ghost use Rattle.varisat_formula.specs.Machine.{after_digit, grown, after_byte, is_none, is_empty, word_says, no_word};
+ghost use Rattle.varisat_formula.specs.Machine.{after_digit, grown, after_byte, is_none, is_empty, word_says, no_word, a_number, GoesOnTo};
 
 use crate::formula::Lit;
 use varisat_literals::VARIABLE_LIMIT;
@@ -69,6 +69,25 @@ fn grown(number: u64, digit: u64) -> Digits
     } else {
         Digits::Large
     }
+}
+
+/// The number with the digits in front of the bytes, and how many these are. It stops where the number is too large for a
+/// variable's, before it might not fit.
+fn digits_behind(number: u64, bytes: &[u8]) -> (u64, usize)
+    requires { 0 < number }
+    ensures within { result.1 ≤ length bytes.now }
+    ensures word { (m : Bool) → GoesOnTo (a_number m number) (take result.1 bytes.now) (a_number m result.0) }
+{
+    let mut longer = number;
+    let mut count = 0;
+    for b in bytes {
+        if longer >= 0x1_0000_0000 || !is_digit_byte(*b) {
+            return (longer, count);
+        }
+        longer = longer * 10 + u64::from(*b - b'0');
+        count += 1;
+    }
+    (longer, count)
 }
 
 impl Digits {
@@ -140,6 +159,40 @@ impl Word {
                 digits: self.digits.after(b),
             }
         }
+    }
+
+    /// With the digits in front of the bytes, as far as `digits_behind` reads them, and how many these are. Behind another
+    /// token than a number above 0 there is none.
+    fn with_digits(self, bytes: &[u8]) -> (Word, usize)
+        ensures within { result.1 ≤ length bytes.now }
+        ensures word { GoesOnTo self (take result.1 bytes.now) result.0 }
+    {
+        match self.digits {
+            Digits::Number(number) if number > 0 => {
+                let (longer, count) = digits_behind(number, bytes);
+                let word = Word {
+                    minus: self.minus,
+                    digits: Digits::Number(longer),
+                };
+                (word, count)
+            }
+            _ => (self, 0),
+        }
+    }
+
+    /// With the bytes up to the next blank, and how many these are.
+    pub fn with_bytes(self, bytes: &[u8]) -> (Word, usize)
+        ensures within { result.1 ≤ length bytes.now }
+        ensures word { GoesOnTo self (take result.1 bytes.now) result.0 }
+    {
+        let mut word = self;
+        let mut count = 0;
+        'bytes: while count < bytes.len() && !is_blank_byte(bytes[count]) {
+            let (longer, digits) = word.after(bytes[count]).with_digits(&bytes[count + 1..]);
+            word = longer;
+            count += 1 + digits;
+        }
+        (word, count)
     }
 
     /// What the token says, if it ends here.

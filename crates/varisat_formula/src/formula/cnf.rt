@@ -1,5 +1,5 @@
 //! Formulas in conjunctive normal form, and what takes clauses one at a time.
-ghost use Rattle.std.specs.Prelude.{◌≡◌, ℕ, List, ◌+◌, ◌∷◌, [], ◌<◌, ◌≤◌, ◌^◌, max, length, true, map, Result, Ok, Err, OnOk, OnErr, IfOk, IfErr, MatchResult, IsTrue, ◌↔◌};
+ghost use Rattle.std.specs.Prelude.{◌≡◌, ℕ, List, ◌+◌, ◌∷◌, ◌++◌, [], ◌<◌, ◌≤◌, ◌^◌, max, length, true, map, Result, Ok, Err, OnOk, OnErr, IfOk, IfErr, MatchResult, IsTrue, ◌↔◌};
 ghost use Rattle.std.specs.Iterator.{YieldsFirstRef, item_count};
 ghost use Rattle.varisat_theory.specs.Literals.{literal_of};
 ghost use Rattle.varisat_formula.specs.declared.formula.cnf.FormulaError.TheVariants.{Full, Memory};
@@ -121,6 +121,23 @@ fn variables_of(literals: &[Lit]) -> usize
     count
 }
 
+/// Appends a clause to the buffers of a formula.
+fn append_clause<A: Allocator + Copy>(
+    lengths: &mut Vec<usize, A>,
+    literals: &mut Vec<Lit, A>,
+    clause: &[Lit],
+) -> Result<(), AllocError>
+    ensures lengths { OnOk result (lengths.new.items ≡ lengths.old.items ++ length clause.now ∷ []) }
+    ensures literals { OnOk result (literals.new.items ≡ literals.old.items ++ clause.now) }
+    ensures err { OnErr result ((lengths.new.items ≡ lengths.old.items) × (literals.new.items ≡ literals.old.items)) }
+{
+    // The length's room first: once the literals are in, nothing can fail.
+    lengths.reserve(1)?;
+    literals.extend_from_slice(clause)?;
+    lengths.push_reserved(clause.len());
+    Ok(())
+}
+
 impl<A: Allocator + Copy> CnfFormula<A> {
     /// A formula without clauses and variables. It takes no memory.
     pub fn new_in(alloc: A) -> CnfFormula<A>
@@ -183,11 +200,18 @@ impl<A: Allocator + Copy> CnfFormula<A> {
         ensures { MatchResult result (λ _. self.new ≡ with_one_more self.old literals.now) (λ e. (e ≡ Memory) × (self.new ≡ self.old)) }
     {
         let needed = variables_of(literals);
-        // The length's room first: once the literals are in, nothing can fail.
-        self.lengths.reserve(1)?;
-        self.literals.extend_from_slice(literals)?;
-        self.lengths.push_reserved(literals.len());
+        append_clause(&mut self.lengths, &mut self.literals, literals)?;
         self.var_count = self.var_count.max(needed);
+        Ok(())
+    }
+
+    /// Takes a clause whose variables are counted. A refused growth changes nothing.
+    pub(crate) fn add_counted_clause(&mut self, literals: &[Lit]) -> Result<(), AllocError>
+        requires { variables_of literals.now ≤ self.old.var_count }
+        ensures ok { OnOk result (self.new ≡ record self.old { clauses = self.old.clauses ++ literals.now ∷ [] }) }
+        ensures err { OnErr result (self.new ≡ self.old) }
+    {
+        append_clause(&mut self.lengths, &mut self.literals, literals)?;
         Ok(())
     }
 

@@ -1,5 +1,5 @@
 //! A reader of DIMACS CNF text.
-ghost use Rattle.std.specs.Prelude.{◌≡◌, ℕ, List, [], ◌∷◌, ◌++◌, ◌⊎◌, ◌≢◌, true, false, Option, None, Some, Result, Ok, Err, OnOk, OnErr, ◌≤◌, length, take};
+ghost use Rattle.std.specs.Prelude.{◌≡◌, ℕ, List, [], ◌∷◌, ◌++◌, ◌⊎◌, ◌≢◌, true, false, Option, None, Some, Result, Ok, Err, OnOk, OnErr, IfOk, IfErr, ◌≤◌, length, take};
 ghost use Rattle.varisat_formula.specs.declared.dimacs.parser.Place.TheVariants.{Start};
 ghost use Rattle.varisat_formula.specs.declared.dimacs.error.DimacsErrorKind.TheVariants.{Io, OutOfMemory};
 ghost use Rattle.varisat_formula.specs.Dimacs.{Reading, failed, next, read, is_line_feed, is_blank, gives, Ending, BreaksOff};
@@ -164,20 +164,40 @@ impl<A: Allocator + Copy> DimacsParser<A> {
         }
     }
 
-    /// Reads the bytes that go on with the token, where the reader stands in one or before one. Returns how many these are.
-    fn go_on(&mut self, bytes: &[u8]) -> usize
-        requires { self.old.over ≡ false }
-        ensures within { result ≤ length bytes.now }
-        ensures reads { AdvancesBy self.old (take result bytes.now) self.new }
-        ensures place { self.new ≡ record self.old { place = self.new.place } }
+    /// Where the reader stands in a line of tokens: reads it up to its line feed or the end of the bytes. Returns how many
+    /// bytes these are.
+    // Most bytes of a text are read here. The place is written only at the end, and the token stands in registers.
+    fn read_tokens(&mut self, bytes: &[u8]) -> Result<usize, DimacsError>
+        requires open { self.old.over ≡ false }
+        requires fine { self.old.reading.fault ≡ None }
+        ensures within { IfOk result (λ count. count ≤ length bytes.now) }
+        ensures reads { IfOk result (λ count. AdvancesBy self.old (take count bytes.now) self.new) }
+        ensures fine { OnOk result (self.new.reading.fault ≡ None) }
+        ensures stops { OnErr result (AdvancesBy self.old bytes.now self.new ⊎ RunsOutIn self.old bytes.now self.new) }
+        ensures fault { IfErr result (λ fault. self.new.reading.fault ≡ Some fault) }
+        ensures open { self.new.over ≡ false }
     {
-        match self.place {
-            Place::Plain(word) => {
-                let (longer, count) = word.with_bytes(bytes);
+        let Place::Plain(begun) = self.place else {
+            return Ok(0);
+        };
+        let mut word = begun;
+        let mut count = 0;
+        'tokens: loop {
+            let (longer, more) = word.with_bytes(&bytes[count..]);
+            count += more;
+            if count == bytes.len() || bytes[count] == b'\n' {
                 self.place = Place::Plain(longer);
-                count
+                return Ok(count);
             }
-            Place::Start | Place::Comment | Place::Header(_) => 0,
+            match self.end_token(longer) {
+                Ok(()) => {}
+                Err(_) => return Err(self.run_out()),
+            }
+            if let Some(fault) = self.told() {
+                return Err(fault);
+            }
+            word = Word::new();
+            count += 1;
         }
     }
 
@@ -191,8 +211,10 @@ impl<A: Allocator + Copy> DimacsParser<A> {
     {
         let mut at = 0;
         'bytes: while at < piece.len() {
-            // Most bytes stand in a token and change nothing else, so they are read at once.
-            at += self.go_on(&piece[at..]);
+            match self.read_tokens(&piece[at..]) {
+                Ok(count) => at += count,
+                Err(fault) => return Err(fault),
+            }
             if at == piece.len() {
                 return Ok(());
             }

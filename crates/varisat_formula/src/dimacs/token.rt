@@ -1,8 +1,8 @@
 //! Tokens, a byte at a time. A piece may end inside a token; what its bytes say so far is kept in place of the bytes,
 //! so that a token of any length takes no memory, also one with a fault.
-ghost use Rattle.std.specs.Prelude.{◌≡◌, ◌<◌, ◌≤◌, ◌^◌, ℕ, Bool, Some, length, take};
+ghost use Rattle.std.specs.Prelude.{◌≡◌, ◌<◌, ◌≤◌, ◌^◌, ℕ, Bool, true, Some, length, take, slice_index};
 ghost use Rattle.varisat_formula.specs.Dimacs.{positive, negative, in_range, is_digit, is_blank};
-ghost use Rattle.varisat_formula.specs.Machine.{after_digit, grown, after_byte, is_none, is_empty, word_says, no_word, a_number, GoesOnTo};
+ghost use Rattle.varisat_formula.specs.Machine.{after_digit, grown, after_byte, is_none, is_empty, word_says, no_word, no_digits, a_number, GoesOnTo};
 
 use crate::formula::Lit;
 use varisat_literals::VARIABLE_LIMIT;
@@ -71,8 +71,8 @@ fn grown(number: u64, digit: u64) -> Digits
     }
 }
 
-/// The number with the digits in front of the bytes, and how many these are. It stops where the number is too large for a
-/// variable's, before it might not fit.
+/// The number with the digits in front of the bytes, and how many these are. It stops where the number is above the limit of
+/// variables, before it might not fit.
 fn digits_behind(number: u64, bytes: &[u8]) -> (u64, usize)
     requires { 0 < number }
     ensures within { result.1 ≤ length bytes.now }
@@ -81,7 +81,7 @@ fn digits_behind(number: u64, bytes: &[u8]) -> (u64, usize)
     let mut longer = number;
     let mut count = 0;
     for b in bytes {
-        if longer >= 0x1_0000_0000 || !is_digit_byte(*b) {
+        if longer > VARIABLE_LIMIT as u64 || !is_digit_byte(*b) {
             return (longer, count);
         }
         longer = longer * 10 + u64::from(*b - b'0');
@@ -124,6 +124,27 @@ fn in_range(polarity: bool, number: u64) -> Meaning
     } else {
         Meaning::Literal(Lit::from_index((number - 1) as usize, polarity))
     }
+}
+
+/// Behind a minus sign or none: the token with the number in front of the bytes, as far as `digits_behind` reads it, and
+/// how many bytes these are.
+fn number_behind(minus: bool, bytes: &[u8]) -> (Word, usize)
+    ensures within { result.1 ≤ length bytes.now }
+    ensures word { GoesOnTo (no_digits minus) (take result.1 bytes.now) result.0 }
+{
+    if bytes.is_empty() || !is_digit_byte(bytes[0]) {
+        let word = Word {
+            minus,
+            digits: Digits::Empty,
+        };
+        return (word, 0);
+    }
+    let first = Word {
+        minus,
+        digits: Digits::Number(u64::from(bytes[0] - b'0')),
+    };
+    let (word, count) = first.with_digits(&bytes[1..]);
+    (word, 1 + count)
 }
 
 impl Word {
@@ -180,17 +201,34 @@ impl Word {
         }
     }
 
-    /// With the bytes up to the next blank, and how many these are.
-    pub fn with_bytes(self, bytes: &[u8]) -> (Word, usize)
+    /// With a number in front of the bytes, or the rest of one, and how many bytes these are.
+    fn with_number(self, bytes: &[u8]) -> (Word, usize)
         ensures within { result.1 ≤ length bytes.now }
         ensures word { GoesOnTo self (take result.1 bytes.now) result.0 }
     {
-        let mut word = self;
-        let mut count = 0;
+        match self.digits {
+            Digits::Empty => {
+                if !self.minus && !bytes.is_empty() && bytes[0] == b'-' {
+                    let (word, count) = number_behind(true, &bytes[1..]);
+                    return (word, 1 + count);
+                }
+                number_behind(self.minus, bytes)
+            }
+            _ => self.with_digits(bytes),
+        }
+    }
+
+    /// With the bytes up to the next blank, and how many these are.
+    // Mostly they are a number and no more.
+    pub fn with_bytes(self, bytes: &[u8]) -> (Word, usize)
+        ensures within { result.1 ≤ length bytes.now }
+        ensures word { GoesOnTo self (take result.1 bytes.now) result.0 }
+        ensures stops { result.1 < length bytes.now → is_blank (slice_index bytes.now result.1) ≡ true }
+    {
+        let (mut word, mut count) = self.with_number(bytes);
         'bytes: while count < bytes.len() && !is_blank_byte(bytes[count]) {
-            let (longer, digits) = word.after(bytes[count]).with_digits(&bytes[count + 1..]);
-            word = longer;
-            count += 1 + digits;
+            word = word.after(bytes[count]);
+            count += 1;
         }
         (word, count)
     }

@@ -106,6 +106,8 @@ impl<A: Allocator + Copy> Reader<A> {
     }
 
     /// Ends the clause, unless memory runs out: then nothing changes.
+    // Most tokens end no clause, and are read in registers.
+    #[inline(never)]
     fn end_clause(&mut self) -> Result<(), AllocError>
         ensures ok { OnOk result (self.new ≡ record self.old { clauses = self.old.clauses ++ self.old.begun ∷ []; begun = []; count = next self.old.count }) }
         ensures err { OnErr result (self.new ≡ self.old) }
@@ -131,6 +133,7 @@ impl<A: Allocator + Copy> Reader<A> {
     }
 
     /// Reads a token, unless memory runs out: then nothing changes.
+    #[inline(always)]
     pub fn token(&mut self, line: u64, meaning: Meaning) -> Result<(), AllocError>
         ensures ok { OnOk result (self.new ≡ after_token self.old line meaning) }
         ensures err { OnErr result (self.new ≡ self.old) }

@@ -162,7 +162,7 @@ impl Word {
     pub fn is_none(self) -> bool
         ensures { result ≡ is_none self }
     {
-        !self.minus && self.digits.is_empty()
+        self.digits.is_empty() && !self.minus
     }
 
     /// With one byte more.
@@ -238,8 +238,6 @@ impl Word {
         ensures { result ≡ word_says self }
     {
         match self.digits {
-            Digits::Empty | Digits::NoNumber => Meaning::Wrong,
-            Digits::Large => Meaning::TooLarge,
             Digits::Number(number) => {
                 if number > 0 {
                     in_range(!self.minus, number)
@@ -249,6 +247,8 @@ impl Word {
                     Meaning::End
                 }
             }
+            Digits::Large => Meaning::TooLarge,
+            _ => Meaning::Wrong,
         }
     }
 }

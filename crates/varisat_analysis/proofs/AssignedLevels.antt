@@ -1,5 +1,5 @@
 -- Literals that are assigned have levels for which there are flags.
-use Rattle.std.proofs.Common.{◌≡◌, ℕ, zero, suc, ◌*◌, ◌<◌, ◌≤◌, Bool, false, List, [], ◌∷◌, length, replicate, get_or, inl, inr, ⊎_elim, refl, sym, ap, ◌∙◌, subst, arith}
+use Rattle.std.proofs.Common.{◌≡◌, ℕ, ◌*◌, ◌<◌, ◌≤◌, Bool, false, List, [], ◌∷◌, length, replicate, get_or, inl, inr, ⊎_elim, refl, sym, ap, ◌∙◌, subst, arith}
 use Rattle.std.proofs.lemmas.Bool.{cases_lt}
 use Rattle.std.proofs.lemmas.List.{length-replicate}
 use Rattle.varisat_theory.specs.Membership.{◌∈◌}
@@ -11,10 +11,10 @@ use Rattle.varisat_prop.specs.declared.prop.graph.Reason.{Reason}
 use Rattle.varisat_prop.specs.declared.prop.graph.Reason.TheVariants as reason
 use Rattle.varisat_prop.specs.declared.prop.graph.Conflict.{Conflict}
 use Rattle.varisat_prop.specs.declared.prop.graph.ImplNode.{ImplNode}
-use Rattle.varisat_prop.specs.View.{View, clause_at, literal_at, decision_at, node_at, level_of, StandsBefore, Implies, IsReason, WellFormed}
+use Rattle.varisat_prop.specs.View.{View, clause_at, literal_at, node_at, level_of, StandsBefore, Implies, IsReason, WellFormed}
 use Rattle.varisat_prop.specs.Changes.{named_in, IsConflicting}
 use Rattle.varisat_prop.proofs.LiteralValues.{made-inside, variable-opposite}
-use Rattle.varisat_prop.proofs.TrailValues.{trail-short, trail-true}
+use Rattle.varisat_prop.proofs.TrailValues.{trail-short, trail-true, decisions-few}
 use Rattle.varisat_analysis.specs.Learned.{names_of, IsInvolved, IsOfConflict, IsReasonOf, AreInvolved}
 use Rattle.varisat_analysis.specs.Bumps.{literals_among}
 use Rattle.varisat_analysis.specs.Assessments.{CanCount, IsAssigned}
@@ -31,25 +31,12 @@ count-part nodes lits part old new c e h = record {
 }
 
 module _ (s : View) (w : WellFormed s) where
-  behind : (j : ℕ) → j < length s.decisions → j ≤ decision_at s j
-  behind zero h = omega arith
-  behind (suc j) h = let a = behind j (omega (arith, h)) in let b = w.rising j (suc j) (omega arith) h in omega (arith, a, b)
-
-  -- there are no more decisions than literals
-  few : (n : ℕ) → n ≡ length s.decisions → n ≤ length s.trail
-  few zero e = omega arith
-  few (suc n) e =
-      let h : n < length s.decisions = omega (arith, e) in
-      let a = behind n h in
-      let b = (w.decided n h).0 in
-      omega (arith, a, b)
-
   level-small : (l : Literal) → l ∈ s.trail → level_of s l ≤ length s.values
   level-small l h =
       let (k, i, e) = place_in l s.trail 0 h in
       let a = w.levels_to k i in
       let b = ap (level_of s) e in
-      let c = few (length s.decisions) refl in
+      let c = decisions-few s w in
       let d = trail-short s w in
       omega (arith, a, b, c, d)
 

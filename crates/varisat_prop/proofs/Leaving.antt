@@ -1,5 +1,6 @@
 -- What is left where variables leave, and its places.
-use Rattle.std.proofs.Common.{◌≡◌, ℕ, zero, suc, Bool, true, false, not, List, [], ◌∷◌, length, get_or, set, take, refl, sym, ap, ◌∙◌}
+use Rattle.std.proofs.Common.{◌≡◌, ℕ, zero, suc, ◌≤◌, Bool, true, false, not, List, [], ◌∷◌, length, get_or, set, take, refl, sym, ap, ◌∙◌, arith}
+use Rattle.std.proofs.lemmas.List.Filters.{length-filter_both}
 use Rattle.std.specs.Prelude.{if◌then◌else◌}
 use Rattle.varisat_theory.specs.Membership.{◌∈◌}
 use Rattle.varisat_theory.specs.Literals.{Literal, variable_of}
@@ -27,6 +28,12 @@ staying-was gone ls l h = let (i, e) = ∈-filter (λ m. not (leaves gone (varia
 
 pub was-staying : (gone : List Bool) (ls : List Literal) (l : Literal) → l ∈ ls → leaves gone (variable_of l) ≡ false → l ∈ staying gone ls
 was-staying gone ls l h e = filter-∈ (λ m. not (leaves gone (variable_of m))) ls l h (ap not e)
+
+pub staying-shorter : (gone : List Bool) (ls : List Literal) → length (staying gone ls) ≤ length ls
+staying-shorter gone ls =
+    let stays : Literal → Bool = λ m. not (leaves gone (variable_of m)) in
+    let e = length-filter_both stays (λ m. not (stays m)) (λ m. refl) ls in
+    omega (arith, e)
 
 -- 2. What there is for each variable.
 pub cleared-length : {X : Type 0} (gone : List Bool) (x : X) (ys : List X) → length (cleared gone x ys) ≡ length ys

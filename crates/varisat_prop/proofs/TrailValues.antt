@@ -1,11 +1,11 @@
 -- The literals of the trail, their values and their variables.
-use Rattle.std.proofs.Common.{◌≡◌, ℕ, zero, suc, ◌<◌, ◌≤◌, List, [], ◌∷◌, length, get_or, map, inl, inr, refl, sym, ap, ◌∙◌, subst, arith}
+use Rattle.std.proofs.Common.{◌≡◌, ℕ, zero, suc, ◌<◌, ◌≤◌, ◌-◌, ◌^◌, List, [], ◌∷◌, length, get_or, map, inl, inr, refl, sym, ap, ◌∙◌, subst, arith}
 use Rattle.std.proofs.lemmas.List.{length-map}
 use Rattle.varisat_theory.specs.Membership.{◌∈◌, IsDistinct}
 use Rattle.varisat_theory.specs.Literals.{Literal, variable_of}
 use Rattle.varisat_theory.proofs.Places.{∈-get_or, place_in}
 use Rattle.varisat_prop.specs.declared.prop.graph.Reason.TheVariants as reason
-use Rattle.varisat_prop.specs.View.{View, IsTrueIn, literal_at, node_of, node_at, WellFormed}
+use Rattle.varisat_prop.specs.View.{View, IsTrueIn, literal_at, decision_at, node_of, node_at, WellFormed}
 use Rattle.varisat_prop.proofs.LiteralValues.{made-inside}
 use Rattle.varisat_prop.proofs.DistinctPlaces.{distinct-by-places, distinct-below}
 
@@ -50,3 +50,28 @@ trail-short s w =
     from-map [] x h = absurd h
     from-map (y ∷ xs) x (inl e) = (y, inl refl, sym e)
     from-map (y ∷ xs) x (inr h) = let (l, i, e) = from-map xs x h in (l, inr i, e)
+
+module _ (s : View) (w : WellFormed s) where
+  behind : (j : ℕ) → j < length s.decisions → j ≤ decision_at s j
+  behind zero h = omega arith
+  behind (suc j) h = let a = behind j (omega (arith, h)) in let b = w.rising j (suc j) (omega arith) h in omega (arith, a, b)
+
+  few : (n : ℕ) → n ≡ length s.decisions → n ≤ length s.trail
+  few zero e = omega arith
+  few (suc n) e =
+      let h : n < length s.decisions = omega (arith, e) in
+      let a = behind n h in
+      let b = (w.decided n h).0 in
+      omega (arith, a, b)
+
+  -- there are no more decisions than literals
+  pub decisions-few : length s.decisions ≤ length s.trail
+  decisions-few = few (length s.decisions) refl
+
+  -- a node has room for one level more, and for one more depth
+  pub fits-node : (length s.decisions < 2 ^ 32 - 1) × (length s.trail < 2 ^ 32 - 1)
+  fits-node =
+      let a = decisions-few in
+      let b = trail-short s w in
+      let c = w.small in
+      (omega (arith, a, b, c), omega (arith, b, c))

@@ -16,7 +16,7 @@ staying gone ls = filter (λ l. not (leaves gone (variable_of l))) ls
 
 -- the node of a variable that was fixed, once its literal was taken off the trail
 abbrev pub removed_unit : ImplNode → ImplNode
-removed_unit n = record n { reason = reason.Unit; depth = 2 ^ 64 - 1 }
+removed_unit n = record n { reason = reason.Unit; depth = 2 ^ 32 - 1 }
 
 -- what there is for each variable, with x for those that leave
 abbrev pub cleared : {X : Type 0} → List Bool → X → List X → List X

@@ -1,5 +1,5 @@
 -- The contexts of `learn`.
-use Rattle.std.proofs.Common.{◌≡◌, ℕ, ◌*◌, ◌<◌, ◌≤◌, Bool, false, replicate, Some, List, [], ◌∷◌, ◌++◌, length, length-set, ◌⊎◌, inl, inr, ⊎_elim, refl, sym, ap, ◌∙◌, subst, arith}
+use Rattle.std.proofs.Common.{◌≡◌, ℕ, ◌*◌, ◌-◌, ◌^◌, ◌<◌, ◌≤◌, Bool, false, replicate, Some, List, [], ◌∷◌, ◌++◌, length, length-set, ◌⊎◌, inl, inr, ⊎_elim, refl, sym, ap, ◌∙◌, subst, arith}
 use Rattle.std.proofs.lemmas.Bool.{cases_lt}
 use Rattle.varisat_clause.specs.Databases.{Tracks}
 use Rattle.varisat_clause.proofs.StoreSound.{sound-is}
@@ -12,7 +12,7 @@ use Rattle.varisat_prop.specs.declared.prop.graph.Reason.{Reason}
 use Rattle.varisat_prop.specs.declared.prop.graph.Reason.TheVariants as reason
 use Rattle.varisat_prop.specs.declared.prop.graph.Conflict.{Conflict}
 use Rattle.varisat_prop.proofs.LiteralValues.{made-inside, variable-opposite}
-use Rattle.varisat_prop.proofs.TrailValues.{trail-true}
+use Rattle.varisat_prop.proofs.TrailValues.{trail-true, fits-node}
 use Rattle.varisat_prop.proofs.LongVisited.{listed}
 use Rattle.varisat_prop.specs.View.{View, kept, WellFormed, LevelsSettled}
 use Rattle.varisat_prop.specs.Watches.{Watches, IsPropagated}
@@ -542,6 +542,10 @@ module _ {A : Type 0} {x0 x1 x2 x3 : Context A} {i : Conflict} {level : ℕ} {l 
   pub learning-node : variable_of l < length (view x3).nodes
   learning-node = subst (λ (s : View). variable_of l < length s.nodes) (sym stored-view)
       (learned-node (view x0) (view x2) i level l others b.begun.ready.well b.begun.ready.settled learned-is (cut-is b))
+
+  pub learning-fits : (length x3.trail.decisions < 2 ^ 32 - 1) × (length x3.trail.literals < 2 ^ 32 - 1)
+  learning-fits = subst (λ (s : View). (length s.decisions < 2 ^ 32 - 1) × (length s.trail < 2 ^ 32 - 1)) (sym stored-view)
+      (fits-node (view x2) (backtracked-well b))
 
   -- the learned clause was false
   learned-decidable : AreDecidable (view x0) x0.vsids (l ∷ others)

@@ -1,5 +1,5 @@
 //! The choice of a literal to decide.
-ghost use Rattle.std.specs.Prelude.{◌≡◌, ℕ, None, ◌<◌, ◌≤◌, true, false, length, slice_index_or, OnOk, IfOk};
+ghost use Rattle.std.specs.Prelude.{◌≡◌, ℕ, None, ◌<◌, ◌≤◌, ◌-◌, ◌^◌, true, false, length, slice_index_or, OnOk, IfOk};
 ghost use Rattle.varisat_prop.specs.View.{WellFormed, kept};
 ghost use Rattle.varisat_prop.specs.Changes.{IsAssignable, decided_on};
 ghost use Rattle.varisat_vsids.specs.Activities.{with_available};
@@ -35,7 +35,9 @@ fn take_unassigned<A: Allocator + Copy>(
 
 /// Begins a level with the literal, which has no value. The queue stays as it was: the literal is still to be propagated.
 pub fn decide_lit<A: Allocator + Copy>(ctx: &mut Context<A>, lit: Lit) -> Result<(), AllocError>
-    requires { IsAssignable ctx.old.assignment.current ctx.old.impl_graph.nodes.items lit }
+    requires assignable { IsAssignable ctx.old.assignment.current ctx.old.impl_graph.nodes.items lit }
+    requires level { length ctx.old.trail.decisions < 2 ^ 32 - 1 }
+    requires depth { length ctx.old.trail.literals < 2 ^ 32 - 1 }
     ensures decided { OnOk result (view ctx.new ≡ decided_on (view ctx.old) lit) }
     ensures last { OnOk result (ctx.new.assignment.last ≡ ctx.old.assignment.last) }
     ensures kept { ChangesTrail ctx.old ctx.new }

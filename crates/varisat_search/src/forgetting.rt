@@ -30,6 +30,7 @@ use varisat_vsids::Vsids;
 fn renumber<A: Allocator + Copy>(impl_graph: &mut ImplGraph<A>, lits: &[Lit])
     requires known { (l : Literal) → l ∈ lits.now → variable_of l < length impl_graph.old.nodes.items }
     requires distinct { IsDistinct (map variable_of lits.now) }
+    requires short { length lits.now < 2 ^ 32 - 1 }
     ensures { AreRenumbered lits.now impl_graph.old.nodes.items impl_graph.new.nodes.items }
 {
     for place in 0..lits.len() {

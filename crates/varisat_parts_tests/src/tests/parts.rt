@@ -231,6 +231,7 @@ fn enqueue<A: Allocator + Copy>(
 ) -> Result<bool, AllocError>
     requires values { assignment.old ≡ no_values }
     requires nodes { graph.old.nodes.items ≡ [] }
+    requires trail { trail.old ≡ empty_trail }
 {
     assignment.set_var_count(2)?;
     graph.set_var_count(2)?;

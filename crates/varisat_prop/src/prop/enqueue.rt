@@ -1,5 +1,5 @@
 //! Making literals true.
-ghost use Rattle.std.specs.Prelude.{◌≡◌, OnOk};
+ghost use Rattle.std.specs.Prelude.{◌≡◌, ◌<◌, ◌-◌, ◌^◌, length, OnOk};
 ghost use Rattle.varisat_prop.specs.Changes.{IsAssignable, Enqueues};
 
 use crate::prop::assignment::Assignment;
@@ -16,7 +16,10 @@ pub fn enqueue_assignment<A: Allocator + Copy>(
     lit: Lit,
     reason: Reason,
 ) -> Result<(), AllocError>
-    requires { IsAssignable assignment.old.current impl_graph.old.nodes.items lit }
+    requires assignable { IsAssignable assignment.old.current impl_graph.old.nodes.items lit }
+    // The literal's level and depth fit its node.
+    requires level { length trail.old.decisions < 2 ^ 32 }
+    requires depth { length trail.old.literals < 2 ^ 32 - 1 }
     ensures view { OnOk result (Enqueues assignment.old assignment.new trail.old trail.new impl_graph.old impl_graph.new lit reason) }
     ensures last { OnOk result (assignment.new.last ≡ assignment.old.last) }
 {
@@ -24,8 +27,8 @@ pub fn enqueue_assignment<A: Allocator + Copy>(
     assignment.assign_lit(lit);
     impl_graph.nodes[lit.index()] = ImplNode {
         reason,
-        level: trail.current_level(),
-        depth: trail.trail().len(),
+        level: trail.current_level() as u32,
+        depth: trail.trail().len() as u32,
     };
     Ok(())
 }

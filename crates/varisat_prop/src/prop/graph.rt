@@ -34,9 +34,9 @@ pub enum Conflict {
 #[derive(Clone, Copy, Debug)]
 pub struct ImplNode {
     pub reason: Reason,
-    pub level: usize,
+    pub level: u32,
     /// How long the trail was with it. The largest number stands for a unit that was taken off the trail.
-    pub depth: usize,
+    pub depth: u32,
 }
 
 /// A node for each variable. It says nothing of variables that have no value.
@@ -121,7 +121,7 @@ impl<A: Allocator + Copy> ImplGraph<A> {
         requires { var < length self.now.nodes.items }
         ensures { result ≡ (slice_index_or self.now.nodes.items var no_node).level }
     {
-        self.nodes[var.index()].level
+        self.nodes[var.index()].level as usize
     }
 
     /// How long the trail was with the variable.
@@ -129,7 +129,7 @@ impl<A: Allocator + Copy> ImplGraph<A> {
         requires { var < length self.now.nodes.items }
         ensures { result ≡ (slice_index_or self.now.nodes.items var no_node).depth }
     {
-        self.nodes[var.index()].depth
+        self.nodes[var.index()].depth as usize
     }
 
     /// Gives the variable another reason.
@@ -142,10 +142,11 @@ impl<A: Allocator + Copy> ImplGraph<A> {
 
     /// Gives the variable another depth.
     pub fn update_depth(&mut self, var: Var, depth: usize)
-        requires { var < length self.old.nodes.items }
+        requires known { var < length self.old.nodes.items }
+        requires small { depth < 2 ^ 32 }
         ensures { self.new.nodes.items ≡ slice_set self.old.nodes.items var (record (slice_index_or self.old.nodes.items var no_node) { depth = depth }) }
     {
-        self.nodes[var.index()].depth = depth;
+        self.nodes[var.index()].depth = depth as u32;
     }
 
     /// Notes that the variable is a unit that was taken off the trail.
@@ -155,14 +156,14 @@ impl<A: Allocator + Copy> ImplGraph<A> {
     {
         let node = &mut self.nodes[var.index()];
         node.reason = Reason::Unit;
-        node.depth = usize::MAX;
+        node.depth = u32::MAX;
     }
 
     /// Whether the variable is a unit that was taken off the trail.
     pub fn is_removed_unit(&self, var: Var) -> bool
         requires { var < length self.now.nodes.items }
-        ensures { IsTrue result ↔ ((slice_index_or self.now.nodes.items var no_node).depth ≡ 2 ^ 64 - 1) }
+        ensures { IsTrue result ↔ ((slice_index_or self.now.nodes.items var no_node).depth ≡ 2 ^ 32 - 1) }
     {
-        self.depth(var) == usize::MAX
+        self.nodes[var.index()].depth == u32::MAX
     }
 }

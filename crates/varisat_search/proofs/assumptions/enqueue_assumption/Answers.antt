@@ -1,5 +1,6 @@
 use Rattle.std.proofs.Common.{◌≡◌, Some, length, refl, sym, ap, ◌∙◌, subst, arith}
 use Rattle.varisat_prop.specs.Changes.{decided_on}
+use Rattle.varisat_prop.proofs.TrailValues.{fits-node}
 use Rattle.varisat_search.specs.declared.context.Context.{Context}
 use Rattle.varisat_search.specs.AssumptionParts.{AssumptionParts, HasFailed, TakesOutTrue, IsNextAssumption}
 use Rattle.varisat_search.specs.Contexts.{view, IsReady}
@@ -98,7 +99,8 @@ decide_lit-requires g c =
     (λ h. let b = c.if-lit_is_false.ensures.1 h in cc) in
     let i = free.0 in
     let m = c.requires.ready.well.nodes_are in
-    (i, omega (arith, i, m), free.1)
+    let fits = fits-node (view x) c.requires.ready.well in
+    record { assignable = (i, omega (arith, i, m), free.1); level = fits.0; depth = fits.1 }
 
 free : (g : Over) (c : In_ok-decide_lit g) → IsFree (view c.args.ctx.now) c.in-Some.lit
 free g c =

@@ -18,7 +18,7 @@ use Rattle.varisat_analysis.specs.Assessments.{glue_of, assessed}
 use Rattle.varisat_search.specs.Conflicts.{IsStoredAsReason}
 use Rattle.varisat_vsids.specs.Activities.{Activities}
 use Rattle.varisat_analysis.proofs.BumpedClauses.{tier-redundant}
-use Rattle.varisat_search.proofs.LearnContext.{analysis-ready, analysis-met, bumps-learned, cut-activities, Analyzed, analyzed-bumped, analyzed-well, analyzed-tracks, analyzed-clear, learned-assigned, analyzed-named, analyzed-assigned, with_store, analyzed-noted, noted-further, noted-saves, noted-bumps, analyzed-flags, Backtracked, learned-length, learned-count, saves-some, learned-listed, learned-paired, learned-tracks, Learning, learning-free, learning-node, learning-further, learning-activities, learning-fixed, refuted-undecided, refuted-further}
+use Rattle.varisat_search.proofs.LearnContext.{analysis-ready, analysis-met, bumps-learned, cut-activities, Analyzed, analyzed-bumped, analyzed-well, analyzed-tracks, analyzed-clear, learned-assigned, analyzed-named, analyzed-assigned, with_store, analyzed-noted, noted-further, noted-saves, noted-bumps, analyzed-flags, Backtracked, learned-length, learned-count, saves-some, learned-listed, learned-paired, learned-tracks, Learning, learning-fits, learning-free, learning-node, learning-further, learning-activities, learning-fixed, refuted-undecided, refuted-further}
 use Rattle.varisat_search.proofs.cdcl.learn.Given.{Over}
 use Rattle.varisat_search.proofs.cdcl.learn.Goals.{After-backtrack, In_ok-reason, In_ok-enqueue_assignment}
 use Rattle.varisat_search.proofs.cdcl.learn.Goals as goal
@@ -191,7 +191,8 @@ enqueue_assignment-requires g c =
     let here = goal.at.enqueue_assignment-requires g c in
     let d = learning g here.In_ok-reason (undone g here.After-backtrack) in
     let f = learning-free d in
-    (f.0, learning-node d, f.1)
+    let fits = learning-fits d in
+    record { assignable = (f.0, learning-node d, f.1); level = omega (arith, fits.0); depth = fits.1 }
 
 pub returns-clause-further : goal.returns-clause-further
 returns-clause-further g c =

@@ -1,6 +1,7 @@
 use Rattle.std.proofs.Common.{◌≡◌, ◌<◌, Some, false, length, get_or, ⊎_elim, refl, sym, ap, ◌∙◌, subst, arith}
 use Rattle.varisat_theory.specs.Literals.{variable_of}
 use Rattle.varisat_literals.specs.Numbers.{polarity_of}
+use Rattle.varisat_prop.proofs.TrailValues.{fits-node}
 use Rattle.varisat_vsids.specs.Activities.{Activities}
 use Rattle.varisat_search.specs.declared.context.Context.{Context}
 use Rattle.varisat_search.specs.Contexts.{view}
@@ -24,6 +25,12 @@ inside g c = let k = (taken g c).found.known in let n = c.requires.decidable.ent
 
 stays : (g : Over) (c : In_ok-decide_lit g) → c.decide_lit.new.ctx.vsids ≡ c.take_unassigned.new.vsids
 stays g c = ap (λ (x : Context g.row.A.Denot). x.vsids) c.decide_lit.ensures.kept
+
+pub decide_lit-requires-clause-level : goal.decide_lit-requires-clause-level
+decide_lit-requires-clause-level g c = (fits-node (view c.args.ctx.now) c.requires.well).0
+
+pub decide_lit-requires-clause-depth : goal.decide_lit-requires-clause-depth
+decide_lit-requires-clause-depth g c = (fits-node (view c.args.ctx.now) c.requires.well).1
 
 pub returns-clause-decided : goal.returns-clause-decided
 returns-clause-decided g c =

@@ -1,13 +1,14 @@
-use Rattle.std.proofs.Common.{◌≡◌, ◌<◌, ◌↔◌, false, length, map, refl, sym, ap, ◌∙◌, subst}
+use Rattle.std.proofs.Common.{◌≡◌, ◌<◌, ◌↔◌, false, List, length, map, refl, sym, ap, ◌∙◌, subst, arith}
 use Rattle.varisat_theory.specs.Membership.{◌∈◌, IsDistinct}
-use Rattle.varisat_theory.specs.Literals.{variable_of}
+use Rattle.varisat_theory.specs.Literals.{Literal, variable_of}
 use Rattle.varisat_theory.specs.Searches.{Search, Fits}
 use Rattle.varisat_theory.proofs.Places.{place_in}
 use Rattle.varisat_analysis.proofs.WellFormedViews.{inside-at}
 use Rattle.varisat_prop.specs.Leaving.{leaves}
 use Rattle.varisat_prop.specs.Parts.{TrailParts}
 use Rattle.varisat_prop.specs.View.{View}
-use Rattle.varisat_prop.proofs.Leaving.{staying-was}
+use Rattle.varisat_prop.proofs.Leaving.{staying-was, staying-shorter}
+use Rattle.varisat_prop.proofs.TrailValues.{fits-node}
 use Rattle.varisat_vsids.specs.Activities.{Activities}
 use Rattle.varisat_search.specs.declared.context.Context.{Context}
 use Rattle.varisat_search.specs.Contexts.{view}
@@ -48,6 +49,14 @@ renumber-requires-clause-distinct g c =
     let x = c.args.ctx.now in
     subst (λ ls. IsDistinct (map variable_of ls)) (sym (c.trail-2.ensures ∙ ap (λ (t : TrailParts). t.literals) c.remove_units.ensures))
     (staying-distinct (view x) c.args.gone.now c.requires.ready.well)
+
+pub renumber-requires-clause-short : goal.renumber-requires-clause-short
+renumber-requires-clause-short g c =
+    let x = c.args.ctx.now in
+    let n = ap (λ (ls : List Literal). length ls) (c.trail-2.ensures ∙ ap (λ (t : TrailParts). t.literals) c.remove_units.ensures) in
+    let m = staying-shorter c.args.gone.now x.trail.literals in
+    let fits = fits-node (view x) c.requires.ready.well in
+    omega (arith, n, m, fits.1)
 
 pub returns-clause-dropped : goal.returns-clause-dropped
 returns-clause-dropped g c = dropped g (goal.at.returns-clause-dropped g c).After-forget_activities

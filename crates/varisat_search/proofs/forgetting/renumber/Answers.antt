@@ -14,7 +14,7 @@ update_depth-requires g c =
     let inside : k < length lits = omega (arith, c.loop-place-test.true) in
     let i = c.requires.known c.index-lits-place.result (item-∈ lits k c.index-lits-place.result inside c.index-lits-place.is) in
     let n = c.loop-place.invariant.count in
-    omega (arith, i, n, c.var.ensures)
+    record { known = omega (arith, i, n, c.var.ensures); small = omega (arith, inside, c.requires.short) }
 
 pub loop-place-preserved : goal.loop-place-preserved
 loop-place-preserved g c =

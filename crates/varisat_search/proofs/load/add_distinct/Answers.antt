@@ -13,6 +13,7 @@ use Rattle.varisat_prop.specs.View.{view_of}
 use Rattle.varisat_prop.specs.Watches.{IsPropagated}
 use Rattle.varisat_prop.specs.Visits.{WatchesClause}
 use Rattle.varisat_prop.proofs.LongVisited.{listed}
+use Rattle.varisat_prop.proofs.TrailValues.{fits-node}
 use Rattle.varisat_prop.proofs.WatchKept.{propagated-enqueued}
 use Rattle.varisat_prop.proofs.LiteralValues.{made-none}
 use Rattle.varisat_search.specs.Contexts.{view}
@@ -32,7 +33,12 @@ enqueue_assignment-requires g c =
     let i : l ∈ x.tmp_data.lits.items = subst (λ ls. l ∈ ls) (sym e) (inl refl) in
     let a = c.requires.in_range l i in
     let n = c.requires.well.nodes_are in
-    (a, omega (arith, a, n), made-none x.assignment.current l (c.requires.untrue l i) (λ t. let b = c.if-lit_is_false.ensures.1 t in cc))
+    let fits = fits-node (view x) c.requires.well in
+    record {
+      assignable = (a, omega (arith, a, n), made-none x.assignment.current l (c.requires.untrue l i) (λ t. let b = c.if-lit_is_false.ensures.1 t in cc));
+      level = omega (arith, fits.0);
+      depth = fits.1;
+    }
 
 pub returns-clause-added : goal.returns-clause-added
 returns-clause-added g c =

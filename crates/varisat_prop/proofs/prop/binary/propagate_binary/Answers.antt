@@ -1,6 +1,7 @@
-use Rattle.std.proofs.Common.{refl, ap}
+use Rattle.std.proofs.Common.{refl, ap, arith}
 use Rattle.varisat_prop.specs.View.{View, view_of}
 use Rattle.varisat_prop.specs.QueueSteps.{parts_of}
+use Rattle.varisat_prop.proofs.TrailValues.{fits-node}
 use Rattle.varisat_prop.proofs.PropagateSteps.{keeps-refl, keeps-trans}
 use Rattle.varisat_prop.proofs.BinaryPropagated.{implying-start, within-implied, implying-true, implying-conflict, assignable-implied, implying-new, implying-end}
 use Rattle.varisat_prop.proofs.prop.binary.propagate_binary.Goals as goal
@@ -20,8 +21,14 @@ lit_is_true-requires g c = within-implied c.loop-entry.invariant.implying c.impl
 
 pub enqueue_assignment-requires : goal.enqueue_assignment-requires
 enqueue_assignment-requires g c =
-    assignable-implied c.loop-entry.invariant.implying c.implied-entry-items.ensures c.loop-entry-test.true c.entry-item.is
-    (λ h. let b = c.if-lit_is_true.ensures.1 h in cc) (λ h. let b = c.if-lit_is_false.ensures.1 h in cc)
+    let s = view_of c.args.alloc.now c.args.binary.now c.loop-entry.assignment c.loop-entry.trail c.loop-entry.graph in
+    let fits = fits-node s c.loop-entry.invariant.implying.propagates.well in
+    record {
+      assignable = assignable-implied c.loop-entry.invariant.implying c.implied-entry-items.ensures c.loop-entry-test.true c.entry-item.is
+          (λ h. let b = c.if-lit_is_true.ensures.1 h in cc) (λ h. let b = c.if-lit_is_false.ensures.1 h in cc);
+      level = omega (arith, fits.0);
+      depth = fits.1;
+    }
 
 pub returns-then-lit_is_false-clause-ends : goal.returns-then-lit_is_false-clause-ends
 returns-then-lit_is_false-clause-ends g c = implying-conflict c.loop-entry.invariant.implying c.implied-entry-items.ensures c.loop-entry-test.true

@@ -1,7 +1,8 @@
-use Rattle.std.proofs.Common.{ap}
+use Rattle.std.proofs.Common.{ap, arith}
 use Rattle.varisat_clause.proofs.StoreSound.{is-sound}
 use Rattle.varisat_prop.specs.View.{View}
-use Rattle.varisat_prop.specs.QueueSteps.{parts_of}
+use Rattle.varisat_prop.specs.QueueSteps.{parts_of, view_of_parts}
+use Rattle.varisat_prop.proofs.TrailValues.{fits-node}
 use Rattle.varisat_prop.proofs.LongVisited.{watch-long, watch-range, watch-false, code-stale, code-true, code-false, other-listed, code-other, code-assignable, code-implied}
 use Rattle.varisat_prop.proofs.prop.long.visit_watch.Goals as goal
 
@@ -24,7 +25,8 @@ add_watch-requires g c =
 pub enqueue_assignment-requires : goal.enqueue_assignment-requires
 enqueue_assignment-requires g c =
     let p = parts_of c.args.alloc.now c.args.binary.now c.args.assignment.now c.args.trail.now c.args.graph.now in
-    code-assignable p c.requires c.not.ensures c.in-Implied.ensures
+    let fits = fits-node (view_of_parts p) c.requires.well in
+    record { assignable = code-assignable p c.requires c.not.ensures c.in-Implied.ensures; level = omega (arith, fits.0); depth = fits.1 }
 
 pub returns-in-Stale : goal.returns-in-Stale
 returns-in-Stale g c =

@@ -10,7 +10,7 @@ use Rattle.varisat_clause.specs.Headers.{Header}
 use Rattle.varisat_clause.specs.Stored.{StoredClause, literals_of, literals_at, stored_at, header_at, with_stored, with_header, IsPlace, AreRising}
 use Rattle.varisat_clause.specs.Collected.{live_of}
 use Rattle.varisat_clause.proofs.StoredClauses.{stored-here, stored-later, clause-here, clause-later}
-use Rattle.varisat_prop.specs.Watches.{Watches, watches_of, literal_in, HasWatch, IsWatching}
+use Rattle.varisat_prop.specs.Watches.{Watches, watches_of, literal_in, IsWatchedBy, HasWatch, IsWatching}
 use Rattle.varisat_analysis.specs.HeaderChanges.{kept_clause, PlacedClause, placed_clause, SameButHeaders}
 
 pub headers-refl : (ks : List StoredClause) → SameButHeaders ks ks
@@ -89,7 +89,12 @@ module _ (ks js : List StoredClause) (d : SameButHeaders ks js) where
 
   pub headers-watching : (W : Watches) → IsWatching W ks → IsWatching W js
   headers-watching W w = record {
-    known = λ x y h. let k = w.known x y h in (headers-place ks js y.cref d k.0, subst (λ c. y.blocking ∈ c) (sym (headers-at y.cref)) k.1);
+    known = λ x y h. let k = w.known x y h in (
+      headers-place ks js y.cref d k.0,
+      subst (λ c. y.blocking ∈ c) (sym (headers-at y.cref)) k.1,
+      subst (λ c. IsWatchedBy c (opposite x)) (sym (headers-at y.cref)) k.2,
+    );
+    once = w.once;
     watched = λ i j h b. subst (λ c. HasWatch (watches_of W (opposite (literal_in c j))) i) (sym (headers-at i))
         (w.watched i j (headers-place js ks i (sym d) h) b);
   }

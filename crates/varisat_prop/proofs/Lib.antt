@@ -25,4 +25,5 @@ pub mod WatchKept
 pub mod WatchLists
 pub mod WatchRebuilt
 pub mod WatchSettled
+pub mod WatchesOnce
 pub mod WellFormedChanges

@@ -15,11 +15,12 @@ use Rattle.varisat_prop.specs.declared.prop.long.Visit.TheVariants as visit
 use Rattle.varisat_prop.specs.declared.prop.graph.Conflict.TheVariants as conflict
 use Rattle.varisat_clause.specs.Stored.{IsPlace}
 use Rattle.varisat_clause.proofs.StoredClauses.{reordered-at, reordered-place, reordered-place-back}
-use Rattle.varisat_prop.specs.Watches.{Watches, watches_of, with_watches, literal_in, HasWatch, IsSatisfied, IsSettledTo, IsWatched}
+use Rattle.varisat_prop.specs.Watches.{Watches, watches_of, with_watches, literal_in, IsWatchedBy, IsKnownWatch, NameOnce, HasWatch, IsSatisfied, IsSettledTo, IsWatched}
 use Rattle.varisat_prop.specs.Visits.{IsVisited, IsVisit}
 use Rattle.varisat_prop.specs.QueueSteps.{SearchParts, view_of_parts, KeepsParts, IsNext, GoesOnWith, IsWatchOf, IsVisitedAs, with_lists}
 use Rattle.varisat_prop.specs.Changes.{IsConflicting}
 use Rattle.varisat_prop.proofs.PropagateQueue.{kept-all}
+use Rattle.varisat_prop.proofs.WatchesOnce.{once-dropped, once-apart, once-moved, once-gets}
 use Rattle.varisat_prop.proofs.WatchSettled.{IsSettledBut, settled-next, implied-longer, propagates-goes-on}
 
 pub record Listing (s t : View) (W : Watches) (q : ℕ) (l : Literal) (kept rest : List Watch) : Type 0 where
@@ -45,7 +46,7 @@ listing-start s W q l rest p w h a i = record {
 
 -- what a visit needs of its watch
 module _ (s t : View) (W : Watches) (q : ℕ) (l : Literal) (kept rest : List Watch) (w : Watch) (g : Listing s t W q l kept (w ∷ rest)) where
-  pub watch-known : IsPlace t.clauses w.cref × (w.blocking ∈ clause_at t w.cref)
+  pub watch-known : IsKnownWatch t.clauses l w
   watch-known = g.watched.watching.known l w
       (subst (λ ws. w ∈ ws) (sym (get_or-set_same W.lists l (kept ++ w ∷ rest) [] g.inside)) (∈-append_right w kept (w ∷ rest) (inl refl)))
 
@@ -55,10 +56,15 @@ module _ (s t : View) (W : Watches) (q : ℕ) (l : Literal) (kept rest : List Wa
   pub watch-true : IsTrueIn t l
   watch-true = subst (IsTrueIn t) g.head (g.propagates.well.is_true q g.within)
 
+  once-own : NameOnce (kept ++ w ∷ rest)
+  once-own = subst (λ ws. NameOnce ws) (get_or-set_same W.lists l (kept ++ w ∷ rest) [] g.inside) (g.watched.watching.once l)
+
   -- after the visit, with what is kept then
-  module _ (u : View) (V : Watches) (kept' : List Watch) (v : IsVisited t u W V w.cref)
+  module _ (u : View) (V : Watches) (kept' : List Watch) (v : IsVisited t u W V l w.cref)
       (old : (x : Watch) → x ∈ kept → x ∈ kept')
-      (new : (x : Watch) → x ∈ kept' → (x ∈ kept) ⊎ ((x.cref ≡ w.cref) × (x.blocking ∈ clause_at u w.cref)))
+      (new : (x : Watch) → x ∈ kept' →
+      (x ∈ kept) ⊎ ((x.cref ≡ w.cref) × (x.blocking ∈ clause_at u w.cref) × IsWatchedBy (clause_at u w.cref) (opposite l)))
+      (one : NameOnce (kept' ++ rest))
       (own : (j : ℕ) → j < 2 → (l ≡ opposite (literal_in (clause_at u w.cref) j) → ⊥) ⊎ HasWatch kept' w.cref) where
     abbrev i : ℕ
     i = w.cref
@@ -125,26 +131,70 @@ module _ (s t : View) (W : Watches) (q : ℕ) (l : Literal) (kept rest : List Wa
     same-in : (k : ℕ) (m : Literal) → m ∈ clause_at t k → m ∈ clause_at u k
     same-in k m n = (reordered-at t.clauses u.clauses k v.propagates.grows.clauses).1 m n
 
-    known-old : (x : Literal) (y : Watch) → y ∈ watches_of A x → IsPlace u.clauses y.cref × (y.blocking ∈ clause_at u y.cref)
-    known-old x y h = let (a, b) = g.watched.watching.known x y h in (place-on y.cref a, same-in y.cref y.blocking b)
+    -- a watch in another list is known as before, also one of the visited clause, and in this list so is one of another clause
+    known-old : (x : Literal) (y : Watch) → y ∈ watches_of A x → (x ≡ l → y.cref ≢ i) → IsKnownWatch u.clauses x y
+    known-old x y h n =
+        let (a, b, c) = g.watched.watching.known x y h in (
+          place-on y.cref a,
+          same-in y.cref y.blocking b,
+          ⊎_elim
+              (λ e. subst (λ k. IsWatchedBy (clause_at u k) (opposite x)) (sym e)
+              (v.other (opposite x) (λ z. n (sym (opposite_twice x) ∙ ap opposite z ∙ opposite_twice l) e)
+              (subst (λ k. IsWatchedBy (clause_at t k) (opposite x)) e c)))
+              (λ o. subst (λ d. IsWatchedBy d (opposite x)) (sym (v.elsewhere y.cref o)) c)
+              (equal_or_not y.cref i),
+        )
 
-    known-new : (y : Watch) → (y.cref ≡ i) × (y.blocking ∈ clause_at u i) → IsPlace u.clauses y.cref × (y.blocking ∈ clause_at u y.cref)
-    known-new y (e, h) = (subst (IsPlace u.clauses) (sym e) (place-on i watch-known.0), subst (λ k. y.blocking ∈ clause_at u k) (sym e) h)
+    known-new : (x : Literal) (y : Watch) → (y.cref ≡ i) × (y.blocking ∈ clause_at u i) × IsWatchedBy (clause_at u i) (opposite x) →
+        IsKnownWatch u.clauses x y
+    known-new x y (e, h, o) = (
+      subst (IsPlace u.clauses) (sym e) (place-on i watch-known.0),
+      subst (λ k. y.blocking ∈ clause_at u k) (sym e) h,
+      subst (λ k. IsWatchedBy (clause_at u k) (opposite x)) (sym e) o,
+    )
 
-    known-is : (x : Literal) (y : Watch) → y ∈ watches_of B x → IsPlace u.clauses y.cref × (y.blocking ∈ clause_at u y.cref)
+    in-list : (y : Watch) → y ∈ (kept ++ w ∷ rest) → y ∈ watches_of A l
+    in-list y h = subst (λ ws. y ∈ ws) (sym (get_or-set_same W.lists l (kept ++ w ∷ rest) [] g.inside)) h
+
+    known-own : (y : Watch) → y ∈ (kept' ++ rest) → IsKnownWatch u.clauses l y
+    known-own y h =
+        ⊎_elim
+        (λ z. ⊎_elim
+        (λ r. known-old l y (in-list y (∈-append_left y kept (w ∷ rest) r)) (λ e. once-apart kept rest w y once-own (inl r)))
+        (known-new l y)
+        (new y z))
+        (λ z. known-old l y (in-list y (∈-append_right y kept (w ∷ rest) (inr z))) (λ e. once-apart kept rest w y once-own (inr z)))
+        (∈-append_cases y kept' rest h)
+
+    known-is : (x : Literal) (y : Watch) → y ∈ watches_of B x → IsKnownWatch u.clauses x y
     known-is x y h =
         ⊎_elim
-        (λ e. ⊎_elim
-        (λ z. ⊎_elim
-        (λ r. known-old l y (subst (λ ws. y ∈ ws) (sym (get_or-set_same W.lists l (kept ++ w ∷ rest) [] g.inside)) (∈-append_left y kept (w ∷ rest) r)))
-        (known-new y)
-        (new y z))
-        (λ z. known-old l y (subst (λ ws. y ∈ ws) (sym (get_or-set_same W.lists l (kept ++ w ∷ rest) [] g.inside)) (∈-append_right y kept (w ∷ rest) (inr z))))
-        (∈-append_cases y kept' rest (subst (λ ws. y ∈ ws) own-list (subst (λ z. y ∈ watches_of B z) e h))))
+        (λ e. subst (λ z. IsKnownWatch u.clauses z y) (sym e)
+        (known-own y (subst (λ ws. y ∈ ws) own-list (subst (λ z. y ∈ watches_of B z) e h))))
         (λ n. ⊎_elim
-        (λ r. known-old x y (subst (λ ws. y ∈ ws) (sym (get_or-set_other W.lists l x (kept ++ w ∷ rest) [] n)) r))
-        (known-new y)
+        (λ r. known-old x y (subst (λ ws. y ∈ ws) (sym (get_or-set_other W.lists l x (kept ++ w ∷ rest) [] n)) r) (λ e. absurd (n e)))
+        (known-new x y)
         (v.adds.new x y (subst (λ ws. y ∈ ws) (other-list x n) h)))
+        (equal_or_not x l)
+
+    -- another list names each clause once, as before
+    once-other : (x : Literal) → x ≢ l → NameOnce (watches_of V x)
+    once-other x n =
+        let same = get_or-set_other W.lists l x (kept ++ w ∷ rest) [] n in
+        let was : NameOnce (watches_of W x) = subst (λ ws. NameOnce ws) same (g.watched.watching.once x) in
+        ⊎_elim
+        (λ e. subst (λ ws. NameOnce ws) (sym e) was)
+        (λ (z, o). once-gets (watches_of W x) (watches_of V x) i was
+        (λ y h e. o (subst (λ k. IsWatchedBy (clause_at t k) (opposite x)) e
+        (g.watched.watching.known x y (subst (λ ws. y ∈ ws) (sym same) h)).2))
+        (inr z))
+        (v.once x)
+
+    once-is : (x : Literal) → NameOnce (watches_of B x)
+    once-is x =
+        ⊎_elim
+        (λ e. subst (λ z. NameOnce (watches_of B z)) (sym e) (subst (λ ws. NameOnce ws) (sym own-list) one))
+        (λ n. subst (λ ws. NameOnce ws) (sym (other-list x n)) (once-other x n))
         (equal_or_not x l)
 
     pub head-on : literal_at u q ≡ l
@@ -160,6 +210,7 @@ module _ (s t : View) (W : Watches) (q : ℕ) (l : Literal) (kept rest : List Wa
       enabled = v.adds.enabled ∙ g.watched.enabled;
       watching = record {
         known = known-is;
+        once = once-is;
         watched = λ k j h b. ⊎_elim
             (λ e. subst (λ z. HasWatch (watches_of B (opposite (literal_in (clause_at u z) j))) z) (sym e) (has-visited j b))
             (λ n. subst (λ c. HasWatch (watches_of B (opposite (literal_in c j))) k) (sym (v.elsewhere k n))
@@ -197,26 +248,31 @@ module _ (s t : View) (W : Watches) (q : ℕ) (l : Literal) (kept rest : List Wa
     }
 
   -- the watch isn't kept
-  pub listing-dropped : (u : View) (V : Watches) → IsVisited t u W V w.cref → IsVisit u l w.cref visit.Dropped → Listing s u V q l kept rest
+  pub listing-dropped : (u : View) (V : Watches) → IsVisited t u W V l w.cref → IsVisit u l w.cref visit.Dropped → Listing s u V q l kept rest
   listing-dropped u V v d =
       let n : (j : ℕ) → j < 2 → l ≡ opposite (literal_in (clause_at u w.cref) j) →
       ⊥ = λ j b e. d j b (sym (opposite_twice (literal_in (clause_at u w.cref) j)) ∙ ap opposite (sym e)) in
-      listing-on u V kept v (λ x h. h) (λ x h. inl h) (λ j b. inl (n j b)) (λ j b e. absurd (n j b e))
+      listing-on u V kept v (λ x h. h) (λ x h. inl h) (once-dropped kept rest w once-own) (λ j b. inl (n j b)) (λ j b e. absurd (n j b e))
 
   -- the watch is kept, with another blocking literal
-  module _ (u : View) (V : Watches) (x : Watch) (v : IsVisited t u W V w.cref) (e : x.cref ≡ w.cref) (h : x.blocking ∈ clause_at u w.cref) where
+  module _ (u : View) (V : Watches) (x : Watch) (v : IsVisited t u W V l w.cref) (e : x.cref ≡ w.cref) (h : x.blocking ∈ clause_at u w.cref)
+      (o : IsWatchedBy (clause_at u w.cref) (opposite l)) where
     one-in : x ∈ (kept ++ x ∷ [])
     one-in = ∈-append_right x kept (x ∷ []) (inl refl)
 
-    new-is : (y : Watch) → y ∈ (kept ++ x ∷ []) → (y ∈ kept) ⊎ ((y.cref ≡ w.cref) × (y.blocking ∈ clause_at u w.cref))
-    new-is y m = ⊎_elim inl (λ k. ⊎_elim (λ z. inr (ap (λ o. o.cref) z ∙ e, subst (λ o. o ∈ clause_at u w.cref) (sym (ap (λ o. o.blocking) z)) h))
+    new-is : (y : Watch) → y ∈ (kept ++ x ∷ []) →
+        (y ∈ kept) ⊎ ((y.cref ≡ w.cref) × (y.blocking ∈ clause_at u w.cref) × IsWatchedBy (clause_at u w.cref) (opposite l))
+    new-is y m = ⊎_elim inl
+        (λ k. ⊎_elim (λ z. inr (ap (λ r. r.cref) z ∙ e, subst (λ r. r ∈ clause_at u w.cref) (sym (ap (λ r. r.blocking) z)) h, o))
         (λ z. absurd z) k) (∈-append_cases y kept (x ∷ []) m)
 
     pub listing-kept : IsSatisfied u (clause_at u w.cref) → Listing s u V q l (kept ++ x ∷ []) rest
-    listing-kept sat = listing-on u V (kept ++ x ∷ []) v (λ y m. ∈-append_left y kept (x ∷ []) m) new-is (λ j b. inr (x, one-in, e)) (λ j b f. sat)
+    listing-kept sat = listing-on u V (kept ++ x ∷ []) v (λ y m. ∈-append_left y kept (x ∷ []) m) new-is (once-moved kept rest w x e once-own)
+        (λ j b. inr (x, one-in, e)) (λ j b f. sat)
 
     pub watched-kept : IsWatched (with_watches V l ((kept ++ x ∷ []) ++ rest)) u q
-    watched-kept = watched-on u V (kept ++ x ∷ []) v (λ y m. ∈-append_left y kept (x ∷ []) m) new-is (λ j b. inr (x, one-in, e))
+    watched-kept = watched-on u V (kept ++ x ∷ []) v (λ y m. ∈-append_left y kept (x ∷ []) m) new-is (once-moved kept rest w x e once-own)
+        (λ j b. inr (x, one-in, e))
 
 -- all watches were visited
 pub listing-end : (s t : View) (W : Watches) (q : ℕ) (l : Literal) (kept rest : List Watch) → Listing s t W q l kept rest → rest ≡ [] → IsSettledTo t (suc q)
@@ -255,11 +311,12 @@ module _ {p q : SearchParts} {W V : Watches} {l : Literal} {xs : List Watch} {a 
 
     pub is-watch : IsWatchOf V t l w
     is-watch =
-        let (place, blocking) = watch-known s t V q.trail.queue_head l (take a xs) (drop (r + 1) xs) w next in
+        let (place, blocking, watched) = watch-known s t V q.trail.queue_head l (take a xs) (drop (r + 1) xs) w next in
         record {
           well = g.listing.propagates.well;
           place = place;
           blocking = blocking;
+          watched = watched;
           lists = watch-lists s t V q.trail.queue_head l (take a xs) (drop (r + 1) xs) w next;
           is_true = watch-true s t V q.trail.queue_head l (take a xs) (drop (r + 1) xs) w next;
         }
@@ -297,7 +354,7 @@ module _ {p q : SearchParts} {W V : Watches} {l : Literal} {xs : List Watch} {a 
           step ys (a + 1)
           (subst (λ zs. Listing s (view_of_parts m) X q.trail.queue_head l zs (drop (r + 1) ys)) (sym (kept-is x))
           (subst (λ zs. Listing s (view_of_parts m) X q.trail.queue_head l (take a xs ++ x ∷ []) zs) (sym (rest-is x))
-          (listing-kept s t V q.trail.queue_head l (take a xs) (drop (r + 1) xs) w next (view_of_parts m) X x k.visited refl d.0 d.1)))
+          (listing-kept s t V q.trail.queue_head l (take a xs) (drop (r + 1) xs) w next (view_of_parts m) X x k.visited refl d.0 d.1 d.2)))
           (let o = g.order in omega (arith, o)) (length-set xs a x)
 
       pub visiting-false : {b : Literal} {zs : List Watch} → v ≡ visit.Conflicting b →
@@ -314,9 +371,9 @@ module _ {p q : SearchParts} {W V : Watches} {l : Literal} {xs : List Watch} {a 
               keeps = keeps-trans g.keeps k.keeps;
               watched = subst (λ h. IsWatched (with_watches X l zs) u h) (sym k.keeps.head)
                   (subst (λ us. IsWatched (with_watches X l us) u q.trail.queue_head) (sym is)
-                  (watched-kept s t V q.trail.queue_head l (take a xs) (drop (r + 1) xs) w next u X x k.visited refl d.0));
+                  (watched-kept s t V q.trail.queue_head l (take a xs) (drop (r + 1) xs) w next u X x k.visited refl d.0 d.1));
             },
-            (reordered-place t.clauses u.clauses w.cref k.visited.propagates.grows.clauses is-watch.place, d.1),
+            (reordered-place t.clauses u.clauses w.cref k.visited.propagates.grows.clauses is-watch.place, d.2),
           )
 
   -- all were visited

@@ -23,7 +23,7 @@ use Rattle.varisat_prop.specs.declared.prop.long.Found.{Found}
 use Rattle.varisat_prop.specs.declared.prop.long.Found.TheVariants as found
 use Rattle.varisat_prop.specs.declared.prop.long.Visit.{Visit}
 use Rattle.varisat_prop.specs.declared.prop.long.Visit.TheVariants as visit
-use Rattle.varisat_prop.specs.Watches.{Watches, watches_of, with_watches, literal_in, HasWatch, IsSatisfied, IsRearranged}
+use Rattle.varisat_prop.specs.Watches.{Watches, watches_of, with_watches, literal_in, IsWatchedBy, HasWatch, IsSatisfied, IsRearranged}
 use Rattle.varisat_prop.specs.Visits.{IsPair, IsFound, AddsWatches, IsVisited, IsVisit}
 use Rattle.varisat_prop.specs.QueueSteps.{SearchParts, view_of_parts, KeepsParts, IsWatchOf, IsReorderedAt, IsVisitedAs, with_lists}
 use Rattle.varisat_clause.specs.Stored.{StoredClause, IsPlace, literals_at}
@@ -40,17 +40,20 @@ satisfied-by : (s : View) (c : Clause) (l : Literal) → WellFormed s → l ∈ 
 satisfied-by s c l w h t = let (k, a, e) = w.stands l t in (k, a, subst (λ x. x ∈ c) (sym e) h)
 
 -- nothing changes
-pub visited-same : (s : View) (W : Watches) (i : ℕ) → WellFormed s → IsVisited s s W W i
-visited-same s W i w = record {
+pub visited-same : (s : View) (W : Watches) (l : Literal) (i : ℕ) → WellFormed s → IsVisited s s W W l i
+visited-same s W l i w = record {
   propagates = propagates-refl s w;
   elsewhere = λ k n. refl;
   settled = λ q h st. st;
   adds = adds-none W i (clause_at s i);
+  other = λ x n h. h;
+  once = λ x. inl refl;
   pair = λ j h. inl (j, h, refl);
 }
 
-pub kept-by-blocking : (s : View) (l b : Literal) (i : ℕ) → WellFormed s → b ∈ clause_at s i → IsTrueIn s b → IsVisit s l i (visit.Keep b)
-kept-by-blocking s l b i w h t = (h, satisfied-by s (clause_at s i) b w h t)
+pub kept-by-blocking : (s : View) (l b : Literal) (i : ℕ) → WellFormed s → b ∈ clause_at s i → IsWatchedBy (clause_at s i) (opposite l) → IsTrueIn s b →
+    IsVisit s l i (visit.Keep b)
+kept-by-blocking s l b i w h o t = (h, o, satisfied-by s (clause_at s i) b w h t)
 
 module _ (s : View) (W : Watches) (i : ℕ) (d : Clause) (l : Literal) (w : WellFormed s) (a : IsPlace s.clauses i) (tr : IsTrueIn s l) where
   abbrev c : Clause
@@ -93,40 +96,49 @@ module _ (s : View) (W : Watches) (i : ℕ) (d : Clause) (l : Literal) (w : Well
   from-pair : (x : Literal) → IsPair c x f → literal_in d 0 ≡ x → literal_in d 1 ≡ f → FromPair
   from-pair x p e g = two (λ j. (h : ℕ) × (h < 2) × (literal_in d j ≡ literal_in c h)) (pair-first x p e) (pair-second x p g)
 
+  -- the other watched literal stays where it is the first now
+  other-first : (x : Literal) → IsPair c x f → literal_in d 0 ≡ x → (y : Literal) → y ≢ f → IsWatchedBy c y → IsWatchedBy (clause_at u i) y
+  other-first x p e y n (j, b, z) =
+      let first : literal_in (clause_at u i) 0 ≡ x = ap (λ q. literal_in q 0) now-is ∙ e in
+      let by : x ≡ y → IsWatchedBy (clause_at u i) y = λ q. (0, omega arith, first ∙ q) in
+      two (λ j. literal_in c j ≡ y → IsWatchedBy (clause_at u i) y)
+      (λ q. ⊎_elim (λ (g, h). by (sym g ∙ q)) (λ (g, h). absurd (n (sym q ∙ h))) p)
+      (λ q. ⊎_elim (λ (g, h). absurd (n (sym q ∙ h))) (λ (g, h). by (sym g ∙ q)) p)
+      j b z
+
+  -- the false literal, which is second now, watches the clause
+  false-watches : literal_in d 1 ≡ f → IsWatchedBy (clause_at u i) f
+  false-watches g = (1, omega arith, ap (λ q. literal_in q 1) now-is ∙ g)
+
   first-in : IsRearranged c d → (x : Literal) → literal_in d 0 ≡ x → x ∈ clause_at u i
   first-in r x e = subst (λ y. x ∈ y) (sym now-is) (subst (λ y. y ∈ d) e (∈-get_or d 0 0 (let n = r.long in let m = long in omega (arith, n, m))))
 
   -- the clause is watched as before, in another order
-  visited-turned : IsRearranged c d → FromPair → Propagates s u → IsVisited s u W W i
-  visited-turned r p g = record {
+  visited-turned : (x : Literal) → IsRearranged c d → IsPair c x f → literal_in d 0 ≡ x → FromPair → Propagates s u → IsVisited s u W W l i
+  visited-turned x r q e p g = record {
     propagates = g;
     elsewhere = elsewhere-is;
     settled = λ q h st. settled-reordered s i q d r (λ j b. inl (p j b)) st;
     adds = adds-none W i (clause_at u i);
+    other = other-first x q e;
+    once = λ y. inl refl;
     pair = λ j b. let (h, o, e) = p j b in inl (h, o, ap (λ x. literal_in x j) now-is ∙ e);
   }
 
-  pub found-stale : IsFound s.values c d f found.Stale → IsVisited s u W W i × IsVisit u l i visit.Dropped
-  found-stale (e, m, n) =
-      let r : IsRearranged c d = subst (IsRearranged c) (sym e) (record { same = ((λ x h. h), (λ x h. h)); long = refl; distinct = λ h. h }) in (
-        visited-turned r (λ j b. (j, b, ap (λ x. literal_in x j) e)) (changed s i d w a r (inl e)),
-        two (λ j. literal_in (clause_at u i) j ≢ f) (λ g. m (sym (ap (λ x. literal_in x 0) (now-is ∙ e)) ∙ g))
-            (λ g. n (sym (ap (λ x. literal_in x 1) (now-is ∙ e)) ∙ g)),
-      )
-
-  pub found-true : (x : Literal) → IsFound s.values c d f (found.True x) → IsVisited s u W W i × IsVisit u l i (visit.Keep x)
+  pub found-true : (x : Literal) → IsFound s.values c d f (found.True x) → IsVisited s u W W l i × IsVisit u l i (visit.Keep x)
   found-true x (r, p, e, g, t, o) =
       let v : Propagates s u = changed s i d w a r (⊎_elim (λ (y, z). inl (o y)) (λ (y, z). inr (λ h. f-false (subst (IsTrueIn s) z h))) p) in (
-        visited-turned r (from-pair x p e g) v,
-        (first-in r x e, satisfied-by u (clause_at u i) x v.well (first-in r x e) t),
+        visited-turned x r p e (from-pair x p e g) v,
+        (first-in r x e, false-watches g, satisfied-by u (clause_at u i) x v.well (first-in r x e) t),
       )
 
-  pub found-false : (x : Literal) → IsFound s.values c d f (found.False x) → IsVisited s u W W i × IsVisit u l i (visit.Conflicting x)
+  pub found-false : (x : Literal) → IsFound s.values c d f (found.False x) → IsVisited s u W W l i × IsVisit u l i (visit.Conflicting x)
   found-false x (r, p, e, g, n, h) =
       let v : Propagates s u = changed s i d w a r (inr (not-first x p n)) in (
-        visited-turned r (from-pair x p e g) v,
+        visited-turned x r p e (from-pair x p e g) v,
         (
           first-in r x e,
+          false-watches g,
           λ m k. let (j, b, z) = place_in m d 0 (subst (λ y. m ∈ y) now-is k) in
               on-trail s w (opposite m) (subst (λ y. IsTrueIn s (opposite y)) z (h j b)),
         ),
@@ -149,6 +161,10 @@ module _ (s : View) (W : Watches) (i : ℕ) (d : Clause) (l : Literal) (w : Well
     abbrev ws : List Watch
     ws = watches_of W (opposite m) ++ record { cref = i; blocking = x } ∷ []
 
+    -- the clause is watched by the other literal now
+    by-second : (y : Literal) → y ≡ opposite m → IsWatchedBy (clause_at u i) (opposite y)
+    by-second y e = (1, omega arith, ap (λ q. literal_in q 1) now-is ∙ fd.3 ∙ sym (ap opposite e ∙ opposite_twice m))
+
     adds-one : AddsWatches W more i (clause_at u i)
     adds-one = record {
       enabled = refl;
@@ -162,14 +178,15 @@ module _ (s : View) (W : Watches) (i : ℕ) (d : Clause) (l : Literal) (w : Well
       new = λ y v h. ⊎_elim
           (λ e. ⊎_elim
           (λ k. inl (subst (λ z. v ∈ watches_of W z) (sym e) k))
-          (λ k. ⊎_elim (λ z. inr (ap (λ q. q.cref) z, subst (λ q. q ∈ clause_at u i) (sym (ap (λ q. q.blocking) z)) (first-in fd.0 x fd.2))) (λ z. absurd z) k)
+          (λ k. ⊎_elim (λ z. inr (ap (λ q. q.cref) z, subst (λ q. q ∈ clause_at u i) (sym (ap (λ q. q.blocking) z)) (first-in fd.0 x fd.2), by-second y e))
+          (λ z. absurd z) k)
           (∈-append_cases v (watches_of W (opposite m)) (record { cref = i; blocking = x } ∷ [])
           (subst (λ z. v ∈ z) (get_or-set_same W.lists (opposite m) ws [] inside) (subst (λ z. v ∈ watches_of more z) e h))))
           (λ n. inl (subst (λ z. v ∈ z) (get_or-set_other W.lists (opposite m) y ws [] n) h))
           (equal_or_not y (opposite m));
     }
 
-    pub found-other : IsVisited s u W more i × IsVisit u l i visit.Dropped
+    pub found-other : IsVisited s u W more l i × IsVisit u l i visit.Dropped
     found-other =
         let (r, p, e, g, n, o) = fd in (
           record {
@@ -179,6 +196,19 @@ module _ (s : View) (W : Watches) (i : ℕ) (d : Clause) (l : Literal) (w : Well
                 (two (λ j. ((h : ℕ) × (h < 2) × (literal_in d j ≡ literal_in c h)) ⊎ ((p : ℕ) → p < q → literal_at s p ≢ opposite (literal_in d j)))
                 (inl (pair-first x p e)) (inr (λ k b z. o (subst (IsTrueIn s) (z ∙ ap opposite g) (w.is_true k (omega (arith, b, h))))))) st;
             adds = adds-one;
+            other = other-first x p e;
+            once = λ y. ⊎_elim
+                (λ z. inr (
+                  (
+                    record { cref = i; blocking = x },
+                    refl,
+                    subst (λ q. watches_of more q ≡ watches_of W q ++ record { cref = i; blocking = x } ∷ []) (sym z)
+                        (get_or-set_same W.lists (opposite m) ws [] inside),
+                  ),
+                  λ k. unwatched (subst (λ q. IsWatchedBy c q) (ap opposite z ∙ opposite_twice m) k),
+                ))
+                (λ z. inl (get_or-set_other W.lists (opposite m) y ws [] z))
+                (equal_or_not y (opposite m));
             pair = two (λ j. ((h : ℕ) × (h < 2) × (literal_in (clause_at u i) j ≡ literal_in c h))
                 ⊎ HasWatch (watches_of more (opposite (literal_in (clause_at u i) j))) i)
                 (let (h, b, z) = pair-first x p e in inl (h, b, ap (λ y. literal_in y 0) now-is ∙ z))
@@ -191,6 +221,18 @@ module _ (s : View) (W : Watches) (i : ℕ) (d : Clause) (l : Literal) (w : Well
       where
         apart : literal_in c 0 ≢ literal_in c 1
         apart = distinct-places c 0 (w.distinct c (kept-here s i a)) 0 1 (omega arith) (let n = long in omega (arith, n))
+
+        -- the other literal did not watch the clause
+        unwatched : IsWatchedBy c m → ⊥
+        unwatched (j, b, z) =
+            let (r, p, e, g, n, o) = fd in
+            let second : x ≢ m = λ q. distinct-places d 0 (r.distinct (w.distinct c (kept-here s i a))) 0 1 (omega arith)
+            (let k = r.long in let k' = long in omega (arith, k, k')) (e ∙ q ∙ sym g) in
+            let first : f ≢ m = λ q. o (subst (IsTrueIn s) (sym (opposite_twice l) ∙ ap opposite q) tr) in
+            two (λ j. literal_in c j ≡ m → ⊥)
+            (λ q. ⊎_elim (λ (y, h). second (sym y ∙ q)) (λ (y, h). first (sym h ∙ q)) p)
+            (λ q. ⊎_elim (λ (y, h). first (sym h ∙ q)) (λ (y, h). second (sym y ∙ q)) p)
+            j b z
 
         differ : IsPair c x f → x ≢ f
         differ p e = ⊎_elim (λ (y, z). apart (y ∙ e ∙ sym z)) (λ (y, z). apart (z ∙ sym e ∙ sym y)) p
@@ -241,19 +283,22 @@ module _ (s : View) (W : Watches) (i : ℕ) (d : Clause) (l : Literal) (w : Well
       decisions = refl;
     }
 
-    pub found-implied : IsVisited s t W W i × IsVisit t l i (visit.Keep x)
+    pub found-implied : IsVisited s t W W l i × IsVisit t l i (visit.Keep x)
     found-implied =
         let (r, p, e, g, n, o, h) = fd in
-        let v = visited-turned r (from-pair x p e g) goes in (
+        let v = visited-turned x r p e (from-pair x p e g) goes in (
           record {
             propagates = propagates-trans s u t goes enters;
             elsewhere = v.elsewhere;
             settled = λ q h st. settled-longer u t q longer h (v.settled q h st);
             adds = v.adds;
+            other = v.other;
+            once = v.once;
             pair = v.pair;
           },
           (
             first-in r x e,
+            false-watches g,
             (
               length s.trail,
               (let z = ext-length u x (reason.Long i) s.decisions goes.well implied-inside implied-free in omega (arith, z)),
@@ -286,11 +331,18 @@ module _ (p : SearchParts) {W : Watches} {l : Literal} {w : Watch} (g : IsWatchO
   watch-range = g.well.in_range (clause_at s i) (kept-here s i g.place)
 
   pub code-blocking : IsTrueIn s w.blocking → IsVisitedAs (with_lists p W) (with_lists p W) l i (visit.Keep w.blocking)
-  code-blocking h = record { visited = visited-same s W i g.well; visit = kept-by-blocking s l w.blocking i g.well g.blocking h; keeps = keeps-refl p }
+  code-blocking h = record {
+    visited = visited-same s W l i g.well;
+    visit = kept-by-blocking s l w.blocking i g.well g.blocking g.watched h;
+    keeps = keeps-refl p;
+  }
 
   module _ {m : Literal} (n : m ≡ opposite l) where
     pub watch-false : IsMadeTrue p.values.current (opposite m)
     watch-false = subst (IsTrueIn s) (sym (ap opposite n ∙ opposite_twice l)) g.is_true
+
+    pub watch-by : IsWatchedBy (clause_at s i) m
+    watch-by = subst (λ x. IsWatchedBy (clause_at s i) x) (sym n) g.watched
 
     module _ {store : Store} {o : Found} (r : IsReorderedAt p.store store p.values.current i m o) where
       -- the clause as it is now, and the parts, of which only the store is another
@@ -308,15 +360,11 @@ module _ (p : SearchParts) {W : Watches} {l : Literal} {w : Watch} (g : IsWatchO
       turn : IsFound s.values (clause_at s i) b (opposite l) o
       turn = subst (λ x. IsFound s.values (clause_at s i) b x o) n r.found
 
-      back : (V : Watches) (v : Visit) → IsVisited s (reordered s i b) W V i × IsVisit (reordered s i b) l i v →
+      back : (V : Watches) (v : Visit) → IsVisited s (reordered s i b) W V l i × IsVisit (reordered s i b) l i v →
           IsVisitedAs (with_lists p W) (with_lists q V) l i v
       back V v h =
-          let h' = subst (λ x. IsVisited s x W V i × IsVisit x l i v) (sym is-reordered) h in
+          let h' = subst (λ x. IsVisited s x W V l i × IsVisit x l i v) (sym is-reordered) h in
           record { visited = h'.0; visit = h'.1; keeps = record { last = refl; head = refl; store = r.store } }
-
-    pub code-stale : {store : Store} → IsReorderedAt p.store store p.values.current i m found.Stale →
-        IsVisitedAs (with_lists p W) (with_lists (record p { store = store }) W) l i visit.Dropped
-    code-stale r = back r W visit.Dropped (found-stale s W i (b r) l g.well g.place g.is_true (turn r))
 
     pub code-true : {store : Store} {x : Literal} → IsReorderedAt p.store store p.values.current i m (found.True x) →
         IsVisitedAs (with_lists p W) (with_lists (record p { store = store }) W) l i (visit.Keep x)
@@ -357,6 +405,6 @@ module _ (p : SearchParts) {W : Watches} {l : Literal} {w : Watch} (g : IsWatchO
           KeepsParts p t → IsVisitedAs (with_lists p W) (with_lists t W) l i (visit.Keep x)
       code-implied t e k =
           let f = found-implied s W i (b r) l g.well g.place g.is_true x (turn r) in
-          let h = subst (λ v. IsVisited s v W W i × IsVisit v l i (visit.Keep x))
+          let h = subst (λ v. IsVisited s v W W l i × IsVisit v l i (visit.Keep x))
           (sym (e ∙ ap (λ (v : View). enqueued v x (reason.Long i)) (is-reordered r))) f in
           record { visited = h.0; visit = h.1; keeps = k }

@@ -1,9 +1,10 @@
 -- What enqueuing, deciding, backtracking and a further clause keep of the watches.
-use Rattle.std.proofs.Common.{◌≡◌, ℕ, true, false, ◌<◌, ◌≤◌, ◌++◌, Some, List, [], ◌∷◌, length, get_or, take, ◌⊎◌, inl, inr, ⊎_elim, refl, sym, ap, ◌∙◌, subst, arith, get_or-set_same, get_or-set_other, length-set, length-append}
+use Rattle.std.proofs.Common.{◌≡◌, ◌≢◌, ℕ, true, false, ◌<◌, ◌≤◌, ◌++◌, Some, List, [], ◌∷◌, length, get_or, take, ◌⊎◌, inl, inr, ⊎_elim, refl, sym, ap, ◌∙◌, subst, arith, get_or-set_same, get_or-set_other, length-set, length-append}
 use Rattle.std.proofs.lemmas.List.{get_or_append_left, get_or-take, length-take}
 use Rattle.std.proofs.lemmas.Bool.{cases_lt}
 use Rattle.varisat_theory.specs.Membership.{◌∈◌}
 use Rattle.varisat_theory.specs.Literals.{Literal, Clause, opposite, variable_of}
+use Rattle.varisat_theory.proofs.Values.{opposite_twice}
 use Rattle.varisat_theory.proofs.Places.{∈-get_or}
 use Rattle.varisat_theory.proofs.Members.{equal_or_not, ∈-append_left, ∈-append_right, ∈-append_cases}
 use Rattle.varisat_literals.specs.Numbers.{polarity_of}
@@ -13,10 +14,11 @@ use Rattle.varisat_clause.specs.Stored.{StoredClause, IsPlace, literals_at}
 use Rattle.varisat_prop.specs.View.{View, clause_at, literal_at, decision_at, WellFormed}
 use Rattle.varisat_prop.specs.Changes.{enqueued, decided_on}
 use Rattle.varisat_prop.specs.declared.prop.watch.Watch.{Watch}
-use Rattle.varisat_prop.specs.Watches.{Watches, watches_of, with_watches, literal_in, HasWatch, IsWatching, IsCovered, IsSettledTo, IsImpliedTo, IsPropagated}
-use Rattle.varisat_prop.specs.Visits.{AddsWatches, WatchesClause}
+use Rattle.varisat_prop.specs.Watches.{Watches, watches_of, with_watches, literal_in, IsWatchedBy, NameOnce, HasWatch, IsWatching, IsCovered, IsSettledTo, IsImpliedTo, IsPropagated}
+use Rattle.varisat_prop.specs.Visits.{AddsWatches, GetsWatch, WatchesClause}
 use Rattle.varisat_clause.proofs.StoredClauses.{place-cases-more, place-more, place-last, stored-more, stored-last}
 use Rattle.varisat_prop.proofs.TrailExtend.{get_or-last}
+use Rattle.varisat_prop.proofs.WatchesOnce.{once-gets}
 use Rattle.varisat_prop.proofs.WatchSettled.{Lengthens, lengthens-goes-on, settled-longer, settled-back, implied-longer, implied-back, two}
 
 enqueued-longer : (s : View) (l : Literal) (r : Reason) → Lengthens s (enqueued s l r)
@@ -112,13 +114,27 @@ module _ (P : List StoredClause) (c : StoredClause) (last : (k : StoredClause) �
   new-at : literals_at more c.place ≡ c.literals
   new-at = ap (λ x. x.literals) (stored-last P c last)
 
+  -- the place of the clause is a new one
+  new-place : (W : Watches) → IsWatching W P → (x : Literal) (y : Watch) → y ∈ watches_of W x → y.cref ≢ c.place
+  new-place W w x y h e = let (k, i, f) = (w.known x y h).0 in let n = last k i in omega (arith, n, f, e)
+
   pub watching-more : (W V : Watches) → IsWatching W P → AddsWatches W V c.place c.literals →
-      ((j : ℕ) → j < 2 → HasWatch (watches_of V (opposite (literal_in c.literals j))) c.place) → IsWatching V more
-  watching-more W V w v h = record {
+      ((j : ℕ) → j < 2 → HasWatch (watches_of V (opposite (literal_in c.literals j))) c.place) →
+      ((x : Literal) → (watches_of V x ≡ watches_of W x) ⊎ GetsWatch (watches_of W x) (watches_of V x) c.place) → IsWatching V more
+  watching-more W V w v h o = record {
     known = λ x y m. ⊎_elim
-        (λ k. let (a, b) = w.known x y k in (place-more P c y.cref a, subst (λ d. y.blocking ∈ d) (sym (old-at y.cref a)) b))
-        (λ (e, b). (subst (IsPlace more) (sym e) (place-last P c), subst (λ d. y.blocking ∈ d) (sym (ap (λ k. literals_at more k) e ∙ new-at)) b))
+        (λ k. let (a, b, by) = w.known x y k in (
+          place-more P c y.cref a,
+          subst (λ d. y.blocking ∈ d) (sym (old-at y.cref a)) b,
+          subst (λ d. IsWatchedBy d (opposite x)) (sym (old-at y.cref a)) by,
+        ))
+        (λ (e, b, by). let at = ap (λ k. literals_at more k) e ∙ new-at in (
+          subst (IsPlace more) (sym e) (place-last P c),
+          subst (λ d. y.blocking ∈ d) (sym at) b,
+          subst (λ d. IsWatchedBy d (opposite x)) (sym at) by,
+        ))
         (v.new x y m);
+    once = λ x. once-gets (watches_of W x) (watches_of V x) c.place (w.once x) (new-place W w x) (o x);
     watched = λ i j a b. ⊎_elim
         (λ k. let (y, m, e) = w.watched i j k b in subst (λ d. HasWatch (watches_of V (opposite (literal_in d j))) i) (sym (old-at i k))
         (y, v.old (opposite (literal_in (literals_at P i) j)) y m, e))
@@ -140,9 +156,10 @@ module _ (P : List StoredClause) (c : StoredClause) (last : (k : StoredClause) �
 
 -- watches of one more clause, whether the lists are on or off
 module _ (W V : Watches) (s : View) (c : StoredClause) (w : IsPropagated W s) (last : (k : StoredClause) → k ∈ s.clauses → k.place < c.place)
-    (v : WatchesClause W V c.place c.literals) where
+    (v : WatchesClause W V c.place c.literals) (apart : literal_in c.literals 0 ≢ literal_in c.literals 1) where
   more-watching : V.enabled ≡ true → IsWatching V (s.clauses ++ c ∷ [])
   more-watching e = let o : W.enabled ≡ true = sym v.adds.enabled ∙ e in watching-more s.clauses c last W V (w.watching o) v.adds (v.pair o)
+      (v.once apart)
 
   more-empty : V.enabled ≡ false → (x : Literal) → watches_of V x ≡ []
   more-empty e x = let o : W.enabled ≡ false = sym v.adds.enabled ∙ e in ap (λ X. watches_of X x) (v.off o) ∙ w.empty o x
@@ -190,6 +207,7 @@ module _ (W V : Watches) (s : View) (c : StoredClause) (w : IsPropagated W s) (l
 pub watching-none : (W : Watches) → ((x : Literal) → watches_of W x ≡ []) → IsWatching W []
 watching-none W e = record {
   known = λ x w h. absurd (subst (λ ws. w ∈ ws) (e x) h);
+  once = λ x. subst (λ ws. NameOnce ws) (sym (e x)) tt;
   watched = λ i j (k, h, f) b. absurd h;
 }
 
@@ -204,8 +222,8 @@ module _ (W : Watches) (x : Literal) (w : Watch) (inside : x < length W.lists) w
   own : watches_of pushed x ≡ ws
   own = get_or-set_same W.lists x ws [] inside
 
-  pub adds-pushed : (d : Clause) → w.blocking ∈ d → AddsWatches W pushed w.cref d
-  adds-pushed d b = record {
+  pub adds-pushed : (d : Clause) → w.blocking ∈ d → IsWatchedBy d (opposite x) → AddsWatches W pushed w.cref d
+  adds-pushed d b by = record {
     enabled = refl;
     count = length-set W.lists x ws;
     old = λ y v h. ⊎_elim
@@ -216,11 +234,22 @@ module _ (W : Watches) (x : Literal) (w : Watch) (inside : x < length W.lists) w
     new = λ y v h. ⊎_elim
         (λ e. ⊎_elim
         (λ k. inl (subst (λ z. v ∈ watches_of W z) (sym e) k))
-        (λ k. ⊎_elim (λ z. inr (ap (λ q. q.cref) z, subst (λ q. q ∈ d) (sym (ap (λ q. q.blocking) z)) b)) (λ z. absurd z) k)
+        (λ k. ⊎_elim (λ z. inr (
+          ap (λ q. q.cref) z,
+          subst (λ q. q ∈ d) (sym (ap (λ q. q.blocking) z)) b,
+          subst (λ q. IsWatchedBy d (opposite q)) (sym e) by,
+        )) (λ z. absurd z) k)
         (∈-append_cases v (watches_of W x) (w ∷ []) (subst (λ z. v ∈ z) own (subst (λ z. v ∈ watches_of pushed z) e h))))
         (λ n. inl (subst (λ z. v ∈ z) (get_or-set_other W.lists x y ws [] n) h))
         (equal_or_not y x);
   }
+
+  -- no other list does
+  pub gets-pushed : (y : Literal) → y ≡ x → GetsWatch (watches_of W y) (watches_of pushed y) w.cref
+  gets-pushed y e = (w, refl, subst (λ z. watches_of pushed z ≡ watches_of W z ++ w ∷ []) (sym e) own)
+
+  pub stays-pushed : (y : Literal) → y ≢ x → watches_of pushed y ≡ watches_of W y
+  stays-pushed y n = get_or-set_other W.lists x y ws [] n
 
   pub has-pushed : HasWatch (watches_of pushed x) w.cref
   has-pushed = (w, subst (λ z. w ∈ z) (sym own) (∈-append_right w (watches_of W x) (w ∷ []) (inl refl)), refl)
@@ -238,7 +267,7 @@ adds-none W i d = record { enabled = refl; count = refl; old = λ x w h. h; new 
 
 -- lists that are off stay as they are
 pub watch-off : (W : Watches) (i : ℕ) (d : Clause) → W.enabled ≡ false → WatchesClause W W i d
-watch-off W i d e = record { adds = adds-none W i d; pair = λ f. absurd cc; off = λ f. refl }
+watch-off W i d e = record { adds = adds-none W i d; pair = λ f. absurd cc; once = λ n x. inl refl; off = λ f. refl }
 
 -- the two watches of a clause
 pub watch-two : (W V U : Watches) (i : ℕ) (l m x y : Literal) → W.enabled ≡ true → x ≡ opposite l → y ≡ opposite m → x < length W.lists → y < length W.lists
@@ -252,16 +281,50 @@ watch-two W V U i l m x y on ex ey a b ev eu =
     let n = length-set W.lists x (watches_of W x ++ w ∷ []) in
     let o = ap (λ (X : Watches). length X.lists) ev in
     let b' : y < length V.lists = omega (arith, b, n, o) in
-    let p : AddsWatches W V i c = subst (λ X. AddsWatches W X i c) (sym ev) (adds-pushed W x w a c (inr (inl refl))) in
-    let q : AddsWatches V U i c = subst (λ X. AddsWatches V X i c) (sym eu) (adds-pushed V y z b' c (inl refl)) in
+    let first : IsWatchedBy c (opposite x) = (0, omega arith, sym (ap opposite ex ∙ opposite_twice l)) in
+    let second : IsWatchedBy c (opposite y) = (1, omega arith, sym (ap opposite ey ∙ opposite_twice m)) in
+    let p : AddsWatches W V i c = subst (λ X. AddsWatches W X i c) (sym ev) (adds-pushed W x w a c (inr (inl refl)) first) in
+    let q : AddsWatches V U i c = subst (λ X. AddsWatches V X i c) (sym eu) (adds-pushed V y z b' c (inl refl) second) in
     let h : HasWatch (watches_of V x) i = subst (λ X. HasWatch (watches_of X x) i) (sym ev) (has-pushed W x w a) in
     let k : HasWatch (watches_of U y) i = subst (λ X. HasWatch (watches_of X y) i) (sym eu) (has-pushed V y z b') in
     record {
       adds = adds-trans W V U i c p q;
       pair = λ e. two (λ j. HasWatch (watches_of U (opposite (literal_in c j))) i)
           (subst (λ v. HasWatch (watches_of U v) i) ex (h.0, q.old x h.0 h.1, h.2)) (subst (λ v. HasWatch (watches_of U v) i) ey k);
+      once = λ n v. watched-once n v (equal_or_not v x) (equal_or_not v y);
       off = λ e. absurd cc;
     }
+  where
+    first-stays : (v : Literal) → v ≢ x → watches_of V v ≡ watches_of W v
+    first-stays v n = ap (λ X. watches_of X v) ev ∙ stays-pushed W x (record { cref = i; blocking = m }) a v n
+
+    second-inside : y < length V.lists
+    second-inside =
+        let n = length-set W.lists x (watches_of W x ++ record { cref = i; blocking = m } ∷ []) in
+        let o = ap (λ (X : Watches). length X.lists) ev in
+        omega (arith, b, n, o)
+
+    second-stays : (v : Literal) → v ≢ y → watches_of U v ≡ watches_of V v
+    second-stays v n = ap (λ X. watches_of X v) eu ∙ stays-pushed V y (record { cref = i; blocking = l }) second-inside v n
+
+    gets-first : (v : Literal) → v ≡ x → v ≢ y → GetsWatch (watches_of W v) (watches_of U v) i
+    gets-first v e n =
+        let (w, c, g) = gets-pushed W x (record { cref = i; blocking = m }) a v e in
+        (w, c, second-stays v n ∙ ap (λ X. watches_of X v) ev ∙ g)
+
+    gets-second : (v : Literal) → v ≢ x → v ≡ y → GetsWatch (watches_of W v) (watches_of U v) i
+    gets-second v n e =
+        let (w, c, g) = gets-pushed V y (record { cref = i; blocking = l }) second-inside v e in
+        (w, c, ap (λ X. watches_of X v) eu ∙ g ∙ ap (λ ws. ws ++ w ∷ []) (first-stays v n))
+
+    -- where the two literals are different, each list gets one at most
+    watched-once : l ≢ m → (v : Literal) → (v ≡ x) ⊎ (v ≢ x) → (v ≡ y) ⊎ (v ≢ y) →
+        (watches_of U v ≡ watches_of W v) ⊎ GetsWatch (watches_of W v) (watches_of U v) i
+    watched-once n v (inl e) (inl f) =
+        absurd (n (sym (opposite_twice l) ∙ ap opposite (sym ex ∙ sym e ∙ f ∙ ey) ∙ opposite_twice m))
+    watched-once n v (inl e) (inr f) = inr (gets-first v e f)
+    watched-once n v (inr e) (inl f) = inr (gets-second v e f)
+    watched-once n v (inr e) (inr f) = inl (second-stays v f ∙ first-stays v e)
 
 -- the first two literals are all that a watch reads of a clause
 pub watch-whole : (W V : Watches) (i : ℕ) (l m : Literal) (c : Clause) → 2 ≤ length c → l ≡ literal_in c 0 → m ≡ literal_in c 1 →
@@ -271,11 +334,12 @@ watch-whole W V i l m c n el em v = record {
     enabled = v.adds.enabled;
     count = v.adds.count;
     old = v.adds.old;
-    new = λ x w h. ⊎_elim inl (λ (e, b). inr (e, inside w.blocking b)) (v.adds.new x w h);
+    new = λ x w h. ⊎_elim inl (λ (e, b, by). inr (e, inside w.blocking b, whole (opposite x) by)) (v.adds.new x w h);
   };
   pair = λ e. two (λ j. HasWatch (watches_of V (opposite (literal_in c j))) i)
       (subst (λ x. HasWatch (watches_of V (opposite x)) i) el (v.pair e 0 (omega arith)))
       (subst (λ x. HasWatch (watches_of V (opposite x)) i) em (v.pair e 1 (omega arith)));
+  once = λ a. v.once (λ e. a (sym el ∙ e ∙ em));
   off = v.off;
 }
   where
@@ -283,3 +347,7 @@ watch-whole W V i l m c n el em v = record {
     inside x (inl e) = subst (λ y. y ∈ c) (sym (e ∙ el)) (∈-get_or c 0 0 (omega (arith, n)))
     inside x (inr (inl e)) = subst (λ y. y ∈ c) (sym (e ∙ em)) (∈-get_or c 1 0 (omega (arith, n)))
     inside x (inr (inr z)) = absurd z
+
+    whole : (x : Literal) → IsWatchedBy (l ∷ m ∷ []) x → IsWatchedBy c x
+    whole x (j, b, e) = two (λ k. literal_in (l ∷ m ∷ []) k ≡ x → IsWatchedBy c x)
+        (λ f. (0, omega arith, sym el ∙ f)) (λ f. (1, omega arith, sym em ∙ f)) j b e

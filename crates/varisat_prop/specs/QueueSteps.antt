@@ -3,7 +3,7 @@ use Rattle.std.specs.Prelude.{◌≡◌, ℕ, suc, ◌<◌, ◌*◌, List, lengt
 use Rattle.std.specs.Result.{MatchResult}
 use Rattle.std.specs.declared.alloc.AllocError.{AllocError}
 use Rattle.varisat_theory.specs.Membership.{◌∈◌}
-use Rattle.varisat_theory.specs.Literals.{Literal}
+use Rattle.varisat_theory.specs.Literals.{Literal, opposite}
 use Rattle.varisat_theory.specs.Propagation.{IsComplete}
 use Rattle.varisat_clause.specs.Stored.{IsPlace, literals_at, with_literals}
 use Rattle.varisat_clause.specs.Stores.{Store, is_sound, IsSound}
@@ -19,7 +19,7 @@ use Rattle.varisat_prop.specs.Parts.{Values, TrailParts}
 use Rattle.varisat_prop.specs.View.{View, view_of, kept, implied_by, IsTrueIn, clause_at, literal_at, WellFormed}
 use Rattle.varisat_prop.specs.Changes.{IsConflicting}
 use Rattle.varisat_prop.specs.Looks.{Propagates}
-use Rattle.varisat_prop.specs.Watches.{Watches, IsSettledTo, IsImpliedTo, IsWatched}
+use Rattle.varisat_prop.specs.Watches.{Watches, IsWatchedBy, IsSettledTo, IsImpliedTo, IsWatched}
 use Rattle.varisat_prop.specs.Visits.{IsFound, IsVisited, IsVisit}
 
 -- what the parts of a search hold
@@ -93,6 +93,7 @@ pub record IsWatchOf (W : Watches) (s : View) (l : Literal) (w : Watch) : Type 0
   pub well : WellFormed s
   pub place : IsPlace s.clauses w.cref
   pub blocking : w.blocking ∈ clause_at s w.cref
+  pub watched : IsWatchedBy (clause_at s w.cref) (opposite l)
   pub lists : length W.lists ≡ 2 * length s.values
   pub is_true : IsTrueIn s l
 
@@ -114,7 +115,7 @@ with_lists p W = record { parts = p; lists = W }
 
 -- The watch that l has of the clause at place i was visited, and came to v.
 pub record IsVisitedAs (x y : PartsWithLists) (l : Literal) (i : ℕ) (v : Visit) : Type 0 where
-  pub visited : IsVisited (view_of_parts x.parts) (view_of_parts y.parts) x.lists y.lists i
+  pub visited : IsVisited (view_of_parts x.parts) (view_of_parts y.parts) x.lists y.lists l i
   pub visit : IsVisit (view_of_parts y.parts) l i v
   pub keeps : KeepsParts x.parts y.parts
 

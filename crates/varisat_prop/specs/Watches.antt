@@ -1,5 +1,5 @@
 -- Which watches there are, and what they keep.
-use Rattle.std.specs.Prelude.{◌≡◌, ℕ, ◌<◌, ◌≤◌, ◌*◌, Bool, true, false, List, [], ◌∷◌, length, slice_index_or, slice_set}
+use Rattle.std.specs.Prelude.{◌≡◌, ℕ, ◌<◌, ◌≤◌, ◌*◌, Bool, true, false, List, [], ◌∷◌, length, map, slice_index_or, slice_set}
 use Rattle.varisat_theory.specs.Membership.{◌∈◌, SameSet, IsDistinct}
 use Rattle.varisat_theory.specs.Literals.{Literal, Clause, opposite}
 use Rattle.varisat_clause.specs.Stored.{StoredClause, IsPlace, literals_at}
@@ -31,10 +31,23 @@ literal_in c j = slice_index_or c j 0
 abbrev pub HasWatch : List Watch → ℕ → Type 0
 HasWatch ws i = (w : Watch) × (w ∈ ws) × (w.cref ≡ i)
 
--- The lists watch the clauses: each watch names a clause and a literal of it, and each clause has a watch in the lists of the
--- opposites of its first two literals.
+-- the literal is one of the clause's first two
+abbrev pub IsWatchedBy : Clause → Literal → Type 0
+IsWatchedBy c l = (j : ℕ) × (j < 2) × (literal_in c j ≡ l)
+
+-- The watch, in the list of x, names a clause and a literal of it, and the clause is watched by the opposite of x.
+abbrev pub IsKnownWatch : List StoredClause → Literal → Watch → Type 0
+IsKnownWatch ks x w = IsPlace ks w.cref × (w.blocking ∈ literals_at ks w.cref) × IsWatchedBy (literals_at ks w.cref) (opposite x)
+
+-- the watches name different clauses
+abbrev pub NameOnce : List Watch → Type 0
+NameOnce ws = IsDistinct (map (λ (w : Watch). w.cref) ws)
+
+-- The lists watch the clauses: each watch names a clause that the opposite of its literal watches, once in each list, and each
+-- clause has a watch in the lists of the opposites of its first two literals.
 pub record IsWatching (W : Watches) (ks : List StoredClause) : Type 0 where
-  pub known : (x : Literal) (w : Watch) → w ∈ watches_of W x → IsPlace ks w.cref × (w.blocking ∈ literals_at ks w.cref)
+  pub known : (x : Literal) (w : Watch) → w ∈ watches_of W x → IsKnownWatch ks x w
+  pub once : (x : Literal) → NameOnce (watches_of W x)
   pub watched : (i j : ℕ) → IsPlace ks i → j < 2 → HasWatch (watches_of W (opposite (literal_in (literals_at ks i) j))) i
 
 -- a literal of the clause is true

@@ -426,4 +426,4 @@ module _ (s t : View) (i : Conflict) (level : ℕ) (c : Clause) (w : WellFormed 
               let is : K ≡ record { clauses = t.clauses ++ j ∷ []; binary = t.binary } = long
               ∙ ap (λ B. record { clauses = t.clauses ++ j ∷ []; binary = B }) b in
               subst (λ X. IsPropagated V (enqueued (keeping t X) l.first r)) (sym is)
-              (propagated-learned W V t j (pt W p) k.1 (subst (IsWatchedAsReason W V d) h y) l.first r wt refl (omega arith) late)
+              (propagated-learned W V t j (pt W p) k.1 (subst (IsWatchedAsReason W V d) h y) apart l.first r wt refl (omega arith) late)

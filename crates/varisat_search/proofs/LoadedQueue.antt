@@ -23,10 +23,10 @@ module _ (s : View) (f : WellFormed s) (none : s.decisions ≡ []) where
 
   -- a clause of the store
   module _ (W V : Watches) (c : StoredClause) (w : IsPropagated W s) (last : (k : StoredClause) → k ∈ s.clauses → k.place < c.place)
-      (v : WatchesClause W V c.place c.literals) where
+      (v : WatchesClause W V c.place c.literals) (apart : literal_in c.literals 0 ≢ literal_in c.literals 1) where
     unmoved : 2 ≤ length c.literals → (HasFalseLiteral s.values c.literals → ⊥) → IsPropagated V (record s { clauses = s.clauses ++ c ∷ [] })
     unmoved long n =
-        let g = propagated-loaded W V s c w last v none in
+        let g = propagated-loaded W V s c w last v apart none in
         record {
           lists = g.lists;
           watching = g.watching;
@@ -41,7 +41,8 @@ module _ (s : View) (f : WellFormed s) (none : s.decisions ≡ []) where
     pub propagated-kept : (h : ℕ) → 2 ≤ length c.literals → IsHeadAfter s.values c.literals s.queue_head h →
         IsPropagated V (record s { clauses = s.clauses ++ c ∷ []; queue_head = h })
     propagated-kept h long a = ⊎_elim
-        (λ (x, e). subst (λ q. IsPropagated V (record s { clauses = s.clauses ++ c ∷ []; queue_head = q })) (sym e) (propagated-loaded W V s c w last v none))
+        (λ (x, e). subst (λ q. IsPropagated V (record s { clauses = s.clauses ++ c ∷ []; queue_head = q })) (sym e)
+        (propagated-loaded W V s c w last v apart none))
         (λ (n, e). subst (λ q. IsPropagated V (record s { clauses = s.clauses ++ c ∷ []; queue_head = q })) (sym e) (unmoved long n))
         a
 

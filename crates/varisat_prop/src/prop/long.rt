@@ -1,5 +1,5 @@
 //! Propagation of long clauses.
-ghost use Rattle.std.specs.Prelude.{◌≡◌, ◌≢◌, ◌<◌, ◌≤◌, ◌++◌, IsTrue, length, take, drop, OnOk, IfOk, MatchOption};
+ghost use Rattle.std.specs.Prelude.{◌≡◌, ◌<◌, ◌≤◌, ◌++◌, length, take, drop, OnOk, IfOk, MatchOption};
 ghost use Rattle.varisat_theory.specs.Literals.{opposite};
 ghost use Rattle.varisat_clause.specs.Stored.{IsPlace, literals_at};
 ghost use Rattle.varisat_clause.specs.Stores.{IsSound};
@@ -7,7 +7,7 @@ ghost use Rattle.varisat_clause.specs.Collected.{live_clauses};
 ghost use Rattle.varisat_prop.specs.Parts.{IsMadeTrue};
 ghost use Rattle.varisat_prop.specs.View.{view_of};
 ghost use Rattle.varisat_prop.specs.Looks.{IsInRange};
-ghost use Rattle.varisat_prop.specs.Watches.{with_watches, literal_in, IsRearranged};
+ghost use Rattle.varisat_prop.specs.Watches.{with_watches, literal_in, IsWatchedBy, IsRearranged};
 ghost use Rattle.varisat_prop.specs.Visits.{IsPair, HasNoOther, HasOther, IsFound};
 ghost use Rattle.varisat_prop.specs.QueueSteps.{IsNext, EndsPropagation, IsNextSettled, IsWatchOf, IsReorderedAt, PartsPropagate, PartsKeep, PartsGoOn, PartsVisit};
 
@@ -24,8 +24,6 @@ use varisat_literals::Lit;
 /// What a clause comes to whose watched literal became false.
 #[derive(Clone, Copy, Debug)]
 pub enum Found {
-    /// The literal isn't one of the first two any more.
-    Stale,
     /// The other watched literal, now the first, is true.
     True(Lit),
     /// The first literal, and one that isn't false and was put second.
@@ -47,23 +45,21 @@ pub enum Visit {
     Conflicting(Lit),
 }
 
-/// Puts the false literal second where it is first. Tells whether it is second then.
-fn put_second(lits: &mut [Lit], false_lit: Lit) -> bool
-    requires { 2 ≤ length lits.old }
+/// Puts the false literal, one of the first two, second, and gives the other one.
+fn put_second(lits: &mut [Lit], false_lit: Lit) -> Lit
+    requires long { 2 ≤ length lits.old }
+    requires watched { IsWatchedBy lits.old false_lit }
     ensures rearranged { IsRearranged lits.old lits.new }
-    ensures second { IsTrue result → IsPair lits.old (literal_in lits.new 0) false_lit × (literal_in lits.new 1 ≡ false_lit) }
-    ensures same { literal_in lits.old 0 ≢ false_lit → lits.new ≡ lits.old }
-    ensures stale { (IsTrue result → ⊥) → (literal_in lits.old 0 ≢ false_lit) × (literal_in lits.old 1 ≢ false_lit) }
+    ensures pair { IsPair lits.old result false_lit }
+    ensures first { literal_in lits.new 0 ≡ result }
+    ensures second { literal_in lits.new 1 ≡ false_lit }
+    ensures same { literal_in lits.old 0 ≡ result → lits.new ≡ lits.old }
 {
-    // Which of the two it is can't be predicted, so that both places are written without a branch.
-    let (first, second) = if lits[0] == false_lit {
-        (lits[1], lits[0])
-    } else {
-        (lits[0], lits[1])
-    };
+    // Which of the two it is can't be predicted, so that the other one is told by the sum of both, without a branch.
+    let first = Lit::from_code(lits[0].code() + lits[1].code() - false_lit.code());
     lits[0] = first;
-    lits[1] = second;
-    second == false_lit
+    lits[1] = false_lit;
+    first
 }
 
 /// Puts a literal second that isn't false, where one stands behind the second.
@@ -93,13 +89,11 @@ fn reorder<A: Allocator + Copy>(
     requires long { 2 ≤ length lits.old }
     requires within { IsInRange assignment.now.current lits.old }
     requires is_false { IsMadeTrue assignment.now.current (opposite false_lit) }
+    requires watched { IsWatchedBy lits.old false_lit }
     ensures found { IsFound assignment.now.current lits.old lits.new false_lit result }
     ensures count { length lits.new ≡ length lits.old }
 {
-    if !put_second(lits, false_lit) {
-        return Found::Stale;
-    }
-    let first = lits[0];
+    let first = put_second(lits, false_lit);
     if assignment.lit_is_true(first) {
         return Found::True(first);
     }
@@ -127,6 +121,7 @@ fn reorder_clause<A: Allocator + Copy>(
     requires long { 2 ≤ length (literals_at (live_clauses alloc.old) cref) }
     requires within { IsInRange assignment.now.current (literals_at (live_clauses alloc.old) cref) }
     requires is_false { IsMadeTrue assignment.now.current (opposite false_lit) }
+    requires watched { IsWatchedBy (literals_at (live_clauses alloc.old) cref) false_lit }
     ensures { IsReorderedAt alloc.old alloc.new assignment.now.current cref false_lit result }
 {
     let lits = alloc.lits_mut(cref);
@@ -150,7 +145,6 @@ fn visit_watch<A: Allocator + Copy>(
 {
     let cref = watch.cref;
     match reorder_clause(alloc, assignment, cref, !lit) {
-        Found::Stale => Ok(Visit::Dropped),
         Found::True(first) => Ok(Visit::Keep(first)),
         Found::Other(first, other) => {
             let moved = Watch {

@@ -1,6 +1,6 @@
 //! Unit propagation over the queue of the trail.
 ghost use Rattle.std.specs.Prelude.{◌≡◌, ◌<◌, true, false, [], length, OnOk, IfOk};
-ghost use Rattle.varisat_theory.specs.Membership.{◌∈◌};
+ghost use Rattle.varisat_theory.specs.Membership.{◌∈◌, IsDistinct};
 ghost use Rattle.varisat_theory.specs.Literals.{Literal, Clause, opposite};
 ghost use Rattle.varisat_clause.specs.Stored.{literals_of};
 ghost use Rattle.varisat_clause.specs.Stores.{IsSound};
@@ -29,6 +29,7 @@ pub fn enable_watchlists<A: Allocator + Copy>(
 ) -> Result<(), AllocError>
     requires sound { IsSound alloc.now }
     requires within { (c : Clause) → c ∈ literals_of (live_clauses alloc.now) → (l : Literal) → l ∈ c → opposite l < length watchlists.old.lists }
+    requires distinct { (c : Clause) → c ∈ literals_of (live_clauses alloc.now) → IsDistinct c }
     requires empty { watchlists.old.enabled ≡ false → (x : Literal) → watches_of watchlists.old x ≡ [] }
     ensures enabled { OnOk result (watchlists.new.enabled ≡ true) }
     ensures count { OnOk result (length watchlists.new.lists ≡ length watchlists.old.lists) }

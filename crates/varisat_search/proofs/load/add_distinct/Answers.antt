@@ -12,6 +12,7 @@ use Rattle.varisat_prop.specs.Pairs.{with_pair}
 use Rattle.varisat_prop.specs.View.{view_of}
 use Rattle.varisat_prop.specs.Watches.{IsPropagated}
 use Rattle.varisat_prop.specs.Visits.{WatchesClause}
+use Rattle.varisat_prop.proofs.DistinctPlaces.{distinct-places}
 use Rattle.varisat_prop.proofs.LongVisited.{listed}
 use Rattle.varisat_prop.proofs.TrailValues.{fits-node}
 use Rattle.varisat_prop.proofs.WatchKept.{propagated-enqueued}
@@ -172,10 +173,12 @@ returns-then-len-gt1-clause-propagated g c =
     let m = c.len.ensures in
     let o = x.tmp_data.lits.ok.0 in
     let same = ap length c.deref-then-len-gt1-2.ensures.value in
+    let apart = distinct-places c.deref-then-len-gt1-2.result.now 0 (subst (λ ls. IsDistinct ls) (sym c.deref-then-len-gt1-2.ensures.value) c.requires.distinct)
+    0 1 (omega arith) (omega (arith, m, o, same, c.if-len-gt1.true)) in
     let head = subst (λ ls. IsHeadAfter x.assignment.current ls x.trail.queue_head c.reset_queue_if_false.new.trail.queue_head)
     (c.deref-then-len-gt1.ensures.value ∙ sym c.deref-then-len-gt1-2.ensures.value) c.reset_queue_if_false.ensures.head in
     subst (IsPropagated V) (sym whole)
-    (propagated-kept (view x) c.requires.well c.requires.undecided x.watchlists V j c.requires.propagated k.1 watched
+    (propagated-kept (view x) c.requires.well c.requires.undecided x.watchlists V j c.requires.propagated k.1 watched apart
     c.reset_queue_if_false.new.trail.queue_head (omega (arith, m, o, same, c.if-len-gt1.true)) head)
 
 pub returns-clause-propagated : goal.returns-clause-propagated

@@ -6,6 +6,7 @@ use Rattle.varisat_clause.proofs.KeptShapes.{shapes-changed}
 use Rattle.varisat_clause.proofs.StoredClauses.{with-same}
 use Rattle.varisat_clause.proofs.LiveStore.{live-place, live-literals, live-changed}
 use Rattle.varisat_prop.specs.Looks.{IsInRange}
+use Rattle.varisat_prop.specs.Watches.{IsWatchedBy}
 use Rattle.varisat_prop.specs.Visits.{IsFound}
 use Rattle.varisat_prop.proofs.prop.long.reorder_clause.Goals as goal
 
@@ -19,6 +20,10 @@ reorder-requires-clause-long g c = subst (λ x. 2 ≤ length x)
 pub reorder-requires-clause-within : goal.reorder-requires-clause-within
 reorder-requires-clause-within g c = subst (IsInRange c.args.assignment.now.current)
     (sym (c.lits_mut-lits.ensures.value ∙ live-literals c.args.alloc.now c.args.cref c.requires.sound c.requires.place)) c.requires.within
+
+pub reorder-requires-clause-watched : goal.reorder-requires-clause-watched
+reorder-requires-clause-watched g c = subst (λ x. IsWatchedBy x c.args.false_lit)
+    (sym (c.lits_mut-lits.ensures.value ∙ live-literals c.args.alloc.now c.args.cref c.requires.sound c.requires.place)) c.requires.watched
 
 pub returns : goal.returns
 returns g c =

@@ -3,7 +3,7 @@ use Rattle.varisat_clause.proofs.StoreSound.{is-sound}
 use Rattle.varisat_prop.specs.View.{View}
 use Rattle.varisat_prop.specs.QueueSteps.{parts_of, view_of_parts}
 use Rattle.varisat_prop.proofs.TrailValues.{fits-node}
-use Rattle.varisat_prop.proofs.LongVisited.{watch-long, watch-range, watch-false, code-stale, code-true, code-false, other-listed, code-other, code-assignable, code-implied}
+use Rattle.varisat_prop.proofs.LongVisited.{watch-long, watch-range, watch-false, watch-by, code-true, code-false, other-listed, code-other, code-assignable, code-implied}
 use Rattle.varisat_prop.proofs.prop.long.visit_watch.Goals as goal
 
 pub reorder_clause-requires : goal.reorder_clause-requires
@@ -15,6 +15,7 @@ reorder_clause-requires g c =
       long = watch-long p c.requires;
       within = watch-range p c.requires;
       is_false = watch-false p c.requires c.not.ensures;
+      watched = watch-by p c.requires c.not.ensures;
     }
 
 pub add_watch-requires : goal.add_watch-requires
@@ -27,11 +28,6 @@ enqueue_assignment-requires g c =
     let p = parts_of c.args.alloc.now c.args.binary.now c.args.assignment.now c.args.trail.now c.args.graph.now in
     let fits = fits-node (view_of_parts p) c.requires.well in
     record { assignable = code-assignable p c.requires c.not.ensures c.in-Implied.ensures; level = omega (arith, fits.0); depth = fits.1 }
-
-pub returns-in-Stale : goal.returns-in-Stale
-returns-in-Stale g c =
-    let p = parts_of c.args.alloc.now c.args.binary.now c.args.assignment.now c.args.trail.now c.args.graph.now in
-    code-stale p c.requires c.not.ensures c.in-Stale.ensures
 
 pub returns-in-True : goal.returns-in-True
 returns-in-True g c =

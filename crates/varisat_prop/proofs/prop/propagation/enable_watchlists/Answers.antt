@@ -4,9 +4,10 @@ use Rattle.varisat_clause.specs.Stored.{literals_at}
 use Rattle.varisat_clause.specs.Stores.{stored_clauses}
 use Rattle.varisat_clause.specs.Collected.{live_clauses}
 use Rattle.varisat_clause.proofs.StoredClauses.{kept-at}
-use Rattle.varisat_clause.proofs.LiveStore.{live-place, live-literals, live-long-at}
+use Rattle.varisat_clause.proofs.LiveStore.{live-place, live-literals, live-long-at, are-live-rising}
 use Rattle.varisat_prop.specs.Watches.{Watches, watches_of}
 use Rattle.varisat_prop.specs.Visits.{WatchesClause}
+use Rattle.varisat_prop.proofs.DistinctPlaces.{distinct-places}
 use Rattle.varisat_prop.proofs.WatchRebuilt.{WatchingBut, but-all, but-next, but-none}
 use Rattle.varisat_prop.proofs.prop.propagation.enable_watchlists.Goals as goal
 
@@ -44,7 +45,9 @@ loop-cref-preserved g c =
     let w = subst (λ x. WatchesClause W V p x) (c.lits.ensures ∙ live-literals s p c.requires.sound h) c.in_ok-watch_clause.ensures in
     record {
       but = but-next W V (live_clauses s) p c.next.new.self c.loop-cref.invariant.enabled
-          (subst (λ (xs : List ℕ). WatchingBut W (live_clauses s) xs) c.in-Some.ensures.steps c.loop-cref.invariant.but) w;
+          (subst (λ (xs : List ℕ). WatchingBut W (live_clauses s) xs) c.in-Some.ensures.steps c.loop-cref.invariant.but)
+          (distinct-places (literals_at (live_clauses s) p) 0 (c.requires.distinct (literals_at (live_clauses s) p) (kept-at (live_clauses s) p h))
+          0 1 (omega arith) (let l = live-long-at s p c.requires.sound h in omega (arith, l))) w;
       enabled = w.adds.enabled ∙ c.loop-cref.invariant.enabled;
       count = w.adds.count ∙ c.loop-cref.invariant.count;
     }
@@ -57,7 +60,8 @@ loop-cref-init g c =
     record {
       but = subst (λ (xs : List ℕ). WatchingBut c.enable.new.self (live_clauses s) xs)
           (sym (c.into_iter-cref-iterator.ensures.into_iter_gives ∙ c.clauses_iter-cref-items.ensures))
-          (but-all c.enable.new.self (live_clauses s) (λ x. ap (λ (X : Watches). watches_of X x) c.enable.ensures ∙ c.requires.empty off x));
+          (but-all c.enable.new.self (live_clauses s) (are-live-rising s c.requires.sound)
+          (λ x. ap (λ (X : Watches). watches_of X x) c.enable.ensures ∙ c.requires.empty off x));
       enabled = ap (λ (x : Watches). x.enabled) c.enable.ensures;
       count = ap length lists;
     }

@@ -21,6 +21,11 @@ enable_watchlists-requires-clause-within g c = λ d h l m.
     let o = c.requires.propagated.lists in
     omega (arith, n, o)
 
+pub enable_watchlists-requires-clause-distinct : goal.enable_watchlists-requires-clause-distinct
+enable_watchlists-requires-clause-distinct g c = λ d h.
+    let s = view_of c.args.alloc.now c.args.binary.now c.args.assignment.now c.args.trail.now c.args.graph.now in
+    c.requires.well.distinct d (stored-kept s d h)
+
 pub queue-init : goal.queue-init
 queue-init g c =
     let s = view_of c.args.alloc.now c.args.binary.now c.args.assignment.now c.args.trail.now c.args.graph.now in

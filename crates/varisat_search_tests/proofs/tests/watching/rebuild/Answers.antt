@@ -12,6 +12,9 @@ enable_watchlists-requires-clause-within g c = λ d h l i.
     subst (λ n. opposite l < n) (sym (c.disable.ensures.count ∙ c.requires.propagated.lists))
     (listed l (length c.args.ctx.now.assignment.current) (c.requires.well.in_range d (stored-kept (view c.args.ctx.now) d h) l i))
 
+pub enable_watchlists-requires-clause-distinct : goal.enable_watchlists-requires-clause-distinct
+enable_watchlists-requires-clause-distinct g c = λ d h. c.requires.well.distinct d (stored-kept (view c.args.ctx.now) d h)
+
 pub returns : goal.returns
 returns g c =
     let e = c.in_ok-enable_watchlists.ensures in

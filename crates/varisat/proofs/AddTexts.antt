@@ -14,12 +14,13 @@ use Rattle.varisat_formula.proofs.ParsedSources.{reads_none, reads_more}
 use Rattle.varisat.specs.States.{State}
 use Rattle.varisat.specs.Additions as additions
 use Rattle.varisat.specs.Additions.{Gave, ClauseRefused, ClausesAdded, RefusedEarly, FaultInText, Whole, MemoryRanOut, SourceFailed}
-use Rattle.varisat.specs.Calls.{adding, AddsAll, AddsReading, TellsFault}
+use Rattle.varisat.specs.ClauseCalls.{AddsAll, AddsReading, TellsFault}
+use Rattle.varisat.specs.Calls.{calling}
 use Rattle.varisat.specs.declared.solver.SolverError.{SolverError}
 use Rattle.varisat.proofs.Additions.{adds-more}
 
 abbrev pub AddsGiven : {old new : Stand} → Gave old new → State → Result (Unit {0}) SolverError → State → Type 0
-AddsGiven g s r t = additions.AddsGiven adding g s r t
+AddsGiven g s r t = additions.AddsGiven calling g s r t
 
 -- what was read of a source without a fault, where the clauses `front` were taken
 pub record ReadSo (s t : Stand) (q : Progress) (front : List Clause) : Type 0 where

@@ -3,7 +3,8 @@ use Rattle.std.proofs.Common.{◌≡◌, inl, inr, List, [], ◌∷◌, ◌++◌
 use Rattle.std.specs.Result.{IsErr, IsErrAnd}
 use Rattle.varisat_theory.specs.Literals.{Clause}
 use Rattle.varisat.specs.States.{State}
-use Rattle.varisat.specs.Calls.{IsValid, Ignored, Accepted, AddsClause, AddsAll}
+use Rattle.varisat.specs.ClauseCalls.{AddsAll}
+use Rattle.varisat.specs.Calls.{IsValid, Ignored, Accepted, AddsClause}
 use Rattle.varisat.specs.declared.solver.SolverError.{SolverError}
 
 -- more clauses behind those that were accepted

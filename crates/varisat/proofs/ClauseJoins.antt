@@ -19,7 +19,7 @@ use Rattle.varisat.proofs.WrittenVariables.{written-alike}
 -- The spaces stand for a state in which the clause is accepted, and the open proof fits it, and so do the words of the clause store.
 pub record ClauseJoins (s : State) (d : Clause) (after : Spaces) (opened : Option OpenState) (words : ℕ) : Type 0 where
   pub state : State
-  pub accepts : call.Accepts s d state
+  pub accepts : call.Accepts call.calling s d state
   pub ledger : state.ledger ≡ record s.ledger { started = true; since = 0 }
   pub size : state.words ≡ words
   pub fits : SpacesFit after state

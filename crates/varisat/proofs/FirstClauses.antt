@@ -1,12 +1,12 @@
 -- Which clauses of a text are accepted: the first ones, and all but where these are known to be unsatisfiable.
-use Rattle.std.proofs.Common.{◌≡◌, ◌≢◌, ◌∙◌, ℕ, Bool, true, false, List, [], ◌∷◌, ◌++◌, Option, Some, None, Ok, Err, inl, inr, refl, sym, ap, subst, append-nil, append_assoc}
+use Rattle.std.proofs.Common.{◌≡◌, ◌≢◌, ◌∙◌, ℕ, true, false, List, [], ◌∷◌, ◌++◌, Some, None, inl, inr, refl, sym, ap, subst, append-nil, append_assoc}
 use Rattle.varisat_theory.specs.Literals.{Clause}
-use Rattle.varisat_formula.specs.declared.dimacs.error.DimacsErrorKind.TheVariants.{OutOfMemory, Io}
-use Rattle.varisat_formula.specs.Dimacs.{Reading, dimacs, broken}
+use Rattle.varisat_formula.specs.Dimacs.{Reading, dimacs}
 use Rattle.varisat_formula.specs.Streams.{Stand}
-use Rattle.varisat.specs.States.{State, Verdict, Unknown, Unsat}
+use Rattle.varisat.specs.States.{State, Unknown, Unsat}
 use Rattle.varisat.specs.Names.{AreInOrder}
 use Rattle.varisat.specs.Counts.{count_with}
+use Rattle.varisat.specs.ClauseCalls.{AddsAll, AddsDimacs}
 use Rattle.varisat.specs.Calls as state
 use Rattle.varisat.specs.Additions as additions
 use Rattle.varisat.specs.Additions.{Gave, NoFault, MemoryFault, Fault, ClauseRefused, ClausesAdded, RefusedEarly, FaultInText, Whole, MemoryRanOut, SourceFailed, Read, Unread}
@@ -24,7 +24,7 @@ pub record AreFirst (P : List Clause) (s t : State) : Type 0 where
   pub refuted : rest ≢ [] → t.verdict ≡ Unsat
 
 -- once they are known to be unsatisfiable no other joins
-all-ignored : (s t : State) (P : List Clause) → s.verdict ≡ Unsat → state.AddsAll s P done t → (t.clauses ≡ s.clauses) × (t.verdict ≡ Unsat)
+all-ignored : (s t : State) (P : List Clause) → s.verdict ≡ Unsat → AddsAll s P done t → (t.clauses ≡ s.clauses) × (t.verdict ≡ Unsat)
 all-ignored s t [] u (x, e) = (ap (λ (y : State). y.clauses) e, ap (λ (y : State). y.verdict) e ∙ u)
 all-ignored s t (c ∷ P) u (inl (mid, (v, state.Ignored n e), more)) =
     let (same, known) = all-ignored mid t P (ap (λ (y : State). y.verdict) e ∙ u) more in
@@ -32,7 +32,7 @@ all-ignored s t (c ∷ P) u (inl (mid, (v, state.Ignored n e), more)) =
 all-ignored s t (c ∷ P) u (inl (mid, (v, state.Accepted n lim a), more)) = absurd (n.unrefuted u)
 all-ignored s t (c ∷ P) u (inr (e, k, a)) = absurd cc
 
-first-clauses : (n : ℕ) (s t : State) (P : List Clause) → AreInOrder n s.naming → state.AddsAll s P done t → AreFirst P s t
+first-clauses : (n : ℕ) (s t : State) (P : List Clause) → AreInOrder n s.naming → AddsAll s P done t → AreFirst P s t
 first-clauses n s t [] o (x, e) = record {
   given = [];
   rest = [];
@@ -62,7 +62,7 @@ first-clauses n s t (c ∷ P) o (inl (mid, (v, state.Accepted x lim (w, after, e
     }
 first-clauses n s t (c ∷ P) o (inr (e, k, a)) = absurd cc
 
-first-read : (n : ℕ) (s t : State) (R : Reading) → AreInOrder n s.naming → additions.AddsReading state.adding s R done t →
+first-read : (n : ℕ) (s t : State) (R : Reading) → AreInOrder n s.naming → additions.AddsReading state.calling s R done t →
     (R.fault ≡ None) × AreFirst R.clauses s t
 first-read n s t R o (ClauseRefused e k a) = absurd cc
 first-read n s t R o (ClausesAdded m a (NoFault none k e)) =
@@ -79,7 +79,7 @@ first-read n s t R o (ClausesAdded m a (NoFault none k e)) =
 first-read n s t R o (ClausesAdded m a (MemoryFault y f k e b)) = absurd cc
 first-read n s t R o (ClausesAdded m a (Fault y f k e b)) = absurd cc
 
-first-given : (n : ℕ) (s t : State) (old new : Stand) (g : Gave old new) → AreInOrder n s.naming → additions.AddsGiven state.adding g s done t →
+first-given : (n : ℕ) (s t : State) (old new : Stand) (g : Gave old new) → AreInOrder n s.naming → additions.AddsGiven state.calling g s done t →
     AreFirst (dimacs g.text).clauses s t
 first-given n s t old new g o (RefusedEarly ended from e k a f) = absurd cc
 first-given n s t old new g o (FaultInText R from x a f) = absurd (x (first-read n s t R o a).0)
@@ -88,7 +88,7 @@ first-given n s t old new g o (MemoryRanOut front rest e a f) = absurd (broken-f
 first-given n s t old new g o (SourceFailed a f) = absurd (broken-fails _ g.text (first-read n s t _ o a).0)
 
 -- those of a text that was taken in whole
-pub first-of-text : (n : ℕ) (s t : State) (old new : Stand) → AreInOrder n s.naming → state.AddsDimacs s old done new t →
+pub first-of-text : (n : ℕ) (s t : State) (old new : Stand) → AreInOrder n s.naming → AddsDimacs s old done new t →
     (text : List ℕ) × (new.given ≡ old.given ++ text) × AreFirst (dimacs text).clauses s t
 first-of-text n s t old new o (Read v g a) = (g.text, g.reads.gave, first-given n s t old new g o a)
 first-of-text n s t old new o (Unread e k f) = absurd cc

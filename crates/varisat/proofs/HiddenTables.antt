@@ -15,7 +15,7 @@ use Rattle.varisat_names.proofs.Maps.{updated-at, updated-other, updated-all, ch
 use Rattle.varisat.specs.States.{State}
 use Rattle.varisat.specs.Names.{Mode, give_name, IsLeastFree, IsUnnamed}
 use Rattle.varisat.specs.Calls.{with_naming}
-use Rattle.varisat.specs.VariableCalls.{IsAssumed, with_mode, hide_name}
+use Rattle.varisat.specs.Usage.{IsAssumed, with_mode, hide_name}
 use Rattle.varisat.specs.Carried.{carry, value_or}
 use Rattle.varisat_theory.specs.Journals.{Entry, Leaves}
 use Rattle.varisat_theory.specs.Literals.{Literal}

@@ -1,26 +1,21 @@
 -- What a run says of the answers alone.
-use Rattle.std.proofs.Common.{false, ◌≡◌, true, List, [], ◌∷◌, sym, ap, subst, refl, ◌∙◌, Result, Ok, Err}
+use Rattle.std.proofs.Common.{false, List, [], ◌∷◌, ap, refl, Result, Ok, Err}
 use Rattle.std.specs.Result.{IfOk}
 use Rattle.varisat_formula.specs.Streams.{Stand, Taken}
-use Rattle.varisat_proof.specs.declared.proof.format.Encoding.TheVariants.{Text}
-use Rattle.varisat_proof.specs.Telling.{lines_told}
-use Rattle.varisat_proof.specs.Written.{AreInRange}
 use Rattle.varisat.specs.declared.session.Call.{Call}
 use Rattle.varisat.specs.declared.session.Answer.{Answer}
 use Rattle.varisat.specs.declared.session.Call.TheVariants as call
 use Rattle.varisat.specs.declared.session.Answer.TheVariants as answer
 use Rattle.varisat.specs.States.{State, empty_state}
-use Rattle.varisat_theory.specs.Journals.{NoneLeaves, accepted_of}
-use Rattle.varisat_proof.specs.Assumed.{lists_of, assumed_behind, CoresAreAssumed}
 use Rattle.varisat.specs.Journals.{IsJournal, IsToldWithin}
 use Rattle.varisat.specs.Calls.{IsValid}
 use Rattle.varisat.specs.Pasts as past
 use Rattle.varisat.specs.Told.{told_list, told_vars}
 use Rattle.varisat.specs.Names.{Sample, Witness}
 use Rattle.varisat.specs.Runs.{MakesCall, Run}
-use Rattle.varisat.specs.Pasts.{Past, empty_past}
+use Rattle.varisat.specs.Pasts.{Findings, empty_past}
 use Rattle.varisat.specs.Histories.{IsTrue, AreTrue}
-use Rattle.varisat.proofs.Pasts.{Agrees, Leads, add-clause, add-formula, add-text, make-var, set-usage, hide, observe, assume-list, tell-model, tell-core, config, tell-since, open-proof, close, enable-checking, stays, new-agrees}
+use Rattle.varisat.proofs.Pasts.{Agrees, Leads, past_of, add-clause, add-formula, add-text, make-var, set-usage, hide, observe, assume-list, tell-model, tell-core, config, open-proof, close, enable-checking, stays, new-agrees}
 use Rattle.varisat.proofs.SolvedPasts.{solve}
 use Rattle.varisat.proofs.RunsTold.{call-within}
 
@@ -30,57 +25,60 @@ of-ok (Ok x) P Q f h = f x h
 of-ok (Err e) P Q f h = tt
 
 -- a call moves the past and the state alike
-is-true : {W S A : Type 0} (seen : S → Stand) (taken : W → Taken) (c : Call W S A) (a : Answer W S A) (p : Past) (s t : State) → Agrees p s →
-    MakesCall seen taken s c a t → Leads (IsTrue seen taken p c a) t
-is-true seen taken (call.AddClause d) (answer.AddClause r) p s t g m = add-clause p s t d.items r g m
-is-true seen taken (call.AddFormula f) (answer.AddFormula r) p s t g m = add-formula p s t f.clauses r g m
-is-true seen taken (call.AddDimacsCnf source) (answer.AddDimacsCnf r back) p s t g m = add-text p s t (seen source) (seen back) r g m
-is-true seen taken call.NewVar (answer.NewVar r) p s t g m = make-var p s t r g m
-is-true seen taken (call.SampleVar u) (answer.SampleVar r) p s t g m = set-usage Sample p s t u r g m
-is-true seen taken (call.WitnessVar u) (answer.WitnessVar r) p s t g m = set-usage Witness p s t u r g m
-is-true seen taken (call.HideVar u) (answer.HideVar r) p s t g m = hide p s t u r g m
-is-true seen taken call.ObserveInternalVars (answer.ObserveInternalVars r) p s t g m = observe p s t (told_vars r) g m
-is-true seen taken (call.Assume list) (answer.Assume r) p s t g m = assume-list p s t list.items r g m
-is-true seen taken call.Solve (answer.Solve r) p s t g m = solve p s t r g m
-is-true seen taken call.Model (answer.Model r) p s t g m = tell-model p s t (told_list r) g m
-is-true seen taken call.FailedCore (answer.FailedCore r) p s t g m = tell-core p s t (told_list r) g m
-is-true seen taken (call.Config u) (answer.Config r) p s t g m = config p s t u r g m
-is-true seen taken call.Steps (answer.Steps n) p s t g (e, k) = (p, (e ∙ g.steps, refl), stays p s t k g)
-is-true seen taken call.StepsSinceChange (answer.StepsSinceChange n) p s t g m = tell-since p s t n g m
-is-true seen taken call.IsValid (answer.IsValid b) p s t g (e, k) = (p, (e ∙ g.valid, refl), stays p s t k g)
-is-true seen taken (call.WriteProof target format) (answer.WriteProof r) p s t g m = open-proof taken target format p s t r g m
-is-true seen taken call.CloseProof (answer.CloseProof r) p s t g m = close taken p s t r g m
-is-true seen taken call.EnableSelfChecking (answer.EnableSelfChecking r) p s t g m = enable-checking p s t r g m
-is-true seen taken _ _ p s t g m = absurd m
+is-true : {W S A : Type 0} (seen : S → Stand) (taken : W → Taken) (c : Call W S A) (a : Answer W S A) (v : Findings) (s t : State) → Agrees v s →
+    MakesCall seen taken s c a t → Leads (IsTrue seen taken (past_of v s) c a) t
+is-true seen taken (call.AddClause d) (answer.AddClause r) v s t g m = add-clause v s t d.items r g m
+is-true seen taken (call.AddFormula f) (answer.AddFormula r) v s t g m = add-formula v s t f.clauses r g m
+is-true seen taken (call.AddDimacsCnf source) (answer.AddDimacsCnf r back) v s t g m = add-text v s t (seen source) (seen back) r g m
+is-true seen taken call.NewVar (answer.NewVar r) v s t g m = make-var v s t r g m
+is-true seen taken (call.SampleVar u) (answer.SampleVar r) v s t g m = set-usage Sample v s t u r g m
+is-true seen taken (call.WitnessVar u) (answer.WitnessVar r) v s t g m = set-usage Witness v s t u r g m
+is-true seen taken (call.HideVar u) (answer.HideVar r) v s t g m = hide v s t u r g m
+is-true seen taken call.ObserveInternalVars (answer.ObserveInternalVars r) v s t g m = observe v s t (told_vars r) g m
+is-true seen taken (call.Assume list) (answer.Assume r) v s t g m = assume-list v s t list.items r g m
+is-true seen taken call.Solve (answer.Solve r) v s t g m = solve v s t r g m
+is-true seen taken call.Model (answer.Model r) v s t g m = tell-model v s t (told_list r) g m
+is-true seen taken call.FailedCore (answer.FailedCore r) v s t g m = tell-core v s t (told_list r) g m
+is-true seen taken (call.Config u) (answer.Config r) v s t g m = config v s t u r g m
+is-true seen taken call.Steps (answer.Steps n) v s t g (e, k) = (v, (e, ap (past_of v) k), stays v s t k g)
+is-true seen taken call.StepsSinceChange (answer.StepsSinceChange n) v s t g (e, few, k) = (v, (e, few, ap (past_of v) k), stays v s t k g)
+is-true seen taken call.IsValid (answer.IsValid b) v s t g (e, k) = (v, (e, ap (past_of v) k), stays v s t k g)
+is-true seen taken (call.WriteProof target format) (answer.WriteProof r) v s t g m = open-proof taken target format v s t r g m
+is-true seen taken call.CloseProof (answer.CloseProof r) v s t g m = close taken v s t r g m
+is-true seen taken call.EnableSelfChecking (answer.EnableSelfChecking r) v s t g m = enable-checking v s t r g m
+is-true seen taken _ _ v s t g m = absurd m
 
 -- what was told is the past's journal, as it is the state's
-past-journal : (p : Past) (s : State) → Agrees p s → (IsValid s → IsJournal s) → (IsValid s → IsToldWithin s.ledger.steps s.told) → p.valid ≡ true →
-    past.IsJournal p
-past-journal p s g told within v =
-    let k = g.knows v in
-    let j = told (g.valid ∙ v) in
+past-journal : (v : Findings) (s : State) → Agrees v s → (IsValid s → IsJournal s) → (IsValid s → IsToldWithin s.ledger.steps s.told) → IsValid s →
+    past.IsJournal (past_of v s)
+past-journal v s g told within c =
+    let k = g c in
+    let j = told c in
     record {
-      within = subst (λ n. IsToldWithin n p.told) g.steps (subst (IsToldWithin s.ledger.steps) k.told.same (within (g.valid ∙ v)));
-      accepted = ap accepted_of (sym k.told.same) ∙ j.accepted ∙ k.clauses;
-      lists = ap lists_of (sym k.told.same) ∙ k.lists;
-      assumed = ap (assumed_behind []) (sym k.told.same) ∙ j.assumed ∙ k.assumed;
-      cores = subst (CoresAreAssumed []) k.told.same j.cores;
-      stays = λ n. subst NoneLeaves k.told.same (j.stays (k.hidden ∙ n));
-      in_range = λ n. subst (λ es. AreInRange (lines_told (Text true) es)) k.told.same (j.in_range (k.hidden ∙ n));
+      within = within c;
+      enough = k.told.enough;
+      accepted = j.accepted;
+      lists = k.lists;
+      assumed = j.assumed;
+      cores = j.cores;
+      stays = j.stays;
+      in_range = j.in_range;
     }
 
-are-true : {W S A : Type 0} (seen : S → Stand) (taken : W → Taken) (calls : List (Call W S A)) (answers : List (Answer W S A)) (p : Past)
-    (s t : State) → Agrees p s → (IsValid s → IsToldWithin s.ledger.steps s.told) → Run seen taken s calls answers t → AreTrue seen taken p calls answers
-are-true seen taken [] [] p s t g w r = (p, refl)
-are-true seen taken [] (a ∷ answers) p s t g w r = absurd r
-are-true seen taken (c ∷ calls) [] p s t g w r = absurd r
-are-true seen taken (c ∷ calls) (a ∷ answers) p s t g w (mid, m, told, r) =
-    let (q, x, h) = is-true seen taken c a p s mid g m in
+are-true : {W S A : Type 0} (seen : S → Stand) (taken : W → Taken) (calls : List (Call W S A)) (answers : List (Answer W S A)) (v : Findings)
+    (s t : State) → Agrees v s → (IsValid s → IsToldWithin s.ledger.steps s.told) → Run seen taken s calls answers t →
+    AreTrue seen taken (past_of v s) calls answers
+are-true seen taken [] [] v s t g w r = (past_of v s, refl)
+are-true seen taken [] (a ∷ answers) v s t g w r = absurd r
+are-true seen taken (c ∷ calls) [] v s t g w r = absurd r
+are-true seen taken (c ∷ calls) (a ∷ answers) v s t g w (mid, m, told, r) =
+    let (x, y, h) = is-true seen taken c a v s mid g m in
     let within = call-within seen taken c a s mid m w in
-    let (last, rest) = are-true seen taken calls answers q mid t h within r in
-    (last, (q, x, past-journal q mid h told within, rest))
+    let (last, rest) = are-true seen taken calls answers x mid t h within r in
+    (last, (past_of x mid, y, past-journal x mid h told within, rest))
 
 -- each run of a new solver gives answers that are true
 pub run-is-true : {W S A : Type 0} (seen : S → Stand) (taken : W → Taken) (calls : List (Call W S A)) (answers : List (Answer W S A)) (t : State) →
     Run seen taken empty_state calls answers t → AreTrue seen taken empty_past calls answers
-run-is-true seen taken calls answers t r = are-true seen taken calls answers empty_past empty_state t (new-agrees false) (λ v. ([], refl)) r
+run-is-true seen taken calls answers t r =
+    are-true seen taken calls answers empty_past.verdict empty_state t (new-agrees false) (λ v. ([], refl)) r

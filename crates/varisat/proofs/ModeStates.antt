@@ -7,7 +7,7 @@ use Rattle.varisat_names.specs.declared.variables.data.SamplingMode.TheVariants 
 use Rattle.varisat_names.proofs.Maps.{updated-at, updated-other, updated-all}
 use Rattle.varisat.specs.States.{State}
 use Rattle.varisat.specs.Names.{Mode, identity_of}
-use Rattle.varisat.specs.VariableCalls.{with_mode}
+use Rattle.varisat.specs.Usage.{with_mode}
 use Rattle.varisat.specs.Spaces.{Spaces, Carrying, ModeFits, ModesFit, Links}
 use Rattle.varisat.proofs.SpacesAgree.{identities-same, units-same, isolation-same, marks-same}
 use Rattle.varisat.proofs.VariableMoves.{in_mode, set_mode}

@@ -40,7 +40,7 @@ pub names-are-identities : NamesAreIdentities
 names-are-identities n m ls o named = through-all n m ls o (in-use-below n m ls o named)
 
 pub given-is-accepted : GivenIsAccepted
-given-is-accepted n p c o = let (order, own) = stay-in-order n p.naming c o in (ap (λ x. p.clauses ++ x ∷ []) own, own)
+given-is-accepted n p v c o = let (order, own) = stay-in-order n p.naming c o in (ap (λ x. p.clauses ++ x ∷ []) own, own)
 
 -- where names would be too many, one of them is past the limit
 crowded-limit : (d : List Literal) (n : ℕ) → n ≤ variable_limit → variable_limit < count_with n d → IsPastLimit d

@@ -16,15 +16,17 @@ use Rattle.varisat_names.specs.Settings.{Settings, no_update}
 use Rattle.varisat_proof.specs.declared.proof.format.ProofFormat.{ProofFormat}
 use Rattle.varisat.specs.ProofCalls.{OpensProof, EnablesChecking}
 use Rattle.varisat.specs.Proven.{file_update, configured, prepared, Concludes}
-use Rattle.varisat.specs.States.{State, join_counted, empty_state, new_state}
+use Rattle.varisat.specs.States.{State, Ledger, join_counted, empty_state, new_state}
 use Rattle.varisat.specs.Names.{Naming, AreInOrder}
 use Rattle.varisat.specs.Models.{IsCompletable}
 use Rattle.varisat.specs.Counts.{count_with}
+use Rattle.varisat.specs.ClauseCalls.{AddsDimacs}
+use Rattle.varisat.specs.OpenProofs.{OpenProof, first_proof}
 use Rattle.varisat.specs.Calls as state
+use Rattle.varisat.specs.Calls.{count_anew, Ignored, Accepted}
 use Rattle.varisat.specs.Additions as additions
 use Rattle.varisat.specs.Additions.{Gave, NoFault, MemoryFault, Fault, ClauseRefused, ClausesAdded, RefusedEarly, FaultInText, Whole, MemoryRanOut, SourceFailed, Read, Unread}
-use Rattle.varisat.specs.Pasts as past
-use Rattle.varisat.specs.Pasts.{Past, PastProof, empty_past, accept}
+use Rattle.varisat.specs.Pasts.{Findings, Past, empty_past, telling}
 use Rattle.varisat.specs.Budgets.{CountsSteps}
 use Rattle.varisat.specs.Decided.{IsUpToHighest, IsModel, named_variables, allowed_steps, Conclusion, Decided, Unknown, IsConclusion, Decides, StatusIsTrue, conclusion_status}
 use Rattle.varisat.specs.declared.solver.SolverError.{SolverError}
@@ -32,7 +34,7 @@ use Rattle.varisat.specs.declared.solver.SolverError.TheVariants.{Interrupted, I
 use Rattle.varisat.proofs.NamesInOrder.{stay-in-order, count-above, count-within, through-all}
 use Rattle.varisat.proofs.NameLaws.{none-in-order, in-use-below}
 use Rattle.varisat.proofs.Counted.{join-more, join-has, join-only, join-once}
-use Rattle.varisat.proofs.Pasts.{Agrees, clauses-known, add-text, config, opens, tell-model, new-agrees}
+use Rattle.varisat.proofs.Pasts.{Agrees, past_of, stays-but, add-text, tell-model, new-agrees}
 use Rattle.varisat.proofs.SolvedPasts.{solve}
 use Rattle.varisat.proofs.MoreClauses.{Carries, carries-all, carries-through, carries-one-more}
 
@@ -64,8 +66,8 @@ record Took (n : ℕ) (P : List Clause) (p q : Past) : Type 0 where
   carries : Carries q.clauses (p.clauses ++ P)
   counted : (known : List ℕ) → p.counted ⊆ known → q.counted ⊆ named_variables known P
   once : IsDistinct p.counted → IsDistinct q.counted
-  steps : q.steps ≡ p.steps
-  settings : q.settings ≡ p.settings
+  steps : q.ledger.steps ≡ p.ledger.steps
+  settings : q.ledger.settings ≡ p.ledger.settings
   assumptions : q.assumptions ≡ p.assumptions
 
 join-part : (xs known is : List ℕ) → xs ⊆ known → join_counted xs is ⊆ join_counted known is
@@ -74,7 +76,7 @@ join-part xs known is h i m = ⊎_elim (λ k. join-more is known i (h i k)) (joi
 satisfies-one-more : (a : Assignment) (P Q : List Clause) (c : Clause) → SatisfiesAll a P → SatisfiesAll a (c ∷ Q) → SatisfiesAll a (P ++ c ∷ [])
 satisfies-one-more a P Q c x y d h = ⊎_elim (x d) (λ k. ⊎_elim (λ e. y d (inl e)) (λ z. absurd z) k) (∈-append_cases d P (c ∷ []) h)
 
-took : (n : ℕ) (p q : Past) (P : List Clause) → AreInOrder n p.naming → additions.AddsAll past.adding p P done q → Took n P p q
+took : (n : ℕ) (p q : Past) (P : List Clause) → AreInOrder n p.naming → additions.AddsAll telling p P done q → Took n P p q
 took n p q [] o (u, e) =
     subst (Took n [] p) (sym e) (record {
       more = λ a h. h;
@@ -88,12 +90,11 @@ took n p q [] o (u, e) =
       assumptions = refl;
     })
 took n p q (c ∷ P) o (inr (e, k, a)) = absurd cc
-took n p q (c ∷ P) o (inl (mid, (v, past.Accepted u l e), rest)) =
+took n p q (c ∷ P) o (inl (mid, (v, Accepted u l (w, is, e)), rest)) =
     let (order, own) = stay-in-order n p.naming c o in
-    let clauses : (accept c p).clauses ≡ p.clauses ++ c ∷ [] = ap (λ x. p.clauses ++ x ∷ []) own in
-    let counted : (accept c p).counted ≡ join_counted p.counted (map variable_of c) = ap (λ x. join_counted p.counted (map variable_of x)) own in
-    let joined : Past = past.retold mid.told (accept c p) in
-    let r = took (count_with n c) joined q P order (subst (λ (x : Past). additions.AddsAll past.adding x P done q) e.same rest) in
+    let clauses : mid.clauses ≡ p.clauses ++ c ∷ [] = e.clauses ∙ ap (λ x. p.clauses ++ x ∷ []) own in
+    let counted : mid.counted ≡ join_counted p.counted (map variable_of c) = e.counted ∙ ap (λ x. join_counted p.counted (map variable_of x)) own in
+    let r = took (count_with n c) mid q P (subst (AreInOrder (count_with n c)) (sym e.naming) order) rest in
     record {
       more = λ a h. satisfies_fewer a p.clauses (c ∷ []) (subst (SatisfiesAll a) clauses (r.more a h));
       part = λ a x y. r.part a (subst (SatisfiesAll a) (sym clauses) (satisfies-one-more a p.clauses P c x y)) (λ d h. y d (inr h));
@@ -102,12 +103,12 @@ took n p q (c ∷ P) o (inl (mid, (v, past.Accepted u l e), rest)) =
       counted = λ known h. r.counted (join_counted known (map variable_of c))
           (subst (λ xs. xs ⊆ join_counted known (map variable_of c)) (sym counted) (join-part p.counted known (map variable_of c) h));
       once = λ h. r.once (subst IsDistinct (sym counted) (join-once (map variable_of c) p.counted h));
-      steps = r.steps;
-      settings = r.settings;
-      assumptions = r.assumptions;
+      steps = r.steps ∙ ap (λ (l : Ledger). l.steps) e.ledger;
+      settings = r.settings ∙ ap (λ (l : Ledger). l.settings) e.ledger;
+      assumptions = r.assumptions ∙ e.assumptions;
     }
-took n p q (c ∷ P) o (inl (mid, (v, past.Ignored u e), rest)) =
-    let r = took n (past.count_anew p) q P o (subst (λ (x : Past). additions.AddsAll past.adding x P done q) e rest) in
+took n p q (c ∷ P) o (inl (mid, (v, Ignored u e), rest)) =
+    let r = took n (count_anew p) q P o (subst (λ (x : Past). additions.AddsAll telling x P done q) e rest) in
     record {
       more = r.more;
       part = λ a x y. r.part a x (λ d h. y d (inr h));
@@ -121,7 +122,7 @@ took n p q (c ∷ P) o (inl (mid, (v, past.Ignored u e), rest)) =
     }
 
 -- the same where steps are counted anew then
-took-anew : (n : ℕ) (P : List Clause) (p q : Past) → Took n P p q → Took n P p (past.count_anew q)
+took-anew : (n : ℕ) (P : List Clause) (p q : Past) → Took n P p q → Took n P p (count_anew q)
 took-anew n P p q r = record {
   more = r.more;
   part = r.part;
@@ -185,9 +186,9 @@ own-model P m assumptions counted model o k = record {
 
 -- all clauses were taken in, and then steps are counted anew
 abbrev AddsWhole : Past → List Clause → Past → Type 0
-AddsWhole p P q = (m : Past) × additions.AddsAll past.adding p P done m × (q ≡ past.count_anew m)
+AddsWhole p P q = (m : Past) × additions.AddsAll telling p P done m × (q ≡ count_anew m)
 
-reading-whole : (p q : Past) (R : Reading) → additions.AddsReading past.adding p R done q → (R.fault ≡ None) × AddsWhole p R.clauses q
+reading-whole : (p q : Past) (R : Reading) → additions.AddsReading telling p R done q → (R.fault ≡ None) × AddsWhole p R.clauses q
 reading-whole p q R (ClauseRefused e k a) = absurd cc
 reading-whole p q R (ClausesAdded m a (NoFault n k e)) = (n, (m, a, e))
 reading-whole p q R (ClausesAdded m a (MemoryFault y n k e b)) = absurd cc
@@ -200,43 +201,43 @@ record Takes (old new : Stand) (p q : Past) : Type 0 where
   fine : (dimacs read.text).fault ≡ None
   all : AddsWhole p (dimacs read.text).clauses q
 
-takes-given : (old new : Stand) (p q : Past) (g : Gave old new) → additions.AddsGiven past.adding g p done q → Takes old new p q
+takes-given : (old new : Stand) (p q : Past) (g : Gave old new) → additions.AddsGiven telling g p done q → Takes old new p q
 takes-given old new p q g (RefusedEarly ended from e k a n) = absurd cc
 takes-given old new p q g (FaultInText R from x a n) = absurd (x (reading-whole p q R a).0)
 takes-given old new p q g (Whole end a n) = let (x, y) = reading-whole p q _ a in record { read = g; ended = end; fine = x; all = y }
 takes-given old new p q g (MemoryRanOut front rest e a n) = absurd (broken-fails _ front (reading-whole p q _ a).0)
 takes-given old new p q g (SourceFailed a n) = absurd (broken-fails _ g.text (reading-whole p q _ a).0)
 
-takes : (old new : Stand) (p q : Past) → past.AddsDimacs p old done new q → Takes old new p q
+takes : (old new : Stand) (p q : Past) → additions.AddsText telling p old done new q → Takes old new p q
 takes old new p q (Read v g a) = takes-given old new p q g a
 takes old new p q (Unread e k n) = absurd cc
 
--- the past of a new solver with the settings for a file, and a proof that is open, or none
-abbrev begun : Option PastProof → Option ℕ → Past
-begun proof limit = record (past.with_update (file_update limit) empty_past) { proof = proof }
+-- a new solver's state with the settings for a file, and a proof that is open, or none
+abbrev begun : Bool → Option OpenProof → Option ℕ → State
+begun check proof limit = record (configured check limit) { proof = proof }
 
-begun-took : (proof : Option PastProof) (limit : Option ℕ) (q : Past) (P : List Clause) → AddsWhole (begun proof limit) P q → Took 0 P (begun proof limit) q
-begun-took proof limit q P (m, a, e) = subst (Took 0 P (begun proof limit)) (sym e)
-    (took-anew 0 P (begun proof limit) m (took 0 (begun proof limit) m P none-in-order a))
+-- and the past
+abbrev begun_past : Bool → Option OpenProof → Option ℕ → Past
+begun_past check proof limit = past_of empty_past.verdict (begun check proof limit)
 
--- How a new solver is prepared.
+begun-took : (check : Bool) (proof : Option OpenProof) (limit : Option ℕ) (q : Past) (P : List Clause) → AddsWhole (begun_past check proof limit) P q →
+    Took 0 P (begun_past check proof limit) q
+begun-took check proof limit q P (m, a, e) = subst (Took 0 P (begun_past check proof limit)) (sym e)
+    (took-anew 0 P (begun_past check proof limit) m (took 0 (begun_past check proof limit) m P none-in-order a))
 
-configured-agrees : (check : Bool) (limit : Option ℕ) → Agrees (begun None limit) (configured check limit)
-configured-agrees check limit =
-    let (p, (v, n, e), g) = config empty_past (new_state check) (configured check limit) (file_update limit) done (new-agrees check) (refl, refl, refl) in
-    subst (λ p. Agrees p (configured check limit)) e g
+begun-agrees : (check : Bool) (proof : Option OpenProof) (limit : Option ℕ) → Agrees empty_past.verdict (begun check proof limit)
+begun-agrees check proof limit = stays-but empty_past.verdict (new_state check) (begun check proof limit) _ proof refl (λ h. refl) (new-agrees check)
 
 -- of a proof that was just opened, that no search ran under it
-abbrev pub unsearched : {W : Type 0} → (W → Taken) → ProofFormat → Option W → Option PastProof
+abbrev pub unsearched : {W : Type 0} → (W → Taken) → ProofFormat → Option W → Option OpenProof
 unsearched taken format None = None
-unsearched taken format (Some target) = Some (past.first_proof format (taken target))
+unsearched taken format (Some target) = Some (first_proof format (taken target))
 
-pub prepared-agrees : {W : Type 0} (taken : W → Taken) (format : ProofFormat) (check : Bool) (limit : Option ℕ) (target : Option W) →
-    Agrees (begun (unsearched taken format target) limit) (prepared taken format check limit target)
-prepared-agrees taken format check limit None = configured-agrees check limit
-prepared-agrees taken format check limit (Some target) =
-    opens (begun None limit) (configured check limit) (prepared taken format check limit (Some target)) format (taken target)
-    (configured-agrees check limit) refl
+-- how a new solver is prepared
+pub prepared-begun : {W : Type 0} (taken : W → Taken) (format : ProofFormat) (check : Bool) (limit : Option ℕ) (target : Option W) →
+    prepared taken format check limit target ≡ begun check (unsearched taken format target) limit
+prepared-begun taken format check limit None = refl
+prepared-begun taken format check limit (Some target) = refl
 
 -- the update is made of one that changes nothing
 pub configures-new : (check : Bool) (limit : Option ℕ) (u : SolverConfigUpdate) (r : Result (Unit {0}) SolverError) (s : State) → u ≡ no_update →
@@ -279,47 +280,46 @@ no-target None h = refl
 no-target (Some target) h = absurd (h target refl)
 
 -- A new solver took a text in, and then is asked.
-module _ (proof : Option PastProof) (limit : Option ℕ) (old new : Stand) (s t : State) (begins : Agrees (begun proof limit) s)
-    (adds : state.AddsDimacs s old done new t) where
-  text-taken : (q : Past) × past.AddsDimacs (begun proof limit) old done new q × Agrees q t
-  text-taken = add-text (begun proof limit) s t old new done begins adds
+module _ (check : Bool) (proof : Option OpenProof) (limit : Option ℕ) (old new : Stand) (s t : State) (is : s ≡ begun check proof limit)
+    (adds : AddsDimacs s old done new t) where
+  text-taken : (v : Findings) × additions.AddsText telling (begun_past check proof limit) old done new (past_of v t) × Agrees v t
+  text-taken = add-text empty_past.verdict (begun check proof limit) t old new done (begun-agrees check proof limit)
+      (subst (λ (x : State). AddsDimacs x old done new t) is adds)
 
   -- what was found, and that the text's clauses are those of the solver and others
   abbrev pub Found : Conclusion → Type 0
   Found c = (d : Decides (allowed_steps limit) old new c) × Carries t.clauses (dimacs d.read.text).clauses
 
-  carried : (q : Past) (P : List Clause) → Agrees q t → q.valid ≡ true → Took 0 P (begun proof limit) q → Carries t.clauses P
-  carried q P g v r = subst (λ Q. Carries Q P) (sym (clauses-known q t g v)) r.carries
-
   found-none : (u : State) → state.Solves t (Ok false) u → Found (Decided None)
   found-none u f =
-      let (q, x, g) = text-taken in
-      let (z, (v, n, few, told, refuted, e), h) = solve q t u (Ok false) g f in
-      let w = takes old new (begun proof limit) q x in
-      let r = begun-took proof limit q (dimacs w.read.text).clauses w.all in (
+      let (v, x, g) = text-taken in
+      let q = past_of v t in
+      let (z, (c, n, few, told, refuted, e), h) = solve v t u (Ok false) g f in
+      let w = takes old new (begun_past check proof limit) q x in
+      let r = begun-took check proof limit q (dimacs w.read.text).clauses w.all in (
         record {
           read = w.read;
           ended = w.ended;
           fine = w.fine;
           found =
-              λ s. n (s.0, r.part s.0 (λ d h. absurd h) s.1, none-true s.0 q.assumptions r.assumptions);
+              λ s. n (s.0, r.part s.0 (λ d h. absurd h) s.1, none-true s.0 t.assumptions r.assumptions);
         },
-        carried q (dimacs w.read.text).clauses g v r,
+        r.carries,
       )
 
   found-unknown : (u : State) → state.Solves t (Err Interrupted) u → Found Unknown
   found-unknown u f =
-      let (q, x, g) = text-taken in
-      let (z, (v, o, few, told, e), h) = solve q t u (Err Interrupted) g f in
-      let w = takes old new (begun proof limit) q x in
-      let r = begun-took proof limit q (dimacs w.read.text).clauses w.all in
+      let (v, x, g) = text-taken in
+      let q = past_of v t in
+      let w = takes old new (begun_past check proof limit) q x in
+      let r = begun-took check proof limit q (dimacs w.read.text).clauses w.all in
       let names = named_variables [] (dimacs w.read.text).clauses in
-      let fewer = length-distinct q.counted names (r.once tt) (r.counted [] (λ i h. h)) in
-      let early = spent-early (length q.counted) (allowed_steps limit) q.settings.max_steps q.since q.steps z.steps few
+      let fewer = length-distinct t.counted names (r.once tt) (r.counted [] (λ i h. h)) in
+      let early = spent-early (length t.counted) (allowed_steps limit) t.ledger.settings.max_steps t.ledger.since t.ledger.steps u.ledger.steps f.steps
       (ap (λ (s : Settings). s.max_steps) r.settings) r.steps in
-      let power : 2 ^ (2 * length q.counted + 3) ≤ 2 ^ (2 * length names + 3) = pow_mono (omega (arith, fewer)) in (
+      let power : 2 ^ (2 * length t.counted + 3) ≤ 2 ^ (2 * length names + 3) = pow_mono (omega (arith, fewer)) in (
         record { read = w.read; ended = w.ended; fine = w.fine; found = omega (arith, early, power) },
-        carried q (dimacs w.read.text).clauses g v r,
+        r.carries,
       )
     where
       spent-early : (n max_steps own since before after : ℕ) → CountsSteps n own since before after (Err Interrupted) → own ≡ max_steps →
@@ -330,22 +330,23 @@ module _ (proof : Option PastProof) (limit : Option ℕ) (old new : Stand) (s t 
           ⊎_elim (λ (s : k.made ≡ own). omega (arith, s, e, b)) (λ (s : after ≡ 2 ^ 64 - 1). omega (arith, s, d, z, b)) (k.spent refl)
 
   found-model : (model : List Literal) (u v : State) → state.Solves t (Ok true) u → state.TellsModel u (Ok (Some model)) v → Found (Decided (Some model))
-  found-model model u v f d =
-      let (q, x, g) = text-taken in
-      let (z, (w, s, few, told, e), h) = solve q t u (Ok true) g f in
-      let k = takes old new (begun proof limit) q x in
-      let r = begun-took proof limit q (dimacs k.read.text).clauses k.all in (
-        record { read = k.read; ended = k.ended; fine = k.fine; found = outcome q (dimacs k.read.text).clauses r.whole (s.0, s.1) z e h },
-        carried q (dimacs k.read.text).clauses g w r,
+  found-model model u y f d =
+      let (v, x, g) = text-taken in
+      let q = past_of v t in
+      let (z, (w, s, few, told, e), h) = solve v t u (Ok true) g f in
+      let k = takes old new (begun_past check proof limit) q x in
+      let r = begun-took check proof limit q (dimacs k.read.text).clauses k.all in (
+        record { read = k.read; ended = k.ended; fine = k.fine; found = outcome (dimacs k.read.text).clauses r.whole (s.0, s.1) z f.rest.clauses f.rest.naming h },
+        r.carries,
       )
     where
-      outcome : (q : Past) (P : List Clause) → (IsSatisfiable q.clauses → ⊥) ⊎ ((q.clauses ≡ P) × AreInOrder (count-all 0 P) q.naming) →
-          IsSatisfiable q.clauses → (z : Past) → z ≡ record (past.once_searched 0 q z) { has_model = true; has_core = false } → Agrees z u → IsModel P model
-      outcome q P (inl n) s z e h = absurd (n s)
-      outcome q P (inr (clauses, order)) s z e h =
-          let (y, (x, i, o, same_past), j) = tell-model z u v (Ok (Some model)) h d in
-          let told = subst (λ Q. IsCompletable z.naming Q z.assumptions z.counted model) (ap (λ (y : Past). y.clauses) e ∙ clauses) o in
-          own-model P z.naming z.assumptions z.counted model (subst (AreInOrder (count-all 0 P)) (sym (ap (λ (y : Past). y.naming) e)) order) told
+      outcome : (P : List Clause) → (IsSatisfiable t.clauses → ⊥) ⊎ ((t.clauses ≡ P) × AreInOrder (count-all 0 P) t.naming) →
+          IsSatisfiable t.clauses → (z : Findings) → u.clauses ≡ t.clauses → u.naming ≡ t.naming → Agrees z u → IsModel P model
+      outcome P (inl n) s z e same h = absurd (n s)
+      outcome P (inr (clauses, order)) s z e same h =
+          let (w, (x, i, o, still), j) = tell-model z u y (Ok (Some model)) h d in
+          let told = subst (λ Q. IsCompletable u.naming Q u.assumptions u.counted model) (e ∙ clauses) o in
+          own-model P u.naming u.assumptions u.counted model (subst (AreInOrder (count-all 0 P)) (sym same) order) told
 
   pub found : (c : Conclusion) (u : State) → Concludes t c u → Found c
   found Unknown u f = found-unknown u f

@@ -12,7 +12,9 @@ use Rattle.varisat_proof.specs.declared.proof.format.ProofFormat.TheVariants.{Dr
 use Rattle.varisat_proof.specs.Proving.{OpenState, IsClosed}
 use Rattle.varisat.specs.OpenProofs.{OpenProof, opened_state, GoesOnWriting, searched_under, first_proof}
 use Rattle.varisat.specs.States.{State, Ledger, Verdict, Unknown, Sat, Unsat, UnsatUnderAssumptions, IsRight}
-use Rattle.varisat.specs.ProofCalls.{IsRefuted, HasProof}
+use Rattle.varisat.specs.ProofCalls.{HasProof}
+use Rattle.varisat.specs.Calls.{IsRefuted}
+use Rattle.varisat.specs.ClauseCalls.{AddsAll, AddsDimacs}
 use Rattle.varisat.specs.Calls as state
 use Rattle.varisat.specs.Calls.{IsValid, TellsVerdict}
 use Rattle.varisat.specs.Additions as additions
@@ -26,7 +28,7 @@ use Rattle.varisat.proofs.OpenProofs.{goes-on-none, goes-on-through, plain-bytes
 use Rattle.varisat.proofs.MoreClauses.{Carries}
 use Rattle.varisat.proofs.NameLaws.{none-in-order}
 use Rattle.varisat.proofs.FirstClauses.{AreFirst, first-of-text, finds-refuted}
-use Rattle.varisat.proofs.ProgramDecides.{prepared-agrees, unsearched, done, found}
+use Rattle.varisat.proofs.ProgramDecides.{prepared-begun, unsearched, done, found}
 
 -- 1. What adding a text keeps.
 
@@ -53,25 +55,25 @@ keeps-clause : (s t : State) (d : Clause) → state.AddsClause s d done t → Ke
 keeps-clause s t d (v, state.Ignored n e) = keeps-anew s t e
 keeps-clause s t d (v, state.Accepted n lim (w, after, e)) = record { proof = e.proof; assumptions = e.assumptions; hidden = e.ever_hidden }
 
-keeps-clauses : (s t : State) (P : List Clause) → state.AddsAll s P done t → Keeps s t
+keeps-clauses : (s t : State) (P : List Clause) → AddsAll s P done t → Keeps s t
 keeps-clauses s t [] (u, e) = subst (Keeps s) (sym e) (keeps-all-of s)
 keeps-clauses s t (c ∷ P) (inl (mid, a, rest)) = keeps-through s mid t (keeps-clause s mid c a) (keeps-clauses mid t P rest)
 keeps-clauses s t (c ∷ P) (inr (e, k, a)) = absurd cc
 
-keeps-reading : (s t : State) (R : Reading) → additions.AddsReading state.adding s R done t → Keeps s t
+keeps-reading : (s t : State) (R : Reading) → additions.AddsReading state.calling s R done t → Keeps s t
 keeps-reading s t R (ClauseRefused e k a) = absurd cc
 keeps-reading s t R (ClausesAdded m a (NoFault n k e)) = keeps-through s m t (keeps-clauses s m R.clauses a) (keeps-anew m t e)
 keeps-reading s t R (ClausesAdded m a (MemoryFault y n k e b)) = absurd cc
 keeps-reading s t R (ClausesAdded m a (Fault y n k e b)) = absurd cc
 
-keeps-given : (s t : State) (old new : Stand) (g : Gave old new) → additions.AddsGiven state.adding g s done t → Keeps s t
+keeps-given : (s t : State) (old new : Stand) (g : Gave old new) → additions.AddsGiven state.calling g s done t → Keeps s t
 keeps-given s t old new g (RefusedEarly ended from e k a n) = absurd cc
 keeps-given s t old new g (FaultInText R from x a n) = keeps-reading s t R a
 keeps-given s t old new g (Whole end a n) = keeps-reading s t _ a
 keeps-given s t old new g (MemoryRanOut front rest e a n) = keeps-reading s t _ a
 keeps-given s t old new g (SourceFailed a n) = keeps-reading s t _ a
 
-keeps-text : (s t : State) (old new : Stand) → state.AddsDimacs s old done new t → Keeps s t
+keeps-text : (s t : State) (old new : Stand) → AddsDimacs s old done new t → Keeps s t
 keeps-text s t old new (Read v g a) = keeps-given s t old new g a
 keeps-text s t old new (Unread e k n) = absurd cc
 
@@ -177,12 +179,12 @@ proven-bytes taken format target back u bytes P c e h has unassumed carries give
     }
 
 pub proven : {W : Type 0} (taken : W → Taken) (format : ProofFormat) (check : Bool) (limit : Option ℕ) (old new : Stand) (target back : Option W) (t u : State)
-    (c : Conclusion) (opened : Option OpenState) → state.AddsDimacs (prepared taken format check limit target) old done new t → Concludes t c u → HasProof u →
+    (c : Conclusion) (opened : Option OpenState) → AddsDimacs (prepared taken format check limit target) old done new t → Concludes t c u → HasProof u →
     opened ≡ opened_state u.proof → IsClosed {E = SolverError} taken opened (Ok back) →
     DecidesProven taken format (allowed_steps limit) old new target back c
 proven {W = W} taken format check limit old new target back t u c opened adds finds has is closed =
     let s = prepared taken format check limit target in
-    let (d, carries) = found (unsearched taken format target) limit old new s t (prepared-agrees taken format check limit target) adds c u finds in
+    let (d, carries) = found check (unsearched taken format target) limit old new s t (prepared-begun taken format check limit target) adds c u finds in
     record {
       decides = d;
       proven = go target back adds (dimacs d.read.text).clauses carries (λ text same. ap (λ xs. (dimacs xs).clauses)
@@ -190,7 +192,7 @@ proven {W = W} taken format check limit old new target back t u c opened adds fi
           (subst (λ o. IsClosed {E = SolverError} taken o (Ok back)) is closed);
     }
   where
-    go : (target back : Option W) → state.AddsDimacs (prepared taken format check limit target) old done new t → (P : List Clause) → Carries t.clauses P →
+    go : (target back : Option W) → AddsDimacs (prepared taken format check limit target) old done new t → (P : List Clause) → Carries t.clauses P →
         ((text : List ℕ) → new.given ≡ old.given ++ text → P ≡ (dimacs text).clauses) →
         IsClosed {E = SolverError} taken (opened_state u.proof) (Ok back) → IsProvenIf taken format P c target back
     go None back adds P carries same closed =
@@ -221,7 +223,7 @@ proven {W = W} taken format check limit old new target back t u c opened adds fi
 -- 4. Errors.
 
 pub fails-reported : (A : Type 0) {W : Type 0} (taken : W → Taken) (s : State) (old new : Stand) (t u : State) (e : SolverError) →
-    state.AddsDimacs s old done new t → Reports {A = A} t (Err e) u → Fails taken s old new e
+    AddsDimacs s old done new t → Reports {A = A} t (Err e) u → Fails taken s old new e
 fails-reported A taken s old new t u OutOfMemory a (inl f) = AsSearched t u a f (λ e. cc)
 fails-reported A taken s old new t u OutOfMemory a (inr f) = AsListed t u a f refl
 fails-reported A taken s old new t u Interrupted a f = absurd f

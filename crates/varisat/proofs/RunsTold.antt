@@ -9,6 +9,7 @@ use Rattle.varisat.specs.States.{State, Ledger, empty_state}
 use Rattle.varisat.specs.Additions.{Gave, AllAdded, OneRefused, RefusedAtOnce, NoFault, MemoryFault, Fault, ClauseRefused, ClausesAdded, RefusedEarly, FaultInText, Whole, MemoryRanOut, SourceFailed, Read, Unread}
 use Rattle.varisat.specs.Additions as additions
 use Rattle.varisat.specs.Usage as usage
+use Rattle.varisat.specs.ClauseCalls.{AddsAll, AddsDimacs, AddsFormula, TellsFault}
 use Rattle.varisat.specs.Calls as state
 use Rattle.varisat.specs.Names.{Naming, Sample, Witness, set_mode, free_name, name_all, through_names}
 use Rattle.varisat.specs.Told.{told_list, told_vars}
@@ -19,7 +20,6 @@ use Rattle.varisat.specs.declared.session.Call.TheVariants as call
 use Rattle.varisat.specs.declared.session.Answer.TheVariants as answer
 use Rattle.varisat_names.specs.declared.config.SolverConfigUpdate.{SolverConfigUpdate}
 use Rattle.varisat_formula.specs.declared.dimacs.error.DimacsError.{DimacsError}
-use Rattle.varisat.specs.VariableCalls as variables
 use Rattle.varisat_proof.specs.declared.proof.format.ProofFormat.{ProofFormat}
 use Rattle.varisat.specs.ProofCalls.{with_proof, OpensProof, EnablesChecking, ClosesProof}
 use Rattle.varisat.specs.Journals.{IsToldWithin, TellsMore}
@@ -92,27 +92,27 @@ add-clause s t d (Err VariableLimit) a w = tells-same s t a.3 w
 add-clause s t d (Err (WitnessVar u)) a w = tells-same s t a.4 w
 add-clause s t d (Err e) a w = absurd a
 
-add-all : (s t : State) (P : List Clause) (r : Result (Unit {0}) SolverError) → state.AddsAll s P r t → state.IsValid t → TellsOn s t
+add-all : (s t : State) (P : List Clause) (r : Result (Unit {0}) SolverError) → AddsAll s P r t → state.IsValid t → TellsOn s t
 add-all s t [] r a w = tells-same s t a.1 w
 add-all s t (c ∷ P) r (inl (mid, a, rest)) w = let second = add-all mid t P r rest w in through s mid t (add-clause s mid c (Ok tt) a second.valid) second
 add-all s t (c ∷ P) r (inr (e, k, a)) w = add-clause s t c (Err e) a w
 
-add-formula : (s t : State) (P : List Clause) (r : Result (Unit {0}) SolverError) → state.AddsFormula s P r t → state.IsValid t → TellsOn s t
+add-formula : (s t : State) (P : List Clause) (r : Result (Unit {0}) SolverError) → AddsFormula s P r t → state.IsValid t → TellsOn s t
 add-formula s t P r (AllAdded v mid a e k) w = let second = tells-anew mid t k w in through s mid t (add-all s mid P (Ok tt) a second.valid) second
 add-formula s t P r (OneRefused v x e a) w = add-all s t P (Err x) a w
 add-formula s t P r (RefusedAtOnce e (v, k)) w = tells-same s t k w
 
-tell-fault : (s t : State) (x : Option DimacsError) (r : Result (Unit {0}) SolverError) → state.TellsFault x s r t → state.IsValid t → TellsOn s t
+tell-fault : (s t : State) (x : Option DimacsError) (r : Result (Unit {0}) SolverError) → TellsFault x s r t → state.IsValid t → TellsOn s t
 tell-fault s t x r (NoFault n e k) w = tells-anew s t k w
 tell-fault s t x r (MemoryFault y n m e b) w = absurd (no-way s t b w)
 tell-fault s t x r (Fault y n m e k) w = tells-same s t k w
 
-add-reading : (s t : State) (R : Reading) (r : Result (Unit {0}) SolverError) → additions.AddsReading state.adding s R r t → state.IsValid t → TellsOn s t
+add-reading : (s t : State) (R : Reading) (r : Result (Unit {0}) SolverError) → additions.AddsReading state.calling s R r t → state.IsValid t → TellsOn s t
 add-reading s t R r (ClauseRefused e k a) w = add-all s t R.clauses (Err e) a w
 add-reading s t R r (ClausesAdded mid a f) w = let second = tell-fault mid t R.fault r f w in
     through s mid t (add-all s mid R.clauses (Ok tt) a second.valid) second
 
-add-given : (s t : State) (old new : Stand) (g : Gave old new) (r : Result (Unit {0}) SolverError) → additions.AddsGiven state.adding g s r t →
+add-given : (s t : State) (old new : Stand) (g : Gave old new) (r : Result (Unit {0}) SolverError) → additions.AddsGiven state.calling g s r t →
     state.IsValid t → TellsOn s t
 add-given s t old new g r (RefusedEarly ended from e k a n) w = add-all s t ended (Err e) a w
 add-given s t old new g r (FaultInText R from x a n) w = add-reading s t R r a w
@@ -120,7 +120,7 @@ add-given s t old new g r (Whole end a n) w = add-reading s t _ r a w
 add-given s t old new g r (MemoryRanOut front rest e a n) w = add-reading s t _ r a w
 add-given s t old new g r (SourceFailed a n) w = add-reading s t _ r a w
 
-add-text : (s t : State) (old new : Stand) (r : Result (Unit {0}) SolverError) → state.AddsDimacs s old r new t → state.IsValid t → TellsOn s t
+add-text : (s t : State) (old new : Stand) (r : Result (Unit {0}) SolverError) → AddsDimacs s old r new t → state.IsValid t → TellsOn s t
 add-text s t old new r (Read v g a) w = add-given s t old new g r a w
 add-text s t old new r (Unread e (v, k) n) w = tells-same s t k w
 
@@ -134,7 +134,7 @@ make-var s t (Err VariableLimit) a w = tells-same s t a.2 w
 make-var s t (Err e) a w = absurd a
 
 changes-var : (may_leave : Bool) (f : Naming → Naming) (b : Bool → Bool) (s t : State) (u : ℕ) (r : Result (Unit {0}) SolverError) →
-    usage.ChangesVar variables.named may_leave
+    usage.ChangesVar may_leave
     (λ x. record x { naming = f x.naming; ever_hidden = b x.ever_hidden; ledger = record x.ledger { since = 0 } }) s u r t → state.IsValid t → TellsOn s t
 changes-var may_leave f b s t u (Ok x) (v, small, free, e) w = tells-plainly s t v (ap (λ (x : Ledger). x.steps) e.ledger) e.told
 changes-var may_leave f b s t u (Err Invalid) a w = tells-same s t a.1 w
@@ -143,7 +143,7 @@ changes-var may_leave f b s t u (Err (AssumedVar x)) a w = tells-same s t a.4 w
 changes-var may_leave f b s t u (Err OutOfMemory) a w = absurd (no-way s t a.2 w)
 changes-var may_leave f b s t u (Err e) a w = absurd a
 
-observe : (s t : State) (r : Result (List ℕ) SolverError) → usage.Observes variables.named s r t → state.IsValid t → TellsOn s t
+observe : (s t : State) (r : Result (List ℕ) SolverError) → usage.Observes s r t → state.IsValid t → TellsOn s t
 observe s t (Ok us) (v, (m, shown, e)) w = tells-plainly s t v (ap (λ (x : Ledger). x.steps) e.ledger) e.told
 observe s t (Err Invalid) a w = tells-same s t a.1 w
 observe s t (Err OutOfMemory) a w = absurd (no-way s t a w)

@@ -4,7 +4,7 @@ use Rattle.std.proofs.lemmas.Bool.{cases_lt}
 use Rattle.std.proofs.lemmas.List.{get_or_past}
 use Rattle.varisat_theory.specs.Membership.{◌∈◌, ◌⊆◌}
 use Rattle.varisat_theory.specs.Literals.{Literal, Clause, variable_of}
-use Rattle.varisat_theory.specs.Derivations.{Line, Add, Delete, IsDerivation, Refutes, SpeakOf}
+use Rattle.varisat_theory.specs.Derivations.{Add, Delete, IsDerivation, Refutes, SpeakOf}
 use Rattle.varisat_theory.specs.Held.{SameClauses}
 use Rattle.varisat_theory.specs.Renaming.{rename}
 use Rattle.varisat_theory.specs.Journals.{Entry, Accepts, Writes, Assumes, Fails, Leaves, Leads, accepted_of, lines_of}
@@ -34,7 +34,8 @@ use Rattle.varisat.specs.OpenProofs.{OpenProof, entries_over, IsWrittenAs, IsWri
 use Rattle.varisat.proofs.OpenProofs.{lines-renamed, plain-bytes}
 use Rattle.varisat.proofs.WrittenVariables.{there-present, there-apart, written-plain}
 use Rattle.varisat.specs.ProofBytes.{IsMarkedDerivation}
-use Rattle.varisat.specs.ProofCalls.{IsRefuted, HasProof}
+use Rattle.varisat.specs.ProofCalls.{HasProof}
+use Rattle.varisat.specs.Calls.{IsRefuted}
 use Rattle.varisat.specs.Carried.{carry}
 use Rattle.varisat.specs.Spaces.{Spaces, Carrying, Links, Translation, IsCounted, AllSpeakOf, HeldFits, VerdictFits, without_core}
 use Rattle.varisat.specs.Summaries.{Summary, spaces, StandsFor}

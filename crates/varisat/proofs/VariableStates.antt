@@ -15,7 +15,7 @@ use Rattle.varisat.specs.States.{State, with_variables}
 use Rattle.varisat.specs.Names.{Mode, Naming, name_one, give_name}
 use Rattle.varisat.specs.Calls.{IsCrowded, with_naming}
 use Rattle.varisat.specs.Usage.{AreAllShown, ChangesVar, SetsMode, name_var}
-use Rattle.varisat.specs.VariableCalls.{named, IsAssumed, with_mode, hide_name}
+use Rattle.varisat.specs.Usage.{IsAssumed, with_mode, hide_name}
 use Rattle.varisat_names.specs.NamesAndModes.{AreShownInTurn, ShowsAllHidden}
 use Rattle.varisat.specs.VariableChanges.{IsMarkedAssumed, IsMarkedName, ChecksChange, StaysKept, SetsNamedMode, HidesNamed}
 use Rattle.varisat.specs.Accepting.{AreBounded, naming_of}
@@ -63,7 +63,7 @@ crowded-one w g s u k c =
 
 -- a change that is refused changes nothing
 pub change-refused : (may_leave : Bool) (change : State → State) {g : Summary} {s : State} (u : ℕ) (e : SolverError) → Begins g s →
-    ChecksChange g.tables u (Err e) → ChangesVar named may_leave change s u (Err e) s
+    ChecksChange g.tables u (Err e) → ChangesVar may_leave change s u (Err e) s
 change-refused may_leave change {g} {s} u VariableLimit b c = let (w, k) = b.fits in (b.valid, ⊎_elim inl (λ m. inr (crowded-one w g s u k m)) c, refl)
 change-refused may_leave change {g} {s} u (AssumedVar x) b (h, q, m) = let (w, k) = b.fits in (b.valid, h, q, assumed-state w g s u k m, refl)
 change-refused may_leave change {g} {s} u e b c = absurd c
@@ -73,7 +73,7 @@ no-memory : (t : Tables) (u : ℕ) (r : Result (Unit {0}) SolverError) → Check
 no-memory t u r c q = subst (ChecksChange t u) q c
 
 pub mode-refused : (n : Mode) {g : Summary} {s : State} (u : ℕ) (e : SolverError) → Begins g s → ChecksChange g.tables u (Err e) →
-    SetsMode named n s u (Err e) s
+    SetsMode n s u (Err e) s
 mode-refused n {g} {s} u e b c = (change-refused false (with_mode u n) u e b c, λ q. absurd (no-memory g.tables u (Err e) c q))
 
 -- 2. What is changed.
@@ -84,7 +84,7 @@ not-hide sampling.Witness n fit e = cc
 not-hide sampling.Hide n fit e = absurd fit
 
 pub mode-state : (g : Summary) (s : State) (new : Tables) (u x : ℕ) (m : SamplingMode) (n : Mode) → SpacesFit (spaces g) s → ModeFits m n →
-    SetsNamedMode u m g.tables x new → FitWithNew (spaces (with_tables new g)) s (with_mode u n (name_var named u s))
+    SetsNamedMode u m g.tables x new → FitWithNew (spaces (with_tables new g)) s (with_mode u n (name_var u s))
 mode-state g s new u x m n b fit c =
     let (variables, keep, fits) = named-one g s c.mid u b c.named.named in
     let t = with_variables variables (with_naming (name_one u s.naming) s) in
@@ -95,7 +95,7 @@ module _ (g : Summary) (s : State) (u : ℕ) (p : ProofParts) (q : TracerState) 
     (h : HidesNamed u g.sat_state (record { tables = g.tables; proof = p }) q) (variables : ℕ → Option ℕ)
     (b : SpacesFit (spaces (with_tables h.set.mid g)) (with_variables variables (with_naming (name_one u s.naming) s))) where
   after : State
-  after = with_variables variables (hide_name u (name_var named u s))
+  after = with_variables variables (hide_name u (name_var u s))
 
   freed : SpacesFit (spaces (with_tables h.mid g)) after
   unfolding after
@@ -114,7 +114,7 @@ module _ (g : Summary) (s : State) (u : ℕ) (p : ProofParts) (q : TracerState) 
 
   left-or-not : (told : List Entry) × TellsLeaving variables s.told told p q.proof
       × SpacesFit (spaces (with_checker q.proof.checker (with_tables q.tables g)))
-      (with_variables variables (retold told (hide_name u (name_var named u s))))
+      (with_variables variables (retold told (hide_name u (name_var u s))))
   unfolding after
   left-or-not = ⊎_elim
       (λ e. subst (λ (t : TracerState). (told : List Entry) × TellsLeaving variables s.told told p t.proof
@@ -127,7 +127,7 @@ pub hide-state : (g : Summary) (s : State) (u : ℕ) (p : ProofParts) (q : Trace
     HidesNamed u g.sat_state (record { tables = g.tables; proof = p }) q →
     (variables : ℕ → Option ℕ) × (told : List Entry) × KeepVariables s.naming.made s.variables variables × TellsLeaving variables s.told told p q.proof
     × SpacesFit (spaces (with_checker q.proof.checker (with_tables q.tables g)))
-    (with_variables variables (retold told (hide_name u (name_var named u s))))
+    (with_variables variables (retold told (hide_name u (name_var u s))))
 hide-state g s u p q same b h =
     let (variables, keep, fits) = named-one g s h.set.mid u b h.set.named.named in
     let (told, more, all) = left-or-not g s u p q same h variables fits in

@@ -1,10 +1,12 @@
--- Clauses that are added in turn, from lists and from DIMACS CNF texts, where it is known how one clause is.
-use Rattle.std.specs.Prelude.{◌≡◌, ◌≢◌, ℕ, ◌+◌, Bool, true, false, List, [], ◌∷◌, ◌++◌, ◌⊎◌, Option, Some, None, Result, Ok, Err}
+-- Clauses that are added in turn, from lists and from DIMACS CNF texts, as one clause is.
+use Rattle.std.specs.Prelude.{◌≡◌, ◌≢◌, ℕ, ◌+◌, List, [], ◌∷◌, ◌++◌, ◌⊎◌, Option, Some, None, Result, Ok, Err}
 use Rattle.varisat_theory.specs.Literals.{Clause}
 use Rattle.varisat_formula.specs.declared.dimacs.error.DimacsError.{DimacsError}
 use Rattle.varisat_formula.specs.declared.dimacs.error.DimacsErrorKind.TheVariants as kind
 use Rattle.varisat_formula.specs.Dimacs.{Reading, dimacs, broken}
 use Rattle.varisat_formula.specs.Streams.{Stand, Reads, HasEnded}
+use Rattle.varisat.specs.States.{Known}
+use Rattle.varisat.specs.Calls.{IsValid, IsRefusedInvalid, Invalidates, count_anew, Verdicts, TakesOne}
 use Rattle.varisat.specs.declared.solver.SolverError.{SolverError}
 use Rattle.varisat.specs.declared.solver.SolverError.TheVariants as error
 
@@ -17,44 +19,32 @@ pub record Gave (old new : Stand) : Type 0 where
 abbrev pub IsBeginning : List Clause → List Clause → Type 0
 IsBeginning P clauses = (rest : List Clause) × (clauses ≡ P ++ rest)
 
--- How clauses are added to something: whether that is valid, what is left of it once memory ran out, what it is once steps are
--- counted anew, and how one clause is added, with which answer.
-pub record Adding (X : Type 0) : Type 1 where
-  pub valid : X → Bool
-  pub invalidates : X → X → Type 0
-  pub count_anew : X → X
-  pub adds : X → Clause → Result (Unit {0}) SolverError → X → Type 0
-
-module _ {X : Type 0} (by : Adding X) where
+module _ {V : Type 0} (by : Verdicts V) where
   -- the clauses in turn, up to the first refusal; those before it stay
-  abbrev pub AddsAll : X → List Clause → Result (Unit {0}) SolverError → X → Type 0
+  abbrev pub AddsAll : Known V → List Clause → Result (Unit {0}) SolverError → Known V → Type 0
   AddsAll s [] r t = (r ≡ Ok tt) × (t ≡ s)
-  AddsAll s (c ∷ P) r t = ((mid : X) × by.adds s c (Ok tt) mid × AddsAll mid P r t) ⊎ ((e : SolverError) × (r ≡ Err e) × by.adds s c (Err e) t)
-
-  -- the call is refused: the solver is invalid, and nothing changes
-  abbrev pub IsRefusedInvalid : X → X → Type 0
-  IsRefusedInvalid s t = (by.valid s ≡ false) × (t ≡ s)
+  AddsAll s (c ∷ P) r t = ((mid : Known V) × TakesOne by s c (Ok tt) mid × AddsAll mid P r t) ⊎ ((e : SolverError) × (r ≡ Err e) × TakesOne by s c (Err e) t)
 
   -- a list of clauses is added; also where it is empty steps are counted anew then
-  pub data AddsList (s : X) (P : List Clause) (r : Result (Unit {0}) SolverError) (t : X) : Type 0 where
-    AllAdded : by.valid s ≡ true → (mid : X) → AddsAll s P (Ok tt) mid → r ≡ Ok tt → t ≡ by.count_anew mid → AddsList s P r t
-    OneRefused : by.valid s ≡ true → (e : SolverError) → r ≡ Err e → AddsAll s P (Err e) t → AddsList s P r t
+  pub data AddsList (s : Known V) (P : List Clause) (r : Result (Unit {0}) SolverError) (t : Known V) : Type 0 where
+    AllAdded : IsValid s → (mid : Known V) → AddsAll s P (Ok tt) mid → r ≡ Ok tt → t ≡ count_anew mid → AddsList s P r t
+    OneRefused : IsValid s → (e : SolverError) → r ≡ Err e → AddsAll s P (Err e) t → AddsList s P r t
     RefusedAtOnce : r ≡ Err error.Invalid → IsRefusedInvalid s t → AddsList s P r t
 
   -- How a text's fault is told, if there is one; else steps are counted anew. Memory that ran out in the reader is told as in any
   -- call, and any other fault changes nothing.
-  pub data TellsFault (fault : Option DimacsError) (s : X) (r : Result (Unit {0}) SolverError) (t : X) : Type 0 where
-    NoFault : fault ≡ None → r ≡ Ok tt → t ≡ by.count_anew s → TellsFault fault s r t
-    MemoryFault : (e : DimacsError) → fault ≡ Some e → e.kind ≡ kind.OutOfMemory → r ≡ Err error.OutOfMemory → by.invalidates s t → TellsFault fault s r t
+  pub data TellsFault (fault : Option DimacsError) (s : Known V) (r : Result (Unit {0}) SolverError) (t : Known V) : Type 0 where
+    NoFault : fault ≡ None → r ≡ Ok tt → t ≡ count_anew s → TellsFault fault s r t
+    MemoryFault : (e : DimacsError) → fault ≡ Some e → e.kind ≡ kind.OutOfMemory → r ≡ Err error.OutOfMemory → Invalidates 0 s t → TellsFault fault s r t
     Fault : (e : DimacsError) → fault ≡ Some e → e.kind ≢ kind.OutOfMemory → r ≡ Err (error.Dimacs e) → t ≡ s → TellsFault fault s r t
 
   -- The clauses that a text gives are added in turn: the first refusal is told, or else the text's fault, behind all clauses that ended before it.
-  pub data AddsReading (s : X) (reading : Reading) (r : Result (Unit {0}) SolverError) (t : X) : Type 0 where
+  pub data AddsReading (s : Known V) (reading : Reading) (r : Result (Unit {0}) SolverError) (t : Known V) : Type 0 where
     ClauseRefused : (e : SolverError) → r ≡ Err e → AddsAll s reading.clauses (Err e) t → AddsReading s reading r t
-    ClausesAdded : (mid : X) → AddsAll s reading.clauses (Ok tt) mid → TellsFault reading.fault mid r t → AddsReading s reading r t
+    ClausesAdded : (mid : Known V) → AddsAll s reading.clauses (Ok tt) mid → TellsFault reading.fault mid r t → AddsReading s reading r t
 
   -- How what a source gave decides the answer.
-  pub data AddsGiven {old new : Stand} (g : Gave old new) (s : X) (r : Result (Unit {0}) SolverError) (t : X) : Type 0 where
+  pub data AddsGiven {old new : Stand} (g : Gave old new) (s : Known V) (r : Result (Unit {0}) SolverError) (t : Known V) : Type 0 where
     -- a clause is refused that ended in it, whatever comes behind
     RefusedEarly : (ended : List Clause) → ((rest : List ℕ) → IsBeginning ended (dimacs (g.text ++ rest)).clauses) → (e : SolverError) → r ≡ Err e →
         AddsAll s ended (Err e) t → new.faults ≡ old.faults → AddsGiven g s r t
@@ -70,6 +60,6 @@ module _ {X : Type 0} (by : Adding X) where
     SourceFailed : AddsReading s (broken kind.Io g.text) r t → new.faults ≡ old.faults + 1 → AddsGiven g s r t
 
   -- A text is added that a source gives. An invalid solver refuses it, and reads nothing.
-  pub data AddsText (s : X) (old : Stand) (r : Result (Unit {0}) SolverError) (new : Stand) (t : X) : Type 0 where
-    Read : by.valid s ≡ true → (g : Gave old new) → AddsGiven g s r t → AddsText s old r new t
+  pub data AddsText (s : Known V) (old : Stand) (r : Result (Unit {0}) SolverError) (new : Stand) (t : Known V) : Type 0 where
+    Read : IsValid s → (g : Gave old new) → AddsGiven g s r t → AddsText s old r new t
     Unread : r ≡ Err error.Invalid → IsRefusedInvalid s t → new ≡ old → AddsText s old r new t

@@ -1,5 +1,5 @@
 -- How many steps a call of `solve` makes.
-use Rattle.std.specs.Prelude.{◌≡◌, ℕ, ◌+◌, ◌-◌, ◌*◌, ◌^◌, ◌<◌, ◌≤◌, Bool, true, Option, Some, None, ◌⊎◌, List, length, Result, Ok, Err}
+use Rattle.std.specs.Prelude.{◌≡◌, ℕ, ◌+◌, ◌-◌, ◌^◌, ◌<◌, ◌≤◌, Bool, Option, Some, None, ◌⊎◌, Result, Ok, Err}
 use Rattle.varisat_theory.specs.CallBounds.{AreFew}
 use Rattle.varisat_search.specs.declared.error.StepError.{StepError}
 use Rattle.varisat.specs.declared.solver.SolverError.{SolverError}
@@ -24,10 +24,3 @@ pub record CountsSteps (n max_steps since before after : ℕ) (answer : Result B
   pub found : (b : Bool) → answer ≡ Ok b → 0 < made
   -- the call is interrupted only where the steps are spent: it made all that it may, or no more can be counted
   pub spent : answer ≡ Err Interrupted → (made ≡ max_steps) ⊎ (after ≡ 2 ^ 64 - 1)
-
--- What is told of the steps since the last change, by how many there were and which variables are counted: nothing changes, and
--- in something valid they are few, over however many calls of `solve` they were made.
-module _ {X : Type 0} (valid : X → Bool) (since : X → ℕ) (counted : X → List ℕ) where
-  -- The count is the one that is kept, which in something valid is few, and nothing changes.
-  abbrev pub TellsSince : X → ℕ → X → Type 0
-  TellsSince s n t = (n ≡ since s) × (valid s ≡ true → AreFew (length (counted s)) n) × (t ≡ s)

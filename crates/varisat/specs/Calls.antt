@@ -11,36 +11,33 @@ use Rattle.varisat_theory.specs.Literals.{Literal, Clause, variable_of, opposite
 use Rattle.varisat_theory.specs.NewClauses.{GoesOnAdding}
 use Rattle.varisat_theory.specs.Journals as entry
 use Rattle.varisat_proof.specs.Passing.{ToldConflict}
-use Rattle.varisat.specs.Journals.{retold, TellsMore, AreDerived, EndBy}
+use Rattle.varisat_theory.specs.CallBounds.{AreFew}
+use Rattle.varisat_proof.specs.declared.proof.format.ProofFormat.{ProofFormat}
+use Rattle.varisat_proof.specs.declared.proof.format.ProofFormat.TheVariants.{Drat, BinaryDrat, Marked}
+use Rattle.varisat.specs.Journals.{retold, TellsMore, AreDerived, EndBy, IsJournal}
 use Rattle.varisat.specs.OpenProofs.{IsOpen, BarsClauses, BarsAssumptions, searched_under, lines_over, GoesOnWriting, GoesOnFailing}
-use Rattle.varisat_formula.specs.Dimacs.{Reading}
-use Rattle.varisat_formula.specs.Streams.{Stand}
-use Rattle.varisat.specs.States.{State, join_counted, Verdict, Unknown, Sat, Unsat, UnsatUnderAssumptions, HasRightVerdict, IsWellFormed}
+use Rattle.varisat.specs.States.{Known, State, join_counted, Verdict, Unknown, Sat, Unsat, UnsatUnderAssumptions, HasRightVerdict, IsWellFormed}
 use Rattle.varisat.specs.Names.{Naming, name_one, name_all, through_names, IsLeastFree, NameNoWitness, IsFirstWitness}
 use Rattle.varisat.specs.Models.{model_of, IsCoreToTell}
-use Rattle.varisat_formula.specs.declared.dimacs.error.DimacsError.{DimacsError}
 use Rattle.varisat_names.specs.declared.config.SolverConfigUpdate.{SolverConfigUpdate}
-use Rattle.varisat_names.specs.Settings.{updated_settings}
-use Rattle.varisat.specs.Updates as updates
+use Rattle.varisat_names.specs.Settings.{updated_settings, first_bad}
 use Rattle.varisat.specs.Budgets.{CountsSteps}
-use Rattle.varisat.specs.Budgets as budgets
-use Rattle.varisat.specs.Additions as additions
 use Rattle.varisat.specs.declared.solver.SolverError.{SolverError}
-use Rattle.varisat.specs.declared.solver.SolverError.TheVariants.{Interrupted, ProofIoError, OutOfMemory, Invalid, ClauseStoreFull, WitnessVar, VariableLimit, ClauseAfterSolve, ProofOpen}
+use Rattle.varisat.specs.declared.solver.SolverError.TheVariants.{Interrupted, ProofIoError, OutOfMemory, Invalid, ClauseStoreFull, WitnessVar, VariableLimit, ClauseAfterSolve, ProofOpen, ConfigOutOfRange}
 use Rattle.varisat_literals.specs.Numbers.{variable_limit}
 
 -- whether no call failed from which there is no way back
-abbrev pub is_valid : State → Bool
+abbrev pub is_valid : {V : Type 0} → Known V → Bool
 is_valid s = s.ledger.valid
 
 -- the same as a statement
-abbrev pub IsValid : State → Type 0
+abbrev pub IsValid : {V : Type 0} → Known V → Type 0
 IsValid s = is_valid s ≡ true
 
 -- What a user can know in t is what it is in s, but for what a call tells beside, lines that add no clause that counts and variables
 -- that leave, for further bytes of an open proof, and for the words of the clause store. Variables left only where they may, and the
 -- lines told before are written as they were.
-pub record IsLikeButLeft (may_leave : Bool) (s t : State) : Type 0 where
+pub record IsLikeButLeft {V : Type 0} (may_leave : Bool) (s t : Known V) : Type 0 where
   pub naming : t.naming ≡ s.naming
   pub ever_hidden : t.ever_hidden ≡ s.ever_hidden
   pub clauses : t.clauses ≡ s.clauses
@@ -55,13 +52,13 @@ pub record IsLikeButLeft (may_leave : Bool) (s t : State) : Type 0 where
   pub proof : GoesOnWriting s.proof t.proof
 
 -- so it is, and none left
-abbrev pub IsLike : State → State → Type 0
+abbrev pub IsLike : {V : Type 0} → Known V → Known V → Type 0
 IsLike s t = IsLikeButLeft false s t
 
 -- An error from which there is no way back: from then on the state is invalid. Nothing else is told of it but that it is
 -- well-formed, what the ledger tells, and that an open proof stays with its target, which has further bytes and failed just as
 -- often as the error tells.
-pub record Invalidates (faults : ℕ) (s t : State) : Type 0 where
+pub record Invalidates {V : Type 0} (faults : ℕ) (s t : Known V) : Type 0 where
   pub valid : IsValid s
   pub ledger : t.ledger ≡ record s.ledger { valid = false }
   pub proof : GoesOnFailing faults s.proof t.proof
@@ -69,19 +66,19 @@ pub record Invalidates (faults : ℕ) (s t : State) : Type 0 where
 
 -- A clause of as many literals as identities were made, with the three words before its literals, would bring the clause store to
 -- 2^32 words or more.
-abbrev pub IsStoreFull : ℕ → State → Type 0
+abbrev pub IsStoreFull : {V : Type 0} → ℕ → Known V → Type 0
 IsStoreFull made t = 2 ^ 32 ≤ t.words + 3 + made
 
 -- the call is refused: the solver is invalid, and nothing changes
-abbrev pub IsRefusedInvalid : State → State → Type 0
+abbrev pub IsRefusedInvalid : {V : Type 0} → Known V → Known V → Type 0
 IsRefusedInvalid s t = (is_valid s ≡ false) × (t ≡ s)
 
 -- a clause, a variable or a list of assumptions was accepted: steps are counted anew
-abbrev pub start : State → State
+abbrev pub start : {V : Type 0} → Known V → Known V
 start s = record s { ledger = record s.ledger { started = true; since = 0 } }
 
 -- steps are counted anew, as after each change
-abbrev pub count_anew : State → State
+abbrev pub count_anew : {V : Type 0} → Known V → Known V
 count_anew s = record s { ledger = record s.ledger { since = 0 } }
 
 -- some literal's name is past the limit
@@ -98,10 +95,192 @@ abbrev pub IsCrowded : Naming → Type 0
 IsCrowded m = variable_limit < m.made
 
 -- the same state with other names in use
-abbrev pub with_naming : Naming → State → State
+abbrev pub with_naming : {V : Type 0} → Naming → Known V → Known V
 with_naming m s = record s { naming = m }
 
--- The call `add_clause`.
+-- 1. Whatever is known of verdicts.
+
+-- the clause, over identities, is accepted, and told so
+abbrev pub append_clause : {V : Type 0} → Clause → V → Known V → Known V
+append_clause c w s = record s {
+  clauses = s.clauses ++ c ∷ [];
+  counted = join_counted s.counted (map variable_of c);
+  verdict = w;
+  told = s.told ++ entry.Accepts c ∷ [];
+}
+
+-- the names of the clause are named, and it is accepted as they carry it to identities
+abbrev pub accept : {V : Type 0} → Clause → V → Known V → Known V
+accept d w s =
+    let named : Naming = name_all d s.naming in
+    start (append_clause (map (through_names named) d) w (with_naming named s))
+
+-- the list, over identities, is assumed in place of the one before
+abbrev pub with_list : {V : Type 0} → List Literal → V → Known V → Known V
+with_list list w s = record s { assumptions = list; counted = join_counted s.counted (map variable_of list); verdict = w }
+
+-- the names of the list are named, and it is assumed, and told so, as they carry it to identities
+abbrev pub assume : {V : Type 0} → List Literal → V → Known V → Known V
+assume list w s =
+    let named : Naming = name_all list s.naming in
+    let carried : List Literal = map (through_names named) list in
+    start (retold (s.told ++ entry.Assumes carried ∷ []) (with_list carried w (with_naming named s)))
+
+-- How a clause or a list is refused that nothing bars: for its names, and before anything changes; or with an error after which the
+-- state is invalid.
+abbrev pub RefusesNames : {V : Type 0} → Type 0 → Known V → List Literal → SolverError → Known V → Type 0
+RefusesNames unbarred s d Invalid t = IsRefusedInvalid s t
+RefusesNames unbarred s d VariableLimit t = IsValid s × unbarred × (IsPastLimit d ⊎ IsCrowded (name_all d s.naming)) × (t ≡ s)
+RefusesNames unbarred s d (WitnessVar u) t = IsValid s × unbarred × (IsPastLimit d → ⊥) × IsFirstWitness s.naming d u × (t ≡ s)
+RefusesNames unbarred s d OutOfMemory t = unbarred × MayConstrain s.naming d × Invalidates 0 s t
+RefusesNames unbarred s d (ProofIoError cause) t = IsOpen s.proof × unbarred × MayConstrain s.naming d × Invalidates 1 s t
+RefusesNames unbarred s d _ t = ⊥
+
+-- What is said of verdicts, where V is what is known of them. `refuted`: no assignment satisfies the clauses, and `unrefuted`: that is
+-- not known. `reopens`: what one more clause makes of it, behind these, and `assumed`: what another list of assumptions does. `solves`,
+-- `tells_model` and `tells_core`: which answers these calls give. `disproves`: the clauses alone are known to be unsatisfiable, in a
+-- proof of this format. `holds`: what is so behind each call.
+pub record Verdicts (V : Type 0) : Type 1 where
+  pub refuted : Known V → Type 0
+  pub unrefuted : Known V → Type 0
+  pub reopens : List Clause → Clause → V → V → Type 0
+  pub assumed : List Literal → V → V
+  pub solves : Known V → Result Bool SolverError → Known V → Type 0
+  pub tells_model : Known V → Result (Option (List Literal)) AllocError → Known V → Type 0
+  pub tells_core : Known V → Result (Option (List Literal)) AllocError → Known V → Type 0
+  pub disproves : ProofFormat → Known V → Type 0
+  pub holds : Known V → Type 0
+
+module _ {V : Type 0} (by : Verdicts V) where
+  -- One more clause may join those accepted: these are not known to be unsatisfiable, and no open proof bars it.
+  pub record MayAccept (s : Known V) : Type 0 where
+    pub unrefuted : by.unrefuted s
+    pub unbarred : BarsClauses s.proof → ⊥
+
+  -- the clause is accepted
+  abbrev pub Accepts : Known V → Clause → Known V → Type 0
+  Accepts s d t = (w : V) × by.reopens s.clauses (map (through_names (name_all d s.naming)) d) s.verdict w × IsLike (accept d w s) t
+
+  -- a clause is taken: where the clauses are refuted nothing changes, but that steps are counted anew
+  pub data TakesClause (s : Known V) (d : Clause) (t : Known V) : Type 0 where
+    Ignored : by.refuted s → t ≡ count_anew s → TakesClause s d t
+    Accepted : MayAccept s → MayConstrain s.naming d → Accepts s d t → TakesClause s d t
+
+  -- The call `add_clause`.
+  abbrev pub TakesOne : Known V → Clause → Result (Unit {0}) SolverError → Known V → Type 0
+  TakesOne s d (Ok _) t = IsValid s × TakesClause s d t
+  TakesOne s d (Err ClauseAfterSolve) t = IsValid s × by.unrefuted s × BarsClauses s.proof × (t ≡ s)
+  TakesOne s d (Err ClauseStoreFull) t = MayAccept s × MayConstrain s.naming d × Invalidates 0 s t × IsStoreFull (name_all d s.naming).made t
+  TakesOne s d (Err e) t = RefusesNames (MayAccept s) s d e t
+
+  -- the list is assumed
+  abbrev pub TakesAssumed : Known V → List Literal → Known V → Type 0
+  TakesAssumed s list t = IsLike (assume list (by.assumed (map (through_names (name_all list s.naming)) list) s.verdict) s) t
+
+  -- The call `assume`. No open proof bars it: assumptions would be no part of what such a proof says. The target of another one may fail.
+  abbrev pub TakesList : Known V → List Literal → Result (Unit {0}) SolverError → Known V → Type 0
+  TakesList s list (Ok _) t = IsValid s × (BarsAssumptions s.proof → ⊥) × MayConstrain s.naming list × TakesAssumed s list t
+  TakesList s list (Err ProofOpen) t = IsValid s × BarsAssumptions s.proof × (t ≡ s)
+  TakesList s list (Err e) t = RefusesNames (BarsAssumptions s.proof → ⊥) s list e t
+
+-- The call `new_var`.
+
+-- the least free name is named: below the watermark, else at it
+abbrev pub MakesVar : {V : Type 0} → Known V → Result ℕ SolverError → Known V → Type 0
+MakesVar s (Ok u) t = IsValid s × IsLeastFree s.naming u × (u < variable_limit) × IsLike (start (with_naming (name_one u s.naming) s)) t
+MakesVar s (Err Invalid) t = IsRefusedInvalid s t
+MakesVar s (Err VariableLimit) t = IsValid s × ((u : ℕ) × IsLeastFree s.naming u × ((variable_limit ≤ u) ⊎ IsCrowded (name_one u s.naming))) × (t ≡ s)
+MakesVar s (Err OutOfMemory) t = ((u : ℕ) × IsLeastFree s.naming u × (u < variable_limit)) × Invalidates 0 s t
+MakesVar s (Err _) t = ⊥
+
+-- The call `solve`.
+
+-- the same state with another verdict
+abbrev pub with_verdict : {V : Type 0} → V → Known V → Known V
+with_verdict v s = record s { verdict = v }
+
+-- the same state after so many steps in all: the new ones were made since the last change, too
+abbrev pub with_steps : {V : Type 0} → ℕ → Known V → Known V
+with_steps n s = record s { ledger = record s.ledger { steps = n; since = s.ledger.since + (n - s.ledger.steps) } }
+
+-- the same state, in which a call may make so many steps
+abbrev pub with_max_steps : {V : Type 0} → ℕ → Known V → Known V
+with_max_steps n s = record s { ledger = record s.ledger { settings = record s.ledger.settings { max_steps = n } } }
+
+-- how the steps are counted that a call makes under the verdict Unknown, by its answer
+abbrev pub CountsCall : {V : Type 0} → Known V → Result Bool SolverError → Known V → Type 0
+CountsCall s r t = CountsSteps (length s.counted) s.ledger.settings.max_steps s.ledger.since s.ledger.steps t.ledger.steps r
+
+-- the same state, in which `solve` was called under an open proof
+abbrev pub once_searched : {V : Type 0} → Known V → Known V
+once_searched s = record s { proof = searched_under s.proof }
+
+-- It is s once `solve` was called, which made the steps of t and told what t was told, where v is known of the verdict then.
+abbrev pub IsSolved : {V : Type 0} → V → Known V → Known V → Type 0
+IsSolved v s t = IsLike (retold t.told (with_verdict v (with_steps t.ledger.steps s))) t
+
+-- The steps are spent before a verdict is known, where v is known of it then. The search can go on from there.
+pub record IsSpent {V : Type 0} (is_unknown : Type 0) (v : V) (s t : Known V) : Type 0 where
+  pub valid : IsValid s
+  pub unknown : is_unknown
+  pub steps : CountsCall s (Err Interrupted) t
+  pub rest : IsSolved v s t
+  -- a proof writes each identity as the variable that it had
+  pub variables : t.variables ≡ s.variables
+  -- of the clauses that it told to be added as many count as steps were made; and each step added a new one, of which no clause that
+  -- was held just before is a part, and which is held as the step ends
+  pub told : TellsMore (t.ledger.steps - s.ledger.steps) s.told t.told
+  pub adds : GoesOnAdding (t.ledger.steps - s.ledger.steps) s.told told.entries
+  -- no core is told
+  pub derived : AreDerived told.entries
+  -- where no step was made nothing changed
+  pub still : t.ledger.steps ≡ s.ledger.steps → t ≡ s
+
+-- How a call of `solve` is refused, or fails where the verdict is unknown.
+abbrev pub FailsSearch : {V : Type 0} → Type 0 → Known V → SolverError → Known V → Type 0
+FailsSearch unknown s Invalid t = IsRefusedInvalid s t
+FailsSearch unknown s OutOfMemory t = unknown × CountsCall s (Err OutOfMemory) t × Invalidates 0 (with_steps t.ledger.steps s) t
+FailsSearch unknown s ClauseStoreFull t =
+    unknown × CountsCall s (Err ClauseStoreFull) t × Invalidates 0 (with_steps t.ledger.steps s) t × IsStoreFull s.naming.made t
+FailsSearch unknown s _ t = ⊥
+
+-- The target of an open proof failed in a step, which comes only where the verdict is unknown, or as it was flushed.
+abbrev pub FailsTarget : {V : Type 0} → Type 0 → Known V → Known V → Type 0
+FailsTarget unknown s t =
+    (unknown × Invalidates 1 (with_steps t.ledger.steps s) t) ⊎ Invalidates 1 (with_steps t.ledger.steps (once_searched s)) t
+
+-- The call `config`.
+
+-- the settings are replaced for which the update has values, and steps are counted anew
+abbrev pub with_update : {V : Type 0} → SolverConfigUpdate → Known V → Known V
+with_update u s = record s { ledger = record s.ledger { since = 0; settings = updated_settings s.ledger.settings u } }
+
+-- The settings are replaced for which the update has values, or the first one out of its range is told and nothing changes.
+abbrev pub Configures : {V : Type 0} → Known V → SolverConfigUpdate → Result (Unit {0}) SolverError → Known V → Type 0
+Configures s u (Ok _) t = IsValid s × (first_bad u ≡ None) × (t ≡ with_update u s)
+Configures s u (Err Invalid) t = IsRefusedInvalid s t
+Configures s u (Err (ConfigOutOfRange field)) t = IsValid s × (first_bad u ≡ Some field) × (t ≡ s)
+Configures s u (Err _) t = ⊥
+
+-- The call `steps`.
+
+-- the count of all steps is returned
+abbrev pub TellsSteps : {V : Type 0} → Known V → ℕ → Known V → Type 0
+TellsSteps s n t = (n ≡ s.ledger.steps) × (t ≡ s)
+
+-- The call `steps_since_change`.
+
+-- the count of steps since the last change is returned, which are few in a valid state, over however many calls of `solve`
+abbrev pub TellsSince : {V : Type 0} → Known V → ℕ → Known V → Type 0
+TellsSince s n t = (n ≡ s.ledger.since) × (IsValid s → AreFew (length s.counted) n) × (t ≡ s)
+
+-- The call `is_valid`.
+
+-- the flag is returned
+abbrev pub TellsValid : {V : Type 0} → Known V → Bool → Known V → Type 0
+TellsValid s b t = (b ≡ is_valid s) × (t ≡ s)
+
+-- 2. The verdict of a state.
 
 -- the clause is empty, or as a set it is one literal whose opposite alone is an accepted clause
 abbrev pub ContradictsUnit : List Clause → Clause → Type 0
@@ -120,82 +299,6 @@ pub data VerdictAfter (clauses : List Clause) (c : Clause) (v w : Verdict) : Typ
   Refuted : w ≡ Unsat → (IsSatisfiable (clauses ++ c ∷ []) → ⊥) → VerdictAfter clauses c v w
   Reopened : w ≡ reopened_verdict v → (ContradictsUnit clauses c → ⊥) → VerdictAfter clauses c v w
 
--- the clause, over identities, is accepted, and told so
-abbrev pub append_clause : Clause → Verdict → State → State
-append_clause c w s = record s {
-  clauses = s.clauses ++ c ∷ [];
-  counted = join_counted s.counted (map variable_of c);
-  verdict = w;
-  told = s.told ++ entry.Accepts c ∷ [];
-}
-
--- the names of the clause are named, and it is accepted as they carry it to identities
-abbrev pub Accepts : State → Clause → State → Type 0
-Accepts s d t =
-    let named : Naming = name_all d s.naming in
-    (w : Verdict) × VerdictAfter s.clauses (map (through_names named) d) s.verdict w
-    × IsLike (start (append_clause (map (through_names named) d) w (with_naming named s))) t
-
--- One more clause may join those accepted: these are not known to be unsatisfiable, and no open proof bars it.
-pub record IsExtensible (s : State) : Type 0 where
-  pub unrefuted : s.verdict ≢ Unsat
-  pub unbarred : BarsClauses s.proof → ⊥
-
--- a clause is accepted: under Unsat nothing changes, but that steps are counted anew
-pub data TakesClause (s : State) (d : Clause) (t : State) : Type 0 where
-  Ignored : s.verdict ≡ Unsat → t ≡ count_anew s → TakesClause s d t
-  Accepted : IsExtensible s → MayConstrain s.naming d → Accepts s d t → TakesClause s d t
-
--- The clause is taken; or it is refused, for its names and before anything changes, or with an error after which the state is invalid.
-abbrev pub AddsClause : State → Clause → Result (Unit {0}) SolverError → State → Type 0
-AddsClause s d (Ok _) t = IsValid s × TakesClause s d t
-AddsClause s d (Err Invalid) t = IsRefusedInvalid s t
-AddsClause s d (Err ClauseAfterSolve) t = IsValid s × (s.verdict ≢ Unsat) × BarsClauses s.proof × (t ≡ s)
-AddsClause s d (Err VariableLimit) t = IsValid s × IsExtensible s × (IsPastLimit d ⊎ IsCrowded (name_all d s.naming)) × (t ≡ s)
-AddsClause s d (Err (WitnessVar u)) t = IsValid s × IsExtensible s × (IsPastLimit d → ⊥) × IsFirstWitness s.naming d u × (t ≡ s)
-AddsClause s d (Err OutOfMemory) t = IsExtensible s × MayConstrain s.naming d × Invalidates 0 s t
-AddsClause s d (Err ClauseStoreFull) t = IsExtensible s × MayConstrain s.naming d × Invalidates 0 s t × IsStoreFull (name_all d s.naming).made t
-AddsClause s d (Err (ProofIoError cause)) t = IsOpen s.proof × IsExtensible s × MayConstrain s.naming d × Invalidates 1 s t
-AddsClause s d (Err _) t = ⊥
-
--- The calls `add_formula` and `add_dimacs_cnf`.
-
--- how clauses are added one by one, for lists and texts of them
-abbrev pub adding : additions.Adding State
-adding = record { valid = is_valid; invalidates = Invalidates 0; count_anew = count_anew; adds = AddsClause }
-
--- the clauses in turn, up to the first refusal; those before it stay
-abbrev pub AddsAll : State → List Clause → Result (Unit {0}) SolverError → State → Type 0
-AddsAll s P r t = additions.AddsAll adding s P r t
-
--- the clauses of a formula in turn, up to the first refusal; an invalid solver refuses an empty one too
-abbrev pub AddsFormula : State → List Clause → Result (Unit {0}) SolverError → State → Type 0
-AddsFormula s P r t = additions.AddsList adding s P r t
-
--- how the fault of a text is told, if there is one
-abbrev pub TellsFault : Option DimacsError → State → Result (Unit {0}) SolverError → State → Type 0
-TellsFault fault s r t = additions.TellsFault adding fault s r t
-
--- the clauses that a reading gives are added, and its fault is told behind them
-abbrev pub AddsReading : State → Reading → Result (Unit {0}) SolverError → State → Type 0
-AddsReading s reading r t = additions.AddsReading adding s reading r t
-
--- the clauses of the text that the source gives, up to the first refusal or fault; those before it stay
-abbrev pub AddsDimacs : State → Stand → Result (Unit {0}) SolverError → Stand → State → Type 0
-AddsDimacs s old r new t = additions.AddsText adding s old r new t
-
--- The call `new_var`.
-
--- the least free name is named: below the watermark, else at it
-abbrev pub MakesVar : State → Result ℕ SolverError → State → Type 0
-MakesVar s (Ok u) t = IsValid s × IsLeastFree s.naming u × (u < variable_limit) × IsLike (start (with_naming (name_one u s.naming) s)) t
-MakesVar s (Err Invalid) t = IsRefusedInvalid s t
-MakesVar s (Err VariableLimit) t = IsValid s × ((u : ℕ) × IsLeastFree s.naming u × ((variable_limit ≤ u) ⊎ IsCrowded (name_one u s.naming))) × (t ≡ s)
-MakesVar s (Err OutOfMemory) t = ((u : ℕ) × IsLeastFree s.naming u × (u < variable_limit)) × Invalidates 0 s t
-MakesVar s (Err _) t = ⊥
-
--- The call `assume`.
-
 -- the verdict with other assumptions
 abbrev pub assumed_verdict : Verdict → Verdict
 assumed_verdict Unknown = Unknown
@@ -205,30 +308,7 @@ assumed_verdict (UnsatUnderAssumptions core) = Unknown
 
 -- the list, over identities, is assumed in place of the one before
 abbrev pub with_assumptions : List Literal → State → State
-with_assumptions list s = record s { assumptions = list; counted = join_counted s.counted (map variable_of list); verdict = assumed_verdict s.verdict }
-
--- the names of the list are named, and it is assumed as they carry it to identities
-abbrev pub TakesAssumptions : State → List Literal → State → Type 0
-TakesAssumptions s list t =
-    let named : Naming = name_all list s.naming in
-    let carried : List Literal = map (through_names named) list in
-    IsLike (start (retold (s.told ++ entry.Assumes carried ∷ []) (with_assumptions carried (with_naming named s)))) t
-
--- No open proof bars it: assumptions would be no part of what such a proof says. The target of another one may fail.
-abbrev pub Assumes : State → List Literal → Result (Unit {0}) SolverError → State → Type 0
-Assumes s list (Ok _) t = IsValid s × (BarsAssumptions s.proof → ⊥) × MayConstrain s.naming list × TakesAssumptions s list t
-Assumes s list (Err Invalid) t = IsRefusedInvalid s t
-Assumes s list (Err ProofOpen) t = IsValid s × BarsAssumptions s.proof × (t ≡ s)
-Assumes s list (Err VariableLimit) t =
-    IsValid s × (BarsAssumptions s.proof → ⊥) × (IsPastLimit list ⊎ IsCrowded (name_all list s.naming)) × (t ≡ s)
-Assumes s list (Err (WitnessVar u)) t =
-    IsValid s × (BarsAssumptions s.proof → ⊥) × (IsPastLimit list → ⊥) × IsFirstWitness s.naming list u × (t ≡ s)
-Assumes s list (Err OutOfMemory) t = (BarsAssumptions s.proof → ⊥) × MayConstrain s.naming list × Invalidates 0 s t
-Assumes s list (Err (ProofIoError cause)) t =
-    IsOpen s.proof × (BarsAssumptions s.proof → ⊥) × MayConstrain s.naming list × Invalidates 1 s t
-Assumes s list (Err _) t = ⊥
-
--- The call `solve`.
+with_assumptions list s = with_list list (assumed_verdict s.verdict) s
 
 -- what is returned at a verdict
 abbrev pub answer_of : Verdict → Option Bool
@@ -237,22 +317,6 @@ answer_of (Sat found) = Some true
 answer_of Unsat = Some false
 answer_of (UnsatUnderAssumptions core) = Some false
 
--- the same state with another verdict
-abbrev pub with_verdict : Verdict → State → State
-with_verdict v s = record s { verdict = v }
-
--- the same state after so many steps in all: the new ones were made since the last change, too
-abbrev pub with_steps : ℕ → State → State
-with_steps n s = record s { ledger = record s.ledger { steps = n; since = s.ledger.since + (n - s.ledger.steps) } }
-
--- the same state, in which a call may make so many steps
-abbrev pub with_max_steps : ℕ → State → State
-with_max_steps n s = record s { ledger = record s.ledger { settings = record s.ledger.settings { max_steps = n } } }
-
--- how the steps are counted that a call makes under the verdict Unknown, by its answer
-abbrev pub CountsCall : State → Result Bool SolverError → State → Type 0
-CountsCall s r t = CountsSteps (length s.counted) s.ledger.settings.max_steps s.ledger.since s.ledger.steps t.ledger.steps r
-
 -- A verdict is returned, and is right. One that was known stays, no step is made, and nothing told.
 pub record TellsVerdict (s : State) (b : Bool) (t : State) : Type 0 where
   pub valid : IsValid s
@@ -260,7 +324,7 @@ pub record TellsVerdict (s : State) (b : Bool) (t : State) : Type 0 where
   pub steps : s.verdict ≡ Unknown → CountsCall s (Ok b) t
   pub answer : answer_of t.verdict ≡ Some b
   pub right : HasRightVerdict t
-  pub rest : IsLike (retold t.told (with_verdict t.verdict (with_steps t.ledger.steps s))) t
+  pub rest : IsSolved t.verdict s t
   -- of the clauses that it told to be added as many count as steps were made
   pub told : TellsMore (t.ledger.steps - s.ledger.steps) s.told t.told
   -- where it was not known before these are lines and variables that leave, and at last the core that was found, if one was: by
@@ -271,64 +335,35 @@ pub record TellsVerdict (s : State) (b : Bool) (t : State) : Type 0 where
   -- a core that was found is not empty
   pub core : (list : List Literal) → t.verdict ≡ UnsatUnderAssumptions list → list ≢ []
 
--- The steps are spent before a verdict is known. The search can go on from there.
-pub record IsInterrupted (s t : State) : Type 0 where
-  pub valid : IsValid s
-  pub unknown : s.verdict ≡ Unknown
-  pub steps : CountsCall s (Err Interrupted) t
-  pub rest : IsLike (retold t.told (with_steps t.ledger.steps s)) t
-  -- a proof writes each identity as the variable that it had
-  pub variables : t.variables ≡ s.variables
-  -- of the clauses that it told to be added as many count as steps were made; and each step added a new one, of which no clause that
-  -- was held just before is a part, and which is held as the step ends
-  pub told : TellsMore (t.ledger.steps - s.ledger.steps) s.told t.told
-  pub adds : GoesOnAdding (t.ledger.steps - s.ledger.steps) s.told told.entries
-  -- no core is told
-  pub derived : AreDerived told.entries
-  -- where no step was made nothing changed
-  pub still : t.ledger.steps ≡ s.ledger.steps → t ≡ s
+-- the steps are spent before a verdict is known
+abbrev pub IsInterrupted : State → State → Type 0
+IsInterrupted s t = IsSpent (s.verdict ≡ Unknown) s.verdict s t
 
 -- What the steps of a call come to.
 abbrev pub Searches : State → Result Bool SolverError → State → Type 0
 Searches s (Ok b) t = TellsVerdict s b t
-Searches s (Err Invalid) t = IsRefusedInvalid s t
-Searches s (Err OutOfMemory) t = (s.verdict ≡ Unknown) × CountsCall s (Err OutOfMemory) t × Invalidates 0 (with_steps t.ledger.steps s) t
-Searches s (Err ClauseStoreFull) t =
-    (s.verdict ≡ Unknown) × CountsCall s (Err ClauseStoreFull) t × Invalidates 0 (with_steps t.ledger.steps s) t × IsStoreFull s.naming.made t
 Searches s (Err (ProofIoError cause)) t =
     IsOpen s.proof × (s.verdict ≡ Unknown) × CountsCall s (Err (ProofIoError cause)) t × Invalidates 1 (with_steps t.ledger.steps s) t
 Searches s (Err Interrupted) t = IsInterrupted s t
-Searches s (Err _) t = ⊥
+Searches s (Err e) t = FailsSearch (s.verdict ≡ Unknown) s e t
 
 -- what the steps of a call come to that may make so many
 abbrev pub SearchesWithin : ℕ → State → Result Bool SolverError → State → Type 0
 SearchesWithin max_steps s r t = Searches (with_max_steps max_steps s) r (with_max_steps max_steps t)
-
--- the same state, in which `solve` was called under an open proof
-abbrev pub once_searched : State → State
-once_searched s = record s { proof = searched_under s.proof }
 
 -- how the steps are counted that a call makes, by its answer: none where the verdict is known
 pub record CountsIfUnknown (s : State) (r : Result Bool SolverError) (t : State) : Type 0 where
   pub known : s.verdict ≢ Unknown → t.ledger.steps ≡ s.ledger.steps
   pub unknown : s.verdict ≡ Unknown → CountsCall s r t
 
--- The target of an open proof failed in a step, which comes only where the verdict was unknown, or as it was flushed.
-abbrev pub FailsTarget : State → State → Type 0
-FailsTarget s t =
-    ((s.verdict ≡ Unknown) × Invalidates 1 (with_steps t.ledger.steps s) t) ⊎ Invalidates 1 (with_steps t.ledger.steps (once_searched s)) t
-
 -- Steps are made, and then an open proof is marked as one under which `solve` was called, and flushed, also where the verdict was
 -- known. Its target may fail in a step, or as it is flushed.
 abbrev pub Solves : State → Result Bool SolverError → State → Type 0
 Solves s (Ok b) t = TellsVerdict (once_searched s) b t
-Solves s (Err Invalid) t = IsRefusedInvalid s t
-Solves s (Err OutOfMemory) t = Searches s (Err OutOfMemory) t
-Solves s (Err ClauseStoreFull) t = Searches s (Err ClauseStoreFull) t
 Solves s (Err (ProofIoError cause)) t =
-    IsOpen s.proof × CountsIfUnknown s (Err (ProofIoError cause)) t × FailsTarget s t
+    IsOpen s.proof × CountsIfUnknown s (Err (ProofIoError cause)) t × FailsTarget (s.verdict ≡ Unknown) s t
 Solves s (Err Interrupted) t = IsInterrupted (once_searched s) t
-Solves s (Err _) t = ⊥
+Solves s (Err e) t = FailsSearch (s.verdict ≡ Unknown) s e t
 
 -- The call `model`.
 
@@ -344,30 +379,40 @@ abbrev pub TellsCore : State → Result (Option (List Literal)) AllocError → S
 TellsCore s (Ok core) t = ((IsValid s × IsCoreToTell s core) ⊎ ((is_valid s ≡ false) × (core ≡ None))) × (t ≡ s)
 TellsCore s (Err _) t = IsValid s × (answer_of s.verdict ≡ Some false) × (t ≡ s)
 
--- The call `config`.
+-- The clauses alone are known to be unsatisfiable: where a proof can have assumptions, false says no more than that those fail.
+abbrev pub IsRefuted : ProofFormat → Verdict → Type 0
+IsRefuted Drat verdict = answer_of verdict ≡ Some false
+IsRefuted BinaryDrat verdict = answer_of verdict ≡ Some false
+IsRefuted Marked verdict = verdict ≡ Unsat
 
--- the settings are replaced for which the update has values, and steps are counted anew
-abbrev pub with_update : SolverConfigUpdate → State → State
-with_update u s = record s { ledger = record s.ledger { since = 0; settings = updated_settings s.ledger.settings u } }
+-- 3. States.
 
--- The settings are replaced for which the update has values, or the first one out of its range is told and nothing changes.
-abbrev pub Configures : State → SolverConfigUpdate → Result (Unit {0}) SolverError → State → Type 0
-Configures s u r t = updates.Configures is_valid with_update s u r t
+-- the verdicts of a state; behind each call what was told is right, as long as the state is valid
+abbrev pub calling : Verdicts Verdict
+calling = record {
+  refuted = λ s. s.verdict ≡ Unsat;
+  unrefuted = λ s. s.verdict ≢ Unsat;
+  reopens = VerdictAfter;
+  assumed = λ list v. assumed_verdict v;
+  solves = Solves;
+  tells_model = TellsModel;
+  tells_core = TellsCore;
+  disproves = λ format s. IsRefuted format s.verdict;
+  holds = λ s. IsValid s → IsJournal s;
+}
 
--- The call `steps`.
+-- one more clause may join those accepted
+abbrev pub IsExtensible : State → Type 0
+IsExtensible s = MayAccept calling s
 
--- the count of all steps is returned
-abbrev pub TellsSteps : State → ℕ → State → Type 0
-TellsSteps s n t = (n ≡ s.ledger.steps) × (t ≡ s)
+-- the call `add_clause`
+abbrev pub AddsClause : State → Clause → Result (Unit {0}) SolverError → State → Type 0
+AddsClause s d r t = TakesOne calling s d r t
 
--- The call `steps_since_change`.
+-- the list is assumed
+abbrev pub TakesAssumptions : State → List Literal → State → Type 0
+TakesAssumptions s list t = TakesAssumed calling s list t
 
--- the count of steps since the last change is returned, which are few in a valid state
-abbrev pub TellsSince : State → ℕ → State → Type 0
-TellsSince s n t = budgets.TellsSince is_valid (λ s. s.ledger.since) (λ s. s.counted) s n t
-
--- The call `is_valid`.
-
--- the flag is returned
-abbrev pub TellsValid : State → Bool → State → Type 0
-TellsValid s b t = (b ≡ is_valid s) × (t ≡ s)
+-- the call `assume`
+abbrev pub Assumes : State → List Literal → Result (Unit {0}) SolverError → State → Type 0
+Assumes s list r t = TakesList calling s list r t

@@ -1,31 +1,10 @@
 -- What the answers of a new solver say, with no state in between.
-use Rattle.std.specs.Prelude.{◌≡◌, true, List}
+use Rattle.std.specs.Prelude.{List}
 use Rattle.varisat_formula.specs.Streams.{Stand, Taken}
-use Rattle.varisat.specs.Pasts.{Past, IsJournal, count_anew, adding, named, MakesVar, Assumes, Solves, TellsModel, TellsCore, with_update, ProofOpens, ProofCloses}
-use Rattle.varisat.specs.Turns.{CallRules, Makes, MakesInTurn}
+use Rattle.varisat.specs.Pasts.{Past, telling}
+use Rattle.varisat.specs.Turns.{Makes, MakesInTurn}
 use Rattle.varisat.specs.declared.session.Call.{Call}
 use Rattle.varisat.specs.declared.session.Answer.{Answer}
-
--- what calls and their answers say; behind each call what was told is a journal of the past, as long as that is valid
-abbrev pub telling : CallRules Past
-telling = record {
-  adding = adding;
-  named = named;
-  holds = λ p. p.valid ≡ true → IsJournal p;
-  makes_var = MakesVar;
-  assumes = Assumes;
-  solves = Solves;
-  tells_model = TellsModel;
-  tells_core = TellsCore;
-  updated = with_update;
-  started = λ p. p.started;
-  begins_checking = count_anew;
-  steps = λ p. p.steps;
-  since = λ p. p.since;
-  counted = λ p. p.counted;
-  opens = ProofOpens;
-  closes = ProofCloses;
-}
 
 -- Where the past was p, the call may get the answer, and then the past is q. `seen` tells how a source stands, and `taken` what a target took.
 abbrev pub IsTrue : {W S A : Type 0} → (S → Stand) → (W → Taken) → Past → Call W S A → Answer W S A → Past → Type 0

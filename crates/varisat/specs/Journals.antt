@@ -10,10 +10,10 @@ use Rattle.varisat_proof.specs.Written.{AreInRange}
 use Rattle.varisat.specs.Carried.{carry}
 use Rattle.varisat_proof.specs.Assumed.{assumed_behind, CoresAreAssumed}
 use Rattle.varisat.specs.OpenProofs.{entries_over, IsWrittenWhereOpen, HaveOwnVariables}
-use Rattle.varisat.specs.States.{State, Verdict, Unsat, UnsatUnderAssumptions}
+use Rattle.varisat.specs.States.{Known, State, Verdict, Unsat, UnsatUnderAssumptions}
 
--- the same state once more was told
-abbrev pub retold : List Entry → State → State
+-- the same once more was told
+abbrev pub retold : {V : Type 0} → List Entry → Known V → Known V
 retold told s = record s { told = told }
 
 -- Further entries are told. Each is right where it stands, and n of the clauses that their lines add or fewer are neither a

@@ -21,16 +21,17 @@ use Rattle.varisat_proof.specs.Telling.{bytes_told}
 use Rattle.varisat_proof.specs.Marked.{nothing_told, ProofState, state_of, IsCheckOf}
 use Rattle.varisat_proof.specs.Passing.{PassesWith}
 use Rattle.varisat.specs.Carried.{carry}
-use Rattle.varisat.specs.OpenProofs.{entries_over}
+use Rattle.varisat.specs.OpenProofs.{OpenProof, entries_over}
 use Rattle.varisat.specs.Decided.{Conclusion}
 use Rattle.varisat.specs.Proven.{IsProven}
 use Rattle.varisat.specs.Journals.{TellsMore, EndWithCore}
 use Rattle.varisat.specs.Names.{Naming, no_names, name_one, name_all, through_names, IsLeastFree, AreInOrder}
 use Rattle.varisat.specs.Models.{AreNamesInUse}
-use Rattle.varisat.specs.Calls.{IsPastLimit, IsCrowded, TellsVerdict}
+use Rattle.varisat.specs.ProofCalls.{IsProof}
+use Rattle.varisat.specs.Calls.{IsPastLimit, IsCrowded, TellsVerdict, accept, assume}
 use Rattle.varisat.specs.Counts.{count_with}
 use Rattle.varisat.specs.States.{State, Unknown, UnsatUnderAssumptions}
-use Rattle.varisat.specs.Pasts.{Past, PastProof, IsJournal, HasProof, IsRefuted, accept, assume}
+use Rattle.varisat.specs.Pasts.{Findings, Past, IsJournal, IsRefuted, telling}
 
 -- Before the first call names are in order. They stay so where those of a list of literals come into use, and where the least
 -- free one does, which is the one above them.
@@ -45,7 +46,9 @@ NamesAreIdentities = (n : ℕ) (m : Naming) (ls : List Literal) → AreInOrder n
 
 -- where names are in order a clause is accepted and a list assumed as it is given
 abbrev pub GivenIsAccepted : Type 0
-GivenIsAccepted = (n : ℕ) (p : Past) (c : Clause) → AreInOrder n p.naming → ((accept c p).clauses ≡ p.clauses ++ c ∷ []) × ((assume c p).assumptions ≡ c)
+GivenIsAccepted =
+    (n : ℕ) (p : Past) (v : Findings) (c : Clause) → AreInOrder n p.naming →
+    ((accept c v p).clauses ≡ p.clauses ++ c ∷ []) × ((assume c v p).assumptions ≡ c)
 
 -- and it is refused for its names only where one of these is past the limit
 abbrev pub CrowdedIsPastLimit : Type 0
@@ -69,19 +72,19 @@ CoresAreWritten =
 -- refutes where the clauses are refuted.
 abbrev pub MarkedProofsPass : Type 0
 MarkedProofsPass =
-    (p : Past) (opened : PastProof) (bytes : List ℕ) (result : Result CheckVerdict CheckerError) (end : ProofState)
-    → IsJournal p → HasProof p opened bytes → opened.format ≡ Marked → p.ever_hidden ≡ false
-    → IsCheckOf (Text true) (state_of [] nothing_told) bytes result end
+    (p : Past) (opened : OpenProof) (result : Result CheckVerdict CheckerError) (end : ProofState)
+    → IsJournal p → IsProof telling p opened → opened.format ≡ Marked → p.ever_hidden ≡ false
+    → IsCheckOf (Text true) (state_of [] nothing_told) opened.bytes result end
     → PassesWith p.told result end.told × (IsRefuted Marked p → result ≡ Ok Refutation)
 
 -- Where nothing was hidden a check of the bytes of an open proof over the accepted clauses finds that they refute, or that they are a
 -- derivation and do not; so it does of the bytes that the program leaves.
 pub record BytesAreAccepted : Type 0 where
-  pub proof : (p : Past) (opened : PastProof) (bytes : List ℕ) (result : Result CheckVerdict CheckerError) (left : List Clause) →
-      HasProof p opened bytes →
+  pub proof : (p : Past) (opened : OpenProof) (result : Result CheckVerdict CheckerError) (left : List Clause) →
+      IsProof telling p opened →
       has_marks opened.format ≡ false →
       p.ever_hidden ≡ false →
-      IsResult opened.format p.clauses bytes result left →
+      IsResult opened.format p.clauses opened.bytes result left →
       IsAccepted p.clauses (lines_of p.told) result
   pub program : (format : ProofFormat) (P : List Clause) (c : Conclusion) (old new : Taken) (bytes : List ℕ)
       (result : Result CheckVerdict CheckerError) (left : List Clause) →

@@ -8,8 +8,6 @@ pub mod Refusals
 pub mod Targets
 pub mod Budgets
 pub mod SinceChange
-pub mod Updates
-pub mod SelfChecking
 pub mod Additions
 pub mod Calls
 pub mod Pasts
@@ -27,7 +25,7 @@ pub mod Carried
 pub mod Spaces
 pub mod Journals
 pub mod Usage
-pub mod VariableCalls
+pub mod ClauseCalls
 pub mod VariableChanges
 pub mod Dropping
 pub mod Counts

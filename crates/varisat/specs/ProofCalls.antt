@@ -2,22 +2,20 @@
 use Rattle.std.specs.Prelude.{◌≡◌, true, false, Option, Some, None, Result, Ok, Err}
 use Rattle.varisat_formula.specs.Streams.{Taken}
 use Rattle.varisat_proof.specs.declared.proof.format.ProofFormat.{ProofFormat}
-use Rattle.varisat_proof.specs.declared.proof.format.ProofFormat.TheVariants.{Drat, BinaryDrat, Marked}
 use Rattle.varisat_proof.specs.Proving.{IsClosed}
 use Rattle.varisat.specs.OpenProofs.{OpenProof, opened_state, IsOpen, first_proof}
 use Rattle.varisat.specs.ProofBytes.{AreBytesOfProof}
-use Rattle.varisat.specs.States.{State, Verdict, Unsat}
-use Rattle.varisat.specs.Calls.{is_valid, IsValid, Invalidates, IsRefusedInvalid, count_anew, answer_of}
-use Rattle.varisat.specs.SelfChecking as checking
+use Rattle.varisat.specs.States.{Known, State}
+use Rattle.varisat.specs.Calls.{IsValid, Invalidates, IsRefusedInvalid, count_anew, Verdicts, calling}
 use Rattle.varisat.specs.declared.solver.SolverError.{SolverError}
 use Rattle.varisat.specs.declared.solver.SolverError.TheVariants.{ProofIoError, Invalid, ProofOpen, ProofTooLate}
 
--- the same state with another open proof, or none
-abbrev pub with_proof : Option OpenProof → State → State
+-- the same with another open proof, or none
+abbrev pub with_proof : {V : Type 0} → Option OpenProof → Known V → Known V
 with_proof proof s = record s { proof = proof }
 
 -- A proof opens before anything is accepted, and has no bytes then. Each refusal hands the target back, and changes nothing.
-abbrev pub OpensProof : {W : Type 0} → (W → Taken) → W → ProofFormat → State → Result (Unit {0}) (SolverError × W) → State → Type 0
+abbrev pub OpensProof : {V W : Type 0} → (W → Taken) → W → ProofFormat → Known V → Result (Unit {0}) (SolverError × W) → Known V → Type 0
 OpensProof taken target format s (Ok _) t =
     IsValid s × (s.proof ≡ None) × (s.ledger.started ≡ false) × (t ≡ count_anew (with_proof (Some (first_proof format (taken target))) s))
 OpensProof taken target format s (Err (Invalid, back)) t = (back ≡ target) × IsRefusedInvalid s t
@@ -26,33 +24,41 @@ OpensProof taken target format s (Err (ProofTooLate, back)) t = (back ≡ target
 OpensProof taken target format s (Err _) t = ⊥
 
 -- a checker runs inside, and steps are counted anew
-abbrev pub begin_checking : State → State
+abbrev pub begin_checking : {V : Type 0} → Known V → Known V
 begin_checking s = record s { ledger = record s.ledger { since = 0; checking = true } }
 
 -- Self checking is switched on before anything is accepted, or was so before. No other call changes whether a checker runs.
-abbrev pub EnablesChecking : State → Result (Unit {0}) SolverError → State → Type 0
-EnablesChecking s r t = checking.EnablesChecking is_valid (λ s. s.ledger.started) begin_checking s r t
+abbrev pub EnablesChecking : {V : Type 0} → Known V → Result (Unit {0}) SolverError → Known V → Type 0
+EnablesChecking s (Ok _) t = IsValid s × (s.ledger.started ≡ false) × (t ≡ begin_checking s)
+EnablesChecking s (Err Invalid) t = IsRefusedInvalid s t
+EnablesChecking s (Err ProofTooLate) t = IsValid s × (s.ledger.started ≡ true) × (t ≡ s)
+EnablesChecking s (Err _) t = ⊥
 
--- The clauses alone are known to be unsatisfiable: where a proof can have assumptions, false says no more than that those fail.
-abbrev pub IsRefuted : ProofFormat → Verdict → Type 0
-IsRefuted Drat verdict = answer_of verdict ≡ Some false
-IsRefuted BinaryDrat verdict = answer_of verdict ≡ Some false
-IsRefuted Marked verdict = verdict ≡ Unsat
+module _ {V : Type 0} (by : Verdicts V) where
+  -- The bytes of the open proof are those of lines. As long as nothing was ever hidden these are all lines that were told, a derivation
+  -- from the accepted clauses, and they refute them where these are refuted; and those of a marked proof are one with the clauses and
+  -- the assumptions.
+  abbrev pub IsProof : Known V → OpenProof → Type 0
+  IsProof s p = AreBytesOfProof p.format p.bytes s.ever_hidden s.naming.made s.told s.clauses s.assumptions (by.disproves p.format s)
 
--- The bytes of an open proof are those of lines. As long as nothing was ever hidden these are all lines that were told, a derivation
--- from the accepted clauses, and they refute them where these are refuted; and those of a marked proof are one with the clauses and
--- the assumptions.
+  -- so it is where a proof is open
+  abbrev pub IsProofIfOpen : Known V → Type 0
+  IsProofIfOpen s = (p : OpenProof) → s.proof ≡ Some p → IsProof s p
+
+  -- The target of the open proof comes back, with the bytes of the proof behind those that it had before, and nothing where none is
+  -- open; then none is open any more. It comes back too where it can't be flushed, which makes the solver invalid, and from an invalid
+  -- solver, of which it is not told that the bytes are those of lines.
+  abbrev pub Closes : {W : Type 0} → (W → Taken) → Known V → Result (Option W) (SolverError × W) → Known V → Type 0
+  Closes taken s (Ok back) t =
+      IsClosed {E = SolverError} taken (opened_state s.proof) (Ok back) × (IsValid s → IsProofIfOpen s) × (t ≡ count_anew (with_proof None s))
+  Closes taken s (Err (ProofIoError cause, target)) t =
+      IsClosed taken (opened_state s.proof) (Err (ProofIoError cause, target)) × IsProofIfOpen s × Invalidates 0 (with_proof None s) t
+  Closes taken s (Err _) t = ⊥
+
+-- the proof that is open is one
 abbrev pub HasProof : State → Type 0
-HasProof s =
-    (p : OpenProof) → s.proof ≡ Some p →
-    AreBytesOfProof p.format p.bytes s.ever_hidden s.naming.made s.told s.clauses s.assumptions (IsRefuted p.format s.verdict)
+HasProof s = IsProofIfOpen calling s
 
--- The target of the open proof comes back, with the bytes of the proof behind those that it had before, and nothing where none is
--- open; then none is open any more. It comes back too where it can't be flushed, which makes the solver invalid, and from an invalid
--- solver, of which it is not told that the bytes are those of lines.
+-- the call `close_proof`
 abbrev pub ClosesProof : {W : Type 0} → (W → Taken) → State → Result (Option W) (SolverError × W) → State → Type 0
-ClosesProof taken s (Ok back) t =
-    IsClosed {E = SolverError} taken (opened_state s.proof) (Ok back) × (IsValid s → HasProof s) × (t ≡ count_anew (with_proof None s))
-ClosesProof taken s (Err (ProofIoError cause, target)) t =
-    IsClosed taken (opened_state s.proof) (Err (ProofIoError cause, target)) × HasProof s × Invalidates 0 (with_proof None s) t
-ClosesProof taken s (Err _) t = ⊥
+ClosesProof taken s r t = Closes calling taken s r t

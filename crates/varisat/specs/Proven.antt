@@ -19,7 +19,8 @@ use Rattle.varisat.specs.OpenProofs.{first_proof}
 use Rattle.varisat.specs.ProofBytes.{IsMarkedDerivation}
 use Rattle.varisat.specs.ProofCalls.{with_proof, ClosesProof}
 use Rattle.varisat.specs.States.{State, new_state}
-use Rattle.varisat.specs.Calls.{AddsDimacs, Solves, TellsModel, with_update, count_anew}
+use Rattle.varisat.specs.ClauseCalls.{AddsDimacs}
+use Rattle.varisat.specs.Calls.{Solves, TellsModel, with_update, count_anew}
 use Rattle.varisat.specs.declared.solver.SolverError.{SolverError}
 use Rattle.varisat.specs.declared.solver.SolverError.TheVariants.{Interrupted, OutOfMemory}
 use Rattle.varisat.specs.declared.deciding.Report.{Report}

@@ -3,34 +3,11 @@ use Rattle.std.specs.Prelude.{◌-◌, ◌^◌, ◌<◌, List, [], ◌∷◌}
 use Rattle.varisat_formula.specs.Streams.{Stand, Taken}
 use Rattle.varisat.specs.States.{State}
 use Rattle.varisat.specs.Journals.{IsJournal, IsToldWithin}
-use Rattle.varisat.specs.Calls.{adding, IsValid, MakesVar, Assumes, Solves, TellsModel, TellsCore, with_update}
-use Rattle.varisat.specs.ProofCalls.{begin_checking, OpensProof, ClosesProof}
-use Rattle.varisat.specs.VariableCalls.{named}
-use Rattle.varisat.specs.Turns.{CallRules, Makes, MakesInTurn}
+use Rattle.varisat.specs.Calls.{IsValid, calling}
+use Rattle.varisat.specs.Turns.{Makes, MakesInTurn}
 use Rattle.varisat.specs.declared.session.Call.{Call}
 use Rattle.varisat.specs.declared.session.Answer.{Answer}
 use Rattle.varisat.specs.declared.session.Call.TheVariants as call
-
--- the calls of a solver; behind each what was told is right, as long as the state is valid
-abbrev pub calling : CallRules State
-calling = record {
-  adding = adding;
-  named = named;
-  holds = λ s. IsValid s → IsJournal s;
-  makes_var = MakesVar;
-  assumes = Assumes;
-  solves = Solves;
-  tells_model = TellsModel;
-  tells_core = TellsCore;
-  updated = with_update;
-  started = λ s. s.ledger.started;
-  begins_checking = begin_checking;
-  steps = λ s. s.ledger.steps;
-  since = λ s. s.ledger.since;
-  counted = λ s. s.counted;
-  opens = OpensProof;
-  closes = ClosesProof;
-}
 
 -- The call may get the answer, and leads from one state to the other.
 abbrev pub MakesCall : {W S A : Type 0} → (S → Stand) → (W → Taken) → State → Call W S A → Answer W S A → State → Type 0

@@ -1,4 +1,4 @@
--- What a user can know of a solver.
+-- What is known of a solver.
 use Rattle.std.specs.Prelude.{◌≡◌, ℕ, ◌<◌, ◌≤◌, Bool, true, false, ◌||◌, nat_eq, if◌then◌else◌, Option, Some, None, List, [], ◌∷◌, ◌++◌}
 use Rattle.varisat_theory.specs.Membership.{◌∈◌, IsDistinct}
 use Rattle.varisat_theory.specs.Literals.{Literal, Clause, Assignment, variable_of, SatisfiesAll, MakesTrue, IsSatisfiable, IsFailedCore}
@@ -28,23 +28,29 @@ pub record Ledger : Type 0 where
   pub settings : Settings
   pub checking : Bool
 
--- `naming`: which identity each name has. `ever_hidden`: whether a name was ever freed while its variable lived on. `clauses`:
--- those accepted, over identities. `assumptions`: the list as given, over identities. `counted`: the identities that accepted
--- clauses and assumption lists have named so far, each once. `told`: what a proof that was opened at the beginning would have
--- been told, over identities. `variables`: as which variable a proof writes each identity that was made; another identity has the
--- same one only once this one has left. `proof`: the proof that is open. `words`: how many words the clause store has.
-pub record State : Type 0 where
+-- What is known of a solver, where V is what is known of a verdict. `naming`: which identity each name has. `ever_hidden`: whether a
+-- name was ever freed while its variable lived on. `clauses`: those accepted, over identities, as the names that were in use carried
+-- them when they were given: a name that becomes free may come back for another variable, and what was said before still speaks of
+-- the first. `assumptions`: the list as given, over identities. `counted`: the identities that accepted clauses and assumption lists
+-- have named so far, each once. `told`: what a proof that was opened at the beginning would have been told, over identities, as long
+-- as no error came from which there is no way back. `variables`: as which variable a proof writes each identity that was made; another
+-- identity has the same one only once this one has left. `proof`: the proof that is open. `words`: how many words the clause store has.
+pub record Known (V : Type 0) : Type 0 where
   pub naming : Naming
   pub ever_hidden : Bool
   pub clauses : List Clause
   pub assumptions : List Literal
   pub counted : List ℕ
-  pub verdict : Verdict
+  pub verdict : V
   pub ledger : Ledger
   pub told : List Entry
   pub variables : ℕ → Option ℕ
   pub proof : Option OpenProof
   pub words : ℕ
+
+-- what a user can know of a solver
+abbrev pub State : Type 0
+State = Known Verdict
 
 -- whether the number is one of the list
 abbrev pub is_member : ℕ → List ℕ → Bool
@@ -60,21 +66,25 @@ abbrev pub join_counted : List ℕ → List ℕ → List ℕ
 join_counted counted [] = counted
 join_counted counted (i ∷ is) = join_counted (join_one i counted) is
 
--- a new solver's state
-abbrev pub empty_state : State
-empty_state = record {
+-- before the first call, where this is known of the verdict
+abbrev pub first_known : {V : Type 0} → V → Known V
+first_known verdict = record {
   naming = no_names;
   ever_hidden = false;
   clauses = [];
   assumptions = [];
   counted = [];
-  verdict = Unknown;
+  verdict = verdict;
   ledger = record { valid = true; started = false; steps = 0; since = 0; settings = default_settings; checking = false };
   told = [];
   variables = λ i. None;
   proof = None;
   words = 0;
 }
+
+-- a new solver's state
+abbrev pub empty_state : State
+empty_state = first_known Unknown
 
 -- so it is, but for whether a checker runs inside
 abbrev pub new_state : Bool → State
@@ -88,9 +98,9 @@ with_variables variables s = record s { variables = variables }
 abbrev pub with_words : ℕ → State → State
 with_words words s = record s { words = words }
 
--- What is true of each state: names stand for different identities, none is in use from the watermark on, identities that are
+-- What is true of each: names stand for different identities, none is in use from the watermark on, identities that are
 -- spoken of were made, and none is counted twice.
-pub record IsWellFormed (s : State) : Type 0 where
+pub record IsWellFormed {V : Type 0} (s : Known V) : Type 0 where
   pub one_to_one : (u v i : ℕ) → s.naming.names u ≡ Some i → s.naming.names v ≡ Some i → u ≡ v
   pub free : (u : ℕ) → s.naming.watermark ≤ u → s.naming.names u ≡ None
   pub named : (u i : ℕ) → s.naming.names u ≡ Some i → i < s.naming.made

@@ -23,7 +23,7 @@ use Rattle.varisat_tracer.specs.Tracing.{CanTell}
 use Rattle.varisat.specs.States.{State, Ledger, FlagsFit}
 use Rattle.varisat.specs.Accepting.{AreBounded, DecidesInUse, IsAssumedSolver}
 use Rattle.varisat.specs.Models.{put_name}
-use Rattle.varisat.specs.Calls.{AddsReading}
+use Rattle.varisat.specs.ClauseCalls.{AddsReading}
 use Rattle.varisat.specs.Carried.{value_or}
 use Rattle.varisat.specs.Spaces.{Spaces, SpacesFit}
 use Rattle.varisat.specs.SinceChange.{CountsSince}

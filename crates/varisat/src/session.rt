@@ -2,9 +2,10 @@
 ghost use Rattle.std.specs.Prelude.{◌≡◌, [], IfOk, OnErr};
 ghost use Rattle.varisat.specs.States.{State, empty_state};
 ghost use Rattle.varisat.specs.Summaries.{StandsFor, StandsOnce};
-ghost use Rattle.varisat.specs.Runs.{calling, MakesCall, Run, HasToldRight, MayStillFail, AreReady};
-ghost use Rattle.varisat.specs.Pasts.{empty_past};
-ghost use Rattle.varisat.specs.Histories.{telling, AreTrue};
+ghost use Rattle.varisat.specs.Runs.{MakesCall, Run, HasToldRight, MayStillFail, AreReady};
+ghost use Rattle.varisat.specs.Calls.{calling};
+ghost use Rattle.varisat.specs.Pasts.{empty_past, telling};
+ghost use Rattle.varisat.specs.Histories.{AreTrue};
 ghost use Rattle.varisat.specs.Moments.{HasFewSteps, HasFewStepsAlong};
 
 use crate::solver::{Solver, SolverError};

@@ -200,7 +200,8 @@ impl<W: ProofTarget, A: Allocator + Copy> Solver<W, A> {
     ghost use Rattle.std.specs.declared.io.Error.{Error};
     ghost use Rattle.varisat.specs.States.{State, empty_state};
     ghost use Rattle.varisat.specs.Models.{IsCompletableIn, HasModel, HasCore, IsNamedCore};
-    ghost use Rattle.varisat.specs.Calls.{IsValid, count_anew, with_max_steps, AddsClause, AddsAll, AddsFormula, AddsDimacs, TellsFault, MakesVar, Assumes, Searches, Solves, TellsModel, TellsCore, Configures, TellsSteps, TellsSince, TellsValid, answer_of};
+    ghost use Rattle.varisat.specs.Calls.{IsValid, count_anew, with_max_steps, AddsClause, MakesVar, Assumes, Searches, Solves, TellsModel, TellsCore, Configures, TellsSteps, TellsSince, TellsValid, answer_of};
+    ghost use Rattle.varisat.specs.ClauseCalls.{AddsAll, AddsFormula, AddsDimacs, TellsFault};
     ghost use Rattle.varisat.specs.Told.{told_list, lent_list};
     ghost use Rattle.varisat.specs.Summaries.{StandsFor, StandsOnceEnded, EndsSearch, HasFullStore};
     ghost use Rattle.varisat.specs.Targets.{WritesOn, WritesAll};
@@ -727,16 +728,15 @@ impl<W: ProofTarget, A: Allocator + Copy> Solver<W, A> {
 impl<W: ProofTarget, A: Allocator + Copy> Solver<W, A> {
     ghost use Rattle.varisat.specs.States.{State};
     ghost use Rattle.varisat.specs.Told.{told_vars};
-    ghost use Rattle.varisat.specs.Usage.{SetsMode};
+    ghost use Rattle.varisat.specs.Usage.{SetsMode, SamplesVar, WitnessesVar, HidesVar, Observes};
     ghost use Rattle.varisat.specs.Spaces.{ModeFits};
     ghost use Rattle.varisat.specs.Accepting.{mode_of};
-    ghost use Rattle.varisat.specs.VariableCalls.{named, SamplesVar, WitnessesVar, HidesVar, Observes};
     ghost use Rattle.varisat.specs.Summaries.{StandsFor};
 
     /// Names the variable, and sets its mode, which is not `Hide`. Refused as `sample_var` is.
     fn set_mode(&mut self, var: Var, mode: SamplingMode) -> Result<(), SolverError>
         requires { ModeFits mode (mode_of mode) }
-        ensures { (s : State) → StandsFor self.old s → (t : State) × SetsMode named (mode_of mode) s var result t × StandsFor self.new t }
+        ensures { (s : State) → StandsFor self.old s → (t : State) × SetsMode (mode_of mode) s var result t × StandsFor self.new t }
     {
         if self.ctx.solver_state.state_is_invalid {
             return Err(SolverError::Invalid);

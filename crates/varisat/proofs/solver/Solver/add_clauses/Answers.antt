@@ -1,7 +1,7 @@
 -- A clause more is accepted, or refused.
 use Rattle.std.proofs.Common.{◌≡◌, ◌∙◌, ◌++◌, ◌∷◌, [], Err, refl, sym, ap, subst, map, append_assoc, append-nil, Ok}
 use Rattle.std.proofs.lemmas.List.{map-append}
-use Rattle.varisat.specs.Calls.{AddsAll}
+use Rattle.varisat.specs.ClauseCalls.{AddsAll}
 use Rattle.varisat.proofs.Additions.{told-error, adds-last, adds-refused}
 use Rattle.varisat.specs.Refusals.{told_faults}
 use Rattle.varisat.specs.declared.solver.SolverError.TheVariants.{ClauseStoreFull}

@@ -1,7 +1,7 @@
 -- The clauses so far are accepted; with those that are left they are the formula's.
 use Rattle.std.proofs.Common.{◌≡◌, ◌++◌, map, Ok}
 use Rattle.varisat.specs.States.{State}
-use Rattle.varisat.specs.Calls.{AddsAll}
+use Rattle.varisat.specs.ClauseCalls.{AddsAll}
 use Rattle.varisat.specs.Summaries.{StandsFor}
 use Rattle.varisat.specs.Targets.{WritesAll}
 use Rattle.varisat.proofs.solver.Solver.add_clauses.Given as goal

@@ -2,7 +2,7 @@
 use Rattle.std.proofs.Common.{List, Ok}
 use Rattle.varisat_theory.specs.Literals.{Clause}
 use Rattle.varisat.specs.States.{State}
-use Rattle.varisat.specs.Calls.{AddsAll}
+use Rattle.varisat.specs.ClauseCalls.{AddsAll}
 use Rattle.varisat.specs.Summaries.{StandsFor}
 use Rattle.varisat.specs.Targets.{WritesAll}
 use Rattle.varisat.proofs.AddTexts.{ReadSo}

@@ -1,4 +1,4 @@
-use Rattle.std.proofs.Common.{◌∙◌, not, subst, sym, ap, refl, true, false}
+use Rattle.std.proofs.Common.{◌∙◌, not, subst, sym, ap, refl, true}
 use Rattle.varisat_proof.specs.Proving.{ProofParts, is_there}
 use Rattle.varisat_tracer.specs.Tracing.{tracer_state}
 use Rattle.varisat_tracer.proofs.Telling.{tells-told}
@@ -7,7 +7,7 @@ use Rattle.varisat.proofs.VariableChanges.{hides-stay, hides-told}
 use Rattle.varisat.specs.States.{Ledger, with_variables}
 use Rattle.varisat.specs.Journals.{retold}
 use Rattle.varisat.specs.Usage.{name_var}
-use Rattle.varisat.specs.VariableCalls.{named, hide_name, HidesVar}
+use Rattle.varisat.specs.Usage.{hide_name, HidesVar}
 use Rattle.varisat.proofs.AcceptClause.{proof-free}
 use Rattle.varisat.proofs.OpenProofs.{proof-goes-on, lines-of-entries, barred-before}
 use Rattle.varisat.proofs.WrittenVariables.{written-alike}
@@ -58,7 +58,7 @@ returns-in-Ok g c s st =
     (summary_of (tracer_state c.self.inside.tracer) c.self.inside.started c.self.inside.changed_at c.self.inside.ctx) s c.args.var p q refl k.fits hides in
     let alike = written-alike before _ s links variables keep in
     let (now, grows, goes) = proof-goes-on p q.proof s.variables variables s.told told s.proof k.proof alike more.proof in
-    let u = hide_name c.args.var (name_var named c.args.var s) in
+    let u = hide_name c.args.var (name_var c.args.var s) in
     let t = record u { told = told; variables = variables; proof = now } in
     let may = c.in_ok-check_change.ensures in (
       t,

@@ -2,7 +2,7 @@ use Rattle.std.proofs.Common.{not, subst, sym, ap, false}
 use Rattle.varisat.specs.States.{Ledger, with_variables}
 use Rattle.varisat.specs.Accepting.{mode_of}
 use Rattle.varisat.specs.Usage.{name_var, SetsMode}
-use Rattle.varisat.specs.VariableCalls.{named, with_mode}
+use Rattle.varisat.specs.Usage.{with_mode}
 use Rattle.varisat.proofs.CallStates.{ledger-is, none-since, begins, like-varied, broken, broken-untold}
 use Rattle.varisat.proofs.Additions.{told-error}
 use Rattle.varisat.proofs.OpenProofs.{lines-of-entries, fits-alike}
@@ -33,7 +33,7 @@ returns-in_err-check_change g c s st =
     let n = mode_of c.args.mode in
     let refused = told-error c.from_residual.result c.in_err-check_change.field-0.0 c.from_residual.ensures in (
       s,
-      subst (λ r. SetsMode named n s c.args.var r s) (sym refused)
+      subst (λ r. SetsMode n s c.args.var r s) (sym refused)
           (mode-refused n c.args.var c.in_err-check_change.field-0.0 k c.in_err-check_change.ensures),
       st,
     )
@@ -44,7 +44,7 @@ returns-in-Ok g c s st =
     let u = c.args.var in
     let m = c.args.mode in
     let may = c.in_ok-check_change.ensures in
-    let t = with_mode u (mode_of m) (name_var named u s) in
+    let t = with_mode u (mode_of m) (name_var u s) in
     let (w, links) = k.fits in
     let (variables, keep, fits) = mode-state
     (summary_of (tracer_state c.self.inside.tracer) c.self.inside.started c.self.inside.changed_at c.self.inside.ctx) s

@@ -6,6 +6,7 @@ pub mod AcceptedBytes
 pub mod Additions
 pub mod AssumeList
 pub mod CallStates
+pub mod ChangeEnds
 pub mod Carried
 pub mod CheckedHeld
 pub mod CoresTold
@@ -29,6 +30,7 @@ pub mod KeptCounts
 pub mod LineLemmas
 pub mod ModelsFit
 pub mod MoreClauses
+pub mod ModeChanges
 pub mod ModeStates
 pub mod NameLaws
 pub mod NamesAlike

@@ -8,12 +8,10 @@ use Rattle.varisat_tracer.specs.Tracing.{CanTell}
 use Rattle.varisat_search.specs.declared.context.Context.{Context}
 use Rattle.varisat.specs.States.{State, Ledger}
 use Rattle.varisat.specs.Spaces.{Links, SpacesFit}
-use Rattle.varisat.specs.Calls.{count_anew}
-use Rattle.varisat.specs.ProofCalls.{begin_checking}
 use Rattle.varisat.specs.Summaries.{spaces_with, StandsForSome, StandsFor}
 use Rattle.varisat.proofs.AcceptClause.{ledger-free}
 use Rattle.varisat.proofs.CallStates.{ledger_of}
-use Rattle.varisat.proofs.SettingsCalls.{summary_of, stands-anew}
+use Rattle.varisat.proofs.SettingsCalls.{summary_of}
 use Rattle.varisat.proofs.ToldJournals.{checking-begins}
 
 -- the parts with a checker that has no clauses yet, or the same parts
@@ -32,6 +30,10 @@ begun-or-on p q begun stays = go p.checker refl
 pub some-there : {X : Type 0} (o : Option X) → IsSome o → is_there o ≡ true
 some-there None h = absurd (let z : false ≡ true = h in cc)
 some-there (Some x) h = refl
+
+-- a checker runs in the state
+abbrev pub with_checking : State → State
+with_checking s = record s { ledger = record s.ledger { checking = true } }
 
 -- An open proof stays, and a checker that just began can be used.
 same-opened : (p q : ProofParts) → Checks p q → q.opened ≡ p.opened
@@ -53,23 +55,20 @@ pub some-checking : {A : Type 0} (tables : Tables) (p q : ProofParts) (x : Conte
     StandsForSome (spaces_with tables p.checker x) started → StandsForSome (spaces_with tables q.checker x) started
 some-checking tables p q x started e fresh (s, fit, f) = let (none, few) = f fresh in (s, spaces-checking tables p q x s e none few fit, f)
 
-pub stands-checking : {A : Type 0} (tables : Tables) (p q : ProofParts) (started : Bool) (changed_at anew : ℕ) (x : Context A) (s : State) →
-    anew ≡ x.schedule.steps → Checks p q → is_there q.checker ≡ true → s.ledger.started ≡ false →
-    StandsFor (summary_of (record { tables = tables; proof = p }) started changed_at x) s →
-    StandsFor (summary_of (record { tables = tables; proof = q }) started anew x) (begin_checking s)
-stands-checking tables p q started changed_at anew x s n e runs fresh st =
-    let t = stands-anew (record { tables = tables; proof = p }) started changed_at anew x s n st in
-    record {
-      ledger = ap (λ (l : Ledger). record l { checking = true }) t.ledger
-          ∙ ap (λ b. ledger_of (not x.solver_state.state_is_invalid) started x.schedule.steps (x.schedule.steps - anew) x.solver_config b) (sym runs);
-      words = t.words;
-      fits = λ v.
-          let f = t.flags v in
-          let (w, k) = spaces-checking tables p q x (count_anew s) e (f.clauses fresh) (f.counted fresh) (t.fits v) in
-          (w, ledger-free w (spaces_with tables q.checker x) (count_anew s) (record s.ledger { since = 0; checking = true }) k);
-      same = same-opened p q e ∙ t.same;
-      written = t.written;
-      bounded = t.bounded;
-      flags = λ v. let f = t.flags v in
-          record { clauses = f.clauses; assumptions = f.assumptions; counted = f.counted; unlisted = f.unlisted; unassumed = f.unassumed };
-    }
+pub stands-checking : {A : Type 0} (tables : Tables) (p q : ProofParts) (started : Bool) (changed_at : ℕ) (x : Context A) (s : State) →
+    Checks p q → is_there q.checker ≡ true → s.ledger.started ≡ false → StandsFor (summary_of (record { tables = tables; proof = p }) started changed_at x) s →
+    StandsFor (summary_of (record { tables = tables; proof = q }) started changed_at x) (with_checking s)
+stands-checking tables p q started changed_at x s e runs fresh st = record {
+  ledger = ap (λ (l : Ledger). record l { checking = true }) st.ledger
+      ∙ ap (λ b. ledger_of (not x.solver_state.state_is_invalid) started x.schedule.steps (x.schedule.steps - changed_at) x.solver_config b) (sym runs);
+  words = st.words;
+  fits = λ v.
+      let f = st.flags v in
+      let (w, k) = spaces-checking tables p q x s e (f.clauses fresh) (f.counted fresh) (st.fits v) in
+      (w, ledger-free w (spaces_with tables q.checker x) s (record s.ledger { checking = true }) k);
+  same = same-opened p q e ∙ st.same;
+  written = st.written;
+  bounded = st.bounded;
+  flags = λ v. let f = st.flags v in
+      record { clauses = f.clauses; assumptions = f.assumptions; counted = f.counted; unlisted = f.unlisted; unassumed = f.unassumed };
+}

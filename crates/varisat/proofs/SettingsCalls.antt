@@ -161,24 +161,18 @@ stands-anew parts started changed_at anew x s n st = record {
       record { clauses = f.clauses; assumptions = f.assumptions; counted = f.counted; unlisted = f.unlisted; unassumed = f.unassumed };
 }
 
--- the same solver with another proof, or none, and the same checker, where steps are counted anew
-pub stands-with-proof : {A : Type 0} (tables : Tables) (p q : ProofParts) (started : Bool) (changed_at anew : ℕ) (x : Context A) (s : State)
-    (proof : Option OpenProof) → anew ≡ x.schedule.steps → q.checker ≡ p.checker → q.opened ≡ opened_state proof →
+-- the same solver with another proof, or none, and the same checker
+pub stands-with-proof : {A : Type 0} (tables : Tables) (p q : ProofParts) (started : Bool) (changed_at : ℕ) (x : Context A) (s : State)
+    (proof : Option OpenProof) → q.checker ≡ p.checker → q.opened ≡ opened_state proof →
     (not x.solver_state.state_is_invalid ≡ true → IsWrittenWhereOpen s.variables s.told proof) → (BarsAssumptions proof → s.assumptions ≡ []) →
     StandsFor (summary_of (record { tables = tables; proof = p }) started changed_at x) s →
-    StandsFor (summary_of (record { tables = tables; proof = q }) started anew x) (count_anew (with_proof proof s))
-stands-with-proof tables p q started changed_at anew x s proof n checker e f unassumed st = record {
-  ledger = ap (λ (l : Ledger). record l { since = 0 }) st.ledger
-      ∙ ap (λ k. ledger_of (not x.solver_state.state_is_invalid) started x.schedule.steps k x.solver_config (is_there p.checker))
-      (none-since anew x.schedule.steps n)
-      ∙ ap (λ (o : Option CheckerState). ledger_of (not x.solver_state.state_is_invalid) started x.schedule.steps (x.schedule.steps - anew)
+    StandsFor (summary_of (record { tables = tables; proof = q }) started changed_at x) (with_proof proof s)
+stands-with-proof tables p q started changed_at x s proof checker e f unassumed st = record {
+  ledger = st.ledger
+      ∙ ap (λ (o : Option CheckerState). ledger_of (not x.solver_state.state_is_invalid) started x.schedule.steps (x.schedule.steps - changed_at)
       x.solver_config (is_there o)) (sym checker);
   fits = λ v. let (w, k) = subst (λ o. SpacesFit (spaces_of tables o (view x) x.assumptions x.solver_state.sat_state) s) (sym checker)
-      (st.fits v) in (
-        w,
-        ledger-free w (spaces_of tables q.checker (view x) x.assumptions x.solver_state.sat_state) (with_proof proof s)
-            (record s.ledger { since = 0 }) (proof-free w (spaces_of tables q.checker (view x) x.assumptions x.solver_state.sat_state) s proof k),
-      );
+      (st.fits v) in (w, proof-free w (spaces_of tables q.checker (view x) x.assumptions x.solver_state.sat_state) s proof k);
   words = st.words;
   bounded = st.bounded;
   same = e;

@@ -10,6 +10,7 @@ pub mod Budgets
 pub mod SinceChange
 pub mod Additions
 pub mod Calls
+pub mod Changes
 pub mod Pasts
 pub mod Told
 pub mod Turns

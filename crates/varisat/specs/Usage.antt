@@ -5,6 +5,8 @@ use Rattle.std.specs.Prelude.{◌≡◌, ℕ, ◌<◌, ◌≤◌, Bool, true, fa
 use Rattle.varisat_theory.specs.Membership.{◌∈◌}
 use Rattle.varisat_theory.specs.Literals.{Literal, Clause, Assignment, variable_of, SatisfiesAll}
 use Rattle.varisat_literals.specs.Numbers.{variable_limit}
+use Rattle.varisat_names.specs.declared.variables.data.SamplingMode.{SamplingMode}
+use Rattle.varisat_names.specs.declared.variables.data.SamplingMode.TheVariants as sampling
 use Rattle.varisat.specs.Names.{Mode, Sample, Witness, Naming, name_one, free_name, set_mode, IsUnnamed, AreShown}
 use Rattle.varisat.specs.States.{Known}
 use Rattle.varisat.specs.Calls.{IsCrowded, IsValid, IsRefusedInvalid, IsLikeButLeft, Invalidates, with_naming, count_anew}
@@ -66,6 +68,12 @@ hide_name u s = record (renamed (free_name u s.naming) s) { ever_hidden = true }
 -- the call `hide_var`, as which the variable may leave for good
 abbrev pub HidesVar : {V : Type 0} → Known V → ℕ → Result (Unit {0}) SolverError → Known V → Type 0
 HidesVar s u r t = ChangesVar true (hide_name u) s u r t
+
+-- each of these calls, by the mode that it sets
+abbrev pub ChangesMode : {V : Type 0} → SamplingMode → Known V → ℕ → Result (Unit {0}) SolverError → Known V → Type 0
+ChangesMode sampling.Sample s u r t = SamplesVar s u r t
+ChangesMode sampling.Witness s u r t = WitnessesVar s u r t
+ChangesMode sampling.Hide s u r t = HidesVar s u r t
 
 -- The call `observe_internal_vars`. Names of hidden variables are always found below the limit, as there are no more variables.
 abbrev pub Observes : {V : Type 0} → Known V → Result (List ℕ) SolverError → Known V → Type 0

@@ -74,3 +74,9 @@ pub record HidesNamed (u : ℕ) (v : SatState) (p q : TracerState) : Type 0 wher
   pub set : SetsNamedMode u sampling.Hide p.tables global mid
   pub left : v ≢ verdict.Unsat → LeavesIfUnused (record p { tables = mid }) global q
   pub stays : v ≡ verdict.Unsat → q ≡ record p { tables = mid }
+
+-- The name was named, and its variable has the mode. Only as `Hide` it may have left, of which the proof is told.
+pub record ChangesNamed (u : ℕ) (mode : SamplingMode) (v : SatState) (p q : TracerState) : Type 0 where
+  pub hides : mode ≡ sampling.Hide → HidesNamed u v p q
+  pub sets : mode ≢ sampling.Hide → (x : ℕ) × SetsNamedMode u mode p.tables x q.tables
+  pub untold : mode ≢ sampling.Hide → q.proof ≡ p.proof

@@ -1,13 +1,14 @@
 //! The solver, and the calls that a user makes.
 ghost use Rattle.std.specs.Prelude.{◌≡◌, length, IfOk};
 ghost use Rattle.varisat.specs.Accepting.{AreBounded};
+ghost use Rattle.varisat.specs.Changes.{RefusesInvalid, invalidated, EndsChange};
 ghost use Rattle.varisat.specs.Summaries.{list_tables};
 
 use crate::accept::{accept_clause, assume_list};
 use crate::naming::check_names;
 use crate::progress::{SearchSize, count_mapped};
 use crate::solving::find_verdict;
-use crate::usage::{check_change, hide_named, set_named_mode};
+use crate::usage::{change_mode, check_change};
 use std::alloc::{AllocError, Allocator};
 use std::io;
 use std::marker::Model;
@@ -78,6 +79,17 @@ impl From<StepError> for SolverError {
     }
 }
 
+impl From<AllocError> for SolverError {
+    ghost use Rattle.std.specs.Prelude.{◌≡◌};
+    ghost use Rattle.varisat.specs.declared.solver.SolverError.TheVariants.{OutOfMemory};
+
+    ghost from_gives = { λ _ result. result ≡ OutOfMemory };
+
+    fn from(_error: AllocError) -> SolverError {
+        SolverError::OutOfMemory
+    }
+}
+
 impl SolverError {
     ghost use Rattle.std.specs.Prelude.{◌↔◌, ◌≡◌, ◌<◌, ◌⊎◌, IsTrue};
     ghost use Rattle.varisat.specs.Refusals.{refusal_number};
@@ -122,6 +134,45 @@ impl SolverError {
             | SolverError::ConfigOutOfRange { .. }
             | SolverError::Dimacs { .. } => true,
         }
+    }
+}
+
+/// Refuses a call in an invalid solver.
+fn ensure_valid<A: Allocator + Copy>(ctx: &Context<A>) -> Result<(), SolverError>
+    ensures { RefusesInvalid ctx.now.solver_state.state_is_invalid result }
+{
+    if ctx.solver_state.state_is_invalid {
+        return Err(SolverError::Invalid);
+    }
+    Ok(())
+}
+
+/// Makes the solver invalid, and returns the refusal for an error from which there is no way back.
+fn invalidate<E: Into<SolverError>, A: Allocator + Copy>(
+    ctx: &mut Context<A>,
+    error: E,
+) -> SolverError
+    ensures told { E.converts error result }
+    ensures invalid { ctx.new ≡ invalidated ctx.old }
+{
+    ctx.solver_state.state_is_invalid = true;
+    error.into()
+}
+
+/// Ends a change: steps are counted anew from here on, or, where it failed, the solver is invalid.
+fn end_change<T, E: Into<SolverError>, A: Allocator + Copy>(
+    ctx: &mut Context<A>,
+    changed_at: &mut u64,
+    outcome: Result<T, E>,
+) -> Result<T, SolverError>
+    ensures { EndsChange E.converts outcome ctx.old changed_at.old result ctx.new changed_at.new }
+{
+    match outcome {
+        Ok(value) => {
+            *changed_at = ctx.schedule.steps();
+            Ok(value)
+        }
+        Err(error) => Err(invalidate(ctx, error)),
     }
 }
 
@@ -231,9 +282,7 @@ impl<W: ProofTarget, A: Allocator + Copy> Solver<W, A> {
     pub fn config(&mut self, update: &SolverConfigUpdate) -> Result<(), SolverError>
         ensures { (s : State) → StandsFor self.old s → (t : State) × Configures s update.now result t × StandsFor self.new t }
     {
-        if self.ctx.solver_state.state_is_invalid {
-            return Err(SolverError::Invalid);
-        }
+        ensure_valid(&self.ctx)?;
         match self.ctx.config_changed(update) {
             Ok(()) => {}
             Err(error) => return Err(SolverError::ConfigOutOfRange { field: error.field }),
@@ -345,9 +394,7 @@ impl<W: ProofTarget, A: Allocator + Copy> Solver<W, A> {
         ensures full { result ≡ Err SolverError.ClauseStoreFull → HasFullStore self.new }
         ensures call { (s : State) → StandsFor self.old s → (t : State) × AddsClause s clause.now result t × StandsFor self.new t }
     {
-        if self.ctx.solver_state.state_is_invalid {
-            return Err(SolverError::Invalid);
-        }
+        ensure_valid(&self.ctx)?;
         if let SatState::Unsat = self.ctx.solver_state.sat_state {
             self.begin_count();
             return Ok(());
@@ -356,17 +403,10 @@ impl<W: ProofTarget, A: Allocator + Copy> Solver<W, A> {
             return Err(SolverError::ClauseAfterSolve);
         }
         check_names(&self.tracer.variables, clause)?;
-        match accept_clause(&mut self.tracer, &mut self.ctx, &mut self.literals, clause) {
-            Ok(()) => {
-                self.started = true;
-                self.changed_at = self.ctx.schedule.steps();
-                Ok(())
-            }
-            Err(error) => {
-                self.ctx.solver_state.state_is_invalid = true;
-                Err(SolverError::from(error))
-            }
-        }
+        let accepted = accept_clause(&mut self.tracer, &mut self.ctx, &mut self.literals, clause);
+        end_change(&mut self.ctx, &mut self.changed_at, accepted)?;
+        self.started = true;
+        Ok(())
     }
 
     /// Accepts the clauses in turn, up to the first that is refused. Those before it stay. Steps are counted anew only
@@ -395,9 +435,7 @@ impl<W: ProofTarget, A: Allocator + Copy> Solver<W, A> {
         ensures full { result ≡ Err SolverError.ClauseStoreFull → HasFullStore self.new }
         ensures call { (s : State) → StandsFor self.old s → (t : State) × AddsFormula s formula.now.clauses result t × StandsFor self.new t }
     {
-        if self.ctx.solver_state.state_is_invalid {
-            return Err(SolverError::Invalid);
-        }
+        ensure_valid(&self.ctx)?;
         self.add_clauses(formula)?;
         self.begin_count();
         Ok(())
@@ -411,8 +449,7 @@ impl<W: ProofTarget, A: Allocator + Copy> Solver<W, A> {
         ensures call { (s : State) → StandsFor self.old s → IsValid s → (t : State) × TellsFault (Some fault) s (Err result) t × StandsFor self.new t }
     {
         if let DimacsErrorKind::OutOfMemory = fault.kind {
-            self.ctx.solver_state.state_is_invalid = true;
-            return SolverError::OutOfMemory;
+            return invalidate(&mut self.ctx, SolverError::OutOfMemory);
         }
         SolverError::Dimacs { cause: fault }
     }
@@ -444,9 +481,7 @@ impl<W: ProofTarget, A: Allocator + Copy> Solver<W, A> {
         ensures call { (s : State) → StandsFor self.old s → (t : State) × AddsDimacs s (S.stand source.old) result (S.stand source.new) t
             × StandsFor self.new t }
     {
-        if self.ctx.solver_state.state_is_invalid {
-            return Err(SolverError::Invalid);
-        }
+        ensure_valid(&self.ctx)?;
         let mut parser = DimacsParser::new_in(self.alloc);
         let mut buffer = [0; PIECE];
         'pieces: loop {
@@ -466,9 +501,7 @@ impl<W: ProofTarget, A: Allocator + Copy> Solver<W, A> {
     pub fn new_var(&mut self) -> Result<Var, SolverError>
         ensures { (s : State) → StandsFor self.old s → (t : State) × MakesVar s result t × StandsFor self.new t }
     {
-        if self.ctx.solver_state.state_is_invalid {
-            return Err(SolverError::Invalid);
-        }
+        ensure_valid(&self.ctx)?;
         let next = self.tracer.variables.next_unmapped_user();
         if next.index() >= Var::max_count()
             || self.tracer.variables.global_watermark() >= Var::max_count()
@@ -476,17 +509,10 @@ impl<W: ProofTarget, A: Allocator + Copy> Solver<W, A> {
             return Err(SolverError::VariableLimit);
         }
         self.tracer.variables.prove_linked();
-        match new_user_var(&mut self.tracer.variables) {
-            Ok(user) => {
-                self.started = true;
-                self.changed_at = self.ctx.schedule.steps();
-                Ok(user)
-            }
-            Err(_) => {
-                self.ctx.solver_state.state_is_invalid = true;
-                Err(SolverError::OutOfMemory)
-            }
-        }
+        let made = new_user_var(&mut self.tracer.variables);
+        let user = end_change(&mut self.ctx, &mut self.changed_at, made)?;
+        self.started = true;
+        Ok(user)
     }
 
     /// Opens a proof, to which the lines of the search are written from here on, and to a marked one also the clauses,
@@ -497,8 +523,9 @@ impl<W: ProofTarget, A: Allocator + Copy> Solver<W, A> {
         requires { (W.taken target).faults < 2 ^ 64 - 1 }
         ensures { (s : State) → StandsFor self.old s → (t : State) × OpensProof W.taken target format s result t × StandsFor self.new t }
     {
-        if self.ctx.solver_state.state_is_invalid {
-            return Err((SolverError::Invalid, target));
+        match ensure_valid(&self.ctx) {
+            Ok(()) => {}
+            Err(error) => return Err((error, target)),
         }
         if self.tracer.proof.is_open() {
             return Err((SolverError::ProofOpen, target));
@@ -507,7 +534,7 @@ impl<W: ProofTarget, A: Allocator + Copy> Solver<W, A> {
             return Err((SolverError::ProofTooLate, target));
         }
         self.tracer.proof.write_proof(target, format);
-        self.changed_at = self.ctx.schedule.steps();
+        self.begin_count();
         Ok(())
     }
 
@@ -519,15 +546,13 @@ impl<W: ProofTarget, A: Allocator + Copy> Solver<W, A> {
         ensures call { (s : State) → StandsFor self.old s → (t : State) × EnablesChecking s result t × StandsFor self.new t }
         ensures runs { result ≡ Ok tt → IsSome self.new.checker }
     {
-        if self.ctx.solver_state.state_is_invalid {
-            return Err(SolverError::Invalid);
-        }
+        ensure_valid(&self.ctx)?;
         let is_late = self.started;
         if is_late {
             return Err(SolverError::ProofTooLate);
         }
         self.tracer.proof.begin_checking(self.alloc);
-        self.changed_at = self.ctx.schedule.steps();
+        self.begin_count();
         Ok(())
     }
 
@@ -547,18 +572,19 @@ impl<W: ProofTarget, A: Allocator + Copy> Solver<W, A> {
         ensures closed { self.new.opened ≡ None }
     {
         if self.ctx.solver_state.state_is_invalid {
-            self.changed_at = self.ctx.schedule.steps();
-            return Ok(take_target(&mut self.tracer.proof));
+            let target = take_target(&mut self.tracer.proof);
+            self.begin_count();
+            return Ok(target);
         }
         match close_proof(&mut self.tracer.proof) {
             Ok(target) => {
-                self.changed_at = self.ctx.schedule.steps();
+                self.begin_count();
                 Ok(target)
             }
-            Err((cause, target)) => {
-                self.ctx.solver_state.state_is_invalid = true;
-                Err((SolverError::ProofIoError { cause }, target))
-            }
+            Err((cause, target)) => Err((
+                invalidate(&mut self.ctx, SolverError::ProofIoError { cause }),
+                target,
+            )),
         }
     }
 
@@ -572,24 +598,15 @@ impl<W: ProofTarget, A: Allocator + Copy> Solver<W, A> {
         // The target is asked last: where it fails the list is assumed already, so that there was memory for it.
         ensures last { (cause : Error) → result ≡ Err (SolverError.ProofIoError cause) → self.new.assumed.user ≡ lits.now }
     {
-        if self.ctx.solver_state.state_is_invalid {
-            return Err(SolverError::Invalid);
-        }
+        ensure_valid(&self.ctx)?;
         if self.tracer.proof.bars_assumptions() {
             return Err(SolverError::ProofOpen);
         }
         check_names(&self.tracer.variables, lits)?;
-        match assume_list(&mut self.tracer, &mut self.ctx, &mut self.literals, lits) {
-            Ok(()) => {
-                self.started = true;
-                self.changed_at = self.ctx.schedule.steps();
-                Ok(())
-            }
-            Err(error) => {
-                self.ctx.solver_state.state_is_invalid = true;
-                Err(SolverError::from(error))
-            }
-        }
+        let assumed = assume_list(&mut self.tracer, &mut self.ctx, &mut self.literals, lits);
+        end_change(&mut self.ctx, &mut self.changed_at, assumed)?;
+        self.started = true;
+        Ok(())
     }
 
     /// Whether some assignment satisfies the accepted clauses and makes the assumptions true. A call makes fewer than
@@ -626,10 +643,7 @@ impl<W: ProofTarget, A: Allocator + Copy> Solver<W, A> {
     {
         match solve_finished(&mut self.tracer.proof) {
             Ok(()) => Ok(()),
-            Err(cause) => {
-                self.ctx.solver_state.state_is_invalid = true;
-                Err(SolverError::ProofIoError { cause })
-            }
+            Err(cause) => Err(invalidate(&mut self.ctx, SolverError::ProofIoError { cause })),
         }
     }
 
@@ -647,9 +661,7 @@ impl<W: ProofTarget, A: Allocator + Copy> Solver<W, A> {
         ensures full { result ≡ Err SolverError.ClauseStoreFull → HasFullStore self.new }
         ensures leaves { GoesOnLeaving self.old self.new }
     {
-        if self.ctx.solver_state.state_is_invalid {
-            return Err(SolverError::Invalid);
-        }
+        ensure_valid(&self.ctx)?;
         match self.ctx.solver_state.sat_state {
             SatState::Sat => Ok(true),
             SatState::Unsat | SatState::UnsatUnderAssumptions => Ok(false),
@@ -663,10 +675,7 @@ impl<W: ProofTarget, A: Allocator + Copy> Solver<W, A> {
                 ) {
                     Ok(Some(found)) => Ok(found),
                     Ok(None) => Err(SolverError::Interrupted),
-                    Err(error) => {
-                        self.ctx.solver_state.state_is_invalid = true;
-                        Err(SolverError::from(error))
-                    }
+                    Err(error) => Err(invalidate(&mut self.ctx, error)),
                 }
             }
         }
@@ -728,30 +737,19 @@ impl<W: ProofTarget, A: Allocator + Copy> Solver<W, A> {
 impl<W: ProofTarget, A: Allocator + Copy> Solver<W, A> {
     ghost use Rattle.varisat.specs.States.{State};
     ghost use Rattle.varisat.specs.Told.{told_vars};
-    ghost use Rattle.varisat.specs.Usage.{SetsMode, SamplesVar, WitnessesVar, HidesVar, Observes};
-    ghost use Rattle.varisat.specs.Spaces.{ModeFits};
-    ghost use Rattle.varisat.specs.Accepting.{mode_of};
+    ghost use Rattle.varisat.specs.Usage.{ChangesMode, SamplesVar, WitnessesVar, HidesVar, Observes};
     ghost use Rattle.varisat.specs.Summaries.{StandsFor};
 
-    /// Names the variable, and sets its mode, which is not `Hide`. Refused as `sample_var` is.
+    /// Names the variable, and changes its mode. Refused as `sample_var` is.
     fn set_mode(&mut self, var: Var, mode: SamplingMode) -> Result<(), SolverError>
-        requires { ModeFits mode (mode_of mode) }
-        ensures { (s : State) → StandsFor self.old s → (t : State) × SetsMode (mode_of mode) s var result t × StandsFor self.new t }
+        ensures { (s : State) → StandsFor self.old s → (t : State) × ChangesMode mode s var result t × StandsFor self.new t }
     {
-        if self.ctx.solver_state.state_is_invalid {
-            return Err(SolverError::Invalid);
-        }
+        ensure_valid(&self.ctx)?;
         check_change(&self.tracer.variables, var)?;
-        match set_named_mode(&mut self.tracer.variables, var, mode) {
-            Ok(_) => {
-                self.changed_at = self.ctx.schedule.steps();
-                Ok(())
-            }
-            Err(_) => {
-                self.ctx.solver_state.state_is_invalid = true;
-                Err(SolverError::OutOfMemory)
-            }
-        }
+        let verdict = self.ctx.solver_state.sat_state;
+        let changed = change_mode(&mut self.tracer, var, mode, verdict);
+        end_change(&mut self.ctx, &mut self.changed_at, changed)?;
+        Ok(())
     }
 
     /// Lets clauses and assumptions name the variable, as they may from the first. A free name comes into use. Refused
@@ -776,20 +774,7 @@ impl<W: ProofTarget, A: Allocator + Copy> Solver<W, A> {
     pub fn hide_var(&mut self, var: Var) -> Result<(), SolverError>
         ensures { (s : State) → StandsFor self.old s → (t : State) × HidesVar s var result t × StandsFor self.new t }
     {
-        if self.ctx.solver_state.state_is_invalid {
-            return Err(SolverError::Invalid);
-        }
-        check_change(&self.tracer.variables, var)?;
-        match hide_named(&mut self.tracer, var, self.ctx.solver_state.sat_state) {
-            Ok(()) => {
-                self.changed_at = self.ctx.schedule.steps();
-                Ok(())
-            }
-            Err(_) => {
-                self.ctx.solver_state.state_is_invalid = true;
-                Err(SolverError::OutOfMemory)
-            }
-        }
+        self.set_mode(var, SamplingMode::Hide)
     }
 
     /// Brings hidden variables back as witnesses, each under the least free name, and returns these names in increasing
@@ -799,20 +784,11 @@ impl<W: ProofTarget, A: Allocator + Copy> Solver<W, A> {
     pub fn observe_internal_vars(&mut self) -> Result<Vec<Var, A>, SolverError>
         ensures { (s : State) → StandsFor self.old s → (t : State) × Observes s (told_vars result) t × StandsFor self.new t }
     {
-        if self.ctx.solver_state.state_is_invalid {
-            return Err(SolverError::Invalid);
-        }
+        ensure_valid(&self.ctx)?;
         self.tracer.variables.prove_linked();
-        match observe_internal_vars(&mut self.tracer.variables, self.alloc) {
-            Ok(shown) => {
-                self.changed_at = self.ctx.schedule.steps();
-                Ok(shown)
-            }
-            Err(_) => {
-                self.ctx.solver_state.state_is_invalid = true;
-                Err(SolverError::OutOfMemory)
-            }
-        }
+        let shown = observe_internal_vars(&mut self.tracer.variables, self.alloc);
+        let names = end_change(&mut self.ctx, &mut self.changed_at, shown)?;
+        Ok(names)
     }
 }
 

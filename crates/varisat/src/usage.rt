@@ -5,7 +5,7 @@ ghost use Rattle.varisat_names.specs.VarMap.{at};
 ghost use Rattle.varisat_tracer.specs.Tracing.{tracer_state};
 ghost use Rattle.varisat.specs.Accepting.{AreBounded};
 ghost use Rattle.varisat_names.specs.declared.variables.data.SamplingMode.TheVariants as sampling;
-ghost use Rattle.varisat.specs.VariableChanges.{CanBeChanged, ChecksChange, IsMarkedName, SetsNamedMode, LeavesIfUnused, HidesNamed};
+ghost use Rattle.varisat.specs.VariableChanges.{CanBeChanged, ChecksChange, IsMarkedName, SetsNamedMode, LeavesIfUnused, HidesNamed, ChangesNamed};
 
 use crate::naming::{is_crowded, is_past_limit};
 use crate::solver::SolverError;
@@ -49,7 +49,7 @@ pub fn check_change<A: Allocator + Copy>(
 }
 
 /// Names the name, and sets how its variable, which is returned, may be used: `Hide` frees the name.
-pub fn set_named_mode<A: Allocator + Copy>(
+fn set_named_mode<A: Allocator + Copy>(
     variables: &mut LinkedVariables<A>,
     var: Var,
     mode: SamplingMode,
@@ -83,7 +83,7 @@ fn leave_if_unused<W: ProofTarget, A: Allocator + Copy>(
 
 /// Names the name, frees it, and hides its variable, which leaves for good where it is unused. Once the clauses are known
 /// to be unsatisfiable none leaves: nothing more is told to the proof then, and what it was told stays a refutation.
-pub fn hide_named<W: ProofTarget, A: Allocator + Copy>(
+fn hide_named<W: ProofTarget, A: Allocator + Copy>(
     tracer: &mut SolverTracer<W, A>,
     var: Var,
     verdict: SatState,
@@ -97,5 +97,24 @@ pub fn hide_named<W: ProofTarget, A: Allocator + Copy>(
         return Ok(());
     }
     leave_if_unused(tracer, global)?;
+    Ok(())
+}
+
+/// Names the name, and changes how its variable may be used.
+pub fn change_mode<W: ProofTarget, A: Allocator + Copy>(
+    tracer: &mut SolverTracer<W, A>,
+    var: Var,
+    mode: SamplingMode,
+    verdict: SatState,
+) -> Result<(), AllocError>
+    requires { CanBeChanged var tracer.old.variables }
+    ensures changes { OnOk result (ChangesNamed var mode verdict (tracer_state tracer.old) (tracer_state tracer.new)) }
+    ensures free { OnErr result (mode ≢ sampling.Hide → at tracer.old.variables.users.forward var ≡ None) }
+    ensures proof { OnErr result (tracer.new.proof ≡ tracer.old.proof) }
+{
+    if let SamplingMode::Hide = mode {
+        return hide_named(tracer, var, verdict);
+    }
+    set_named_mode(&mut tracer.variables, var, mode)?;
     Ok(())
 }

@@ -1,18 +1,18 @@
-use Rattle.std.proofs.Common.{◌≡◌, ◌∙◌, None, Ok, Err, true, false, not, refl, sym, ap, subst}
+use Rattle.std.proofs.Common.{◌≡◌, ◌∙◌, length, None, Ok, Err, true, false, not, refl, sym, ap, subst}
 use Rattle.std.specs.declared.io.Error.{Error}
 use Rattle.varisat_proof.specs.Proving.{ProofParts, is_there, IsClosed}
-use Rattle.varisat_tracer.specs.Tracing.{CanTell}
+use Rattle.varisat_tracer.specs.Tracing.{tracer_state, CanTell}
 use Rattle.varisat.specs.OpenProofs.{opened_state}
 use Rattle.varisat.specs.declared.solver.SolverError.{SolverError}
 use Rattle.varisat.specs.declared.solver.SolverError.TheVariants.{ProofIoError}
 use Rattle.varisat.specs.States.{Ledger}
-use Rattle.varisat.specs.Summaries.{spaces_with, StandsForSome}
+use Rattle.varisat.specs.Summaries.{Summary, spaces_with, StandsForSome}
 use Rattle.varisat.specs.Calls.{count_anew}
-use Rattle.varisat.specs.ProofCalls.{with_proof}
-use Rattle.varisat.proofs.CallStates.{ledger-is, stands-valid, told-well, broken, broken-invalid}
+use Rattle.varisat.specs.ProofCalls.{with_proof, ClosesProof}
+use Rattle.varisat.proofs.CallStates.{stands-valid, told-well, broken, broken-invalid}
+use Rattle.varisat.proofs.ChangeEnds.{stands-broken}
 use Rattle.varisat.proofs.OpenProofs.{closed-back, closed-fails}
 use Rattle.varisat.proofs.SettingsCalls.{stands-with-proof}
-use Rattle.varisat.proofs.SinceSteps.{since-now}
 use Rattle.varisat.proofs.ToldJournals.{proof-of}
 use Rattle.varisat.proofs.solver.Solver.close_proof.Goals as goal
 
@@ -27,8 +27,7 @@ invariant_of-self-in-Ok g c v =
       tells = subst CanTell (sym c.close_proof.ensures.closed) (record { room = tt; usable = k.tells.usable });
       stands = subst (λ (p : ProofParts). StandsForSome (spaces_with c.self.inside.tracer.variables p.checker c.self.inside.ctx)
           c.self.inside.started) (sym c.close_proof.ensures.closed) k.stands;
-      counts = since-now c.steps-self-inside-in-Ok.result c.self.inside.ctx c.steps-self-inside-in-Ok.ensures.steps k.kept.ready
-          c.steps-self-inside-in-Ok.ensures.plan;
+      counts = k.counts;
     }
 
 pub returns-in-Ok-clause-call : goal.returns-in-Ok-clause-call
@@ -42,42 +41,41 @@ returns-in-Ok-clause-call g c s st =
         (λ _. proof-of _ s q ok),
         refl,
       ),
-      stands-with-proof c.self.inside.tracer.variables c.self.inside.tracer.proof c.close_proof.new.proof c.self.inside.started
-          c.self.inside.changed_at c.steps-self-inside-in-Ok.result c.self.inside.ctx s None c.steps-self-inside-in-Ok.ensures.steps
+      c.begin_count-in-Ok.ensures.call (with_proof None s) (stands-with-proof c.self.inside.tracer.variables c.self.inside.tracer.proof
+          c.close_proof.new.proof c.self.inside.started c.self.inside.changed_at c.self.inside.ctx s None
           (ap (λ (p : ProofParts). p.checker) c.close_proof.ensures.closed)
-          (ap (λ (p : ProofParts). p.opened) c.close_proof.ensures.closed) (λ _. tt) (λ (p, e, b). absurd cc) q,
+          (ap (λ (p : ProofParts). p.opened) c.close_proof.ensures.closed) (λ _. tt) (λ (p, e, b). absurd cc) q),
     )
+
+pub returns-in-Ok-clause-closed : goal.returns-in-Ok-clause-closed
+returns-in-Ok-clause-closed g c =
+    ap (λ (x : Summary). x.opened) c.begin_count-in-Ok.ensures.rest ∙ ap (λ (p : ProofParts). p.opened) c.close_proof.ensures.closed
 
 pub returns-in-Ok-clause-handed : goal.returns-in-Ok-clause-handed
 returns-in-Ok-clause-handed g c = rw (← c.self.view_is) (closed-back Error SolverError g.W.ProofTarget.taken _ c.in-Ok.target c.in-Ok.ensures.taken)
 
 pub returns-in-Err-clause-handed : goal.returns-in-Err-clause-handed
 returns-in-Err-clause-handed g c =
-    rw (← c.self.view_is) (closed-fails g.W.ProofTarget.taken _ c.in-Err.cause (ProofIoError c.in-Err.cause) c.in-Err.target c.in-Err.ensures.taken)
+    rw (← c.self.view_is) (closed-fails g.W.ProofTarget.taken _ c.in-Err.cause c.invalidate.result c.in-Err.target c.in-Err.ensures.taken)
 
 pub returns-in-Err-clause-call : goal.returns-in-Err-clause-call
 returns-in-Err-clause-call g c s st =
     let q = rw (← c.self.view_is) at st in
     let ok = ap not c.if-self.false in
+    let inside = c.self.inside in
+    let words = length inside.ctx.clause_alloc.words in
+    let none = c.close_proof.ensures.closed in
     let closed = subst (λ o. IsClosed g.W.ProofTarget.taken o (Err (c.in-Err.cause, c.in-Err.target))) q.same c.in-Err.ensures.taken in (
-      broken None s.words s,
-      (
+      broken None words s,
+      subst (λ e. ClosesProof g.W.ProofTarget.taken s (Err (e, c.in-Err.target)) (broken None words s)) (sym c.invalidate.ensures.told) (
         closed-fails g.W.ProofTarget.taken (opened_state s.proof) c.in-Err.cause
             (ProofIoError c.in-Err.cause) c.in-Err.target closed,
         proof-of _ s q ok,
-        broken-invalid 0 (with_proof None s) None s.words (stands-valid _ s q ok) (refl, refl) (told-well s (with_proof None s) (q.fits ok).1.well_formed),
+        broken-invalid 0 (with_proof None s) None words (stands-valid _ s q ok) (refl, refl) (told-well s (with_proof None s) (q.fits ok).1.well_formed),
       ),
-      record {
-        ledger = ledger-is _ _ _ _ _ _ _ refl (ap (λ (l : Ledger). l.started) q.ledger) (ap (λ (l : Ledger). l.steps) q.ledger)
-            (ap (λ (l : Ledger). l.since) q.ledger) (ap (λ (l : Ledger). l.settings) q.ledger)
-            (ap (λ (l : Ledger). l.checking) q.ledger ∙ ap (λ (p : ProofParts). is_there p.checker) (sym c.close_proof.ensures.closed));
-        words = q.words;
-        same = ap (λ (p : ProofParts). p.opened) c.close_proof.ensures.closed;
-        fits = λ v. absurd cc;
-        written = λ v. absurd cc;
-        flags = λ v. absurd cc;
-        bounded = λ v. absurd cc;
-      },
+      stands-broken (tracer_state inside.tracer) (record { tables = inside.tracer.variables; proof = c.close_proof.new.proof }) inside.started
+          inside.changed_at inside.changed_at inside.ctx inside.ctx c.invalidate.new.ctx s None q c.invalidate.ensures.invalid refl refl refl
+          (ap (λ (p : ProofParts). is_there p.checker) none) (ap (λ (p : ProofParts). p.opened) none),
     )
 
 -- The solver is invalid: the target comes back as it is.
@@ -86,14 +84,18 @@ returns-then-self-clause-call g c s st =
     let q = rw (← c.self.view_is) at st in (
       count_anew (with_proof None s),
       (
-        closed-back (Unit {0}) SolverError g.W.ProofTarget.taken (opened_state s.proof) c.take_target.result
-            (subst (λ o. IsClosed {E = Unit {0}} g.W.ProofTarget.taken o (Ok c.take_target.result)) q.same c.take_target.ensures.taken),
+        closed-back (Unit {0}) SolverError g.W.ProofTarget.taken (opened_state s.proof) c.take_target-target.result
+            (subst (λ o. IsClosed {E = Unit {0}} g.W.ProofTarget.taken o (Ok c.take_target-target.result)) q.same c.take_target-target.ensures.taken),
         (λ v. absurd (let z : false ≡ true = ap not (sym c.if-self.true) ∙ ap (λ (l : Ledger). l.valid) (sym q.ledger) ∙ v in cc)),
         refl,
       ),
-      stands-with-proof c.self.inside.tracer.variables c.self.inside.tracer.proof c.take_target.new.proof c.self.inside.started
-          c.self.inside.changed_at c.steps-self-inside.result c.self.inside.ctx s None c.steps-self-inside.ensures.steps
-          (ap (λ (p : ProofParts). p.checker) c.take_target.ensures.closed)
-          (ap (λ (p : ProofParts). p.opened) c.take_target.ensures.closed)
-          (λ v. absurd (let z : false ≡ true = ap not (sym c.if-self.true) ∙ v in cc)) (λ (p, e, b). absurd cc) q,
+      c.begin_count.ensures.call (with_proof None s) (stands-with-proof c.self.inside.tracer.variables c.self.inside.tracer.proof
+          c.take_target-target.new.proof c.self.inside.started c.self.inside.changed_at c.self.inside.ctx s None
+          (ap (λ (p : ProofParts). p.checker) c.take_target-target.ensures.closed)
+          (ap (λ (p : ProofParts). p.opened) c.take_target-target.ensures.closed)
+          (λ v. absurd (let z : false ≡ true = ap not (sym c.if-self.true) ∙ v in cc)) (λ (p, e, b). absurd cc) q),
     )
+
+pub returns-then-self-clause-closed : goal.returns-then-self-clause-closed
+returns-then-self-clause-closed g c =
+    ap (λ (x : Summary). x.opened) c.begin_count.ensures.rest ∙ ap (λ (p : ProofParts). p.opened) c.take_target-target.ensures.closed

@@ -1,82 +1,87 @@
-use Rattle.std.proofs.Common.{not, ap, false}
+use Rattle.std.proofs.Common.{◌∙◌, not, sym, subst, ap, refl, length, Err}
 use Rattle.varisat.specs.States.{Ledger}
 use Rattle.varisat.specs.Calls.{with_naming, count_anew}
+use Rattle.varisat.specs.Usage.{Observes}
+use Rattle.varisat.specs.Told.{told_vars}
 use Rattle.varisat.proofs.AcceptClause.{ledger-free}
+use Rattle.varisat.proofs.Additions.{told-error}
 use Rattle.varisat.proofs.CallStates.{ledger-is, none-since, begins, like-refl, broken, broken-untold}
+use Rattle.varisat.proofs.ChangeEnds.{kept-counted, stands-broken, stands-invalid, invalid-told}
 use Rattle.varisat.proofs.VariableChanges.{turns-stay}
-use Rattle.varisat.proofs.SettingsCalls.{summary_of}
+use Rattle.varisat.proofs.SettingsCalls.{summary_of, stands-same}
 use Rattle.varisat_tracer.specs.Tracing.{tracer_state}
-use Rattle.varisat.proofs.SinceSteps.{since-now}
 use Rattle.varisat.proofs.VariableStates.{show-state, kept-after}
 use Rattle.varisat.proofs.solver.Solver.observe_internal_vars.Goals as goal
 
-pub invariant_of-self : goal.invariant_of-self
-invariant_of-self g c v =
-    let old = c.self.inside.tracer.variables in
-    let new = c.observe_internal_vars.new.variables in
-    let k = (c.self.invariant c.if-self.false).kept in
-    let shown = (c.in-Ok.ensures {u = tt}).shown in
-    record {
-      kept = kept-after c.self.inside.ctx old new k (turns-stay c.in-Ok.shown.items old new c.prove_linked.ensures k.bounded shown.in_turn).0;
-      stands = let (s, f, fresh) = (c.self.invariant c.if-self.false).stands in
-          let (m, all, fits) = show-state c.in-Ok.shown.items
-          (summary_of (tracer_state c.self.inside.tracer) c.self.inside.started c.self.inside.changed_at c.self.inside.ctx) s new f
-          c.prove_linked.ensures k.bounded shown in (_, fits, fresh);
-      tells = (c.self.invariant c.if-self.false).tells;
-      counts = since-now c.steps-self-inside.result c.self.inside.ctx c.steps-self-inside.ensures.steps k.ready c.steps-self-inside.ensures.plan;
-    }
+pub invariant_of-self-2 : goal.invariant_of-self-2
+invariant_of-self-2 g c v =
+    let (is, counted) = c.in_ok-names.ensures in
+    let i = c.self.invariant c.in_ok-ensure_valid.ensures in
+    let inside = c.self.inside in
+    let old = inside.tracer.variables in
+    let new = c.observe_internal_vars-shown.new.variables in
+    let us = c.in_ok-names.names.items in
+    let shown = rw is at c.observe_internal_vars-shown.ensures.shown in
+    kept-counted new inside.tracer.proof inside.ctx c.end_change.new.ctx inside.started c.end_change.new.changed_at counted
+    (kept-after inside.ctx old new i.kept (turns-stay us old new c.prove_linked.ensures i.kept.bounded shown.in_turn).0) i.tells (
+    let (s, f, fresh) = i.stands in
+    let (m, all, fits) = show-state us (summary_of (tracer_state inside.tracer) inside.started inside.changed_at inside.ctx) s new f
+    c.prove_linked.ensures i.kept.bounded shown in (_, fits, fresh)
+    )
 
-pub returns-in-Ok : goal.returns-in-Ok
-returns-in-Ok g c s st =
+pub returns : goal.returns
+returns g c s st =
+    let (is, counted) = c.in_ok-names.ensures in
     let q = rw (← c.self.view_is) at st in
-    let k = begins q (ap not c.if-self.false) in
-    let (m, shown, fits) = show-state c.in-Ok.shown.items
-    (summary_of (tracer_state c.self.inside.tracer) c.self.inside.started c.self.inside.changed_at c.self.inside.ctx) s
-    c.observe_internal_vars.new.variables k.fits c.prove_linked.ensures (c.self.invariant c.if-self.false).kept.bounded
-    (c.in-Ok.ensures {u = tt}).shown in (
+    let k = begins q (ap not c.in_ok-ensure_valid.ensures) in
+    let inside = c.self.inside in
+    let kept = (c.self.invariant c.in_ok-ensure_valid.ensures).kept in
+    let old = inside.tracer.variables in
+    let new = c.observe_internal_vars-shown.new.variables in
+    let us = c.in_ok-names.names.items in
+    let all = rw is at c.observe_internal_vars-shown.ensures.shown in
+    let (m, shown, fits) = show-state us (summary_of (tracer_state inside.tracer) inside.started inside.changed_at inside.ctx) s
+    new k.fits c.prove_linked.ensures kept.bounded all in (
       count_anew (with_naming m s),
       (k.valid, (m, shown, like-refl (count_anew (with_naming m s)))),
-      record {
-        ledger = ledger-is _ _ _ _ _ _ _ (ap (λ (x : Ledger). x.valid) k.ledger) (ap (λ (x : Ledger). x.started) k.ledger)
-            (ap (λ (x : Ledger). x.steps) k.ledger)
-            (none-since c.steps-self-inside.result c.self.inside.ctx.schedule.steps c.steps-self-inside.ensures.steps)
-            (ap (λ (x : Ledger). x.settings) k.ledger) (ap (λ (x : Ledger). x.checking) k.ledger);
-        fits =
-            λ _. (fits.0, ledger-free fits.0 _ (with_naming m s) (record s.ledger { since = 0 }) fits.1);
-        words = q.words;
-        same = q.same;
-        written = q.written;
-        bounded = λ _.
-            let old = c.self.inside.tracer.variables in
-            let new = c.observe_internal_vars.new.variables in
-            let k = (c.self.invariant c.if-self.false).kept in
-            (kept-after c.self.inside.ctx old new k
-            (turns-stay c.in-Ok.shown.items old new c.prove_linked.ensures k.bounded (c.in-Ok.ensures {u = tt}).shown.in_turn).0).bounded;
-        flags =
-            λ _. let f = k.flags in record {
+      stands-same (record { tables = new; proof = inside.tracer.proof }) inside.started c.end_change.new.changed_at inside.ctx c.end_change.new.ctx
+          (count_anew (with_naming m s)) counted.same (record {
+            ledger = ledger-is _ _ _ _ _ _ _ (ap (λ (x : Ledger). x.valid) k.ledger) (ap (λ (x : Ledger). x.started) k.ledger)
+                (ap (λ (x : Ledger). x.steps) k.ledger)
+                (none-since c.end_change.new.changed_at inside.ctx.schedule.steps counted.steps)
+                (ap (λ (x : Ledger). x.settings) k.ledger) (ap (λ (x : Ledger). x.checking) k.ledger);
+            fits = λ _. (fits.0, ledger-free fits.0 _ (with_naming m s) (record s.ledger { since = 0 }) fits.1);
+            words = q.words;
+            same = q.same;
+            written = q.written;
+            bounded = λ _. (kept-after inside.ctx old new kept (turns-stay us old new c.prove_linked.ensures kept.bounded all.in_turn).0).bounded;
+            flags = λ _. let f = k.flags in record {
               clauses = f.clauses;
               assumptions = f.assumptions;
               counted = f.counted;
-              unlisted =
-                  f.unlisted;
+              unlisted = f.unlisted;
               unassumed = f.unassumed;
             };
-      },
+          }),
     )
 
-pub returns-in-Err : goal.returns-in-Err
-returns-in-Err g c s st =
+pub returns-in_err-names : goal.returns-in_err-names
+returns-in_err-names g c s st =
+    let (error, is, told, made, count) = c.in_err-names.ensures in
     let q = rw (← c.self.view_is) at st in
-    let k = begins q (ap not c.if-self.false) in (
-      broken s.proof s.words s,
-      broken-untold s s.words k.valid k.fits.1.well_formed,
-      record {
-        ledger = ap (λ (x : Ledger). record x { valid = false }) k.ledger;
-        words = q.words;
-        same = q.same;
-        fits = λ e. absurd cc;
-        written = λ e. absurd cc;
-        flags = λ e. absurd cc;
-        bounded = λ e. absurd cc;
-      },
+    let k = begins q (ap not c.in_ok-ensure_valid.ensures) in
+    let inside = c.self.inside in
+    let words = length inside.ctx.clause_alloc.words in
+    let refused = told-error c.from_residual-in_err-names.result c.in_err-names.field-0.0 c.from_residual-in_err-names.ensures ∙ ap Err told in (
+      broken s.proof words s,
+      subst (λ r. Observes s (told_vars r) (broken s.proof words s)) (sym refused) (broken-untold s words k.valid k.fits.1.well_formed),
+      stands-broken (tracer_state inside.tracer) (record { tables = c.observe_internal_vars-shown.new.variables; proof = inside.tracer.proof })
+          inside.started inside.changed_at c.end_change.new.changed_at inside.ctx inside.ctx c.end_change.new.ctx s s.proof q made count
+          refl refl refl q.same,
     )
+
+pub returns-in_err-ensure_valid : goal.returns-in_err-ensure_valid
+returns-in_err-ensure_valid g c s st =
+    let q = rw (← c.self.view_is) at st in
+    let refused = invalid-told c.from_residual.result c.in_err-ensure_valid.field-0.0 c.from_residual.ensures c.in_err-ensure_valid.ensures.0 in
+    (s, subst (λ r. Observes s (told_vars r) s) (sym refused) (stands-invalid _ s q (ap not c.in_err-ensure_valid.ensures.1), refl), st)

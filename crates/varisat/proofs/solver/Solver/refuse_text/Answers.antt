@@ -1,25 +1,21 @@
 -- Out of memory leaves no way back, and any other fault changes nothing.
-use Rattle.std.proofs.Common.{◌∙◌, refl, sym, ap, false}
-use Rattle.varisat.specs.States.{Ledger}
+use Rattle.std.proofs.Common.{◌∙◌, refl, sym, ap, length, Err}
 use Rattle.varisat.specs.Additions.{MemoryFault, Fault}
+use Rattle.varisat_tracer.specs.Tracing.{tracer_state}
 use Rattle.varisat.proofs.CallStates.{broken, broken-untold}
+use Rattle.varisat.proofs.ChangeEnds.{stands-broken}
 use Rattle.varisat.proofs.solver.Solver.refuse_text.Goals as goal
 
 pub returns-in-OutOfMemory-clause-call : goal.returns-in-OutOfMemory-clause-call
 returns-in-OutOfMemory-clause-call g c s st v =
     let q = rw (← c.self.view_is) at st in
-    let f = q.fits (sym (ap (λ x. x.valid) q.ledger) ∙ v) in (
-      broken s.proof s.words s,
-      MemoryFault c.args.fault refl c.in-OutOfMemory.is refl (broken-untold s s.words v f.1.well_formed),
-      record {
-        ledger = ap (λ (x : Ledger). record x { valid = false }) q.ledger;
-        words = q.words;
-        same = q.same;
-        fits = λ e. absurd cc;
-        written = λ e. absurd cc;
-        flags = λ e. absurd cc;
-        bounded = λ e. absurd cc;
-      },
+    let f = q.fits (sym (ap (λ x. x.valid) q.ledger) ∙ v) in
+    let inside = c.self.inside in
+    let words = length inside.ctx.clause_alloc.words in (
+      broken s.proof words s,
+      MemoryFault c.args.fault refl c.in-OutOfMemory.is (ap Err c.invalidate.ensures.told) (broken-untold s words v f.1.well_formed),
+      stands-broken (tracer_state inside.tracer) (tracer_state inside.tracer) inside.started inside.changed_at inside.changed_at inside.ctx inside.ctx
+          c.invalidate.new.ctx s s.proof q c.invalidate.ensures.invalid refl refl refl refl q.same,
     )
 
 pub returns-clause-call : goal.returns-clause-call

@@ -26,12 +26,14 @@ use Rattle.varisat_search.specs.StepErrors.{step_faults}
 use Rattle.varisat.specs.Refusals.{step_refusal, told_faults}
 use Rattle.varisat.proofs.CallStates.{ledger-is, more-since, stands-valid, proof-fits, told-well, broken, broken-invalid, searches-broken}
 use Rattle.varisat.proofs.AcceptClause.{few-made}
-use Rattle.varisat.proofs.SettingsCalls.{summary_of}
+use Rattle.varisat.specs.Changes.{invalidated}
+use Rattle.varisat.proofs.SettingsCalls.{summary_of, stands-same}
 use Rattle.varisat.proofs.SolverCalls.{counted-call, was-unknown, sat-model, sat-right, known-told, false-right, false-core, answered-true, answered-false, answered-none}
 use Rattle.varisat.proofs.GivenEntries.{lists-ended, lists-on}
 use Rattle.varisat.proofs.SolverSteps.{unknown-undecided, after-solve, flags-after, comes-satisfiable, comes-unsatisfiable, comes-fits, comes-verdict, comes-interrupted, interrupted-still}
 use Rattle.varisat.proofs.solver.Solver.seek.Given.{Over}
 use Rattle.varisat.proofs.solver.Solver.seek.Goals.{In-Ok-Some, In-Ok-None}
+use Rattle.varisat.proofs.ChangeEnds.{stands-invalid, invalid-told}
 use Rattle.varisat.proofs.solver.Solver.seek.Goals as goal
 
 -- 1. What the search comes to.
@@ -153,11 +155,11 @@ sought-some : (g : Over) (c : In-Ok-Some g) (s : State) → StandsFor
     c.find_verdict.new.ctx (Some c.in-Ok-Some.found) s
 sought-some g c s st = record {
   stood = st;
-  valid = ap not c.if-self.false;
+  valid = ap not c.in_ok-ensure_valid.ensures;
   unknown = c.in-Unknown.is;
   finds = rw c.in-Ok-Some.field-0-is at c.in-Ok-Some.ensures.found;
   config = c.find_verdict.ensures.config;
-  low = (c.self.invariant c.if-self.false).counts.low;
+  low = (c.self.invariant c.in_ok-ensure_valid.ensures).counts.low;
 }
 
 sought-none : (g : Over) (c : In-Ok-None g) (s : State) → StandsFor
@@ -166,11 +168,11 @@ sought-none : (g : Over) (c : In-Ok-None g) (s : State) → StandsFor
     c.find_verdict.new.ctx None s
 sought-none g c s st = record {
   stood = st;
-  valid = ap not c.if-self.false;
+  valid = ap not c.in_ok-ensure_valid.ensures;
   unknown = c.in-Unknown.is;
   finds = rw c.in-Ok-None.field-0-is at c.in-Ok-None.ensures.found;
   config = c.find_verdict.ensures.config;
-  low = (c.self.invariant c.if-self.false).counts.low;
+  low = (c.self.invariant c.in_ok-ensure_valid.ensures).counts.low;
 }
 
 -- some state stands before the search
@@ -186,18 +188,18 @@ on comes (s, fits, fresh) = let c = comes s fits in (_, c.fits, fresh)
 pub find_verdict-requires-clause-stands : goal.find_verdict-requires-clause-stands
 find_verdict-requires-clause-stands g c = let (s, fits, fresh) =
     begins c.self.inside.tracer.variables c.self.inside.tracer.proof.checker c.self.inside.started c.self.inside.ctx c.in-Unknown.is
-    (c.self.invariant c.if-self.false).stands in (s, fits)
+    (c.self.invariant c.in_ok-ensure_valid.ensures).stands in (s, fits)
 
 pub invariant_of-self : goal.invariant_of-self
 invariant_of-self g c _ =
     let f = c.in-Ok-Some.ensures.found in
     record {
       stands = on f.stands (begins c.self.inside.tracer.variables c.self.inside.tracer.proof.checker c.self.inside.started c.self.inside.ctx
-          c.in-Unknown.is (c.self.invariant c.if-self.false).stands);
+          c.in-Unknown.is (c.self.invariant c.in_ok-ensure_valid.ensures).stands);
       kept = f.kept;
       tells = f.tells;
       counts =
-          c.in-Ok-Some.ensures.since c.self.inside.changed_at (c.self.invariant c.if-self.false).counts;
+          c.in-Ok-Some.ensures.since c.self.inside.changed_at (c.self.invariant c.in_ok-ensure_valid.ensures).counts;
     }
 
 pub invariant_of-self-in-Ok-None : goal.invariant_of-self-in-Ok-None
@@ -205,41 +207,47 @@ invariant_of-self-in-Ok-None g c _ =
     let f = c.in-Ok-None.ensures.found in
     record {
       stands = on f.stands (begins c.self.inside.tracer.variables c.self.inside.tracer.proof.checker c.self.inside.started c.self.inside.ctx
-          c.in-Unknown.is (c.self.invariant c.if-self.false).stands);
+          c.in-Unknown.is (c.self.invariant c.in_ok-ensure_valid.ensures).stands);
       kept = f.kept;
       tells = f.tells;
       counts =
-          c.in-Ok-None.ensures.since c.self.inside.changed_at (c.self.invariant c.if-self.false).counts;
+          c.in-Ok-None.ensures.since c.self.inside.changed_at (c.self.invariant c.in_ok-ensure_valid.ensures).counts;
     }
 
 pub returns-in-Sat-clause-call : goal.returns-in-Sat-clause-call
-returns-in-Sat-clause-call g c s st = let q = rw (← c.self.view_is) at st in (s, known-told _ s true q (ap not c.if-self.false) (ap answer_at c.in-Sat.is), st)
+returns-in-Sat-clause-call g c s st =
+    let q = rw (← c.self.view_is) at st in
+    (s, known-told _ s true q (ap not c.in_ok-ensure_valid.ensures) (ap answer_at c.in-Sat.is), st)
 
 pub returns-in-Sat-clause-satisfiable : goal.returns-in-Sat-clause-satisfiable
-returns-in-Sat-clause-satisfiable g c e s st = let q = rw (← c.self.view_is) at st in sat-right _ s q (ap not c.if-self.false) c.in-Sat.is
+returns-in-Sat-clause-satisfiable g c e s st = let q = rw (← c.self.view_is) at st in sat-right _ s q (ap not c.in_ok-ensure_valid.ensures) c.in-Sat.is
 
 pub returns-in-Sat-clause-model : goal.returns-in-Sat-clause-model
-returns-in-Sat-clause-model g c e s st = let q = rw (← c.self.view_is) at st in let r = sat-model _ s q (ap not c.if-self.false) c.in-Sat.is in (_, r.0, r.1)
+returns-in-Sat-clause-model g c e s st =
+    let q = rw (← c.self.view_is) at st in
+    let r = sat-model _ s q (ap not c.in_ok-ensure_valid.ensures) c.in-Sat.is in (_, r.0, r.1)
 
 pub returns-in-Unsat-clause-call : goal.returns-in-Unsat-clause-call
 returns-in-Unsat-clause-call g c s st = let q = rw (← c.self.view_is) at st in
-    (s, known-told _ s false q (ap not c.if-self.false) (answered-false _ c.in-Unsat.is), st)
+    (s, known-told _ s false q (ap not c.in_ok-ensure_valid.ensures) (answered-false _ c.in-Unsat.is), st)
 
 pub returns-in-Unsat-clause-unsatisfiable : goal.returns-in-Unsat-clause-unsatisfiable
 returns-in-Unsat-clause-unsatisfiable g c e s st = let q = rw (← c.self.view_is) at st in
-    false-right _ s q (ap not c.if-self.false) (answered-false _ c.in-Unsat.is)
+    false-right _ s q (ap not c.in_ok-ensure_valid.ensures) (answered-false _ c.in-Unsat.is)
 
 pub returns-in-Unsat-clause-core : goal.returns-in-Unsat-clause-core
-returns-in-Unsat-clause-core g c e s st = let q = rw (← c.self.view_is) at st in false-core _ s q (ap not c.if-self.false) (answered-false _ c.in-Unsat.is)
+returns-in-Unsat-clause-core g c e s st =
+    let q = rw (← c.self.view_is) at st in
+    false-core _ s q (ap not c.in_ok-ensure_valid.ensures) (answered-false _ c.in-Unsat.is)
 
 pub returns-in-Ok-Some-clause-call : goal.returns-in-Ok-Some-clause-call
 returns-in-Ok-Some-clause-call g c s st =
     let q = rw (← c.self.view_is) at st in
     found-call (sought-some g c s q)
     (counted-call _ s c.max_steps-max_steps.result c.find_verdict.new.ctx.schedule.steps (told_verdict c.find_verdict.result)
-    (Ok c.in-Ok-Some.found) q (ap not c.if-self.false) c.max_steps-max_steps.ensures
+    (Ok c.in-Ok-Some.found) q (ap not c.in_ok-ensure_valid.ensures) c.max_steps-max_steps.ensures
     (ap told_verdict (c.in-Ok-Some.is ∙ ap Ok c.in-Ok-Some.field-0-is))
-    (λ m h. c.find_verdict.ensures.counted m c.self.inside.changed_at h (c.self.invariant c.if-self.false).counts))
+    (λ m h. c.find_verdict.ensures.counted m c.self.inside.changed_at h (c.self.invariant c.in_ok-ensure_valid.ensures).counts))
 
 pub returns-in-Ok-Some-clause-satisfiable : goal.returns-in-Ok-Some-clause-satisfiable
 returns-in-Ok-Some-clause-satisfiable g c b s st =
@@ -258,7 +266,7 @@ returns-in-Ok-Some-clause-model g c b s st =
     let f : FindsVerdict (tracer_state c.self.inside.tracer) (tracer_state c.find_verdict.new.tracer) c.self.inside.ctx c.find_verdict.new.ctx
     (Some c.in-Ok-Some.found) = rw c.in-Ok-Some.field-0-is at c.in-Ok-Some.ensures.found in
     let sat : c.in-Ok-Some.found ≡ true = cc in
-    let r = sat-model _ s st (ap (λ (x : SolverState). not x.state_is_invalid) f.state ∙ ap not c.if-self.false)
+    let r = sat-model _ s st (ap (λ (x : SolverState). not x.state_is_invalid) f.state ∙ ap not c.in_ok-ensure_valid.ensures)
     (answered-true _ (sym f.answer ∙ ap Some sat)) in
     (_, r.0, r.1)
 
@@ -267,23 +275,23 @@ returns-in-Ok-Some-clause-core g c b s st =
     let f : FindsVerdict (tracer_state c.self.inside.tracer) (tracer_state c.find_verdict.new.tracer) c.self.inside.ctx c.find_verdict.new.ctx
     (Some c.in-Ok-Some.found) = rw c.in-Ok-Some.field-0-is at c.in-Ok-Some.ensures.found in
     let unsat : c.in-Ok-Some.found ≡ false = cc in
-    false-core _ s st (ap (λ (x : SolverState). not x.state_is_invalid) f.state ∙ ap not c.if-self.false) (sym f.answer ∙ ap Some unsat)
+    false-core _ s st (ap (λ (x : SolverState). not x.state_is_invalid) f.state ∙ ap not c.in_ok-ensure_valid.ensures) (sym f.answer ∙ ap Some unsat)
 
 pub returns-in-Ok-None-clause-call : goal.returns-in-Ok-None-clause-call
 returns-in-Ok-None-clause-call g c s st =
     let q = rw (← c.self.view_is) at st in
     spent-call (sought-none g c s q)
     (counted-call _ s c.max_steps-max_steps.result c.find_verdict.new.ctx.schedule.steps (told_verdict c.find_verdict.result) (Err Interrupted) q
-    (ap not c.if-self.false) c.max_steps-max_steps.ensures (ap told_verdict (c.in-Ok-None.is ∙ ap Ok c.in-Ok-None.field-0-is))
-    (λ m h. c.find_verdict.ensures.counted m c.self.inside.changed_at h (c.self.invariant c.if-self.false).counts))
+    (ap not c.in_ok-ensure_valid.ensures) c.max_steps-max_steps.ensures (ap told_verdict (c.in-Ok-None.is ∙ ap Ok c.in-Ok-None.field-0-is))
+    (λ m h. c.find_verdict.ensures.counted m c.self.inside.changed_at h (c.self.invariant c.in_ok-ensure_valid.ensures).counts))
 
 pub returns-in-Err-clause-call : goal.returns-in-Err-clause-call
 returns-in-Err-clause-call g c s st =
     let q = rw (← c.self.view_is) at st in
-    let ok = ap not c.if-self.false in
+    let ok = ap not c.in_ok-ensure_valid.ensures in
     let was = was-unknown _ s q ok c.in-Unknown.is in
     let n = c.find_verdict.new.ctx.schedule.steps in
-    let since = (c.self.invariant c.if-self.false).counts in
+    let since = (c.self.invariant c.in_ok-ensure_valid.ensures).counts in
     let counts = counted-call _ s c.max_steps-max_steps.result n (told_verdict c.find_verdict.result)
     (Err (step_refusal c.in-Err.error)) q ok c.max_steps-max_steps.ensures (ap told_verdict c.in-Err.is)
     (λ m h. c.find_verdict.ensures.counted m c.self.inside.changed_at h since) in
@@ -295,7 +303,7 @@ returns-in-Err-clause-call g c s st =
     let (now, goes, same) = broken-on c.self.inside.tracer.proof c.find_verdict.new.tracer.proof (step_faults c.in-Err.error) s.proof q.same
     c.in-Err.ensures.broken in (
       broken now words (with_steps n s),
-      subst (λ e. Searches s (Err e) (broken now words (with_steps n s))) (sym c.from.ensures)
+      subst (λ e. Searches s (Err e) (broken now words (with_steps n s))) (sym c.invalidate.ensures.told)
           (searches-broken c.in-Err.error s (broken now words (with_steps n s))
           (λ f. broken-open c.self.inside.tracer.proof c.find_verdict.new.tracer.proof s.variables s.told s.proof (proof-fits q ok)
           (subst (λ k. BreaksProof c.self.inside.tracer.proof k c.find_verdict.new.tracer.proof) f c.in-Err.ensures.broken)) was counts
@@ -303,27 +311,22 @@ returns-in-Err-clause-call g c s st =
           (told-well s (with_steps n s) (q.fits ok).1.well_formed))
           (λ f. let room = c.in-Err.ensures.full f in let size = c.in-Err.ensures.size f in
           let few = few-made (q.fits ok).0 _ s (q.fits ok).1 in omega (arith, room, size, few))),
-      record {
-        ledger = ledger-is _ _ _ _ _ _ _ refl (ap (λ (x : Ledger). x.started) q.ledger) refl
-            (more-since c.self.inside.changed_at s.ledger.steps n s.ledger.since (omega (arith, low, steps)) (omega (arith, count))
-            (omega (arith, before, steps))) (ap (λ (x : Ledger). x.settings) q.ledger ∙ sym c.find_verdict.ensures.config)
-            (ap (λ (x : Ledger). x.checking) q.ledger ∙ sym c.in-Err.ensures.broken.2);
-        words = refl;
-        same = same;
-        fits = λ e. absurd cc;
-        written = λ e. absurd cc;
-        flags = λ e. absurd cc;
-        bounded = λ e. absurd cc;
-      },
+      stands-same (tracer_state c.find_verdict.new.tracer) c.self.inside.started c.self.inside.changed_at (invalidated c.find_verdict.new.ctx)
+          c.invalidate.new.ctx (broken now words (with_steps n s)) c.invalidate.ensures.invalid (record {
+            ledger = ledger-is _ _ _ _ _ _ _ refl (ap (λ (x : Ledger). x.started) q.ledger) refl
+                (more-since c.self.inside.changed_at s.ledger.steps n s.ledger.since (omega (arith, low, steps)) (omega (arith, count))
+                (omega (arith, before, steps))) (ap (λ (x : Ledger). x.settings) q.ledger ∙ sym c.find_verdict.ensures.config)
+                (ap (λ (x : Ledger). x.checking) q.ledger ∙ sym c.in-Err.ensures.broken.2);
+            words = refl;
+            same = same;
+            fits = λ e. absurd cc;
+            written = λ e. absurd cc;
+            flags = λ e. absurd cc;
+            bounded = λ e. absurd cc;
+          }),
     )
 
 -- 3. What the target took.
-pub returns-then-self-clause-target : goal.returns-then-self-clause-target
-returns-then-self-clause-target g c = refused-unwritten c.args.self.now.opened Invalid refl
-
-pub returns-then-self-clause-whole : goal.returns-then-self-clause-whole
-returns-then-self-clause-whole g c v = writes-nothing c.args.self.now.opened
-
 pub returns-in-Sat-clause-target : goal.returns-in-Sat-clause-target
 returns-in-Sat-clause-target g c = writes-nothing c.args.self.now.opened
 
@@ -354,11 +357,13 @@ returns-in-Ok-None-clause-whole g c v = rw (← c.self.view_is)
 
 pub returns-in-Err-clause-target : goal.returns-in-Err-clause-target
 returns-in-Err-clause-target g c =
-    rw (← c.self.view_is) (subst (λ e. WritesUpTo (told_faults e) c.self.inside.tracer.proof.opened c.find_verdict.new.tracer.proof.opened) (sym c.from.ensures)
+    rw (← c.self.view_is) (subst (λ e. WritesUpTo (told_faults e) c.self.inside.tracer.proof.opened c.find_verdict.new.tracer.proof.opened)
+    (sym c.invalidate.ensures.told)
     (breaks-writes c.self.inside.tracer.proof c.find_verdict.new.tracer.proof c.in-Err.error c.in-Err.ensures.broken))
 
 pub returns-in-Err-clause-full : goal.returns-in-Err-clause-full
-returns-in-Err-clause-full g c f = c.in-Err.ensures.full (refused-full c.in-Err.error (sym c.from.ensures ∙ same-error _ ClauseStoreFull f))
+returns-in-Err-clause-full g c f =
+    rw c.invalidate.ensures.invalid (c.in-Err.ensures.full (refused-full c.in-Err.error (sym c.invalidate.ensures.told ∙ same-error _ ClauseStoreFull f)))
 
 -- 4. Which variables left.
 pub returns-in-Ok-Some-clause-leaves : goal.returns-in-Ok-Some-clause-leaves
@@ -366,3 +371,17 @@ returns-in-Ok-Some-clause-leaves g c h v n = c.in-Ok-Some.ensures.found.leaves (
 
 pub returns-in-Ok-None-clause-leaves : goal.returns-in-Ok-None-clause-leaves
 returns-in-Ok-None-clause-leaves g c h v n = c.in-Ok-None.ensures.found.leaves (rw (← c.self.view_is) at h) n
+
+pub returns-in_err-ensure_valid-clause-call : goal.returns-in_err-ensure_valid-clause-call
+returns-in_err-ensure_valid-clause-call g c s st =
+    let q = rw (← c.self.view_is) at st in
+    let refused = invalid-told c.from_residual.result c.in_err-ensure_valid.field-0.0 c.from_residual.ensures c.in_err-ensure_valid.ensures.0 in
+    (s, subst (λ r. Searches s r s) (sym refused) (stands-invalid _ s q (ap not c.in_err-ensure_valid.ensures.1), refl), st)
+
+pub returns-in_err-ensure_valid-clause-target : goal.returns-in_err-ensure_valid-clause-target
+returns-in_err-ensure_valid-clause-target g c =
+    let refused = invalid-told c.from_residual.result c.in_err-ensure_valid.field-0.0 c.from_residual.ensures c.in_err-ensure_valid.ensures.0 in
+    rw refused (refused-unwritten c.args.self.now.opened Invalid refl)
+
+pub returns-in_err-ensure_valid-clause-whole : goal.returns-in_err-ensure_valid-clause-whole
+returns-in_err-ensure_valid-clause-whole g c v = writes-nothing c.args.self.now.opened

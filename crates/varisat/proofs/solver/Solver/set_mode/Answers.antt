@@ -1,101 +1,117 @@
-use Rattle.std.proofs.Common.{not, subst, sym, ap, false}
-use Rattle.varisat.specs.States.{Ledger, with_variables}
-use Rattle.varisat.specs.Accepting.{mode_of}
-use Rattle.varisat.specs.Usage.{name_var, SetsMode}
-use Rattle.varisat.specs.Usage.{with_mode}
-use Rattle.varisat.proofs.CallStates.{ledger-is, none-since, begins, like-varied, broken, broken-untold}
-use Rattle.varisat.proofs.Additions.{told-error}
-use Rattle.varisat.proofs.OpenProofs.{lines-of-entries, fits-alike}
-use Rattle.varisat.proofs.WrittenVariables.{written-alike}
-use Rattle.varisat.proofs.SettingsCalls.{summary_of}
+-- The variable's mode changes, and it may leave; or the call is refused.
+use Rattle.std.proofs.Common.{◌∙◌, not, subst, sym, ap, refl, length, Err}
+use Rattle.varisat_proof.specs.Proving.{ProofParts, is_there}
 use Rattle.varisat_tracer.specs.Tracing.{tracer_state}
-use Rattle.varisat.proofs.SinceSteps.{since-now}
-use Rattle.varisat.proofs.VariableStates.{unassumed-state, free-state, mode-refused, not-hide, mode-state, kept-after}
+use Rattle.varisat_tracer.specs.TracerLaws.{checked-runs}
+use Rattle.varisat.specs.States.{Ledger, with_variables}
+use Rattle.varisat.specs.Journals.{retold}
+use Rattle.varisat.specs.Usage.{ChangesMode}
+use Rattle.varisat.proofs.AcceptClause.{proof-free}
+use Rattle.varisat.proofs.Additions.{told-error}
+use Rattle.varisat.proofs.CallStates.{ledger-is, none-since, begins, broken, broken-untold}
+use Rattle.varisat.proofs.ChangeEnds.{kept-counted, stands-broken, stands-invalid, invalid-told}
+use Rattle.varisat.proofs.GivenEntries.{lists-derived, lists-on}
+use Rattle.varisat.proofs.ModeChanges.{changed-stays, changed-tells, with_changed, mode-changed, mode-invalid, mode-not-changed, mode-broken}
+use Rattle.varisat.proofs.OpenProofs.{proof-goes-on, lines-of-entries, barred-before}
+use Rattle.varisat.proofs.SettingsCalls.{summary_of, stands-same}
+use Rattle.varisat.proofs.VariableStates.{unassumed-state, kept-after}
+use Rattle.varisat.proofs.WrittenVariables.{written-alike}
 use Rattle.varisat.proofs.solver.Solver.set_mode.Goals as goal
 
-pub invariant_of-self : goal.invariant_of-self
-invariant_of-self g c v =
-    let k = (c.self.invariant c.if-self.false).kept in
-    record {
-      kept = kept-after c.self.inside.ctx c.self.inside.tracer.variables c.set_named_mode.new.variables k (c.in-Ok.ensures {u = tt}).set.stays;
-      stands = let (s, f, fresh) = (c.self.invariant c.if-self.false).stands in
-          let (variables, keep, fits) = mode-state
-          (summary_of (tracer_state c.self.inside.tracer) c.self.inside.started c.self.inside.changed_at c.self.inside.ctx) s
-          c.set_named_mode.new.variables c.args.var c.in-Ok.field-0 c.args.mode (mode_of c.args.mode) f c.requires (c.in-Ok.ensures {u = tt}).set in
-          (_, fits, fresh);
-      tells = (c.self.invariant c.if-self.false).tells;
-      counts = since-now c.steps-self-inside.result c.self.inside.ctx c.steps-self-inside.ensures.steps k.ready c.steps-self-inside.ensures.plan;
-    }
+pub invariant_of-self-2 : goal.invariant_of-self-2
+invariant_of-self-2 g c v =
+    let (is, counted) = c.in_ok-end_change.ensures in
+    let i = c.self.invariant c.in_ok-ensure_valid.ensures in
+    let old = c.self.inside in
+    let new = tracer_state c.change_mode-changed.new.tracer in
+    let sat = old.ctx.solver_state.sat_state in
+    let changes = rw is at c.change_mode-changed.ensures.changes in
+    kept-counted new.tables new.proof old.ctx c.end_change.new.ctx old.started c.end_change.new.changed_at counted
+    (kept-after old.ctx old.tracer.variables new.tables i.kept (changed-stays c.args.var c.args.mode sat (tracer_state old.tracer) new changes))
+    (changed-tells c.args.var c.args.mode sat (tracer_state old.tracer) new changes i.tells) (
+    let (s, f, fresh) = i.stands in
+    let m = mode-changed (summary_of (tracer_state old.tracer) old.started old.changed_at old.ctx) s c.args.var old.tracer.proof new refl f
+    c.args.mode changes in
+    (_, m.fits, fresh)
+    )
 
 pub returns-in_err-check_change : goal.returns-in_err-check_change
 returns-in_err-check_change g c s st =
-    let k = begins (rw (← c.self.view_is) at st) (ap not c.if-self.false) in
-    let n = mode_of c.args.mode in
-    let refused = told-error c.from_residual.result c.in_err-check_change.field-0.0 c.from_residual.ensures in (
+    let k = begins (rw (← c.self.view_is) at st) (ap not c.in_ok-ensure_valid.ensures) in
+    let refused = told-error c.from_residual-in_err-check_change.result c.in_err-check_change.field-0.0 c.from_residual-in_err-check_change.ensures in (
       s,
-      subst (λ r. SetsMode n s c.args.var r s) (sym refused)
-          (mode-refused n c.args.var c.in_err-check_change.field-0.0 k c.in_err-check_change.ensures),
+      subst (λ r. ChangesMode c.args.mode s c.args.var r s) (sym refused)
+          (mode-not-changed c.args.mode c.args.var c.in_err-check_change.field-0.0 k c.in_err-check_change.ensures),
       st,
     )
 
-pub returns-in-Ok : goal.returns-in-Ok
-returns-in-Ok g c s st =
-    let k = begins (rw (← c.self.view_is) at st) (ap not c.if-self.false) in
-    let u = c.args.var in
-    let m = c.args.mode in
-    let may = c.in_ok-check_change.ensures in
-    let t = with_mode u (mode_of m) (name_var u s) in
-    let (w, links) = k.fits in
-    let (variables, keep, fits) = mode-state
-    (summary_of (tracer_state c.self.inside.tracer) c.self.inside.started c.self.inside.changed_at c.self.inside.ctx) s
-    c.set_named_mode.new.variables u c.in-Ok.field-0 m (mode_of m) k.fits c.requires (c.in-Ok.ensures {u = tt}).set in
-    let alike = written-alike w _ s links variables keep in (
-      with_variables variables t,
-      (
-        (
-          k.valid,
-          may.in_range,
-          unassumed-state u k may.unassumed,
-          like-varied t variables s.words
-              (lines-of-entries s.variables variables s.told alike),
-        ),
-        λ e. absurd cc,
-      ),
-      record {
+pub returns : goal.returns
+returns g c s st =
+    let (is, counted) = c.in_ok-end_change.ensures in
+    let k = begins (rw (← c.self.view_is) at st) (ap not c.in_ok-ensure_valid.ensures) in
+    let old = c.self.inside in
+    let p = old.tracer.proof in
+    let q = tracer_state c.change_mode-changed.new.tracer in
+    let sat = old.ctx.solver_state.sat_state in
+    let changes = rw is at c.change_mode-changed.ensures.changes in
+    let (before, links) = k.fits in
+    let m = mode-changed (summary_of (tracer_state old.tracer) old.started old.changed_at old.ctx) s c.args.var p q refl k.fits c.args.mode changes in
+    let (w, left) = m.fits in
+    let alike = written-alike before _ s links m.variables m.keep in
+    let (now, grows, goes) = proof-goes-on p q.proof s.variables m.variables s.told m.told s.proof k.proof alike m.more.proof in
+    let u = with_changed c.args.mode c.args.var s in
+    let t = record u { told = m.told; variables = m.variables; proof = now } in
+    let may = c.in_ok-check_change.ensures in (
+      t,
+      m.leads now (lines-of-entries s.variables m.variables s.told alike) grows k.valid may.in_range (unassumed-state c.args.var k may.unassumed),
+      stands-same q old.started c.end_change.new.changed_at old.ctx c.end_change.new.ctx t counted.same (record {
         ledger = ledger-is _ _ _ _ _ _ _ (ap (λ (x : Ledger). x.valid) k.ledger) (ap (λ (x : Ledger). x.started) k.ledger)
-            (ap (λ (x : Ledger). x.steps) k.ledger)
-            (none-since c.steps-self-inside.result c.self.inside.ctx.schedule.steps c.steps-self-inside.ensures.steps)
-            (ap (λ (x : Ledger). x.settings) k.ledger) (ap (λ (x : Ledger). x.checking) k.ledger);
-        fits = λ _. fits;
-        bounded = λ _. (kept-after c.self.inside.ctx c.self.inside.tracer.variables c.set_named_mode.new.variables
-            (c.self.invariant c.if-self.false).kept (c.in-Ok.ensures {u = tt}).set.stays).bounded;
+            (ap (λ (x : Ledger). x.steps) k.ledger) (none-since c.end_change.new.changed_at old.ctx.schedule.steps counted.steps)
+            (ap (λ (x : Ledger). x.settings) k.ledger)
+            (ap (λ (x : Ledger). x.checking) k.ledger ∙ sym (checked-runs p.checker q.proof.checker _ m.more.proof.told.checked));
+        fits = λ _. (w, proof-free w _ (with_variables m.variables (retold m.told u)) now left);
         words = k.words;
-        same = k.proof.same;
-        written = λ _. (fits-alike _ s.variables variables s.told s.proof alike k.proof).written;
+        same = goes.same;
+        written = λ _. goes.written;
+        bounded = λ _. (kept-after old.ctx old.tracer.variables q.tables (c.self.invariant c.in_ok-ensure_valid.ensures).kept
+            (changed-stays c.args.var c.args.mode sat (tracer_state old.tracer) q changes)).bounded;
         flags = λ _. let f = k.flags in
-            record { clauses = f.clauses; assumptions = f.assumptions; counted = f.counted; unlisted = f.unlisted; unassumed = f.unassumed };
-      },
+            record {
+              clauses = f.clauses;
+              assumptions = f.assumptions;
+              counted = f.counted;
+              unlisted = λ e. lists-on s.told m.told m.more.more (lists-derived m.more.more.entries m.more.derived) ∙ f.unlisted e;
+              unassumed = λ o. f.unassumed (barred-before s.proof now grows o);
+            };
+      }),
     )
 
-pub returns-in-Err : goal.returns-in-Err
-returns-in-Err g c s st =
+pub returns-in_err-end_change : goal.returns-in_err-end_change
+returns-in_err-end_change g c s st =
+    let (error, is, told, made, count) = c.in_err-end_change.ensures in
     let q = rw (← c.self.view_is) at st in
-    let k = begins q (ap not c.if-self.false) in
-    let u = c.args.var in
-    let may = c.in_ok-check_change.ensures in (
-      broken s.proof s.words s,
-      (
-        (may.in_range, unassumed-state u k may.unassumed, broken-untold s s.words k.valid k.fits.1.well_formed),
-        λ e. free-state u k
-            ((c.in-Err.ensures {u = tt}).free (not-hide c.args.mode (mode_of c.args.mode) c.requires)),
-      ),
-      record {
-        ledger = ap (λ (x : Ledger). record x { valid = false }) k.ledger;
-        words = q.words;
-        same = q.same;
-        fits = λ e. absurd cc;
-        written = λ e. absurd cc;
-        flags = λ e. absurd cc;
-        bounded = λ e. absurd cc;
-      },
+    let k = begins q (ap not c.in_ok-ensure_valid.ensures) in
+    let old = c.self.inside in
+    let new = c.change_mode-changed.new.tracer in
+    let may = c.in_ok-check_change.ensures in
+    let proof = rw is at c.change_mode-changed.ensures.proof in
+    let words = length old.ctx.clause_alloc.words in
+    let refused = told-error c.from_residual-in_err-end_change.result c.in_err-end_change.field-0.0 c.from_residual-in_err-end_change.ensures ∙ ap Err told in (
+      broken s.proof words s,
+      subst (λ r. ChangesMode c.args.mode s c.args.var r (broken s.proof words s)) (sym refused)
+          (mode-broken c.args.mode (broken s.proof words s) c.args.var k may.in_range (unassumed-state c.args.var k may.unassumed)
+          (rw is at c.change_mode-changed.ensures.free) (broken-untold s words k.valid k.fits.1.well_formed)),
+      stands-broken (tracer_state old.tracer) (tracer_state new) old.started old.changed_at c.end_change.new.changed_at old.ctx old.ctx
+          c.end_change.new.ctx s s.proof q made count refl refl (ap (λ (p : ProofParts). is_there p.checker) proof)
+          (ap (λ (p : ProofParts). p.opened) proof ∙ k.proof.same),
+    )
+
+pub returns-in_err-ensure_valid : goal.returns-in_err-ensure_valid
+returns-in_err-ensure_valid g c s st =
+    let q = rw (← c.self.view_is) at st in
+    let refused = invalid-told c.from_residual.result c.in_err-ensure_valid.field-0.0 c.from_residual.ensures c.in_err-ensure_valid.ensures.0 in (
+      s,
+      subst (λ r. ChangesMode c.args.mode s c.args.var r s) (sym refused) (mode-invalid c.args.mode s c.args.var
+          (stands-invalid _ s q (ap not c.in_err-ensure_valid.ensures.1))),
+      st,
     )

@@ -47,7 +47,7 @@ accepted-lines f P es bytes r Q d derives range w a =
 pub bytes-are-accepted : BytesAreAccepted
 bytes-are-accepted = record {
   proof = λ p opened r Q b d shown a.
-      let same : lines_over b.variables p.told ≡ lines_of p.told = sym (lines-renamed (carry b.variables) p.told) ∙ ap lines_of (b.plain shown) in
+      let same : lines_over p.variables p.told ≡ lines_of p.told = sym (lines-renamed (carry p.variables) p.told) ∙ ap lines_of (b.plain shown) in
       accepted-lines opened.format p.clauses p.told opened.bytes r Q d (b.derives shown) (b.in_range shown)
       (b.drat d ∙ ap (λ ls. lines_written (encoding_of opened.format) (plain_lines ls)) same) a;
   program = λ f P c old new bytes r Q p d e a. accepted-lines f P p.told bytes r Q d p.derives p.in_range

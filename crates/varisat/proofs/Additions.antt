@@ -6,6 +6,7 @@ use Rattle.varisat.specs.States.{State}
 use Rattle.varisat.specs.ClauseCalls.{AddsAll}
 use Rattle.varisat.specs.Calls.{IsValid, Ignored, Accepted, AddsClause}
 use Rattle.varisat.specs.declared.solver.SolverError.{SolverError}
+use Rattle.varisat.proofs.LikeStates.{same-ledger}
 
 -- more clauses behind those that were accepted
 pub adds-more : (s mid t : State) (P Q : List Clause) (r : Result (Unit {0}) SolverError) → AddsAll s P (Ok tt) mid → AddsAll mid Q r t → AddsAll s (P ++ Q) r t
@@ -36,7 +37,7 @@ adds-longer s t (c ∷ P) Q e (inr a) = inr a
 -- accepted clauses leave the state valid
 clause-valid : (s t : State) (c : Clause) → AddsClause s c (Ok tt) t → IsValid t
 clause-valid s t c (v, Ignored n e) = subst IsValid (sym e) v
-clause-valid s t c (v, Accepted n p (w, k, e)) = ap (λ x. x.valid) e.ledger ∙ v
+clause-valid s t c (v, Accepted n p (w, k, e)) = ap (λ x. x.valid) (same-ledger e) ∙ v
 
 pub adds-valid : (s t : State) (P : List Clause) → IsValid s → AddsAll s P (Ok tt) t → IsValid t
 adds-valid s t [] v a = subst IsValid (sym a.1) v

@@ -1,5 +1,5 @@
 -- States after a call that changed nothing more, and after one that ran out of memory.
-use Rattle.std.proofs.Common.{◌≡◌, ◌≢◌, ◌∙◌, ◌+◌, ◌-◌, ◌≤◌, arith, ℕ, Bool, true, false, Option, Some, None, List, Err, refl, sym, ap, subst}
+use Rattle.std.proofs.Common.{◌≡◌, ◌≢◌, ◌∙◌, ◌+◌, ◌-◌, ◌≤◌, arith, ℕ, Bool, true, false, Option, List, Err, refl, sym, ap}
 use Rattle.varisat_theory.specs.Literals.{Literal, Clause}
 use Rattle.varisat_search.specs.declared.error.StepError.{StepError}
 use Rattle.varisat_search.specs.declared.error.StepError.TheVariants as step
@@ -20,13 +20,7 @@ use Rattle.varisat.specs.Summaries.{Summary, spaces, StandsFor}
 
 pub like-refl : (s : State) → IsLike s s
 like-refl s = record {
-  naming = refl;
-  ever_hidden = refl;
-  clauses = refl;
-  assumptions = refl;
-  counted = refl;
-  verdict = refl;
-  ledger = refl;
+  same = refl;
   told =
       (stays-nothing s.told).0;
   derived = (stays-nothing s.told).2;
@@ -38,14 +32,7 @@ like-refl s = record {
 -- the same, but that an open proof has further bytes, and the clause store another size
 pub like-grown : (s : State) (proof : Option OpenProof) (words : ℕ) → GoesOnWriting s.proof proof → IsLike s (record s { proof = proof; words = words })
 like-grown s proof words g = record {
-  naming = refl;
-  ever_hidden = refl;
-  clauses = refl;
-  assumptions = refl;
-  counted = refl;
-  verdict = refl;
-  ledger =
-      refl;
+  same = refl;
   told = (stays-nothing s.told).0;
   derived = (stays-nothing s.told).2;
   stays = λ _. (stays-nothing s.told).1;
@@ -57,13 +44,7 @@ like-grown s proof words g = record {
 pub like-varied : (s : State) (variables : ℕ → Option ℕ) (words : ℕ) → lines_over variables s.told ≡ lines_over s.variables s.told →
     IsLike s (with_words words (with_variables variables s))
 like-varied s variables words same = record {
-  naming = refl;
-  ever_hidden = refl;
-  clauses = refl;
-  assumptions = refl;
-  counted = refl;
-  verdict = refl;
-  ledger = refl;
+  same = refl;
   told = (stays-nothing s.told).0;
   derived = (stays-nothing s.told).2;
   stays = λ _. (stays-nothing s.told).1;
@@ -76,13 +57,7 @@ pub like-told : (s : State) (told : List Entry) (variables : ℕ → Option ℕ)
     lines_over variables s.told ≡ lines_over s.variables s.told → GoesOnWriting s.proof proof →
     IsLike s (record s { told = told; variables = variables; proof = proof; words = words })
 like-told s told variables proof words (m, n, d) same g = record {
-  naming = refl;
-  ever_hidden = refl;
-  clauses = refl;
-  assumptions = refl;
-  counted = refl;
-  verdict = refl;
-  ledger = refl;
+  same = refl;
   told = m;
   derived = d;
   stays = λ _. n;
@@ -95,13 +70,7 @@ pub like-retold : (s : State) (told : List Entry) (variables : ℕ → Option �
     AreDerived m.entries → lines_over variables s.told ≡ lines_over s.variables s.told → GoesOnWriting s.proof proof →
     IsLikeButLeft true s (record s { told = told; variables = variables; proof = proof })
 like-retold s told variables proof m d same g = record {
-  naming = refl;
-  ever_hidden = refl;
-  clauses = refl;
-  assumptions = refl;
-  counted = refl;
-  verdict = refl;
-  ledger = refl;
+  same = refl;
   told = m;
   derived = d;
   stays = λ e. absurd (let z : true ≡ false = e in cc);

@@ -16,7 +16,7 @@ use Rattle.varisat.specs.Usage as usage
 use Rattle.varisat.specs.Budgets.{CountsSteps}
 use Rattle.varisat.specs.OpenProofs.{BarsAssumptions}
 use Rattle.varisat.specs.Calls as state
-use Rattle.varisat.specs.Calls.{calling, Verdicts, Ignored, Accepted, IsValid, IsSolved, Invalidates, IsLikeButLeft, CountsCall}
+use Rattle.varisat.specs.Calls.{calling, Verdicts, Ignored, Accepted, Decided, Searched, IsValid, IsSolved, Invalidates, IsLikeButLeft, CountsCall}
 use Rattle.varisat.specs.Pasts as past
 use Rattle.varisat.specs.Pasts.{Past, empty_past, telling}
 use Rattle.varisat_proof.specs.declared.proof.format.ProofFormat.{ProofFormat}
@@ -30,6 +30,7 @@ use Rattle.varisat.specs.declared.session.Call.TheVariants as call
 use Rattle.varisat.specs.declared.session.Answer.TheVariants as answer
 use Rattle.varisat.specs.declared.solver.SolverError.{SolverError}
 use Rattle.varisat.specs.declared.solver.SolverError.TheVariants.{OutOfMemory, Invalid, ProofIoError, ClauseStoreFull, WitnessVar, AssumedVar, VariableLimit, ClauseAfterSolve, ProofOpen, ProofTooLate, Interrupted, ConfigOutOfRange}
+use Rattle.varisat.proofs.LikeStates.{same-counted, same-ledger}
 use Rattle.varisat.proofs.VerdictAnswers.{is-unknown-or-not}
 
 none-is-few : (since n : ℕ) → since ≡ 0 → AreFew n since
@@ -61,7 +62,7 @@ no-way : {V : Type 0} {n : ℕ} (s t : Known V) → Invalidates n s t → HasFew
 no-way s t b v = absurd (let z : false ≡ true = sym (ap (λ (x : Ledger). x.valid) b.ledger) ∙ v in cc)
 
 make-var : {V : Type 0} (s t : Known V) (r : Result ℕ SolverError) → state.MakesVar s r t → HasFewSteps s → HasFewSteps t
-make-var s t (Ok u) (v, free, small, e) h = begun t _ e.ledger refl
+make-var s t (Ok u) (v, free, small, e) h = begun t _ (same-ledger e) refl
 make-var s t (Err OutOfMemory) a h = no-way s t a.1
 make-var s t (Err Invalid) a h = same s t a.1 h
 make-var s t (Err VariableLimit) a h = same s t a.2 h
@@ -69,7 +70,7 @@ make-var s t (Err e) a h = absurd a
 
 change-var : {V : Type 0} (may_leave : Bool) (change : Known V → Known V) (u : ℕ) (s t : Known V) (r : Result (Unit {0}) SolverError) →
     (change (usage.name_var u s)).ledger.since ≡ 0 → usage.ChangesVar may_leave change s u r t → HasFewSteps s → HasFewSteps t
-change-var may_leave change u s t (Ok x) z (v, small, free, e) h = begun t _ e.ledger z
+change-var may_leave change u s t (Ok x) z (v, small, free, e) h = begun t _ (same-ledger e) z
 change-var may_leave change u s t (Err Invalid) z a h = same s t a.1 h
 change-var may_leave change u s t (Err VariableLimit) z a h = same s t a.2 h
 change-var may_leave change u s t (Err (AssumedVar x)) z a h = same s t a.4 h
@@ -77,7 +78,7 @@ change-var may_leave change u s t (Err OutOfMemory) z a h = no-way s t a.2
 change-var may_leave change u s t (Err e) z a h = absurd a
 
 observe : {V : Type 0} (s t : Known V) (r : Result (List ℕ) SolverError) → usage.Observes s r t → HasFewSteps s → HasFewSteps t
-observe s t (Ok us) (v, (m, shown, e)) h = begun t _ e.ledger refl
+observe s t (Ok us) (v, (m, shown, e)) h = begun t _ (same-ledger e) refl
 observe s t (Err Invalid) a h = same s t a.1 h
 observe s t (Err OutOfMemory) a h = no-way s t a
 observe s t (Err e) a h = absurd a
@@ -117,13 +118,13 @@ module _ {V : Type 0} (by : Verdicts V) (keeps : KeepsFew by) where
 
   add-clause : (s t : Known V) (c : Clause) (r : Result (Unit {0}) SolverError) → state.TakesOne by s c r t → HasFewSteps s → HasFewSteps t
   add-clause s t c (Ok u) (v, Ignored n e) h = anew s t e
-  add-clause s t c (Ok u) (v, Accepted n lim (x, after, e)) h = begun t _ e.ledger refl
+  add-clause s t c (Ok u) (v, Accepted n lim (x, after, e)) h = begun t _ (same-ledger e) refl
   add-clause s t c (Err ClauseStoreFull) a h = no-way s t a.2
   add-clause s t c (Err ClauseAfterSolve) a h = same s t a.3 h
   add-clause s t c (Err e) a h = refuse (state.MayAccept by s) s t c e a h
 
   assume-list : (s t : Known V) (list : List Literal) (r : Result (Unit {0}) SolverError) → state.TakesList by s list r t → HasFewSteps s → HasFewSteps t
-  assume-list s t list (Ok u) (v, closed, lim, e) h = begun t _ e.ledger refl
+  assume-list s t list (Ok u) (v, closed, lim, e) h = begun t _ (same-ledger e) refl
   assume-list s t list (Err ProofOpen) a h = same s t a.2 h
   assume-list s t list (Err e) a h = refuse (BarsAssumptions s.proof → ⊥) s t list e a h
 
@@ -199,17 +200,17 @@ module _ {V : Type 0} (by : Verdicts V) (keeps : KeepsFew by) where
 
 -- the steps of a call are counted, by which variables are counted before and after it
 joined : {V : Type 0} (x : V) (s t : Known V) (r : Result Bool SolverError) → IsSolved x s t → CountsCall s r t → HasFewSteps t
-joined x s t r e c v = subst (λ (xs : List ℕ). AreFew (length xs) t.ledger.since) (sym e.counted)
+joined x s t r e c v = subst (λ (xs : List ℕ). AreFew (length xs) t.ledger.since) (sym (same-counted e))
     (joined-are-few (length s.counted) s.ledger.settings.max_steps s.ledger.since t.ledger.since s.ledger.steps t.ledger.steps r
-    (ap (λ (x : Ledger). x.since) e.ledger) c)
+    (ap (λ (x : Ledger). x.since) (same-ledger e)) c)
 
 -- no step is made
 unmoved : {V : Type 0} (x : V) (s t : Known V) → IsSolved x s t → t.ledger.steps ≡ s.ledger.steps → HasFewSteps s → HasFewSteps t
 unmoved x s t e n h v =
-    let k = ap (λ (x : Ledger). x.since) e.ledger in
+    let k = ap (λ (x : Ledger). x.since) (same-ledger e) in
     let z : t.ledger.since ≡ s.ledger.since = omega (arith, k, n) in
-    subst (λ (xs : List ℕ). AreFew (length xs) t.ledger.since) (sym e.counted)
-    (subst (AreFew (length s.counted)) (sym z) (h (sym (ap (λ (x : Ledger). x.valid) e.ledger) ∙ v)))
+    subst (λ (xs : List ℕ). AreFew (length xs) t.ledger.since) (sym (same-counted e))
+    (subst (AreFew (length s.counted)) (sym z) (h (sym (ap (λ (x : Ledger). x.valid) (same-ledger e)) ∙ v)))
 
 fails : {V : Type 0} (unknown : Type 0) (s t : Known V) (e : SolverError) → state.FailsSearch unknown s e t → HasFewSteps s → HasFewSteps t
 fails unknown s t OutOfMemory (u, c, b) h = no-way _ t b
@@ -251,10 +252,10 @@ run-stays-few seen taken calls answers s h = along calling state-keeps seen take
 
 -- 4. Pasts.
 
-past-told : (p q : Past) (b : Bool) → IsSolved (past.answered b p.verdict) (state.once_searched p) q → past.CountsIfUnknown p (Ok b) q → HasFewSteps p →
+past-told : (p q : Past) (b : Bool) → IsSolved (past.answered b p.verdict) (state.once_searched p) q → past.CountsSearch p (Ok b) q → HasFewSteps p →
     HasFewSteps q
-past-told p q b e (past.Decided w n same) h = unmoved (past.answered b p.verdict) (state.once_searched p) q e n h
-past-told p q b e (past.Searched w k) h = joined (past.answered b p.verdict) (state.once_searched p) q (Ok b) e k
+past-told p q b e (Decided w n same) h = unmoved (past.answered b p.verdict) (state.once_searched p) q e n h
+past-told p q b e (Searched w k) h = joined (past.answered b p.verdict) (state.once_searched p) q (Ok b) e k
 
 past-solves : (p q : Past) (r : Result Bool SolverError) → past.Solves p r q → HasFewSteps p → HasFewSteps q
 past-solves p q (Ok true) (v, sat, few, told, e) h = past-told p q true e few h

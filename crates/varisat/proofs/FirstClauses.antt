@@ -13,6 +13,7 @@ use Rattle.varisat.specs.Additions.{Gave, NoFault, MemoryFault, Fault, ClauseRef
 use Rattle.varisat.specs.Decided as conclusion
 use Rattle.varisat.specs.Decided.{Conclusion}
 use Rattle.varisat.specs.Proven.{Concludes}
+use Rattle.varisat.proofs.LikeStates.{same-clauses, same-naming}
 use Rattle.varisat.proofs.NamesInOrder.{stay-in-order}
 use Rattle.varisat.proofs.ProgramDecides.{done, broken-fails}
 
@@ -51,12 +52,12 @@ first-clauses n s t (c ∷ P) o (inl (mid, (v, state.Ignored u e), more)) =
     }
 first-clauses n s t (c ∷ P) o (inl (mid, (v, state.Accepted x lim (w, after, e)), more)) =
     let (order, own) = stay-in-order n s.naming c o in
-    let r = first-clauses (count_with n c) mid t P (subst (AreInOrder (count_with n c)) (sym e.naming) order) more in
+    let r = first-clauses (count_with n c) mid t P (subst (AreInOrder (count_with n c)) (sym (same-naming e)) order) more in
     record {
       given = c ∷ r.given;
       rest = r.rest;
       begins = ap (λ xs. c ∷ xs) r.begins;
-      joined = r.joined ∙ ap (λ xs. xs ++ r.given) (e.clauses ∙ ap (λ d. s.clauses ++ d ∷ []) own)
+      joined = r.joined ∙ ap (λ xs. xs ++ r.given) ((same-clauses e) ∙ ap (λ d. s.clauses ++ d ∷ []) own)
           ∙ append_assoc s.clauses (c ∷ []) r.given;
       refuted = r.refuted;
     }

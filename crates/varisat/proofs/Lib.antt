@@ -27,6 +27,7 @@ pub mod HiddenTables
 pub mod HiddenStates
 pub mod Histories
 pub mod KeptCounts
+pub mod LikeStates
 pub mod LineLemmas
 pub mod ModelsFit
 pub mod MoreClauses

@@ -28,6 +28,7 @@ use Rattle.varisat.specs.Pasts.{Findings, Past, telling}
 use Rattle.varisat.specs.Usage as usage
 use Rattle.varisat.specs.declared.solver.SolverError.{SolverError}
 use Rattle.varisat.specs.declared.solver.SolverError.TheVariants.{ProofIoError, OutOfMemory, Invalid, ClauseStoreFull, WitnessVar, VariableLimit, AssumedVar, ClauseAfterSolve, ProofOpen, ProofTooLate, ConfigOutOfRange}
+use Rattle.varisat.proofs.LikeStates.{same-assumptions, same-clauses, same-counted, same-naming, same-verdict}
 use Rattle.varisat.proofs.ToldEntries.{tells-through, tells, accepts-goes, assumes-goes}
 use Rattle.varisat.proofs.PastJournals.{KnowsTold, told-more}
 use Rattle.varisat.proofs.GivenEntries.{lists-append, lists-derived, lists-on}
@@ -135,13 +136,7 @@ stays-but v s t l u e was g = subst (Agrees v) (sym e) (λ c. knows-still v s l 
 -- what a user knows is alike
 pub like-past : {may_leave : Bool} (v : Findings) (s t : State) → IsLikeButLeft may_leave s t → IsLikeButLeft may_leave (past_of v s) (past_of v t)
 like-past v s t e = record {
-  naming = e.naming;
-  ever_hidden = e.ever_hidden;
-  clauses = e.clauses;
-  assumptions = e.assumptions;
-  counted = e.counted;
-  verdict = refl;
-  ledger = e.ledger;
+  same = ap (past_of v) e.same;
   told = e.told;
   derived = e.derived;
   stays = e.stays;
@@ -196,25 +191,25 @@ accepted v s t d n (w, after, e) k =
     let c = map (through_names (name_all d s.naming)) d in
     let cases = after-cases s.clauses c s.verdict w after in
     record {
-      capped = subst IsCapped (sym e.naming) (capped-all d s.naming k.capped);
+      capped = subst IsCapped (sym (same-naming e)) (capped-all d s.naming k.capped);
       lists = lists-on (s.told ++ Accepts c ∷ []) t.told e.told (lists-derived e.told.entries e.derived) ∙ lists-append s.told (Accepts c ∷ [])
           ∙ append-nil (lists_of s.told) ∙ k.lists;
       model = λ h. absurd cc;
       found = λ h. absurd (⊎_elim
-          (λ r. let z : Some false ≡ Some true = ap answer_of (sym (e.verdict ∙ r.0)) ∙ h in let y : false ≡ true = cc in cc)
-          (λ r. reopened-not-true s.verdict (ap answer_of (sym (e.verdict ∙ r)) ∙ h)) cases);
+          (λ r. let z : Some false ≡ Some true = ap answer_of (sym ((same-verdict e) ∙ r.0)) ∙ h in let y : false ≡ true = cc in cc)
+          (λ r. reopened-not-true s.verdict (ap answer_of (sym ((same-verdict e) ∙ r)) ∙ h)) cases);
       told = told-more 0 s.told t.told v.interrupted_steps k.told
           (tells-through 0 0 s.told (s.told ++ Accepts c ∷ []) t.told (tells 0 s.told (Accepts c ∷ []) (accepts-goes s.told c)) e.told);
-      failed = λ h. ⊎_elim (λ r. ap answer_of (e.verdict ∙ r.0)) (λ r. ap answer_of (e.verdict ∙ r) ∙ reopened-false s.verdict (k.failed h)) cases;
+      failed = λ h. ⊎_elim (λ r. ap answer_of ((same-verdict e) ∙ r.0)) (λ r. ap answer_of ((same-verdict e) ∙ r) ∙ reopened-false s.verdict (k.failed h)) cases;
       core = λ l h. ⊎_elim
-          (λ r. let z : Unsat ≡ UnsatUnderAssumptions l = sym (e.verdict ∙ r.0) ∙ h in absurd cc)
-          (λ r. k.core l (reopened-core s.verdict l (sym (e.verdict ∙ r) ∙ h))) cases;
+          (λ r. let z : Unsat ≡ UnsatUnderAssumptions l = sym ((same-verdict e) ∙ r.0) ∙ h in absurd cc)
+          (λ r. k.core l (reopened-core s.verdict l (sym ((same-verdict e) ∙ r) ∙ h))) cases;
       some = λ l h. ⊎_elim
-          (λ r. let z : Unsat ≡ UnsatUnderAssumptions l = sym (e.verdict ∙ r.0) ∙ h in absurd cc)
-          (λ r. k.some l (reopened-core s.verdict l (sym (e.verdict ∙ r) ∙ h))) cases;
+          (λ r. let z : Unsat ≡ UnsatUnderAssumptions l = sym ((same-verdict e) ∙ r.0) ∙ h in absurd cc)
+          (λ r. k.some l (reopened-core s.verdict l (sym ((same-verdict e) ∙ r) ∙ h))) cases;
       right = ⊎_elim
-          (λ r. right-like t (s.clauses ++ c ∷ []) s.assumptions t.counted Unsat e.clauses e.assumptions refl (e.verdict ∙ r.0) r.1)
-          (λ r. right-like t (s.clauses ++ c ∷ []) s.assumptions t.counted (reopened_verdict s.verdict) e.clauses e.assumptions refl (e.verdict ∙ r)
+          (λ r. right-like t (s.clauses ++ c ∷ []) s.assumptions t.counted Unsat (same-clauses e) (same-assumptions e) refl ((same-verdict e) ∙ r.0) r.1)
+          (λ r. right-like t (s.clauses ++ c ∷ []) s.assumptions t.counted (reopened_verdict s.verdict) (same-clauses e) (same-assumptions e) refl ((same-verdict e) ∙ r)
           (right-reopened s.clauses c s.assumptions s.counted t.counted s.verdict n k.right))
           cases;
     }
@@ -300,15 +295,15 @@ add-text v s t old new r g (Unread e (c, k) n) = (v, Unread e (c, ap (past_of v)
 knows-like : {may_leave : Bool} (v : Findings) (s t : State) (m : Naming) (b : Bool) (l : Ledger) →
     IsLikeButLeft may_leave (record s { naming = m; ever_hidden = b; ledger = l }) t → IsCapped m → Knows v s → Knows v t
 knows-like v s t m b l e h k = record {
-  capped = subst IsCapped (sym e.naming) h;
+  capped = subst IsCapped (sym (same-naming e)) h;
   lists = lists-on s.told t.told e.told (lists-derived e.told.entries e.derived) ∙ k.lists;
-  model = λ x. ap answer_of e.verdict ∙ k.model x;
-  found = λ x. k.found (sym (ap answer_of e.verdict) ∙ x);
-  failed = λ x. ap answer_of e.verdict ∙ k.failed x;
-  core = λ l h. k.core l (sym e.verdict ∙ h);
-  some = λ l h. k.some l (sym e.verdict ∙ h);
+  model = λ x. ap answer_of (same-verdict e) ∙ k.model x;
+  found = λ x. k.found (sym (ap answer_of (same-verdict e)) ∙ x);
+  failed = λ x. ap answer_of (same-verdict e) ∙ k.failed x;
+  core = λ l h. k.core l (sym (same-verdict e) ∙ h);
+  some = λ l h. k.some l (sym (same-verdict e) ∙ h);
   told = told-more 0 s.told t.told v.interrupted_steps k.told e.told;
-  right = right-like t s.clauses s.assumptions s.counted s.verdict e.clauses e.assumptions e.counted e.verdict k.right;
+  right = right-like t s.clauses s.assumptions s.counted s.verdict (same-clauses e) (same-assumptions e) (same-counted e) (same-verdict e) k.right;
 }
 
 pub make-var : (v : Findings) (s t : State) (r : Result ℕ SolverError) → Agrees v s → state.MakesVar s r t → Leads (state.MakesVar (past_of v s) r) t
@@ -374,17 +369,17 @@ assumed-list : (v : Findings) (s t : State) (list : List Literal) → state.Take
 assumed-list v s t list e k =
     let c = map (through_names (name_all list s.naming)) list in
     record {
-      capped = subst IsCapped (sym e.naming) (capped-all list s.naming k.capped);
+      capped = subst IsCapped (sym (same-naming e)) (capped-all list s.naming k.capped);
       lists = lists-on (s.told ++ Assumes c ∷ []) t.told e.told (lists-derived e.told.entries e.derived) ∙ lists-append s.told (Assumes c ∷ [])
           ∙ ap (λ x. x ++ c ∷ []) k.lists;
       model = λ x. absurd cc;
-      found = λ x. absurd (assumed-not-true s.verdict (sym (ap answer_of e.verdict) ∙ x));
+      found = λ x. absurd (assumed-not-true s.verdict (sym (ap answer_of (same-verdict e)) ∙ x));
       failed = λ x. absurd cc;
-      core = λ l h. absurd (assumed-no-core s.verdict l (sym e.verdict ∙ h));
-      some = λ l h. absurd (assumed-no-core s.verdict l (sym e.verdict ∙ h));
+      core = λ l h. absurd (assumed-no-core s.verdict l (sym (same-verdict e) ∙ h));
+      some = λ l h. absurd (assumed-no-core s.verdict l (sym (same-verdict e) ∙ h));
       told = told-more 0 s.told t.told v.interrupted_steps k.told
           (tells-through 0 0 s.told (s.told ++ Assumes c ∷ []) t.told (tells 0 s.told (Assumes c ∷ []) (assumes-goes s.told c)) e.told);
-      right = right-like t s.clauses t.assumptions t.counted (assumed_verdict s.verdict) e.clauses refl refl e.verdict
+      right = right-like t s.clauses t.assumptions t.counted (assumed_verdict s.verdict) (same-clauses e) refl refl (same-verdict e)
           (right-assumed s.clauses s.assumptions t.assumptions s.counted t.counted s.verdict k.right);
     }
 
@@ -437,7 +432,6 @@ proof-known : (v : Findings) (s : State) → Knows v s → IsProofIfOpen calling
 proof-known v s k has o e =
     let a = has o e in
     record {
-      variables = a.variables;
       written = a.written;
       drat = a.drat;
       apart = a.apart;

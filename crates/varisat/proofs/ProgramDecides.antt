@@ -31,6 +31,7 @@ use Rattle.varisat.specs.Budgets.{CountsSteps}
 use Rattle.varisat.specs.Decided.{IsUpToHighest, IsModel, named_variables, allowed_steps, Conclusion, Decided, Unknown, IsConclusion, Decides, StatusIsTrue, conclusion_status}
 use Rattle.varisat.specs.declared.solver.SolverError.{SolverError}
 use Rattle.varisat.specs.declared.solver.SolverError.TheVariants.{Interrupted, Invalid, ConfigOutOfRange, ProofOpen, ProofTooLate}
+use Rattle.varisat.proofs.LikeStates.{same-assumptions, same-clauses, same-counted, same-ledger, same-naming}
 use Rattle.varisat.proofs.NamesInOrder.{stay-in-order, count-above, count-within, through-all}
 use Rattle.varisat.proofs.NameLaws.{none-in-order, in-use-below}
 use Rattle.varisat.proofs.Counted.{join-more, join-has, join-only, join-once}
@@ -92,9 +93,9 @@ took n p q [] o (u, e) =
 took n p q (c ∷ P) o (inr (e, k, a)) = absurd cc
 took n p q (c ∷ P) o (inl (mid, (v, Accepted u l (w, is, e)), rest)) =
     let (order, own) = stay-in-order n p.naming c o in
-    let clauses : mid.clauses ≡ p.clauses ++ c ∷ [] = e.clauses ∙ ap (λ x. p.clauses ++ x ∷ []) own in
-    let counted : mid.counted ≡ join_counted p.counted (map variable_of c) = e.counted ∙ ap (λ x. join_counted p.counted (map variable_of x)) own in
-    let r = took (count_with n c) mid q P (subst (AreInOrder (count_with n c)) (sym e.naming) order) rest in
+    let clauses : mid.clauses ≡ p.clauses ++ c ∷ [] = (same-clauses e) ∙ ap (λ x. p.clauses ++ x ∷ []) own in
+    let counted : mid.counted ≡ join_counted p.counted (map variable_of c) = (same-counted e) ∙ ap (λ x. join_counted p.counted (map variable_of x)) own in
+    let r = took (count_with n c) mid q P (subst (AreInOrder (count_with n c)) (sym (same-naming e)) order) rest in
     record {
       more = λ a h. satisfies_fewer a p.clauses (c ∷ []) (subst (SatisfiesAll a) clauses (r.more a h));
       part = λ a x y. r.part a (subst (SatisfiesAll a) (sym clauses) (satisfies-one-more a p.clauses P c x y)) (λ d h. y d (inr h));
@@ -103,9 +104,9 @@ took n p q (c ∷ P) o (inl (mid, (v, Accepted u l (w, is, e)), rest)) =
       counted = λ known h. r.counted (join_counted known (map variable_of c))
           (subst (λ xs. xs ⊆ join_counted known (map variable_of c)) (sym counted) (join-part p.counted known (map variable_of c) h));
       once = λ h. r.once (subst IsDistinct (sym counted) (join-once (map variable_of c) p.counted h));
-      steps = r.steps ∙ ap (λ (l : Ledger). l.steps) e.ledger;
-      settings = r.settings ∙ ap (λ (l : Ledger). l.settings) e.ledger;
-      assumptions = r.assumptions ∙ e.assumptions;
+      steps = r.steps ∙ ap (λ (l : Ledger). l.steps) (same-ledger e);
+      settings = r.settings ∙ ap (λ (l : Ledger). l.settings) (same-ledger e);
+      assumptions = r.assumptions ∙ (same-assumptions e);
     }
 took n p q (c ∷ P) o (inl (mid, (v, Ignored u e), rest)) =
     let r = took n (count_anew p) q P o (subst (λ (x : Past). additions.AddsAll telling x P done q) e rest) in
@@ -336,7 +337,7 @@ module _ (check : Bool) (proof : Option OpenProof) (limit : Option ℕ) (old new
       let (z, (w, s, few, told, e), h) = solve v t u (Ok true) g f in
       let k = takes old new (begun_past check proof limit) q x in
       let r = begun-took check proof limit q (dimacs k.read.text).clauses k.all in (
-        record { read = k.read; ended = k.ended; fine = k.fine; found = outcome (dimacs k.read.text).clauses r.whole (s.0, s.1) z f.rest.clauses f.rest.naming h },
+        record { read = k.read; ended = k.ended; fine = k.fine; found = outcome (dimacs k.read.text).clauses r.whole (s.0, s.1) z (same-clauses f.rest) (same-naming f.rest) h },
         r.carries,
       )
     where

@@ -24,6 +24,7 @@ use Rattle.varisat.specs.Decided.{Conclusion, allowed_steps}
 use Rattle.varisat.specs.Proven.{prepared, Concludes, Reports, IsProven, IsProvenIf, DecidesProven, Fails, AsSearched, AsListed}
 use Rattle.varisat.specs.declared.solver.SolverError.{SolverError}
 use Rattle.varisat.specs.declared.solver.SolverError.TheVariants.{Interrupted, ProofIoError, OutOfMemory, Invalid, ClauseStoreFull, WitnessVar, VariableLimit, AssumedVar, ClauseAfterSolve, ProofOpen, ProofTooLate, ConfigOutOfRange, Dimacs}
+use Rattle.varisat.proofs.LikeStates.{same-assumptions, same-clauses, same-hidden, same-ledger}
 use Rattle.varisat.proofs.OpenProofs.{goes-on-none, goes-on-through, plain-bytes}
 use Rattle.varisat.proofs.MoreClauses.{Carries}
 use Rattle.varisat.proofs.NameLaws.{none-in-order}
@@ -53,7 +54,7 @@ keeps-through s m t a b = record {
 
 keeps-clause : (s t : State) (d : Clause) → state.AddsClause s d done t → Keeps s t
 keeps-clause s t d (v, state.Ignored n e) = keeps-anew s t e
-keeps-clause s t d (v, state.Accepted n lim (w, after, e)) = record { proof = e.proof; assumptions = e.assumptions; hidden = e.ever_hidden }
+keeps-clause s t d (v, state.Accepted n lim (w, after, e)) = record { proof = e.proof; assumptions = same-assumptions e; hidden = (same-hidden e) }
 
 keeps-clauses : (s t : State) (P : List Clause) → AddsAll s P done t → Keeps s t
 keeps-clauses s t [] (u, e) = subst (Keeps s) (sym e) (keeps-all-of s)
@@ -88,20 +89,20 @@ record Asks (t u : State) : Type 0 where
 
 asks-told : (t u : State) (b : Bool) → TellsVerdict (state.once_searched t) b u → Asks t u
 asks-told t u b r = record {
-  valid = ap (λ (l : Ledger). l.valid) r.rest.ledger ∙ r.valid;
+  valid = ap (λ (l : Ledger). l.valid) (same-ledger r.rest) ∙ r.valid;
   proof = r.rest.proof;
-  assumptions = r.rest.assumptions;
-  hidden = r.rest.ever_hidden;
-  clauses = r.rest.clauses;
+  assumptions = same-assumptions r.rest;
+  hidden = same-hidden r.rest;
+  clauses = same-clauses r.rest;
 }
 
 asks : (t u : State) (c : Conclusion) → Concludes t c u → Asks t u
 asks t u conclusion.Unknown r = record {
-  valid = ap (λ (l : Ledger). l.valid) r.rest.ledger ∙ r.valid;
+  valid = ap (λ (l : Ledger). l.valid) (same-ledger r.rest) ∙ r.valid;
   proof = r.rest.proof;
-  assumptions = r.rest.assumptions;
-  hidden = r.rest.ever_hidden;
-  clauses = r.rest.clauses;
+  assumptions = same-assumptions r.rest;
+  hidden = same-hidden r.rest;
+  clauses = same-clauses r.rest;
 }
 asks t u (conclusion.Decided None) r = asks-told t u false r
 asks t u (conclusion.Decided (Some model)) (r, m) = asks-told t u true r
@@ -127,7 +128,7 @@ finds-none t u (conclusion.Decided None) Marked r n e = go u.verdict refl
     go Unsat e = e
     go (UnsatUnderAssumptions list) e =
         let fails = subst (IsRight u.clauses u.assumptions u.counted) e r.right in
-        absurd (r.core list e (nothing list (subst (λ A. list ⊆ A) (r.rest.assumptions ∙ n) fails.0)))
+        absurd (r.core list e (nothing list (subst (λ A. list ⊆ A) ((same-assumptions r.rest) ∙ n) fails.0)))
 
 -- 3. The target of the proof.
 

@@ -26,6 +26,7 @@ use Rattle.varisat.specs.Journals.{IsToldWithin, TellsMore}
 use Rattle.varisat.specs.declared.solver.SolverError.{SolverError}
 use Rattle.varisat.specs.declared.solver.SolverError.TheVariants.{OutOfMemory, Invalid, ProofIoError, ClauseStoreFull, WitnessVar, AssumedVar, VariableLimit, ClauseAfterSolve, ProofOpen, ProofTooLate, Interrupted, ConfigOutOfRange}
 use Rattle.varisat_theory.proofs.Journals.{by_leads, by_leads_append}
+use Rattle.varisat.proofs.LikeStates.{same-ledger}
 use Rattle.varisat.proofs.VerdictAnswers.{is-unknown-or-not}
 use Rattle.varisat.proofs.ToldEntries.{tells-nothing, tells-through, tells, accepts-goes, assumes-goes}
 
@@ -81,7 +82,7 @@ add-clause : (s t : State) (d : Clause) (r : Result (Unit {0}) SolverError) → 
 add-clause s t d (Ok u) (v, state.Ignored n e) w = tells-anew s t e w
 add-clause s t d (Ok u) (v, state.Accepted n lim (x, after, e)) w =
     let c = map (through_names (name_all d s.naming)) d in
-    tells-plainly s t v (ap (λ (x : Ledger). x.steps) e.ledger)
+    tells-plainly s t v (ap (λ (x : Ledger). x.steps) (same-ledger e))
     (tells-through 0 0 s.told (s.told ++ Accepts c ∷ []) t.told (tells 0 s.told (Accepts c ∷ []) (accepts-goes s.told c)) e.told)
 add-clause s t d (Err OutOfMemory) a w = absurd (no-way s t a.2 w)
 add-clause s t d (Err ClauseStoreFull) a w = absurd (no-way s t a.2 w)
@@ -127,7 +128,7 @@ add-text s t old new r (Unread e (v, k) n) w = tells-same s t k w
 -- 2. Variables and assumptions.
 
 make-var : (s t : State) (r : Result ℕ SolverError) → state.MakesVar s r t → state.IsValid t → TellsOn s t
-make-var s t (Ok u) (v, free, small, e) w = tells-plainly s t v (ap (λ (x : Ledger). x.steps) e.ledger) e.told
+make-var s t (Ok u) (v, free, small, e) w = tells-plainly s t v (ap (λ (x : Ledger). x.steps) (same-ledger e)) e.told
 make-var s t (Err OutOfMemory) a w = absurd (no-way s t a.1 w)
 make-var s t (Err Invalid) a w = tells-same s t a.1 w
 make-var s t (Err VariableLimit) a w = tells-same s t a.2 w
@@ -136,7 +137,7 @@ make-var s t (Err e) a w = absurd a
 changes-var : (may_leave : Bool) (f : Naming → Naming) (b : Bool → Bool) (s t : State) (u : ℕ) (r : Result (Unit {0}) SolverError) →
     usage.ChangesVar may_leave
     (λ x. record x { naming = f x.naming; ever_hidden = b x.ever_hidden; ledger = record x.ledger { since = 0 } }) s u r t → state.IsValid t → TellsOn s t
-changes-var may_leave f b s t u (Ok x) (v, small, free, e) w = tells-plainly s t v (ap (λ (x : Ledger). x.steps) e.ledger) e.told
+changes-var may_leave f b s t u (Ok x) (v, small, free, e) w = tells-plainly s t v (ap (λ (x : Ledger). x.steps) (same-ledger e)) e.told
 changes-var may_leave f b s t u (Err Invalid) a w = tells-same s t a.1 w
 changes-var may_leave f b s t u (Err VariableLimit) a w = tells-same s t a.2 w
 changes-var may_leave f b s t u (Err (AssumedVar x)) a w = tells-same s t a.4 w
@@ -144,7 +145,7 @@ changes-var may_leave f b s t u (Err OutOfMemory) a w = absurd (no-way s t a.2 w
 changes-var may_leave f b s t u (Err e) a w = absurd a
 
 observe : (s t : State) (r : Result (List ℕ) SolverError) → usage.Observes s r t → state.IsValid t → TellsOn s t
-observe s t (Ok us) (v, (m, shown, e)) w = tells-plainly s t v (ap (λ (x : Ledger). x.steps) e.ledger) e.told
+observe s t (Ok us) (v, (m, shown, e)) w = tells-plainly s t v (ap (λ (x : Ledger). x.steps) (same-ledger e)) e.told
 observe s t (Err Invalid) a w = tells-same s t a.1 w
 observe s t (Err OutOfMemory) a w = absurd (no-way s t a w)
 observe s t (Err e) a w = absurd a
@@ -152,7 +153,7 @@ observe s t (Err e) a w = absurd a
 assume-list : (s t : State) (list : List Literal) (r : Result (Unit {0}) SolverError) → state.Assumes s list r t → state.IsValid t → TellsOn s t
 assume-list s t list (Ok u) (v, o, lim, e) w =
     let l = map (through_names (name_all list s.naming)) list in
-    tells-plainly s t v (ap (λ (x : Ledger). x.steps) e.ledger)
+    tells-plainly s t v (ap (λ (x : Ledger). x.steps) (same-ledger e))
     (tells-through 0 0 s.told (s.told ++ Assumes l ∷ []) t.told (tells 0 s.told (Assumes l ∷ []) (assumes-goes s.told l)) e.told)
 assume-list s t list (Err OutOfMemory) a w = absurd (no-way s t a.2 w)
 assume-list s t list (Err (ProofIoError cause)) a w = absurd (no-way s t a.3 w)

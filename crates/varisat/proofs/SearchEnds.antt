@@ -1,14 +1,16 @@
 -- How a call of `solve` ends, once its steps came to something: an open proof is marked and flushed.
-use Rattle.std.proofs.Common.{◌≡◌, ◌∙◌, ℕ, Bool, inl, inr, true, false, Option, Result, Ok, Err, refl, sym, ap, subst}
+use Rattle.std.proofs.Common.{◌≡◌, ◌∙◌, ℕ, Bool, inl, inr, ⊎_elim, true, false, Option, Result, Ok, Err, refl, sym, ap, subst}
 use Rattle.std.specs.declared.io.Error.{Error}
 use Rattle.varisat_proof.specs.Proving.{marked_searched}
 use Rattle.varisat.specs.OpenProofs.{OpenProof, opened_state, IsOpen, GoesOnWriting, GoesOnFailing, searched_under}
 use Rattle.varisat.specs.States.{State, Ledger, IsWellFormed}
 use Rattle.varisat.specs.ProofCalls.{with_proof}
 use Rattle.varisat.specs.Summaries.{Summary, StandsFor, EndsSearch, spaces}
-use Rattle.varisat.specs.Calls.{IsLike, IsValid, is_valid, Invalidates, CountsCall, Searches, Solves, with_steps, once_searched}
+use Rattle.varisat.specs.Calls.{IsLike, IsValid, is_valid, Invalidates, CountsCall, Decided, Searched, Searches, Solves, with_steps, once_searched}
 use Rattle.varisat.specs.declared.solver.SolverError.{SolverError}
 use Rattle.varisat.specs.declared.solver.SolverError.TheVariants.{Interrupted, ProofIoError, OutOfMemory, Invalid, ClauseStoreFull}
+use Rattle.varisat.proofs.LikeStates.{same-ledger}
+use Rattle.varisat.proofs.VerdictAnswers.{is-unknown-or-not}
 use Rattle.varisat.proofs.AcceptClause.{proof-free}
 use Rattle.varisat.proofs.CallStates.{stands-valid, proof-fits, flags-alike, told-well, broken}
 use Rattle.varisat.proofs.Targets.{flushed-open}
@@ -21,13 +23,7 @@ invalid-valid n s t b v = let z : false ≡ true = sym (ap (λ (l : Ledger). l.v
 
 like-searched : (s t : State) → IsLike s t → IsLike (once_searched s) (once_searched t)
 like-searched s t k = record {
-  naming = k.naming;
-  ever_hidden = k.ever_hidden;
-  clauses = k.clauses;
-  assumptions = k.assumptions;
-  counted = k.counted;
-  verdict = k.verdict;
-  ledger = k.ledger;
+  same = ap once_searched k.same;
   told = k.told;
   derived = k.derived;
   stays = k.stays;
@@ -68,12 +64,12 @@ ends-well s t (Err e) h v = absurd h
 
 -- no way led back from a step, or the solver was invalid
 pub ends-early : (s t : State) (r : Result Bool SolverError) → Searches s r t → is_valid t ≡ false → Solves s r t
-ends-early s t (Ok b) h v = let z : true ≡ false = sym h.valid ∙ ap (λ (l : Ledger). l.valid) (sym h.rest.ledger) ∙ v in absurd cc
-ends-early s t (Err Interrupted) h v = let z : true ≡ false = sym h.valid ∙ ap (λ (l : Ledger). l.valid) (sym h.rest.ledger) ∙ v in absurd cc
+ends-early s t (Ok b) h v = let z : true ≡ false = sym h.valid ∙ ap (λ (l : Ledger). l.valid) (sym (same-ledger h.rest)) ∙ v in absurd cc
+ends-early s t (Err Interrupted) h v = let z : true ≡ false = sym h.valid ∙ ap (λ (l : Ledger). l.valid) (sym (same-ledger h.rest)) ∙ v in absurd cc
 ends-early s t (Err Invalid) h v = h
 ends-early s t (Err OutOfMemory) h v = h
 ends-early s t (Err ClauseStoreFull) h v = h
-ends-early s t (Err (ProofIoError cause)) (o, u, c, b) v = (o, record { known = λ n. absurd (n u); unknown = λ _. c }, inl (u, b))
+ends-early s t (Err (ProofIoError cause)) (o, u, c, b) v = (o, Searched u c, inl (u, b))
 ends-early s t (Err e) h v = absurd h
 
 -- the steps are counted alike, whatever the call returns then
@@ -102,13 +98,16 @@ pub ends-badly : (s t : State) (r : Result Bool SolverError) (cause : Error) (no
     IsWellFormed t → GoesOnFailing 1 (searched_under t.proof) now → Solves s (Err (ProofIoError cause)) (broken now t.words t)
 ends-badly s t (Ok b) cause now h v o w f = (
   open-before s.proof t.proof h.rest.proof o,
-  record { known = λ n. (h.known n).1; unknown = λ u. counts-otherwise s t (Ok b) cause (h.steps u) },
-  inr (broken-after s t now h.valid h.rest.ledger (goes-on-searched s.proof t.proof h.rest.proof) f w),
+  ⊎_elim
+      (λ u. Searched u (counts-otherwise s t (Ok b) cause (h.steps u)))
+      (λ n. Decided n (h.known n).1 (λ v. absurd (let z : false ≡ true = v in cc)))
+      (is-unknown-or-not s.verdict),
+  inr (broken-after s t now h.valid (same-ledger h.rest) (goes-on-searched s.proof t.proof h.rest.proof) f w),
 )
 ends-badly s t (Err Interrupted) cause now h v o w f = (
   open-before s.proof t.proof h.rest.proof o,
-  record { known = λ n. absurd (n h.unknown); unknown = λ _. counts-otherwise s t (Err Interrupted) cause h.steps },
-  inr (broken-after s t now h.valid h.rest.ledger (goes-on-searched s.proof t.proof h.rest.proof) f w),
+  Searched h.unknown (counts-otherwise s t (Err Interrupted) cause h.steps),
+  inr (broken-after s t now h.valid (same-ledger h.rest) (goes-on-searched s.proof t.proof h.rest.proof) f w),
 )
 ends-badly s t (Err Invalid) cause now h v o w f = let z : false ≡ true = sym h.0 ∙ ap (λ (x : State). is_valid x) (sym h.1) ∙ v in absurd cc
 ends-badly s t (Err OutOfMemory) cause now h v o w f = absurd (invalid-valid _ _ t h.2 v)

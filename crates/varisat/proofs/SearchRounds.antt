@@ -1,6 +1,6 @@
 -- Searches in turn, each under a limit of its own: those that are interrupted and the one behind them come to what one search comes
 -- to under the limits together.
-use Rattle.std.proofs.Common.{◌≡◌, ◌≢◌, ℕ, zero, suc, ◌+◌, ◌-◌, ◌*◌, ◌^◌, ◌<◌, ◌≤◌, Bool, true, false, List, [], ◌++◌, ◌⊎◌, inl, inr, ⊎_elim, Result, Ok, Err, length, sym, ap, ◌∙◌, subst, refl, arith, append_assoc}
+use Rattle.std.proofs.Common.{◌≡◌, ◌≢◌, ℕ, zero, suc, ◌+◌, ◌-◌, ◌^◌, ◌<◌, ◌≤◌, Bool, true, false, List, [], ◌++◌, ◌⊎◌, inl, inr, ⊎_elim, Result, Ok, Err, length, sym, ap, ◌∙◌, subst, refl, arith, append_assoc}
 use Rattle.std.proofs.lemmas.List.{append-nil, append_cancel_left}
 use Rattle.varisat_theory.specs.CallBounds.{AreFew}
 use Rattle.varisat_theory.specs.Journals.{Entry, GoesOn}
@@ -9,13 +9,14 @@ use Rattle.varisat_theory.proofs.Journals.{goes_on_further}
 use Rattle.varisat_theory.proofs.NewClauses.{goes_adding_none, goes_adding_further}
 use Rattle.varisat_names.specs.Settings.{Settings}
 use Rattle.varisat.specs.Budgets.{CountsSteps}
-use Rattle.varisat.specs.Calls.{TellsVerdict, IsInterrupted, Invalidates, IsStoreFull, Searches, with_steps, with_max_steps}
-use Rattle.varisat.specs.Journals.{TellsMore, AreDerived}
+use Rattle.varisat.specs.Calls.{TellsVerdict, IsInterrupted, Invalidates, IsStoreFull, Searches, with_steps, with_max_steps, with_verdict}
+use Rattle.varisat.specs.Journals.{retold, TellsMore, AreDerived}
 use Rattle.varisat.specs.Names.{Naming}
 use Rattle.varisat.specs.OpenProofs.{GoesOnWriting, lines_over}
 use Rattle.varisat.specs.States.{State, Ledger, Unknown}
 use Rattle.varisat.specs.declared.solver.SolverError.{SolverError}
 use Rattle.varisat.specs.declared.solver.SolverError.TheVariants.{Interrupted, ProofIoError, OutOfMemory, Invalid, ClauseStoreFull, WitnessVar, VariableLimit, AssumedVar, ClauseAfterSolve, ProofOpen, ProofTooLate, ConfigOutOfRange, Dimacs}
+use Rattle.varisat.proofs.LikeStates.{same-assumptions, same-by, same-clauses, same-counted, same-hidden, same-ledger, same-naming, same-verdict}
 use Rattle.varisat.proofs.CallStates.{ledger-is}
 use Rattle.varisat.proofs.OpenProofs.{goes-on-none, goes-on-through, goes-on-failing, open-before}
 use Rattle.varisat.proofs.ToldEntries.{tells-nothing, nothing-derived, stays-nothing, derived-through, ends-through}
@@ -135,19 +136,19 @@ goes-on k a s m t w e small =
     let same : t.ledger.steps - m.ledger.steps ≡ c.made = omega (arith, count) in
     let all = counts-on k a (a + k) s m t.ledger.steps (Err Interrupted) w c (omega arith) (λ z. refl) small in
     record {
-      naming = e.rest.naming ∙ w.naming;
-      ever_hidden = e.rest.ever_hidden ∙ w.ever_hidden;
-      clauses = e.rest.clauses ∙ w.clauses;
-      assumptions = e.rest.assumptions ∙ w.assumptions;
-      counted = e.rest.counted ∙ w.counted;
-      verdict = e.rest.verdict ∙ w.verdict;
+      naming = (same-naming e.rest) ∙ w.naming;
+      ever_hidden = (same-hidden e.rest) ∙ w.ever_hidden;
+      clauses = (same-clauses e.rest) ∙ w.clauses;
+      assumptions = (same-assumptions e.rest) ∙ w.assumptions;
+      counted = (same-counted e.rest) ∙ w.counted;
+      verdict = (same-verdict e.rest) ∙ w.verdict;
       variables = e.variables ∙ w.variables;
-      valid = ap (λ (l : Ledger). l.valid) e.rest.ledger ∙ w.valid;
-      started = ap (λ (l : Ledger). l.started) e.rest.ledger ∙ w.started;
-      checking = ap (λ (l : Ledger). l.checking) e.rest.ledger ∙ w.checking;
-      since = ap (λ (l : Ledger). l.since) e.rest.ledger
+      valid = ap (λ (l : Ledger). l.valid) (same-ledger e.rest) ∙ w.valid;
+      started = ap (λ (l : Ledger). l.started) (same-ledger e.rest) ∙ w.started;
+      checking = ap (λ (l : Ledger). l.checking) (same-ledger e.rest) ∙ w.checking;
+      since = ap (λ (l : Ledger). l.since) (same-ledger e.rest)
           ∙ more-since s.ledger.since m.ledger.since s.ledger.steps m.ledger.steps t.ledger.steps w.made c.made w.since w.count c.count;
-      settings = ap (λ (l : Ledger). beside_limit l.settings) e.rest.ledger ∙ w.settings;
+      settings = ap (λ (l : Ledger). beside_limit l.settings) (same-ledger e.rest) ∙ w.settings;
       made = w.made + c.made;
       count = omega (arith, count, first);
       budget = all.budget;
@@ -223,15 +224,11 @@ all-interrupted n s t w valid unknown counts =
       unknown = unknown;
       steps = counts;
       rest = record {
-        naming = w.naming;
-        ever_hidden = w.ever_hidden;
-        clauses = w.clauses;
-        assumptions = w.assumptions;
-        counted = w.counted;
-        verdict = w.verdict;
-        ledger = ledger-is (with_max_steps n t).ledger s.ledger.valid s.ledger.started t.ledger.steps
+        same = same-by (retold t.told (with_steps t.ledger.steps (with_max_steps n s))) (with_max_steps n t) w.naming w.ever_hidden w.clauses
+            w.assumptions w.counted w.verdict
+            (ledger-is (with_max_steps n t).ledger s.ledger.valid s.ledger.started t.ledger.steps
             (s.ledger.since + (t.ledger.steps - s.ledger.steps)) (record s.ledger.settings { max_steps = n }) s.ledger.checking w.valid w.started
-            refl w.since (ap (λ (c : Settings). record c { max_steps = n }) w.settings) w.checking;
+            refl w.since (ap (λ (c : Settings). record c { max_steps = n }) w.settings) w.checking);
         told = (stays-nothing t.told).0;
         derived = (stays-nothing t.told).2;
         stays = λ _. (stays-nothing t.told).1;
@@ -261,14 +258,11 @@ verdict-on k n a s m t b w least small v =
       answer = v.answer;
       right = v.right;
       rest = record {
-        naming = v.rest.naming ∙ w.naming;
-        ever_hidden = v.rest.ever_hidden ∙ w.ever_hidden;
-        clauses = v.rest.clauses ∙ w.clauses;
-        assumptions = v.rest.assumptions ∙ w.assumptions;
-        counted = v.rest.counted ∙ w.counted;
-        verdict = v.rest.verdict;
-        ledger = ledger-on k n a s m t s.ledger.valid w low
-            (v.rest.ledger ∙ ap (λ x. record (with_steps t.ledger.steps (with_max_steps k m)).ledger { valid = x }) w.valid);
+        same = same-by (retold t.told (with_verdict t.verdict (with_steps t.ledger.steps (with_max_steps n s)))) (with_max_steps n t)
+            (same-naming v.rest ∙ w.naming) (same-hidden v.rest ∙ w.ever_hidden) (same-clauses v.rest ∙ w.clauses)
+            (same-assumptions v.rest ∙ w.assumptions) (same-counted v.rest ∙ w.counted) (same-verdict v.rest)
+            (ledger-on k n a s m t s.ledger.valid w low
+            (same-ledger v.rest ∙ ap (λ x. record (with_steps t.ledger.steps (with_max_steps k m)).ledger { valid = x }) w.valid));
         told = v.rest.told;
         derived = v.rest.derived;
         stays = v.rest.stays;

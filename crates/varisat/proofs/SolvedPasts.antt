@@ -8,15 +8,16 @@ use Rattle.varisat_proof.specs.Assumed.{lists_of}
 use Rattle.varisat.specs.States.{State, Verdict, Unknown, Sat, Unsat, UnsatUnderAssumptions, IsRight}
 use Rattle.varisat.specs.Journals.{retold, EndBy}
 use Rattle.varisat.specs.Calls as state
-use Rattle.varisat.specs.Calls.{IsValid, CountsCall, FailsSearch, FailsTarget, IsSpent, with_steps, with_verdict, once_searched, answer_of}
+use Rattle.varisat.specs.Calls.{CountsIf, Decided, Searched, FailsSearch, FailsTarget, IsSpent, with_steps, with_verdict, once_searched, answer_of}
 use Rattle.varisat.specs.Pasts as past
 use Rattle.varisat.specs.Pasts.{Findings, IsUndecided, answered}
 use Rattle.varisat.specs.declared.solver.SolverError.{SolverError}
 use Rattle.varisat.specs.declared.solver.SolverError.TheVariants.{Interrupted, ProofIoError, OutOfMemory, Invalid, ClauseStoreFull}
+use Rattle.varisat.proofs.LikeStates.{same-assumptions, same-clauses, same-counted, same-naming, same-verdict}
 use Rattle.varisat.proofs.VerdictAnswers.{is-unknown-or-not, answer-sat, right-false}
 use Rattle.varisat.proofs.PastJournals.{told-more, told-interrupted, said-nothing, nothing-said}
 use Rattle.varisat.proofs.GivenEntries.{lists-derived, lists-ended, lists-on}
-use Rattle.varisat.proofs.Pasts.{IsCapped, Knows, Agrees, Leads, past_of, like-past, broken-past, no-way, breaks, stays, refuted, right-like}
+use Rattle.varisat.proofs.Pasts.{IsCapped, Knows, Agrees, Leads, past_of, like-past, broken-past, breaks, stays, refuted, right-like}
 
 -- no list of assumptions is given by a call that solves
 lists-solved : (s t : State) (b : Bool) → state.TellsVerdict s b t → lists_of t.told ≡ lists_of s.told
@@ -30,7 +31,7 @@ solved : (v : Findings) (s t : State) (b : Bool) → Knows v s → state.TellsVe
 solved v s t b k r =
     let e = r.rest in
     record {
-      capped = subst IsCapped (sym e.naming) k.capped;
+      capped = subst IsCapped (sym (same-naming e)) k.capped;
       lists = lists-solved (once_searched s) t b r ∙ k.lists;
       model = λ x. r.answer ∙ ap Some x;
       found = λ x. told-true b (sym r.answer ∙ x);
@@ -65,12 +66,18 @@ known-by v s k n = go s.verdict refl
     go (UnsatUnderAssumptions core) e = inr (inl (k.core core e))
 
 -- how the steps are counted of a call whether or not the verdict is known
-counted-if : (v w : Findings) (s t : State) (r : Result Bool SolverError) → Knows v s → (s.verdict ≢ Unknown → t.ledger.steps ≡ s.ledger.steps) →
-    (s.verdict ≢ Unknown → IsValid t → t.told ≡ s.told) → (s.verdict ≡ Unknown → CountsCall s r t) → past.CountsIfUnknown (past_of v s) r (past_of w t)
-counted-if v w s t r k known told unknown =
+counted-if : (v w : Findings) (s t : State) (r : Result Bool SolverError) → Knows v s → CountsIf (s.verdict ≢ Unknown) (s.verdict ≡ Unknown) s r t →
+    past.CountsSearch (past_of v s) r (past_of w t)
+counted-if v w s t r k (Searched u c) = Searched (undecided v s k u) c
+counted-if v w s t r k (Decided n e told) = Decided (known-by v s k n) e told
+
+-- and of one that returns a verdict
+counted : (v w : Findings) (s t : State) (b : Bool) → Knows v s → state.TellsVerdict (once_searched s) b t →
+    past.CountsSearch (past_of v s) (Ok b) (past_of w t)
+counted v w s t b k r =
     ⊎_elim
-    (λ u. past.Searched (undecided v s k u) (unknown u))
-    (λ n. past.Decided (known-by v s k n) (known n) (told n))
+    (λ u. Searched (undecided v s k u) (r.steps u))
+    (λ n. let (x, steps, told) = r.known n in Decided (known-by v s k n) steps (λ c. told))
     (is-unknown-or-not s.verdict)
 
 -- some assignment satisfies the clauses and the assumptions where true is returned
@@ -78,7 +85,7 @@ some-with : (s t : State) → state.TellsVerdict (once_searched s) true t → Is
 some-with s t r =
     let (a, e) = answer-sat t.verdict r.answer in
     let right = subst (IsRight t.clauses t.assumptions t.counted) e r.right in
-    (a, subst (SatisfiesAll a) r.rest.clauses right.0, subst (MakesTrue a) r.rest.assumptions right.1)
+    (a, subst (SatisfiesAll a) (same-clauses r.rest) right.0, subst (MakesTrue a) (same-assumptions r.rest) right.1)
 
 -- what was told refutes where false is returned and nothing assumed
 conflict-told : (s t : State) → state.TellsVerdict (once_searched s) false t → s.assumptions ≡ [] → ToldConflict t.told
@@ -94,13 +101,13 @@ conflict-told s t r n = go t.verdict refl
     go Unsat e = r.refuted e
     go (UnsatUnderAssumptions list) e =
         let fails = subst (IsRight t.clauses t.assumptions t.counted) e r.right in
-        absurd (r.core list e (none list (subst (λ A. list ⊆ A) (r.rest.assumptions ∙ n) fails.0)))
+        absurd (r.core list e (none list (subst (λ A. list ⊆ A) ((same-assumptions r.rest) ∙ n) fails.0)))
 
 -- and none does where false is
 none-with : (s t : State) → state.TellsVerdict (once_searched s) false t → IsSatisfiableWith s.clauses s.assumptions → ⊥
 none-with s t r =
-    subst (λ P. IsSatisfiableWith P s.assumptions → ⊥) r.rest.clauses
-    (subst (λ A. IsSatisfiableWith t.clauses A → ⊥) r.rest.assumptions (right-false t.clauses t.assumptions t.counted t.verdict r.answer r.right))
+    subst (λ P. IsSatisfiableWith P s.assumptions → ⊥) (same-clauses r.rest)
+    (subst (λ A. IsSatisfiableWith t.clauses A → ⊥) (same-assumptions r.rest) (right-false t.clauses t.assumptions t.counted t.verdict r.answer r.right))
 
 -- what is told where true is returned
 tells-true : (v w : Findings) (s t : State) → state.TellsVerdict (once_searched s) true t → past.TellsTrue (past_of v s) (past_of w t)
@@ -110,9 +117,9 @@ tells-true v w s t r = go t.verdict refl (is-unknown-or-not s.verdict)
     go x e (inr n) =
         let nothing = (r.known n).2 in
         let more = t.ledger.steps - s.ledger.steps in
-        record { told = said-nothing more s.told t.told nothing; derived = nothing-said more s.told t.told nothing }
+        (said-nothing more s.told t.told nothing, nothing-said more s.told t.told nothing)
     go Unknown e (inl u) = absurd (let z : None ≡ Some true = ap answer_of (sym e) ∙ r.answer in cc)
-    go (Sat a) e (inl u) = record { told = r.told; derived = subst (λ v. EndBy v r.told.entries) e (r.ends u) }
+    go (Sat a) e (inl u) = (r.told, subst (λ v. EndBy v r.told.entries) e (r.ends u))
     go Unsat e (inl u) = absurd (let z : Some false ≡ Some true = ap answer_of (sym e) ∙ r.answer in let y : false ≡ true = cc in cc)
     go (UnsatUnderAssumptions core) e (inl u) =
         absurd (let z : Some false ≡ Some true = ap answer_of (sym e) ∙ r.answer in let y : false ≡ true = cc in cc)
@@ -131,7 +138,7 @@ tells-false v w s t k r = go t.verdict refl (is-unknown-or-not s.verdict)
         past.Refuted (said-nothing more s.told t.told nothing) (nothing-said more s.told t.told nothing) (r.refuted e)
     go (UnsatUnderAssumptions core) e (inl u) =
         let fails = subst (IsRight t.clauses t.assumptions t.counted) e r.right in
-        past.Failed r.told core (subst (λ A. core ⊆ A) r.rest.assumptions fails.0) (subst (λ v. EndBy v r.told.entries) e (r.ends u))
+        past.Failed r.told core (subst (λ A. core ⊆ A) (same-assumptions r.rest) fails.0) (subst (λ v. EndBy v r.told.entries) e (r.ends u))
     go (UnsatUnderAssumptions core) e (inr n) = past.Again (k.core core (sym (r.known n).0 ∙ e)) (r.known n).2
 
 -- a call is interrupted
@@ -140,15 +147,15 @@ interrupted : (v : Findings) (s t : State) → Knows v s → state.IsInterrupted
 interrupted v s t k r =
     let e = r.rest in
     record {
-      capped = subst IsCapped (sym e.naming) k.capped;
+      capped = subst IsCapped (sym (same-naming e)) k.capped;
       lists = lists-on s.told t.told r.told (lists-derived r.told.entries r.derived) ∙ k.lists;
-      model = λ x. ap answer_of e.verdict ∙ k.model x;
-      found = λ x. k.found (sym (ap answer_of e.verdict) ∙ x);
-      failed = λ x. ap answer_of e.verdict ∙ k.failed x;
-      core = λ l h. k.core l (sym e.verdict ∙ h);
-      some = λ l h. k.some l (sym e.verdict ∙ h);
+      model = λ x. ap answer_of (same-verdict e) ∙ k.model x;
+      found = λ x. k.found (sym (ap answer_of (same-verdict e)) ∙ x);
+      failed = λ x. ap answer_of (same-verdict e) ∙ k.failed x;
+      core = λ l h. k.core l (sym (same-verdict e) ∙ h);
+      some = λ l h. k.some l (sym (same-verdict e) ∙ h);
       told = told-interrupted (t.ledger.steps - s.ledger.steps) (t.ledger.steps - s.ledger.steps) s.told t.told v.interrupted_steps k.told r.told r.adds;
-      right = right-like t s.clauses s.assumptions s.counted s.verdict e.clauses e.assumptions e.counted e.verdict k.right;
+      right = right-like t s.clauses s.assumptions s.counted s.verdict (same-clauses e) (same-assumptions e) (same-counted e) (same-verdict e) k.right;
     }
 
 -- and its steps are spent
@@ -177,13 +184,13 @@ pub solve : (v : Findings) (s t : State) (r : Result Bool SolverError) → Agree
 solve v s t (Ok true) g r =
     let k = g r.valid in
     let w = answered true v in
-    let few = counted-if v w s t (Ok true) k (λ n. (r.known n).1) (λ n c. (r.known n).2) r.steps in
+    let few = counted v w s t true k r in
     let rest = like-past w (retold t.told (with_verdict t.verdict (with_steps t.ledger.steps (once_searched s)))) t r.rest in
     (w, (r.valid, some-with s t r, few, tells-true v w s t r, rest), λ _. solved v s t true k r)
 solve v s t (Ok false) g r =
     let k = g r.valid in
     let w = answered false v in
-    let few = counted-if v w s t (Ok false) k (λ n. (r.known n).1) (λ n c. (r.known n).2) r.steps in
+    let few = counted v w s t false k r in
     let rest = like-past w (retold t.told (with_verdict t.verdict (with_steps t.ledger.steps (once_searched s)))) t r.rest in
     (w, (r.valid, none-with s t r, few, tells-false v w s t k r, conflict-told s t r, rest), λ _. solved v s t false k r)
 solve v s t (Err OutOfMemory) g (u, c, b) =
@@ -193,12 +200,12 @@ solve v s t (Err ClauseStoreFull) g (u, c, b, full) =
 solve v s t (Err (ProofIoError cause)) g (o, c, inl (u, b)) =
     let k = g b.valid in
     let m = with_steps t.ledger.steps s in
-    let few = counted-if v v s t (Err (ProofIoError cause)) k c.known (λ n z. absurd (no-way m t b z)) c.unknown in
+    let few = counted-if v v s t (Err (ProofIoError cause)) k c in
     (v, (o, few, inl (undecided v s k u, broken-past 1 v m t b)), breaks v m t b)
 solve v s t (Err (ProofIoError cause)) g (o, c, inr b) =
     let k = g b.valid in
     let m = with_steps t.ledger.steps (once_searched s) in
-    let few = counted-if v v s t (Err (ProofIoError cause)) k c.known (λ n z. absurd (no-way m t b z)) c.unknown in
+    let few = counted-if v v s t (Err (ProofIoError cause)) k c in
     (v, (o, few, inr (broken-past 1 v m t b)), breaks v m t b)
 solve v s t (Err Interrupted) g r =
     let k = g r.valid in

@@ -1,5 +1,5 @@
 -- What the solver's calls do to the states that it stands for.
-use Rattle.std.proofs.Common.{Result, Ok, Err, Vec, ◌≡◌, ◌≢◌, ◌↔◌, if◌then◌else◌, ℕ, zero, suc, ◌+◌, ◌-◌, ◌*◌, ◌^◌, ◌<◌, ◌≤◌, Bool, true, false, not, Option, Some, None, List, [], ◌∷◌, ◌++◌, ◌⊎◌, inl, inr, ⊎_elim, length, map, get_or, sym, ap, ◌∙◌, subst, refl, arith}
+use Rattle.std.proofs.Common.{Result, Ok, Err, Vec, ◌≡◌, ◌≢◌, ◌↔◌, if◌then◌else◌, ℕ, zero, suc, ◌+◌, ◌-◌, ◌<◌, ◌≤◌, Bool, true, false, not, Option, Some, None, List, [], ◌∷◌, ◌++◌, ◌⊎◌, inl, inr, ⊎_elim, length, map, get_or, sym, ap, ◌∙◌, subst, refl, arith}
 use Rattle.varisat_theory.specs.Membership.{◌∈◌}
 use Rattle.varisat_theory.specs.Literals.{Literal, Clause, Assignment, variable_of, literal_of, IsSatisfiableWith, IsFailedCore}
 use Rattle.varisat_literals.specs.Numbers.{polarity_of}
@@ -33,7 +33,7 @@ use Rattle.varisat.specs.declared.solver.SolverError.{SolverError}
 use Rattle.varisat.specs.States.{State, Ledger, Verdict, Unknown, Sat, Unsat, UnsatUnderAssumptions, IsRight, empty_state}
 use Rattle.varisat.specs.Names.{Naming, bring, bring_next, bring_if_free, name_one, IsLeastFree, through_names}
 use Rattle.varisat.specs.Models.{put_name, model_of, IsCompletable, core_of, IsCoreToTell}
-use Rattle.varisat.specs.Calls.{with_naming, IsValid, TellsModel, TellsCore, TellsVerdict, answer_of, with_verdict}
+use Rattle.varisat.specs.Calls.{with_naming, IsValid, TellsModel, TellsCore, TellsVerdict, answer_of, with_verdict, with_steps}
 use Rattle.varisat.specs.Told.{told_list}
 use Rattle.std.specs.Option.{IsSome}
 use Rattle.std.specs.Result.{IsErr}
@@ -48,6 +48,7 @@ use Rattle.std.proofs.lemmas.List.{append-nil}
 use Rattle.varisat_theory.specs.Journals.{Entry, Fails, written}
 use Rattle.varisat_trace.specs.Traces.{TakesStep}
 use Rattle.varisat_tracer.specs.Carried.{told_as}
+use Rattle.varisat.proofs.LikeStates.{same-by}
 use Rattle.varisat.proofs.ToldProofs.{proof-told}
 use Rattle.varisat_proof.specs.Passing.{ToldConflict}
 use Rattle.varisat.specs.Journals.{retold, TellsMore}
@@ -579,16 +580,10 @@ known-told g s b st v e =
       answer = a;
       right = (st.fits v).1.right;
       rest = record {
-        naming = refl;
-        ever_hidden = refl;
-        clauses = refl;
-        assumptions = refl;
-        counted = refl;
-        verdict = refl;
-        ledger =
-            ledger-is s.ledger s.ledger.valid s.ledger.started s.ledger.steps
+        same = same-by (with_steps s.ledger.steps s) s refl refl refl refl refl refl
+            (ledger-is s.ledger s.ledger.valid s.ledger.started s.ledger.steps
             (s.ledger.since + (s.ledger.steps - s.ledger.steps)) s.ledger.settings s.ledger.checking refl refl refl
-            (none-more s.ledger.since s.ledger.steps) refl refl;
+            (none-more s.ledger.since s.ledger.steps) refl refl);
         told = (stays-nothing s.told).0;
         derived = (stays-nothing s.told).2;
         stays = λ _. (stays-nothing s.told).1;

@@ -31,7 +31,7 @@ use Rattle.varisat_search.proofs.DueReductions.{keeps-are}
 use Rattle.varisat_search.proofs.RestartSteps.{Begun, begun-view}
 use Rattle.varisat_search.proofs.SolverVariables.{in-use-all}
 use Rattle.varisat.specs.Budgets.{CountsSteps}
-use Rattle.varisat.specs.Calls.{IsValid, TellsVerdict, IsInterrupted, CountsCall, answer_of, with_verdict}
+use Rattle.varisat.specs.Calls.{IsValid, TellsVerdict, IsInterrupted, CountsCall, answer_of, with_verdict, with_steps}
 use Rattle.varisat.specs.declared.solver.SolverError.TheVariants.{Interrupted}
 use Rattle.varisat_proof.specs.Passing.{ToldConflict}
 use Rattle.varisat.specs.Journals.{retold, TellsLeaving}
@@ -40,6 +40,7 @@ use Rattle.varisat.specs.Searches.{answer_at, TellsSome, ComesTo, ComesOn, Makes
 use Rattle.varisat.specs.Spaces.{Spaces, translation, VerdictFits, SpacesFit}
 use Rattle.varisat.specs.States.{State, Verdict, Unknown, Unsat, HasRightVerdict, IsRight, FlagsFit}
 use Rattle.varisat.specs.Summaries.{IsKept, spaces_of, spaces_with, undecided_spaces}
+use Rattle.varisat.proofs.LikeStates.{same-by}
 use Rattle.varisat.proofs.AcceptClause.{ledger-free, proof-free, words-free}
 use Rattle.varisat.proofs.CallStates.{ledger-is, none-more, like-grown}
 use Rattle.varisat.proofs.ModelsFit.{is-sat, is-unknown}
@@ -312,14 +313,8 @@ module _ {A : Type 0} {k : ℕ} {s : State} {p q : ProofParts} (m : Tables) (y :
     unknown = was;
     steps = counts;
     rest = record {
-      naming = refl;
-      ever_hidden = refl;
-      clauses = refl;
-      assumptions = refl;
-      counted = refl;
-      verdict = unknown
-          ∙ sym was;
-      ledger = refl;
+      same = same-by (retold c.told (with_verdict s.verdict (with_steps n s))) (after-solve c.told c.verdict n now words s) refl refl refl refl refl
+          (unknown ∙ sym was) refl;
       told = (stays-nothing c.told).0;
       derived = (stays-nothing c.told).2;
       stays = λ _. (stays-nothing c.told).1;
@@ -347,16 +342,10 @@ interrupted-still s valid was counts =
       unknown = was;
       steps = counts;
       rest = record {
-        naming = refl;
-        ever_hidden = refl;
-        clauses = refl;
-        assumptions = refl;
-        counted = refl;
-        verdict = refl;
-        ledger =
-            ledger-is s.ledger s.ledger.valid s.ledger.started s.ledger.steps
+        same = same-by (with_steps s.ledger.steps s) s refl refl refl refl refl refl
+            (ledger-is s.ledger s.ledger.valid s.ledger.started s.ledger.steps
             (s.ledger.since + (s.ledger.steps - s.ledger.steps)) s.ledger.settings s.ledger.checking refl refl refl
-            (none-more s.ledger.since s.ledger.steps) refl refl;
+            (none-more s.ledger.since s.ledger.steps) refl refl);
         told = (stays-nothing s.told).0;
         derived = (stays-nothing s.told).2;
         stays = λ _. (stays-nothing s.told).1;

@@ -215,7 +215,6 @@ proof-of g s st v p e =
     let j = journal-of g s st v in
     let w : IsWrittenAs s.variables s.told p = subst (IsWrittenWhereOpen s.variables s.told) e j.written in
     record {
-      variables = s.variables;
       written = w;
       drat = λ n. w ∙ plain-bytes p.format n (entries_over s.variables s.told)
           ∙ ap (λ ls. lines_written (encoding_of p.format) (plain_lines ls)) (lines-renamed (carry s.variables) s.told);

@@ -38,13 +38,7 @@ IsValid s = is_valid s ≡ true
 -- that leave, for further bytes of an open proof, and for the words of the clause store. Variables left only where they may, and the
 -- lines told before are written as they were.
 pub record IsLikeButLeft {V : Type 0} (may_leave : Bool) (s t : Known V) : Type 0 where
-  pub naming : t.naming ≡ s.naming
-  pub ever_hidden : t.ever_hidden ≡ s.ever_hidden
-  pub clauses : t.clauses ≡ s.clauses
-  pub assumptions : t.assumptions ≡ s.assumptions
-  pub counted : t.counted ≡ s.counted
-  pub verdict : t.verdict ≡ s.verdict
-  pub ledger : t.ledger ≡ s.ledger
+  pub same : t ≡ record s { told = t.told; variables = t.variables; proof = t.proof; words = t.words }
   pub told : TellsMore 0 s.told t.told
   pub derived : AreDerived told.entries
   pub stays : may_leave ≡ false → entry.NoneLeaves told.entries
@@ -236,6 +230,11 @@ pub record IsSpent {V : Type 0} (is_unknown : Type 0) (v : V) (s t : Known V) : 
   -- where no step was made nothing changed
   pub still : t.ledger.steps ≡ s.ledger.steps → t ≡ s
 
+-- How the steps are counted that a call makes, by its answer: none is made, and nothing told, where the verdict is known.
+pub data CountsIf {V : Type 0} (known unknown : Type 0) (s : Known V) (r : Result Bool SolverError) (t : Known V) : Type 0 where
+  Decided : known → t.ledger.steps ≡ s.ledger.steps → (IsValid t → t.told ≡ s.told) → CountsIf known unknown s r t
+  Searched : unknown → CountsCall s r t → CountsIf known unknown s r t
+
 -- How a call of `solve` is refused, or fails where the verdict is unknown.
 abbrev pub FailsSearch : {V : Type 0} → Type 0 → Known V → SolverError → Known V → Type 0
 FailsSearch unknown s Invalid t = IsRefusedInvalid s t
@@ -351,17 +350,12 @@ Searches s (Err e) t = FailsSearch (s.verdict ≡ Unknown) s e t
 abbrev pub SearchesWithin : ℕ → State → Result Bool SolverError → State → Type 0
 SearchesWithin max_steps s r t = Searches (with_max_steps max_steps s) r (with_max_steps max_steps t)
 
--- how the steps are counted that a call makes, by its answer: none where the verdict is known
-pub record CountsIfUnknown (s : State) (r : Result Bool SolverError) (t : State) : Type 0 where
-  pub known : s.verdict ≢ Unknown → t.ledger.steps ≡ s.ledger.steps
-  pub unknown : s.verdict ≡ Unknown → CountsCall s r t
-
 -- Steps are made, and then an open proof is marked as one under which `solve` was called, and flushed, also where the verdict was
 -- known. Its target may fail in a step, or as it is flushed.
 abbrev pub Solves : State → Result Bool SolverError → State → Type 0
 Solves s (Ok b) t = TellsVerdict (once_searched s) b t
 Solves s (Err (ProofIoError cause)) t =
-    IsOpen s.proof × CountsIfUnknown s (Err (ProofIoError cause)) t × FailsTarget (s.verdict ≡ Unknown) s t
+    IsOpen s.proof × CountsIf (s.verdict ≢ Unknown) (s.verdict ≡ Unknown) s (Err (ProofIoError cause)) t × FailsTarget (s.verdict ≡ Unknown) s t
 Solves s (Err Interrupted) t = IsInterrupted (once_searched s) t
 Solves s (Err e) t = FailsSearch (s.verdict ≡ Unknown) s e t
 

@@ -17,7 +17,7 @@ use Rattle.varisat.specs.States.{Known, first_known}
 use Rattle.varisat.specs.OpenProofs.{IsOpen}
 use Rattle.varisat.specs.Journals.{TellsMore, IsToldWithin, AreDerived, EndWithCore}
 use Rattle.varisat.specs.Models.{IsCompletable, AreNamesInUse}
-use Rattle.varisat.specs.Calls.{IsValid, CountsCall, once_searched, IsSolved, IsSpent, FailsSearch, FailsTarget, Verdicts}
+use Rattle.varisat.specs.Calls.{IsValid, CountsIf, once_searched, IsSolved, IsSpent, FailsSearch, FailsTarget, Verdicts}
 use Rattle.varisat.specs.declared.solver.SolverError.{SolverError}
 use Rattle.varisat.specs.declared.solver.SolverError.TheVariants.{Interrupted, ProofIoError}
 
@@ -57,12 +57,13 @@ pub record IsUndecided (p : Past) : Type 0 where
   pub no_model : p.verdict.has_model ≡ false
   pub no_core : p.verdict.has_core ≡ false
 
--- No step is made and nothing told where the verdict is known, which it is only where a model or a core was found last, or no
--- assignment satisfies the clauses; else the call's steps are counted. It is known wherever a model or a core was found last.
-pub data CountsIfUnknown (p : Past) (r : Result Bool SolverError) (q : Past) : Type 0 where
-  Decided : (p.verdict.has_model ≡ true) ⊎ ((p.verdict.has_core ≡ true) ⊎ (IsSatisfiable p.clauses → ⊥)) → q.ledger.steps ≡ p.ledger.steps →
-      (IsValid q → q.told ≡ p.told) → CountsIfUnknown p r q
-  Searched : IsUndecided p → CountsCall p r q → CountsIfUnknown p r q
+-- The verdict may be known only where a model or a core was found last, or no assignment satisfies the clauses.
+abbrev pub MayBeKnown : Past → Type 0
+MayBeKnown p = (p.verdict.has_model ≡ true) ⊎ ((p.verdict.has_core ≡ true) ⊎ (IsSatisfiable p.clauses → ⊥))
+
+-- How the steps are counted that a call makes. The verdict is known wherever a model or a core was found last.
+abbrev pub CountsSearch : Past → Result Bool SolverError → Past → Type 0
+CountsSearch p r q = CountsIf (MayBeKnown p) (IsUndecided p) p r q
 
 -- What a call tells that returns false: nothing where a core was found last. Else propagation over what is held conflicts then, or it
 -- conflicts with a core that is told at last, and is one of the assumptions.
@@ -73,9 +74,8 @@ pub data TellsFalse (p q : Past) : Type 0 where
       EndWithCore core m.entries → TellsFalse p q
 
 -- and one that returns true: lines, and which variables leave
-pub record TellsTrue (p q : Past) : Type 0 where
-  pub told : TellsMore (q.ledger.steps - p.ledger.steps) p.told q.told
-  pub derived : AreDerived told.entries
+abbrev pub TellsTrue : Past → Past → Type 0
+TellsTrue p q = (m : TellsMore (q.ledger.steps - p.ledger.steps) p.told q.told) × AreDerived m.entries
 
 -- the call returned this
 abbrev pub answered : Bool → Findings → Findings
@@ -91,12 +91,12 @@ interrupted steps v = record v { interrupted_steps = v.interrupted_steps + steps
 -- conflicts, and else with a core that it tells. An open proof is one then under which `solve` was called. Its target may fail in a step, or as it is flushed.
 abbrev pub Solves : Past → Result Bool SolverError → Past → Type 0
 Solves p (Ok true) q =
-    IsValid p × IsSatisfiableWith p.clauses p.assumptions × CountsIfUnknown p (Ok true) q × TellsTrue p q
+    IsValid p × IsSatisfiableWith p.clauses p.assumptions × CountsSearch p (Ok true) q × TellsTrue p q
     × IsSolved (answered true p.verdict) (once_searched p) q
 Solves p (Ok false) q =
-    IsValid p × (IsSatisfiableWith p.clauses p.assumptions → ⊥) × CountsIfUnknown p (Ok false) q × TellsFalse p q
+    IsValid p × (IsSatisfiableWith p.clauses p.assumptions → ⊥) × CountsSearch p (Ok false) q × TellsFalse p q
     × (p.assumptions ≡ [] → ToldConflict q.told) × IsSolved (answered false p.verdict) (once_searched p) q
-Solves p (Err (ProofIoError cause)) q = IsOpen p.proof × CountsIfUnknown p (Err (ProofIoError cause)) q × FailsTarget (IsUndecided p) p q
+Solves p (Err (ProofIoError cause)) q = IsOpen p.proof × CountsSearch p (Err (ProofIoError cause)) q × FailsTarget (IsUndecided p) p q
 Solves p (Err Interrupted) q = IsSpent (IsUndecided p) (interrupted (q.ledger.steps - p.ledger.steps) p.verdict) (once_searched p) q
 Solves p (Err e) q = FailsSearch (IsUndecided p) p e q
 

@@ -1,10 +1,17 @@
 -- Which answer and which new state the calls give that open and close a proof.
 use Rattle.std.specs.Prelude.{◌≡◌, true, false, Option, Some, None, Result, Ok, Err}
+use Rattle.varisat_theory.specs.Derivations.{IsDerivation, Refutes}
+use Rattle.varisat_theory.specs.Journals.{lines_of}
 use Rattle.varisat_formula.specs.Streams.{Taken}
+use Rattle.varisat_proof.specs.declared.proof.format.Encoding.TheVariants.{Text}
 use Rattle.varisat_proof.specs.declared.proof.format.ProofFormat.{ProofFormat}
+use Rattle.varisat_proof.specs.Lines.{encoding_of, plain_lines, has_marks}
 use Rattle.varisat_proof.specs.Proving.{IsClosed}
-use Rattle.varisat.specs.OpenProofs.{OpenProof, opened_state, IsOpen, first_proof}
-use Rattle.varisat.specs.ProofBytes.{AreBytesOfProof}
+use Rattle.varisat_proof.specs.Steps.{lines_written}
+use Rattle.varisat_proof.specs.Telling.{lines_told, bytes_told}
+use Rattle.varisat_proof.specs.Written.{AreInRange}
+use Rattle.varisat.specs.OpenProofs.{OpenProof, opened_state, IsOpen, first_proof, entries_over, lines_over, HaveOwnVariables}
+use Rattle.varisat.specs.ProofBytes.{IsMarkedDerivation}
 use Rattle.varisat.specs.States.{Known, State}
 use Rattle.varisat.specs.Calls.{IsValid, Invalidates, IsRefusedInvalid, count_anew, Verdicts, calling}
 use Rattle.varisat.specs.declared.solver.SolverError.{SolverError}
@@ -35,11 +42,19 @@ EnablesChecking s (Err ProofTooLate) t = IsValid s × (s.ledger.started ≡ true
 EnablesChecking s (Err _) t = ⊥
 
 module _ {V : Type 0} (by : Verdicts V) where
-  -- The bytes of the open proof are those of lines. As long as nothing was ever hidden these are all lines that were told, a derivation
-  -- from the accepted clauses, and they refute them where these are refuted; and those of a marked proof are one with the clauses and
-  -- the assumptions.
-  abbrev pub IsProof : Known V → OpenProof → Type 0
-  IsProof s p = AreBytesOfProof p.format p.bytes s.ever_hidden s.naming.made s.told s.clauses s.assumptions (by.disproves p.format s)
+  -- The bytes of an open proof are those of all that was told for which its format has lines, each identity as its variable, which is
+  -- its own until it leaves. In DRAT these are the lines that add or delete a clause. As long as nothing was ever hidden each entry is
+  -- written as it is, in numbers that a reader takes, the lines that add or delete a clause are a derivation from the clauses, and they
+  -- refute them where these are known to be unsatisfiable; and a marked proof is one of the clauses and the assumptions.
+  pub record IsProof (s : Known V) (p : OpenProof) : Type 0 where
+    pub written : p.bytes ≡ bytes_told p.format (entries_over s.variables s.told)
+    pub drat : has_marks p.format ≡ false → p.bytes ≡ lines_written (encoding_of p.format) (plain_lines (lines_over s.variables s.told))
+    pub apart : HaveOwnVariables s.variables s.naming.made s.told
+    pub plain : s.ever_hidden ≡ false → entries_over s.variables s.told ≡ s.told
+    pub in_range : s.ever_hidden ≡ false → AreInRange (lines_told (Text true) s.told)
+    pub derives : s.ever_hidden ≡ false → IsDerivation s.clauses (lines_of s.told)
+    pub refutes : s.ever_hidden ≡ false → by.disproves p.format s → Refutes s.clauses (lines_of s.told)
+    pub marked : s.ever_hidden ≡ false → IsMarkedDerivation s.told s.clauses s.assumptions (by.disproves p.format s)
 
   -- so it is where a proof is open
   abbrev pub IsProofIfOpen : Known V → Type 0

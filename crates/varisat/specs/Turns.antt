@@ -2,10 +2,11 @@
 use Rattle.std.specs.Prelude.{◌≡◌, List, [], ◌∷◌}
 use Rattle.varisat_formula.specs.Streams.{Stand, Taken}
 use Rattle.varisat.specs.States.{Known}
+use Rattle.varisat.specs.Names.{Sample, Witness}
 use Rattle.varisat.specs.Calls.{Verdicts, TakesOne, TakesList, MakesVar, Configures, TellsSteps, TellsSince, TellsValid}
 use Rattle.varisat.specs.ProofCalls.{OpensProof, EnablesChecking, Closes}
 use Rattle.varisat.specs.Additions.{AddsList, AddsText}
-use Rattle.varisat.specs.Usage.{SamplesVar, WitnessesVar, HidesVar, Observes}
+use Rattle.varisat.specs.Usage.{SetsMode, HidesVar, Observes}
 use Rattle.varisat.specs.Told.{told_list, told_vars}
 use Rattle.varisat.specs.declared.session.Call.{Call}
 use Rattle.varisat.specs.declared.session.Answer.{Answer}
@@ -20,8 +21,8 @@ module _ {V : Type 0} (by : Verdicts V) where
   Makes seen taken s (call.AddFormula f) (answer.AddFormula r) t = AddsList by s f.clauses r t
   Makes seen taken s (call.AddDimacsCnf source) (answer.AddDimacsCnf r back) t = AddsText by s (seen source) r (seen back) t
   Makes seen taken s call.NewVar (answer.NewVar r) t = MakesVar s r t
-  Makes seen taken s (call.SampleVar u) (answer.SampleVar r) t = SamplesVar s u r t
-  Makes seen taken s (call.WitnessVar u) (answer.WitnessVar r) t = WitnessesVar s u r t
+  Makes seen taken s (call.SampleVar u) (answer.SampleVar r) t = SetsMode Sample s u r t
+  Makes seen taken s (call.WitnessVar u) (answer.WitnessVar r) t = SetsMode Witness s u r t
   Makes seen taken s (call.HideVar u) (answer.HideVar r) t = HidesVar s u r t
   Makes seen taken s call.ObserveInternalVars (answer.ObserveInternalVars r) t = Observes s (told_vars r) t
   Makes seen taken s (call.Assume list) (answer.Assume r) t = TakesList by s list.items r t

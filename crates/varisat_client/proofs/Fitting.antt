@@ -13,6 +13,7 @@ use Rattle.varisat.specs.Counts.{count_with}
 use Rattle.varisat.specs.Calls.{IsPastLimit, IsCrowded, AddsClause, Ignored, Accepted, VerdictAfter, Refuted, Reopened, Assumes, Solves, Configures}
 use Rattle.varisat_names.specs.declared.config.SolverConfigUpdate.{SolverConfigUpdate}
 use Rattle.varisat.specs.declared.solver.SolverError.TheVariants.{Interrupted}
+use Rattle.varisat.proofs.LikeStates.{same-assumptions, same-clauses, same-ledger, same-naming, same-verdict}
 use Rattle.varisat.proofs.NamesInOrder.{stay-in-order, count-above, count-within}
 use Rattle.varisat.proofs.VerdictAnswers.{reopened-not-unsat, assumed-unsat}
 use Rattle.varisat.proofs.NameLaws.{names-are-identities, crowded-is-past-limit}
@@ -57,12 +58,12 @@ taken s t P A n most d (v, Ignored u e) f =
 taken s t P A n most d (v, Accepted ext may (w, after, like)) f =
     let named : Naming = name_all d s.naming in
     let (order, own) = stay-in-order f.count s.naming d f.order in
-    let e : t.clauses ≡ s.clauses ++ d ∷ [] = like.clauses ∙ ap (λ (x : Clause). s.clauses ++ x ∷ []) own in
+    let e : t.clauses ≡ s.clauses ++ d ∷ [] = (same-clauses like) ∙ ap (λ (x : Clause). s.clauses ++ x ∷ []) own in
     let more = count-above d f.count in
     record {
-      valid = ap (λ l. l.valid) like.ledger ∙ f.valid;
+      valid = ap (λ l. l.valid) (same-ledger like) ∙ f.valid;
       count = count_with f.count d;
-      order = subst (AreInOrder (count_with f.count d)) (sym like.naming) order;
+      order = subst (AreInOrder (count_with f.count d)) (sym (same-naming like)) order;
       in_range = stays-in-range d f.count s.naming f.order f.in_range may.in_range;
       same = λ (a, h). e ∙ ap (λ (Q : List Clause). Q ++ d ∷ [])
           (f.same (a, λ k i. h k (subst (λ (Q : List Clause). k ∈ Q) (sym e) (∈-append_left k s.clauses (d ∷ []) i))));
@@ -70,15 +71,15 @@ taken s t P A n most d (v, Accepted ext may (w, after, like)) f =
           (λ j. ∈-append_left k P (d ∷ []) (f.fewer k j))
           (λ j. ∈-append_right k P (d ∷ []) j)
           (∈-append_cases k s.clauses (d ∷ []) (subst (λ (Q : List Clause). k ∈ Q) e i));
-      refuted = λ u h. unsat w after (sym like.verdict ∙ u) (subst IsSatisfiable like.clauses h);
-      assumed = like.assumptions ∙ f.assumed;
+      refuted = λ u h. unsat w after (sym (same-verdict like) ∙ u) (subst IsSatisfiable (same-clauses like) h);
+      assumed = (same-assumptions like) ∙ f.assumed;
       named = λ c l i j. ⊎_elim
           (λ k. let b = f.named c l k j in omega (arith, b, more))
           (λ k. ⊎_elim (λ q. count-within d f.count l (subst (λ (x : Clause). l ∈ x) q j)) (λ z. absurd z) k)
           (∈-append_cases c s.clauses (d ∷ []) (subst (λ (Q : List Clause). c ∈ Q) e i));
-      assumed_named = λ l i. let b = f.assumed_named l (subst (λ (ls : List Literal). l ∈ ls) like.assumptions i) in omega (arith, b, more);
-      steps = ap (λ l. l.steps) like.ledger ∙ f.steps;
-      limit = ap (λ l. l.settings.max_steps) like.ledger ∙ f.limit;
+      assumed_named = λ l i. let b = f.assumed_named l (subst (λ (ls : List Literal). l ∈ ls) (same-assumptions like) i) in omega (arith, b, more);
+      steps = ap (λ l. l.steps) (same-ledger like) ∙ f.steps;
+      limit = ap (λ l. l.settings.max_steps) (same-ledger like) ∙ f.limit;
     }
   where
     unsat : (w : Verdict) → VerdictAfter s.clauses (map (through_names (name_all d s.naming)) d) s.verdict w → w ≡ Unsat →
@@ -97,20 +98,20 @@ supposed : (s t : State) (P : List Clause) (A : List Literal) (n most : ℕ) (d 
 supposed s t P A n most d (v, none, may, like) f =
     let (order, own) = stay-in-order f.count s.naming d f.order in
     let more = count-above d f.count in
-    let e : t.assumptions ≡ d = like.assumptions ∙ own in
+    let e : t.assumptions ≡ d = (same-assumptions like) ∙ own in
     record {
-      valid = ap (λ l. l.valid) like.ledger ∙ f.valid;
+      valid = ap (λ l. l.valid) (same-ledger like) ∙ f.valid;
       count = count_with f.count d;
-      order = subst (AreInOrder (count_with f.count d)) (sym like.naming) order;
+      order = subst (AreInOrder (count_with f.count d)) (sym (same-naming like)) order;
       in_range = stays-in-range d f.count s.naming f.order f.in_range may.in_range;
-      same = λ h. like.clauses ∙ f.same (subst IsSatisfiable like.clauses h);
-      fewer = λ k i. f.fewer k (subst (λ (Q : List Clause). k ∈ Q) like.clauses i);
-      refuted = λ u h. f.refuted (assumed-unsat s.verdict (sym like.verdict ∙ u)) (subst IsSatisfiable like.clauses h);
+      same = λ h. (same-clauses like) ∙ f.same (subst IsSatisfiable (same-clauses like) h);
+      fewer = λ k i. f.fewer k (subst (λ (Q : List Clause). k ∈ Q) (same-clauses like) i);
+      refuted = λ u h. f.refuted (assumed-unsat s.verdict (sym (same-verdict like) ∙ u)) (subst IsSatisfiable (same-clauses like) h);
       assumed = e;
-      named = λ c l i j. let b = f.named c l (subst (λ (Q : List Clause). c ∈ Q) like.clauses i) j in omega (arith, b, more);
+      named = λ c l i j. let b = f.named c l (subst (λ (Q : List Clause). c ∈ Q) (same-clauses like) i) j in omega (arith, b, more);
       assumed_named = λ l i. count-within d f.count l (subst (λ (ls : List Literal). l ∈ ls) e i);
-      steps = ap (λ l. l.steps) like.ledger ∙ f.steps;
-      limit = ap (λ l. l.settings.max_steps) like.ledger ∙ f.limit;
+      steps = ap (λ l. l.steps) (same-ledger like) ∙ f.steps;
+      limit = ap (λ l. l.settings.max_steps) (same-ledger like) ∙ f.limit;
     }
 
 pub begun : (s t : State) (P : List Clause) (A : List Literal) (n most : ℕ) (d B : List Literal) → Assumes s d (Ok tt) t → d ≡ B → WasGiven s P A n most →
@@ -160,14 +161,14 @@ searched s t P A n most v m c a l u f = record {
 pub decided : (s t : State) (b : Bool) (P : List Clause) (A : List Literal) (n most : ℕ) → Solves s (Ok b) t → WasGiven s P A n most →
     WasGiven t P A t.ledger.steps most
 decided s t b P A n most r f =
-    searched s t P A n most (ap (λ l. l.valid) r.rest.ledger ∙ f.valid) r.rest.naming r.rest.clauses r.rest.assumptions
-    (ap (λ l. l.settings) r.rest.ledger) (λ u h. subst (IsRight t.clauses t.assumptions t.counted) u r.right h) f
+    searched s t P A n most (ap (λ l. l.valid) (same-ledger r.rest) ∙ f.valid) (same-naming r.rest) (same-clauses r.rest) (same-assumptions r.rest)
+    (ap (λ l. l.settings) (same-ledger r.rest)) (λ u h. subst (IsRight t.clauses t.assumptions t.counted) u r.right h) f
 
 pub interrupted : (s t : State) (P : List Clause) (A : List Literal) (n most : ℕ) → Solves s (Err Interrupted) t → WasGiven s P A n most →
     WasGiven t P A t.ledger.steps most
 interrupted s t P A n most r f =
-    searched s t P A n most (ap (λ l. l.valid) r.rest.ledger ∙ f.valid) r.rest.naming r.rest.clauses r.rest.assumptions
-    (ap (λ l. l.settings) r.rest.ledger) (λ u h. f.refuted (sym r.rest.verdict ∙ u) (subst IsSatisfiable r.rest.clauses h)) f
+    searched s t P A n most (ap (λ l. l.valid) (same-ledger r.rest) ∙ f.valid) (same-naming r.rest) (same-clauses r.rest) (same-assumptions r.rest)
+    (ap (λ l. l.settings) (same-ledger r.rest)) (λ u h. f.refuted (sym (same-verdict r.rest) ∙ u) (subst IsSatisfiable (same-clauses r.rest) h)) f
 
 -- the steps are spent
 pub all-spent : (s t : State) (P : List Clause) (A : List Literal) (n most : ℕ) → Solves s (Err Interrupted) t → WasGiven s P A n most →

@@ -1,10 +1,18 @@
 -- What stays does so through one function after another.
-use Rattle.std.proofs.Common.{◌≡◌, refl, sym, ap, ◌∙◌, subst}
-use Rattle.varisat_vsids.specs.Activities.{Activities}
+use Rattle.std.proofs.Common.{◌≡◌, refl, subst, sym, ap, ◌∙◌}
+use Rattle.varisat_clause.proofs.StoreSound.{is-sound}
+use Rattle.varisat_prop.specs.View.{View}
+use Rattle.varisat_analysis.specs.Learned.{Shows}
 use Rattle.varisat_search.specs.declared.context.Context.{Context}
-use Rattle.varisat_search.specs.Contexts.{view, KeepsSchedule}
+use Rattle.varisat_search.specs.Contexts.{view, IsReady, KeepsSchedule}
+use Rattle.varisat_vsids.specs.Activities.{Activities}
 use Rattle.varisat_search.specs.Frames.{GoesForward, KeepsVariables}
 use Rattle.varisat_search.proofs.DecidableVariables.{same-refl, same-trans, same-read}
+
+-- What analysis sees of a search.
+pub shown : {A : Type 0} (x : Context A) (s : View) → IsReady x → view x ≡ s → Shows s x.clause_alloc x.impl_graph.nodes.items x.trail
+shown x s r e = subst (λ (t : View). Shows t x.clause_alloc x.impl_graph.nodes.items x.trail) e
+    (record { sound = is-sound x.clause_alloc r.well.sound; clauses_are = refl; nodes_are = refl; trail_is = refl; decisions_are = refl })
 
 pub schedule-nothing : {A : Type 0} (x : Context A) → KeepsSchedule x x
 schedule-nothing x = record { schedule = refl; solver_config = refl }

@@ -1,19 +1,26 @@
 -- A search goes on where only headers of clauses change.
-use Rattle.std.proofs.Common.{◌≡◌, ℕ, List, ◌++◌, map, ◌⊎◌, refl, sym, ap, ◌∙◌, subst}
+use Rattle.std.proofs.Common.{◌≡◌, Bool, sym, ap, ◌∙◌, subst, ℕ, List, ◌++◌, map, ◌⊎◌, refl}
+use Rattle.varisat_clause.specs.Stores.{IsSound}
+use Rattle.varisat_clause.specs.Databases.{Tracks}
+use Rattle.varisat_clause.proofs.StoreSound.{sound-is}
+use Rattle.varisat_prop.specs.Watches.{IsPropagated, Watches, literal_in, IsCovered}
+use Rattle.varisat_search.specs.declared.context.Context.{Context}
+use Rattle.varisat_search.specs.Contexts.{view, IsReady}
+use Rattle.varisat_search.specs.Frames.{ChangesKept}
+use Rattle.varisat_analysis.specs.HeaderChanges.{ChangesHeaders, SameButHeaders}
+use Rattle.varisat_search.proofs.ReadyAfter.{keeps-values, exchanged-ready}
 use Rattle.varisat_theory.specs.Membership.{◌∈◌, ◌⊆◌}
 use Rattle.varisat_theory.specs.Literals.{Literal, Clause, opposite}
 use Rattle.varisat_theory.specs.Searches.{IsTautology}
 use Rattle.varisat_clause.specs.Stored.{StoredClause, literals_of}
 use Rattle.varisat_prop.specs.declared.prop.graph.Reason.{Reason}
-use Rattle.varisat_prop.specs.declared.prop.graph.Reason.TheVariants as reason
 use Rattle.varisat_prop.specs.View.{View, pairs_from, kept, literal_at, node_at, IsReason, WellFormed, LevelsSettled, IsFixed, ViewFits, kinds}
-use Rattle.varisat_prop.specs.Watches.{Watches, literal_in, IsCovered, IsPropagated}
 use Rattle.varisat_vsids.specs.Activities.{Activities}
-use Rattle.varisat_analysis.specs.HeaderChanges.{SameButHeaders, ChangesHeaders}
 use Rattle.varisat_analysis.proofs.SameButHeaders.{headers-place, headers-literals, headers-kept, headers-at, headers-rising, headers-watching}
 use Rattle.varisat_search.specs.Decisions.{CanDecide, SameDecidable}
 use Rattle.varisat_search.specs.Seen.{kept_pair, search_of}
 use Rattle.varisat_search.proofs.ClausesExchanged.{SameReason, MayExchange, exchanged-well, exchanged-settled, exchanged-decide, exchanged-same}
+use Rattle.varisat_prop.specs.declared.prop.graph.Reason.TheVariants as reason
 
 same-reason : (s : View) (js : List StoredClause) (d : SameButHeaders s.clauses js) (k : ℕ) (r : Reason) → IsReason s k r → SameReason s js r r
 same-reason s js d k reason.Unit h = refl
@@ -83,3 +90,19 @@ module _ (s t : View) (w : WellFormed s) (d : ChangesHeaders s t) where
 
   pub header-same : (a : Activities) → SameDecidable s a t a
   header-same a = subst (λ u. SameDecidable s a u a) (sym d.rest) (exchanged-same s js s.nodes w may a)
+
+-- The contexts of calls that change headers of clauses alone.
+
+-- another sound store shows other clauses alone
+pub store-view : {A : Type 0} (x z : Context A) → IsSound x.clause_alloc → IsSound z.clause_alloc →
+    view z ≡ record (view x) { sound = (view z).sound; clauses = (view z).clauses } → view z ≡ record (view x) { clauses = (view z).clauses }
+store-view x z a b e = e ∙ ap (λ (o : Bool). record (view x) { sound = o; clauses = (view z).clauses })
+    (sound-is z.clause_alloc b ∙ sym (sound-is x.clause_alloc a))
+
+-- it stays ready
+pub headers-ready : {A : Type 0} (x z : Context A) → IsReady x → ChangesHeaders (view x) (view z) → Tracks z.clause_db z.clause_alloc →
+    z.watchlists ≡ x.watchlists → ChangesKept x z → IsReady z
+headers-ready x z r d t e k =
+    exchanged-ready x z r (keeps-values x z k) (header-well (view x) (view z) r.well d) (header-settled (view x) (view z) r.well d r.settled)
+    (subst (λ W. IsPropagated W (view z)) (sym e) (header-propagated (view x) (view z) r.well d x.watchlists r.propagated))
+    t (header-decide (view x) (view z) r.well d x.vsids r.decidable)

@@ -36,8 +36,7 @@ use Rattle.varisat_clause.specs.ClauseActivities.{ActivityScale}
 use Rattle.varisat_analysis.specs.Bumps.{BumpsInvolved, AreVariablesAbove, literals_among}
 use Rattle.varisat_analysis.specs.Assessments.{BumpsClauses, IsAssigned}
 use Rattle.varisat_analysis.specs.HeaderChanges.{SameButHeaders, ChangesHeaders}
-use Rattle.varisat_search.proofs.HeaderChanges.{header-seen}
-use Rattle.varisat_search.proofs.HeaderContexts.{store-view, headers-ready}
+use Rattle.varisat_search.proofs.HeaderChanges.{header-seen, store-view, headers-ready}
 use Rattle.varisat_search.proofs.LearnedHeaders.{learned-there}
 use Rattle.varisat_analysis.proofs.AssignedLevels.{involved-assigned}
 use Rattle.varisat_analysis.proofs.WellFormedViews.{named-place, no-clash, inside}

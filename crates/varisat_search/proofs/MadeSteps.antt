@@ -23,9 +23,8 @@ use Rattle.varisat_search.proofs.AssumptionOutcomes.{keeps-learned}
 use Rattle.varisat_search.proofs.Frames.{forward-nothing, variables-through}
 use Rattle.varisat_search.proofs.ReadyAfter.{ready-with}
 use Rattle.varisat_search.proofs.SettledUnits.{steps-settled, assumes-settled, rises-settled, remembers-settled}
-use Rattle.varisat_search.proofs.StepLines.{steps-after}
-use Rattle.varisat_search.proofs.StepRanks.{rises-after}
-use Rattle.varisat_search.proofs.TrailExtensions.{remembers-grown}
+use Rattle.varisat_search.proofs.StepErrors.{steps-after}
+use Rattle.varisat_search.proofs.StepRanks.{rises-after, remembers-grown}
 
 -- the lines are so in another way too
 goes-are : {A : Type 0} (x y : Context A) (P Q : List Line → Type 0) →

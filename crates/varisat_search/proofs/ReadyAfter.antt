@@ -1,19 +1,25 @@
 -- A search stays ready as it backtracks and decides.
-use Rattle.std.proofs.Common.{◌≡◌, ℕ, ◌*◌, ◌<◌, ◌≤◌, Bool, false, Option, List, [], replicate, length, ⊎_elim, sym, ap, ◌∙◌, subst}
-use Rattle.std.proofs.lemmas.Bool.{cases_lt}
+use Rattle.std.proofs.Common.{◌≡◌, ◌<◌, false, [], length, arith, ℕ, ◌*◌, ◌≤◌, Bool, Option, List, replicate, ⊎_elim, sym, ap, ◌∙◌, subst}
 use Rattle.varisat_theory.specs.Membership.{◌∈◌}
-use Rattle.varisat_theory.specs.Literals.{Literal}
-use Rattle.varisat_theory.specs.Propagation.{IsComplete}
+use Rattle.varisat_theory.specs.Literals.{Literal, variable_of}
+use Rattle.varisat_theory.proofs.Places.{∈-get_or}
+use Rattle.varisat_clause.specs.Stored.{StoredClause}
+use Rattle.varisat_clause.proofs.StoredClauses.{literals-∈}
+use Rattle.varisat_prop.proofs.WellFormedChanges.{stored-kept}
 use Rattle.varisat_clause.specs.Databases.{Tracks}
+use Rattle.varisat_prop.specs.View.{View, WellFormed, kept, LevelsSettled}
+use Rattle.varisat_prop.specs.Watches.{watches_of, literal_in, IsPropagated}
+use Rattle.varisat_search.specs.declared.context.Context.{Context}
+use Rattle.varisat_search.specs.Contexts.{view, IsReady}
+use Rattle.varisat_search.specs.Frames.{ChangesKept, ChangesDecided}
+use Rattle.varisat_analysis.specs.Reductions.{Discards}
+use Rattle.varisat_search.proofs.DiscardedClauses.{discards-may}
+use Rattle.std.proofs.lemmas.Bool.{cases_lt}
+use Rattle.varisat_theory.specs.Propagation.{IsComplete}
 use Rattle.varisat_prop.specs.declared.prop.graph.ImplNode.{ImplNode}
-use Rattle.varisat_prop.specs.View.{View, kept, WellFormed, LevelsSettled}
-use Rattle.varisat_prop.specs.Watches.{watches_of, IsPropagated}
 use Rattle.varisat_prop.specs.Changes.{decided_on}
 use Rattle.varisat_prop.proofs.WatchKept.{propagated-decided}
-use Rattle.varisat_search.specs.declared.context.Context.{Context}
 use Rattle.varisat_search.specs.AssumptionParts.{HasAssumptions}
-use Rattle.varisat_search.specs.Contexts.{view, IsReady}
-use Rattle.varisat_search.specs.Frames.{ChangesDecided, ChangesKept}
 use Rattle.varisat_search.specs.ContextChanges.{BacktracksTo}
 use Rattle.varisat_search.specs.Decisions.{AreDecidable, CanDecide}
 use Rattle.varisat_search.specs.Steps.{IsFree}
@@ -140,3 +146,17 @@ decided-ready {A} x z l r q head free e k d h a =
     (subst (λ W. IsPropagated W (view z)) (sym (ap (λ (y : Context A). y.watchlists) k)) p)
     (subst (λ (y : Context A). Tracks y.clause_db y.clause_alloc) (sym k) r.tracks)
     (ap (λ (y : Context A). y.analyze_conflict.var_count) k) (ap (λ (y : Context A). y.tmp_flags.flags.items) k) d h a
+
+-- The contexts of `reduce_locals`.
+
+-- it stays ready, with the watch lists off
+pub discards-ready : {A : Type 0} (x z : Context A) → IsReady x → Discards (view x) (view z) → Tracks z.clause_db z.clause_alloc →
+    length z.watchlists.lists ≡ length x.watchlists.lists → ((l : Literal) → watches_of z.watchlists l ≡ []) → z.watchlists.enabled ≡ false →
+    ChangesKept x z → IsReady z
+discards-ready x z r d t n e o k = unwatched-ready x z (view x).nodes r (keeps-values x z k) (discards-may (view x) (view z) r.well d) d.rest t n e o
+
+-- the first literal of each clause is of a known variable
+pub first-known : (s : View) → WellFormed s → (k : StoredClause) → k ∈ s.clauses → variable_of (literal_in k.literals 0) < length s.values
+first-known s w k h =
+    let c = stored-kept s k.literals (literals-∈ s.clauses k h) in
+    w.in_range k.literals c (literal_in k.literals 0) (∈-get_or k.literals 0 0 (let n = w.several k.literals c in omega (arith, n)))

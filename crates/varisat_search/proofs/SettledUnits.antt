@@ -26,9 +26,8 @@ use Rattle.varisat_search.specs.Steps.{Remembers}
 use Rattle.varisat_search.proofs.AssumptionSteps.{keeps-after-part}
 use Rattle.varisat_search.proofs.DecidableVariables.{same-refl, same-trans, same-read, propagated-same}
 use Rattle.varisat_search.proofs.ProvedUnits.{units-kinds}
-use Rattle.varisat_search.proofs.StepRanks.{rises-longer}
+use Rattle.varisat_search.proofs.StepRanks.{rises-longer, extends-trans, extends-same, extends-grown, remembers-after}
 use Rattle.varisat_search.proofs.StepWithoutLines.{grows_prove}
-use Rattle.varisat_search.proofs.TrailExtensions.{extends-trans, extends-same, extends-grown, remembers-after}
 
 -- it stays as it is
 pub goes-refl : {A : Type 0} (x : Context A) (P : List Line → Type 0) → IsReady x → P [] → GoesOnByLines P x x

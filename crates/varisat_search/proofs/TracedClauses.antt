@@ -1,17 +1,81 @@
 -- The lines of clauses that are simplified, one clause after another.
-use Rattle.std.proofs.Common.{◌≡◌, ℕ, zero, suc, ◌+◌, ◌<◌, ◌≤◌, Bool, true, false, not, ◌&&◌, nat_lt, cond, Option, List, [], ◌∷◌, ◌++◌, length, map, get_or, ⊎_elim, refl, ap, ◌∙◌, arith}
+use Rattle.std.proofs.Common.{◌≡◌, ℕ, Bool, true, false, cond, List, [], ◌∷◌, ◌++◌, get_or, refl, sym, ap, ◌∙◌, zero, suc, ◌<◌, length, inl, inr, subst, arith, ◌+◌, ◌≤◌, not, ◌&&◌, nat_lt, Option, map, ⊎_elim}
 use Rattle.std.specs.Prelude.{flat_map}
-use Rattle.std.specs.List.{filter, list_all}
-use Rattle.varisat_theory.specs.Literals.{Literal, Clause, opposite}
+use Rattle.varisat_theory.specs.Literals.{Literal, variable_of, Clause, opposite}
 use Rattle.varisat_theory.specs.Derivations.{Line, Add, Delete}
-use Rattle.varisat_clause.specs.Stored.{StoredClause}
+use Rattle.varisat_theory.specs.StepLaws.{unit_lines}
+use Rattle.varisat_prop.specs.declared.prop.graph.ImplNode.{ImplNode}
+use Rattle.varisat_prop.specs.declared.prop.graph.Reason.{Reason}
+use Rattle.varisat_prop.specs.View.{no_node, is_clause, pairs_with, pairs_from}
+use Rattle.varisat_search.specs.ProvedUnits.{units_in}
+use Rattle.varisat_theory.specs.Membership.{◌∈◌}
+use Rattle.varisat_clause.specs.Stored.{StoredClause, no_clause, stored_at, literals_of}
+use Rattle.varisat_clause.specs.Stores.{Store, stored_clauses}
 use Rattle.varisat_clause.specs.Collected.{live_of}
+use Rattle.varisat_clause.proofs.CollectedClauses.{clause-of-index, length-places}
+use Rattle.varisat_clause.proofs.StoredClauses.{literals-∈}
+use Rattle.std.specs.List.{filter, list_all}
 use Rattle.varisat_prop.specs.Simplified.{is_unassigned, are_unassigned}
-use Rattle.varisat_prop.specs.View.{pairs_with, pairs_from}
 use Rattle.varisat_search.specs.Simplifications.{has_true, unassigned, is_gone_pair, lines_of_pairs, lines_of_clause, lines_of_clauses}
 use Rattle.varisat_search.proofs.DecidableVariables.{true-or-false}
 use Rattle.varisat_search.proofs.FilteredUnits.{filter-short}
 use Rattle.varisat_search.proofs.UnassignedLiterals.{left-all}
+use Rattle.varisat_prop.specs.declared.prop.graph.Reason.TheVariants as reason
+
+-- The lines of units, one for each literal that a clause implied.
+
+-- a line where a clause implied the literal
+abbrev pub unit_line : List ImplNode → Literal → List Line
+unit_line ns l = cond (is_clause (get_or ns (variable_of l) no_node).reason) (Add (l ∷ []) ∷ []) []
+
+pub line-none : (ns : List ImplNode) (l : Literal) (v : ℕ) (r : Reason) → r ≡ (get_or ns v no_node).reason → v ≡ variable_of l → r ≡ reason.Unit →
+    unit_line ns l ≡ []
+line-none ns l v r e f u = ap (λ b. cond b (Add (l ∷ []) ∷ []) []) (ap (λ w. is_clause (get_or ns w no_node).reason) (sym f) ∙ ap is_clause (sym e ∙ u))
+
+pub line-one : (ns : List ImplNode) (l : Literal) (v : ℕ) (r : Reason) → r ≡ (get_or ns v no_node).reason → v ≡ variable_of l →
+    (r ≡ reason.Unit → ⊥) → unit_line ns l ≡ Add (l ∷ []) ∷ []
+line-one ns l v r e f u = ap (λ b. cond b (Add (l ∷ []) ∷ []) []) (ap (λ w. is_clause (get_or ns w no_node).reason) (sym f) ∙ ap is_clause (sym e) ∙ is-one r u)
+  where
+    is-one : (r : Reason) → (r ≡ reason.Unit → ⊥) → is_clause r ≡ true
+    is-one reason.Unit u = absurd (u refl)
+    is-one (reason.Binary ms) u = refl
+    is-one (reason.Long p) u = refl
+
+pub each-unit : (ns : List ImplNode) (ls : List Literal) → unit_lines (units_in ns ls) ≡ flat_map (unit_line ns) ls
+each-unit ns [] = refl
+each-unit ns (l ∷ ls) = go (is_clause (get_or ns (variable_of l) no_node).reason) (each-unit ns ls)
+  where
+    go : (b : Bool) → unit_lines (units_in ns ls) ≡ flat_map (unit_line ns) ls →
+        unit_lines (cond b (l ∷ units_in ns ls) (units_in ns ls)) ≡ cond b (Add (l ∷ []) ∷ []) [] ++ flat_map (unit_line ns) ls
+    go true e = ap (λ xs. Add (l ∷ []) ∷ xs) e
+    go false e = e
+
+-- The clauses of a store as they are read place by place.
+any-default : {X : Type 0} (xs : List X) (i : ℕ) (d e : X) → i < length xs → get_or xs i d ≡ get_or xs i e
+any-default [] i d e h = absurd (omega (arith, h))
+any-default (x ∷ xs) zero d e h = refl
+any-default (x ∷ xs) (suc i) d e h = any-default xs i d e (omega (arith, h))
+
+-- the clause at the place of an index is that of the index
+pub place-read : (s : Store) (i p : ℕ) → i < length s.places → p ≡ get_or s.places i 0 → (i < length (stored_clauses s))
+    × (stored_at (stored_clauses s) p ≡ get_or (stored_clauses s) i (stored_at (stored_clauses s) p))
+place-read s i p h e =
+    let n = length-places s.words s.places in
+    let a : i < length (stored_clauses s) = omega (arith, n, h) in
+    (a, sym (clause-of-index s i p h e) ∙ any-default (stored_clauses s) i no_clause (stored_at (stored_clauses s) p) a)
+
+pub live-there : (ks : List StoredClause) (k : StoredClause) → k ∈ ks → k.header.deleted ≡ false → k ∈ live_of ks
+live-there [] k h e = absurd h
+live-there (j ∷ ks) k (inl q) e = subst (λ (xs : List StoredClause). k ∈ xs)
+    (sym (ap (λ b. cond b (live_of ks) (j ∷ live_of ks)) (sym (ap (λ (x : StoredClause). x.header.deleted) q) ∙ e))) (inl q)
+live-there (j ∷ ks) k (inr m) e = go j.header.deleted (live-there ks k m e)
+  where
+    go : (b : Bool) → k ∈ live_of ks → k ∈ cond b (live_of ks) (j ∷ live_of ks)
+    go true i = i
+    go false i = inr i
+
+pub live-literals-∈ : (ks : List StoredClause) (k : StoredClause) → k ∈ ks → k.header.deleted ≡ false → k.literals ∈ literals_of (live_of ks)
+live-literals-∈ ks k h e = literals-∈ (live_of ks) k (live-there ks k h e)
 
 -- 1. One clause.
 

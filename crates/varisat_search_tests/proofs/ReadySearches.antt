@@ -18,7 +18,7 @@ use Rattle.varisat_search.specs.declared.context.Context.{Context}
 use Rattle.varisat_search.specs.Contexts.{view, IsReady}
 use Rattle.varisat_search.specs.AssumptionParts.{HasAssumptions}
 use Rattle.varisat_search.specs.Decisions.{AreDecidable, CanDecide}
-use Rattle.varisat_search.proofs.HeaderContexts.{store-view, headers-ready}
+use Rattle.varisat_search.proofs.HeaderChanges.{store-view, headers-ready}
 use Rattle.varisat_search.proofs.ReadyAfter.{ready-with}
 
 pub activities-ready : {A : Type 0} {x : Context A} (a : Activities) → length a.activity ≡ length x.vsids.activity →

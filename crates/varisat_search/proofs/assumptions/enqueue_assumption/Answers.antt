@@ -1,19 +1,48 @@
-use Rattle.std.proofs.Common.{◌≡◌, Some, length, refl, sym, ap, ◌∙◌, subst, arith}
+use Rattle.std.proofs.Common.{◌≡◌, ◌<◌, inl, inr, ⊎_elim, true, length, take, sym, ◌∙◌, subst, arith, Some, refl, ap}
+use Rattle.std.proofs.lemmas.List.{get_or-take, length-take-le}
+use Rattle.varisat_theory.specs.Membership.{◌∈◌}
+use Rattle.varisat_theory.specs.Literals.{value}
+use Rattle.varisat_theory.proofs.Places.{∈-get_or}
+use Rattle.varisat_prop.specs.View.{View, WellFormed}
+use Rattle.varisat_prop.proofs.TrailValues.{on-trail, fits-node}
+use Rattle.varisat_search.specs.AssumptionParts.{AssumptionParts, HasAssumptions, TakesOutTrue, HasFailed, IsNextAssumption}
+use Rattle.varisat_search.specs.TakenOut.{AreImpliedBefore}
+use Rattle.varisat_search.proofs.AssumedTruths.{trail-is-true}
 use Rattle.varisat_prop.specs.Changes.{decided_on}
-use Rattle.varisat_prop.proofs.TrailValues.{fits-node}
 use Rattle.varisat_search.specs.declared.context.Context.{Context}
-use Rattle.varisat_search.specs.AssumptionParts.{AssumptionParts, HasFailed, TakesOutTrue, IsNextAssumption}
 use Rattle.varisat_search.specs.Contexts.{view, IsReady}
 use Rattle.varisat_search.specs.Steps.{IsFree}
 use Rattle.varisat_search.specs.Decisions.{SameDecidable}
-use Rattle.varisat_search.specs.TakenOut.{AreImpliedBefore}
 use Rattle.varisat_vsids.specs.Activities.{Activities}
 use Rattle.varisat_search.proofs.Frames.{forward-same}
-use Rattle.varisat_search.proofs.TakenOut.{implied-before, implied-before-with}
 use Rattle.varisat_search.proofs.NextAssumption.{left-implied, left-implied-with, none-ready, next-inside, failed-ready, has-failed, next-free, next-same, next-ready}
 use Rattle.varisat_search.proofs.assumptions.enqueue_assumption.Given.{Over}
 use Rattle.varisat_search.proofs.assumptions.enqueue_assumption.Goals.{After-next_assumption, In-Some, In_ok-decide_lit}
 use Rattle.varisat_search.proofs.assumptions.enqueue_assumption.Goals as goal
+
+-- The assumptions that are taken out are implied by those before their place.
+
+-- Where a level is decided for each assumption before the place, what is true on the trail is true wherever these are.
+implied-before : (s : View) (x y : AssumptionParts) → WellFormed s → HasAssumptions s x → TakesOutTrue s.values (length s.decisions) x y →
+    AreImpliedBefore s x y
+implied-before s x y w h t held f a sat made l i =
+    ⊎_elim
+    (λ n. ⊎_elim
+    (λ o. inl o)
+    (λ o. inr (trail-is-true s w held f a sat (λ j b.
+    let b' : j < x.levels = omega (arith, b, n) in
+    let long = length-take-le x.levels x.working h.listed in
+    let there = ∈-get_or (take x.levels x.working) j 0 (omega (arith, b', long)) in
+    subst (λ m. value a m ≡ true) (get_or-take x.levels x.working j 0 b' ∙ sym (h.decided j b')) (made _ there))
+    l (on-trail s w l o)))
+    (t.gone l i))
+    (λ n. let r = h.reached in inl (subst (λ ws. l ∈ ws) (sym (t.none (omega (arith, n, r)))) i))
+    h.first
+
+-- the same list, with other levels or another core
+implied-before-with : (s : View) (x y z : AssumptionParts) → z.working ≡ y.working → AreImpliedBefore s x y → AreImpliedBefore s x z
+implied-before-with s x y z e p held f a sat made l i =
+    ⊎_elim (λ o. inl (subst (λ ws. l ∈ ws) (sym e) o)) (λ o. inr o) (p held f a sat made l i)
 
 taken : (g : Over) (c : After-next_assumption g) → TakesOutTrue c.args.ctx.now.assignment.current
     (length c.args.ctx.now.trail.decisions) c.args.ctx.now.assumptions c.next_assumption.new.assumptions

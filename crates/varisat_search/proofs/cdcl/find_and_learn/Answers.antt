@@ -1,5 +1,5 @@
 use Rattle.varisat_trace.proofs.Broken.{breaks-not, passed-on}
-use Rattle.varisat_search.proofs.StepErrors.{memory-broken, trace-broken, step-passed}
+use Rattle.varisat_search.proofs.StepErrors.{memory-broken, trace-broken, step-passed, model-steps}
 use Rattle.std.proofs.Common.{◌≡◌, ◌∙◌, MatchResult, List, length, inl, inr, ⊎_elim, sym, subst}
 use Rattle.varisat_theory.specs.Literals.{Clause}
 use Rattle.varisat_theory.specs.Propagation.{IsComplete, Conflicts}
@@ -14,7 +14,6 @@ use Rattle.varisat_search.proofs.MadeSteps.{Finds, made-are, no-core-entry, lear
 use Rattle.varisat_search.specs.Seen.{search_of, outcome_of}
 use Rattle.varisat_trace.proofs.Traced.{step-lines, holds_still}
 use Rattle.varisat_search.proofs.StepWithoutLines.{grows_prove}
-use Rattle.varisat_search.proofs.StepLines.{model-steps}
 use Rattle.varisat_search.proofs.cdcl.find_and_learn.Given.{Over}
 use Rattle.varisat_search.proofs.cdcl.find_and_learn.Goals.{In_ok-find_conflict}
 use Rattle.varisat_search.proofs.cdcl.find_and_learn.Goals as goal

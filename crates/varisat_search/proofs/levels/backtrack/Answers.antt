@@ -8,8 +8,7 @@ use Rattle.varisat_prop.proofs.ReadElements.{element}
 use Rattle.varisat_search.specs.declared.context.Context.{Context}
 use Rattle.varisat_search.specs.Contexts.{view}
 use Rattle.varisat_search.proofs.Backtrack.{Cutting, cutting-step}
-use Rattle.varisat_search.proofs.BacktrackValues.{Saving, saving-step}
-use Rattle.varisat_search.proofs.BacktrackActivities.{Making, making-step}
+use Rattle.varisat_search.proofs.BacktrackValues.{Saving, saving-step, Making, making-step}
 use Rattle.varisat_search.proofs.levels.backtrack.Given.{Over}
 use Rattle.varisat_search.proofs.levels.backtrack.Goals.{After-var-var}
 use Rattle.varisat_search.proofs.levels.backtrack.Goals as goal

@@ -1,8 +1,7 @@
 use Rattle.std.proofs.Common.{◌≡◌}
 use Rattle.varisat_search.specs.Contexts.{view}
 use Rattle.varisat_search.proofs.Backtrack.{Cutting}
-use Rattle.varisat_search.proofs.BacktrackValues.{Saving}
-use Rattle.varisat_search.proofs.BacktrackActivities.{Making}
+use Rattle.varisat_search.proofs.BacktrackValues.{Saving, Making}
 use Rattle.varisat_search.proofs.levels.backtrack.Given as goal
 
 abbrev pub invariant-loop-place : goal.invariant-loop-place

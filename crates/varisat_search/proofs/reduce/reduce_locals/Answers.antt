@@ -12,11 +12,11 @@ use Rattle.varisat_search.specs.declared.context.Context.{Context}
 use Rattle.varisat_search.specs.Contexts.{view}
 use Rattle.varisat_clause.specs.Reductions.{ListsTier, AreRanked, unmarked_places, all_deleted, ReducesLocals}
 use Rattle.varisat_analysis.specs.Reductions.{Discards}
-use Rattle.varisat_search.proofs.HeaderContexts.{store-view}
+use Rattle.varisat_search.proofs.HeaderChanges.{store-view}
 use Rattle.varisat_search.proofs.DiscardedClauses.{reduces-discards, reduces-gone}
 use Rattle.varisat_search.specs.DueReductions.{DropsLocals}
 use Rattle.varisat_search.proofs.DueReductions.{discards-keep}
-use Rattle.varisat_search.proofs.ReducedContext.{first-known, discards-ready}
+use Rattle.varisat_search.proofs.ReadyAfter.{first-known, discards-ready}
 use Rattle.varisat_search.proofs.reduce.reduce_locals.Given.{Over}
 use Rattle.varisat_search.proofs.reduce.reduce_locals.Goals.{After-delete_unmarked, After-count}
 use Rattle.varisat_search.proofs.reduce.reduce_locals.Goals as goal

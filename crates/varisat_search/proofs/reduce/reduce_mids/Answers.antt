@@ -1,12 +1,50 @@
-use Rattle.std.proofs.Common.{length, refl}
+use Rattle.std.proofs.Common.{◌≡◌, ℕ, Bool, true, false, not, ◌&&◌, ⊎_elim, sym, ap, ◌∙◌, subst, length, refl}
+use Rattle.varisat_clause.specs.declared.header.Tier.{Tier}
+use Rattle.varisat_clause.specs.Tiers.{is_tier}
+use Rattle.varisat_clause.specs.Stored.{StoredClause}
+use Rattle.varisat_clause.specs.Stores.{Store, stored_clauses, HoldsClauses}
+use Rattle.varisat_clause.specs.Databases.{is_live_in}
+use Rattle.varisat_clause.specs.Collected.{live_of, live_clauses}
+use Rattle.varisat_clause.specs.Reductions.{mid_reduced, mids_reduced}
+use Rattle.varisat_clause.proofs.DatabaseTracks.{same-tier, true-or-false}
+use Rattle.varisat_clause.proofs.MidReduction.{mid-other, mid-active, mid-moved}
+use Rattle.varisat_analysis.specs.HeaderChanges.{SameButHeaders, ChangesHeaders}
+use Rattle.varisat_analysis.proofs.SameButHeaders.{held_clause, live-map}
 use Rattle.varisat_search.specs.declared.context.Context.{Context}
 use Rattle.varisat_search.specs.Contexts.{view}
-use Rattle.varisat_analysis.specs.HeaderChanges.{ChangesHeaders}
-use Rattle.varisat_search.proofs.HeaderContexts.{store-view, headers-ready}
-use Rattle.varisat_search.proofs.ReducedMids.{mids-headers}
+use Rattle.varisat_search.proofs.HeaderChanges.{store-view, headers-ready}
 use Rattle.varisat_search.proofs.reduce.reduce_mids.Given.{Over}
 use Rattle.varisat_search.proofs.reduce.reduce_mids.Goals.{In_ok-reduce_mids}
+use Rattle.varisat_clause.specs.declared.header.Tier.TheVariants as tier
 use Rattle.varisat_search.proofs.reduce.reduce_mids.Goals as goal
+
+-- What becomes of Mid clauses in a reduction: only headers change.
+second : (a b : Bool) → (a && b) ≡ true → b ≡ true
+second true b e = e
+second false b e = absurd (let z : false ≡ true = e in cc)
+
+-- a Mid clause is learned, and stays so
+mid-learned : (k : StoredClause) → is_live_in tier.Mid k ≡ true → is_tier k.header.tier tier.Irred ≡ false
+mid-learned k e = ap (λ (t : Tier). is_tier t tier.Irred)
+    (sym (same-tier tier.Mid k.header.tier (second (not k.header.deleted) (is_tier tier.Mid k.header.tier) e)))
+
+mid-held : (k : StoredClause) → held_clause (mid_reduced k) ≡ held_clause k
+mid-held k =
+    ⊎_elim
+    (λ e. ⊎_elim
+    (λ f. ap held_clause (mid-active k e f))
+    (λ f. ap held_clause (mid-moved k e f)
+    ∙ ap (λ (b : Bool). record {
+      placed = record { place = k.place; kept = record { clause = k.literals; learned = not b } };
+      deleted =
+          k.header.deleted;
+    }) (sym (mid-learned k e)))
+    (true-or-false k.header.active))
+    (λ e. ap held_clause (mid-other k e))
+    (true-or-false (is_live_in tier.Mid k))
+
+mids-headers : (s t : Store) (size : ℕ) → HoldsClauses t size (mids_reduced (stored_clauses s)) → SameButHeaders (live_clauses s) (live_clauses t)
+mids-headers s t size h = subst (λ ks. SameButHeaders (live_clauses s) (live_of ks)) (sym h.clauses) (live-map mid_reduced (stored_clauses s) mid-held)
 
 abbrev after : (g : Over) (c : In_ok-reduce_mids g) → Context g.row.A.Denot
 after g c = record c.args.ctx.now { clause_alloc = c.reduce_mids.new.alloc; clause_db = c.reduce_mids.new.db }

@@ -12,8 +12,7 @@ use Rattle.varisat_clause.proofs.StoredClauses.{stored-∈}
 use Rattle.varisat_trace.specs.Traces.{TakesLines, CanTake}
 use Rattle.varisat_trace.proofs.TracedLists.{traces-none, traces-able, traces-next, traces-over, traces-all}
 use Rattle.varisat_search.specs.Simplifications.{lines_of_clause, lines_of_clauses}
-use Rattle.varisat_search.proofs.TracedClauses.{stored_lines, each-clause}
-use Rattle.varisat_search.proofs.TracedPlaces.{place-read, live-literals-∈}
+use Rattle.varisat_search.proofs.TracedClauses.{stored_lines, each-clause, place-read, live-literals-∈}
 use Rattle.varisat_search.proofs.trace.trace_clauses.Given.{Over}
 use Rattle.varisat_search.proofs.trace.trace_clauses.Goals.{After-deleted}
 use Rattle.varisat_search.proofs.trace.trace_clauses.Goals as goal

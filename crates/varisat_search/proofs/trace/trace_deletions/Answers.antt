@@ -1,19 +1,49 @@
+use Rattle.std.proofs.Common.{◌≡◌, ◌≢◌, ℕ, zero, suc, ◌+◌, ◌-◌, ◌<◌, true, false, cond, List, [], ◌∷◌, drop, length, get_or, refl, sym, ap, ◌∙◌, arith, ◌++◌}
+use Rattle.varisat_clause.specs.Stored.{StoredClause, header_at}
+use Rattle.varisat_clause.specs.Reductions.{unmarked_places}
+use Rattle.varisat_clause.proofs.LocalReduction.{drop-place, element}
 use Rattle.std.proofs.lemmas.Grind.{common_steps}
 use Rattle.varisat_trace.proofs.Broken.{lines-broken, breaks-on, breaks-in}
-use Rattle.std.proofs.Common.{◌≡◌, ◌+◌, ◌-◌, List, [], ◌∷◌, ◌++◌, drop, true, false, sym, ap, ◌∙◌, arith}
 use Rattle.varisat_theory.specs.Literals.{Clause}
 use Rattle.varisat_theory.specs.Derivations.{Line, Delete}
 use Rattle.varisat_clause.specs.Headers.{Header}
-use Rattle.varisat_clause.specs.Stored.{header_at}
 use Rattle.varisat_clause.specs.Stores.{stored_clauses}
-use Rattle.varisat_clause.specs.Reductions.{unmarked_places}
 use Rattle.varisat_prop.proofs.ReadElements.{item-∈}
 use Rattle.varisat_trace.proofs.TracedParts.{TracesPart, part-same, part-able, part-next}
 use Rattle.varisat_search.specs.Deletions.{deletion_lines, unmarked_deletions}
-use Rattle.varisat_search.proofs.UnmarkedPlaces.{unmarked-zero, unmarked-passed, unmarked-one}
 use Rattle.varisat_search.proofs.trace.trace_deletions.Given.{Over}
 use Rattle.varisat_search.proofs.trace.trace_deletions.Goals.{After-lits}
 use Rattle.varisat_search.proofs.trace.trace_deletions.Goals as goal
+
+-- The places of clauses that are not marked, one after another.
+none : (ks : List StoredClause) (ps : List ℕ) → unmarked_places ks zero ps ≡ []
+none ks [] = refl
+none ks (p ∷ ps) = refl
+
+unmarked-zero : (ks : List StoredClause) (left : ℕ) (ps qs : List ℕ) → left ≡ 0 → unmarked_places ks left ps ≡ unmarked_places ks left qs
+unmarked-zero ks zero ps qs e = none ks ps ∙ sym (none ks qs)
+unmarked-zero ks (suc n) ps qs e = absurd (omega (arith, e))
+
+passed : (ks : List StoredClause) (left p : ℕ) (ps : List ℕ) → (header_at ks p).mark ≡ true → unmarked_places ks left (p ∷ ps) ≡ unmarked_places ks left ps
+passed ks zero p ps e = sym (none ks ps)
+passed ks (suc n) p ps e = ap (λ b. cond b (unmarked_places ks (suc n) ps) (p ∷ unmarked_places ks n ps)) e
+
+one : (ks : List StoredClause) (left p : ℕ) (ps : List ℕ) → left ≢ 0 → (header_at ks p).mark ≡ false →
+    unmarked_places ks left (p ∷ ps) ≡ p ∷ unmarked_places ks (left - 1) ps
+one ks zero p ps n e = absurd (n refl)
+one ks (suc m) p ps n e =
+    let less : m ≡ suc m - 1 = omega arith in
+    ap (λ b. cond b (unmarked_places ks (suc m) ps) (p ∷ unmarked_places ks m ps)) e ∙ ap (λ (k : ℕ). p ∷ unmarked_places ks k ps) less
+
+module _ (ks : List StoredClause) (ps : List ℕ) (i p left : ℕ) (inside : i < length ps) (is : p ≡ get_or ps i p) where
+  next : drop i ps ≡ p ∷ drop (i + 1) ps
+  next = drop-place ps i p inside (element ps i p inside is)
+
+  unmarked-passed : (header_at ks p).mark ≡ true → unmarked_places ks left (drop i ps) ≡ unmarked_places ks left (drop (i + 1) ps)
+  unmarked-passed e = ap (unmarked_places ks left) next ∙ passed ks left p (drop (i + 1) ps) e
+
+  unmarked-one : left ≢ 0 → (header_at ks p).mark ≡ false → unmarked_places ks left (drop i ps) ≡ p ∷ unmarked_places ks (left - 1) (drop (i + 1) ps)
+  unmarked-one n e = ap (unmarked_places ks left) next ∙ one ks left p (drop (i + 1) ps) n e
 
 pub clauses-preserved-then-left-eq0 : goal.clauses-preserved-then-left-eq0
 clauses-preserved-then-left-eq0 g c =

@@ -6,7 +6,7 @@ use Rattle.varisat_theory.specs.Derivations.{Line}
 use Rattle.varisat_prop.proofs.ReadElements.{item-∈}
 use Rattle.varisat_trace.specs.Traces.{TakesLines, CanTake}
 use Rattle.varisat_trace.proofs.TracedLists.{traces-none, traces-able, traces-next, traces-over, traces-all}
-use Rattle.varisat_search.proofs.TracedUnits.{unit_line, line-none, line-one, each-unit}
+use Rattle.varisat_search.proofs.TracedClauses.{unit_line, line-none, line-one, each-unit}
 use Rattle.varisat_search.proofs.trace.trace_units.Goals as goal
 
 pub loop-lit-init : goal.loop-lit-init

@@ -3,6 +3,7 @@
 //! another that compares.
 #![tactic(auto)]
 
+pub mod readers;
 pub mod settings;
 #[cfg(test)]
 mod tests;

@@ -2,7 +2,7 @@
 ghost use Rattle.std.specs.Prelude.{IfSome};
 ghost use Rattle.varisat.specs.Runs.{AreReady};
 
-use super::readers::in_pieces;
+use crate::readers::in_pieces;
 use crate::settings::rare_and_frequent;
 use std::alloc::{AllocError, Global};
 use std::io::{self, Write};

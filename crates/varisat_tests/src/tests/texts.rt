@@ -1,5 +1,5 @@
 //! A text that breaks off, given in pieces and cut anywhere.
-use super::readers::in_pieces;
+use crate::readers::in_pieces;
 use crate::settings::{Settings, all_settings};
 use std::alloc::Global;
 use std::io::Read;

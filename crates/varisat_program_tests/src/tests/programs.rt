@@ -1,8 +1,6 @@
 //! Sessions with their answers, and over readers and writers that fail.
 ghost use Rattle.std.specs.Prelude.{◌<◌, ◌-◌, ◌^◌};
 
-use super::readers::in_pieces;
-use crate::settings::reducing_every;
 use linked_list_allocator::LocalHeap;
 use rand_core::Rng;
 use rand_pcg::Pcg32;
@@ -14,6 +12,8 @@ use varisat::solver::{Solver, SolverError};
 use varisat_formula::io::{ByteSource, MemoryTarget, ReadSource};
 use varisat_names::config::SolverConfigUpdate;
 use varisat_sessions::{ALL_SESSIONS, Exchange, SETTINGS};
+use varisat_tests::readers::in_pieces;
+use varisat_tests::settings::reducing_every;
 
 // What a command prints, what it tells of a fault, and its status.
 type Printed = (&'static str, &'static str, u8);

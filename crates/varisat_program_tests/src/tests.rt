@@ -1,0 +1,4 @@
+//! The tests, a file for each subject.
+
+mod lines;
+mod programs;

@@ -11,7 +11,7 @@ use Rattle.varisat_theory.proofs.Saturated.{saturated_no_conflict, complete_fewe
 use Rattle.varisat_theory.proofs.Implication.{implied_known, implied_clash, implied_more, implied_alone}
 use Rattle.varisat_theory.proofs.Growth.{conflicts_known}
 use Rattle.varisat_plain.proofs.Scans.{answers_true, answers_false}
-use Rattle.varisat_present.specs.Knowing.{AreImplied, Keeps, Settles, TakesBase, Asks, IsSpare}
+use Rattle.varisat_present.specs.Knowing.{AreImplied, Keeps, Saturates, TakesBase, Asks, IsSpare}
 use Rattle.varisat_present.proofs.KnownGrowth.{complete_both, grows_part, cut_back}
 
 -- 1. A clause joins.
@@ -20,12 +20,12 @@ pub keeps_added : (b now : Bool) (P : List Clause) (c : Clause) (known : List Li
 keeps_added b now P c known k h = record {
   no_clash = k.no_clash;
   implied = λ l m. implied_more P (P ++ (c ∷ [])) [] [] l (λ x i. ∈-append_left x P (c ∷ []) i) (λ x i. i) (k.implied l m);
-  settled = λ e. let w = h e in let s = k.settled w.0 in record { no_clash = s.no_clash; complete = complete_both P c known s.complete w.1 };
+  saturated = λ e. let w = h e in let s = k.saturated w.0 in record { no_clash = s.no_clash; complete = complete_both P c known s.complete w.1 };
 }
 
 -- 2. Nothing is kept.
 pub keeps_nothing : (b : Bool) (P : List Clause) → b ≡ false → Keeps b P []
-keeps_nothing b P f = record { no_clash = λ w. absurd w.1; implied = λ l m. absurd m; settled = λ e. absurd cc }
+keeps_nothing b P f = record { no_clash = λ w. absurd w.1; implied = λ l m. absurd m; saturated = λ e. absurd cc }
 
 -- 3. A clause leaves.
 implied_is_known : (P : List Clause) (known : List Literal) → IsSaturated P known → (l : Literal) → Implied P [] l → l ∈ known
@@ -63,28 +63,29 @@ left_cases P c Q t = λ x m.
 pub keeps_without : (b : Bool) (P Q : List Clause) (c : Clause) (known : List Literal) → b ≡ true → TakesOut P c Q → IsSpare Q known c → Keeps b P known →
     Keeps b Q known
 keeps_without b P Q c known e t w k =
-    let s = k.settled e in
+    let s = k.saturated e in
     record {
       no_clash = k.no_clash;
       implied = λ l m. spare_implied P Q c t.1 known s (left_cases P c Q t) t.4.1 w l (k.implied l m);
-      settled = λ f. record { no_clash = s.no_clash; complete = complete_fewer P Q known (deleted_part P c Q t) s.complete };
+      saturated = λ f. record { no_clash = s.no_clash; complete = complete_fewer P Q known (deleted_part P c Q t) s.complete };
     }
 
 -- 4. What the clauses alone imply.
-pub keeps_found : (b : Bool) (P : List Clause) (old new : List Literal) (found now : Bool) → Keeps b P old → Settles P old found new →
+pub keeps_found : (b : Bool) (P : List Clause) (old new : List Literal) (found now : Bool) → Keeps b P old → Saturates P old found new →
     (now ≡ true → found ≡ false) → Keeps now P new
 keeps_found b P old new found now k s h = record {
   no_clash = s.finds.grows.no_clash;
   implied = s.finds.grows.implied [] k.implied;
-  settled = λ e. s.saturated (h e);
+  saturated = λ e. s.saturated (h e);
 }
 
-pub refuted_is : (b : Bool) (P : List Clause) (old new : List Literal) (found : Bool) → Keeps b P old → Settles P old found new → IsTrue found ↔ Conflicts P []
+pub refuted_is : (b : Bool) (P : List Clause) (old new : List Literal) (found : Bool) → Keeps b P old → Saturates P old found new →
+    IsTrue found ↔ Conflicts P []
 refuted_is b P old new true k s = answers_true _ (implied_known P [] new (s.finds.grows.implied [] k.implied) (s.finds.conflict refl))
 refuted_is b P old new false k s = answers_false _ (saturated_no_conflict P [] new (s.saturated refl) (λ l m. absurd m))
 
-pub settled_is : (b : Bool) (P : List Clause) (known : List Literal) → b ≡ true → Keeps b P known → IsTrue false ↔ Conflicts P []
-settled_is b P known e k = answers_false _ (saturated_no_conflict P [] known (k.settled e) (λ l m. absurd m))
+pub saturated_is : (b : Bool) (P : List Clause) (known : List Literal) → b ≡ true → Keeps b P known → IsTrue false ↔ Conflicts P []
+saturated_is b P known e k = answers_false _ (saturated_no_conflict P [] known (k.saturated e) (λ l m. absurd m))
 
 pub refuted_more : (P : List Clause) (base : List Literal) → Conflicts P [] → IsTrue true ↔ Conflicts P base
 refuted_more P base c = answers_true _ (conflicts_known P [] base (λ l m. absurd m) c)
@@ -106,15 +107,15 @@ asks_clash P old base new h a =
     }
 
 asks_right : (P : List Clause) (old base mid new : List Literal) (found : Bool) → AreImplied P [] old → TakesBase old base false mid →
-    Settles P mid found new → IsTrue found ↔ Conflicts P base
+    Saturates P mid found new → IsTrue found ↔ Conflicts P base
 asks_right P old base mid new true h a s = answers_true _ (implied_known P base new (s.finds.grows.implied base (from_base P old base mid false h a))
     (s.finds.conflict refl))
 asks_right P old base mid new false h a s = answers_false _ (saturated_no_conflict P base new (s.saturated refl)
     (λ l m. grows_part P mid new s.finds.grows l (a.all refl l m)))
 
-pub asks_settled : (P : List Clause) (old base mid new : List Literal) (found : Bool) → AreImplied P [] old → TakesBase old base false mid →
-    Settles P mid found new → Asks P old base found new
-asks_settled P old base mid new found h a s = record {
+pub asks_saturated : (P : List Clause) (old base mid new : List Literal) (found : Bool) → AreImplied P [] old → TakesBase old base false mid →
+    Saturates P mid found new → Asks P old base found new
+asks_saturated P old base mid new found h a s = record {
   more = a.more ++ s.finds.grows.more;
   joined = s.finds.grows.joined ∙ ap (λ x. x ++ s.finds.grows.more) a.joined ∙ append_assoc old a.more s.finds.grows.more;
   right = asks_right P old base mid new found h a s;
@@ -134,8 +135,8 @@ pub not_true : (b : Bool) → not b ≡ true → b ≡ false
 not_true true e = absurd cc
 not_true false e = refl
 
-pub settles_there : (P Q : List Clause) (old new : List Literal) (found : Bool) → P ≡ Q → Settles P old found new → Settles Q old found new
-settles_there P Q old new found e s = subst (λ (x : List Clause). Settles x old found new) e s
+pub saturates_there : (P Q : List Clause) (old new : List Literal) (found : Bool) → P ≡ Q → Saturates P old found new → Saturates Q old found new
+saturates_there P Q old new found e s = subst (λ (x : List Clause). Saturates x old found new) e s
 
 pub found_there : (P Q : List Clause) (base other : List Literal) (found : Bool) → P ≡ Q → base ≡ other → IsTrue found ↔ Conflicts P base →
     IsTrue found ↔ Conflicts Q other

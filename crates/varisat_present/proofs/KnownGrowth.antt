@@ -10,7 +10,7 @@ use Rattle.varisat_theory.proofs.Values.{opposite_twice}
 use Rattle.varisat_theory.proofs.ConflictForms.{never_its_own}
 use Rattle.varisat_theory.proofs.Places.{∈-take_more, ∈-take_all}
 use Rattle.varisat_plain.proofs.PropagationRounds.{IsQuiet, quiet_known, quiet_open, unknown, unknown_fewer, unknown_less}
-use Rattle.varisat_present.specs.Knowing.{AreImplied, GrowsKnown, Finds, Settles, LeavesNew, TakesBase, IsPassed, Joins, Passes}
+use Rattle.varisat_present.specs.Knowing.{AreImplied, GrowsKnown, Finds, Saturates, LeavesNew, TakesBase, IsPassed, Joins, Passes}
 
 -- 1. One literal.
 no_clash_joined : (known : List Literal) (l : Literal) → (HasClash known → ⊥) → (opposite l ∈ known → ⊥) → HasClash (known ++ (l ∷ [])) → ⊥
@@ -169,12 +169,12 @@ round_end P first known passed e r = record {
 }
 
 -- 6. Passes, until one finds nothing.
-pub settles_found : (P : List Clause) (a b c : List Literal) → GrowsKnown P a b → GrowsKnown P b c → Conflicts P c → Settles P a true c
-settles_found P a b c g h k = record { finds = finds_found P a b c g h k; saturated = λ e. absurd cc }
+pub saturates_found : (P : List Clause) (a b c : List Literal) → GrowsKnown P a b → GrowsKnown P b c → Conflicts P c → Saturates P a true c
+saturates_found P a b c g h k = record { finds = finds_found P a b c g h k; saturated = λ e. absurd cc }
 
-pub settles_end : (P : List Clause) (a b c : List Literal) → GrowsKnown P a b → GrowsKnown P b c → ((c ≡ b) × IsSaturated P c) ⊎ Joins P b c →
-    length c ≡ length b → Settles P a false c
-settles_end P a b c g h r e = record {
+pub saturates_end : (P : List Clause) (a b c : List Literal) → GrowsKnown P a b → GrowsKnown P b c → ((c ≡ b) × IsSaturated P c) ⊎ Joins P b c →
+    length c ≡ length b → Saturates P a false c
+saturates_end P a b c g h r e = record {
   finds = finds_no_more P a c (grows_on P a b c g h);
   saturated = λ t. ⊎_elim (λ w. w.1) (λ w. absurd (w.4 (subst (λ k. w.1 ∈ k) (same_length P b c h e) w.5))) r;
 }
@@ -190,11 +190,11 @@ less_left P a b c g r n h =
     omega (arith, s, t))
     r
 
-pub settles_early : (P : List Clause) (a b : List Literal) (found : Bool) → found ≡ true → Finds P a found b → Settles P a true b
-settles_early P a b found e f = record { finds = subst (λ (x : Bool). Finds P a x b) e f; saturated = λ t. absurd cc }
+pub saturates_early : (P : List Clause) (a b : List Literal) (found : Bool) → found ≡ true → Finds P a found b → Saturates P a true b
+saturates_early P a b found e f = record { finds = subst (λ (x : Bool). Finds P a x b) e f; saturated = λ t. absurd cc }
 
-pub settles_on : (P : List Clause) (a b c : List Literal) (found : Bool) → GrowsKnown P a b → Settles P b found c → Settles P a found c
-settles_on P a b c found g s = record { finds = finds_on P a b c found g s.finds; saturated = s.saturated }
+pub saturates_on : (P : List Clause) (a b c : List Literal) (found : Bool) → GrowsKnown P a b → Saturates P b found c → Saturates P a found c
+saturates_on P a b c found g s = record { finds = finds_on P a b c found g s.finds; saturated = s.saturated }
 
 -- 7. Literals that are assumed.
 pub record Assumed (old base seen new : List Literal) : Type 0 where

@@ -9,11 +9,11 @@ use Rattle.varisat_theory.specs.Analysis.{Implied}
 abbrev pub AreImplied : List Clause → List Literal → List Literal → Type 0
 AreImplied P base known = (l : Literal) → l ∈ known → Implied P base l
 
--- what is kept from call to call: literals that P alone implies, which propagation over P has come to the end with where they are settled
-pub record Keeps (is_settled : Bool) (P : List Clause) (known : List Literal) : Type 0 where
+-- what is kept from call to call: literals that P alone implies, which propagation over P has come to the end with where they are saturated
+pub record Keeps (is_saturated : Bool) (P : List Clause) (known : List Literal) : Type 0 where
   pub no_clash : HasClash known → ⊥
   pub implied : AreImplied P [] known
-  pub settled : is_settled ≡ true → IsSaturated P known
+  pub saturated : is_saturated ≡ true → IsSaturated P known
 
 -- literals joined that P implies, and no two clash
 pub record GrowsKnown (P : List Clause) (old new : List Literal) : Type 0 where
@@ -28,7 +28,7 @@ pub record Finds (P : List Clause) (old : List Literal) (found : Bool) (new : Li
   pub conflict : found ≡ true → Conflicts P new
 
 -- the same, or else propagation has come to its end
-pub record Settles (P : List Clause) (old : List Literal) (found : Bool) (new : List Literal) : Type 0 where
+pub record Saturates (P : List Clause) (old : List Literal) (found : Bool) (new : List Literal) : Type 0 where
   pub finds : Finds P old found new
   pub saturated : found ≡ false → IsSaturated P new
 

@@ -13,7 +13,7 @@ use crate::clause::{is_quiet, status_of};
 use crate::index::{ClauseIndex, key_of};
 use crate::known::Known;
 use crate::places::{clause_at, drop_mentions, find_place, has_clause, is_equal_at};
-use crate::propagation::{assume, propagate, settle};
+use crate::propagation::{assume, propagate, saturate};
 use crate::watches::Watches;
 use std::alloc::{AllocError, Allocator};
 use std::marker::Model;
@@ -30,7 +30,7 @@ pub struct PresentClauses<A: Allocator + Copy> {
     /// Literals that the clauses imply.
     known: Known<A>,
     /// Whether propagation came to its end with them.
-    is_settled: bool,
+    is_saturated: bool,
     watches: Watches<A>,
     index: ClauseIndex<A>,
 }
@@ -45,7 +45,7 @@ impl<A: Allocator + Copy> Model for PresentClauses<A> {
 
     ghost view = { λ p. present p.places.items };
 
-    ghost invariant = { λ p. Keeps p.is_settled (present p.places.items) p.known };
+    ghost invariant = { λ p. Keeps p.is_saturated (present p.places.items) p.known };
 }
 
 /// The place of a clause that is equal as a set, if the index leads to one.
@@ -102,10 +102,14 @@ fn has_unit<A: Allocator + Copy>(
 }
 
 /// Whether propagation is still at its end with a clause more.
-fn is_settled_with<A: Allocator + Copy>(is_settled: bool, known: &Known<A>, clause: &[Lit]) -> bool
-    ensures { result ≡ true → (is_settled ≡ true) × IsComplete (clause.now ∷ []) known.now }
+fn is_saturated_with<A: Allocator + Copy>(
+    is_saturated: bool,
+    known: &Known<A>,
+    clause: &[Lit],
+) -> bool
+    ensures { result ≡ true → (is_saturated ≡ true) × IsComplete (clause.now ∷ []) known.now }
 {
-    if !is_settled {
+    if !is_saturated {
         return false;
     }
     is_quiet(known, clause)
@@ -114,15 +118,15 @@ fn is_settled_with<A: Allocator + Copy>(is_settled: bool, known: &Known<A>, clau
 /// Whether propagation was at its end, and the clause that left the places changed nothing of what they imply.
 fn is_spare<A: Allocator + Copy>(
     alloc: A,
-    is_settled: bool,
+    is_saturated: bool,
     places: &[Option<Vec<Lit, A>>],
     index: &ClauseIndex<A>,
     known: &Known<A>,
     clause: &[Lit],
 ) -> bool
-    ensures { result ≡ true → (is_settled ≡ true) × IsSpare (present places.now) known.now clause.now }
+    ensures { result ≡ true → (is_saturated ≡ true) × IsSpare (present places.now) known.now clause.now }
 {
-    if !is_settled {
+    if !is_saturated {
         return false;
     }
     match status_of(known, clause) {
@@ -152,7 +156,7 @@ fn ask<A: Allocator + Copy>(
     if conflicts {
         return Ok(true);
     }
-    let found = settle(places, known, watches)?;
+    let found = saturate(places, known, watches)?;
     Ok(found)
 }
 
@@ -165,7 +169,7 @@ impl<A: Allocator + Copy> PresentClauses<A> {
             alloc,
             places: Vec::new(alloc),
             known: Known::new_in(alloc),
-            is_settled: false,
+            is_saturated: false,
             watches: Watches::new_in(alloc),
             index: ClauseIndex::new_in(alloc),
         }
@@ -210,11 +214,11 @@ impl<A: Allocator + Copy> PresentClauses<A> {
         ensures err { OnErr result (self.new ≡ self.old) }
     {
         let copy = Vec::from_slice(self.alloc, clause)?;
-        let is_settled = is_settled_with(self.is_settled, &self.known, clause);
+        let is_saturated = is_saturated_with(self.is_saturated, &self.known, clause);
         self.watches.add_clause(&self.known, clause)?;
         self.index.add(key_of(clause))?;
         self.places.push(Some(copy))?;
-        self.is_settled = is_settled;
+        self.is_saturated = is_saturated;
         Ok(())
     }
 
@@ -242,7 +246,7 @@ impl<A: Allocator + Copy> PresentClauses<A> {
         self.places[place] = None;
         if is_spare(
             self.alloc,
-            self.is_settled,
+            self.is_saturated,
             &self.places,
             &self.index,
             &self.known,
@@ -251,7 +255,7 @@ impl<A: Allocator + Copy> PresentClauses<A> {
             return true;
         }
         self.known.cut(0);
-        self.is_settled = false;
+        self.is_saturated = false;
         true
     }
 
@@ -261,7 +265,7 @@ impl<A: Allocator + Copy> PresentClauses<A> {
     {
         drop_mentions(&mut self.places, var);
         self.known.cut(0);
-        self.is_settled = false;
+        self.is_saturated = false;
     }
 
     /// Whether unit propagation over the clauses conflicts.
@@ -269,12 +273,12 @@ impl<A: Allocator + Copy> PresentClauses<A> {
         ensures found { IfOk result (λ found. IsTrue found ↔ Conflicts self.old []) }
         ensures stays { self.new ≡ self.old }
     {
-        if self.is_settled {
+        if self.is_saturated {
             return Ok(false);
         }
-        match settle(&self.places, &mut self.known, &mut self.watches) {
+        match saturate(&self.places, &mut self.known, &mut self.watches) {
             Ok(found) => {
-                self.is_settled = !found;
+                self.is_saturated = !found;
                 Ok(found)
             }
             Err(error) => {
@@ -304,7 +308,7 @@ impl<A: Allocator + Copy> PresentClauses<A> {
             }
             Err(error) => {
                 self.known.cut(0);
-                self.is_settled = false;
+                self.is_saturated = false;
                 Err(error)
             }
         }

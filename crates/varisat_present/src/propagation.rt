@@ -5,7 +5,7 @@ ghost use Rattle.varisat_theory.specs.Membership.{◌∈◌};
 ghost use Rattle.varisat_theory.specs.Literals.{opposite};
 ghost use Rattle.varisat_theory.specs.Propagation.{HasClash};
 ghost use Rattle.varisat_present.specs.Places.{present};
-ghost use Rattle.varisat_present.specs.Knowing.{Finds, Settles, Passes, TakesBase, IsPassed};
+ghost use Rattle.varisat_present.specs.Knowing.{Finds, Saturates, Passes, TakesBase, IsPassed};
 ghost use Rattle.varisat_present.specs.Visits.{TellsVisit, IsLook};
 
 use crate::clause::{find_other, holds, status_of};
@@ -229,13 +229,13 @@ fn take_newest<A: Allocator + Copy>(
 
 /// Propagates to the end. The known literals were propagated already, as far as watches lead. Returns whether a clause
 /// is false.
-pub fn settle<A: Allocator + Copy>(
+pub fn saturate<A: Allocator + Copy>(
     places: &[Option<Vec<Lit, A>>],
     known: &mut Known<A>,
     watches: &mut Watches<A>,
 ) -> Result<bool, AllocError>
     requires { HasClash known.old → ⊥ }
-    ensures { IfOk result (λ found. Settles (present places.now) known.old found known.new) }
+    ensures { IfOk result (λ found. Saturates (present places.now) known.old found known.new) }
 {
     let is_refuted = take_newest(places, known, watches)?;
     if is_refuted {

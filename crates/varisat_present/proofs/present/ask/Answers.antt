@@ -1,8 +1,8 @@
 use Rattle.std.proofs.Common.{Bool, subst}
 use Rattle.varisat_present.specs.Places.{present}
 use Rattle.varisat_present.specs.Knowing.{TakesBase}
-use Rattle.varisat_present.proofs.KnownGrowth.{settles_early, settles_on}
-use Rattle.varisat_present.proofs.KeptLiterals.{asks_clash, asks_settled}
+use Rattle.varisat_present.proofs.KnownGrowth.{saturates_early, saturates_on}
+use Rattle.varisat_present.proofs.KeptLiterals.{asks_clash, asks_saturated}
 use Rattle.varisat_present.proofs.present.ask.Goals as goal
 
 pub returns-then-clashes : goal.returns-then-clashes
@@ -12,13 +12,14 @@ returns-then-clashes g c =
 
 pub returns-then-conflicts : goal.returns-then-conflicts
 returns-then-conflicts g c =
-    asks_settled (present c.args.places.now) c.args.known.now c.args.base.now c.assume.new.known c.propagate.new.known _ c.requires.implied
+    asks_saturated (present c.args.places.now) c.args.known.now c.args.base.now c.assume.new.known c.propagate.new.known _ c.requires.implied
     (subst (λ (b : Bool). TakesBase c.args.known.now c.args.base.now b c.assume.new.known) c.if-clashes.false c.in_ok-clashes.ensures)
-    (settles_early (present c.args.places.now) c.assume.new.known c.propagate.new.known c.in_ok-conflicts.conflicts c.if-conflicts.true
+    (saturates_early (present c.args.places.now) c.assume.new.known c.propagate.new.known c.in_ok-conflicts.conflicts c.if-conflicts.true
     c.in_ok-conflicts.ensures)
 
 pub returns : goal.returns
 returns g c =
-    asks_settled (present c.args.places.now) c.args.known.now c.args.base.now c.assume.new.known c.settle.new.known _ c.requires.implied
+    asks_saturated (present c.args.places.now) c.args.known.now c.args.base.now c.assume.new.known c.saturate.new.known _ c.requires.implied
     (subst (λ (b : Bool). TakesBase c.args.known.now c.args.base.now b c.assume.new.known) c.if-clashes.false c.in_ok-clashes.ensures)
-    (settles_on (present c.args.places.now) c.assume.new.known c.propagate.new.known c.settle.new.known _ c.in_ok-conflicts.ensures.grows c.in_ok-found.ensures)
+    (saturates_on (present c.args.places.now) c.assume.new.known c.propagate.new.known c.saturate.new.known _ c.in_ok-conflicts.ensures.grows
+    c.in_ok-found.ensures)

@@ -9,9 +9,9 @@ use Rattle.varisat_present.proofs.present.PresentClauses.push.Goals as goal
 pub invariant_of-self-2 : goal.invariant_of-self-2
 invariant_of-self-2 g c =
     let e = ap present c.in_ok-push.ensures.items ∙ present_added c.self.inside.places.items c.in_ok-copy.copy c.args.clause.now c.in_ok-copy.ensures.items in
-    subst (λ (P : List Clause). Keeps c.is_settled_with-is_settled.result P c.self.inside.known) (sym e)
-    (keeps_added c.self.inside.is_settled c.is_settled_with-is_settled.result
-    (present c.self.inside.places.items) c.args.clause.now c.self.inside.known c.self.invariant c.is_settled_with-is_settled.ensures)
+    subst (λ (P : List Clause). Keeps c.is_saturated_with-is_saturated.result P c.self.inside.known) (sym e)
+    (keeps_added c.self.inside.is_saturated c.is_saturated_with-is_saturated.result
+    (present c.self.inside.places.items) c.args.clause.now c.self.inside.known c.self.invariant c.is_saturated_with-is_saturated.ensures)
 
 pub returns-clause-ok : goal.returns-clause-ok
 returns-clause-ok g c =

@@ -24,7 +24,7 @@ invariant_of-self g c =
     let t = takes_out c.self.inside.places.items (set c.self.inside.places.items c.in-Some.place None) c.in-Some.place c.in-Some.ensures.0
     c.args.clause.now e c.in-Some.ensures.2 refl in
     let w = c.is_spare.ensures c.if-is_spare.true in
-    keeps_without c.self.inside.is_settled (present c.self.inside.places.items)
+    keeps_without c.self.inside.is_saturated (present c.self.inside.places.items)
     (present (set c.self.inside.places.items c.in-Some.place None)) c.args.clause.now c.self.inside.known w.0 t
     (subst (λ (P : List Clause). IsSpare P c.self.inside.known c.args.clause.now) (ap present c.deref-2.ensures.value) w.1) c.self.invariant
 

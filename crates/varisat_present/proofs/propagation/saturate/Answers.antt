@@ -1,29 +1,29 @@
 use Rattle.std.proofs.Common.{arith}
 use Rattle.varisat_present.specs.Places.{present}
-use Rattle.varisat_present.proofs.KnownGrowth.{grows_on, settles_early, settles_found, settles_end, less_left}
-use Rattle.varisat_present.proofs.propagation.settle.Goals as goal
+use Rattle.varisat_present.proofs.KnownGrowth.{grows_on, saturates_early, saturates_found, saturates_end, less_left}
+use Rattle.varisat_present.proofs.propagation.saturate.Goals as goal
 
 pub rounds-init : goal.rounds-init
 rounds-init g c = c.in_ok-is_refuted.ensures.grows
 
 pub returns-then-is_refuted : goal.returns-then-is_refuted
 returns-then-is_refuted g c =
-    settles_early (present c.args.places.now) c.args.known.now c.take_newest.new.known c.in_ok-is_refuted.is_refuted c.if-is_refuted.true
+    saturates_early (present c.args.places.now) c.args.known.now c.take_newest.new.known c.in_ok-is_refuted.is_refuted c.if-is_refuted.true
     c.in_ok-is_refuted.ensures
 
 pub returns-then-is_false : goal.returns-then-is_false
 returns-then-is_false g c =
-    settles_found (present c.args.places.now) c.args.known.now c.rounds.known c.pass.new.known c.rounds.invariant
+    saturates_found (present c.args.places.now) c.args.known.now c.rounds.known c.pass.new.known c.rounds.invariant
     c.in_ok-is_false.ensures.finds.grows (c.in_ok-is_false.ensures.finds.conflict c.if-is_false.true)
 
 pub returns-then-len-count : goal.returns-then-len-count
 returns-then-len-count g c =
-    settles_end (present c.args.places.now) c.args.known.now c.rounds.known c.pass.new.known c.rounds.invariant c.in_ok-is_false.ensures.finds.grows
+    saturates_end (present c.args.places.now) c.args.known.now c.rounds.known c.pass.new.known c.rounds.invariant c.in_ok-is_false.ensures.finds.grows
     (c.in_ok-is_false.ensures.rest c.if-is_false.false) (omega (arith, c.if-len-count.true, c.len-count.ensures, c.len.ensures))
 
 pub returns-then-found : goal.returns-then-found
 returns-then-found g c =
-    settles_found (present c.args.places.now) c.args.known.now c.pass.new.known c.propagate.new.known
+    saturates_found (present c.args.places.now) c.args.known.now c.pass.new.known c.propagate.new.known
     (grows_on (present c.args.places.now) c.args.known.now c.rounds.known c.pass.new.known c.rounds.invariant c.in_ok-is_false.ensures.finds.grows)
     c.in_ok-found.ensures.grows (c.in_ok-found.ensures.conflict c.if-found.true)
 

@@ -1,7 +1,7 @@
 use Rattle.varisat_plain.proofs.PropagationRounds.{unknown}
 use Rattle.varisat_present.specs.Places.{present}
 use Rattle.varisat_present.specs.Knowing.{GrowsKnown}
-use Rattle.varisat_present.proofs.propagation.settle.Given as goal
+use Rattle.varisat_present.proofs.propagation.saturate.Given as goal
 
 abbrev pub invariant-rounds : goal.invariant-rounds
 invariant-rounds g l = GrowsKnown (present l.places) l.fn.known l.known

@@ -60,8 +60,9 @@ use Rattle.std.specs.declared.option.Option.{Option}
 use Rattle.std.specs.declared.option.Option.TheVariants.{None, Some}
 use Rattle.std.proofs.alloc.Shapes.{after, front, arm_body}
 use Rattle.varisat_test_heap.specs.contracts.heap.CutHeap as L
-use Rattle.varisat_test_heap.proofs.Asked.{lent_key, Lends, at_lent, Told, shown_val, seen_if, Shown-typed, lent_goes, lent_Gives}
-use Rattle.varisat_test_heap.proofs.heap.CutHeap.asked.Met as lent_met
+use Rattle.varisat_test_heap.proofs.Asked.{asked_key}
+use Rattle.varisat_test_heap.proofs.Lent.{Lends, at_lent, Told, shown_val, seen_if, Shown-typed, lent_goes, lent_Gives}
+use Rattle.varisat_test_heap.proofs.heap.CutHeap.asked.Met as asked_met
 
 module _ (Z : Al) where
   abbrev args : Args
@@ -80,7 +81,7 @@ module _ (Z : Al) where
   stayed = (stay_dropped self yes, (stay_dropped (plain (λ _. usize)) yes, (stay_dropped (plain (λ _. usize)) yes, tt)))
 
 module _ (Z : Al) {M : Type 1} {𝓤 : Ura M} (𝓛 : Logic 𝓤) (at_mem : Memory → SProp 𝓤) (run : Routine → Fun 𝓤) (𝓣 : Tables 𝓤 𝓛.H) (tk : Triple 𝓤 (𝓣.C (takes_key Z)) (Takes Z 𝓛 at_mem run))
-    (ln : Triple 𝓤 (𝓣.C (lent_key Z)) (Lends Z 𝓛 at_mem run)) where
+    (ln : Triple 𝓤 (𝓣.C (asked_key Z)) (Lends Z 𝓛 at_mem run)) where
   open 𝓛 use {H}
 
   abbrev held : Clauses 𝓤 (ended Z)
@@ -159,4 +160,4 @@ allocate_spec 𝓤 𝓛 𝓜 𝓡 wired Y L g d d' met _ =
     entered 𝓤 𝓛.H (triple_of 𝓛 (F.signature Y) (F.spec Y g d d' 𝓛 𝓜.mem 𝓡.returns)) 𝓣.C 𝓣.Λ (key.name (args Z)) (here Z) (code.unfolded 𝓤 𝓛.H 𝓜 𝓡 wired (Y, tt) d d')
     (walk_Meets 𝓛 (ended Z) (stayed Z) (Goes-dropped 𝓛 2 (self Z) yes (λ κs x f. refl), (Goes-dropped 𝓛 2 (plain (λ _. usize)) yes (λ κs x f. refl), (Goes-dropped 𝓛 2 (plain (λ _. usize)) yes (λ κs x f. refl), tt))) c (WpFn 𝓤 𝓛.H 𝓣.C 𝓣.Λ (here Z)) (WpFn-mono 𝓤 𝓛.H 𝓛.laws 𝓣 (here Z))
     (walked 𝓛 (ended Z) (stayed Z) c (WpFn 𝓤 𝓛.H 𝓣.C 𝓣.Λ (here Z)) (λ κs. (shr_vals, (uint_vals w64, (uint_vals w64, tt)))) (λ κs. ((λ r vs s. s.0), (uint_Tells w64, (uint_Tells w64, tt))))
-    (λ κs qs bounds a τ are. walk Z 𝓛 𝓜.mem 𝓡.returns 𝓣 (met.allocate d') (lent_met.met 𝓤 𝓛 𝓜 𝓡 (code.calls-varisat_test_heap::heap::CutHeap::asked 𝓡.env wired) Y L) κs.0 κs.1.0 qs.0 qs.1.0 bounds.0 a.0 a.1.0 a.1.1.0 τ are.1.0.1 are.1.1.0.1)))
+    (λ κs qs bounds a τ are. walk Z 𝓛 𝓜.mem 𝓡.returns 𝓣 (met.allocate d') (asked_met.met 𝓤 𝓛 𝓜 𝓡 (code.calls-varisat_test_heap::heap::CutHeap::asked 𝓡.env wired) Y L) κs.0 κs.1.0 qs.0 qs.1.0 bounds.0 a.0 a.1.0 a.1.1.0 τ are.1.0.1 are.1.1.0.1)))

@@ -28,12 +28,12 @@ use Rattle.varisat_prop.proofs.DistinctPlaces.{distinct-below}
 use Rattle.varisat.specs.States.{State, with_variables, with_words, Ledger, join_counted, Verdict, Unknown, Sat, Unsat, UnsatUnderAssumptions, IsRight}
 use Rattle.varisat.specs.Names.{Naming, bring, bring_next, bring_if_free, name_one, through_names}
 use Rattle.varisat.specs.Calls.{with_naming, VerdictAfter, Refuted, Reopened, append_clause, reopened_verdict, with_verdict}
-use Rattle.varisat.specs.Carried.{carry, value_or}
+use Rattle.varisat_tracer.specs.Carried.{carry, told_as}
+use Rattle.varisat.specs.Carried.{value_or}
 use Rattle.varisat.specs.Spaces.{Spaces, Carrying, IsWide, translation, SearchHolds, CoreFits, without_core, VerdictFits, Links, SpacesFit, FitWithNew}
 use Rattle.varisat_theory.specs.Journals.{Entry, Accepts, written}
 use Rattle.varisat_proof.specs.Calls.{CheckerState}
 use Rattle.varisat_proof.specs.Proving.{IsCheckedIf}
-use Rattle.varisat_tracer.specs.Carried.{told_as}
 use Rattle.varisat_tracer.specs.Tracing.{global_literal}
 use Rattle.varisat.specs.OpenProofs.{OpenProof}
 use Rattle.varisat.specs.Journals.{retold, TellsStaying}
@@ -186,46 +186,11 @@ raised g s t (w, k) none seen few =
 
 -- 4. What a clause and a list of assumptions begin with.
 
--- the flags do not matter
-pub ledger-free : (w : Carrying) (p : Spaces) (s : State) (l : Ledger) → Links w p s → Links w p (record s { ledger = l })
-ledger-free w p s l k =
-    relinked w p p s (record s { ledger = l }) k
-    (record {
-      solvers = k.solvers;
-      holds = k.holds;
-      assumptions = k.assumptions;
-      working = k.working;
-      verdict = k.verdict;
-      core =
-          k.core;
-      right = k.right;
-      few = k.few;
-      told = k.told;
-      checked = k.checked;
-    })
-
--- nor does the open proof
-pub proof-free : (w : Carrying) (p : Spaces) (s : State) (proof : Option OpenProof) → Links w p s → Links w p (record s { proof = proof })
-proof-free w p s proof k =
-    relinked w p p s (record s { proof = proof }) k
-    (record {
-      solvers = k.solvers;
-      holds = k.holds;
-      assumptions = k.assumptions;
-      working = k.working;
-      verdict = k.verdict;
-      core =
-          k.core;
-      right = k.right;
-      few = k.few;
-      told = k.told;
-      checked = k.checked;
-    })
-
--- nor does the size of the clause store
-pub words-free : (w : Carrying) (p : Spaces) (s : State) (words : ℕ) → Links w p s → Links w p (with_words words s)
-words-free w p s words k =
-    relinked w p p s (with_words words s) k
+-- the flags, the open proof and the size of the clause store do not matter
+links-free : (w : Carrying) (p : Spaces) (s : State) (l : Ledger) (proof : Option OpenProof) (words : ℕ) → Links w p s →
+    Links w p (record s { ledger = l; proof = proof; words = words })
+links-free w p s l proof words k =
+    relinked w p p s (record s { ledger = l; proof = proof; words = words }) k
     (record {
       solvers = k.solvers;
       holds = k.holds;
@@ -238,6 +203,15 @@ words-free w p s words k =
       told = k.told;
       checked = k.checked;
     })
+
+pub ledger-free : (w : Carrying) (p : Spaces) (s : State) (l : Ledger) → Links w p s → Links w p (record s { ledger = l })
+ledger-free w p s l k = links-free w p s l s.proof s.words k
+
+pub proof-free : (w : Carrying) (p : Spaces) (s : State) (proof : Option OpenProof) → Links w p s → Links w p (record s { proof = proof })
+proof-free w p s proof k = links-free w p s s.ledger proof s.words k
+
+pub words-free : (w : Carrying) (p : Spaces) (s : State) (words : ℕ) → Links w p s → Links w p (with_words words s)
+words-free w p s words k = links-free w p s s.ledger s.proof words k
 
 -- the search has no more variables than identities were made
 pub few-made : (w : Carrying) (p : Spaces) (s : State) → Links w p s → p.var_count ≤ s.naming.made

@@ -23,13 +23,15 @@ use Rattle.varisat_names.specs.declared.variables.data.VarData.{VarData}
 use Rattle.varisat.specs.States.{State, Verdict, Unknown, Unsat, IsRight}
 use Rattle.varisat.specs.Names.{through_names}
 use Rattle.varisat.specs.Calls.{ContradictsUnit, VerdictAfter, Refuted, Reopened}
-use Rattle.varisat.specs.Carried.{carry, is_forced}
+use Rattle.varisat_tracer.specs.Carried.{carry, told_as}
+use Rattle.varisat.specs.Carried.{is_forced}
 use Rattle.varisat.specs.Spaces.{Spaces, Carrying, IsWide, IsApart, IsolationCase, NotIsolated, Apart, Forced, IsolationFits, Translation, translation, CheckerFits, SharesHeld, IsCounted, IsGone, TellsWhole, SearchHolds, CoreFits, without_core, VerdictFits, Links}
 use Rattle.varisat.proofs.SpacesMoves.{AreTaken, solver_literal, IsTouched, IsMarkedFor, accept, AreLong, AreInUse}
 use Rattle.varisat_names.proofs.Maps.{chain-some, chain-through}
 use Rattle.varisat.proofs.SearchLinks.{relinked-marks}
 use Rattle.varisat.proofs.SpacesAgree.{map-map, holds-same, isolation-same, marks-same}
-use Rattle.varisat.proofs.Carried.{carry-at, carry-sign, carry-opposite, map-empty, satisfied-carried, forced-value, wide-back}
+use Rattle.varisat.proofs.Carried.{carry-at, carry-sign, map-empty, satisfied-carried, forced-value, wide-back}
+use Rattle.varisat_tracer.specs.RenamedEntries.{carry-opposites}
 use Rattle.varisat.proofs.AcceptSolverVariables.{one-literal}
 use Rattle.varisat.proofs.ReachedHeld.{told_lines, with_told, IsInUse, lines-lead, shares-after, shares-joined, told-quiet, counted-literal}
 use Rattle.varisat.proofs.ToldEntries.{written-derived, told-written, told-accepted, told-assumed, spoken-renamed}
@@ -37,8 +39,6 @@ use Rattle.varisat_proof.specs.Calls.{CheckerState}
 use Rattle.varisat_proof.specs.Proving.{IsCheckedIf}
 use Rattle.varisat.proofs.CheckedHeld.{checker-on, checker-still, told-carried, global-carried}
 use Rattle.varisat_theory.proofs.Journals.{written_stays}
-use Rattle.varisat_tracer.specs.Carried.{told_as}
-use Rattle.varisat_tracer.specs.Carried as global
 use Rattle.varisat.proofs.ToldProofs.{AreToldAs}
 use Rattle.varisat.proofs.SearchHeld.{answers-covers, fixed-on, refuted}
 
@@ -157,7 +157,7 @@ module _ (w : Carrying) (p : Spaces) (s : State) (d : Clause) (k : Links w p s) 
                 one-carried m n i f t.0 t.1 (ap (carry r.identity) y ∙ through n0 g
                 ∙ u.1 (through_names s.naming n0) (∈-map (through_names s.naming) n0 d g) ∙ sym lm),
           ),
-          by-cover (opposite m) i f' D (subst (λ y. IsUnit y D) (sym (carry-opposite r.identity m ∙ ap opposite lm)) o) (h.covered open-verdict D b),
+          by-cover (opposite m) i f' D (subst (λ y. IsUnit y D) (sym (carry-opposites r.identity m ∙ ap opposite lm)) o) (h.covered open-verdict D b),
         ))
         q
 
@@ -170,7 +170,7 @@ module _ (w : Carrying) (p : Spaces) (s : State) (d : Clause) (k : Links w p s) 
     covers-more : v ≢ outcome.Unsat → CoversBy (carry r.identity) (is_forced r.forced) (s.clauses ++ c ∷ []) t
     covers-more n =
         let u : v ≡ outcome.Unknown = ⊎_elim (λ q. absurd (n q.1)) (λ q. q.1) loads.verdict in
-        names_are_loaded p.search t e c lines (carry r.identity) (is_forced r.forced) s.clauses (carry-opposite r.identity)
+        names_are_loaded p.search t e c lines (carry r.identity) (is_forced r.forced) s.clauses (carry-opposites r.identity)
         (subst (λ y. Loads p.search t e y lines) u loads)
         (λ l i. subst (λ y. carry r.identity l ∈ y) same-clause (∈-map (carry r.identity) l e i))
         (h.covered (λ q. let z : outcome.Unknown ≡ outcome.Unsat = q in cc))
@@ -302,12 +302,12 @@ module _ (w : Carrying) (p : Spaces) (s : State) (d : Clause) (k : Links w p s) 
     clause-carried : (m : ℕ → Option ℕ) → ((i x : ℕ) → w.global i ≡ Some x → m i ≡ Some x) → (lines : List Line) →
         SpeakOf (IsLiteralOfEither p.search (map (solver_literal p) d)) lines →
         told_as (carry m) (Accepts (map (through_names s.naming) d) ∷ told_lines (translation w p s.told) lines) ≡ told_as
-        (global.carry p.global_from_solver) (Accepts (map (solver_literal p) d) ∷ written lines)
+        (carry p.global_from_solver) (Accepts (map (solver_literal p) d) ∷ written lines)
     unfolding c e r
     clause-carried m leads lines speaks =
         let to = carry (translation w p s.told).identity in
         let g = carry m in
-        let h = global.carry p.global_from_solver in
+        let h = carry p.global_from_solver in
         let ls = told_lines (translation w p s.told) lines in
         let one : map g (map (through_names s.naming) d) ≡ map h (map (solver_literal p) d) = ap (map g) (sym same-clause)
         ∙ map-map g to h (map (solver_literal p) d) (λ l i. global-carried w p s k m leads l (of-clause l i)) in
@@ -322,7 +322,7 @@ module _ (w : Carrying) (p : Spaces) (s : State) (d : Clause) (k : Links w p s) 
     -- what a proof is told of them
     clause-told-as : (lines : List Line) → SpeakOf (IsLiteralOfEither p.search (map (solver_literal p) d)) lines →
         AreToldAs s.variables s.told ((s.told ++ Accepts (map (through_names s.naming) d) ∷ []) ++ told_lines (translation w p s.told) lines)
-        (told_as (global.carry p.global_from_solver) (Accepts (map (solver_literal p) d) ∷ written lines))
+        (told_as (carry p.global_from_solver) (Accepts (map (solver_literal p) d) ∷ written lines))
     unfolding c e r
     clause-told-as lines speaks =
         let ls = told_lines (translation w p s.told) lines in
@@ -335,7 +335,7 @@ module _ (w : Carrying) (p : Spaces) (s : State) (d : Clause) (k : Links w p s) 
 
     -- the checker took the clause and the lines
     clause-checked : (checker : Option CheckerState) (lines : List Line) →
-        IsCheckedIf p.checker (told_as (global.carry p.global_from_solver) (Accepts (map (solver_literal p) d) ∷ written lines)) checker →
+        IsCheckedIf p.checker (told_as (carry p.global_from_solver) (Accepts (map (solver_literal p) d) ∷ written lines)) checker →
         p.outcome ≡ outcome.Unknown → SpeakOf (IsLiteralOfEither p.search (map (solver_literal p) d)) lines →
         CheckerFits w.global ((s.told ++ Accepts (map (through_names s.naming) d) ∷ []) ++ told_lines (translation w p s.told) lines) checker
     unfolding c e r
@@ -349,11 +349,11 @@ module _ (w : Carrying) (p : Spaces) (s : State) (d : Clause) (k : Links w p s) 
         (k.checked (λ q. let z : outcome.Unknown ≡ outcome.Unsat = sym (ap without_core o) ∙ q in cc)))
 
     pub loaded : (t : Search) (v : Outcome) (m : ℕ → Bool) (checker : Option CheckerState) (lines : List Line) →
-        IsCheckedIf p.checker (told_as (global.carry p.global_from_solver) (Accepts (map (solver_literal p) d) ∷ written lines)) checker →
+        IsCheckedIf p.checker (told_as (carry p.global_from_solver) (Accepts (map (solver_literal p) d) ∷ written lines)) checker →
         p.outcome ≡ outcome.Unknown → AreLong p.search → AreLong t → AreInUse p t → Loads p.search t (map (solver_literal p) d) v lines →
         (x : Verdict) × (told : List Entry) × VerdictAfter s.clauses (map (through_names s.naming) d) Unknown x
         × TellsStaying 0 (s.told ++ Accepts (map (through_names s.naming) d) ∷ []) told
-        × AreToldAs s.variables s.told told (told_as (global.carry p.global_from_solver) (Accepts (map (solver_literal p) d) ∷ written lines))
+        × AreToldAs s.variables s.told told (told_as (carry p.global_from_solver) (Accepts (map (solver_literal p) d) ∷ written lines))
         × Links w
         (record p { kept = after; search = t; outcome = v; model = m; checker = checker })
         (retold told (accept (map (through_names s.naming) d) x s))
@@ -407,10 +407,10 @@ module _ (w : Carrying) (p : Spaces) (s : State) (d : Clause) (k : Links w p s) 
         loads.verdict
 
   -- what a proof is told of the list
-  pub list-carried : map (carry s.variables) (map (through_names s.naming) d) ≡ map (global.carry p.global_from_solver) (map (solver_literal p) d)
+  pub list-carried : map (carry s.variables) (map (through_names s.naming) d) ≡ map (carry p.global_from_solver) (map (solver_literal p) d)
   unfolding c e r
   list-carried = ap (map (carry s.variables)) (sym same-clause)
-      ∙ map-map (carry s.variables) (carry (translation w p s.told).identity) (global.carry p.global_from_solver) (map (solver_literal p) d)
+      ∙ map-map (carry s.variables) (carry (translation w p s.told).identity) (carry p.global_from_solver) (map (solver_literal p) d)
       (λ l i. global-carried w p s k s.variables k.variables l (of-clause l i))
 
   -- The list is assumed, of which the search has the literals. No verdict on the assumptions before is left.

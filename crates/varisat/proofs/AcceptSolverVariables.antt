@@ -13,7 +13,8 @@ use Rattle.varisat_literals.specs.Numbers.{polarity_of}
 use Rattle.varisat_prop.proofs.LiteralValues.{same-literal}
 use Rattle.varisat_names.specs.Maps.{updated, onward, chain}
 use Rattle.varisat.specs.States.{State}
-use Rattle.varisat.specs.Carried.{carry, is_forced}
+use Rattle.varisat_tracer.specs.Carried.{carry}
+use Rattle.varisat.specs.Carried.{is_forced}
 use Rattle.varisat.specs.Spaces.{Spaces, Carrying, Translation, translation, IsSettledBy, SearchHolds, AssumptionsFit, without_core, Links}
 use Rattle.varisat.proofs.SpacesMoves.{take_solver}
 use Rattle.varisat_search.proofs.TakenSolvers.{few, below, below-count, ∈-below}

@@ -17,7 +17,7 @@ use Rattle.varisat_proof.specs.Telling.{lines_told, bytes_told}
 use Rattle.varisat_proof.specs.Written.{Written, AreInRange}
 use Rattle.varisat_proof.proofs.RightResults.{derivation_accepted}
 use Rattle.varisat.specs.Laws.{BytesAreAccepted}
-use Rattle.varisat.specs.Carried.{carry}
+use Rattle.varisat_tracer.specs.Carried.{carry}
 use Rattle.varisat.specs.OpenProofs.{lines_over}
 use Rattle.varisat.proofs.OpenProofs.{lines-renamed}
 

@@ -16,14 +16,13 @@ use Rattle.varisat_names.specs.Variables.{Tables}
 use Rattle.varisat.specs.States.{State, join_counted, Verdict, Unknown, Sat, Unsat, UnsatUnderAssumptions}
 use Rattle.varisat.specs.Names.{through_names}
 use Rattle.varisat.specs.Calls.{assumed_verdict, with_assumptions, with_verdict}
-use Rattle.varisat.specs.Carried.{carry}
+use Rattle.varisat_tracer.specs.Carried.{carry}
 use Rattle.varisat_theory.specs.Journals.{Assumes}
 use Rattle.varisat.specs.Journals.{retold}
 use Rattle.varisat.specs.Spaces.{Carrying, MarksFit, Links, SpacesFit}
 use Rattle.varisat.specs.Summaries.{Summary, spaces, spaces_of}
 use Rattle.varisat.specs.Accepting.{HasSolver, AreMarked}
 use Rattle.varisat.proofs.SpacesMoves.{IsMarkedFor, count, solver_literal}
-use Rattle.varisat_tracer.specs.Carried as global
 use Rattle.varisat.proofs.AcceptLoad.{list-carried, assumed}
 use Rattle.varisat.proofs.AcceptClause.{raised}
 use Rattle.varisat.proofs.SolveVerdict.{forgotten, spaces-same}
@@ -100,7 +99,7 @@ pub record Assuming (g : Summary) (list : List Literal) (cleared marked : Tables
 pub list-told : (g : Summary) (n : State) (list : List Literal) (cleared marked : Tables) (new : View) (parts : AssumptionParts)
     (after : SatState) → Assuming g list cleared marked new parts after →
     SpacesFit (spaces g) (count (join_counted n.counted (map variable_of (map (through_names n.naming) list))) n) →
-    map (carry n.variables) (map (through_names n.naming) list) ≡ map (global.carry (at g.tables.solvers.backward))
+    map (carry n.variables) (map (through_names n.naming) list) ≡ map (carry (at g.tables.solvers.backward))
     (map (carry (chain (at g.tables.users.forward) (at g.tables.solvers.forward))) list)
 list-told g n list cleared marked new parts after t (w, k) =
     list-carried w (spaces g) (count (join_counted n.counted (map variable_of (map (through_names n.naming) list))) n) list k t.all

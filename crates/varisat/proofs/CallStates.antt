@@ -12,47 +12,15 @@ use Rattle.varisat_theory.specs.Journals.{Entry}
 use Rattle.varisat.specs.Journals.{TellsMore, TellsStaying, AreDerived}
 use Rattle.varisat.specs.Names.{name_all}
 use Rattle.varisat.specs.OpenProofs.{OpenProof, IsOpen, lines_over, GoesOnWriting, GoesOnFailing, ProofFits, BarsAssumptions}
+use Rattle.varisat.proofs.LikeStates.{same-by}
 use Rattle.varisat.proofs.OpenProofs.{goes-on-none, goes-on-unfailed, barred-before}
 use Rattle.varisat_proof.specs.Assumed.{lists_of}
 use Rattle.varisat.proofs.ToldEntries.{stays-nothing}
 use Rattle.varisat.specs.Spaces.{SpacesFit}
 use Rattle.varisat.specs.Summaries.{Summary, spaces, StandsFor}
 
-pub like-refl : (s : State) → IsLike s s
-like-refl s = record {
-  same = refl;
-  told =
-      (stays-nothing s.told).0;
-  derived = (stays-nothing s.told).2;
-  stays = λ _. (stays-nothing s.told).1;
-  alike = refl;
-  proof = goes-on-none s.proof;
-}
-
--- the same, but that an open proof has further bytes, and the clause store another size
-pub like-grown : (s : State) (proof : Option OpenProof) (words : ℕ) → GoesOnWriting s.proof proof → IsLike s (record s { proof = proof; words = words })
-like-grown s proof words g = record {
-  same = refl;
-  told = (stays-nothing s.told).0;
-  derived = (stays-nothing s.told).2;
-  stays = λ _. (stays-nothing s.told).1;
-  alike = refl;
-  proof = g;
-}
-
--- the same, but that identities have other variables than before, as which no line was written
-pub like-varied : (s : State) (variables : ℕ → Option ℕ) (words : ℕ) → lines_over variables s.told ≡ lines_over s.variables s.told →
-    IsLike s (with_words words (with_variables variables s))
-like-varied s variables words same = record {
-  same = refl;
-  told = (stays-nothing s.told).0;
-  derived = (stays-nothing s.told).2;
-  stays = λ _. (stays-nothing s.told).1;
-  alike = same;
-  proof = goes-on-none s.proof;
-}
-
--- and that more was told, and an open proof has further bytes
+-- the same, but that more was told, identities have other variables than before, as which no line was written, an open proof has further
+-- bytes, and the clause store another size
 pub like-told : (s : State) (told : List Entry) (variables : ℕ → Option ℕ) (proof : Option OpenProof) (words : ℕ) → TellsStaying 0 s.told told →
     lines_over variables s.told ≡ lines_over s.variables s.told → GoesOnWriting s.proof proof →
     IsLike s (record s { told = told; variables = variables; proof = proof; words = words })
@@ -64,6 +32,18 @@ like-told s told variables proof words (m, n, d) same g = record {
   alike = same;
   proof = g;
 }
+
+pub like-refl : (s : State) → IsLike s s
+like-refl s = like-told s s.told s.variables s.proof s.words (stays-nothing s.told) refl (goes-on-none s.proof)
+
+-- where the open proof and the clause store alone have changed
+pub like-grown : (s : State) (proof : Option OpenProof) (words : ℕ) → GoesOnWriting s.proof proof → IsLike s (record s { proof = proof; words = words })
+like-grown s proof words g = like-told s s.told s.variables proof words (stays-nothing s.told) refl g
+
+-- and where the variables and the clause store alone have
+pub like-varied : (s : State) (variables : ℕ → Option ℕ) (words : ℕ) → lines_over variables s.told ≡ lines_over s.variables s.told →
+    IsLike s (with_words words (with_variables variables s))
+like-varied s variables words same = like-told s s.told variables s.proof words (stays-nothing s.told) same (goes-on-none s.proof)
 
 -- so it is where variables may have left
 pub like-retold : (s : State) (told : List Entry) (variables : ℕ → Option ℕ) (proof : Option OpenProof) → (m : TellsMore 0 s.told told) →
@@ -100,6 +80,19 @@ more-since changed_at before after since l h e = omega (arith, l, h, e)
 
 pub none-more : (since steps : ℕ) → since ≡ since + (steps - steps)
 none-more since steps = omega arith
+
+-- where no step is made the state is like itself
+pub like-still : (s : State) → IsLike (with_steps s.ledger.steps s) s
+like-still s = record {
+  same = same-by (with_steps s.ledger.steps s) s refl refl refl refl refl refl
+      (ledger-is s.ledger s.ledger.valid s.ledger.started s.ledger.steps (s.ledger.since + (s.ledger.steps - s.ledger.steps)) s.ledger.settings
+      s.ledger.checking refl refl refl (none-more s.ledger.since s.ledger.steps) refl refl);
+  told = (stays-nothing s.told).0;
+  derived = (stays-nothing s.told).2;
+  stays = λ _. (stays-nothing s.told).1;
+  alike = refl;
+  proof = goes-on-none s.proof;
+}
 
 -- no more since it
 pub same-since : (changed_at before after since : ℕ) → after ≡ before → since ≡ before - changed_at → since + (after - before) ≡ after - changed_at

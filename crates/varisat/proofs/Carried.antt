@@ -1,5 +1,5 @@
 -- Literals that are carried, and their values.
-use Rattle.std.proofs.Common.{◌≡◌, ℕ, ◌+◌, ◌-◌, ◌*◌, ◌/◌, ◌%◌, Bool, true, false, not, nat_eq, if◌then◌else◌, Option, Some, None, List, [], ◌∷◌, ◌++◌, IsTrue, ◌↔◌, ◌⊎◌, ⊎_elim, sym, ap, ◌∙◌, subst, refl, map, arith}
+use Rattle.std.proofs.Common.{◌≡◌, ℕ, ◌+◌, ◌*◌, ◌/◌, ◌%◌, Bool, true, false, not, nat_eq, if◌then◌else◌, Option, Some, None, List, [], ◌∷◌, ◌++◌, IsTrue, ◌↔◌, ◌⊎◌, ⊎_elim, sym, ap, ◌∙◌, subst, refl, map, arith}
 use Rattle.varisat_theory.specs.Membership.{◌∈◌}
 use Rattle.varisat_theory.specs.Literals.{Literal, Clause, Assignment, variable_of, literal_of, opposite, value, Satisfies, SatisfiesAll}
 use Rattle.varisat_theory.proofs.Members.{∈-append_cases}
@@ -8,7 +8,9 @@ use Rattle.varisat_literals.specs.Numbers.{polarity_of}
 use Rattle.varisat_prop.proofs.LiteralValues.{same-literal}
 use Rattle.varisat_search.proofs.StepOutcome.{variable-literal, polarity-literal}
 use Rattle.varisat.specs.Names.{identity_of}
-use Rattle.varisat.specs.Carried.{carry, AgreesAlong, is_value, is_forced}
+use Rattle.varisat_tracer.specs.Carried.{carry}
+use Rattle.varisat_tracer.specs.RenamedEntries.{carry-opposites}
+use Rattle.varisat.specs.Carried.{AgreesAlong, is_value, is_forced}
 use Rattle.varisat.specs.Spaces.{IsWide}
 
 pub map-empty : (f : Literal → Literal) (c : Clause) → map f c ≡ [] → c ≡ []
@@ -51,16 +53,6 @@ carry-sign f l = ap (λ n. nat_eq n 0) (carry-rest f l)
 pub carry-at : (f : ℕ → Option ℕ) (l : Literal) (i : ℕ) → f (variable_of l) ≡ Some i → variable_of (carry f l) ≡ i
 carry-at f l i e = carry-variable f l ∙ ap identity_of e
 
-pub carry-opposite : (f : ℕ → Option ℕ) (l : Literal) → carry f (opposite l) ≡ opposite (carry f l)
-unfolding opposite
-carry-opposite f l = ap (λ v. 2 * identity_of (f v) + (l + 1 - 2 * (l % 2)) % 2) (half l) ∙ go (identity_of (f (variable_of l))) l
-  where
-    half : (l : ℕ) → (l + 1 - 2 * (l % 2)) / 2 ≡ l / 2
-    half l = omega arith
-
-    go : (x l : ℕ) → 2 * x + (l + 1 - 2 * (l % 2)) % 2 ≡ 2 * x + l % 2 + 1 - 2 * ((2 * x + l % 2) % 2)
-    go x l = omega arith
-
 pub value-carry : (f : ℕ → Option ℕ) (a : Assignment) (l : Literal) → value a (carry f l) ≡ value (λ v. a (identity_of (f v))) l
 unfolding value
 value-carry f a l = rw (carry-rest f l, carry-variable f l) refl
@@ -78,7 +70,7 @@ wide-back f c ((l, m, i, j, n), t) =
     let p = map-∈ (carry f) l c i in
     let q = map-∈ (carry f) m c j in (
       (p.0, q.0, p.1, q.1, λ e. n (p.2 ∙ ap (carry f) e ∙ sym q.2)),
-      λ (k, h, o). t (carry f k, ∈-map (carry f) k c h, subst (λ y. y ∈ map (carry f) c) (carry-opposite f k) (∈-map (carry f) (opposite k) c o)),
+      λ (k, h, o). t (carry f k, ∈-map (carry f) k c h, subst (λ y. y ∈ map (carry f) c) (carry-opposites f k) (∈-map (carry f) (opposite k) c o)),
     )
 
 -- a clause is satisfied where its literals, carried along, are

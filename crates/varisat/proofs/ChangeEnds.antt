@@ -18,9 +18,9 @@ use Rattle.varisat.proofs.SinceSteps.{since-now}
 
 -- 1. The change came to a value.
 
-pub kept-counted : {A : Type 0} (tables : Tables) (proof : ProofParts) (x y : Context A) (started : Bool) (changed_at : ℕ) → CountsAnew x y changed_at →
+pub kept-changed : {A : Type 0} (tables : Tables) (proof : ProofParts) (x y : Context A) (started : Bool) (changed_at : ℕ) → CountsAnew x y changed_at →
     IsKept tables x → CanTell proof → StandsForSome (spaces_with tables proof.checker x) started → IsKeptSince tables proof y started changed_at
-kept-counted {A} tables proof x y started changed_at c k t s =
+kept-changed {A} tables proof x y started changed_at c k t s =
     subst (λ (z : Context A). IsKeptSince tables proof z started changed_at) (sym c.same)
     (record { kept = k; tells = t; counts = since-now changed_at x c.steps k.ready c.plan; stands = s })
 

@@ -27,16 +27,13 @@ use Rattle.varisat_search.specs.Steps.{assignment_of}
 use Rattle.varisat_search.specs.declared.state.SatState.{SatState}
 use Rattle.varisat_search.specs.declared.state.SatState.TheVariants as verdict
 use Rattle.varisat_trace.specs.Traces.{HoldsFor}
-use Rattle.varisat_tracer.specs.Carried.{told_as}
-use Rattle.varisat_tracer.specs.Carried as global
+use Rattle.varisat_tracer.specs.Carried.{carry, told_as}
 use Rattle.varisat_tracer.specs.Tracing.{Relies, CanTell}
-use Rattle.varisat.specs.Carried.{carry}
 use Rattle.varisat.specs.Searches.{ComesOn}
 use Rattle.varisat.specs.Spaces.{Spaces, Carrying, translation, without_core, AreLive, SharesHeld, CheckerFits, Links, FitSome}
 use Rattle.varisat.specs.States.{State}
 use Rattle.varisat.specs.Summaries.{spaces_of}
 use Rattle.varisat.proofs.Carried.{carry-at, carry-sign}
-use Rattle.varisat.proofs.ToldProofs.{same-carry}
 use Rattle.varisat.proofs.ReachedHeld.{left-apart, told-live}
 use Rattle.varisat.proofs.SpacesAgree.{map-map, carry-same, rename-same}
 
@@ -165,7 +162,7 @@ module _ (w : Carrying) (p : Spaces) (s : State) (k : Links w p s) where
   -- a literal over a solver variable in use, by any map that gives live identities their global variables
   pub global-carried : (m : ℕ → Option ℕ) → ((i x : ℕ) → w.global i ≡ Some x → m i ≡ Some x) → (l : Literal) →
       (i : ℕ) × ((translation w p s.told).identity (variable_of l) ≡ Some i) →
-      carry m (carry (translation w p s.told).identity l) ≡ global.carry p.global_from_solver l
+      carry m (carry (translation w p s.told).identity l) ≡ carry p.global_from_solver l
   global-carried m leads l (i, e) =
       let to = (translation w p s.told).identity in
       let (x, f, g) = chain-through p.global_from_solver w.identity (variable_of l) i e in
@@ -173,17 +170,16 @@ module _ (w : Carrying) (p : Spaces) (s : State) (k : Links w p s) where
       same-literal (carry m (carry to l)) (carry p.global_from_solver l)
       (carry-at m (carry to l) x there ∙ sym (carry-at p.global_from_solver l x f))
       (carry-sign m (carry to l) ∙ carry-sign to l ∙ sym (carry-sign p.global_from_solver l))
-      ∙ same-carry p.global_from_solver l
 
   -- 3. What a search may rely on.
 
   -- Clauses that it shares are, with those that were forgotten, what the checker has.
   pub shared-held : {fixed : List Literal} (share : List Clause) → SharesHeld (translation w p s.told) fixed share →
-      CheckerFits w.global s.told p.checker → (others : List Clause) × MayBeHeld p.checker (others ++ rename (global.carry p.global_from_solver) share)
+      CheckerFits w.global s.told p.checker → (others : List Clause) × MayBeHeld p.checker (others ++ rename (carry p.global_from_solver) share)
   shared-held share q fits =
       let f = carry (translation w p s.told).identity in
       let g = carry w.global in
-      let names : rename g (q.forgotten ++ rename f share) ≡ rename g q.forgotten ++ rename (global.carry p.global_from_solver) share =
+      let names : rename g (q.forgotten ++ rename f share) ≡ rename g q.forgotten ++ rename (carry p.global_from_solver) share =
       map-append (map g) q.forgotten (rename f share) ∙ ap (λ xs. rename g q.forgotten ++ xs) (renamed share q.inside) in (
         rename g q.forgotten,
         subst (MayBeHeld p.checker) names
@@ -197,13 +193,13 @@ module _ (w : Carrying) (p : Spaces) (s : State) (k : Links w p s) where
 
       renamed : (P : List Clause) → ((c : Clause) (l : Literal) → c ∈ P → l ∈ c → (i : ℕ)
           × ((translation w p s.told).identity (variable_of l) ≡ Some i)) →
-          rename (carry w.global) (rename (carry (translation w p s.told).identity) P) ≡ rename (global.carry p.global_from_solver) P
+          rename (carry w.global) (rename (carry (translation w p s.told).identity) P) ≡ rename (carry p.global_from_solver) P
       renamed [] inside = refl
       renamed (c ∷ P) inside =
-          let one = map-map (carry w.global) (carry (translation w p s.told).identity) (global.carry p.global_from_solver) c
+          let one = map-map (carry w.global) (carry (translation w p s.told).identity) (carry p.global_from_solver) c
           (λ l i. global-carried w.global (λ j x e. e) l (inside c l (inl refl) i)) in
           ap (λ (d : Clause). d ∷ rename (carry w.global) (rename (carry (translation w p s.told).identity) P)) one
-          ∙ ap (λ ds. map (global.carry p.global_from_solver) c ∷ ds) (renamed P (λ d l h i. inside d l (inr h) i))
+          ∙ ap (λ ds. map (carry p.global_from_solver) c ∷ ds) (renamed P (λ d l h i. inside d l (inr h) i))
 
 -- What a solver's journal leads to is over live identities, unless it is known to be unsatisfiable.
 pub all-live : (w : Carrying) (p : Spaces) (s : State) → Links w p s → without_core p.outcome ≢ outcome.Unsat → (held : List Clause) →

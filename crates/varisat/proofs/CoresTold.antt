@@ -12,7 +12,7 @@ use Rattle.varisat_proof.specs.declared.proof.format.ProofFormat.TheVariants.{Ma
 use Rattle.varisat_proof.specs.Lines.{line_of_kind}
 use Rattle.varisat_proof.specs.Written.{line_text}
 use Rattle.varisat_proof.specs.Telling.{bytes_told}
-use Rattle.varisat.specs.Carried.{carry}
+use Rattle.varisat_tracer.specs.Carried.{carry}
 use Rattle.varisat.specs.OpenProofs.{entries_over}
 use Rattle.varisat.specs.Journals.{TellsMore, EndWithCore, EndBy}
 use Rattle.varisat.proofs.OpenProofs.{bytes-more}

@@ -17,7 +17,8 @@ use Rattle.varisat_names.specs.Maps.{updated, onward, chain}
 use Rattle.varisat_names.specs.declared.variables.data.VarData.{VarData}
 use Rattle.varisat_names.proofs.Maps.{updated-at, updated-other, updated-all, parted, chain-some, chain-none, chain-through}
 use Rattle.varisat.specs.States.{State}
-use Rattle.varisat.specs.Carried.{carry, AgreesAlong, is_value, is_forced}
+use Rattle.varisat_tracer.specs.Carried.{carry}
+use Rattle.varisat.specs.Carried.{AgreesAlong, is_value, is_forced}
 use Rattle.varisat.specs.Spaces.{Spaces, Carrying, UnitsFit, IsolationCase, NotIsolated, Apart, Forced, IsolationFits, AssumptionsFit, Translation, IsKnownTrue, SharesHeld, SearchHolds, without_core, translation, Links}
 use Rattle.varisat.proofs.Carried.{carry-at, carry-sign, literal-parts, forced-value}
 use Rattle.varisat.proofs.SpacesAgree.{identities-same, modes-same, marks-same, working-same, carry-same, value-same, settled-through}

@@ -27,7 +27,8 @@ use Rattle.varisat_tracer.specs.Tracing.{TracerState, leaves_if_deleted}
 use Rattle.varisat_names.specs.declared.variables.data.VarData.{VarData}
 use Rattle.varisat_names.proofs.Maps.{updated-at, updated-other, updated-all}
 use Rattle.varisat.specs.States.{State}
-use Rattle.varisat.specs.Carried.{carry, is_forced}
+use Rattle.varisat_tracer.specs.Carried.{carry}
+use Rattle.varisat.specs.Carried.{is_forced}
 use Rattle.varisat_theory.specs.Journals.{Entry, Leaves}
 use Rattle.varisat.specs.Journals.{retold, TellsLeaving}
 use Rattle.varisat.proofs.ToldProofs.{leaving-none, leaving-nothing, leaving-one, leaving-through}

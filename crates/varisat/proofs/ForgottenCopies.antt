@@ -11,10 +11,11 @@ use Rattle.varisat_search.proofs.StepOutcome.{variable-literal, polarity-literal
 use Rattle.varisat_names.specs.Maps.{chain}
 use Rattle.varisat_names.proofs.Maps.{chain-some, chain-through, is-some}
 use Rattle.varisat.specs.States.{State}
-use Rattle.varisat.specs.Carried.{carry}
+use Rattle.varisat_tracer.specs.Carried.{carry}
 use Rattle.varisat.specs.Spaces.{Carrying, Spaces, translation, IsSettledBy, SearchHolds, Links}
 use Rattle.varisat.proofs.AcceptSolverVariables.{one-literal}
-use Rattle.varisat.proofs.Carried.{carry-at, carry-sign, carry-opposite, forced-value}
+use Rattle.varisat.proofs.Carried.{carry-at, carry-sign, forced-value}
+use Rattle.varisat_tracer.specs.RenamedEntries.{carry-opposites}
 use Rattle.varisat.proofs.ReachedHeld.{IsInUse}
 
 -- 1. Variables and literals.
@@ -84,7 +85,7 @@ module _ (w : Carrying) (p : Spaces) (s : State) (k : Links w p s) where
         let (n, j, o) = map-∈ (carry to) (opposite l) e b in
         let (x, u) = in-use m i in
         let same : opposite m ≡ n = one-literal w p s k (opposite m) n (x, ap to (variable-opposite m) ∙ u) (in-use n j)
-        (carry-opposite to m ∙ ap opposite (sym q) ∙ o) in
+        (carry-opposites to m ∙ ap opposite (sym q) ∙ o) in
         inl (m, i, subst (λ y. y ∈ e) (sym same) j)
     settled-back e in-use (inr (l, a, known)) =
         let to = (translation w p s.told).identity in

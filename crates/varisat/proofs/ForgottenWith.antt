@@ -10,9 +10,9 @@ use Rattle.varisat_theory.proofs.HeldDrops.{mentioned_literal, literal_mentioned
 use Rattle.varisat_theory.proofs.SearchFits.{clause_from}
 use Rattle.varisat_theory.proofs.Held.{same_clauses-back, same_clauses_find}
 use Rattle.varisat_theory.proofs.Renaming.{∈-map, map-∈}
-use Rattle.varisat.specs.Carried.{carry}
+use Rattle.varisat_tracer.specs.Carried.{carry}
 use Rattle.varisat.specs.Spaces.{Translation, IsSettledBy}
-use Rattle.varisat.proofs.Carried.{carry-opposite}
+use Rattle.varisat_tracer.specs.RenamedEntries.{carry-opposites}
 use Rattle.varisat.proofs.ReachedHeld.{only, only-is, mentioned}
 
 pub not-over : (v : ℕ) (c : Clause) (l : Literal) → mentions v c ≡ false → l ∈ c → variable_of l ≢ v
@@ -54,7 +54,7 @@ settled-with r v share s f other c h =
     (λ a. let (k, b, q) = clause_from s.kept x a in let (m, y, o) = mentioned_literal v d (only-is v share d i).1 in
     let z : true ≡ false = sym (literal_mentioned v x m (t.1 m y) o) ∙ ap (mentions v) (sym q) ∙ other k b in absurd cc)
     (λ a. ⊎_elim
-    (λ (l, b, o). inl (to l, ∈-map to l d (t.0 l b), subst (λ m. m ∈ map to d) (carry-opposite r.identity l) (∈-map to (opposite l) d (t.0 (opposite l) o))))
+    (λ (l, b, o). inl (to l, ∈-map to l d (t.0 l b), subst (λ m. m ∈ map to d) (carry-opposites r.identity l) (∈-map to (opposite l) d (t.0 (opposite l) o))))
     (λ (l, b, o). inr (to l, ∈-map to l d (t.0 l b), inr (l, o, refl)))
     (f.settled x a))
     (∈-append_cases x (clauses_of s.kept) f.others j))

@@ -9,7 +9,7 @@ use Rattle.varisat_names.specs.declared.variables.data.SamplingMode.TheVariants 
 use Rattle.varisat_names.proofs.Maps.{updated-at, updated-other, updated-all, parted, chain-some, chain-none, chain-through}
 use Rattle.varisat.specs.States.{State, Verdict, Unknown, Sat, Unsat, UnsatUnderAssumptions, IsRight, IsWellFormed}
 use Rattle.varisat.specs.Usage.{hide_name}
-use Rattle.varisat.specs.Carried.{carry}
+use Rattle.varisat_tracer.specs.Carried.{carry}
 use Rattle.varisat.specs.Spaces.{Spaces, Carrying, ModeFits, NamesFit, ModesFit, AssumptionsFit, MarksFit, CoreFits, Links}
 use Rattle.varisat.proofs.Carried.{carry-at}
 use Rattle.varisat.proofs.SpacesAgree.{identities-same, units-same, isolation-same, carry-same, map-same}

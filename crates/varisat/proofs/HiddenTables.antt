@@ -16,7 +16,8 @@ use Rattle.varisat.specs.States.{State}
 use Rattle.varisat.specs.Names.{Mode, give_name, IsLeastFree, IsUnnamed}
 use Rattle.varisat.specs.Calls.{with_naming}
 use Rattle.varisat.specs.Usage.{IsAssumed, with_mode, hide_name}
-use Rattle.varisat.specs.Carried.{carry, value_or}
+use Rattle.varisat_tracer.specs.Carried.{carry}
+use Rattle.varisat.specs.Carried.{value_or}
 use Rattle.varisat_theory.specs.Journals.{Entry, Leaves}
 use Rattle.varisat_theory.specs.Literals.{Literal}
 use Rattle.varisat_theory.specs.Outcomes as outcome

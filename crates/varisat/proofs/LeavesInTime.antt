@@ -1,11 +1,10 @@
 -- Variables leave in time, step by step.
-use Rattle.std.proofs.Common.{◌≡◌, ◌≢◌, List, Result, Ok, Err, MatchResult, true, false, inl, inr, ⊎_elim, sym, subst}
+use Rattle.std.proofs.Common.{◌≡◌, List, Result, Ok, Err, MatchResult, true, false, inl, inr, ⊎_elim, sym, subst}
 use Rattle.std.specs.Result.{IsErr}
 use Rattle.varisat_theory.specs.Derivations.{Line}
 use Rattle.varisat_names.specs.Variables.{Tables}
 use Rattle.varisat_search.specs.declared.context.Context.{Context}
-use Rattle.varisat_search.specs.declared.state.SatState.TheVariants as verdict
-use Rattle.varisat_search.specs.Contexts.{view, IsReady}
+use Rattle.varisat_search.specs.Contexts.{view, IsNotUnsat, IsReady}
 use Rattle.varisat_search.specs.DueReductions.{BeginsStep}
 use Rattle.varisat_search.specs.SettledUnits.{FixesByLearning}
 use Rattle.varisat_search.proofs.FixedLiterals.{begun-fixed}
@@ -20,7 +19,7 @@ leaves-begun t u x z r b e h =
 
 -- and makes its conflict step
 pub leaves-stepped : {A : Type 0} (t u : Tables) (x y : Context A) → u ≡ t → FixesByLearning x y → HasLetLeave t (view x) →
-    y.solver_state.sat_state ≢ verdict.Unsat → LeavesInTime u (view y)
+    IsNotUnsat y → LeavesInTime u (view y)
 leaves-stepped t u x y e f (inl (none, calm)) n =
     subst (λ (m : Tables). LeavesInTime m (view y)) (sym e) (⊎_elim (λ same. inl (subst (AreOverAssumed t) (sym same) none)) inr (f.keeps calm n))
 leaves-stepped t u x y e f (inr (undecided, (conflict, is_false))) n = absurd (n (f.refutes undecided conflict is_false))

@@ -11,7 +11,7 @@ use Rattle.varisat_names.proofs.Maps.{chain-some, chain-none}
 use Rattle.varisat.specs.States.{State, Verdict, Unknown, Sat, Unsat, UnsatUnderAssumptions, IsRight}
 use Rattle.varisat.specs.Names.{through_names}
 use Rattle.varisat.specs.Models.{put_name, list_names, model_of, IsRising, IsCompletable}
-use Rattle.varisat.specs.Carried.{carry}
+use Rattle.varisat_tracer.specs.Carried.{carry}
 use Rattle.varisat.specs.Spaces.{Spaces, Carrying, Links, VerdictFits, list_globals}
 use Rattle.varisat.proofs.Carried.{value-true, carry-at, carry-sign}
 

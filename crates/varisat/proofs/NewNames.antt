@@ -12,7 +12,7 @@ use Rattle.varisat_names.specs.declared.variables.data.SamplingMode.TheVariants 
 use Rattle.varisat.specs.States.{State, with_variables, Verdict, Sat, IsRight, IsWellFormed}
 use Rattle.varisat.specs.Names.{Sample, bring}
 use Rattle.varisat.specs.Calls.{with_naming}
-use Rattle.varisat.specs.Carried.{carry}
+use Rattle.varisat_tracer.specs.Carried.{carry}
 use Rattle.varisat.specs.Spaces.{Spaces, Carrying, ModeFits, IdentitiesFit, NamesFit, ModesFit, UnitsFit, IsolationCase, NotIsolated, Apart, Forced, IsolationFits, AssumptionsFit, MarksFit, without_core, translation, IsPlain, Links, SpacesFit}
 use Rattle.varisat.proofs.CheckedHeld.{all-live, checker-alike}
 use Rattle.varisat.proofs.SpacesMoves.{give}

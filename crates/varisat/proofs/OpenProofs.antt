@@ -20,7 +20,7 @@ use Rattle.varisat_proof.specs.Proving.{OpenState, ProofParts, told, marked_sear
 use Rattle.varisat_proof.specs.Proving as proving
 use Rattle.varisat_tracer.specs.Tracing.{BreaksProof}
 use Rattle.varisat_tracer.proofs.Telling.{unopened-unbroken}
-use Rattle.varisat.specs.Carried.{carry}
+use Rattle.varisat_tracer.specs.Carried.{carry}
 use Rattle.varisat.specs.OpenProofs.{OpenProof, opened_state, IsOpen, lines_over, IsWrittenWhereOpen, ProofFits, GoesOnWriting, GoesOnFailing, searched_under, first_proof, taken_of, BarsClauses, BarsAssumptions, entries_over}
 use Rattle.varisat.specs.Journals.{TellsProof}
 use Rattle.varisat.proofs.ToldEntries.{OnlyLeave}

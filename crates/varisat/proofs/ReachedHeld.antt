@@ -23,12 +23,13 @@ use Rattle.varisat_theory.proofs.Journals.{leads_append, by_leads, by_leads_same
 use Rattle.varisat_prop.proofs.LiteralValues.{own-opposite}
 use Rattle.varisat_names.specs.Maps.{chain}
 use Rattle.varisat_names.proofs.Maps.{chain-through}
-use Rattle.varisat.specs.Carried.{carry}
+use Rattle.varisat_tracer.specs.Carried.{carry}
 use Rattle.varisat.specs.States.{State}
 use Rattle.varisat.specs.Spaces.{Carrying, Spaces, Translation, IsCounted, AreLive, SharesHeld, HeldFits, without_core, translation, Links}
 use Rattle.varisat_proof.specs.Passing.{ToldConflict}
 use Rattle.varisat_search.proofs.StepOutcome.{variable-literal}
-use Rattle.varisat.proofs.Carried.{carry-at, carry-opposite}
+use Rattle.varisat.proofs.Carried.{carry-at}
+use Rattle.varisat_tracer.specs.RenamedEntries.{carry-opposites}
 use Rattle.varisat.proofs.SpacesAgree.{carry-same, rename-same, settled-more, settled-alike}
 
 -- 1. Lists that hold the same clauses.
@@ -158,7 +159,7 @@ pub lines-lead : {fixed : List Literal} (n : ℕ) (r : Translation) (share : Lis
 lines-lead n r share lines after q d =
     let f = carry r.identity in
     let ls = map (rename_line f) lines in
-    let on = by_beside q.forgotten n (rename f share) ls (rename f after) (by_renamed f (carry-opposite r.identity) n share lines after d) in
+    let on = by_beside q.forgotten n (rename f share) ls (rename f after) (by_renamed f (carry-opposites r.identity) n share lines after d) in
     let (H, by, s) = by_leads_same n (q.forgotten ++ rename f share) q.held (written ls) (q.forgotten ++ rename f after)
     (same_clauses-back q.held (q.forgotten ++ rename f share) q.same)
     (written_by n (q.forgotten ++ rename f share) ls (q.forgotten ++ rename f after) on) in
@@ -203,7 +204,7 @@ module _ {fixed : List Literal} (r : Translation) (share : List Clause) (n : ℕ
         on.led,
         conflicts_same all on.held [] (same_clauses-back on.held all on.same)
             (conflicts_more (rename f after) all [] [] (covered_by_more (rename f after) all (λ c h. ∈-append_right c q.forgotten (rename f after) h))
-            (λ l h. h) (conflicts_renamed f (carry-opposite r.identity) after [] k)),
+            (λ l h. h) (conflicts_renamed f (carry-opposites r.identity) after [] k)),
       )
 
   -- what a search shares after lines over variables in use

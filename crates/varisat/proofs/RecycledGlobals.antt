@@ -4,7 +4,7 @@ use Rattle.varisat_theory.specs.Membership.{◌∈◌}
 use Rattle.varisat_theory.specs.Literals.{Literal, Clause, variable_of}
 use Rattle.varisat_proof.specs.Calls.{CheckerState}
 use Rattle.varisat_proof.specs.Proving.{IsCheckedIf}
-use Rattle.varisat.specs.Carried.{carry}
+use Rattle.varisat_tracer.specs.Carried.{carry}
 use Rattle.varisat.proofs.Carried.{carry-at}
 use Rattle.varisat.proofs.CheckedHeld.{all-live, checker-without}
 use Rattle.varisat_theory.proofs.Members.{equal_or_not}

@@ -20,10 +20,12 @@ use Rattle.varisat_search.proofs.StepOutcome.{variable-literal, polarity-literal
 use Rattle.varisat_names.specs.Maps.{updated, chain}
 use Rattle.varisat_names.proofs.Maps.{updated-all, chain-some, chain-through}
 use Rattle.varisat.specs.States.{State}
-use Rattle.varisat.specs.Carried.{carry, is_forced}
+use Rattle.varisat_tracer.specs.Carried.{carry}
+use Rattle.varisat.specs.Carried.{is_forced}
 use Rattle.varisat.specs.Spaces.{Spaces, Carrying, translation, SharesHeld, SearchHolds, without_core, Links}
 use Rattle.varisat.proofs.SpacesMoves.{AreLong, take_solver}
-use Rattle.varisat.proofs.Carried.{carry-at, carry-sign, carry-opposite, value-true}
+use Rattle.varisat.proofs.Carried.{carry-at, carry-sign, value-true}
+use Rattle.varisat_tracer.specs.RenamedEntries.{carry-opposites}
 use Rattle.varisat.proofs.SpacesAgree.{settled-more}
 use Rattle.varisat.proofs.SearchHeld.{answers-covers, fixed-alone, fixed-on}
 use Rattle.varisat.proofs.AcceptSolverVariables.{to-new, to-other, stays, fits-apart, settled-on, in-both, taken-with}
@@ -153,7 +155,7 @@ module _ (w : Carrying) (p : Spaces) (s : State) (x i v : ℕ) (b : Bool) (t : S
             (equal_or_not (variable_of l) v);
         covered = λ n c a.
             still_covered t (carry (chain (updated p.global_from_solver v (Some x)) w.identity)) (is_forced w.forced)
-            (carry-opposite (chain (updated p.global_from_solver v (Some x)) w.identity)) p.search
+            (carry-opposites (chain (updated p.global_from_solver v (Some x)) w.identity)) p.search
             (λ d g. covers n (d ∷ []) (λ x. elim [
               | inl e ↦ subst (λ y. IsSettled p.search y ⊎ ((k : KeptClause) × (k ∈ p.search.kept) × (k.learned ≡ false) × (k.clause ⊆ y)))
                   (sym e) g

@@ -154,12 +154,6 @@ kept-verdict m c d e k = subst (IsKept m) (sym e)
 
 -- 3. A verdict that is taken back.
 
-pub unsat-or-not : (sat : SatState) → (sat ≡ verdict.Unsat) ⊎ (sat ≢ verdict.Unsat)
-unsat-or-not verdict.Unknown = inr (λ e. cc)
-unsat-or-not verdict.Sat = inr (λ e. cc)
-unsat-or-not verdict.Unsat = inl refl
-unsat-or-not verdict.UnsatUnderAssumptions = inr (λ e. cc)
-
 reopened-same : (sat : SatState) → sat ≢ verdict.Sat → reopened_state sat ≡ sat
 reopened-same verdict.Unknown n = refl
 reopened-same verdict.Sat n = absurd (n refl)

@@ -14,10 +14,11 @@ use Rattle.varisat_theory.proofs.StepCovers.{still_covered}
 use Rattle.varisat_theory.proofs.Spoken.{spoken_wider}
 use Rattle.varisat_prop.proofs.LiteralValues.{own-opposite}
 use Rattle.varisat.specs.Names.{identity_of}
-use Rattle.varisat.specs.Carried.{carry, AgreesAlong, is_forced}
+use Rattle.varisat_tracer.specs.Carried.{carry}
+use Rattle.varisat.specs.Carried.{AgreesAlong, is_forced}
 use Rattle.varisat.specs.Spaces.{Translation, SearchHolds}
 use Rattle.varisat.proofs.SpacesMoves.{AreLong}
-use Rattle.varisat.proofs.Carried.{carry-opposite}
+use Rattle.varisat_tracer.specs.RenamedEntries.{carry-opposites}
 use Rattle.varisat.proofs.ReachedHeld.{told_lines, with_told, IsInUse, lines-lead, shares-after}
 
 -- a literal that is covered alone is fixed
@@ -54,7 +55,7 @@ module _ (P : List Clause) (r : Translation) (s t : Search) (v : Outcome) (h : S
 
   pub covered-on : v ≢ outcome.Unsat → CoversBy (carry r.identity) (is_forced r.forced) P t
   covered-on n c i =
-      still_covered t (carry r.identity) (is_forced r.forced) (carry-opposite r.identity) s
+      still_covered t (carry r.identity) (is_forced r.forced) (carry-opposites r.identity) s
       (λ d g. covers n (d ∷ []) (λ x. elim [
         | inl e ↦ subst (λ y. IsSettled s y ⊎ ((k : KeptClause) × (k ∈ s.kept) × (k.learned ≡ false) × (k.clause ⊆ y)))
             (sym e) g

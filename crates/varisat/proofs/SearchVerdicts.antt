@@ -20,7 +20,7 @@ use Rattle.varisat_search.specs.Progress.{outcome_at, RaisesRank, MakesStep}
 use Rattle.varisat_search.specs.Seen.{search_of, outcome_of}
 use Rattle.varisat_search.specs.SettledUnits.{FixesByLearning}
 use Rattle.varisat_search.proofs.ReadyAfter.{ready-with}
-use Rattle.varisat.specs.Carried.{carry}
+use Rattle.varisat_tracer.specs.Carried.{carry}
 use Rattle.varisat.specs.Searches.{MakesNamedStep}
 use Rattle.varisat.specs.Summaries.{IsKept}
 use Rattle.varisat.proofs.VariablesInUse.{same-in-use}

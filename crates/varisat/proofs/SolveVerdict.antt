@@ -29,7 +29,8 @@ use Rattle.varisat_search.specs.AssumptionParts.{AssumptionParts, KeepsAssumptio
 use Rattle.varisat.specs.States.{State, Verdict, Unknown, Sat, Unsat, UnsatUnderAssumptions, IsRight}
 use Rattle.varisat.specs.Names.{identity_of}
 use Rattle.varisat.specs.Calls.{with_verdict}
-use Rattle.varisat.specs.Carried.{carry, is_forced, value_or}
+use Rattle.varisat_tracer.specs.Carried.{carry, told_as}
+use Rattle.varisat.specs.Carried.{is_forced, value_or}
 use Rattle.varisat.specs.Spaces.{Spaces, Carrying, Translation, translation, CheckerFits, IsCounted, TellsWhole, SearchHolds, AssumptionsFit, MarksFit, WorkingFits, CoreFits, without_core, VerdictFits, Links, SpacesFit, IsGone}
 use Rattle.varisat.specs.Journals.{retold, TellsMore, AreDerived, EndWithCore}
 use Rattle.varisat.proofs.SpacesMoves.{AreLong, AreInUse}
@@ -38,8 +39,6 @@ use Rattle.varisat.proofs.ToldProofs.{AreToldAs}
 use Rattle.std.proofs.lemmas.List.{append-nil}
 use Rattle.varisat_proof.specs.Calls.{CheckerState}
 use Rattle.varisat_proof.specs.Proving.{IsCheckedIf}
-use Rattle.varisat_tracer.specs.Carried.{told_as}
-use Rattle.varisat_tracer.specs.Carried as global
 use Rattle.varisat_tracer.specs.Told.{told_as-append}
 use Rattle.varisat.proofs.AcceptSolverVariables.{one-literal}
 use Rattle.varisat.proofs.ForgottenCopies.{there-back, back-there, copies}
@@ -47,7 +46,8 @@ use Rattle.varisat.proofs.ReachedHeld.{told_lines, IsInUse, lines-lead, told-qui
 use Rattle.varisat.proofs.ToldEntries.{tells-also, also-ends, written-derived, told-written, told-failed, spoken-renamed}
 use Rattle.varisat_names.proofs.Maps.{chain-some, is-some}
 use Rattle.varisat.proofs.SpacesAgree.{map-map, identities-same, names-same, modes-same, units-same, isolation-same, solvers-same, assumptions-same, marks-same, working-same, holds-same, told-same, value-same}
-use Rattle.varisat.proofs.Carried.{carry-opposite, map-empty, value-true, true-value, value-carry, forced-value}
+use Rattle.varisat.proofs.Carried.{map-empty, value-true, true-value, value-carry, forced-value}
+use Rattle.varisat_tracer.specs.RenamedEntries.{carry-opposites}
 use Rattle.varisat.proofs.SearchLinks.{relinked}
 use Rattle.varisat.proofs.SearchHeld.{answers-covers, agrees-through, held-on, without-model, refuted}
 
@@ -56,8 +56,8 @@ abbrev pub told-with : Carrying → Spaces → State → List Line → List Entr
 told-with w p s lines = s.told ++ told_lines (translation w p s.told) lines
 
 -- the spaces with a verdict that was found, and the checker after that
-abbrev pub decide : Search → Outcome → (ℕ → Bool) → List Literal → List Literal → Option CheckerState → Spaces → Spaces
-decide t v m working core checker p = record p { search = t; outcome = v; model = m; working = working; core = core; checker = checker }
+abbrev pub with_found : Search → Outcome → (ℕ → Bool) → List Literal → List Literal → Option CheckerState → Spaces → Spaces
+with_found t v m working core checker p = record p { search = t; outcome = v; model = m; working = working; core = core; checker = checker }
 
 -- where none is known it is not Unsat
 known-unknown : (v : Outcome) → v ≡ outcome.Unknown → without_core v ≢ outcome.Unsat
@@ -69,9 +69,9 @@ decided : (w : Carrying) (p : Spaces) (s : State) (told : List Entry) → TellsW
     (without_core v ≢ outcome.Unsat → CheckerFits w.global told checker) → SearchHolds s.clauses (translation w p told) t (without_core v) →
     WorkingFits s.clauses (translation w p s.told).identity s.assumptions ws → VerdictFits w.identity m v x →
     CoreFits s.naming.names core x → IsRight s.clauses s.assumptions s.counted x →
-    Links w (decide t v m ws core checker p) (retold told (with_verdict x s))
+    Links w (with_found t v m ws core checker p) (retold told (with_verdict x s))
 decided w p s told is-told t v m ws core checker x k checks holds working fits names right =
-    relinked w p (decide t v m ws core checker p) s (retold told (with_verdict x s)) k
+    relinked w p (with_found t v m ws core checker p) s (retold told (with_verdict x s)) k
     (record {
       solvers = k.solvers;
       holds = holds;
@@ -88,7 +88,7 @@ decided w p s told is-told t v m ws core checker x k checks holds working fits n
 
 -- where the verdict isn't Unsat, what was found may be forgotten
 pub forgotten : (w : Carrying) (p : Spaces) (s : State) → Links w p s → s.verdict ≢ Unsat →
-    Links w (decide p.search outcome.Unknown p.model p.working p.core p.checker p) (with_verdict Unknown s)
+    Links w (with_found p.search outcome.Unknown p.model p.working p.core p.checker p) (with_verdict Unknown s)
 forgotten w p s k n = decided w p s s.told k.told p.search outcome.Unknown p.model p.working p.core p.checker Unknown k
     (λ _. k.checked (not-refuted p.outcome s.verdict k.verdict n)) (go p.outcome s.verdict k.holds k.verdict n) k.working tt tt tt
   where
@@ -194,7 +194,7 @@ module _ (w : Carrying) (p : Spaces) (s : State) (k : Links w p s) (unknown : p.
       let c = copies w p s k before q.forgotten q.settled in
       let many = made.adds (c.list ++ before.held) (fits_more p.search before.held c.list c.settled before.holds) e in
       let speaks = spoken_wider (IsLiteralOf p.search) (IsInUse r) lines before.within made.speaks in
-      let adding = lines_add_new f (carry-opposite r.identity) (IsInUse r) (λ l (i, e). (i, ap r.identity (variable-opposite l) ∙ e))
+      let adding = lines_add_new f (carry-opposites r.identity) (IsInUse r) (λ l (i, e). (i, ap r.identity (variable-opposite l) ∙ e))
       (one-literal w p s k) q.forgotten c.list c.copied n n before.held lines after q.inside speaks d many in
       let (last, a, same) = adding_same n (q.forgotten ++ rename f before.held) q.held (told_lines r lines) (q.forgotten ++ rename f after)
       (same_clauses-back q.held (q.forgotten ++ rename f before.held) q.same) adding in
@@ -220,26 +220,26 @@ module _ (w : Carrying) (p : Spaces) (s : State) (k : Links w p s) (unknown : p.
       (conflicts_same all on.held core (same_clauses-back on.held all on.same)
       (conflicts_more (rename f after) all core core
       (covered_by_more (rename f after) all (λ c h. ∈-append_right c before.told.forgotten (rename f after) h)) (λ l h. h)
-      (conflicts_renamed f (carry-opposite (translation w p s.told).identity) after found (subst (Holds after t) e o).1)))
+      (conflicts_renamed f (carry-opposites (translation w p s.told).identity) after found (subst (Holds after t) e o).1)))
 
   -- the lines, by any map that gives live identities their global variables
   lines-carried : (m : ℕ → Option ℕ) → ((i x : ℕ) → w.global i ≡ Some x → m i ≡ Some x) →
-      told_as (carry m) (told_lines (translation w p s.told) lines) ≡ told_as (global.carry p.global_from_solver) (written lines)
-  lines-carried m leads = told-carried (carry (translation w p s.told).identity) (carry m) (global.carry p.global_from_solver)
+      told_as (carry m) (told_lines (translation w p s.told) lines) ≡ told_as (carry p.global_from_solver) (written lines)
+  lines-carried m leads = told-carried (carry (translation w p s.told).identity) (carry m) (carry p.global_from_solver)
       (IsLiteralOf p.search) lines (λ l h. global-carried w p s k m leads l (k.holds.within l h)) made.speaks
 
   -- what a proof is told of them
-  pub steps-told-as : AreToldAs s.variables s.told (told-with w p s lines) (told_as (global.carry p.global_from_solver) (written lines ++ []))
+  pub steps-told-as : AreToldAs s.variables s.told (told-with w p s lines) (told_as (carry p.global_from_solver) (written lines ++ []))
   steps-told-as = record {
     entries = told_lines (translation w p s.told) lines;
     joined = refl;
     stays = written_stays (map (rename_line (carry (translation w p s.told).identity)) lines);
-    same = lines-carried s.variables k.variables ∙ ap (told_as (global.carry p.global_from_solver)) (sym (append-nil (written lines)));
+    same = lines-carried s.variables k.variables ∙ ap (told_as (carry p.global_from_solver)) (sym (append-nil (written lines)));
   }
 
   -- the checker that took the lines
   pub steps-checked : (checker : Option CheckerState) → IsCheckedIf p.checker
-      (told_as (global.carry p.global_from_solver) (written lines)) checker → CheckerFits w.global (told-with w p s lines) checker
+      (told_as (carry p.global_from_solver) (written lines)) checker → CheckerFits w.global (told-with w p s lines) checker
   steps-checked checker c =
       let r = translation w p s.told in
       checker-on w.global s.told (told_lines r lines) p.checker checker (written_stays (map (rename_line (carry r.identity)) lines))
@@ -254,13 +254,13 @@ module _ (w : Carrying) (p : Spaces) (s : State) (k : Links w p s) (unknown : p.
 
     -- without a verdict
     pub went-on : (m : ℕ → Bool) (core : List Literal) → IsCheckedIf p.checker
-        (told_as (global.carry p.global_from_solver) (written lines)) checker → v ≡ outcome.Unknown →
-        Links w (decide t v m y.working core checker p) (retold (told-with w p s lines) (with_verdict Unknown s))
+        (told_as (carry p.global_from_solver) (written lines)) checker → v ≡ outcome.Unknown →
+        Links w (with_found t v m y.working core checker p) (retold (told-with w p s lines) (with_verdict Unknown s))
     went-on m core c e = decided w p s (told-with w p s lines) steps-are-told t v m y.working core checker Unknown k
         (λ _. steps-checked checker c) steps-hold left (subst (λ y. VerdictFits w.identity m y Unknown) (sym e) tt) tt tt
 
     pub unsat-found : (m : ℕ → Bool) (core : List Literal) → v ≡ outcome.Unsat →
-        Links w (decide t v m y.working core checker p) (retold (told-with w p s lines) (with_verdict Unsat s))
+        Links w (with_found t v m y.working core checker p) (retold (told-with w p s lines) (with_verdict Unsat s))
     unsat-found m core e =
         let none = refuted s.clauses (translation w p (told-with w p s lines)) t
         (subst (SearchHolds s.clauses (translation w p (told-with w p s lines)) t) (ap without_core e) steps-hold) in
@@ -285,11 +285,11 @@ module _ (w : Carrying) (p : Spaces) (s : State) (k : Links w p s) (unknown : p.
     core-carried : (m : ℕ → Option ℕ) → ((i x : ℕ) → w.global i ≡ Some x → m i ≡ Some x) → (found told : List Literal) →
         v ≡ outcome.UnsatUnder found → map (carry s.naming.names) told ≡ map (carry (translation w p s.told).identity) found →
         told_as (carry m) (told_lines (translation w p s.told) lines ++ Fails (map (carry s.naming.names) told) ∷ []) ≡ told_as
-        (global.carry p.global_from_solver) (written lines ++ Fails found ∷ [])
+        (carry p.global_from_solver) (written lines ++ Fails found ∷ [])
     core-carried m leads found told e same-core =
         let to = carry (translation w p s.told).identity in
         let g = carry m in
-        let h = global.carry p.global_from_solver in
+        let h = carry p.global_from_solver in
         let ls = told_lines (translation w p s.told) lines in
         let used = λ (l : Literal) (i : l ∈ found). k.working.used l (subst (λ ws. l ∈ ws) (sym same) ((keeps.core found e).0 l i)) in
         let one : map g (map (carry s.naming.names) told) ≡ map h found = ap (map g) same-core
@@ -303,7 +303,7 @@ module _ (w : Carrying) (p : Spaces) (s : State) (k : Links w p s) (unknown : p.
     pub core-told-as : (found told : List Literal) → v ≡ outcome.UnsatUnder found →
         map (carry s.naming.names) told ≡ map (carry (translation w p s.told).identity) found →
         AreToldAs s.variables s.told (told-with w p s lines ++ Fails (map (carry s.naming.names) told) ∷ [])
-        (told_as (global.carry p.global_from_solver) (written lines ++ Fails found ∷ []))
+        (told_as (carry p.global_from_solver) (written lines ++ Fails found ∷ []))
     core-told-as found told e same-core =
         let ls = told_lines (translation w p s.told) lines in
         record {
@@ -315,7 +315,7 @@ module _ (w : Carrying) (p : Spaces) (s : State) (k : Links w p s) (unknown : p.
         }
 
     core-checked : (found told : List Literal) → IsCheckedIf p.checker
-        (told_as (global.carry p.global_from_solver) (written lines ++ Fails found ∷ [])) checker → v ≡ outcome.UnsatUnder found →
+        (told_as (carry p.global_from_solver) (written lines ++ Fails found ∷ [])) checker → v ≡ outcome.UnsatUnder found →
         map (carry s.naming.names) told ≡ map (carry (translation w p s.told).identity) found →
         CheckerFits w.global ((told-with w p s lines) ++ Fails (map (carry s.naming.names) told) ∷ []) checker
     core-checked found told c e same-core =
@@ -330,10 +330,10 @@ module _ (w : Carrying) (p : Spaces) (s : State) (k : Links w p s) (unknown : p.
         (k.checked (known-unknown p.outcome unknown)))
 
     pub core-found : (m : ℕ → Bool) (found told : List Literal) →
-        IsCheckedIf p.checker (told_as (global.carry p.global_from_solver) (written lines ++ Fails found ∷ [])) checker →
+        IsCheckedIf p.checker (told_as (carry p.global_from_solver) (written lines ++ Fails found ∷ [])) checker →
         v ≡ outcome.UnsatUnder found → ((l : Literal) → l ∈ told → (i : ℕ) × (s.naming.names (variable_of l) ≡ Some i)) →
         map (carry s.naming.names) told ≡ map (carry (translation w p s.told).identity) found →
-        Links w (decide t v m y.working told checker p)
+        Links w (with_found t v m y.working told checker p)
         (retold ((told-with w p s lines) ++ Fails (map (carry s.naming.names) told) ∷ [])
         (with_verdict (UnsatUnderAssumptions (map (carry s.naming.names) told)) s))
     core-found m found told c e named same-core =
@@ -403,8 +403,8 @@ module _ (w : Carrying) (p : Spaces) (s : State) (k : Links w p s) (unknown : p.
       found-literal found-forced
 
   pub sat-found : (x y : AssumptionParts) → p.working ≡ x.working → KeepsAssumptions p.search (outcome.Sat f) x y →
-      (core : List Literal) (checker : Option CheckerState) → IsCheckedIf p.checker (told_as (global.carry p.global_from_solver) (written lines)) checker →
-      Links w (decide t (outcome.Sat f) (λ x. value_or (p.kept x).unit f (p.solver_from_global x)) y.working core checker p)
+      (core : List Literal) (checker : Option CheckerState) → IsCheckedIf p.checker (told_as (carry p.global_from_solver) (written lines)) checker →
+      Links w (with_found t (outcome.Sat f) (λ x. value_or (p.kept x).unit f (p.solver_from_global x)) y.working core checker p)
       (retold (told-with w p s lines) (with_verdict (Sat found) s))
   unfolding found
   sat-found x y same keeps core checker c =

@@ -38,7 +38,8 @@ use Rattle.varisat.specs.Told.{told_list}
 use Rattle.std.specs.Option.{IsSome}
 use Rattle.std.specs.Result.{IsErr}
 use Rattle.std.specs.declared.alloc.AllocError.{AllocError}
-use Rattle.varisat.specs.Carried.{carry, value_or}
+use Rattle.varisat_tracer.specs.Carried.{carry, told_as}
+use Rattle.varisat.specs.Carried.{value_or}
 use Rattle.varisat.specs.Accepting.{HasUser}
 use Rattle.varisat_proof.specs.Calls.{CheckerState}
 use Rattle.varisat_proof.specs.Proving.{IsCheckedIf}
@@ -47,17 +48,14 @@ use Rattle.varisat.specs.Searches.{answer_at, ComesTo}
 use Rattle.std.proofs.lemmas.List.{append-nil}
 use Rattle.varisat_theory.specs.Journals.{Entry, Fails, written}
 use Rattle.varisat_trace.specs.Traces.{TakesStep}
-use Rattle.varisat_tracer.specs.Carried.{told_as}
-use Rattle.varisat.proofs.LikeStates.{same-by}
 use Rattle.varisat.proofs.ToldProofs.{proof-told}
 use Rattle.varisat_proof.specs.Passing.{ToldConflict}
 use Rattle.varisat.specs.Journals.{retold, TellsMore}
-use Rattle.varisat.proofs.OpenProofs.{goes-on-none}
-use Rattle.varisat.proofs.ToldEntries.{tells-nothing, stays-nothing}
+use Rattle.varisat.proofs.ToldEntries.{tells-nothing}
 use Rattle.varisat.specs.Spaces.{Carrying, Translation, HeldFits, translation, without_core, CoreFits, VerdictFits, Links, SpacesFit, FitWithNew, list_globals}
 use Rattle.varisat.specs.Summaries.{Summary, IsKept, StandsFor, spaces, spaces_of, list_tables}
 use Rattle.varisat.proofs.SpacesAgree.{map-map}
-use Rattle.varisat.proofs.CallStates.{ledger-is, none-more}
+use Rattle.varisat.proofs.CallStates.{like-still}
 use Rattle.varisat.proofs.VerdictAnswers.{right-false, right-core, core-answer}
 use Rattle.varisat.proofs.Carried.{carry-at, carry-sign}
 use Rattle.varisat.proofs.SolveVerdict.{told-with, steps-tell, steps-derived, steps-add, core-ends, steps-told-as, core-tells, core-told-as, maps-alike, recount, spaces-same, sat-found, unsat-found, core-found, found, went-on}
@@ -579,18 +577,7 @@ known-told g s b st v e =
       steps = λ u. absurd (let z : None ≡ Some b = ap answer_of (sym u) ∙ a in cc);
       answer = a;
       right = (st.fits v).1.right;
-      rest = record {
-        same = same-by (with_steps s.ledger.steps s) s refl refl refl refl refl refl
-            (ledger-is s.ledger s.ledger.valid s.ledger.started s.ledger.steps
-            (s.ledger.since + (s.ledger.steps - s.ledger.steps)) s.ledger.settings s.ledger.checking refl refl refl
-            (none-more s.ledger.since s.ledger.steps) refl refl);
-        told = (stays-nothing s.told).0;
-        derived = (stays-nothing s.told).2;
-        stays = λ _. (stays-nothing s.told).1;
-        alike = refl;
-        proof =
-            goes-on-none s.proof;
-      };
+      rest = like-still s;
       told = let z : 0 ≡ s.ledger.steps - s.ledger.steps = omega arith in subst (λ n. TellsMore n s.told s.told) z (tells-nothing s.told);
       ends = λ u. absurd (let z : None ≡ Some b = ap answer_of (sym u) ∙ a in cc);
       refuted = told-refuted g s st v;

@@ -42,9 +42,9 @@ use Rattle.varisat.specs.States.{State, Verdict, Unknown, Unsat, HasRightVerdict
 use Rattle.varisat.specs.Summaries.{IsKept, spaces_of, spaces_with, undecided_spaces}
 use Rattle.varisat.proofs.LikeStates.{same-by}
 use Rattle.varisat.proofs.AcceptClause.{ledger-free, proof-free, words-free}
-use Rattle.varisat.proofs.CallStates.{ledger-is, none-more, like-grown}
+use Rattle.varisat.proofs.CallStates.{like-grown, like-still}
 use Rattle.varisat.proofs.ModelsFit.{is-sat, is-unknown}
-use Rattle.varisat.proofs.OpenProofs.{goes-on-none, barred-before}
+use Rattle.varisat.proofs.OpenProofs.{barred-before}
 use Rattle.varisat.proofs.PlainTables.{assumed-named}
 use Rattle.varisat.proofs.ToldProofs.{proof-quiet, proof-through}
 use Rattle.varisat.proofs.SearchVerdicts.{kept-on}
@@ -341,18 +341,7 @@ interrupted-still s valid was counts =
       valid = valid;
       unknown = was;
       steps = counts;
-      rest = record {
-        same = same-by (with_steps s.ledger.steps s) s refl refl refl refl refl refl
-            (ledger-is s.ledger s.ledger.valid s.ledger.started s.ledger.steps
-            (s.ledger.since + (s.ledger.steps - s.ledger.steps)) s.ledger.settings s.ledger.checking refl refl refl
-            (none-more s.ledger.since s.ledger.steps) refl refl);
-        told = (stays-nothing s.told).0;
-        derived = (stays-nothing s.told).2;
-        stays = λ _. (stays-nothing s.told).1;
-        alike = refl;
-        proof =
-            goes-on-none s.proof;
-      };
+      rest = like-still s;
       variables = refl;
       told = record {
         entries = nothing.entries;

@@ -31,7 +31,7 @@ use Rattle.varisat_proof.specs.Calls.{CheckerState}
 use Rattle.varisat.specs.States.{State, with_variables, join_one, join_counted}
 use Rattle.varisat.specs.Names.{Naming, name_one, name_all, through_names}
 use Rattle.varisat.specs.Calls.{IsPastLimit, with_naming}
-use Rattle.varisat.specs.Carried.{carry}
+use Rattle.varisat_tracer.specs.Carried.{carry}
 use Rattle.varisat.specs.Spaces.{Spaces, SpacesFit, FitWithNew}
 use Rattle.varisat.specs.Summaries.{Summary, spaces, spaces_of, IsKept}
 use Rattle.varisat.specs.Accepting.{naming_of, CanBeNamed, HasNames}
@@ -43,7 +43,8 @@ use Rattle.varisat.proofs.NamesComing.{one-watermark, next-below, all-made}
 use Rattle.varisat.proofs.PlainTables.{is-there, there-is, assumed-keeps, marked-keeps}
 use Rattle.varisat.proofs.AcceptClause.{with_tables, named-one, HasNoModel, taken-one, raised, counted-spaces}
 use Rattle.varisat.proofs.AcceptSolverVariables.{solvers-few}
-use Rattle.varisat.proofs.ReturnedVariables.{kept-verdict, no-model, returned, unsat-or-not, state-back, parts-back}
+use Rattle.varisat.proofs.VariableChanges.{unsat-or-not}
+use Rattle.varisat.proofs.ReturnedVariables.{kept-verdict, no-model, returned, state-back, parts-back}
 use Rattle.varisat.proofs.SearchViews.{view-long}
 
 -- 1. There is room.

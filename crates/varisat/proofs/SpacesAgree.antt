@@ -15,7 +15,8 @@ use Rattle.varisat_names.specs.declared.variables.data.VarData.{VarData}
 use Rattle.varisat.specs.Names.{Mode}
 use Rattle.varisat.specs.States.{Verdict, Unknown, Sat, Unsat, UnsatUnderAssumptions}
 use Rattle.varisat.specs.Names.{identity_of}
-use Rattle.varisat.specs.Carried.{carry, is_value, is_forced}
+use Rattle.varisat_tracer.specs.Carried.{carry}
+use Rattle.varisat.specs.Carried.{is_value, is_forced}
 use Rattle.varisat_proof.specs.Passing.{ToldConflict}
 use Rattle.varisat.specs.Spaces.{ModeFits, IdentitiesFit, NamesFit, ModesFit, UnitsFit, IsolationCase, NotIsolated, Apart, Forced, IsolationFits, SolversFit, Translation, IsKnownTrue, IsSettledBy, SharesHeld, HeldFits, SearchHolds, AssumptionsFit, MarksFit, WorkingFits, CoreFits, VerdictFits}
 

@@ -8,7 +8,7 @@ use Rattle.varisat_names.specs.Maps.{updated, chain}
 use Rattle.varisat_names.specs.VarData.{fresh}
 use Rattle.varisat_names.specs.declared.variables.data.VarData.{VarData}
 use Rattle.varisat.specs.States.{State, Verdict}
-use Rattle.varisat.specs.Carried.{carry}
+use Rattle.varisat_tracer.specs.Carried.{carry}
 use Rattle.varisat.specs.Spaces.{Spaces, IsWide, MarksFit}
 
 -- a free name gets a global variable that is not live, new or used before, so that one more may have been made; the model that was found last calls it false

@@ -13,7 +13,7 @@ use Rattle.varisat_names.specs.VarBiMap.{BiMap}
 use Rattle.varisat_names.specs.Variables.{Tables, AreLinked, IsChangedTo}
 use Rattle.varisat_names.proofs.Maps.{updated-all, updated-other, chain-through}
 use Rattle.varisat_names.proofs.Tables.{live-inside}
-use Rattle.varisat.specs.Carried.{carry}
+use Rattle.varisat_tracer.specs.Carried.{carry}
 use Rattle.varisat.specs.Accepting.{AreBounded, HasNames, HasSolver, AreJoined, AreMarked, IsAssumedSolver}
 use Rattle.varisat.proofs.Carried.{carry-at}
 

@@ -36,7 +36,7 @@ use Rattle.varisat.proofs.WrittenVariables.{there-present, there-apart, written-
 use Rattle.varisat.specs.ProofBytes.{IsMarkedDerivation}
 use Rattle.varisat.specs.ProofCalls.{HasProof}
 use Rattle.varisat.specs.Calls.{IsRefuted}
-use Rattle.varisat.specs.Carried.{carry}
+use Rattle.varisat_tracer.specs.Carried.{carry}
 use Rattle.varisat.specs.Spaces.{Spaces, Carrying, Links, Translation, IsCounted, AllSpeakOf, HeldFits, VerdictFits, without_core}
 use Rattle.varisat.specs.Summaries.{Summary, spaces, StandsFor}
 use Rattle.varisat.proofs.GivenEntries.{all-wider, lines-speak}

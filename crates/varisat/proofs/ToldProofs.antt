@@ -1,27 +1,17 @@
 -- What is told over identities is what a proof is told over global variables.
-use Rattle.std.proofs.Common.{◌≡◌, ℕ, ◌*◌, ◌+◌, ◌/◌, ◌%◌, Option, Some, None, List, [], ◌∷◌, ◌++◌, map, refl, sym, ap, ◌∙◌, subst, arith, append_assoc}
+use Rattle.std.proofs.Common.{◌≡◌, ℕ, ◌*◌, ◌/◌, Option, Some, List, [], ◌∷◌, ◌++◌, map, refl, sym, ap, ◌∙◌, subst, arith, append_assoc}
 use Rattle.std.proofs.lemmas.List.{append-nil, map-append}
-use Rattle.varisat_theory.specs.Literals.{Literal, variable_of}
+use Rattle.varisat_theory.specs.Literals.{Literal}
 use Rattle.varisat_theory.specs.Journals.{Entry, Accepts, Writes, Assumes, Fails, Leaves, NoneLeaves, rename_entry}
 use Rattle.varisat_proof.specs.Proving.{ProofParts, IsTold}
-use Rattle.varisat_tracer.specs.Carried.{variable_or_first, told_as}
-use Rattle.varisat_tracer.specs.Carried as global
+use Rattle.varisat_tracer.specs.Carried.{carry, told_as}
 use Rattle.varisat_tracer.specs.Told.{told-none, told-more}
 use Rattle.varisat_tracer.specs.Tracing.{TracerState, global_literal, TakesGlobally}
-use Rattle.varisat.specs.Names.{identity_of}
-use Rattle.varisat.specs.Carried.{carry}
 use Rattle.varisat.specs.Journals.{TellsProof, TellsLeaving}
 use Rattle.varisat.proofs.Carried.{carry-at}
 use Rattle.varisat.proofs.ToldEntries.{tells-nothing, nothing-derived, tells, one-derived, through-derived, tells-through, leaves-goes}
 
 -- 1. Literals and entries.
-same-number : (o : Option ℕ) → identity_of o ≡ variable_or_first o
-same-number None = refl
-same-number (Some i) = refl
-
-pub same-carry : (f : ℕ → Option ℕ) (l : Literal) → carry f l ≡ global.carry f l
-same-carry f l = ap (λ n. 2 * n + l % 2) (same-number (f (variable_of l)))
-
 -- where none leaves a proof is told each entry
 told-each : (f : Literal → Literal) (es : List Entry) → NoneLeaves es → map (rename_entry f) es ≡ told_as f es
 told-each f [] n = refl

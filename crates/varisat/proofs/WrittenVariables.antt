@@ -7,7 +7,7 @@ use Rattle.varisat_theory.specs.Journals.{Entry, Accepts, Writes, Assumes, Fails
 use Rattle.varisat_prop.proofs.LiteralValues.{same-literal}
 use Rattle.varisat_names.proofs.Maps.{is-some}
 use Rattle.varisat.specs.States.{State}
-use Rattle.varisat.specs.Carried.{carry}
+use Rattle.varisat_tracer.specs.Carried.{carry}
 use Rattle.varisat.specs.OpenProofs.{entries_over, IsThere}
 use Rattle.varisat.specs.Spaces.{Spaces, Carrying, IsCounted, AllSpeakOf, KeepVariables, Links}
 use Rattle.varisat.proofs.Carried.{carry-at, carry-sign}

@@ -1,16 +1,12 @@
 -- Literals that are carried along a map of variables.
-use Rattle.std.specs.Prelude.{◌≡◌, ℕ, ◌+◌, ◌*◌, ◌%◌, Bool, true, false, not, Option, Some, None, List, map}
+use Rattle.std.specs.Prelude.{◌≡◌, ℕ, Bool, true, false, not, Option, Some, None, List, map}
 use Rattle.varisat_theory.specs.Literals.{Literal, Assignment, variable_of}
 use Rattle.varisat_literals.specs.Numbers.{polarity_of}
 use Rattle.varisat_names.specs.Maps.{chain}
 use Rattle.varisat_names.specs.VarMap.{at}
 use Rattle.varisat_names.specs.Variables.{Tables}
 use Rattle.varisat_prop.specs.Parts.{is_true_value}
-use Rattle.varisat.specs.Names.{identity_of}
-
--- the literal of the variable that the map gives, with the same sign
-abbrev pub carry : (ℕ → Option ℕ) → Literal → Literal
-carry f l = 2 * identity_of (f (variable_of l)) + l % 2
+use Rattle.varisat_tracer.specs.Carried.{carry}
 
 -- literals over solver variables, as the user names them
 abbrev pub named_literals : Tables → List Literal → List Literal

@@ -7,7 +7,7 @@ use Rattle.varisat_proof.specs.declared.proof.format.Encoding.TheVariants.{Text}
 use Rattle.varisat_proof.specs.Telling.{lines_told}
 use Rattle.varisat_proof.specs.Proving.{ProofParts, IsTold}
 use Rattle.varisat_proof.specs.Written.{AreInRange}
-use Rattle.varisat.specs.Carried.{carry}
+use Rattle.varisat_tracer.specs.Carried.{carry}
 use Rattle.varisat_proof.specs.Assumed.{assumed_behind, CoresAreAssumed}
 use Rattle.varisat.specs.OpenProofs.{entries_over, IsWrittenWhereOpen, HaveOwnVariables}
 use Rattle.varisat.specs.States.{Known, State, Verdict, Unsat, UnsatUnderAssumptions}

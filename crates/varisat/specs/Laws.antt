@@ -20,7 +20,7 @@ use Rattle.varisat_proof.specs.Written.{line_text}
 use Rattle.varisat_proof.specs.Telling.{bytes_told}
 use Rattle.varisat_proof.specs.Marked.{nothing_told, ProofState, state_of, IsCheckOf}
 use Rattle.varisat_proof.specs.Passing.{PassesWith}
-use Rattle.varisat.specs.Carried.{carry}
+use Rattle.varisat_tracer.specs.Carried.{carry}
 use Rattle.varisat.specs.OpenProofs.{OpenProof, entries_over}
 use Rattle.varisat.specs.Decided.{Conclusion}
 use Rattle.varisat.specs.Proven.{IsProven}

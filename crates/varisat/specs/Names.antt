@@ -1,8 +1,9 @@
 -- The names of variables: which are in use, and how they come into use.
-use Rattle.std.specs.Prelude.{◌≡◌, ◌≢◌, ℕ, zero, suc, ◌+◌, ◌-◌, ◌*◌, ◌%◌, ◌<◌, ◌≤◌, nat_lt, if◌then◌else◌, max, Option, Some, None, List, [], ◌∷◌, ◌++◌}
+use Rattle.std.specs.Prelude.{◌≡◌, ◌≢◌, ℕ, zero, suc, ◌+◌, ◌-◌, ◌<◌, ◌≤◌, nat_lt, if◌then◌else◌, max, Option, Some, None, List, [], ◌∷◌, ◌++◌}
 use Rattle.varisat_theory.specs.Membership.{◌∈◌}
 use Rattle.varisat_theory.specs.Literals.{Literal, variable_of}
 use Rattle.varisat_names.specs.Maps.{updated}
+use Rattle.varisat_tracer.specs.Carried.{variable_or_first, carry}
 
 -- A name is a number by which the user speaks of a variable. An identity is a number that is given to a variable once and never
 -- again: a name may become free, and come back with another identity.
@@ -58,12 +59,11 @@ IsLeastFree m u = (m.names u ≡ None) × ((v : ℕ) → v < u → m.names v ≢
 
 -- the identity where there is one, else 0, which no clause that is accepted asks for
 abbrev pub identity_of : Option ℕ → ℕ
-identity_of None = 0
-identity_of (Some i) = i
+identity_of i = variable_or_first i
 
 -- a literal over names in use, carried to their identities
 abbrev pub through_names : Naming → Literal → Literal
-through_names m l = 2 * identity_of (m.names (variable_of l)) + l % 2
+through_names m l = carry m.names l
 
 -- the name is in use in mode Witness
 abbrev pub IsWitness : Naming → ℕ → Type 0

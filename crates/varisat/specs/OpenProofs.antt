@@ -9,7 +9,7 @@ use Rattle.varisat_proof.specs.declared.proof.format.ProofFormat.{ProofFormat}
 use Rattle.varisat_proof.specs.Lines.{has_marks}
 use Rattle.varisat_proof.specs.Telling.{bytes_told}
 use Rattle.varisat_proof.specs.Proving.{OpenState}
-use Rattle.varisat.specs.Carried.{carry}
+use Rattle.varisat_tracer.specs.Carried.{carry}
 
 -- `format`: how its lines are written. `faults`: how often the target failed in all. `first`: the bytes that the target had when
 -- the proof was opened, and `bytes`: those since then. `searched`: whether `solve` was called since it was opened.

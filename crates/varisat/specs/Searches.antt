@@ -1,5 +1,5 @@
 -- The steps of a solver, and what they come to.
-use Rattle.std.specs.Prelude.{◌≡◌, ◌≢◌, ℕ, Bool, true, false, Option, Some, None, List, length}
+use Rattle.std.specs.Prelude.{◌≡◌, ℕ, Bool, true, false, Option, Some, None, List, length}
 use Rattle.varisat_theory.specs.Derivations.{Line}
 use Rattle.varisat_theory.specs.Outcomes.{Steps}
 use Rattle.varisat_theory.specs.Journals.{Entry}
@@ -12,7 +12,7 @@ use Rattle.varisat_search.specs.declared.context.Context.{Context}
 use Rattle.varisat_search.specs.declared.state.SatState.{SatState}
 use Rattle.varisat_search.specs.declared.state.SatState.TheVariants as verdict
 use Rattle.varisat_search.specs.AssumptionParts.{AssumptionParts, KeepsAssumptions}
-use Rattle.varisat_search.specs.Contexts.{view, IsReady}
+use Rattle.varisat_search.specs.Contexts.{view, IsNotUnsat, IsReady}
 use Rattle.varisat_search.specs.Decisions.{SameDecidable}
 use Rattle.varisat_search.specs.DueReductions.{BeginsStep}
 use Rattle.varisat_search.specs.Progress.{RaisesRank}
@@ -110,7 +110,7 @@ pub record MakesSolverStep {A : Type 0} (p q : TracerState) (x y : Context A) : 
   pub since : y.solver_state.sat_state ≡ verdict.Unknown → GoesOnSince x y
   pub state : y.solver_state ≡ record x.solver_state { sat_state = y.solver_state.sat_state }
   pub count : length y.assignment.current ≡ length x.assignment.current
-  pub leaves : LeavesInTime p.tables (view x) → y.solver_state.sat_state ≢ verdict.Unsat → LeavesInTime q.tables (view y)
+  pub leaves : LeavesInTime p.tables (view x) → IsNotUnsat y → LeavesInTime q.tables (view y)
   pub stands : ComesOn 1 (undecided_spaces p.tables p.proof.checker x) (spaces_with q.tables q.proof.checker y) p.proof q.proof
 
 -- Steps were made, from one context to the other, until there was a verdict or they were spent. Where none was made nothing changed.
@@ -121,7 +121,7 @@ pub record FindsVerdict {A : Type 0} (p q : TracerState) (x y : Context A) (foun
   pub answer : found ≡ answer_at y.solver_state.sat_state
   pub told : TellsSome p.proof q.proof
   -- where no variable was to leave but with literals that are still to be propagated, so it is, unless under Unsat
-  pub leaves : LeavesInTime p.tables (view x) → y.solver_state.sat_state ≢ verdict.Unsat → LeavesInTime q.tables (view y)
+  pub leaves : LeavesInTime p.tables (view x) → IsNotUnsat y → LeavesInTime q.tables (view y)
   pub stands : ComesOn (steps_since x.schedule y.schedule) (undecided_spaces p.tables p.proof.checker x)
       (spaces_with q.tables q.proof.checker y) p.proof q.proof
   pub still : y.schedule.steps ≡ x.schedule.steps → (y ≡ x) × (q ≡ p)

@@ -24,7 +24,8 @@ use Rattle.varisat.specs.States.{State, with_variables, Verdict, Unknown, Sat, U
 use Rattle.varisat.specs.Names.{Mode, Sample, Witness}
 use Rattle.varisat.specs.Models.{put_name}
 use Rattle.varisat_proof.specs.Passing.{ToldConflict}
-use Rattle.varisat.specs.Carried.{carry, AgreesAlong, is_forced}
+use Rattle.varisat_tracer.specs.Carried.{carry}
+use Rattle.varisat.specs.Carried.{AgreesAlong, is_forced}
 
 -- The maps as functions; how many global variables were made, what is kept of each of them, and its value in the model found
 -- last; the assumptions as given and the core found last, over names; those of the assumptions by which the search goes, and the

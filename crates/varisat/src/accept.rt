@@ -5,7 +5,7 @@ ghost use Rattle.varisat_theory.specs.Membership.{◌∈◌};
 ghost use Rattle.varisat_theory.specs.Literals.{Literal, variable_of};
 ghost use Rattle.varisat_names.specs.VarData.{kept_at};
 ghost use Rattle.varisat_names.specs.VarMap.{at};
-ghost use Rattle.varisat_search.specs.Contexts.{KeepsSchedule};
+ghost use Rattle.varisat_search.specs.Contexts.{IsNotUnsat, KeepsSchedule};
 ghost use Rattle.varisat.specs.Accepted.{KeepsValidity, IsWithinIdentities, StandsOnceAccepted, StandsOnceAssumed};
 ghost use Rattle.varisat_theory.specs.Journals.{Accepts, Assumes};
 ghost use Rattle.varisat_tracer.specs.Tracing.{tracer_state, TakesGlobally, BreaksProof, CanTell};
@@ -24,7 +24,6 @@ use varisat_search::context::Context;
 use varisat_search::error::StepError;
 use varisat_search::load::load_clause;
 use varisat_search::solver_variables::solver_from_user_lits;
-use varisat_search::state::SatState;
 use varisat_tracer::SolverTracer;
 
 /// The global variable of the literal's name, which is in use.
@@ -95,18 +94,18 @@ fn tell_assumptions<W: ProofTarget, A: Allocator + Copy>(
 
 /// Brings the names of the clause into use, takes solver variables for them, tells the proof of the clause, and loads
 /// it over these variables. `literals` is overwritten.
-pub fn accept_clause<W: ProofTarget, A: Allocator + Copy>(
+pub fn accept_user_clause<W: ProofTarget, A: Allocator + Copy>(
     tracer: &mut SolverTracer<W, A>,
     ctx: &mut Context<A>,
     literals: &mut Vec<Lit, A>,
     clause: &[Lit],
 ) -> Result<(), StepError>
-    requires kept { IsKept tracer.old.variables ctx.old }
+    requires kept { IsKept tracer.old.tables ctx.old }
     requires tells { CanTell tracer.old.proof }
-    requires stands { FitSome (spaces_with tracer.old.variables tracer.old.proof.checker ctx.old) }
-    requires unsettled { ctx.old.solver_state.sat_state ≢ SatState.Unsat }
-    requires names { CanBeNamed clause.now tracer.old.variables }
-    ensures kept { OnOk result (IsKept tracer.new.variables ctx.new) }
+    requires stands { FitSome (spaces_with tracer.old.tables tracer.old.proof.checker ctx.old) }
+    requires unsettled { IsNotUnsat ctx.old }
+    requires names { CanBeNamed clause.now tracer.old.tables }
+    ensures kept { OnOk result (IsKept tracer.new.tables ctx.new) }
     ensures tells { OnOk result (CanTell tracer.new.proof) }
     ensures state { OnOk result (ctx.new.solver_state ≡
         record ctx.old.solver_state { sat_state = ctx.new.solver_state.sat_state; formula_is_empty = false }) }
@@ -120,10 +119,10 @@ pub fn accept_clause<W: ProofTarget, A: Allocator + Copy>(
 {
     // A model that was found may not satisfy the clause.
     ctx.solver_state.reopen();
-    tracer.variables.prove_linked();
-    solver_from_user_lits(ctx, &mut tracer.variables, literals, clause)?;
-    tracer.variables.prove_linked();
-    mark_joined(&mut tracer.variables, clause);
+    tracer.tables.prove_linked();
+    solver_from_user_lits(ctx, &mut tracer.tables, literals, clause)?;
+    tracer.tables.prove_linked();
+    mark_joined(&mut tracer.tables, clause);
     let lits = literals.as_slice();
     tell_clause(tracer, lits)?;
     load_clause(ctx, tracer, lits)?;
@@ -138,10 +137,10 @@ pub fn assume_list<W: ProofTarget, A: Allocator + Copy>(
     literals: &mut Vec<Lit, A>,
     list: &[Lit],
 ) -> Result<(), StepError>
-    requires kept { IsKept tracer.old.variables ctx.old }
+    requires kept { IsKept tracer.old.tables ctx.old }
     requires tells { CanTell tracer.old.proof }
-    requires names { CanBeNamed list.now tracer.old.variables }
-    ensures kept { OnOk result (IsKept tracer.new.variables ctx.new) }
+    requires names { CanBeNamed list.now tracer.old.tables }
+    ensures kept { OnOk result (IsKept tracer.new.tables ctx.new) }
     ensures tells { OnOk result (CanTell tracer.new.proof) }
     ensures state { OnOk result (KeepsValidity ctx.old.solver_state ctx.new.solver_state) }
     ensures schedule { KeepsSchedule ctx.old ctx.new }
@@ -155,15 +154,15 @@ pub fn assume_list<W: ProofTarget, A: Allocator + Copy>(
 {
     // What was found under the assumptions before says nothing of these.
     ctx.solver_state.assume();
-    tracer.variables.prove_linked();
-    solver_from_user_lits(ctx, &mut tracer.variables, literals, list)?;
-    tracer.variables.prove_linked();
+    tracer.tables.prove_linked();
+    solver_from_user_lits(ctx, &mut tracer.tables, literals, list)?;
+    tracer.tables.prove_linked();
     mark_assumed(
-        &mut tracer.variables,
+        &mut tracer.tables,
         ctx.assumptions.user_assumptions(),
         false,
     );
-    mark_assumed(&mut tracer.variables, list, true);
+    mark_assumed(&mut tracer.tables, list, true);
     let lits = literals.as_slice();
     set_assumptions(ctx, list, lits)?;
     tell_assumptions(tracer, lits)?;

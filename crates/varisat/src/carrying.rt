@@ -4,7 +4,7 @@ ghost use Rattle.varisat_theory.specs.Membership.{◌∈◌};
 ghost use Rattle.varisat_theory.specs.Literals.{Literal, variable_of};
 ghost use Rattle.varisat_names.specs.Maps.{chain};
 ghost use Rattle.varisat_names.specs.VarMap.{at};
-ghost use Rattle.varisat.specs.Carried.{carry};
+ghost use Rattle.varisat_tracer.specs.Carried.{carry};
 
 use std::alloc::{AllocError, Allocator};
 use varisat_literals::Lit;

@@ -49,7 +49,7 @@ pub enum Report<A: Allocator + Copy> {
 /// on `err`, where that is wanted.
 // The new solver has a function of its own: it is dropped in one place and in one step, not at each return of `decide_in`
 // and part by part.
-pub(crate) fn decide<W: ProofTarget, A: Allocator + Copy, S: ByteSource, E: Write>(
+pub(crate) fn decide_text<W: ProofTarget, A: Allocator + Copy, S: ByteSource, E: Write>(
     alloc: A,
     cnf: &mut S,
     target: &mut Option<W>,

@@ -79,12 +79,12 @@ fn drop_solver_var<W: ProofTarget, A: Allocator + Copy>(
     tracer: &mut SolverTracer<W, A>,
     solver: Var,
 ) -> Result<(), AllocError>
-    requires { IsSome (at tracer.old.variables.solvers.backward solver) }
+    requires { IsSome (at tracer.old.tables.solvers.backward solver) }
     ensures dropped { OnOk result ((x : ℕ) × LosesSolverVar x solver (tracer_state tracer.old) (tracer_state tracer.new)) }
     ensures opened { open_parts tracer.new.proof ≡ open_parts tracer.old.proof }
 {
-    tracer.variables.prove_linked();
-    let global = tracer.variables.drop_solver_var(solver)?;
+    tracer.tables.prove_linked();
+    let global = tracer.tables.drop_solver_var(solver)?;
     tracer.delete_var_if_gone(global);
     Ok(())
 }
@@ -95,18 +95,18 @@ fn drop_solver_vars<W: ProofTarget, A: Allocator + Copy>(
     tracer: &mut SolverTracer<W, A>,
     lits: &[Lit],
 ) -> Result<(), AllocError>
-    requires taken { (l : Literal) → l ∈ lits.now → IsSome (at tracer.old.variables.solvers.backward (variable_of l)) }
+    requires taken { (l : Literal) → l ∈ lits.now → IsSome (at tracer.old.tables.solvers.backward (variable_of l)) }
     requires distinct { IsDistinct (map variable_of lits.now) }
     ensures dropped { OnOk result (AreDroppedAlone lits.now (tracer_state tracer.old) (tracer_state tracer.new)) }
-    ensures rest { OnOk result (LeavesTables lits.now tracer.old.variables tracer.new.variables) }
+    ensures rest { OnOk result (LeavesTables lits.now tracer.old.tables tracer.new.tables) }
     ensures opened { open_parts tracer.new.proof ≡ open_parts tracer.old.proof }
 {
     for lit in lits {
-        tracer.variables.prove_linked();
+        tracer.tables.prove_linked();
         let solver = lit.var();
-        let global = tracer.variables.global_from_solver().get(solver).unwrap();
-        tracer.variables.set_unit(global, lit.is_positive());
-        tracer.variables.set_isolated(global, true);
+        let global = tracer.tables.global_from_solver().get(solver).unwrap();
+        tracer.tables.set_unit(global, lit.is_positive());
+        tracer.tables.set_isolated(global, true);
         drop_solver_var(tracer, solver)?;
     }
     Ok(())
@@ -164,14 +164,14 @@ fn release_solver_vars<W: ProofTarget, A: Allocator + Copy>(
     tracer: &mut SolverTracer<W, A>,
     lits: &[Lit],
 ) -> Result<(), AllocError>
-    requires taken { (l : Literal) → l ∈ lits.now → IsSome (at tracer.old.variables.solvers.backward (variable_of l)) }
+    requires taken { (l : Literal) → l ∈ lits.now → IsSome (at tracer.old.tables.solvers.backward (variable_of l)) }
     requires distinct { IsDistinct (map variable_of lits.now) }
     ensures released { OnOk result (AreReleased lits.now (tracer_state tracer.old) (tracer_state tracer.new)) }
-    ensures rest { OnOk result (LeavesTables lits.now tracer.old.variables tracer.new.variables) }
+    ensures rest { OnOk result (LeavesTables lits.now tracer.old.tables tracer.new.tables) }
     ensures opened { open_parts tracer.new.proof ≡ open_parts tracer.old.proof }
 {
     for lit in lits {
-        tracer.variables.prove_linked();
+        tracer.tables.prove_linked();
         drop_solver_var(tracer, lit.var())?;
     }
     Ok(())
@@ -184,17 +184,17 @@ fn drop_listed<W: ProofTarget, A: Allocator + Copy>(
     ctx: &mut Context<A>,
     literals: &mut Vec<Lit, A>,
 ) -> Result<(), AllocError>
-    requires kept { IsKept tracer.old.variables ctx.old }
+    requires kept { IsKept tracer.old.tables ctx.old }
     requires settled { IsSettledDown (view ctx.old) }
     ensures leave { OnOk result (LetsLeave (tracer_state tracer.old) ctx.old (tracer_state tracer.new) ctx.new) }
     ensures schedule { KeepsSchedule ctx.old ctx.new }
     ensures state { ctx.new.solver_state ≡ ctx.old.solver_state }
     ensures settled { OnOk result (IsSettledDown (view ctx.new)) }
-    ensures left { OnOk result (AreOverAssumed tracer.new.variables ctx.new.trail.literals) }
+    ensures left { OnOk result (AreOverAssumed tracer.new.tables ctx.new.trail.literals) }
     ensures opened { open_parts tracer.new.proof ≡ open_parts tracer.old.proof }
 {
-    tracer.variables.prove_linked();
-    list_unassumed(&tracer.variables, ctx.trail.trail(), literals)?;
+    tracer.tables.prove_linked();
+    list_unassumed(&tracer.tables, ctx.trail.trail(), literals)?;
     let alloc = *literals.allocator();
     let gone = flag_variables(alloc, ctx.assignment.assignment().len(), literals)?;
     drop_variables(ctx, &gone);
@@ -210,22 +210,22 @@ fn drop_unneeded<W: ProofTarget, A: Allocator + Copy>(
     ctx: &mut Context<A>,
     literals: &mut Vec<Lit, A>,
 ) -> Result<(), AllocError>
-    requires kept { IsKept tracer.old.variables ctx.old }
+    requires kept { IsKept tracer.old.tables ctx.old }
     requires settled { IsSettledDown (view ctx.old) }
-    requires left { AreOverAssumed tracer.old.variables ctx.old.trail.literals }
+    requires left { AreOverAssumed tracer.old.tables ctx.old.trail.literals }
     ensures leave { OnOk result (LetsLeave (tracer_state tracer.old) ctx.old (tracer_state tracer.new) ctx.new) }
     ensures schedule { KeepsSchedule ctx.old ctx.new }
     ensures state { ctx.new.solver_state ≡ ctx.old.solver_state }
     ensures settled { OnOk result (IsSettledDown (view ctx.new)) }
-    ensures left { OnOk result (LeavesNeeded tracer.new.variables (view ctx.new)) }
+    ensures left { OnOk result (LeavesNeeded tracer.new.tables (view ctx.new)) }
     ensures opened { open_parts tracer.new.proof ≡ open_parts tracer.old.proof }
 {
-    if !has_hidden(&tracer.variables) {
+    if !has_hidden(&tracer.tables) {
         return Ok(());
     }
-    tracer.variables.prove_linked();
+    tracer.tables.prove_linked();
     let mentioned = flag_mentioned(ctx)?;
-    list_unneeded(&tracer.variables, &mentioned, literals)?;
+    list_unneeded(&tracer.tables, &mentioned, literals)?;
     let alloc = *literals.allocator();
     let gone = flag_variables(alloc, ctx.assignment.assignment().len(), literals)?;
     drop_variables(ctx, &gone);
@@ -243,20 +243,20 @@ pub fn drop_fixed<W: ProofTarget, A: Allocator + Copy>(
     ctx: &mut Context<A>,
     literals: &mut Vec<Lit, A>,
 ) -> Result<(), StepError>
-    requires kept { IsKept tracer.old.variables ctx.old }
+    requires kept { IsKept tracer.old.tables ctx.old }
     requires tells { CanTell tracer.old.proof }
-    requires stands { FitSome (undecided_spaces tracer.old.variables tracer.old.proof.checker ctx.old) }
+    requires stands { FitSome (undecided_spaces tracer.old.tables tracer.old.proof.checker ctx.old) }
     requires unknown { ctx.old.solver_state.sat_state ≡ SatState.Unknown }
-    ensures kept { OnOk result (IsKept tracer.new.variables ctx.new) }
+    ensures kept { OnOk result (IsKept tracer.new.tables ctx.new) }
     ensures tells { OnOk result (CanTell tracer.new.proof) }
     ensures schedule { KeepsSchedule ctx.old ctx.new }
     ensures within { OnOk result (GoesOnWithin ctx.old ctx.new) }
     ensures told { OnOk result (TellsSome tracer.old.proof tracer.new.proof) }
     ensures state { ctx.new.solver_state ≡ ctx.old.solver_state }
     ensures count { OnOk result (length ctx.new.assignment.current ≡ length ctx.old.assignment.current) }
-    ensures left { OnOk result (LeavesWhereUnsettled ctx.old tracer.new.variables (view ctx.new)) }
+    ensures left { OnOk result (LeavesWhereUnsettled ctx.old tracer.new.tables (view ctx.new)) }
     // Where none was to leave but with such news, none is now, unless a clause is false.
-    ensures leaves { OnOk result (LeavesInTime tracer.old.variables (view ctx.old) → HasLetLeave tracer.new.variables (view ctx.new)) }
+    ensures leaves { OnOk result (LeavesInTime tracer.old.tables (view ctx.old) → HasLetLeave tracer.new.tables (view ctx.new)) }
     ensures stands { OnOk result (ComesOnUndecided 0 (tracer_state tracer.old) ctx.old (tracer_state tracer.new) ctx.new) }
     // What the target of an open proof has after an error, which is never that the store is full.
     ensures broken { IfErr result (λ error. BreaksProof tracer.old.proof (step_faults error) tracer.new.proof) }

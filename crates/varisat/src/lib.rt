@@ -7,7 +7,7 @@ mod deciding;
 mod dropping;
 pub mod laws;
 pub mod line;
-mod naming;
+mod name_checks;
 pub mod program;
 mod progress;
 mod rounds;

@@ -5,7 +5,7 @@ ghost use Rattle.varisat.specs.Decided.{concluded, StatusIsTrue, model_text, con
 ghost use Rattle.varisat.specs.Proven.{CanCountFault, SolvesText};
 ghost use Rattle.varisat_proof.specs.Verified.{fault_status};
 
-use crate::deciding::decide;
+use crate::deciding::decide_text;
 pub use crate::deciding::{Report, SolveOptions};
 use crate::line::{parse_line, write_answer, write_literals};
 use crate::session::make_call;
@@ -63,7 +63,7 @@ pub fn solve_lines<A: Allocator + Copy, S: ByteSource, T: ProofTarget, W: Write,
     ensures outcome { SolvesText T.taken options (S.stand cnf.old) (S.stand cnf.new) proof.old proof.new (W.contents out.old) (W.contents out.new) result }
     ensures truth { StatusIsTrue (S.stand cnf.old) (S.stand cnf.new) result }
 {
-    match decide(alloc, cnf, proof, options, err) {
+    match decide_text(alloc, cnf, proof, options, err) {
         Ok(report) => match write_report(out, &report) {
             Ok(status) => status,
             Err(error) => tell_fault(err, &error),
@@ -123,7 +123,7 @@ pub fn tell_usage<E: Write>(err: &mut E) -> u8
 }
 
 /// Makes the calls of the lines in turn, in a new solver, and writes their answers.
-// As in `decide`, what owns memory has a function of its own.
+// As in `decide_text`, what owns memory has a function of its own.
 fn answer_lines<A: Allocator + Copy, R: Read + Drop, W: Write>(
     alloc: A,
     input: R,

@@ -4,8 +4,8 @@ ghost use Rattle.varisat.specs.Accepting.{AreBounded};
 ghost use Rattle.varisat.specs.Changes.{RefusesInvalid, invalidated, EndsChange};
 ghost use Rattle.varisat.specs.Summaries.{list_tables};
 
-use crate::accept::{accept_clause, assume_list};
-use crate::naming::check_names;
+use crate::accept::{accept_user_clause, assume_list};
+use crate::name_checks::check_names;
 use crate::progress::{SearchSize, count_mapped};
 use crate::solving::find_verdict;
 use crate::usage::{change_mode, check_change};
@@ -223,7 +223,7 @@ impl<W: ProofTarget, A: Allocator + Copy> Model for Solver<W, A> {
     ghost Value = { Summary };
 
     ghost view = { λ c. record {
-      tables = c.tracer.variables;
+      tables = c.tracer.tables;
       opened = c.tracer.proof.opened;
       checker = c.tracer.proof.checker;
       search = contexts.view c.ctx;
@@ -240,7 +240,7 @@ impl<W: ProofTarget, A: Allocator + Copy> Model for Solver<W, A> {
       };
     } };
 
-    ghost invariant = { λ c. c.ctx.solver_state.state_is_invalid ≡ false → IsKeptSince c.tracer.variables c.tracer.proof c.ctx c.started c.changed_at };
+    ghost invariant = { λ c. c.ctx.solver_state.state_is_invalid ≡ false → IsKeptSince c.tracer.tables c.tracer.proof c.ctx c.started c.changed_at };
 }
 
 impl<W: ProofTarget, A: Allocator + Copy> Solver<W, A> {
@@ -254,7 +254,7 @@ impl<W: ProofTarget, A: Allocator + Copy> Solver<W, A> {
     ghost use Rattle.varisat.specs.Calls.{IsValid, count_anew, with_max_steps, AddsClause, MakesVar, Assumes, Searches, Solves, TellsModel, TellsCore, Configures, TellsSteps, TellsSince, TellsValid, answer_of};
     ghost use Rattle.varisat.specs.ClauseCalls.{AddsAll, AddsFormula, AddsDimacs, TellsFault};
     ghost use Rattle.varisat.specs.Told.{told_list, lent_list};
-    ghost use Rattle.varisat.specs.Summaries.{StandsFor, StandsOnceEnded, EndsSearch, HasFullStore};
+    ghost use Rattle.varisat.specs.Summaries.{StandsFor, StandsOnce, StandsOnceEnded, EndsSearch, HasFullStore};
     ghost use Rattle.varisat.specs.Targets.{WritesOn, WritesAll};
     ghost use Rattle.varisat_proof.specs.Proving.{marked_searched};
     ghost use Rattle.varisat.specs.Journals.{IsJournal};
@@ -280,7 +280,7 @@ impl<W: ProofTarget, A: Allocator + Copy> Solver<W, A> {
     /// Changes the settings for which the update has values. Refused in an invalid solver, and where a value is out of
     /// its range: then nothing changes, and the first such setting is told.
     pub fn config(&mut self, update: &SolverConfigUpdate) -> Result<(), SolverError>
-        ensures { (s : State) → StandsFor self.old s → (t : State) × Configures s update.now result t × StandsFor self.new t }
+        ensures { StandsOnce self.old (λ s t. Configures s update.now result t) self.new }
     {
         ensure_valid(&self.ctx)?;
         match self.ctx.config_changed(update) {
@@ -310,7 +310,7 @@ impl<W: ProofTarget, A: Allocator + Copy> Solver<W, A> {
 
     /// How many steps all calls of `solve` made together.
     pub fn steps(&self) -> u64
-        ensures { (s : State) → StandsFor self.now s → (t : State) × TellsSteps s result t × StandsFor self.now t }
+        ensures { StandsOnce self.now (λ s t. TellsSteps s result t) self.now }
     {
         self.ctx.schedule.steps()
     }
@@ -320,7 +320,7 @@ impl<W: ProofTarget, A: Allocator + Copy> Solver<W, A> {
     /// valid solver they are fewer than (n+2)*2^(n+2), and so than 2^(2n+3), where the clauses and all assumptions so far
     /// name n variables, however often a call was interrupted.
     pub fn steps_since_change(&self) -> u64
-        ensures { (s : State) → StandsFor self.now s → (t : State) × TellsSince s result t × StandsFor self.now t }
+        ensures { StandsOnce self.now (λ s t. TellsSince s result t) self.now }
     {
         self.ctx.schedule.steps().saturating_sub(self.changed_at)
     }
@@ -334,7 +334,7 @@ impl<W: ProofTarget, A: Allocator + Copy> Solver<W, A> {
     /// How large the search is.
     pub(crate) fn size(&self) -> SearchSize {
         let db = &self.ctx.clause_db;
-        let present = count_mapped(self.tracer.variables.global_from_solver());
+        let present = count_mapped(self.tracer.tables.global_from_solver());
         SearchSize {
             variables: present.saturating_sub(self.ctx.trail.top_level_assignment_count()),
             binary: self.ctx.binary_clauses.count(),
@@ -360,7 +360,7 @@ impl<W: ProofTarget, A: Allocator + Copy> Solver<W, A> {
     pub fn solver_watermark(&self) -> usize
         ensures { result ≡ length self.now.tables.solvers.backward }
     {
-        self.tracer.variables.solver_watermark()
+        self.tracer.tables.solver_watermark()
     }
 
     /// False once a call that changes the solver failed with an error from which there is no way back: out of memory, a
@@ -368,7 +368,7 @@ impl<W: ProofTarget, A: Allocator + Copy> Solver<W, A> {
     /// `failed_core` return None, and `close_proof` hands back the target as it is.
     pub fn is_valid(&self) -> bool
         ensures now { result ≡ self.now.ledger.valid }
-        ensures call { (s : State) → StandsFor self.now s → (t : State) × TellsValid s result t × StandsFor self.now t }
+        ensures call { StandsOnce self.now (λ s t. TellsValid s result t) self.now }
     {
         !self.ctx.solver_state.state_is_invalid
     }
@@ -392,7 +392,7 @@ impl<W: ProofTarget, A: Allocator + Copy> Solver<W, A> {
     pub fn add_clause(&mut self, clause: &[Lit]) -> Result<(), SolverError>
         ensures target { WritesOn self.old.opened result self.new.opened }
         ensures full { result ≡ Err SolverError.ClauseStoreFull → HasFullStore self.new }
-        ensures call { (s : State) → StandsFor self.old s → (t : State) × AddsClause s clause.now result t × StandsFor self.new t }
+        ensures call { StandsOnce self.old (λ s t. AddsClause s clause.now result t) self.new }
     {
         ensure_valid(&self.ctx)?;
         if let SatState::Unsat = self.ctx.solver_state.sat_state {
@@ -402,8 +402,13 @@ impl<W: ProofTarget, A: Allocator + Copy> Solver<W, A> {
         if self.tracer.proof.bars_clauses() {
             return Err(SolverError::ClauseAfterSolve);
         }
-        check_names(&self.tracer.variables, clause)?;
-        let accepted = accept_clause(&mut self.tracer, &mut self.ctx, &mut self.literals, clause);
+        check_names(&self.tracer.tables, clause)?;
+        let accepted = accept_user_clause(
+            &mut self.tracer,
+            &mut self.ctx,
+            &mut self.literals,
+            clause,
+        );
         end_change(&mut self.ctx, &mut self.changed_at, accepted)?;
         self.started = true;
         Ok(())
@@ -417,7 +422,7 @@ impl<W: ProofTarget, A: Allocator + Copy> Solver<W, A> {
     ) -> Result<(), SolverError>
         ensures target { WritesOn self.old.opened result self.new.opened }
         ensures full { result ≡ Err SolverError.ClauseStoreFull → HasFullStore self.new }
-        ensures call { (s : State) → StandsFor self.old s → (t : State) × AddsAll s formula.now.clauses result t × StandsFor self.new t }
+        ensures call { StandsOnce self.old (λ s t. AddsAll s formula.now.clauses result t) self.new }
     {
         for clause in formula.iter() {
             self.add_clause(clause)?;
@@ -433,7 +438,7 @@ impl<W: ProofTarget, A: Allocator + Copy> Solver<W, A> {
     ) -> Result<(), SolverError>
         ensures target { WritesOn self.old.opened result self.new.opened }
         ensures full { result ≡ Err SolverError.ClauseStoreFull → HasFullStore self.new }
-        ensures call { (s : State) → StandsFor self.old s → (t : State) × AddsFormula s formula.now.clauses result t × StandsFor self.new t }
+        ensures call { StandsOnce self.old (λ s t. AddsFormula s formula.now.clauses result t) self.new }
     {
         ensure_valid(&self.ctx)?;
         self.add_clauses(formula)?;
@@ -478,8 +483,7 @@ impl<W: ProofTarget, A: Allocator + Copy> Solver<W, A> {
         requires { (S.stand source.old).faults < 2 ^ 64 - 1 }
         ensures target { WritesOn self.old.opened result self.new.opened }
         ensures full { result ≡ Err SolverError.ClauseStoreFull → HasFullStore self.new }
-        ensures call { (s : State) → StandsFor self.old s → (t : State) × AddsDimacs s (S.stand source.old) result (S.stand source.new) t
-            × StandsFor self.new t }
+        ensures call { StandsOnce self.old (λ s t. AddsDimacs s (S.stand source.old) result (S.stand source.new) t) self.new }
     {
         ensure_valid(&self.ctx)?;
         let mut parser = DimacsParser::new_in(self.alloc);
@@ -499,17 +503,17 @@ impl<W: ProofTarget, A: Allocator + Copy> Solver<W, A> {
     /// Brings the least free name into use. Refused in an invalid solver, where all 2^28 names are in use or so many
     /// variables were made, and then nothing changes; and where memory runs out, which makes the solver invalid.
     pub fn new_var(&mut self) -> Result<Var, SolverError>
-        ensures { (s : State) → StandsFor self.old s → (t : State) × MakesVar s result t × StandsFor self.new t }
+        ensures { StandsOnce self.old (λ s t. MakesVar s result t) self.new }
     {
         ensure_valid(&self.ctx)?;
-        let next = self.tracer.variables.next_unmapped_user();
+        let next = self.tracer.tables.next_unmapped_user();
         if next.index() >= Var::max_count()
-            || self.tracer.variables.global_watermark() >= Var::max_count()
+            || self.tracer.tables.global_watermark() >= Var::max_count()
         {
             return Err(SolverError::VariableLimit);
         }
-        self.tracer.variables.prove_linked();
-        let made = new_user_var(&mut self.tracer.variables);
+        self.tracer.tables.prove_linked();
+        let made = new_user_var(&mut self.tracer.tables);
         let user = end_change(&mut self.ctx, &mut self.changed_at, made)?;
         self.started = true;
         Ok(user)
@@ -521,7 +525,7 @@ impl<W: ProofTarget, A: Allocator + Copy> Solver<W, A> {
     /// the target is handed back. The target has to have counted fewer than 2^64-1 faults.
     pub fn write_proof(&mut self, target: W, format: ProofFormat) -> Result<(), (SolverError, W)>
         requires { (W.taken target).faults < 2 ^ 64 - 1 }
-        ensures { (s : State) → StandsFor self.old s → (t : State) × OpensProof W.taken target format s result t × StandsFor self.new t }
+        ensures { StandsOnce self.old (λ s t. OpensProof W.taken target format s result t) self.new }
     {
         match ensure_valid(&self.ctx) {
             Ok(()) => {}
@@ -543,7 +547,7 @@ impl<W: ProofTarget, A: Allocator + Copy> Solver<W, A> {
     /// no memory itself. Refused in an invalid solver, and once a clause, a variable or a list of assumptions was
     /// accepted: then nothing changes. Where a checker runs already, that one goes on.
     pub fn enable_self_checking(&mut self) -> Result<(), SolverError>
-        ensures call { (s : State) → StandsFor self.old s → (t : State) × EnablesChecking s result t × StandsFor self.new t }
+        ensures call { StandsOnce self.old (λ s t. EnablesChecking s result t) self.new }
         ensures runs { result ≡ Ok tt → IsSome self.new.checker }
     {
         ensure_valid(&self.ctx)?;
@@ -566,7 +570,7 @@ impl<W: ProofTarget, A: Allocator + Copy> Solver<W, A> {
     /// Closes the proof, if one is open: flushes its target and hands it back, also where that fails, which makes the
     /// solver invalid. An invalid solver hands the target back without a flush. None where no proof is open.
     pub fn close_proof(&mut self) -> Result<Option<W>, (SolverError, W)>
-        ensures call { (s : State) → StandsFor self.old s → (t : State) × ClosesProof W.taken s result t × StandsFor self.new t }
+        ensures call { StandsOnce self.old (λ s t. ClosesProof W.taken s result t) self.new }
         // Also an invalid solver hands back just the target that it has, with what this took.
         ensures handed { IsClosed W.taken self.old.opened result }
         ensures closed { self.new.opened ≡ None }
@@ -594,7 +598,7 @@ impl<W: ProofTarget, A: Allocator + Copy> Solver<W, A> {
     /// solver is invalid.
     pub fn assume(&mut self, lits: &[Lit]) -> Result<(), SolverError>
         ensures target { WritesOn self.old.opened result self.new.opened }
-        ensures call { (s : State) → StandsFor self.old s → (t : State) × Assumes s lits.now result t × StandsFor self.new t }
+        ensures call { StandsOnce self.old (λ s t. Assumes s lits.now result t) self.new }
         // The target is asked last: where it fails the list is assumed already, so that there was memory for it.
         ensures last { (cause : Error) → result ≡ Err (SolverError.ProofIoError cause) → self.new.assumed.user ≡ lits.now }
     {
@@ -602,7 +606,7 @@ impl<W: ProofTarget, A: Allocator + Copy> Solver<W, A> {
         if self.tracer.proof.bars_assumptions() {
             return Err(SolverError::ProofOpen);
         }
-        check_names(&self.tracer.variables, lits)?;
+        check_names(&self.tracer.tables, lits)?;
         let assumed = assume_list(&mut self.tracer, &mut self.ctx, &mut self.literals, lits);
         end_change(&mut self.ctx, &mut self.changed_at, assumed)?;
         self.started = true;
@@ -616,7 +620,7 @@ impl<W: ProofTarget, A: Allocator + Copy> Solver<W, A> {
     /// The next call then goes on. Where memory runs out, the clause store is full or the target of an open proof fails,
     /// the solver is invalid; a proof that cannot be flushed is told in place of spent steps.
     pub fn solve(&mut self) -> Result<bool, SolverError>
-        ensures call { (s : State) → StandsFor self.old s → (t : State) × Solves s result t × StandsFor self.new t }
+        ensures call { StandsOnce self.old (λ s t. Solves s result t) self.new }
         ensures satisfiable { result ≡ Ok true → (s : State) → StandsFor self.old s → IsSatisfiableWith s.clauses s.assumptions }
         ensures unsatisfiable { result ≡ Ok false → (s : State) → StandsFor self.old s → IsSatisfiableWith s.clauses s.assumptions → ⊥ }
         ensures model { result ≡ Ok true → (s : State) → StandsFor self.new s → HasModel s }
@@ -650,7 +654,7 @@ impl<W: ProofTarget, A: Allocator + Copy> Solver<W, A> {
     /// Makes steps until it is known whether some assignment satisfies the accepted clauses and makes the assumptions
     /// true; none where that is known. Errors are those of `solve`, but for that of a flush.
     pub(crate) fn seek(&mut self) -> Result<bool, SolverError>
-        ensures call { (s : State) → StandsFor self.old s → (t : State) × Searches s result t × StandsFor self.new t }
+        ensures call { StandsOnce self.old (λ s t. Searches s result t) self.new }
         ensures satisfiable { result ≡ Ok true → (s : State) → StandsFor self.old s → IsSatisfiableWith s.clauses s.assumptions }
         ensures unsatisfiable { result ≡ Ok false → (s : State) → StandsFor self.old s → IsSatisfiableWith s.clauses s.assumptions → ⊥ }
         ensures model { result ≡ Ok true → (s : State) → StandsFor self.new s → HasModel s }
@@ -684,7 +688,7 @@ impl<W: ProofTarget, A: Allocator + Copy> Solver<W, A> {
     /// The names in use in increasing order with the values that were found, if the last thing that was found out is
     /// that the clauses are satisfiable; else None, as in an invalid solver. Where memory runs out nothing changes.
     pub fn model(&self) -> Result<Option<Vec<Lit, A>>, AllocError>
-        ensures call { (s : State) → StandsFor self.now s → (t : State) × TellsModel s (told_list result) t × StandsFor self.now t }
+        ensures call { StandsOnce self.now (λ s t. TellsModel s (told_list result) t) self.now }
         ensures completable { (m : List ℕ) → told_list result ≡ Ok (Some m) → (s : State) → StandsFor self.now s → IsCompletableIn s m }
         ensures absent { told_list result ≡ Ok None → (s : State) → StandsFor self.now s → IsValid s → answer_of s.verdict ≡ Some true → ⊥ }
     {
@@ -694,7 +698,7 @@ impl<W: ProofTarget, A: Allocator + Copy> Solver<W, A> {
         match self.ctx.solver_state.sat_state {
             SatState::Sat => {
                 let values = self.ctx.assignment.assignment();
-                let list = list_model(self.alloc, &self.tracer.variables, values)?;
+                let list = list_model(self.alloc, &self.tracer.tables, values)?;
                 Ok(Some(list))
             }
             SatState::Unknown | SatState::Unsat | SatState::UnsatUnderAssumptions => Ok(None),
@@ -705,7 +709,7 @@ impl<W: ProofTarget, A: Allocator + Copy> Solver<W, A> {
     /// that was found out is that these are unsatisfiable under the assumptions; an empty list where the clauses alone
     /// are; else None, as in an invalid solver.
     pub fn failed_core(&self) -> Option<&[Lit]>
-        ensures call { (s : State) → StandsFor self.now s → (t : State) × TellsCore s (Ok (lent_list result)) t × StandsFor self.now t }
+        ensures call { StandsOnce self.now (λ s t. TellsCore s (Ok (lent_list result)) t) self.now }
         ensures fails { (core : List ℕ) → lent_list result ≡ Some core → (s : State) → StandsFor self.now s → IsNamedCore s core }
         ensures absent { lent_list result ≡ None → (s : State) → StandsFor self.now s → IsValid s → answer_of s.verdict ≡ Some false → ⊥ }
     {
@@ -722,7 +726,7 @@ impl<W: ProofTarget, A: Allocator + Copy> Solver<W, A> {
 
     /// A copy of the failed core. Where memory runs out nothing changes.
     pub(crate) fn copy_core(&self) -> Result<Option<Vec<Lit, A>>, AllocError>
-        ensures { (s : State) → StandsFor self.now s → (t : State) × TellsCore s (told_list result) t × StandsFor self.now t }
+        ensures { StandsOnce self.now (λ s t. TellsCore s (told_list result) t) self.now }
     {
         match self.failed_core() {
             Some(core) => {
@@ -735,17 +739,16 @@ impl<W: ProofTarget, A: Allocator + Copy> Solver<W, A> {
 }
 
 impl<W: ProofTarget, A: Allocator + Copy> Solver<W, A> {
-    ghost use Rattle.varisat.specs.States.{State};
     ghost use Rattle.varisat.specs.Told.{told_vars};
     ghost use Rattle.varisat.specs.Usage.{ChangesMode, SamplesVar, WitnessesVar, HidesVar, Observes};
-    ghost use Rattle.varisat.specs.Summaries.{StandsFor};
+    ghost use Rattle.varisat.specs.Summaries.{StandsOnce};
 
     /// Names the variable, and changes its mode. Refused as `sample_var` is.
     fn set_mode(&mut self, var: Var, mode: SamplingMode) -> Result<(), SolverError>
-        ensures { (s : State) → StandsFor self.old s → (t : State) × ChangesMode mode s var result t × StandsFor self.new t }
+        ensures { StandsOnce self.old (λ s t. ChangesMode mode s var result t) self.new }
     {
         ensure_valid(&self.ctx)?;
-        check_change(&self.tracer.variables, var)?;
+        check_change(&self.tracer.tables, var)?;
         let verdict = self.ctx.solver_state.sat_state;
         let changed = change_mode(&mut self.tracer, var, mode, verdict);
         end_change(&mut self.ctx, &mut self.changed_at, changed)?;
@@ -755,7 +758,7 @@ impl<W: ProofTarget, A: Allocator + Copy> Solver<W, A> {
     /// Lets clauses and assumptions name the variable, as they may from the first. A free name comes into use. Refused
     /// as a clause is for its name, and where the variable is assumed; then nothing changes.
     pub fn sample_var(&mut self, var: Var) -> Result<(), SolverError>
-        ensures { (s : State) → StandsFor self.old s → (t : State) × SamplesVar s var result t × StandsFor self.new t }
+        ensures { StandsOnce self.old (λ s t. SamplesVar s var result t) self.new }
     {
         self.set_mode(var, SamplingMode::Sample)
     }
@@ -763,7 +766,7 @@ impl<W: ProofTarget, A: Allocator + Copy> Solver<W, A> {
     /// Makes the variable a witness: from then on no clause and no assumption may name it, and models list it as
     /// before. A free name comes into use. Refused as `sample_var` is.
     pub fn witness_var(&mut self, var: Var) -> Result<(), SolverError>
-        ensures { (s : State) → StandsFor self.old s → (t : State) × WitnessesVar s var result t × StandsFor self.new t }
+        ensures { StandsOnce self.old (λ s t. WitnessesVar s var result t) self.new }
     {
         self.set_mode(var, SamplingMode::Witness)
     }
@@ -772,7 +775,7 @@ impl<W: ProofTarget, A: Allocator + Copy> Solver<W, A> {
     /// variable. A free name comes into use first. A variable that no clause holds is gone for good, unless the clauses
     /// are known to be unsatisfiable. Refused as `sample_var` is.
     pub fn hide_var(&mut self, var: Var) -> Result<(), SolverError>
-        ensures { (s : State) → StandsFor self.old s → (t : State) × HidesVar s var result t × StandsFor self.new t }
+        ensures { StandsOnce self.old (λ s t. HidesVar s var result t) self.new }
     {
         self.set_mode(var, SamplingMode::Hide)
     }
@@ -782,26 +785,25 @@ impl<W: ProofTarget, A: Allocator + Copy> Solver<W, A> {
     /// names it, or if the clauses force its value. Refused in an invalid solver, and then nothing changes, and where
     /// memory runs out. There are no more variables than names below the limit.
     pub fn observe_internal_vars(&mut self) -> Result<Vec<Var, A>, SolverError>
-        ensures { (s : State) → StandsFor self.old s → (t : State) × Observes s (told_vars result) t × StandsFor self.new t }
+        ensures { StandsOnce self.old (λ s t. Observes s (told_vars result) t) self.new }
     {
         ensure_valid(&self.ctx)?;
-        self.tracer.variables.prove_linked();
-        let shown = observe_internal_vars(&mut self.tracer.variables, self.alloc);
+        self.tracer.tables.prove_linked();
+        let shown = observe_internal_vars(&mut self.tracer.tables, self.alloc);
         let names = end_change(&mut self.ctx, &mut self.changed_at, shown)?;
         Ok(names)
     }
 }
 
 impl<W: ProofTarget, A: Allocator + Copy> ExtendFormula for Solver<W, A> {
-    ghost use Rattle.varisat.specs.States.{State};
     ghost use Rattle.varisat.specs.Calls.{AddsClause, MakesVar};
-    ghost use Rattle.varisat.specs.Summaries.{StandsFor};
+    ghost use Rattle.varisat.specs.Summaries.{StandsOnce};
 
     type Error = SolverError;
 
-    ghost adds_clause = { λ g c r h. (s : State) → StandsFor g s → (t : State) × AddsClause s c r t × StandsFor h t };
+    ghost adds_clause = { λ g c r h. StandsOnce g (λ s t. AddsClause s c r t) h };
 
-    ghost makes_var = { λ g r h. (s : State) → StandsFor g s → (t : State) × MakesVar s r t × StandsFor h t };
+    ghost makes_var = { λ g r h. StandsOnce g (λ s t. MakesVar s r t) h };
 
     fn add_clause(&mut self, literals: &[Lit]) -> Result<(), SolverError> {
         Solver::add_clause(self, literals)

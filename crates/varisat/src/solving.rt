@@ -34,9 +34,9 @@ fn begin<W: ProofTarget, A: Allocator + Copy>(
     ctx: &mut Context<A>,
     literals: &mut Vec<Lit, A>,
 ) -> Result<(), StepError>
-    requires kept { IsKept tracer.old.variables ctx.old }
+    requires kept { IsKept tracer.old.tables ctx.old }
     requires tells { CanTell tracer.old.proof }
-    requires stands { FitSome (undecided_spaces tracer.old.variables tracer.old.proof.checker ctx.old) }
+    requires stands { FitSome (undecided_spaces tracer.old.tables tracer.old.proof.checker ctx.old) }
     requires unknown { ctx.old.solver_state.sat_state ≡ SatState.Unknown }
     requires counted { ctx.old.schedule.steps < 2 ^ 64 - 1 }
     ensures begins { OnOk result (BeginsSolverStep (tracer_state tracer.old) (tracer_state tracer.new) ctx.old ctx.new) }
@@ -79,9 +79,9 @@ fn named_conflict_step<W: ProofTarget, A: Allocator + Copy>(
     ctx: &mut Context<A>,
     literals: &mut Vec<Lit, A>,
 ) -> Result<(), StepError>
-    requires kept { IsKept tracer.old.variables ctx.old }
+    requires kept { IsKept tracer.old.tables ctx.old }
     requires tells { CanTell tracer.old.proof }
-    requires stands { FitSome (undecided_spaces tracer.old.variables tracer.old.proof.checker ctx.old) }
+    requires stands { FitSome (undecided_spaces tracer.old.tables tracer.old.proof.checker ctx.old) }
     requires unknown { ctx.old.solver_state.sat_state ≡ SatState.Unknown }
     ensures made { OnOk result (MakesNamedStep (tracer_state tracer.old) (tracer_state tracer.new) ctx.old ctx.new) }
     ensures schedule { KeepsSchedule ctx.old ctx.new }
@@ -93,7 +93,7 @@ fn named_conflict_step<W: ProofTarget, A: Allocator + Copy>(
     let SatState::UnsatUnderAssumptions = ctx.solver_state.sat_state else {
         return Ok(());
     };
-    name_core(&tracer.variables, ctx, literals)?;
+    name_core(&tracer.tables, ctx, literals)?;
     Ok(())
 }
 
@@ -105,9 +105,9 @@ fn make_step<W: ProofTarget, A: Allocator + Copy>(
     ctx: &mut Context<A>,
     literals: &mut Vec<Lit, A>,
 ) -> Result<(), StepError>
-    requires kept { IsKept tracer.old.variables ctx.old }
+    requires kept { IsKept tracer.old.tables ctx.old }
     requires tells { CanTell tracer.old.proof }
-    requires stands { FitSome (undecided_spaces tracer.old.variables tracer.old.proof.checker ctx.old) }
+    requires stands { FitSome (undecided_spaces tracer.old.tables tracer.old.proof.checker ctx.old) }
     requires unknown { ctx.old.solver_state.sat_state ≡ SatState.Unknown }
     requires counted { ctx.old.schedule.steps < 2 ^ 64 - 1 }
     ensures made { OnOk result (MakesSolverStep (tracer_state tracer.old) (tracer_state tracer.new) ctx.old ctx.new) }
@@ -137,9 +137,9 @@ pub fn find_verdict<W: ProofTarget, A: Allocator + Copy>(
     literals: &mut Vec<Lit, A>,
     max_steps: u64,
 ) -> Result<Option<bool>, StepError>
-    requires kept { IsKept tracer.old.variables ctx.old }
+    requires kept { IsKept tracer.old.tables ctx.old }
     requires tells { CanTell tracer.old.proof }
-    requires stands { FitSome (undecided_spaces tracer.old.variables tracer.old.proof.checker ctx.old) }
+    requires stands { FitSome (undecided_spaces tracer.old.tables tracer.old.proof.checker ctx.old) }
     requires unknown { ctx.old.solver_state.sat_state ≡ SatState.Unknown }
     ensures found { IfOk result (λ found. FindsVerdict (tracer_state tracer.old) (tracer_state tracer.new) ctx.old ctx.new found) }
     ensures counted { CountsStepsFrom max_steps ctx.old ctx.new (told_verdict result) }

@@ -7,7 +7,7 @@ ghost use Rattle.varisat.specs.Accepting.{AreBounded};
 ghost use Rattle.varisat_names.specs.declared.variables.data.SamplingMode.TheVariants as sampling;
 ghost use Rattle.varisat.specs.VariableChanges.{CanBeChanged, ChecksChange, IsMarkedName, SetsNamedMode, LeavesIfUnused, HidesNamed, ChangesNamed};
 
-use crate::naming::{is_crowded, is_past_limit};
+use crate::name_checks::{is_crowded, is_past_limit};
 use crate::solver::SolverError;
 use std::alloc::{AllocError, Allocator};
 use varisat_formula::io::ProofTarget;
@@ -71,12 +71,12 @@ fn leave_if_unused<W: ProofTarget, A: Allocator + Copy>(
     tracer: &mut SolverTracer<W, A>,
     global: Var,
 ) -> Result<(), AllocError>
-    requires live { (kept_at tracer.old.variables.kept global).deleted ≡ false }
-    requires unnamed { at tracer.old.variables.users.backward global ≡ None }
+    requires live { (kept_at tracer.old.tables.kept global).deleted ≡ false }
+    requires unnamed { at tracer.old.tables.users.backward global ≡ None }
     ensures leaves { OnOk result (LeavesIfUnused (tracer_state tracer.old) global (tracer_state tracer.new)) }
     ensures proof { OnErr result (tracer.new.proof ≡ tracer.old.proof) }
 {
-    tracer.variables.delete_global_if_unused(global)?;
+    tracer.tables.delete_global_if_unused(global)?;
     tracer.delete_var_if_gone(global);
     Ok(())
 }
@@ -88,11 +88,11 @@ fn hide_named<W: ProofTarget, A: Allocator + Copy>(
     var: Var,
     verdict: SatState,
 ) -> Result<(), AllocError>
-    requires { CanBeChanged var tracer.old.variables }
+    requires { CanBeChanged var tracer.old.tables }
     ensures hides { OnOk result (HidesNamed var verdict (tracer_state tracer.old) (tracer_state tracer.new)) }
     ensures proof { OnErr result (tracer.new.proof ≡ tracer.old.proof) }
 {
-    let global = set_named_mode(&mut tracer.variables, var, SamplingMode::Hide)?;
+    let global = set_named_mode(&mut tracer.tables, var, SamplingMode::Hide)?;
     if let SatState::Unsat = verdict {
         return Ok(());
     }
@@ -107,14 +107,14 @@ pub fn change_mode<W: ProofTarget, A: Allocator + Copy>(
     mode: SamplingMode,
     verdict: SatState,
 ) -> Result<(), AllocError>
-    requires { CanBeChanged var tracer.old.variables }
+    requires { CanBeChanged var tracer.old.tables }
     ensures changes { OnOk result (ChangesNamed var mode verdict (tracer_state tracer.old) (tracer_state tracer.new)) }
-    ensures free { OnErr result (mode ≢ sampling.Hide → at tracer.old.variables.users.forward var ≡ None) }
+    ensures free { OnErr result (mode ≢ sampling.Hide → at tracer.old.tables.users.forward var ≡ None) }
     ensures proof { OnErr result (tracer.new.proof ≡ tracer.old.proof) }
 {
     if let SamplingMode::Hide = mode {
         return hide_named(tracer, var, verdict);
     }
-    set_named_mode(&mut tracer.variables, var, mode)?;
+    set_named_mode(&mut tracer.tables, var, mode)?;
     Ok(())
 }

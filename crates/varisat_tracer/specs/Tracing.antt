@@ -19,7 +19,7 @@ pub record TracerState : Type 0 where
 
 -- both together
 abbrev pub tracer_state : {W A : Type 0} → SolverTracer W A → TracerState
-tracer_state t = record { tables = t.variables; proof = t.proof }
+tracer_state t = record { tables = t.tables; proof = t.proof }
 
 -- the literal of the global variable that the solver variable stands for
 abbrev pub global_literal : Tables → Literal → Literal

@@ -52,7 +52,7 @@ fn map_lits<A: Allocator + Copy>(
 /// open and no checker running steps pass.
 #[derive(Drop)]
 pub struct SolverTracer<W: ProofTarget, A: Allocator + Copy> {
-    pub variables: LinkedVariables<A>,
+    pub tables: LinkedVariables<A>,
     pub proof: Proof<W, A>,
     /// The literals of a step over global variables.
     pub literals: Vec<Lit, A>,
@@ -61,11 +61,11 @@ pub struct SolverTracer<W: ProofTarget, A: Allocator + Copy> {
 impl<W: ProofTarget, A: Allocator + Copy> SolverTracer<W, A> {
     /// No variables, no proof and no checker. It takes no memory.
     pub fn new_in(alloc: A) -> SolverTracer<W, A>
-        ensures variables { result.variables ≡ no_variables }
+        ensures variables { result.tables ≡ no_variables }
         ensures proof { result.proof ≡ record { opened = None; checker = None } }
     {
         SolverTracer {
-            variables: LinkedVariables::new_in(alloc),
+            tables: LinkedVariables::new_in(alloc),
             proof: Proof::new_in(alloc),
             literals: Vec::new(alloc),
         }
@@ -81,7 +81,7 @@ impl<W: ProofTarget, A: Allocator + Copy> SolverTracer<W, A> {
         if !self.proof.is_active() {
             return Ok(());
         }
-        match map_lits(&self.variables, clause, &mut self.literals) {
+        match map_lits(&self.tables, clause, &mut self.literals) {
             Ok(()) => {}
             Err(_) => return Err(TraceError::Memory),
         }
@@ -98,7 +98,7 @@ impl<W: ProofTarget, A: Allocator + Copy> SolverTracer<W, A> {
         if !self.proof.is_active() {
             return Ok(());
         }
-        match map_lits(&self.variables, assumptions, &mut self.literals) {
+        match map_lits(&self.tables, assumptions, &mut self.literals) {
             Ok(()) => {}
             Err(_) => return Err(TraceError::Memory),
         }
@@ -109,12 +109,12 @@ impl<W: ProofTarget, A: Allocator + Copy> SolverTracer<W, A> {
     /// Tells the proof that the global variable is gone for good, where it is not live any more. It takes no memory, and
     /// writes nothing.
     pub fn delete_var_if_gone(&mut self, global: Var)
-        requires { global < length self.old.variables.kept }
-        ensures variables { self.new.variables ≡ self.old.variables }
-        ensures told { IsTold self.old.proof (leaves_if_deleted self.old.variables global) self.new.proof }
+        requires { global < length self.old.tables.kept }
+        ensures variables { self.new.tables ≡ self.old.tables }
+        ensures told { IsTold self.old.proof (leaves_if_deleted self.old.tables global) self.new.proof }
         ensures opened { open_parts self.new.proof ≡ open_parts self.old.proof }
     {
-        if self.variables.var_data_global(global).deleted {
+        if self.tables.var_data_global(global).deleted {
             delete_var(&mut self.proof, global);
         }
     }
@@ -141,7 +141,7 @@ impl<W: ProofTarget, A: Allocator + Copy> ProofTracer for SolverTracer<W, A> {
 
     /// By the literals over global variables, which the lines write.
     fn sort(&self, clause: &mut [Lit]) {
-        clause.sort_unstable_by_key(|literal| global_lit(&self.variables, *literal).code());
+        clause.sort_unstable_by_key(|literal| global_lit(&self.tables, *literal).code());
     }
 
     // `DeleteVar` is not handed on: it says that a solver variable leaves the search, and its global variable may live on.
@@ -152,22 +152,22 @@ impl<W: ProofTarget, A: Allocator + Copy> ProofTracer for SolverTracer<W, A> {
         }
         match step {
             ProofStep::AtClause { clause } => {
-                map_lits(&self.variables, clause, &mut self.literals)?;
+                map_lits(&self.tables, clause, &mut self.literals)?;
                 let clause = self.literals.as_slice();
                 add_step(&mut self.proof, &ProofStep::AtClause { clause })?;
             }
             ProofStep::UnitClauses { units } => {
-                map_lits(&self.variables, units, &mut self.literals)?;
+                map_lits(&self.tables, units, &mut self.literals)?;
                 let units = self.literals.as_slice();
                 add_step(&mut self.proof, &ProofStep::UnitClauses { units })?;
             }
             ProofStep::DeleteClause { clause } => {
-                map_lits(&self.variables, clause, &mut self.literals)?;
+                map_lits(&self.tables, clause, &mut self.literals)?;
                 let clause = self.literals.as_slice();
                 add_step(&mut self.proof, &ProofStep::DeleteClause { clause })?;
             }
             ProofStep::FailedAssumptions { failed_core } => {
-                map_lits(&self.variables, failed_core, &mut self.literals)?;
+                map_lits(&self.tables, failed_core, &mut self.literals)?;
                 let failed_core = self.literals.as_slice();
                 add_step(
                     &mut self.proof,

@@ -6,14 +6,13 @@ use Rattle.varisat_names.specs.Maps.{chain}
 use Rattle.varisat_names.specs.VarMap.{at}
 use Rattle.varisat_names.specs.VarBiMap.{BiMap}
 use Rattle.varisat_names.specs.Variables.{Tables}
-use Rattle.varisat_tracer.specs.Carried as global
 use Rattle.varisat_tracer.specs.Tracing.{TracerState, tracer_state, global_literal, BreaksProof}
 use Rattle.varisat_tracer.proofs.Telling.{tells-on, proof-unbroken}
 use Rattle.varisat_trace.proofs.Broken.{passed-on}
 use Rattle.varisat_search.specs.declared.error.StepError.{StepError}
 use Rattle.varisat_search.specs.declared.error.StepError.TheVariants as step
 use Rattle.varisat_search.specs.StepErrors.{step_faults}
-use Rattle.varisat.specs.Carried.{carry}
+use Rattle.varisat_tracer.specs.Carried.{carry}
 use Rattle.varisat.proofs.CheckedHeld.{checked-assumed}
 use Rattle.varisat.proofs.ToldProofs.{proof-told}
 use Rattle.varisat_search.specs.declared.state.SolverState.{SolverState}
@@ -37,17 +36,17 @@ use Rattle.varisat.proofs.accept.assume_list.Goals.{In_ok-solver_from_user_lits}
 use Rattle.varisat.proofs.accept.assume_list.Goals as goal
 
 pub solver_from_user_lits-requires-clause-variables : goal.solver_from_user_lits-requires-clause-variables
-solver_from_user_lits-requires-clause-variables g c = has-variables c.args.tracer.now.variables c.args.ctx.now c.assume.new.self c.requires.kept
+solver_from_user_lits-requires-clause-variables g c = has-variables c.args.tracer.now.tables c.args.ctx.now c.assume.new.self c.requires.kept
 
 pub solver_from_user_lits-requires-clause-room : goal.solver_from_user_lits-requires-clause-room
-solver_from_user_lits-requires-clause-room g c = can-have-room c.args.list.now c.args.tracer.now.variables c.requires.names
+solver_from_user_lits-requires-clause-room g c = can-have-room c.args.list.now c.args.tracer.now.tables c.requires.names
 
 -- the names have solver variables
 have : (g : Over) (c : In_ok-solver_from_user_lits g) → HaveSolvers {A = g.row.A.Denot} c.args.list.now
-    (record { tables = c.args.tracer.now.variables; context = record c.args.ctx.now { solver_state = c.assume.new.self } })
+    (record { tables = c.args.tracer.now.tables; context = record c.args.ctx.now { solver_state = c.assume.new.self } })
     (record { tables = c.solver_from_user_lits.new.variables; context = c.solver_from_user_lits.new.ctx })
 have g c =
-    have-solvers-then c.args.list.now c.args.tracer.now.variables c.args.ctx.now c.assume.new.self
+    have-solvers-then c.args.list.now c.args.tracer.now.tables c.args.ctx.now c.assume.new.self
     (record { tables = c.solver_from_user_lits.new.variables; context = c.solver_from_user_lits.new.ctx })
     (λ e. no-model-assumed c.args.ctx.now.solver_state.sat_state (ap (λ (x : SolverState). x.sat_state) (sym c.assume.ensures) ∙ e))
     c.prove_linked.ensures c.requires.kept (c.in_ok-solver_from_user_lits.ensures {u = tt}).in_turn
@@ -153,7 +152,7 @@ returns-clause-assumed g c s f =
     let after = tracer_state c.tell_assumptions.new.tracer in
     let taken = (c.in_ok-tell_assumptions.ensures {u = tt}).told in
     let first : Summary = record {
-      tables = c.args.tracer.now.variables;
+      tables = c.args.tracer.now.tables;
       opened = None;
       checker = checker;
       search = view old;
@@ -164,7 +163,7 @@ returns-clause-assumed g c s f =
       ledger = s.ledger;
     } in
     let (w, k) = f in
-    let begins = subst (λ y. SpacesFit (spaces_of c.args.tracer.now.variables checker (view old) old.assumptions y)
+    let begins = subst (λ y. SpacesFit (spaces_of c.args.tracer.now.tables checker (view old) old.assumptions y)
     (with_verdict (assumed_verdict s.verdict) s)) (sym (ap (λ (x : SolverState). x.sat_state) c.assume.ensures))
     (w, forgets w first s old.solver_state.sat_state s.verdict k) in
     let n = with_naming (name_all list s.naming) s in
@@ -199,7 +198,7 @@ returns-clause-assumed g c s f =
     let same : map (carry variables) carried ≡ map (global_literal marked) c.as_slice-lits.result.now =
     list-told second n2 list c.mark_assumed.new.variables marked (view new) new.assumptions new.solver_state.sat_state assuming named
     ∙ ap (map (global_literal m)) (sym items)
-    ∙ ap (λ (b : BiMap). map (global.carry (at b.backward)) c.as_slice-lits.result.now) (sym same-solvers) in (
+    ∙ ap (λ (b : BiMap). map (carry (at b.backward)) c.as_slice-lits.result.now) (sym same-solvers) in (
       variables,
       keep,
       proof-told before after (Assumes c.as_slice-lits.result.now ∷ []) variables s.told told taken (record {

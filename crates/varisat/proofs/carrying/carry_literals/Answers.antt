@@ -6,7 +6,7 @@ use Rattle.varisat_names.specs.Maps.{chain}
 use Rattle.varisat_names.specs.VarMap.{at}
 use Rattle.varisat_names.proofs.Maps.{chain-some, chain-through}
 use Rattle.varisat_prop.proofs.ReadElements.{item-∈}
-use Rattle.varisat.specs.Carried.{carry}
+use Rattle.varisat_tracer.specs.Carried.{carry}
 use Rattle.varisat.proofs.ReadPlaces.{take-item}
 use Rattle.varisat.proofs.Carried.{carried-literal}
 use Rattle.varisat.proofs.PlainTables.{is-there}

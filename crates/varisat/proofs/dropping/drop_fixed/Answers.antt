@@ -27,12 +27,12 @@ use Rattle.varisat.proofs.dropping.drop_fixed.Goals as goal
 use Rattle.varisat.proofs.dropping.drop_fixed.Goals.{then-current_level-gt0-via-then-current_level-gt0, then-current_level-gt0-via-else-current_level-gt0+then-fully_propagated}
 
 pub settle-requires-clause-holds : goal.settle-requires-clause-holds
-settle-requires-clause-holds g c = relied c.args.tracer.now.variables c.args.tracer.now.proof
+settle-requires-clause-holds g c = relied c.args.tracer.now.tables c.args.tracer.now.proof
     (view c.args.ctx.now) c.args.ctx.now.assumptions c.requires.tells c.requires.stands
 
 -- what settling comes to
-begun : (g : Over) (c : In-Ok g) → ComesOn 0 (undecided_spaces c.args.tracer.now.variables c.args.tracer.now.proof.checker c.args.ctx.now)
-    (undecided_spaces c.settle.new.proof.variables c.settle.new.proof.proof.checker c.settle.new.ctx) c.args.tracer.now.proof c.settle.new.proof.proof
+begun : (g : Over) (c : In-Ok g) → ComesOn 0 (undecided_spaces c.args.tracer.now.tables c.args.tracer.now.proof.checker c.args.ctx.now)
+    (undecided_spaces c.settle.new.proof.tables c.settle.new.proof.proof.checker c.settle.new.ctx) c.args.tracer.now.proof c.settle.new.proof.proof
 begun g c =
     let goes = (c.in-Ok.ensures {u = tt}).goes_on in
     let (lines, proves, (settles, takes)) = goes.proves in
@@ -50,13 +50,13 @@ left-told g c = some-through c.settle.new.proof.proof c.drop_listed.new.tracer.p
     (c.in_ok-drop_listed.ensures {u = tt}).leave.given (c.in_ok-drop_unneeded.ensures {u = tt}).leave.given
 
 -- the solver keeps what it did
-kept : (g : Over) (c : In-Ok g) → IsKept c.settle.new.proof.variables c.settle.new.ctx
+kept : (g : Over) (c : In-Ok g) → IsKept c.settle.new.proof.tables c.settle.new.ctx
 kept g c =
     let x = c.args.ctx.now in
     let goes = (c.in-Ok.ensures {u = tt}).goes_on in
     let same = ap (λ (z : Context g.row.A.Denot). z.assumptions) c.settle.ensures.kept in
     subst (λ (t : Tables). IsKept t c.settle.new.ctx) (sym goes.proves.2.1.tables)
-    (kept-on c.args.tracer.now.variables x c.settle.new.ctx c.requires.kept goes.ready goes.extends.count goes.decidable same)
+    (kept-on c.args.tracer.now.tables x c.settle.new.ctx c.requires.kept goes.ready goes.extends.count goes.decidable same)
 
 pub returns-then-is_err-clause-kept : goal.returns-then-is_err-clause-kept
 returns-then-is_err-clause-kept g c = kept g (goal.at.returns-then-is_err-clause-kept g c).In-Ok
@@ -99,7 +99,7 @@ returns-clause-leaves g c h =
     let e = c.in_ok-drop_unneeded.ensures {u = tt} in
     let d = e.settled in
     inl (
-      subst (AreOverAssumed c.drop_unneeded.new.tracer.variables) (sym (fixed-undecided (view z) d.undecided)) e.left.assumed,
+      subst (AreOverAssumed c.drop_unneeded.new.tracer.tables) (sym (fixed-undecided (view z) d.undecided)) e.left.assumed,
       λ u. let head = d.propagated in let low = u.1 in omega (arith, head, low),
     )
 
@@ -121,7 +121,7 @@ returns-clause-tells g c =
 
 pub returns-then-current_level-gt0-clause-stands : goal.returns-then-current_level-gt0-clause-stands
 returns-then-current_level-gt0-clause-stands g c s fit = comes-nowhere 0 s c.args.tracer.now.proof _ refl
-    (unknown-undecided c.args.tracer.now.variables c.args.tracer.now.proof.checker c.args.ctx.now s fit) fit
+    (unknown-undecided c.args.tracer.now.tables c.args.tracer.now.proof.checker c.args.ctx.now s fit) fit
 
 pub returns-then-is_err-clause-stands : goal.returns-then-is_err-clause-stands
 returns-then-is_err-clause-stands g c = begun g (goal.at.returns-then-is_err-clause-stands g c).In-Ok
@@ -136,16 +136,16 @@ returns-clause-stands g c =
     let y = c.settle.new.ctx in
     let u = c.drop_listed.new.ctx in
     let z = c.drop_unneeded.new.ctx in
-    comes-through 0 0 0 p.proof q.proof last.proof (undecided_spaces p.variables p.proof.checker x) (undecided_spaces q.variables q.proof.checker y)
-    (undecided_spaces last.variables last.proof.checker z) refl (λ z. refl) (unknown-undecided q.variables q.proof.checker y)
+    comes-through 0 0 0 p.proof q.proof last.proof (undecided_spaces p.tables p.proof.checker x) (undecided_spaces q.tables q.proof.checker y)
+    (undecided_spaces last.tables last.proof.checker z) refl (λ z. refl) (unknown-undecided q.tables q.proof.checker y)
     (begun g (goal.at.returns-clause-stands g c).In-Ok)
-    (comes-through 0 0 0 q.proof r.proof last.proof (undecided_spaces q.variables q.proof.checker y)
-    (undecided_spaces r.variables r.proof.checker u) (undecided_spaces last.variables last.proof.checker z) refl (λ z. refl)
-    (unknown-undecided r.variables r.proof.checker u)
-    (leaving-comes q.proof r.proof (undecided_spaces q.variables q.proof.checker y) (undecided_spaces r.variables r.proof.checker u)
-    (unknown-undecided q.variables q.proof.checker y) (c.in_ok-drop_listed.ensures {u = tt}).leave.stands)
-    (leaving-comes r.proof last.proof (undecided_spaces r.variables r.proof.checker u) (undecided_spaces last.variables last.proof.checker z)
-    (unknown-undecided r.variables r.proof.checker u) (c.in_ok-drop_unneeded.ensures {u = tt}).leave.stands))
+    (comes-through 0 0 0 q.proof r.proof last.proof (undecided_spaces q.tables q.proof.checker y)
+    (undecided_spaces r.tables r.proof.checker u) (undecided_spaces last.tables last.proof.checker z) refl (λ z. refl)
+    (unknown-undecided r.tables r.proof.checker u)
+    (leaving-comes q.proof r.proof (undecided_spaces q.tables q.proof.checker y) (undecided_spaces r.tables r.proof.checker u)
+    (unknown-undecided q.tables q.proof.checker y) (c.in_ok-drop_listed.ensures {u = tt}).leave.stands)
+    (leaving-comes r.proof last.proof (undecided_spaces r.tables r.proof.checker u) (undecided_spaces last.tables last.proof.checker z)
+    (unknown-undecided r.tables r.proof.checker u) (c.in_ok-drop_unneeded.ensures {u = tt}).leave.stands))
 
 pub returns-then-is_err-clause-within : goal.returns-then-is_err-clause-within
 returns-then-is_err-clause-within g c =

@@ -21,7 +21,7 @@ use Rattle.varisat.proofs.dropping.drop_listed.Goals as goal
 pub flag_variables-requires : goal.flag_variables-requires
 flag_variables-requires g c l h =
     let x = c.args.ctx.now in
-    let m = c.args.tracer.now.variables in
+    let m = c.args.tracer.now.tables in
     let listed = subst (λ ls. l ∈ ls) (c.deref.ensures.value ∙ c.in_ok-list_unassumed.ensures {u = tt} ∙ ap (unassumed_among m) c.trail.ensures) h in
     let inside = on-inside (view x) c.requires.kept.ready.well c.requires.settled l
     (∈-filter (λ l. leads_to_unassumed m (at m.solvers.backward (variable_of l))) x.trail.literals l listed).0 in
@@ -29,9 +29,9 @@ flag_variables-requires g c l h =
 
 -- the flags are those of the variables on the trail that are not assumed
 flags : (g : Over) (c : In_ok-gone g) → FlagsVariables (length c.args.ctx.now.assignment.current)
-    (unassumed_among c.args.tracer.now.variables c.args.ctx.now.trail.literals) c.in_ok-gone.gone.items
+    (unassumed_among c.args.tracer.now.tables c.args.ctx.now.trail.literals) c.in_ok-gone.gone.items
 flags g c =
-    let m = c.args.tracer.now.variables in
+    let m = c.args.tracer.now.tables in
     subst (λ ls. FlagsVariables (length c.args.ctx.now.assignment.current) ls c.in_ok-gone.gone.items)
     (c.deref.ensures.value ∙ c.in_ok-list_unassumed.ensures {u = tt} ∙ ap (unassumed_among m) c.trail.ensures)
     (subst (λ (vs : List (Option Bool)). FlagsVariables (length vs) c.deref.result.now c.in_ok-gone.gone.items) c.assignment.ensures (c.in_ok-gone.ensures))
@@ -41,51 +41,51 @@ drop_variables-requires-clause-unmentioned g c d h l i =
     let x = c.args.ctx.now in
     let here = (goal.at.drop_variables-requires-clause-unmentioned g c).In_ok-gone in
     subst (λ fs. leaves fs (variable_of l) ≡ false) (sym c.deref-2.ensures.value)
-    (unmentioned (view x) c.requires.kept.ready.well c.requires.settled c.args.tracer.now.variables c.in_ok-gone.gone.items (flags g here) d h l i)
+    (unmentioned (view x) c.requires.kept.ready.well c.requires.settled c.args.tracer.now.tables c.in_ok-gone.gone.items (flags g here) d h l i)
 
 pub drop_variables-requires-clause-unassumed : goal.drop_variables-requires-clause-unassumed
 drop_variables-requires-clause-unassumed g c l h =
     let x = c.args.ctx.now in
     let here = (goal.at.drop_variables-requires-clause-unassumed g c).In_ok-gone in
     subst (λ fs. leaves fs (variable_of l) ≡ false) (sym c.deref-2.ensures.value)
-    (assumed-stay (view x) c.requires.kept.ready.well c.requires.settled c.args.tracer.now.variables c.in_ok-gone.gone.items
+    (assumed-stay (view x) c.requires.kept.ready.well c.requires.settled c.args.tracer.now.tables c.in_ok-gone.gone.items
     (flags g here) x.assumptions.working
     (λ k i. let (z, u, e, q, r) = c.requires.kept.working k i in (z, e, r)) l h)
 
 pub drop_solver_vars-requires-clause-taken : goal.drop_solver_vars-requires-clause-taken
 drop_solver_vars-requires-clause-taken g c l h =
-    let m = c.args.tracer.now.variables in
+    let m = c.args.tracer.now.tables in
     unassumed-taken m c.args.ctx.now.trail.literals l
     (subst (λ ls. l ∈ ls) (c.deref-3.ensures.value ∙ c.in_ok-list_unassumed.ensures {u = tt} ∙ ap (unassumed_among m) c.trail.ensures) h)
 
 pub drop_solver_vars-requires-clause-distinct : goal.drop_solver_vars-requires-clause-distinct
 drop_solver_vars-requires-clause-distinct g c =
-    let m = c.args.tracer.now.variables in
+    let m = c.args.tracer.now.tables in
     subst (λ ls. IsDistinct (map variable_of ls))
     (sym (c.deref-3.ensures.value ∙ c.in_ok-list_unassumed.ensures {u = tt} ∙ ap (unassumed_among m) c.trail.ensures))
     (unassumed-distinct (view c.args.ctx.now) c.requires.kept.ready.well c.requires.settled m)
 
 -- just these were dropped from the tables
-dropped : (g : Over) (c : In_ok-drop_solver_vars g) → AreDroppedAlone (unassumed_among c.args.tracer.now.variables c.args.ctx.now.trail.literals)
+dropped : (g : Over) (c : In_ok-drop_solver_vars g) → AreDroppedAlone (unassumed_among c.args.tracer.now.tables c.args.ctx.now.trail.literals)
     (tracer_state c.args.tracer.now) (tracer_state c.drop_solver_vars.new.tracer)
 dropped g c =
-    let m = c.args.tracer.now.variables in
+    let m = c.args.tracer.now.tables in
     subst (λ ls. AreDroppedAlone ls (tracer_state c.args.tracer.now) (tracer_state c.drop_solver_vars.new.tracer))
     (c.deref-3.ensures.value ∙ c.in_ok-list_unassumed.ensures {u = tt} ∙ ap (unassumed_among m) c.trail.ensures)
     (c.in_ok-drop_solver_vars.ensures {u = tt}).dropped
 
 -- they left the tables and the search
 left : (g : Over) (c : In_ok-drop_solver_vars g) → FlagsVariables (length c.args.ctx.now.assignment.current)
-    (unassumed_among c.args.tracer.now.variables c.args.ctx.now.trail.literals) c.in_ok-gone.gone.items →
-    HaveLeft c.args.tracer.now.variables c.drop_solver_vars.new.tracer.variables c.args.ctx.now c.drop_variables.new.ctx c.in_ok-gone.gone.items
-    (unassumed_among c.args.tracer.now.variables c.args.ctx.now.trail.literals) (length c.args.ctx.now.assignment.current)
+    (unassumed_among c.args.tracer.now.tables c.args.ctx.now.trail.literals) c.in_ok-gone.gone.items →
+    HaveLeft c.args.tracer.now.tables c.drop_solver_vars.new.tracer.tables c.args.ctx.now c.drop_variables.new.ctx c.in_ok-gone.gone.items
+    (unassumed_among c.args.tracer.now.tables c.args.ctx.now.trail.literals) (length c.args.ctx.now.assignment.current)
 left g c f =
-    let m = c.args.tracer.now.variables in
+    let m = c.args.tracer.now.tables in
     let x = c.args.ctx.now in
     let e = c.drop_variables.ensures in
-    have-left m c.drop_solver_vars.new.tracer.variables x c.drop_variables.new.ctx c.deref-2.result.now c.in_ok-gone.gone.items
+    have-left m c.drop_solver_vars.new.tracer.tables x c.drop_variables.new.ctx c.deref-2.result.now c.in_ok-gone.gone.items
     (unassumed_among m x.trail.literals) (length x.assignment.current) c.deref-2.ensures.value c.prove_linked.ensures c.requires.kept f
-    (subst (λ ls. LeavesTables ls m c.drop_solver_vars.new.tracer.variables)
+    (subst (λ ls. LeavesTables ls m c.drop_solver_vars.new.tracer.tables)
     (c.deref-3.ensures.value ∙ c.in_ok-list_unassumed.ensures {u = tt} ∙ ap (unassumed_among m) c.trail.ensures)
     (c.in_ok-drop_solver_vars.ensures {u = tt}).rest)
     e.dropped (ap (λ (z : Context g.row.A.Denot). z.assumptions) e.kept) e.ready e.decidable
@@ -107,7 +107,7 @@ returns-clause-leave g c =
       within = come-dropped c.deref-2.result.now x y c.requires.kept.ready c.requires.settled e.ready e.dropped e.decidable
           (ap (λ (z : Context g.row.A.Denot). z.solver_config) e.kept);
       count = values-left gone;
-      given = dropped-told (unassumed_among c.args.tracer.now.variables x.trail.literals) (tracer_state c.args.tracer.now)
+      given = dropped-told (unassumed_among c.args.tracer.now.tables x.trail.literals) (tracer_state c.args.tracer.now)
           (tracer_state c.drop_solver_vars.new.tracer) (dropped g here.In_ok-drop_solver_vars);
       stands = λ s fit.
           stands-dropped gone c.requires.settled (dropped g here.In_ok-drop_solver_vars)

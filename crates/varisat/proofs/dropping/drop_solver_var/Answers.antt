@@ -8,7 +8,7 @@ use Rattle.varisat.proofs.dropping.drop_solver_var.Goals as goal
 pub delete_var_if_gone-requires : goal.delete_var_if_gone-requires
 delete_var_if_gone-requires g c =
     let n = c.in_ok-global.ensures.dropped in
-    let here = taken-live c.args.tracer.now.variables c.args.solver c.in_ok-global.global c.prove_linked.ensures n.taken in
+    let here = taken-live c.args.tracer.now.tables c.args.solver c.in_ok-global.global c.prove_linked.ensures n.taken in
     let count = n.kept.count in
     omega (arith, here, count)
 

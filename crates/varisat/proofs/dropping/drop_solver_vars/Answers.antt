@@ -17,7 +17,7 @@ use Rattle.varisat.proofs.DroppedAlone.{sign-same, changed-twice, leaves-none, l
 use Rattle.varisat.proofs.dropping.drop_solver_vars.Goals as goal
 
 pub loop-lit-init : goal.loop-lit-init
-loop-lit-init g c = (refl, leaves-none c.args.tracer.now.variables, refl)
+loop-lit-init g c = (refl, leaves-none c.args.tracer.now.tables, refl)
 
 -- the solver variable was not dropped yet
 pub unwrap-global-requires : goal.unwrap-global-requires
@@ -26,23 +26,23 @@ unwrap-global-requires g c =
     let i = c.loop-lit.lit-index in
     let l = c.lit-item.result in
     let there = item-∈ ls i l c.loop-lit-test.true c.lit-item.is in
-    let (x, e) = there-is (at c.args.tracer.now.variables.solvers.backward (variable_of l)) (c.requires.taken l there) in
+    let (x, e) = there-is (at c.args.tracer.now.tables.solvers.backward (variable_of l)) (c.requires.taken l there) in
     let (rest, s) = split-item ls i l c.loop-lit-test.true c.lit-item.is in
     let q = c.loop-lit.invariant.1.stays (variable_of l)
     (λ m h o. distinct-after (take i ls) l rest (subst (λ ks. IsDistinct (map variable_of ks)) s c.requires.distinct) m h o) in
     is-there c.get.result x (c.get.ensures ∙ ap (λ m. at m c.var-solver.result) c.global_from_solver.ensures
-    ∙ ap (at c.loop-lit.tracer.variables.solvers.backward) c.var-solver.ensures ∙ q ∙ e)
+    ∙ ap (at c.loop-lit.tracer.tables.solvers.backward) c.var-solver.ensures ∙ q ∙ e)
 
 pub set_unit-requires : goal.set_unit-requires
 set_unit-requires g c =
-    let t = c.loop-lit.tracer.variables in
+    let t = c.loop-lit.tracer.tables in
     let e : at t.solvers.backward c.var-solver.result ≡ Some c.unwrap-global.result =
     ap (λ m. at m c.var-solver.result) (sym c.global_from_solver.ensures) ∙ sym c.get.ensures ∙ c.unwrap-global.ensures in
     c.prove_linked.ensures.taken c.unwrap-global.result c.var-solver.result (c.prove_linked.ensures.solvers.back c.unwrap-global.result c.var-solver.result e)
 
 pub set_isolated-requires : goal.set_isolated-requires
 set_isolated-requires g c =
-    let t = c.loop-lit.tracer.variables in
+    let t = c.loop-lit.tracer.tables in
     let x = c.unwrap-global.result in
     let e : at t.solvers.backward c.var-solver.result ≡ Some x = ap (λ m. at m c.var-solver.result) (sym c.global_from_solver.ensures)
     ∙ sym c.get.ensures ∙ c.unwrap-global.ensures in
@@ -59,7 +59,7 @@ loop-lit-preserved g c =
     let first = tracer_state c.args.tracer.now in
     let before = tracer_state c.loop-lit.tracer in
     let last = tracer_state c.drop_solver_var.new.tracer in
-    let mid = c.loop-lit.tracer.variables in
+    let mid = c.loop-lit.tracer.tables in
     let e : at mid.solvers.backward c.var-solver.result ≡ Some c.unwrap-global.result =
     ap (λ m. at m c.var-solver.result) (sym c.global_from_solver.ensures) ∙ sym c.get.ensures ∙ c.unwrap-global.ensures in
     let x = c.unwrap-global.result in

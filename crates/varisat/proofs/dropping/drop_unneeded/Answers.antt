@@ -23,11 +23,11 @@ returns-then-not-has_hidden-clause-leave g c = none-leaves (tracer_state c.args.
 
 pub returns-then-not-has_hidden-clause-left : goal.returns-then-not-has_hidden-clause-left
 returns-then-not-has_hidden-clause-left g c =
-    needed-shown c.args.tracer.now.variables (view c.args.ctx.now) c.requires.left (c.has_hidden.ensures c.if-not-has_hidden.true)
+    needed-shown c.args.tracer.now.tables (view c.args.ctx.now) c.requires.left (c.has_hidden.ensures c.if-not-has_hidden.true)
 
 -- the literals are of just the hidden variables that no kept clause names
-listed : (g : Over) (c : In_ok-list_unneeded g) → ListsUnneeded c.args.tracer.now.variables c.in_ok-mentioned.mentioned.items c.list_unneeded.new.unneeded.items
-listed g c = subst (λ fs. ListsUnneeded c.args.tracer.now.variables fs c.list_unneeded.new.unneeded.items) c.deref.ensures.value
+listed : (g : Over) (c : In_ok-list_unneeded g) → ListsUnneeded c.args.tracer.now.tables c.in_ok-mentioned.mentioned.items c.list_unneeded.new.unneeded.items
+listed g c = subst (λ fs. ListsUnneeded c.args.tracer.now.tables fs c.list_unneeded.new.unneeded.items) c.deref.ensures.value
     (c.in_ok-list_unneeded.ensures {u = tt})
 
 -- and these are flagged
@@ -40,7 +40,7 @@ flags g c = subst (λ n. FlagsVariables n c.list_unneeded.new.unneeded.items c.i
 pub flag_variables-requires : goal.flag_variables-requires
 flag_variables-requires g c l h =
     let here = (goal.at.flag_variables-requires g c).In_ok-list_unneeded in
-    let inside = unneeded-inside c.args.tracer.now.variables c.in_ok-mentioned.mentioned.items c.list_unneeded.new.unneeded.items (listed g here) l
+    let inside = unneeded-inside c.args.tracer.now.tables c.in_ok-mentioned.mentioned.items c.list_unneeded.new.unneeded.items (listed g here) l
     (subst (λ xs. l ∈ xs) c.deref-2.ensures.value h) in
     subst (λ n. variable_of l < n) (c.in_ok-mentioned.ensures.count ∙ ap (λ (vs : List (Option Bool)). length vs) (sym c.assignment.ensures)) inside
 
@@ -49,7 +49,7 @@ drop_variables-requires-clause-unmentioned g c d h l i =
     let here = (goal.at.drop_variables-requires-clause-unmentioned g c).In_ok-gone in
     let before = (goal.at.drop_variables-requires-clause-unmentioned g c).In_ok-list_unneeded in
     subst (λ fs. leaves fs (variable_of l) ≡ false) (sym c.deref-3.ensures.value)
-    (unneeded-unmentioned c.args.tracer.now.variables c.in_ok-mentioned.mentioned.items c.list_unneeded.new.unneeded.items (listed g before)
+    (unneeded-unmentioned c.args.tracer.now.tables c.in_ok-mentioned.mentioned.items c.list_unneeded.new.unneeded.items (listed g before)
     (view c.args.ctx.now) c.in_ok-gone.gone.items c.in_ok-mentioned.ensures (flags g here) d h l i)
 
 pub drop_variables-requires-clause-unassumed : goal.drop_variables-requires-clause-unassumed
@@ -57,13 +57,13 @@ drop_variables-requires-clause-unassumed g c l h =
     let here = (goal.at.drop_variables-requires-clause-unassumed g c).In_ok-gone in
     let before = (goal.at.drop_variables-requires-clause-unassumed g c).In_ok-list_unneeded in
     subst (λ fs. leaves fs (variable_of l) ≡ false) (sym c.deref-3.ensures.value)
-    (named-stay c.args.tracer.now.variables c.in_ok-mentioned.mentioned.items c.list_unneeded.new.unneeded.items (listed g before)
+    (named-stay c.args.tracer.now.tables c.in_ok-mentioned.mentioned.items c.list_unneeded.new.unneeded.items (listed g before)
     (view c.args.ctx.now) c.in_ok-gone.gone.items c.in_ok-mentioned.ensures (flags g here) c.args.ctx.now.assumptions.working c.requires.kept.working l h)
 
 pub release_solver_vars-requires-clause-taken : goal.release_solver_vars-requires-clause-taken
 release_solver_vars-requires-clause-taken g c l h =
     let before = (goal.at.release_solver_vars-requires-clause-taken g c).In_ok-list_unneeded in
-    unneeded-taken c.args.tracer.now.variables c.in_ok-mentioned.mentioned.items c.list_unneeded.new.unneeded.items (listed g before) l
+    unneeded-taken c.args.tracer.now.tables c.in_ok-mentioned.mentioned.items c.list_unneeded.new.unneeded.items (listed g before) l
     (subst (λ xs. l ∈ xs) c.deref-4.ensures.value h)
 
 pub release_solver_vars-requires-clause-distinct : goal.release_solver_vars-requires-clause-distinct
@@ -74,15 +74,15 @@ release_solver_vars-requires-clause-distinct g c =
 -- they left the tables and the search
 left : (g : Over) (c : In_ok-release_solver_vars g) → FlagsVariables
     (length c.in_ok-mentioned.mentioned.items) c.list_unneeded.new.unneeded.items c.in_ok-gone.gone.items →
-    HaveLeft c.args.tracer.now.variables c.release_solver_vars.new.tracer.variables c.args.ctx.now c.drop_variables.new.ctx
+    HaveLeft c.args.tracer.now.tables c.release_solver_vars.new.tracer.tables c.args.ctx.now c.drop_variables.new.ctx
     c.in_ok-gone.gone.items c.list_unneeded.new.unneeded.items (length c.in_ok-mentioned.mentioned.items)
 left g c f =
     let x = c.args.ctx.now in
     let e = c.drop_variables.ensures in
-    have-left c.args.tracer.now.variables c.release_solver_vars.new.tracer.variables x c.drop_variables.new.ctx c.deref-3.result.now
+    have-left c.args.tracer.now.tables c.release_solver_vars.new.tracer.tables x c.drop_variables.new.ctx c.deref-3.result.now
     c.in_ok-gone.gone.items c.list_unneeded.new.unneeded.items (length c.in_ok-mentioned.mentioned.items) c.deref-3.ensures.value
     c.prove_linked.ensures c.requires.kept f
-    (subst (λ xs. LeavesTables xs c.args.tracer.now.variables c.release_solver_vars.new.tracer.variables) c.deref-4.ensures.value
+    (subst (λ xs. LeavesTables xs c.args.tracer.now.tables c.release_solver_vars.new.tracer.tables) c.deref-4.ensures.value
     (c.in_ok-release_solver_vars.ensures {u = tt}).rest)
     e.dropped (ap (λ (z : Context g.row.A.Denot). z.assumptions) e.kept) e.ready e.decidable
 

@@ -12,7 +12,7 @@ use Rattle.varisat.proofs.DroppedUnneeded.{released-push}
 use Rattle.varisat.proofs.dropping.release_solver_vars.Goals as goal
 
 pub loop-lit-init : goal.loop-lit-init
-loop-lit-init g c = (refl, leaves-none c.args.tracer.now.variables, refl)
+loop-lit-init g c = (refl, leaves-none c.args.tracer.now.tables, refl)
 
 -- the solver variable was not dropped yet
 pub drop_solver_var-requires : goal.drop_solver_var-requires
@@ -20,12 +20,12 @@ drop_solver_var-requires g c =
     let ls = c.args.lits.now in
     let i = c.loop-lit.lit-index in
     let l = c.lit-item.result in
-    let (x, e) = there-is (at c.args.tracer.now.variables.solvers.backward (variable_of l))
+    let (x, e) = there-is (at c.args.tracer.now.tables.solvers.backward (variable_of l))
     (c.requires.taken l (item-∈ ls i l c.loop-lit-test.true c.lit-item.is)) in
     let (rest, s) = split-item ls i l c.loop-lit-test.true c.lit-item.is in
     let q = c.loop-lit.invariant.1.stays (variable_of l)
     (λ m h o. distinct-after (take i ls) l rest (subst (λ ks. IsDistinct (map variable_of ks)) s c.requires.distinct) m h o) in
-    is-there (at c.loop-lit.tracer.variables.solvers.backward c.var.result) x (ap (at c.loop-lit.tracer.variables.solvers.backward) c.var.ensures ∙ q ∙ e)
+    is-there (at c.loop-lit.tracer.tables.solvers.backward c.var.result) x (ap (at c.loop-lit.tracer.tables.solvers.backward) c.var.ensures ∙ q ∙ e)
 
 pub loop-lit-preserved : goal.loop-lit-preserved
 loop-lit-preserved g c =

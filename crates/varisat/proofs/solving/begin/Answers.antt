@@ -20,7 +20,7 @@ use Rattle.varisat.proofs.solving.begin.Goals.{In_ok-begin_step}
 use Rattle.varisat.proofs.solving.begin.Goals as goal
 
 pub begin_step-requires-clause-holds : goal.begin_step-requires-clause-holds
-begin_step-requires-clause-holds g c = relied c.args.tracer.now.variables c.args.tracer.now.proof
+begin_step-requires-clause-holds g c = relied c.args.tracer.now.tables c.args.tracer.now.proof
     (view c.args.ctx.now) c.args.ctx.now.assumptions c.requires.tells c.requires.stands
 
 -- how the step began
@@ -29,12 +29,12 @@ begun : (g : Over) (c : In_ok-begin_step g) →
     c.begin_step.new.ctx
 begun g c = (c.in_ok-begin_step.ensures {u = tt}).begins
 
-kept : (g : Over) (c : In_ok-begin_step g) → IsKept c.begin_step.new.proof.variables c.begin_step.new.ctx
+kept : (g : Over) (c : In_ok-begin_step g) → IsKept c.begin_step.new.proof.tables c.begin_step.new.ctx
 kept g c =
     let b = begun g c in
     subst (λ (t : Tables). IsKept t c.begin_step.new.ctx)
     (sym (begin-tables (tracer_state c.args.tracer.now) (tracer_state c.begin_step.new.proof) c.args.ctx.now c.begin_step.new.ctx b))
-    (begin-kept c.args.ctx.now c.begin_step.new.ctx b c.requires.kept.ready c.args.tracer.now.variables c.requires.kept)
+    (begin-kept c.args.ctx.now c.begin_step.new.ctx b c.requires.kept.ready c.args.tracer.now.tables c.requires.kept)
 
 pub drop_fixed-requires-clause-kept : goal.drop_fixed-requires-clause-kept
 drop_fixed-requires-clause-kept g c = kept g (goal.at.drop_fixed-requires-clause-kept g c).In_ok-begin_step
@@ -75,10 +75,10 @@ returns-clause-begins g c =
       state = c.drop_fixed.ensures.state ∙ ap (λ (c : Context g.row.A.Denot). c.solver_state) c.begin_step.ensures.kept;
       count = e.count ∙ count;
       left = record { reduced = y; begins = begins-any x y b; left = e.left };
-      leaves = λ h. e.leaves (leaves-begun p.variables q.variables x y c.requires.kept.ready b (begin-tables (tracer_state p) (tracer_state q) x y b) h);
-      stands = comes-through 0 0 0 p.proof q.proof r.proof (undecided_spaces p.variables p.proof.checker x)
-          (undecided_spaces q.variables q.proof.checker y) (undecided_spaces r.variables r.proof.checker z) refl (λ z. refl)
-          (unknown-undecided q.variables q.proof.checker y)
+      leaves = λ h. e.leaves (leaves-begun p.tables q.tables x y c.requires.kept.ready b (begin-tables (tracer_state p) (tracer_state q) x y b) h);
+      stands = comes-through 0 0 0 p.proof q.proof r.proof (undecided_spaces p.tables p.proof.checker x)
+          (undecided_spaces q.tables q.proof.checker y) (undecided_spaces r.tables r.proof.checker z) refl (λ z. refl)
+          (unknown-undecided q.tables q.proof.checker y)
           (begin-comes (tracer_state p) (tracer_state q) x y c.requires.kept b) e.stands;
     }
 

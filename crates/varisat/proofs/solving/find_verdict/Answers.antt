@@ -36,8 +36,8 @@ stepping g c =
 
 -- what the steps come to with it
 stepped : (g : Over) (c : In_ok-make_step g) → ComesOn (steps_since c.args.ctx.now.schedule c.make_step.new.ctx.schedule)
-    (undecided_spaces c.args.tracer.now.variables c.args.tracer.now.proof.checker c.args.ctx.now)
-    (spaces_with c.make_step.new.tracer.variables c.make_step.new.tracer.proof.checker c.make_step.new.ctx) c.args.tracer.now.proof
+    (undecided_spaces c.args.tracer.now.tables c.args.tracer.now.proof.checker c.args.ctx.now)
+    (spaces_with c.make_step.new.tracer.tables c.make_step.new.tracer.proof.checker c.make_step.new.ctx) c.args.tracer.now.proof
     c.make_step.new.tracer.proof
 stepped g c =
     let p = c.args.tracer.now in
@@ -47,8 +47,8 @@ stepped g c =
     let y = c.steps.ctx in
     let z = c.make_step.new.ctx in
     comes-through (steps_since x.schedule y.schedule) 1 (steps_since x.schedule z.schedule) p.proof q.proof r.proof
-    (undecided_spaces p.variables p.proof.checker x) (undecided_spaces q.variables q.proof.checker y) (spaces_with r.variables r.proof.checker z)
-    (one-more (stepping g c)) (λ z. absurd (omega (arith, z))) (unknown-undecided q.variables q.proof.checker y) c.steps.invariant.stands (made g c).stands
+    (undecided_spaces p.tables p.proof.checker x) (undecided_spaces q.tables q.proof.checker y) (spaces_with r.tables r.proof.checker z)
+    (one-more (stepping g c)) (λ z. absurd (omega (arith, z))) (unknown-undecided q.tables q.proof.checker y) c.steps.invariant.stands (made g c).stands
 
 -- the solver's state but for the verdict
 same-state : (g : Over) (c : In_ok-make_step g) → c.make_step.new.ctx.solver_state ≡ record c.args.ctx.now.solver_state
@@ -91,8 +91,8 @@ steps-init g c =
       config = refl;
       made = none-made x c.args.max_steps c.steps-first.ensures.plan;
       leaves = λ h. h;
-      stands = λ s fit. comes-nowhere (steps_since x.schedule x.schedule) s p.proof (undecided_spaces p.variables p.proof.checker x) (omega arith)
-          (unknown-undecided p.variables p.proof.checker x s fit) fit;
+      stands = λ s fit. comes-nowhere (steps_since x.schedule x.schedule) s p.proof (undecided_spaces p.tables p.proof.checker x) (omega arith)
+          (unknown-undecided p.tables p.proof.checker x s fit) fit;
       still = λ e. (refl, refl);
     }
 
@@ -126,7 +126,7 @@ steps-preserved g c =
       config = c.make_step.ensures.config ∙ i.config;
       made = stepping-goes-on d (m.since c.in-Unknown.is);
       leaves = λ h. m.leaves (i.leaves h) (λ e. let z : verdict.Unknown ≡ verdict.Unsat = sym c.in-Unknown.is ∙ e in cc);
-      stands = comes-undecided _ (undecided_spaces p.variables p.proof.checker c.args.ctx.now) r.variables z p.proof r.proof c.in-Unknown.is (stepped g h);
+      stands = comes-undecided _ (undecided_spaces p.tables p.proof.checker c.args.ctx.now) r.tables z p.proof r.proof c.in-Unknown.is (stepped g h);
       still = λ e. absurd (stepping-moved d e);
     }
 
@@ -141,8 +141,8 @@ returns-then-steps-first-clause-found g c =
       answer = sym (ap answer_at unknown);
       told = i.told;
       leaves = λ h n. i.leaves h;
-      stands = comes-decided _ (undecided_spaces c.args.tracer.now.variables c.args.tracer.now.proof.checker c.args.ctx.now)
-          c.steps.tracer.variables c.steps.ctx c.args.tracer.now.proof c.steps.tracer.proof unknown i.stands;
+      stands = comes-decided _ (undecided_spaces c.args.tracer.now.tables c.args.tracer.now.proof.checker c.args.ctx.now)
+          c.steps.tracer.tables c.steps.ctx c.args.tracer.now.proof c.steps.tracer.proof unknown i.stands;
       still = i.still;
     }
 

@@ -10,16 +10,16 @@ use Rattle.varisat.proofs.solving.find_verdict.Given as goal
 
 abbrev pub invariant-steps : goal.invariant-steps
 invariant-steps g l = record {
-  kept : IsKept l.tracer.variables l.ctx;
+  kept : IsKept l.tracer.tables l.ctx;
   tells : CanTell l.tracer.proof;
   told : TellsSome l.fn.tracer.proof l.tracer.proof;
   count : length l.ctx.assignment.current ≡ length l.fn.ctx.assignment.current;
   state : l.ctx.solver_state ≡ l.fn.ctx.solver_state;
   config : l.ctx.solver_config ≡ l.fn.ctx.solver_config;
   made : HasMade l.fn.ctx l.ctx l.max_steps;
-  leaves : LeavesInTime l.fn.tracer.variables (view l.fn.ctx) → LeavesInTime l.tracer.variables (view l.ctx);
-  stands : ComesOn (steps_since l.fn.ctx.schedule l.ctx.schedule) (undecided_spaces l.fn.tracer.variables l.fn.tracer.proof.checker l.fn.ctx)
-      (undecided_spaces l.tracer.variables l.tracer.proof.checker l.ctx) l.fn.tracer.proof l.tracer.proof;
+  leaves : LeavesInTime l.fn.tracer.tables (view l.fn.ctx) → LeavesInTime l.tracer.tables (view l.ctx);
+  stands : ComesOn (steps_since l.fn.ctx.schedule l.ctx.schedule) (undecided_spaces l.fn.tracer.tables l.fn.tracer.proof.checker l.fn.ctx)
+      (undecided_spaces l.tracer.tables l.tracer.proof.checker l.ctx) l.fn.tracer.proof l.tracer.proof;
   still : l.ctx.schedule.steps ≡ l.fn.ctx.schedule.steps → (l.ctx ≡ l.fn.ctx) × (tracer_state l.tracer ≡ tracer_state l.fn.tracer);
 }
 

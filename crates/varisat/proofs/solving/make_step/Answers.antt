@@ -60,7 +60,7 @@ returns-clause-made g c =
       middle = y;
       begins = b;
       ends = named-counted (tracer_state q) (tracer_state r) y z y.schedule m;
-      kept = kept-counted r.variables z plan (kept-named (tracer_state q) (tracer_state r) y z b.kept m);
+      kept = kept-counted r.tables z plan (kept-named (tracer_state q) (tracer_state r) y z b.kept m);
       tells = tells-on (tracer_state q) (tracer_state r) _ takes b.tells;
       told = some-through p.proof q.proof r.proof b.told (_, takes.told);
       since = λ u i k.
@@ -70,10 +70,10 @@ returns-clause-made g c =
           same.solver_config m.count m.decidable (b.within i k);
       state = m.state ∙ ap (λ (s : SolverState). record s { sat_state = z.solver_state.sat_state }) b.state;
       count = m.count ∙ b.count;
-      leaves = λ h n. leaves-stepped q.variables r.variables y z m.tables m.fixes (b.leaves h) n;
-      stands = comes-through 0 1 1 p.proof q.proof r.proof (undecided_spaces p.variables p.proof.checker x)
-          (undecided_spaces q.variables q.proof.checker y) (spaces_with r.variables r.proof.checker (record z { schedule = plan })) refl (λ z. refl)
-          (unknown-undecided q.variables q.proof.checker y)
+      leaves = λ h n. leaves-stepped q.tables r.tables y z m.tables m.fixes (b.leaves h) n;
+      stands = comes-through 0 1 1 p.proof q.proof r.proof (undecided_spaces p.tables p.proof.checker x)
+          (undecided_spaces q.tables q.proof.checker y) (spaces_with r.tables r.proof.checker (record z { schedule = plan })) refl (λ z. refl)
+          (unknown-undecided q.tables q.proof.checker y)
           b.stands (named-comes (tracer_state q) (tracer_state r) y z b.kept m);
     }
 

@@ -15,7 +15,7 @@ use Rattle.varisat.proofs.SearchVerdicts.{named-plainly, named-also}
 use Rattle.varisat.proofs.solving.named_conflict_step.Goals as goal
 
 pub conflict_step-requires-clause-holds : goal.conflict_step-requires-clause-holds
-conflict_step-requires-clause-holds g c = relied c.args.tracer.now.variables c.args.tracer.now.proof
+conflict_step-requires-clause-holds g c = relied c.args.tracer.now.tables c.args.tracer.now.proof
     (view c.args.ctx.now) c.args.ctx.now.assumptions c.requires.tells c.requires.stands
 
 pub name_core-requires : goal.name_core-requires
@@ -25,7 +25,7 @@ name_core-requires g c l h =
     let (lines, steps, (settles, takes)) = m.goes.steps in
     let under = ap (outcome_of (view mid) mid.assumptions.failed_core) c.in-UnsatUnderAssumptions.is in
     subst (λ (t : Tables). HasUser t (variable_of l)) (sym takes.tables)
-    (assumed-named c.args.tracer.now.variables (variable_of l) (c.requires.kept.working l ((m.assumes.core mid.assumptions.failed_core under).0 l h)))
+    (assumed-named c.args.tracer.now.tables (variable_of l) (c.requires.kept.working l ((m.assumes.core mid.assumptions.failed_core under).0 l h)))
 
 pub returns-clause-made : goal.returns-clause-made
 returns-clause-made g c =

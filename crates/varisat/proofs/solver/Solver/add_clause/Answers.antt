@@ -15,7 +15,7 @@ use Rattle.varisat.specs.declared.solver.SolverError.TheVariants.{ClauseStoreFul
 use Rattle.varisat.proofs.Targets.{writes-nothing, refused-unwritten, tells-writes, breaks-writes, names-unwritten, names-not-full, refused-full, same-error}
 use Rattle.varisat.proofs.OpenProofs.{broken-open, broken-on, closed-there, unclosed-there}
 use Rattle.varisat.proofs.ClauseJoins.{ClauseJoins, clause-joins}
-use Rattle.varisat.proofs.ChangeEnds.{kept-counted, stands-broken, stands-invalid, invalid-told}
+use Rattle.varisat.proofs.ChangeEnds.{kept-changed, stands-broken, stands-invalid, invalid-told}
 use Rattle.varisat.proofs.SettingsCalls.{summary_of, stands-same}
 use Rattle.varisat.proofs.Additions.{told-error}
 use Rattle.varisat.proofs.SolverCalls.{unsat-known}
@@ -24,20 +24,20 @@ use Rattle.varisat.proofs.solver.Solver.add_clause.Given.{Over}
 use Rattle.varisat.proofs.solver.Solver.add_clause.Goals.{In_ok-end_change}
 use Rattle.varisat.proofs.solver.Solver.add_clause.Goals as goal
 
-pub accept_clause-accepted-requires-clause-names : goal.accept_clause-accepted-requires-clause-names
-accept_clause-accepted-requires-clause-names g c = c.in_ok-check_names.ensures.0
+pub accept_user_clause-accepted-requires-clause-names : goal.accept_user_clause-accepted-requires-clause-names
+accept_user_clause-accepted-requires-clause-names g c = c.in_ok-check_names.ensures.0
 
-pub accept_clause-accepted-requires-clause-stands : goal.accept_clause-accepted-requires-clause-stands
-accept_clause-accepted-requires-clause-stands g c = let (s, fits, fresh) = (c.self.invariant c.in_ok-ensure_valid.ensures).stands in (s, fits)
+pub accept_user_clause-accepted-requires-clause-stands : goal.accept_user_clause-accepted-requires-clause-stands
+accept_user_clause-accepted-requires-clause-stands g c = let (s, fits, fresh) = (c.self.invariant c.in_ok-ensure_valid.ensures).stands in (s, fits)
 
 pub invariant_of-self-2 : goal.invariant_of-self-2
 invariant_of-self-2 g c _ =
     let (is, counted) = c.in_ok-end_change.ensures in
-    let kept = rw is at c.accept_clause-accepted.ensures.kept in
+    let kept = rw is at c.accept_user_clause-accepted.ensures.kept in
     let (s, fits, fresh) = (c.self.invariant c.in_ok-ensure_valid.ensures).stands in
-    let (x, told, variables, v, more, keep, proof, now) = (rw is at c.accept_clause-accepted.ensures.accepted) s fits in
-    kept-counted c.accept_clause-accepted.new.tracer.variables c.accept_clause-accepted.new.tracer.proof c.accept_clause-accepted.new.ctx
-    c.end_change.new.ctx true c.end_change.new.changed_at counted kept (rw is at c.accept_clause-accepted.ensures.tells) (_, now, λ e. absurd cc)
+    let (x, told, variables, v, more, keep, proof, now) = (rw is at c.accept_user_clause-accepted.ensures.accepted) s fits in
+    kept-changed c.accept_user_clause-accepted.new.tracer.tables c.accept_user_clause-accepted.new.tracer.proof c.accept_user_clause-accepted.new.ctx
+    c.end_change.new.ctx true c.end_change.new.changed_at counted kept (rw is at c.accept_user_clause-accepted.ensures.tells) (_, now, λ e. absurd cc)
 
 pub returns-in_err-check_names-clause-call : goal.returns-in_err-check_names-clause-call
 returns-in_err-check_names-clause-call g c s st =
@@ -58,16 +58,16 @@ returns-in_err-check_names-clause-call g c s st =
 joins : (g : Over) (c : In_ok-end_change g) (s : State) → StandsFor
     (summary_of (tracer_state c.self.inside.tracer) c.self.inside.started c.self.inside.changed_at c.self.inside.ctx) s →
     ClauseJoins s c.args.clause.now
-    (spaces_with c.accept_clause-accepted.new.tracer.variables c.accept_clause-accepted.new.tracer.proof.checker c.accept_clause-accepted.new.ctx)
-    c.accept_clause-accepted.new.tracer.proof.opened (length c.accept_clause-accepted.new.ctx.clause_alloc.words)
+    (spaces_with c.accept_user_clause-accepted.new.tracer.tables c.accept_user_clause-accepted.new.tracer.proof.checker c.accept_user_clause-accepted.new.ctx)
+    c.accept_user_clause-accepted.new.tracer.proof.opened (length c.accept_user_clause-accepted.new.ctx.clause_alloc.words)
 joins g c s st =
     let ok = ap not c.in_ok-ensure_valid.ensures in
     let (is, counted) = c.in_ok-end_change.ensures in
     let old = c.self.inside in
-    let new = c.accept_clause-accepted.new in
-    let (x, told, variables, v, more, keep, proof, now) = (rw is at c.accept_clause-accepted.ensures.accepted) s (st.fits ok) in
-    clause-joins s c.args.clause.now (spaces_with old.tracer.variables old.tracer.proof.checker old.ctx)
-    (spaces_with new.tracer.variables new.tracer.proof.checker new.ctx) old.tracer.proof new.tracer.proof x told variables
+    let new = c.accept_user_clause-accepted.new in
+    let (x, told, variables, v, more, keep, proof, now) = (rw is at c.accept_user_clause-accepted.ensures.accepted) s (st.fits ok) in
+    clause-joins s c.args.clause.now (spaces_with old.tracer.tables old.tracer.proof.checker old.ctx)
+    (spaces_with new.tracer.tables new.tracer.proof.checker new.ctx) old.tracer.proof new.tracer.proof x told variables
     (length new.ctx.clause_alloc.words) (st.fits ok) (proof-fits st ok) v more keep proof now
 
 pub returns-clause-call : goal.returns-clause-call
@@ -75,16 +75,16 @@ returns-clause-call g c s st =
     let q = rw (← c.self.view_is) at st in
     let ok = ap not c.in_ok-ensure_valid.ensures in
     let old = c.self.inside in
-    let new = c.accept_clause-accepted.new in
+    let new = c.accept_user_clause-accepted.new in
     let (is, counted) = c.in_ok-end_change.ensures in
     let bad : IsExtensible s = record {
       unrefuted = not-refuted _ s q ok c.in_default.not-Unsat;
       unbarred = unclosed-there _ s.variables s.told s.proof c.bars_clauses.result (proof-fits q ok) c.bars_clauses.ensures c.if-bars_clauses.false;
     } in
-    let plan = c.accept_clause-accepted.ensures.schedule in
-    let state = rw is at c.accept_clause-accepted.ensures.state in
-    let kept = rw is at c.accept_clause-accepted.ensures.kept in
-    let tells = rw is at c.accept_clause-accepted.ensures.told in
+    let plan = c.accept_user_clause-accepted.ensures.schedule in
+    let state = rw is at c.accept_user_clause-accepted.ensures.state in
+    let kept = rw is at c.accept_user_clause-accepted.ensures.kept in
+    let tells = rw is at c.accept_user_clause-accepted.ensures.told in
     let j = joins g (goal.at.returns-clause-call g c).In_ok-end_change s q in (
       j.state,
       (
@@ -114,16 +114,16 @@ returns-in_err-end_change-clause-call g c s st =
     let q = rw (← c.self.view_is) at st in
     let ok = ap not c.in_ok-ensure_valid.ensures in
     let old = c.self.inside in
-    let new = c.accept_clause-accepted.new in
+    let new = c.accept_user_clause-accepted.new in
     let (error, is, told, made, count) = c.in_err-end_change.ensures in
     let bad : IsExtensible s = record {
       unrefuted = not-refuted _ s q ok c.in_default.not-Unsat;
       unbarred = unclosed-there _ s.variables s.told s.proof c.bars_clauses.result (proof-fits q ok) c.bars_clauses.ensures c.if-bars_clauses.false;
     } in
-    let k = c.accept_clause-accepted.ensures.schedule in
-    let fails = rw is at c.accept_clause-accepted.ensures.broken in
-    let full = rw is at c.accept_clause-accepted.ensures.full in
-    let size = rw is at c.accept_clause-accepted.ensures.size in
+    let k = c.accept_user_clause-accepted.ensures.schedule in
+    let fails = rw is at c.accept_user_clause-accepted.ensures.broken in
+    let full = rw is at c.accept_user_clause-accepted.ensures.full in
+    let size = rw is at c.accept_user_clause-accepted.ensures.size in
     let words = length new.ctx.clause_alloc.words in
     let refused = told-error c.from_residual-in_err-end_change.result c.in_err-end_change.field-0.0 c.from_residual-in_err-end_change.ensures ∙ ap Err told in
     let (now, goes, same) = broken-on old.tracer.proof new.tracer.proof (step_faults error) s.proof q.same fails in (
@@ -173,20 +173,20 @@ pub returns-in_err-check_names-clause-target : goal.returns-in_err-check_names-c
 returns-in_err-check_names-clause-target g c =
     let e = c.in_err-check_names.field-0.0 in
     let refused = told-error c.from_residual-in_err-check_names.result e c.from_residual-in_err-check_names.ensures in
-    rw refused (names-unwritten c.args.self.now.opened c.self.inside.tracer.variables c.args.clause.now e c.in_err-check_names.ensures)
+    rw refused (names-unwritten c.args.self.now.opened c.self.inside.tracer.tables c.args.clause.now e c.in_err-check_names.ensures)
 
 pub returns-clause-target : goal.returns-clause-target
 returns-clause-target g c =
     let (is, counted) = c.in_ok-end_change.ensures in
-    let tells = rw is at c.accept_clause-accepted.ensures.told in
-    rw (← c.self.view_is) (tells-writes c.self.inside.tracer.proof c.accept_clause-accepted.new.tracer.proof tells)
+    let tells = rw is at c.accept_user_clause-accepted.ensures.told in
+    rw (← c.self.view_is) (tells-writes c.self.inside.tracer.proof c.accept_user_clause-accepted.new.tracer.proof tells)
 
 pub returns-in_err-end_change-clause-target : goal.returns-in_err-end_change-clause-target
 returns-in_err-end_change-clause-target g c =
     let (error, is, told, made, count) = c.in_err-end_change.ensures in
-    let fails = rw is at c.accept_clause-accepted.ensures.broken in
+    let fails = rw is at c.accept_user_clause-accepted.ensures.broken in
     let old = c.self.inside.tracer.proof in
-    let new = c.accept_clause-accepted.new.tracer.proof in
+    let new = c.accept_user_clause-accepted.new.tracer.proof in
     let refused = told-error c.from_residual-in_err-end_change.result c.in_err-end_change.field-0.0 c.from_residual-in_err-end_change.ensures in
     rw refused (rw (← c.self.view_is)
     (subst (λ e. WritesUpTo (told_faults e) old.opened new.opened) (sym told) (breaks-writes old new error fails)))
@@ -194,13 +194,13 @@ returns-in_err-end_change-clause-target g c =
 pub returns-in_err-check_names-clause-full : goal.returns-in_err-check_names-clause-full
 returns-in_err-check_names-clause-full g c f =
     let e = c.in_err-check_names.field-0.0 in
-    absurd (names-not-full c.self.inside.tracer.variables c.args.clause.now e c.in_err-check_names.ensures
+    absurd (names-not-full c.self.inside.tracer.tables c.args.clause.now e c.in_err-check_names.ensures
     (same-error e ClauseStoreFull (sym (told-error c.from_residual-in_err-check_names.result e c.from_residual-in_err-check_names.ensures) ∙ f)))
 
 pub returns-in_err-end_change-clause-full : goal.returns-in_err-end_change-clause-full
 returns-in_err-end_change-clause-full g c f =
     let (error, is, told, made, count) = c.in_err-end_change.ensures in
-    let full = rw is at c.accept_clause-accepted.ensures.full in
+    let full = rw is at c.accept_user_clause-accepted.ensures.full in
     let e = c.in_err-end_change.field-0.0 in
     let refused = told-error c.from_residual-in_err-end_change.result e c.from_residual-in_err-end_change.ensures in
     rw made (full (refused-full error (sym told ∙ same-error e ClauseStoreFull (sym refused ∙ f))))

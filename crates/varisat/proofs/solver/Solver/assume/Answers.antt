@@ -8,7 +8,7 @@ use Rattle.varisat.specs.Targets.{WritesUpTo}
 use Rattle.varisat_tracer.specs.Tracing.{tracer_state, BreaksProof}
 use Rattle.varisat.specs.OpenProofs.{BarsAssumptions}
 use Rattle.varisat.specs.Summaries.{StandsFor, spaces_with}
-use Rattle.varisat.proofs.ChangeEnds.{kept-counted, stands-broken, stands-invalid, invalid-told}
+use Rattle.varisat.proofs.ChangeEnds.{kept-changed, stands-broken, stands-invalid, invalid-told}
 use Rattle.varisat.proofs.SettingsCalls.{summary_of, stands-same}
 use Rattle.varisat.proofs.ListJoins.{ListJoins, list-joins}
 use Rattle.varisat.specs.States.{State, Ledger}
@@ -32,7 +32,7 @@ invariant_of-self-2 g c _ =
     let new = c.assume_list-assumed.new in
     let (s, fits, fresh) = (c.self.invariant c.in_ok-ensure_valid.ensures).stands in
     let (variables, keep, proof, now) = (rw is at c.assume_list-assumed.ensures.assumed) s fits in
-    kept-counted new.tracer.variables new.tracer.proof new.ctx c.end_change.new.ctx true c.end_change.new.changed_at counted
+    kept-changed new.tracer.tables new.tracer.proof new.ctx c.end_change.new.ctx true c.end_change.new.changed_at counted
     (rw is at c.assume_list-assumed.ensures.kept) (rw is at c.assume_list-assumed.ensures.tells) (_, now, λ e. absurd cc)
 
 pub returns-in_err-check_names-clause-call : goal.returns-in_err-check_names-clause-call
@@ -52,7 +52,7 @@ returns-in_err-check_names-clause-call g c s st =
 joins : (g : Over) (c : In_ok-end_change g) (s : State) → StandsFor
     (summary_of (tracer_state c.self.inside.tracer) c.self.inside.started c.self.inside.changed_at c.self.inside.ctx) s → (BarsAssumptions s.proof → ⊥) →
     ListJoins s c.args.lits.now
-    (spaces_with c.assume_list-assumed.new.tracer.variables c.assume_list-assumed.new.tracer.proof.checker c.assume_list-assumed.new.ctx)
+    (spaces_with c.assume_list-assumed.new.tracer.tables c.assume_list-assumed.new.tracer.proof.checker c.assume_list-assumed.new.ctx)
     c.assume_list-assumed.new.tracer.proof.opened (length c.assume_list-assumed.new.ctx.clause_alloc.words)
 joins g c s st free =
     let ok = ap not c.in_ok-ensure_valid.ensures in
@@ -60,8 +60,8 @@ joins g c s st free =
     let old = c.self.inside in
     let new = c.assume_list-assumed.new in
     let (variables, keep, proof, now) = (rw is at c.assume_list-assumed.ensures.assumed) s (st.fits ok) in
-    list-joins s c.args.lits.now (spaces_with old.tracer.variables old.tracer.proof.checker old.ctx)
-    (spaces_with new.tracer.variables new.tracer.proof.checker new.ctx) old.tracer.proof new.tracer.proof variables
+    list-joins s c.args.lits.now (spaces_with old.tracer.tables old.tracer.proof.checker old.ctx)
+    (spaces_with new.tracer.tables new.tracer.proof.checker new.ctx) old.tracer.proof new.tracer.proof variables
     (length new.ctx.clause_alloc.words) (st.fits ok) (proof-fits st ok) free keep proof now
 
 pub returns-clause-call : goal.returns-clause-call
@@ -144,7 +144,7 @@ pub returns-in_err-check_names-clause-target : goal.returns-in_err-check_names-c
 returns-in_err-check_names-clause-target g c =
     let e = c.in_err-check_names.field-0.0 in
     let refused = told-error c.from_residual-in_err-check_names.result e c.from_residual-in_err-check_names.ensures in
-    rw refused (names-unwritten c.args.self.now.opened c.self.inside.tracer.variables c.args.lits.now e c.in_err-check_names.ensures)
+    rw refused (names-unwritten c.args.self.now.opened c.self.inside.tracer.tables c.args.lits.now e c.in_err-check_names.ensures)
 
 pub returns-clause-target : goal.returns-clause-target
 returns-clause-target g c =
@@ -165,7 +165,7 @@ returns-in_err-end_change-clause-target g c =
 pub returns-in_err-check_names-clause-last : goal.returns-in_err-check_names-clause-last
 returns-in_err-check_names-clause-last g c cause f =
     let e = c.in_err-check_names.field-0.0 in
-    absurd (names-not-broken c.self.inside.tracer.variables c.args.lits.now e cause c.in_err-check_names.ensures
+    absurd (names-not-broken c.self.inside.tracer.tables c.args.lits.now e cause c.in_err-check_names.ensures
     (same-error e (ProofIoError cause) (sym (told-error c.from_residual-in_err-check_names.result e c.from_residual-in_err-check_names.ensures) ∙ f)))
 
 pub returns-in_err-end_change-clause-last : goal.returns-in_err-end_change-clause-last

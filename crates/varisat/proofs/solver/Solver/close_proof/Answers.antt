@@ -25,7 +25,7 @@ invariant_of-self-in-Ok g c v =
     record {
       kept = k.kept;
       tells = subst CanTell (sym c.close_proof.ensures.closed) (record { room = tt; usable = k.tells.usable });
-      stands = subst (λ (p : ProofParts). StandsForSome (spaces_with c.self.inside.tracer.variables p.checker c.self.inside.ctx)
+      stands = subst (λ (p : ProofParts). StandsForSome (spaces_with c.self.inside.tracer.tables p.checker c.self.inside.ctx)
           c.self.inside.started) (sym c.close_proof.ensures.closed) k.stands;
       counts = k.counts;
     }
@@ -41,7 +41,7 @@ returns-in-Ok-clause-call g c s st =
         (λ _. proof-of _ s q ok),
         refl,
       ),
-      c.begin_count-in-Ok.ensures.call (with_proof None s) (stands-with-proof c.self.inside.tracer.variables c.self.inside.tracer.proof
+      c.begin_count-in-Ok.ensures.call (with_proof None s) (stands-with-proof c.self.inside.tracer.tables c.self.inside.tracer.proof
           c.close_proof.new.proof c.self.inside.started c.self.inside.changed_at c.self.inside.ctx s None
           (ap (λ (p : ProofParts). p.checker) c.close_proof.ensures.closed)
           (ap (λ (p : ProofParts). p.opened) c.close_proof.ensures.closed) (λ _. tt) (λ (p, e, b). absurd cc) q),
@@ -73,7 +73,7 @@ returns-in-Err-clause-call g c s st =
         proof-of _ s q ok,
         broken-invalid 0 (with_proof None s) None words (stands-valid _ s q ok) (refl, refl) (told-well s (with_proof None s) (q.fits ok).1.well_formed),
       ),
-      stands-broken (tracer_state inside.tracer) (record { tables = inside.tracer.variables; proof = c.close_proof.new.proof }) inside.started
+      stands-broken (tracer_state inside.tracer) (record { tables = inside.tracer.tables; proof = c.close_proof.new.proof }) inside.started
           inside.changed_at inside.changed_at inside.ctx inside.ctx c.invalidate.new.ctx s None q c.invalidate.ensures.invalid refl refl refl
           (ap (λ (p : ProofParts). is_there p.checker) none) (ap (λ (p : ProofParts). p.opened) none),
     )
@@ -89,7 +89,7 @@ returns-then-self-clause-call g c s st =
         (λ v. absurd (let z : false ≡ true = ap not (sym c.if-self.true) ∙ ap (λ (l : Ledger). l.valid) (sym q.ledger) ∙ v in cc)),
         refl,
       ),
-      c.begin_count.ensures.call (with_proof None s) (stands-with-proof c.self.inside.tracer.variables c.self.inside.tracer.proof
+      c.begin_count.ensures.call (with_proof None s) (stands-with-proof c.self.inside.tracer.tables c.self.inside.tracer.proof
           c.take_target-target.new.proof c.self.inside.started c.self.inside.changed_at c.self.inside.ctx s None
           (ap (λ (p : ProofParts). p.checker) c.take_target-target.ensures.closed)
           (ap (λ (p : ProofParts). p.opened) c.take_target-target.ensures.closed)

@@ -38,9 +38,9 @@ invariant_of-self-2 g c v =
     let k = (c.self.invariant c.in_ok-ensure_valid.ensures).kept in
     let ready = c.config_changed.ensures.ready k.ready in
     record {
-      kept = kept-updated c.self.inside.tracer.variables x y c.args.update.now _ _ e.1 ready c.config_changed.ensures.decidable k;
+      kept = kept-updated c.self.inside.tracer.tables x y c.args.update.now _ _ e.1 ready c.config_changed.ensures.decidable k;
       stands = subst (λ (z : Context g.row.A.Denot). StandsForSome
-          (spaces_with c.self.inside.tracer.variables c.self.inside.tracer.proof.checker z) c.self.inside.started) (sym e.1)
+          (spaces_with c.self.inside.tracer.tables c.self.inside.tracer.proof.checker z) c.self.inside.started) (sym e.1)
           (c.self.invariant c.in_ok-ensure_valid.ensures).stands;
       tells = (c.self.invariant c.in_ok-ensure_valid.ensures).tells;
       counts = since-now c.steps-self-inside.result y c.steps-self-inside.ensures.steps ready c.steps-self-inside.ensures.plan;

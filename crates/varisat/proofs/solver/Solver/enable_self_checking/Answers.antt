@@ -17,7 +17,7 @@ invariant_of-self g c v =
     record {
       kept = k.kept;
       tells = tells-checking p q e k.tells;
-      stands = some-checking c.self.inside.tracer.variables p q c.self.inside.ctx c.self.inside.started e c.if-is_late.false k.stands;
+      stands = some-checking c.self.inside.tracer.tables p q c.self.inside.ctx c.self.inside.started e c.if-is_late.false k.stands;
       counts = k.counts;
     }
 
@@ -29,7 +29,7 @@ returns-clause-call g c s st =
     let (e, runs) = begun-or-on c.self.inside.tracer.proof c.begin_checking.new.self c.begin_checking.ensures.begun c.begin_checking.ensures.stays in (
       begin_checking s,
       (stands-valid _ s q ok, fresh, refl),
-      c.begin_count.ensures.call (with_checking s) (stands-checking c.self.inside.tracer.variables c.self.inside.tracer.proof
+      c.begin_count.ensures.call (with_checking s) (stands-checking c.self.inside.tracer.tables c.self.inside.tracer.proof
           c.begin_checking.new.self c.self.inside.started c.self.inside.changed_at c.self.inside.ctx s e
           (some-there c.begin_checking.new.self.checker runs) fresh q),
     )

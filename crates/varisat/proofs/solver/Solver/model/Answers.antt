@@ -8,14 +8,14 @@ use Rattle.varisat.proofs.solver.Solver.model.Goals as goal
 pub returns-in_ok-list-in-Sat-clause-call : goal.returns-in_ok-list-in-Sat-clause-call
 returns-in_ok-list-in-Sat-clause-call g c s st =
     let q = rw (← c.self.view_is) at st in
-    let t = c.self.inside.tracer.variables in
+    let t = c.self.inside.tracer.tables in
     let same = c.in_ok-list-in-Sat.ensures ∙ ap (λ vs. list_tables t vs 0 (length t.users.forward)) c.assignment-values.ensures in
     (s, (inl (stands-valid _ s q (ap not c.if-self.false), ap Some same ∙ sym (sat-model _ s q (ap not c.if-self.false) c.in-Sat.is).0), refl), st)
 
 pub returns-in_ok-list-in-Sat-clause-completable : goal.returns-in_ok-list-in-Sat-clause-completable
 returns-in_ok-list-in-Sat-clause-completable g c m e s st =
     let q = rw (← c.self.view_is) at st in
-    let t = c.self.inside.tracer.variables in
+    let t = c.self.inside.tracer.tables in
     let same = c.in_ok-list-in-Sat.ensures ∙ ap (λ vs. list_tables t vs 0 (length t.users.forward)) c.assignment-values.ensures in
     let told : c.in_ok-list-in-Sat.list.items ≡ m = cc in
     subst (IsCompletable s.naming s.clauses s.assumptions s.counted) (sym same ∙ told) (sat-model _ s q (ap not c.if-self.false) c.in-Sat.is).1

@@ -39,7 +39,7 @@ returns g c =
       ledger = ledger-is _ _ _ _ _ _ _ (ap (λ (x : SolverState). not x.state_is_invalid) (sym s)) refl
           (ap (λ (x : Plan). x.steps) (sym c.new_in.ensures.schedule)) (ap (λ (x : Plan). x.steps - 0) (sym c.new_in.ensures.schedule))
           (sym c.new_in.ensures.config) (ap (λ (p : ProofParts). is_there p.checker) (sym c.new_in-2.ensures.proof));
-      fits = λ _. (begun c.new_in-2.result.variables c.new_in-2.result.proof c.new_in.result c.new_in-2.ensures.variables c.new_in-2.ensures.proof
+      fits = λ _. (begun c.new_in-2.result.tables c.new_in-2.result.proof c.new_in.result c.new_in-2.ensures.variables c.new_in-2.ensures.proof
           c.new_in.ensures.assumptions (ap (λ (x : SolverState). x.sat_state) c.new_in.ensures.state) c.new_in.ensures.seen c.new_in.ensures.empty).1;
       words = ap (λ (x : Store). length x.words) (sym c.new_in.ensures.unstored);
       same = ap (λ (p : ProofParts). p.opened) c.new_in-2.ensures.proof;
@@ -47,16 +47,16 @@ returns g c =
       flags = λ _. record { clauses = λ e. refl; assumptions = λ e. refl; counted = λ e. refl; unlisted = λ e. refl; unassumed = λ (p, e, b). absurd cc };
       bounded = λ _.
           let e = c.new_in.ensures in
-          (first-kept c.new_in-2.result.variables c.new_in.result c.new_in-2.ensures.variables e.ready e.empty e.assumptions e.none_decidable).bounded;
+          (first-kept c.new_in-2.result.tables c.new_in.result c.new_in-2.ensures.variables e.ready e.empty e.assumptions e.none_decidable).bounded;
     }
 
 pub invariant_of-result : goal.invariant_of-result
 invariant_of-result g c _ =
     let e = c.new_in.ensures in
     record {
-      kept = first-kept c.new_in-2.result.variables c.new_in.result c.new_in-2.ensures.variables e.ready e.empty e.assumptions e.none_decidable;
+      kept = first-kept c.new_in-2.result.tables c.new_in.result c.new_in-2.ensures.variables e.ready e.empty e.assumptions e.none_decidable;
       tells = subst CanTell (sym c.new_in-2.ensures.proof) (record { room = tt; usable = tt });
-      stands = begun c.new_in-2.result.variables c.new_in-2.result.proof c.new_in.result c.new_in-2.ensures.variables c.new_in-2.ensures.proof
+      stands = begun c.new_in-2.result.tables c.new_in-2.result.proof c.new_in.result c.new_in-2.ensures.variables c.new_in-2.ensures.proof
           c.new_in.ensures.assumptions (ap (λ (x : SolverState). x.sat_state) c.new_in.ensures.state) c.new_in.ensures.seen c.new_in.ensures.empty;
       counts = since-now 0 c.new_in.result (ap (λ (x : Plan). x.steps) (sym e.schedule)) e.ready (subst IsPlan (sym e.schedule) first-plan-is);
     }

@@ -17,7 +17,7 @@ use Rattle.varisat.proofs.CallStates.{ledger-is, none-since, stands-valid, proof
 use Rattle.varisat.proofs.OpenProofs.{goes-on-none, fits-alike, lines-of-entries}
 use Rattle.varisat.proofs.WrittenVariables.{written-alike}
 use Rattle.varisat.proofs.Additions.{told-error}
-use Rattle.varisat.proofs.ChangeEnds.{kept-counted, stands-broken, stands-invalid, invalid-told}
+use Rattle.varisat.proofs.ChangeEnds.{kept-changed, stands-broken, stands-invalid, invalid-told}
 use Rattle.varisat.proofs.SettingsCalls.{summary_of, stands-same}
 use Rattle.varisat.proofs.SolverCalls.{least-free, named-alone, new-named}
 use Rattle.varisat.proofs.VariablesInUse.{tables-in-use}
@@ -33,7 +33,7 @@ still-bounded g c =
     let k = (c.self.invariant c.in_ok-ensure_valid.ensures).kept in
     let least = rw is at c.new_user_var-made.ensures.given in
     let t = least.given in
-    let old = c.self.inside.tracer.variables in
+    let old = c.self.inside.tracer.tables in
     let new = c.new_user_var-made.new.variables in
     let u = c.in_ok-user.user in
     let same = unmapped-same old.users.forward u c.next_unmapped_user-next.result least.least c.next_unmapped_user-next.ensures.least in
@@ -52,12 +52,12 @@ invariant_of-self-2 g c v =
     let k = i.kept in
     let least = rw is at c.new_user_var-made.ensures.given in
     let t = least.given in
-    let old = c.self.inside.tracer.variables in
+    let old = c.self.inside.tracer.tables in
     let new = c.new_user_var-made.new.variables in
     let u = c.in_ok-user.user in
     let x = least.global in
     let keeps = given-keeps old new u x least.least.0 t in
-    kept-counted new c.self.inside.tracer.proof c.self.inside.ctx c.end_change.new.ctx true c.end_change.new.changed_at counted (record {
+    kept-changed new c.self.inside.tracer.proof c.self.inside.ctx c.end_change.new.ctx true c.end_change.new.changed_at counted (record {
       bounded = still-bounded g (goal.at.invariant_of-self-2 g c).In_ok-user;
       ready = k.ready;
       count = k.count ∙ ap (λ m. length m.backward) (sym t.solvers);

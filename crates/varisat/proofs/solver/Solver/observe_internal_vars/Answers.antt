@@ -6,7 +6,7 @@ use Rattle.varisat.specs.Told.{told_vars}
 use Rattle.varisat.proofs.AcceptClause.{ledger-free}
 use Rattle.varisat.proofs.Additions.{told-error}
 use Rattle.varisat.proofs.CallStates.{ledger-is, none-since, begins, like-refl, broken, broken-untold}
-use Rattle.varisat.proofs.ChangeEnds.{kept-counted, stands-broken, stands-invalid, invalid-told}
+use Rattle.varisat.proofs.ChangeEnds.{kept-changed, stands-broken, stands-invalid, invalid-told}
 use Rattle.varisat.proofs.VariableChanges.{turns-stay}
 use Rattle.varisat.proofs.SettingsCalls.{summary_of, stands-same}
 use Rattle.varisat_tracer.specs.Tracing.{tracer_state}
@@ -18,11 +18,11 @@ invariant_of-self-2 g c v =
     let (is, counted) = c.in_ok-names.ensures in
     let i = c.self.invariant c.in_ok-ensure_valid.ensures in
     let inside = c.self.inside in
-    let old = inside.tracer.variables in
+    let old = inside.tracer.tables in
     let new = c.observe_internal_vars-shown.new.variables in
     let us = c.in_ok-names.names.items in
     let shown = rw is at c.observe_internal_vars-shown.ensures.shown in
-    kept-counted new inside.tracer.proof inside.ctx c.end_change.new.ctx inside.started c.end_change.new.changed_at counted
+    kept-changed new inside.tracer.proof inside.ctx c.end_change.new.ctx inside.started c.end_change.new.changed_at counted
     (kept-after inside.ctx old new i.kept (turns-stay us old new c.prove_linked.ensures i.kept.bounded shown.in_turn).0) i.tells (
     let (s, f, fresh) = i.stands in
     let (m, all, fits) = show-state us (summary_of (tracer_state inside.tracer) inside.started inside.changed_at inside.ctx) s new f
@@ -36,7 +36,7 @@ returns g c s st =
     let k = begins q (ap not c.in_ok-ensure_valid.ensures) in
     let inside = c.self.inside in
     let kept = (c.self.invariant c.in_ok-ensure_valid.ensures).kept in
-    let old = inside.tracer.variables in
+    let old = inside.tracer.tables in
     let new = c.observe_internal_vars-shown.new.variables in
     let us = c.in_ok-names.names.items in
     let all = rw is at c.observe_internal_vars-shown.ensures.shown in

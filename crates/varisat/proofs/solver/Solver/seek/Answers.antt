@@ -187,14 +187,14 @@ on comes (s, fits, fresh) = let c = comes s fits in (_, c.fits, fresh)
 
 pub find_verdict-requires-clause-stands : goal.find_verdict-requires-clause-stands
 find_verdict-requires-clause-stands g c = let (s, fits, fresh) =
-    begins c.self.inside.tracer.variables c.self.inside.tracer.proof.checker c.self.inside.started c.self.inside.ctx c.in-Unknown.is
+    begins c.self.inside.tracer.tables c.self.inside.tracer.proof.checker c.self.inside.started c.self.inside.ctx c.in-Unknown.is
     (c.self.invariant c.in_ok-ensure_valid.ensures).stands in (s, fits)
 
 pub invariant_of-self : goal.invariant_of-self
 invariant_of-self g c _ =
     let f = c.in-Ok-Some.ensures.found in
     record {
-      stands = on f.stands (begins c.self.inside.tracer.variables c.self.inside.tracer.proof.checker c.self.inside.started c.self.inside.ctx
+      stands = on f.stands (begins c.self.inside.tracer.tables c.self.inside.tracer.proof.checker c.self.inside.started c.self.inside.ctx
           c.in-Unknown.is (c.self.invariant c.in_ok-ensure_valid.ensures).stands);
       kept = f.kept;
       tells = f.tells;
@@ -206,7 +206,7 @@ pub invariant_of-self-in-Ok-None : goal.invariant_of-self-in-Ok-None
 invariant_of-self-in-Ok-None g c _ =
     let f = c.in-Ok-None.ensures.found in
     record {
-      stands = on f.stands (begins c.self.inside.tracer.variables c.self.inside.tracer.proof.checker c.self.inside.started c.self.inside.ctx
+      stands = on f.stands (begins c.self.inside.tracer.tables c.self.inside.tracer.proof.checker c.self.inside.started c.self.inside.ctx
           c.in-Unknown.is (c.self.invariant c.in_ok-ensure_valid.ensures).stands);
       kept = f.kept;
       tells = f.tells;
@@ -253,13 +253,13 @@ pub returns-in-Ok-Some-clause-satisfiable : goal.returns-in-Ok-Some-clause-satis
 returns-in-Ok-Some-clause-satisfiable g c b s st =
     let sat : c.in-Ok-Some.found ≡ true = cc in
     let d = sought-some g c s (rw (← c.self.view_is) at st) in
-    comes-satisfiable c.find_verdict.new.tracer.variables c.find_verdict.new.ctx (comes d) (answered-true _ (sym d.finds.answer ∙ ap Some sat))
+    comes-satisfiable c.find_verdict.new.tracer.tables c.find_verdict.new.ctx (comes d) (answered-true _ (sym d.finds.answer ∙ ap Some sat))
 
 pub returns-in-Ok-Some-clause-unsatisfiable : goal.returns-in-Ok-Some-clause-unsatisfiable
 returns-in-Ok-Some-clause-unsatisfiable g c b s st =
     let unsat : c.in-Ok-Some.found ≡ false = cc in
     let d = sought-some g c s (rw (← c.self.view_is) at st) in
-    comes-unsatisfiable c.find_verdict.new.tracer.variables c.find_verdict.new.ctx (comes d) (sym d.finds.answer ∙ ap Some unsat)
+    comes-unsatisfiable c.find_verdict.new.tracer.tables c.find_verdict.new.ctx (comes d) (sym d.finds.answer ∙ ap Some unsat)
 
 pub returns-in-Ok-Some-clause-model : goal.returns-in-Ok-Some-clause-model
 returns-in-Ok-Some-clause-model g c b s st =

@@ -24,10 +24,10 @@ invariant_of-self g c v =
     let (b, a, e) = limits-steps n x y c.new-update.result c.config_changed.result c.new-update.ensures c.config_changed.ensures.changed in
     let k = c.self.invariant (sym (ap (λ (z : Context g.row.A.Denot). z.solver_state.state_is_invalid) e) ∙ v) in
     record {
-      kept = kept-updated c.self.inside.tracer.variables x y (record no_update { max_steps = Some n }) b a e
+      kept = kept-updated c.self.inside.tracer.tables x y (record no_update { max_steps = Some n }) b a e
           (c.config_changed.ensures.ready k.kept.ready) c.config_changed.ensures.decidable k.kept;
       stands = subst (λ (z : Context g.row.A.Denot). StandsForSome
-          (spaces_with c.self.inside.tracer.variables c.self.inside.tracer.proof.checker z) c.self.inside.started) (sym e) k.stands;
+          (spaces_with c.self.inside.tracer.tables c.self.inside.tracer.proof.checker z) c.self.inside.started) (sym e) k.stands;
       tells = k.tells;
       counts = counts-limited c.self.inside.changed_at n x y b a e c.config_changed.ensures.decidable k.counts;
     }

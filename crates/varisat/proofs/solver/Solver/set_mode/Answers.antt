@@ -9,7 +9,7 @@ use Rattle.varisat.specs.Usage.{ChangesMode}
 use Rattle.varisat.proofs.AcceptClause.{proof-free}
 use Rattle.varisat.proofs.Additions.{told-error}
 use Rattle.varisat.proofs.CallStates.{ledger-is, none-since, begins, broken, broken-untold}
-use Rattle.varisat.proofs.ChangeEnds.{kept-counted, stands-broken, stands-invalid, invalid-told}
+use Rattle.varisat.proofs.ChangeEnds.{kept-changed, stands-broken, stands-invalid, invalid-told}
 use Rattle.varisat.proofs.GivenEntries.{lists-derived, lists-on}
 use Rattle.varisat.proofs.ModeChanges.{changed-stays, changed-tells, with_changed, mode-changed, mode-invalid, mode-not-changed, mode-broken}
 use Rattle.varisat.proofs.OpenProofs.{proof-goes-on, lines-of-entries, barred-before}
@@ -26,8 +26,8 @@ invariant_of-self-2 g c v =
     let new = tracer_state c.change_mode-changed.new.tracer in
     let sat = old.ctx.solver_state.sat_state in
     let changes = rw is at c.change_mode-changed.ensures.changes in
-    kept-counted new.tables new.proof old.ctx c.end_change.new.ctx old.started c.end_change.new.changed_at counted
-    (kept-after old.ctx old.tracer.variables new.tables i.kept (changed-stays c.args.var c.args.mode sat (tracer_state old.tracer) new changes))
+    kept-changed new.tables new.proof old.ctx c.end_change.new.ctx old.started c.end_change.new.changed_at counted
+    (kept-after old.ctx old.tracer.tables new.tables i.kept (changed-stays c.args.var c.args.mode sat (tracer_state old.tracer) new changes))
     (changed-tells c.args.var c.args.mode sat (tracer_state old.tracer) new changes i.tells) (
     let (s, f, fresh) = i.stands in
     let m = mode-changed (summary_of (tracer_state old.tracer) old.started old.changed_at old.ctx) s c.args.var old.tracer.proof new refl f
@@ -73,7 +73,7 @@ returns g c s st =
         words = k.words;
         same = goes.same;
         written = λ _. goes.written;
-        bounded = λ _. (kept-after old.ctx old.tracer.variables q.tables (c.self.invariant c.in_ok-ensure_valid.ensures).kept
+        bounded = λ _. (kept-after old.ctx old.tracer.tables q.tables (c.self.invariant c.in_ok-ensure_valid.ensures).kept
             (changed-stays c.args.var c.args.mode sat (tracer_state old.tracer) q changes)).bounded;
         flags = λ _. let f = k.flags in
             record {

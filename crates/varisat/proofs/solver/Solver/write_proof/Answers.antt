@@ -19,7 +19,7 @@ invariant_of-self g c v =
     record {
       kept = k.kept;
       tells = subst CanTell (sym c.write_proof.ensures) (record { room = c.requires; usable = k.tells.usable });
-      stands = subst (λ (p : ProofParts). StandsForSome (spaces_with c.self.inside.tracer.variables p.checker c.self.inside.ctx)
+      stands = subst (λ (p : ProofParts). StandsForSome (spaces_with c.self.inside.tracer.tables p.checker c.self.inside.ctx)
           c.self.inside.started) (sym c.write_proof.ensures) k.stands;
       counts = k.counts;
     }
@@ -33,7 +33,7 @@ returns g c s st =
     let fresh = ap (λ (l : Ledger). l.started) q.ledger ∙ c.if-self.false in (
       count_anew (with_proof (Some first) s),
       (stands-valid _ s q ok, none-there _ s.proof q.same closed, fresh, refl),
-      c.begin_count.ensures.call (with_proof (Some first) s) (stands-with-proof c.self.inside.tracer.variables c.self.inside.tracer.proof
+      c.begin_count.ensures.call (with_proof (Some first) s) (stands-with-proof c.self.inside.tracer.tables c.self.inside.tracer.proof
           c.write_proof.new.self c.self.inside.started c.self.inside.changed_at c.self.inside.ctx s (Some first)
           (ap (λ (p : ProofParts). p.checker) c.write_proof.ensures)
           (ap (λ (p : ProofParts). p.opened) c.write_proof.ensures ∙ first-same c.args.format (g.W.ProofTarget.taken c.args.target))

@@ -7,12 +7,12 @@ use Rattle.varisat_tracer.proofs.tracer.SolverTracer.add_assumptions.Goals as go
 
 pub returns-in-Err : goal.returns-in-Err
 returns-in-Err g c =
-    let x : TracerState = record { tables = c.args.self.now.variables; proof = c.args.self.now.proof } in
+    let x : TracerState = record { tables = c.args.self.now.tables; proof = c.args.self.now.proof } in
     untold x (Assumes c.args.assumptions.now ∷ [])
 
 pub returns : goal.returns
 returns g c =
-    let x : TracerState = record { tables = c.args.self.now.variables; proof = c.args.self.now.proof } in
-    let y : TracerState = record { tables = c.args.self.now.variables; proof = c.add_assumptions.new.proof } in
+    let x : TracerState = record { tables = c.args.self.now.tables; proof = c.args.self.now.proof } in
+    let y : TracerState = record { tables = c.args.self.now.tables; proof = c.add_assumptions.new.proof } in
     tells-told x y (Assumes c.args.assumptions.now ∷ []) (Assumes c.as_slice-assumptions.result.now ∷ []) c.add_assumptions.result refl
     (ap (λ (ls : List Literal). Assumes ls ∷ []) (c.as_slice-assumptions.ensures.value ∙ c.in-Ok.ensures)) c.add_assumptions.ensures

@@ -7,12 +7,12 @@ use Rattle.varisat_tracer.proofs.tracer.SolverTracer.add_clause.Goals as goal
 
 pub returns-in-Err : goal.returns-in-Err
 returns-in-Err g c =
-    let x : TracerState = record { tables = c.args.self.now.variables; proof = c.args.self.now.proof } in
+    let x : TracerState = record { tables = c.args.self.now.tables; proof = c.args.self.now.proof } in
     untold x (Accepts c.args.clause.now ∷ [])
 
 pub returns : goal.returns
 returns g c =
-    let x : TracerState = record { tables = c.args.self.now.variables; proof = c.args.self.now.proof } in
-    let y : TracerState = record { tables = c.args.self.now.variables; proof = c.add_clause.new.proof } in
+    let x : TracerState = record { tables = c.args.self.now.tables; proof = c.args.self.now.proof } in
+    let y : TracerState = record { tables = c.args.self.now.tables; proof = c.add_clause.new.proof } in
     tells-told x y (Accepts c.args.clause.now ∷ []) (Accepts c.as_slice-clause.result.now ∷ []) c.add_clause.result refl
     (ap (λ (ls : List Literal). Accepts ls ∷ []) (c.as_slice-clause.ensures.value ∙ c.in-Ok.ensures)) c.add_clause.ensures

@@ -4,8 +4,8 @@ use Rattle.varisat.specs.Names.{Naming, name_all}
 use Rattle.varisat.specs.Accepting.{naming_of}
 use Rattle.varisat.proofs.NamesComing.{all-append, one-watermark}
 use Rattle.varisat.proofs.ReadPlaces.{take-item}
-use Rattle.varisat.proofs.naming.watermark_with.Goals.{then-index-watermark, else-index-watermark}
-use Rattle.varisat.proofs.naming.watermark_with.Goals as goal
+use Rattle.varisat.proofs.name_checks.watermark_with.Goals.{then-index-watermark, else-index-watermark}
+use Rattle.varisat.proofs.name_checks.watermark_with.Goals as goal
 
 pub loop-lit-preserved : goal.loop-lit-preserved
 loop-lit-preserved g c =

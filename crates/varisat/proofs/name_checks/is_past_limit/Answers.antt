@@ -4,7 +4,7 @@ use Rattle.varisat_theory.specs.Literals.{Literal, variable_of}
 use Rattle.varisat_theory.proofs.Members.{∈-append_cases}
 use Rattle.varisat_prop.proofs.ReadElements.{item-∈}
 use Rattle.varisat.proofs.ReadPlaces.{take-item}
-use Rattle.varisat.proofs.naming.is_past_limit.Goals as goal
+use Rattle.varisat.proofs.name_checks.is_past_limit.Goals as goal
 
 pub returns-then-index-max_count : goal.returns-then-index-max_count
 returns-then-index-max_count c = (

@@ -4,8 +4,8 @@ use Rattle.varisat.specs.Names.{name_all, name_one}
 use Rattle.varisat.specs.Accepting.{naming_of, ComesAlone}
 use Rattle.varisat.proofs.NamesComing.{AreCounted, all-append, counted-same, counted-more}
 use Rattle.varisat.proofs.ReadPlaces.{take-item}
-use Rattle.varisat.proofs.naming.count_alone.Goals.{then-comes_alone, else-comes_alone}
-use Rattle.varisat.proofs.naming.count_alone.Goals as goal
+use Rattle.varisat.proofs.name_checks.count_alone.Goals.{then-comes_alone, else-comes_alone}
+use Rattle.varisat.proofs.name_checks.count_alone.Goals as goal
 
 pub loop-index-preserved : goal.loop-index-preserved
 loop-index-preserved g c =

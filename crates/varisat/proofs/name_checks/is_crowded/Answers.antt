@@ -1,7 +1,7 @@
 use Rattle.std.proofs.Common.{arith}
 use Rattle.varisat.specs.Accepting.{naming_of}
 use Rattle.varisat.proofs.NamesComing.{all-watermark, all-in-range, all-made}
-use Rattle.varisat.proofs.naming.is_crowded.Goals as goal
+use Rattle.varisat.proofs.name_checks.is_crowded.Goals as goal
 
 pub overflow_sub-rising : goal.overflow_sub-rising
 overflow_sub-rising g c =

@@ -4,7 +4,7 @@ use Rattle.varisat_theory.specs.Literals.{variable_of}
 use Rattle.varisat_theory.proofs.Members.{∈-append_cases}
 use Rattle.varisat_prop.proofs.ReadElements.{item-∈}
 use Rattle.varisat.proofs.ReadPlaces.{take-item}
-use Rattle.varisat.proofs.naming.has_var.Goals as goal
+use Rattle.varisat.proofs.name_checks.has_var.Goals as goal
 
 pub returns-then-index : goal.returns-then-index
 returns-then-index c =

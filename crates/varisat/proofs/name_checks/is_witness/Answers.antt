@@ -1,7 +1,7 @@
 use Rattle.std.proofs.Common.{rules, sym, ap, ◌∙◌}
 use Rattle.varisat_names.specs.VarMap.{at}
 use Rattle.varisat_names.proofs.Tables.{named-inside}
-use Rattle.varisat.proofs.naming.is_witness.Goals as goal
+use Rattle.varisat.proofs.name_checks.is_witness.Goals as goal
 
 pub var_data_global-requires : goal.var_data_global-requires
 var_data_global-requires g c = named-inside c.args.variables.now c.args.user c.in-Some.global c.prove_linked.ensures

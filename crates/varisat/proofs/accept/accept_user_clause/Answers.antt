@@ -14,8 +14,7 @@ use Rattle.varisat_names.specs.declared.variables.data.VarData.{VarData}
 use Rattle.varisat_names.specs.Variables.{Tables}
 use Rattle.varisat_theory.specs.Literals.{Literal}
 use Rattle.varisat_theory.specs.Journals.{Accepts, written}
-use Rattle.varisat_tracer.specs.Carried.{told_as}
-use Rattle.varisat_tracer.specs.Carried as global
+use Rattle.varisat_tracer.specs.Carried.{carry, told_as}
 use Rattle.varisat_tracer.specs.Tracing.{TracerState, tracer_state, global_literal, CanTell, BreaksProof}
 use Rattle.varisat_tracer.specs.TracerLaws.{takes-more, relies-after}
 use Rattle.varisat.proofs.ToldProofs.{AreToldAs, proof-told}
@@ -26,7 +25,6 @@ use Rattle.varisat_search.specs.AssumptionParts.{AssumptionParts}
 use Rattle.varisat_search.specs.Contexts.{view}
 use Rattle.varisat_search.specs.Loading.{loaded_outcome}
 use Rattle.varisat_search.specs.Seen.{search_of}
-use Rattle.varisat.specs.Carried.{carry}
 use Rattle.varisat.specs.Names.{name_all, through_names}
 use Rattle.varisat.specs.Calls.{with_naming, append_clause, reopened_verdict, with_verdict}
 use Rattle.varisat.specs.Journals.{retold}
@@ -42,22 +40,22 @@ use Rattle.varisat.proofs.AcceptClause.{clause-accepted, few-made}
 use Rattle.varisat.proofs.SolverSteps.{some-through}
 use Rattle.varisat.proofs.VariablesInUse.{same-in-use, tables-in-use}
 use Rattle.varisat_search.proofs.SolverVariables.{in-use-all}
-use Rattle.varisat.proofs.accept.accept_clause.Given.{Over}
-use Rattle.varisat.proofs.accept.accept_clause.Goals.{In_ok-solver_from_user_lits, In_ok-tell_clause, In_ok-load_clause}
-use Rattle.varisat.proofs.accept.accept_clause.Goals as goal
+use Rattle.varisat.proofs.accept.accept_user_clause.Given.{Over}
+use Rattle.varisat.proofs.accept.accept_user_clause.Goals.{In_ok-solver_from_user_lits, In_ok-tell_clause, In_ok-load_clause}
+use Rattle.varisat.proofs.accept.accept_user_clause.Goals as goal
 
 pub solver_from_user_lits-requires-clause-variables : goal.solver_from_user_lits-requires-clause-variables
-solver_from_user_lits-requires-clause-variables g c = has-variables c.args.tracer.now.variables c.args.ctx.now c.reopen.new.self c.requires.kept
+solver_from_user_lits-requires-clause-variables g c = has-variables c.args.tracer.now.tables c.args.ctx.now c.reopen.new.self c.requires.kept
 
 pub solver_from_user_lits-requires-clause-room : goal.solver_from_user_lits-requires-clause-room
-solver_from_user_lits-requires-clause-room g c = can-have-room c.args.clause.now c.args.tracer.now.variables c.requires.names
+solver_from_user_lits-requires-clause-room g c = can-have-room c.args.clause.now c.args.tracer.now.tables c.requires.names
 
 -- the names have solver variables
 have : (g : Over) (c : In_ok-solver_from_user_lits g) → HaveSolvers {A = g.row.A.Denot} c.args.clause.now
-    (record { tables = c.args.tracer.now.variables; context = record c.args.ctx.now { solver_state = c.reopen.new.self } })
+    (record { tables = c.args.tracer.now.tables; context = record c.args.ctx.now { solver_state = c.reopen.new.self } })
     (record { tables = c.solver_from_user_lits.new.variables; context = c.solver_from_user_lits.new.ctx })
 have g c =
-    have-solvers-then c.args.clause.now c.args.tracer.now.variables c.args.ctx.now c.reopen.new.self
+    have-solvers-then c.args.clause.now c.args.tracer.now.tables c.args.ctx.now c.reopen.new.self
     (record { tables = c.solver_from_user_lits.new.variables; context = c.solver_from_user_lits.new.ctx })
     (λ e. no-model-reopened c.args.ctx.now.solver_state.sat_state (ap (λ (x : SolverState). x.sat_state) (sym c.reopen.ensures) ∙ e))
     c.prove_linked.ensures c.requires.kept (c.in_ok-solver_from_user_lits.ensures {u = tt}).in_turn
@@ -92,14 +90,14 @@ opened g c e =
 
 -- the solver stands for the state once the names have solver variables
 all-named-in : (g : Over) (c : In_ok-solver_from_user_lits g) (s : State) →
-    SpacesFit (spaces_with c.args.tracer.now.variables c.args.tracer.now.proof.checker c.args.ctx.now) s →
+    SpacesFit (spaces_with c.args.tracer.now.tables c.args.tracer.now.proof.checker c.args.ctx.now) s →
     FitWithNew (spaces_with c.solver_from_user_lits.new.variables c.args.tracer.now.proof.checker c.solver_from_user_lits.new.ctx) s
     (with_names c.args.clause.now (with_verdict (reopened_verdict s.verdict) s))
 all-named-in g c s f =
     let old = c.args.ctx.now in
     let checker = c.args.tracer.now.proof.checker in
     let first : Summary = record {
-      tables = c.args.tracer.now.variables;
+      tables = c.args.tracer.now.tables;
       opened = None;
       checker = checker;
       search = view old;
@@ -109,7 +107,7 @@ all-named-in g c s f =
       words = 0;
       ledger = s.ledger;
     } in
-    let begins = subst (λ y. SpacesFit (spaces_of c.args.tracer.now.variables checker (view old) old.assumptions y)
+    let begins = subst (λ y. SpacesFit (spaces_of c.args.tracer.now.tables checker (view old) old.assumptions y)
     (with_verdict (reopened_verdict s.verdict) s)) (sym (ap (λ (x : SolverState). x.sat_state) c.reopen.ensures)) (reopened-spaces first s f) in
     (have g c).stands checker (with_verdict (reopened_verdict s.verdict) s) begins
 
@@ -134,7 +132,7 @@ load_clause-requires-clause-holds g c n =
     )
 
 -- names and variables stay as the clause is told and loaded
-same-tables : (g : Over) (c : In_ok-load_clause g) → c.load_clause.new.proof.variables ≡ c.mark_joined.new.variables
+same-tables : (g : Over) (c : In_ok-load_clause g) → c.load_clause.new.proof.tables ≡ c.mark_joined.new.variables
 same-tables g c =
     let here = (goal.at.returns-clause-kept g c).In_ok-solver_from_user_lits in
     ((c.in_ok-load_clause.ensures {u = tt}).lines (opened g here)).written.tables ∙ (c.in_ok-tell_clause.ensures {u = tt}).told.tables
@@ -240,7 +238,7 @@ returns-clause-accepted g c s f =
       parts_stay = r.assumptions (opened g here);
     })
     (subst (λ es. IsCheckedIf before.proof.checker es after.proof.checker)
-    (ap (λ (b : BiMap). told_as (global.carry (at b.backward)) (Accepts c.as_slice-lits.result.now ∷ written lines)) c.mark_joined.ensures.solvers
+    (ap (λ (b : BiMap). told_as (carry (at b.backward)) (Accepts c.as_slice-lits.result.now ∷ written lines)) c.mark_joined.ensures.solvers
     ∙ ap (λ (ls : List Literal). told_as (global_literal m) (Accepts ls ∷ written lines)) items)
     taken.told.checked)
     named in (
@@ -253,7 +251,7 @@ returns-clause-accepted g c s f =
       proof-told before after
           (Accepts c.as_slice-lits.result.now ∷ written lines) variables s.told told taken
           (subst (λ (b : BiMap). AreToldAs variables s.told told
-          (told_as (global.carry (at b.backward)) (Accepts c.as_slice-lits.result.now ∷ written lines))) (sym c.mark_joined.ensures.solvers)
+          (told_as (carry (at b.backward)) (Accepts c.as_slice-lits.result.now ∷ written lines))) (sym c.mark_joined.ensures.solvers)
           (subst (λ (ls : List Literal). AreToldAs variables s.told told (told_as (global_literal m) (Accepts ls ∷ written lines))) (sym items)
           told-as)),
       subst
@@ -291,7 +289,7 @@ returns-in_err-tell_clause-clause-full g c =
 pub returns-in_err-tell_clause-clause-size : goal.returns-in_err-tell_clause-clause-size
 returns-in_err-tell_clause-clause-size g c =
     passed-on c.from_residual-in_err-tell_clause.result c.in_err-tell_clause.field-0.0 (λ z. z ≡ step.Full → (s : State) →
-    SpacesFit (spaces_with c.args.tracer.now.variables c.args.tracer.now.proof.checker c.args.ctx.now) s →
+    SpacesFit (spaces_with c.args.tracer.now.tables c.args.tracer.now.proof.checker c.args.ctx.now) s →
     length c.solver_from_user_lits.new.ctx.assignment.current ≤ (name_all c.args.clause.now s.naming).made)
     c.from_residual-in_err-tell_clause.ensures (λ f. absurd ((c.in_err-tell_clause.ensures {u = tt}).unstored f))
 
@@ -300,7 +298,7 @@ pub returns-in_err-load_clause-clause-size : goal.returns-in_err-load_clause-cla
 returns-in_err-load_clause-clause-size g c =
     let here = (goal.at.returns-in_err-load_clause-clause-size g c).In_ok-solver_from_user_lits in
     passed-on c.from_residual-in_err-load_clause.result c.in_err-load_clause.field-0.0 (λ z. z ≡ step.Full → (s : State) →
-    SpacesFit (spaces_with c.args.tracer.now.variables c.args.tracer.now.proof.checker c.args.ctx.now) s →
+    SpacesFit (spaces_with c.args.tracer.now.tables c.args.tracer.now.proof.checker c.args.ctx.now) s →
     length c.load_clause.new.ctx.assignment.current ≤ (name_all c.args.clause.now s.naming).made)
     c.from_residual-in_err-load_clause.ensures (λ f s fit.
     let same = (c.in_err-load_clause.ensures {u = tt}).size f in

@@ -5,7 +5,7 @@ use Rattle.varisat_theory.proofs.Members.{∈-append_cases}
 use Rattle.varisat.specs.Names.{IsWitness, NameNoWitness}
 use Rattle.varisat.specs.Accepting.{naming_of}
 use Rattle.varisat.proofs.ReadPlaces.{take-item, split-item}
-use Rattle.varisat.proofs.naming.first_witness.Goals as goal
+use Rattle.varisat.proofs.name_checks.first_witness.Goals as goal
 
 pub returns-then-is_witness : goal.returns-then-is_witness
 returns-then-is_witness g c =

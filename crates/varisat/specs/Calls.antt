@@ -1,4 +1,4 @@
--- Which answer and which new state each call may give: one relation a call, with a case for each answer. A case that is ⊥ is an
+-- Which answer each call may give, and what is known then: one relation a call, with a case for each answer. A case that is ⊥ is an
 -- answer that the call never gives.
 --
 -- Refusals are looked for in this order: Invalid; then `add_clause` returns Ok under the verdict Unsat; ClauseAfterSolve;
@@ -26,6 +26,8 @@ use Rattle.varisat.specs.declared.solver.SolverError.{SolverError}
 use Rattle.varisat.specs.declared.solver.SolverError.TheVariants.{Interrupted, ProofIoError, OutOfMemory, Invalid, ClauseStoreFull, WitnessVar, VariableLimit, ClauseAfterSolve, ProofOpen, ConfigOutOfRange}
 use Rattle.varisat_literals.specs.Numbers.{variable_limit}
 
+-- 1. Whatever is known of verdicts.
+
 -- whether no call failed from which there is no way back
 abbrev pub is_valid : {V : Type 0} → Known V → Bool
 is_valid s = s.ledger.valid
@@ -34,9 +36,9 @@ is_valid s = s.ledger.valid
 abbrev pub IsValid : {V : Type 0} → Known V → Type 0
 IsValid s = is_valid s ≡ true
 
--- What a user can know in t is what it is in s, but for what a call tells beside, lines that add no clause that counts and variables
--- that leave, for further bytes of an open proof, and for the words of the clause store. Variables left only where they may, and the
--- lines told before are written as they were.
+-- What is known in t is what it is in s, but for what a call tells beside, lines that add no clause that counts and variables that
+-- leave, for further bytes of an open proof, and for the words of the clause store. Variables left only where they may, and the lines
+-- told before are written as they were.
 pub record IsLikeButLeft {V : Type 0} (may_leave : Bool) (s t : Known V) : Type 0 where
   pub same : t ≡ record s { told = t.told; variables = t.variables; proof = t.proof; words = t.words }
   pub told : TellsMore 0 s.told t.told
@@ -88,11 +90,9 @@ pub record MayConstrain (m : Naming) (d : List Literal) : Type 0 where
 abbrev pub IsCrowded : Naming → Type 0
 IsCrowded m = variable_limit < m.made
 
--- the same state with other names in use
+-- the same with other names in use
 abbrev pub with_naming : {V : Type 0} → Naming → Known V → Known V
 with_naming m s = record s { naming = m }
-
--- 1. Whatever is known of verdicts.
 
 -- the clause, over identities, is accepted, and told so
 abbrev pub append_clause : {V : Type 0} → Clause → V → Known V → Known V
@@ -189,23 +189,23 @@ MakesVar s (Err _) t = ⊥
 
 -- The call `solve`.
 
--- the same state with another verdict
+-- the same with another verdict
 abbrev pub with_verdict : {V : Type 0} → V → Known V → Known V
 with_verdict v s = record s { verdict = v }
 
--- the same state after so many steps in all: the new ones were made since the last change, too
+-- the same after so many steps in all: the new ones were made since the last change, too
 abbrev pub with_steps : {V : Type 0} → ℕ → Known V → Known V
 with_steps n s = record s { ledger = record s.ledger { steps = n; since = s.ledger.since + (n - s.ledger.steps) } }
 
--- the same state, in which a call may make so many steps
+-- the same, where a call may make so many steps
 abbrev pub with_max_steps : {V : Type 0} → ℕ → Known V → Known V
 with_max_steps n s = record s { ledger = record s.ledger { settings = record s.ledger.settings { max_steps = n } } }
 
--- how the steps are counted that a call makes under the verdict Unknown, by its answer
+-- how the steps are counted that a call makes before the verdict is known, by its answer
 abbrev pub CountsCall : {V : Type 0} → Known V → Result Bool SolverError → Known V → Type 0
 CountsCall s r t = CountsSteps (length s.counted) s.ledger.settings.max_steps s.ledger.since s.ledger.steps t.ledger.steps r
 
--- the same state, in which `solve` was called under an open proof
+-- the same once `solve` was called under an open proof
 abbrev pub once_searched : {V : Type 0} → Known V → Known V
 once_searched s = record s { proof = searched_under s.proof }
 

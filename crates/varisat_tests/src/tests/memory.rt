@@ -37,7 +37,10 @@ fn has_model<A: Allocator + Copy>(solver: &Solver<MemoryTarget<A>, A>) -> Option
 }
 
 // A text for which the room suffices that the clause before it left, and one that wants more.
-const TEXTS: [&str; 2] = ["1 -2 0\n3 0\n", "1 -2 0\n3 0\n4 5 6 7 0\n-4 8 9 0\n"];
+const TEXTS: [&str; 2] = [
+    "1 -2 0\n3 0\n",
+    "1 -2 0\n3 0\n4 5 6 7 8 9 10 11 12 13 14 15 16 17 18 19 20 0\n",
+];
 
 fn outcome<A: Allocator + Copy>(solver: &mut Solver<MemoryTarget<A>, A>, text: &str) -> Outcome {
     let clause = refusal(&solver.add_clause(&lits![1, 2, -3]));
@@ -154,7 +157,7 @@ fn each_growth_may_be_refused(rt: HostRuntime) {
     for is_checked in [false, true] {
         let mut reached = [false; 5];
         for text in TEXTS {
-            for room in 0..400 {
+            for room in 0..600 {
                 match place_with(rt.alloc(), room, is_checked, text) {
                     Ok(Some(place)) if place < 5 => reached[place] = true,
                     _ => panic!(rt; "with {room}, checked: {is_checked}"),

@@ -44,20 +44,14 @@ def time_session(lines):
     return taken.processor
 
 
-def write_session(lines, clauses, thousands):
-    lines.write(f"config max_steps {thousands * 1000}\n")
-    lines.writelines(" ".join(["add", *map(str, clause)]) + "\n" for clause in clauses)
-    lines.write("solve\n")
-    lines.flush()
-
-
 def measure(crate, name, folder, arguments):
     """The median times of our session and of the crate, which run in turn."""
     formula, path = learning.FORMULAS[name](), f"{folder}/{name}.cnf"
     formulas.write(path, formula)
     ours, theirs = [], []
     with open(f"{folder}/{name}.lines", "w+", encoding="utf-8") as lines:
-        write_session(lines, formula.clauses, arguments.thousands)
+        programs.write_session(lines, formula.clauses, [("max_steps", arguments.thousands * 1000)])
+        lines.flush()
         for _ in range(arguments.repetitions):
             ours.append(time_session(lines))
             theirs.append(time_crate(crate, path, arguments.thousands))

@@ -160,13 +160,19 @@ def count_conflicts(path, limit):
     return int(line[1])
 
 
+def write_session(lines, clauses, settings=()):
+    """Writes a session that decides the clauses, with the settings that are given as pairs of a name and a number."""
+    lines.writelines(f"config {name} {number}\n" for name, number in settings)
+    lines.writelines(" ".join(["add", *map(str, clause)]) + "\n" for clause in clauses)
+    lines.write("solve\n")
+
+
 def decide_by_session(clauses, limit, settings=()):
     """Decides the clauses in a session of our program: with the settings of a new solver, but for those that are given as pairs of a
     name and a number. Each step but one that finds a model comes to a conflict."""
     with tempfile.TemporaryFile("w+", encoding="utf-8") as lines, tempfile.TemporaryFile("w+", encoding="utf-8") as output:
-        lines.writelines(f"config {name} {number}\n" for name, number in settings)
-        lines.writelines(" ".join(["add", *map(str, clause)]) + "\n" for clause in clauses)
-        lines.write("solve\nsteps\n")
+        write_session(lines, clauses, settings)
+        lines.write("steps\n")
         lines.seek(0)
         status, taken = run_command([PROGRAM, "session"], lines, output, limit)
         output.seek(0)

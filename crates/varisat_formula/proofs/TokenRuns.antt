@@ -44,6 +44,12 @@ digit_more w m n d bytes i l p s h e g =
     (not_blank b h, one_digit_more m n b p s h ∙ ap (λ x. a_number m (n * 10 + x)) (sym e)))
 
 -- 2. Bytes before and behind.
+pub run_more : (w v u : Word) (bytes : List ℕ) (i k : ℕ) → GoesOnTo w (take i bytes) v → GoesOnTo v (take k (take (length bytes - i) (drop i bytes))) u →
+    GoesOnTo w (take (i + k) bytes) u
+run_more w v u bytes i k g f =
+    subst (λ t. GoesOnTo w t u) (sym (take-add i k bytes))
+    (goes_on_more w v u (take i bytes) (take k (drop i bytes)) g (subst (λ t. GoesOnTo v (take k t) u) (rest_of i bytes) f))
+
 pub byte_more : (w v u : Word) (bytes : List ℕ) (i : ℕ) → i < length bytes → is_blank (get_or bytes i 0) ≡ false → u ≡ after_byte v (get_or bytes i 0) →
     GoesOnTo w (take i bytes) v → GoesOnTo w (take (i + 1) bytes) u
 byte_more w v u bytes i l h e g =

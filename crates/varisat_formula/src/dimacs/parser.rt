@@ -165,7 +165,7 @@ impl<A: Allocator + Copy> DimacsParser<A> {
     }
 
     /// Where the reader stands in a line of tokens: reads it up to its line feed or the end of the bytes. Returns how many
-    /// bytes these are.
+    /// bytes these are, none elsewhere.
     // Most bytes of a text are read here. The place is written only at the end, and the token stands in registers.
     fn read_tokens(&mut self, bytes: &[u8]) -> Result<usize, DimacsError>
         requires open { self.old.over ≡ false }

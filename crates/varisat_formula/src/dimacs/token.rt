@@ -1,6 +1,7 @@
-//! Tokens, a byte at a time. A piece may end inside a token; what its bytes say so far is kept in place of the bytes,
-//! so that a token of any length takes no memory, also one with a fault.
+//! Tokens, a byte or a run of bytes at a time. A piece may end inside a token; what its bytes say so far is kept in place of
+//! the bytes, so that a token of any length takes no memory, also one with a fault.
 ghost use Rattle.std.specs.Prelude.{◌≡◌, ◌<◌, ◌≤◌, ◌^◌, ℕ, Bool, true, Some, length, take, slice_index};
+ghost use Rattle.varisat_formula.specs.declared.dimacs.token.Digits.TheVariants.{Empty};
 ghost use Rattle.varisat_formula.specs.Dimacs.{positive, negative, in_range, is_digit, is_blank};
 ghost use Rattle.varisat_formula.specs.Machine.{after_digit, grown, after_byte, is_none, is_empty, word_says, no_word, no_digits, a_number, GoesOnTo};
 
@@ -201,18 +202,32 @@ impl Word {
         }
     }
 
+    /// Where there is no digit: whether there is a minus sign, once one in front of the bytes is read, and how many bytes
+    /// these are.
+    fn with_sign(self, bytes: &[u8]) -> (bool, usize)
+        requires { self.digits ≡ Empty }
+        ensures within { result.1 ≤ length bytes.now }
+        ensures word { GoesOnTo self (take result.1 bytes.now) (no_digits result.0) }
+    {
+        if self.minus || bytes.is_empty() {
+            return (self.minus, 0);
+        }
+        // As many literals have a sign as have none, so that a branch for either would be guessed wrong too often.
+        let minus = bytes[0] == b'-';
+        (minus, usize::from(minus))
+    }
+
     /// With a number in front of the bytes, or the rest of one, and how many bytes these are.
+    #[inline(always)]
     fn with_number(self, bytes: &[u8]) -> (Word, usize)
         ensures within { result.1 ≤ length bytes.now }
         ensures word { GoesOnTo self (take result.1 bytes.now) result.0 }
     {
         match self.digits {
             Digits::Empty => {
-                if !self.minus && !bytes.is_empty() && bytes[0] == b'-' {
-                    let (word, count) = number_behind(true, &bytes[1..]);
-                    return (word, 1 + count);
-                }
-                number_behind(self.minus, bytes)
+                let (minus, sign) = self.with_sign(bytes);
+                let (word, count) = number_behind(minus, &bytes[sign..]);
+                (word, sign + count)
             }
             _ => self.with_digits(bytes),
         }
@@ -220,6 +235,7 @@ impl Word {
 
     /// With the bytes up to the next blank, and how many these are.
     // Mostly they are a number and no more.
+    #[inline(always)]
     pub fn with_bytes(self, bytes: &[u8]) -> (Word, usize)
         ensures within { result.1 ≤ length bytes.now }
         ensures word { GoesOnTo self (take result.1 bytes.now) result.0 }

@@ -1,10 +1,12 @@
 -- Copies of a clause's literals, each once, and their flags.
-use Rattle.std.proofs.Common.{◌≡◌, ◌≢◌, ℕ, zero, suc, ◌+◌, ◌*◌, ◌<◌, ◌≤◌, Bool, true, false, List, [], ◌∷◌, ◌++◌, inl, inr, ⊎_elim, length, get_or, set, take, take_all, refl, sym, ap, ap₂, ◌∙◌, subst, arith, get_or-set_same, get_or-set_other}
-use Rattle.varisat_theory.specs.Literals.{Literal, variable_of}
+use Rattle.std.proofs.Common.{◌≡◌, ◌≢◌, ℕ, zero, suc, ◌+◌, ◌*◌, ◌<◌, ◌≤◌, Bool, true, false, ◌||◌, IsTrue, ◌↔◌, List, [], ◌∷◌, ◌++◌, inl, inr, ⊎_elim, length, get_or, set, take, take_all, refl, sym, ap, ap₂, ◌∙◌, subst, arith, get_or-set_same, get_or-set_other}
+use Rattle.varisat_theory.specs.Literals.{Literal, variable_of, opposite}
 use Rattle.varisat_theory.proofs.Members.{equal_or_not}
 use Rattle.varisat_analysis.specs.Flags.{AreFlagged}
 use Rattle.varisat_theory.specs.Membership.{◌∈◌, SameSet, IsDistinct}
 use Rattle.varisat_theory.proofs.Members.{∈-append_left, ∈-append_right, ∈-append_cases}
+use Rattle.varisat_theory.specs.Searches.{IsTautology}
+use Rattle.varisat_theory.proofs.Values.{opposite_twice}
 use Rattle.varisat_theory.proofs.Places.{∈-take_more}
 
 pub distinct-push : {X : Type 0} (xs : List X) (x : X) → IsDistinct xs → (x ∈ xs → ⊥) → IsDistinct (xs ++ x ∷ [])
@@ -115,3 +117,20 @@ flag-inside (b ∷ flags) (suc l) e = let i = flag-inside flags l e in omega (ar
 -- where a variable is known its literals have flags
 pub own-list : (l n : ℕ) → variable_of l < n → l < 2 * n
 own-list l n h = omega (arith, h)
+
+-- a literal more, of which it is known whether its opposite is there
+pub tautology-more : (xs : List ℕ) (v : ℕ) (found there : Bool) → IsTrue found ↔ IsTautology xs →
+    IsTrue there ↔ (opposite v ∈ (xs ++ v ∷ [])) → IsTrue (found || there) ↔ IsTautology (xs ++ v ∷ [])
+tautology-more xs v true there p q = (
+  (λ e. let (l, a, b) = p.0 refl in (l, ∈-append_left l xs (v ∷ []) a, ∈-append_left (opposite l) xs (v ∷ []) b)),
+  (λ t. refl),
+)
+tautology-more xs v false there p q = (
+  (λ e. (v, ∈-append_right v xs (v ∷ []) (inl refl), q.0 e)),
+  (λ (l, a, b). q.1 (⊎_elim
+      (λ i. ⊎_elim (λ j. let z : false ≡ true = p.1 (l, i, j) in absurd cc)
+      (λ j. ⊎_elim (λ e. subst (λ x. x ∈ (xs ++ v ∷ [])) (sym (opposite_twice l) ∙ ap opposite e) a) (λ z. absurd z) j)
+      (∈-append_cases (opposite l) xs (v ∷ []) b))
+      (λ i. ⊎_elim (λ e. subst (λ x. opposite x ∈ (xs ++ v ∷ [])) e b) (λ z. absurd z) i)
+      (∈-append_cases l xs (v ∷ []) a))),
+)

@@ -11,42 +11,32 @@ use std::alloc::{AllocError, Allocator};
 use varisat_literals::Lit;
 use varisat_prop::prop::Assignment;
 
-/// Copies the clause's literals, each once, and flags those that were copied.
+/// Copies the clause's literals, each once, and flags those that were copied. Returns whether one of them is another's
+/// opposite.
 fn copy_distinct<A: Allocator + Copy>(
     lits: &mut Vec<Lit, A>,
     flags: &mut [bool],
     clause: &[Lit],
-) -> Result<(), AllocError>
+) -> Result<bool, AllocError>
     requires clear { (l : Literal) → slice_index_or flags.old l false ≡ false }
-    requires known { (l : Literal) → l ∈ clause.now → l < length flags.old }
+    requires known { (l : Literal) → l ∈ clause.now → (l < length flags.old) × (opposite l < length flags.old) }
     ensures distinct { OnOk result (IsDistinct lits.new.items) }
     ensures same { OnOk result (SameSet lits.new.items clause.now) }
+    ensures tautology { IfOk result (λ found. IsTrue found ↔ IsTautology lits.new.items) }
     ensures flagged { AreFlagged flags.new lits.new.items }
 {
     lits.clear();
+    let mut found = false;
     for lit in clause {
         if flags[lit.code()] {
             continue;
         }
         lits.push(*lit)?;
         flags[lit.code()] = true;
-    }
-    Ok(())
-}
-
-/// Whether a literal's opposite is one of the clause too, whose literals are flagged.
-fn is_tautology(lits: &[Lit], flags: &[bool]) -> bool
-    requires flagged { AreFlagged flags.now lits.now }
-    requires known { (l : Literal) → l ∈ lits.now → opposite l < length flags.now }
-    ensures { IsTrue result ↔ IsTautology lits.now }
-{
-    for lit in lits {
         let opposite = !*lit;
-        if flags[opposite.code()] {
-            return true;
-        }
+        found |= flags[opposite.code()];
     }
-    false
+    Ok(found)
 }
 
 /// Takes the flags of the literals away, which are all that are set.
@@ -74,8 +64,7 @@ pub fn collect_flagged<A: Allocator + Copy>(
     ensures clear { (l : Literal) → slice_index_or flags.new l false ≡ false }
 {
     match copy_distinct(lits, flags, clause) {
-        Ok(()) => {
-            let found = is_tautology(lits, flags);
+        Ok(found) => {
             clear_flagged(flags, lits);
             Ok(found)
         }

@@ -1,5 +1,6 @@
-use Rattle.std.proofs.Common.{take}
+use Rattle.std.proofs.Common.{take, IsTrue, ◌↔◌}
 use Rattle.varisat_theory.specs.Membership.{SameSet, IsDistinct}
+use Rattle.varisat_theory.specs.Searches.{IsTautology}
 use Rattle.varisat_analysis.specs.Flags.{AreFlagged}
 use Rattle.varisat_analysis.proofs.clause_literals.copy_distinct.Given as goal
 
@@ -8,5 +9,6 @@ invariant-loop-lit g l = record {
   distinct : IsDistinct l.lits.items;
   same : SameSet l.lits.items
       (take l.lit-index l.clause);
+  tautology : IsTrue l.found ↔ IsTautology l.lits.items;
   flagged : AreFlagged l.flags l.lits.items;
 }

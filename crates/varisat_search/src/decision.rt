@@ -103,6 +103,8 @@ pub fn initialize_var<A: Allocator + Copy>(ctx: &mut Context<A>, var: Var, avail
 
 /// Raises the count of variables. The new ones have no value, had the value false, and are available for decisions. No
 /// value that was remembered is forgotten.
+#[cold]
+#[inline(never)]
 pub fn add_variables<A: Allocator + Copy>(
     ctx: &mut Context<A>,
     count: usize,

@@ -25,6 +25,8 @@ use varisat_names::variables::naming::global_from_user;
 
 /// Makes the solver variable, which was just taken, available for decisions. Where it stands for a variable that left
 /// the search with a value, the unit clause for that value is held again.
+#[cold]
+#[inline(never)]
 pub fn initialize_solver_var<A: Allocator + Copy>(
     ctx: &mut Context<A>,
     solver: Var,

@@ -169,6 +169,8 @@ impl<A: Allocator + Copy> LinkedVariables<A> {
 
     /// Names the name: where it is free it comes into use, above the watermark with all names up to it. Where memory
     /// is refused some of these are in use.
+    #[cold]
+    #[inline(never)]
     pub fn name_user_var(&mut self, user: Var) -> Result<(), AllocError>
         requires globals { length self.old.kept + (user + 1 - length self.old.users.forward) < 2 ^ 31 }
         ensures named { OnOk result (IsNamed user self.old self.new) }
@@ -185,6 +187,8 @@ impl<A: Allocator + Copy> LinkedVariables<A> {
 
     /// Takes the least free solver variable for a live global variable that has none. Where memory is refused nothing
     /// changes.
+    #[cold]
+    #[inline(never)]
     pub fn take_solver_var(&mut self, global: Var) -> Result<Var, AllocError>
         requires live { (kept_at self.old.kept global).deleted ≡ false }
         requires free { at self.old.solvers.forward global ≡ None }

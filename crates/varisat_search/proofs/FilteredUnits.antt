@@ -1,16 +1,20 @@
 -- What a filter leaves of the clauses of a store where satisfied clauses and false literals go.
-use Rattle.std.proofs.Common.{◌≡◌, ℕ, ◌≤◌, Bool, true, false, not, ◌&&◌, cond, Option, List, [], ◌∷◌, ◌++◌, length, get_or, map, ⊎_elim, refl, sym, ap, ap₂, ◌∙◌, subst, append_assoc, arith}
+use Rattle.std.proofs.Common.{◌≡◌, ℕ, ◌<◌, ◌≤◌, ◌⊎◌, inl, inr, Bool, true, false, not, ◌&&◌, cond, Option, List, [], ◌∷◌, ◌++◌, length, get_or, map, ⊎_elim, refl, sym, ap, ap₂, ◌∙◌, subst, append_assoc, arith}
 use Rattle.std.specs.Prelude.{nat_le}
 use Rattle.std.specs.List.{filter}
 use Rattle.std.proofs.lemmas.List.{append-nil}
-use Rattle.varisat_theory.specs.Membership.{◌∈◌}
-use Rattle.varisat_theory.specs.Literals.{Literal, Clause}
-use Rattle.varisat_clause.specs.Stored.{StoredClause}
+use Rattle.varisat_theory.specs.Membership.{◌∈◌, ◌⊆◌}
+use Rattle.varisat_theory.specs.Literals.{Literal, Clause, opposite}
+use Rattle.varisat_theory.proofs.Places.{∈-get_or}
+use Rattle.varisat_theory.proofs.Members.{∈-append_left, ∈-append_right, ∈-append_cases}
+use Rattle.varisat_clause.specs.Stored.{StoredClause, IsPlace}
 use Rattle.varisat_clause.specs.Collected.{live_of}
 use Rattle.varisat_clause.specs.Filters.{left_if, FiltersOne, Filters}
 use Rattle.varisat_clause.specs.Filters.FiltersOne.{PassesOver, ComesTo}
 use Rattle.varisat_prop.specs.Parts.{IsMadeTrue}
-use Rattle.varisat_search.specs.Simplifications.{has_true, unassigned, shortened_to, stays_long, becomes_pair, left_long, left_pairs, LeavesOpen}
+use Rattle.varisat_prop.specs.Simplified.{are_unassigned}
+use Rattle.varisat_prop.proofs.WatchSettled.{two}
+use Rattle.varisat_search.specs.Simplifications.{has_true, unassigned, shortened_to, stays_long, becomes_pair, left_long, left_pairs, LeavesOpen, NotesWatches}
 use Rattle.varisat_search.proofs.UnassignedLiterals.{some-true, true-there, true-false, at-least}
 
 -- 1. One clause.
@@ -151,3 +155,86 @@ module _ {F : Type 0} (values : F → List (Option Bool)) (pairs : F → List Cl
             d ∙ ap (λ cs. cs ++ left_pairs vs (live_of ks)) o.pairs ∙ append_assoc (pairs f) (left_pairs vs (k ∷ [])) (left_pairs vs (live_of ks))
                 ∙ ap (λ cs. pairs f ++ cs) (sym (pairs-first vs k (live_of ks))) ∙ ap (λ xs. pairs f ++ left_pairs vs xs) (sym here),
           )
+
+-- 3. The literals whose watch lists name clauses that change.
+pub notes-none : (values : List (Option Bool)) (k : StoredClause) (before : List Literal) → are_unassigned values k.literals ≡ true →
+    NotesWatches values k before before
+notes-none values k before e = record {
+  old = λ x h. h;
+  noted = λ f. absurd (let z : true ≡ false = sym e ∙ f in cc);
+  only = λ x h. inl h;
+}
+
+pub notes-two : (values : List (Option Bool)) (k : StoredClause) (before after : List Literal) (x y : Literal) → 2 ≤ length k.literals →
+    x ≡ opposite (get_or k.literals 0 0) → y ≡ opposite (get_or k.literals 1 0) → after ≡ (before ++ x ∷ []) ++ y ∷ [] →
+    NotesWatches values k before after
+notes-two values k before after x y n ex ey e = record {
+  old = λ z h. subst (λ zs. z ∈ zs) (sym e) (∈-append_left z (before ++ x ∷ []) (y ∷ []) (∈-append_left z before (x ∷ []) h));
+  noted = λ f. two (λ j. opposite (get_or k.literals j 0) ∈ after)
+      (subst (λ z. z ∈ after) ex (subst (λ zs. x ∈ zs) (sym e)
+      (∈-append_left x (before ++ x ∷ []) (y ∷ []) (∈-append_right x before (x ∷ []) (inl refl)))))
+      (subst (λ z. z ∈ after) ey (subst (λ zs. y ∈ zs) (sym e) (∈-append_right y (before ++ x ∷ []) (y ∷ []) (inl refl))));
+  only = λ z h. ⊎_elim
+      (λ i. ⊎_elim inl (λ o. inr (⊎_elim (λ q. (get_or k.literals 0 0, ∈-get_or k.literals 0 0 (omega (arith, n)), q ∙ ex)) (λ q. absurd q) o))
+      (∈-append_cases z before (x ∷ []) i))
+      (λ o. inr (⊎_elim (λ q. (get_or k.literals 1 0, ∈-get_or k.literals 1 0 (omega (arith, n)), q ∙ ey)) (λ q. absurd q) o))
+      (∈-append_cases z (before ++ x ∷ []) (y ∷ []) (subst (λ zs. z ∈ zs) e h));
+}
+
+module _ {F : Type 0} (values : F → List (Option Bool)) (watching : F → List Literal) (Leaves : F → StoredClause → StoredClause → F → Type 0)
+    (each : (f : F) (k j : StoredClause) (g : F) → Leaves f k j g → (values g ≡ values f) × NotesWatches (values f) k (watching f) (watching g)) where
+  -- what all clauses add
+  pub record AreNoted (f g : F) (ks : List StoredClause) : Type 0 where
+    pub old : watching f ⊆ watching g
+    pub noted : (k : StoredClause) → k ∈ live_of ks → are_unassigned (values f) k.literals ≡ false → (j : ℕ) → j < 2 →
+        opposite (get_or k.literals j 0) ∈ watching g
+    pub only : (x : Literal) → x ∈ watching g → (x ∈ watching f) ⊎ ((k : StoredClause) × (k ∈ live_of ks) × (l : Literal) × (l ∈ k.literals) × (x ≡ opposite l))
+
+  pub filtered-noted : (f g : F) (ks js : List StoredClause) → Filters Leaves f ks js g → AreNoted f g ks
+  filtered-noted f g [] [] e = record {
+    old = λ x h. subst (λ (o : F). x ∈ watching o) (sym e) h;
+    noted = λ k h. absurd h;
+    only = λ x h. inl (subst (λ (o : F). x ∈ watching o) e h);
+  }
+  filtered-noted f g [] (j ∷ js) e = absurd e
+  filtered-noted f g (k ∷ ks) [] e = absurd e
+  filtered-noted f g (k ∷ ks) (j ∷ js) (m, one, more) = go one (filtered-noted m g ks js more)
+    where
+      go : FiltersOne Leaves f k j m → AreNoted m g ks → AreNoted f g (k ∷ ks)
+      go (PassesOver dead e q) r =
+          let n = subst (λ (x : F). AreNoted x g ks) q r in
+          let gone : live_of (k ∷ ks) ≡ live_of ks = ap (λ (o : Bool). cond o (live_of ks) (k ∷ live_of ks)) dead in
+          record {
+            old = n.old;
+            noted = λ i h. n.noted i (subst (λ xs. i ∈ xs) gone h);
+            only = λ x h. ⊎_elim inl (λ (i, o, y, z, w). inr (i, subst (λ xs. i ∈ xs) (sym gone) o, y, z, w)) (n.only x h);
+          }
+      go (ComesTo live p t l) r =
+          let (v, o) = each f k j m l in
+          let here : live_of (k ∷ ks) ≡ k ∷ live_of ks = ap (λ (o : Bool). cond o (live_of ks) (k ∷ live_of ks)) live in
+          record {
+            old = λ x h. r.old x (o.old x h);
+            noted = λ i h e b s. ⊎_elim
+                (λ q. subst (λ (y : StoredClause). opposite (get_or y.literals b 0) ∈ watching g) (sym q)
+                (r.old (opposite (get_or k.literals b 0)) (o.noted (subst (λ (y : StoredClause). are_unassigned (values f) y.literals ≡ false) q e) b s)))
+                (λ q. r.noted i q (subst (λ vs. are_unassigned vs i.literals ≡ false) (sym v) e) b s)
+                (subst (λ xs. i ∈ xs) here h);
+            only = λ x h. ⊎_elim
+                (λ q. ⊎_elim inl (λ (y, i, e). inr (k, subst (λ xs. k ∈ xs) (sym here) (inl refl), y, i, e)) (o.only x q))
+                (λ (i, q, y, z, w). inr (i, subst (λ xs. i ∈ xs) (sym here) (inr q), y, z, w))
+                (r.only x h);
+          }
+
+-- each clause keeps its place
+pub filtered-place : {F : Type 0} (Leaves : F → StoredClause → StoredClause → F → Type 0) (f g : F) (ks js : List StoredClause) → Filters Leaves f ks js g →
+    (p : ℕ) → IsPlace ks p → IsPlace js p
+filtered-place Leaves f g [] [] e p (k, h, q) = absurd h
+filtered-place Leaves f g [] (j ∷ js) e p (k, h, q) = absurd e
+filtered-place Leaves f g (k ∷ ks) [] e p h = absurd e
+filtered-place Leaves f g (k ∷ ks) (j ∷ js) (m, one, more) p (i, inl e, q) = (j, inl refl, same one ∙ sym (ap (λ (y : StoredClause). y.place) e) ∙ q)
+  where
+    same : FiltersOne Leaves f k j m → j.place ≡ k.place
+    same (PassesOver dead r s) = ap (λ (y : StoredClause). y.place) r
+    same (ComesTo live r t l) = r
+filtered-place Leaves f g (k ∷ ks) (j ∷ js) (m, one, more) p (i, inr h, q) =
+    let (y, o, r) = filtered-place Leaves m g ks js more p (i, h, q) in (y, inr o, r)

@@ -23,6 +23,7 @@ pub mod ClausesExchanged
 pub mod HeaderChanges
 pub mod DiscardedClauses
 pub mod RepackedView
+pub mod RewatchedClauses
 pub mod DueReductions
 pub mod LearnedHeaders
 pub mod AssumedTruths
@@ -47,6 +48,7 @@ pub mod SettledUnits
 pub mod LoadedQueue
 pub mod SkippedHead
 pub mod MadeSteps
+pub mod MendedLists
 pub mod ForgottenViews
 pub mod ForgottenValues
 mod Frames

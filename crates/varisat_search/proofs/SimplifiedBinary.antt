@@ -1,5 +1,5 @@
 -- The clauses of two literals are simplified, and then those of the store.
-use Rattle.std.proofs.Common.{◌≡◌, ℕ, suc, Bool, true, false, not, Option, List, [], ◌∷◌, ◌++◌, map, cond, ⊎_elim, refl, sym, ap, ◌∙◌, subst}
+use Rattle.std.proofs.Common.{◌≡◌, ℕ, suc, Bool, true, false, not, Option, List, [], ◌∷◌, ◌++◌, map, cond, ⊎_elim, refl, sym, ap, ◌∙◌, subst, length}
 use Rattle.std.specs.List.{filter}
 use Rattle.varisat_theory.specs.Membership.{◌∈◌}
 use Rattle.varisat_theory.specs.Literals.{Literal, Clause}
@@ -175,6 +175,7 @@ module _ {A : Type 0} {x z : Context A} (d : SimplifiesBinary x z) where
     undecided = ap (λ (y : Context A). y.trail.decisions) d.rest ∙ d.can.undecided;
     complete = subst (λ (y : View). IsComplete (kept y) y.trail) (sym binary-view)
         (left-complete s d.can.ready.well d.can.undecided d.can.proved d.can.complete);
+    propagated = ap (λ (y : Context A). y.trail.queue_head) d.rest ∙ d.can.propagated ∙ sym (ap (λ (y : Context A). length y.trail.literals) d.rest);
     proved = subst HasUnits (sym binary-view) d.can.proved;
   }
 

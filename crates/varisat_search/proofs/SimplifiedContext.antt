@@ -1,25 +1,29 @@
 -- The contexts of a simplification.
-use Rattle.std.proofs.Common.{◌≡◌, Bool, true, false, List, [], ◌++◌, length, refl, sym, ap, ap₂, ◌∙◌, subst}
+use Rattle.std.proofs.Common.{◌≡◌, ℕ, ◌<◌, Bool, true, false, List, [], ◌∷◌, ◌++◌, length, inl, ⊎_elim, refl, sym, ap, ap₂, ◌∙◌, subst, arith}
 use Rattle.varisat_theory.specs.Membership.{◌∈◌}
-use Rattle.varisat_theory.specs.Literals.{Literal, Clause}
+use Rattle.varisat_theory.specs.Literals.{Literal, Clause, opposite}
 use Rattle.varisat_theory.specs.Outcomes.{Proves}
-use Rattle.varisat_clause.specs.Stored.{StoredClause}
+use Rattle.varisat_clause.specs.Stored.{StoredClause, IsPlace}
 use Rattle.varisat_clause.specs.Stores.{stored_clauses}
 use Rattle.varisat_clause.specs.Databases.{is_live, Tracks}
 use Rattle.varisat_clause.specs.Collected.{live_clauses}
 use Rattle.varisat_clause.proofs.LiveStore.{∈-live, are-live-long}
 use Rattle.varisat_clause.proofs.StoreSound.{sound-is}
-use Rattle.varisat_prop.specs.Simplified.{without_assigned}
-use Rattle.varisat_prop.specs.View.{View, WellFormed, LevelsSettled}
-use Rattle.varisat_prop.specs.Watches.{watches_of, IsPropagated}
+use Rattle.varisat_prop.specs.Simplified.{are_unassigned, without_assigned}
+use Rattle.varisat_prop.specs.View.{View, clause_at, WellFormed, LevelsSettled}
+use Rattle.varisat_prop.specs.declared.prop.watch.Watch.{Watch}
+use Rattle.varisat_prop.specs.Watches.{watches_of, literal_in, IsSettledTo, IsPropagated}
 use Rattle.varisat_prop.proofs.SimplifiedPairs.{unassigned-none}
-use Rattle.varisat_prop.proofs.SimplifiedView.{simplified, settled-undecided, propagated-unassigned}
+use Rattle.varisat_prop.proofs.SimplifiedView.{simplified, settled-undecided, settled-unassigned, implied-unassigned}
 use Rattle.varisat_search.specs.declared.context.Context.{Context}
 use Rattle.varisat_search.specs.Contexts.{view, IsReady}
 use Rattle.varisat_search.specs.Frames.{ChangesClauses}
 use Rattle.varisat_search.specs.Decisions.{CanDecide, SameDecidable}
 use Rattle.varisat_search.specs.Seen.{search_of}
 use Rattle.varisat_search.specs.SettledUnits.{CanSimplify}
+use Rattle.varisat_search.specs.Steps.{IsPropagatedToEnd}
+use Rattle.varisat_search.specs.MendedLists.{AreMended, MendsLists}
+use Rattle.varisat_search.proofs.RewatchedClauses.{watching-left}
 use Rattle.varisat_search.specs.Simplifications.{left_long, left_pairs, with_pairs, IsLeftOpen, IsPairIn, IsSimplified, pair_lines, clause_lines}
 use Rattle.varisat_search.proofs.SimplifiedSearch.{is-false, IsAtUnits, stored-open, pairs-in, are-unassigned, still-well, still-free, C-count, simplify-proves, literal-kept}
 use Rattle.varisat_search.proofs.ReadyAfter.{KeepsValues, keeps-values, exchanged-ready}
@@ -48,6 +52,7 @@ module _ {A : Type 0} (x : Context A) (u : IsAtUnits (view x)) where
 pub record Simplifies {A : Type 0} (x z : Context A) : Type 0 where
   pub ready : IsReady x
   pub units : IsAtUnits (view x)
+  pub propagated : IsPropagatedToEnd (view x)
   pub tracks : Tracks z.clause_db z.clause_alloc
   pub clauses : live_clauses z.clause_alloc ≡ left_long x.assignment.current (live_clauses x.clause_alloc)
   pub binary : z.binary_clauses ≡ with_pairs (without_assigned x.assignment.current x.binary_clauses)
@@ -91,21 +96,39 @@ module _ {A : Type 0} {x z : Context A} (d : Simplifies x z) where
     decidable = λ c h l i. let (k, j, o) = literal-kept s d.units c h l i in d.ready.decidable.decidable k j l o;
   }
 
-  pub simplified-ready : ((l : Literal) → watches_of z.watchlists l ≡ []) → z.watchlists.enabled ≡ false →
-      length z.watchlists.lists ≡ length x.watchlists.lists → IsReady z
-  simplified-ready e o n =
-      exchanged-ready x z d.ready (subst (KeepsValues x) (sym d.rest)
-      (keeps-values x (record x {
-        binary_clauses = z.binary_clauses;
-        clause_alloc = z.clause_alloc;
-        clause_db = z.clause_db;
-        counters = z.counters;
-        watchlists = z.watchlists;
-      }) refl))
-      (subst WellFormed (sym is-view) (still-well s d.units))
-      (subst LevelsSettled (sym is-view) (settled-undecided t d.units.undecided))
-      (subst (IsPropagated z.watchlists) (sym is-view)
-      (propagated-unassigned t (still-well s d.units) (still-free s d.units) z.watchlists (n ∙ d.ready.propagated.lists) o e
-      (C-count s d.units ∙ d.units.lists) d.units.undecided))
-      d.tracks
-      (subst (λ (y : View). CanDecide y x.vsids) (sym is-view) can-decide)
+  -- The lists are mended by which clauses with an assigned literal are watched.
+  module _ (lits : List Literal) (m : MendsLists (live_clauses z.clause_alloc) lits x.watchlists z.watchlists)
+      (noted : (i j : ℕ) → IsPlace s.clauses i → are_unassigned s.values (clause_at s i) ≡ false → j < 2 → opposite (literal_in (clause_at s i) j) ∈ lits) where
+    still-empty : (ws vs : List Watch) → ws ≡ [] → AreMended (live_clauses z.clause_alloc) ws vs → vs ≡ []
+    still-empty ws [] e a = refl
+    still-empty ws (v ∷ vs) e a = let (y, i, q) = (a.each v (inl refl)).2 in absurd (subst (λ us. y ∈ us) e i)
+
+    still-propagated : IsPropagated z.watchlists t
+    still-propagated = record {
+      lists = m.count ∙ d.ready.propagated.lists;
+      watching = λ on. watching-left s d.units.well (subst (λ q. IsSettledTo s q) d.propagated d.ready.propagated.settled) d.units.long
+          (still-well s d.units).places x.watchlists z.watchlists lits (d.ready.propagated.watching (sym m.enabled ∙ on))
+          (subst (λ ks. MendsLists ks lits x.watchlists z.watchlists) d.clauses m) noted;
+      empty = λ off l. let e = d.ready.propagated.empty (sym m.enabled ∙ off) l in
+          ⊎_elim (λ q. q ∙ e) (λ a. still-empty (watches_of x.watchlists l) (watches_of z.watchlists l) e a) (m.each l);
+      settled = settled-unassigned t (still-well s d.units) (still-free s d.units);
+      binary = C-count s d.units ∙ d.units.lists;
+      implied = implied-unassigned t (still-well s d.units) (still-free s d.units);
+      queue = λ j h. let n = ap (λ (ds : List ℕ). length ds) d.units.undecided in absurd (omega (arith, h, n));
+    }
+
+    pub simplified-ready : IsReady z
+    simplified-ready =
+        exchanged-ready x z d.ready (subst (KeepsValues x) (sym d.rest)
+        (keeps-values x (record x {
+          binary_clauses = z.binary_clauses;
+          clause_alloc = z.clause_alloc;
+          clause_db = z.clause_db;
+          counters = z.counters;
+          watchlists = z.watchlists;
+        }) refl))
+        (subst WellFormed (sym is-view) (still-well s d.units))
+        (subst LevelsSettled (sym is-view) (settled-undecided t d.units.undecided))
+        (subst (IsPropagated z.watchlists) (sym is-view) still-propagated)
+        d.tracks
+        (subst (λ (y : View). CanDecide y x.vsids) (sym is-view) can-decide)

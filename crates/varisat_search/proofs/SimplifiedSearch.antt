@@ -34,7 +34,7 @@ use Rattle.varisat_search.proofs.FilteredUnits.{two-elements}
 use Rattle.varisat_search.proofs.SimplifiedLines.{HasProved, left_each, pairs-go, each-left}
 use Rattle.varisat_search.proofs.SimplifiedKept.{longer-pair, joined-count, pairs-same, mixed-prove}
 
-both : (a b : Bool) → (a && b) ≡ true → (a ≡ true) × (b ≡ true)
+pub both : (a b : Bool) → (a && b) ≡ true → (a ≡ true) × (b ≡ true)
 both true true e = (refl, refl)
 both true false e = absurd (let z : false ≡ true = e in cc)
 both false b e = absurd (let z : false ≡ true = e in cc)
@@ -43,7 +43,7 @@ pub is-false : (b : Bool) → not b ≡ true → b ≡ false
 is-false true e = absurd (let z : false ≡ true = e in cc)
 is-false false e = refl
 
-from-map : {X : Type 0} (f : StoredClause → X) (ks : List StoredClause) (x : X) → x ∈ map f ks → (k : StoredClause) × (k ∈ ks) × (x ≡ f k)
+pub from-map : {X : Type 0} (f : StoredClause → X) (ks : List StoredClause) (x : X) → x ∈ map f ks → (k : StoredClause) × (k ∈ ks) × (x ≡ f k)
 from-map f [] x h = absurd h
 from-map f (k ∷ ks) x (inl e) = (k, inl refl, e)
 from-map f (k ∷ ks) x (inr h) = let (j, i, e) = from-map f ks x h in (j, inr i, e)

@@ -16,6 +16,7 @@ pub mod AssumptionParts
 pub mod TakenOut
 pub mod ProvedUnits
 pub mod Simplifications
+pub mod MendedLists
 pub mod Deletions
 pub mod SettledUnits
 pub mod GlobalModels

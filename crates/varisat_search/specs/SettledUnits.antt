@@ -98,6 +98,7 @@ pub record CanSimplify {A : Type 0} (x : Context A) : Type 0 where
   pub ready : IsReady x
   pub undecided : x.trail.decisions ≡ []
   pub complete : IsComplete (kept (view x)) x.trail.literals
+  pub propagated : IsPropagatedToEnd (view x)
   pub proved : (k : ℕ) → k < length x.trail.literals → (node_at (view x) k).reason ≡ reason.Unit
 
 -- At level 0 all of the trail is propagated and proved, and no kept clause names a variable that has a value.

@@ -1,7 +1,7 @@
 -- What becomes of the kept clauses once literals are true for good, and the lines that say so.
-use Rattle.std.specs.Prelude.{◌≡◌, ◌≢◌, ℕ, ◌<◌, ◌≤◌, Bool, false, not, ◌&&◌, nat_le, nat_lt, if◌then◌else◌, Option, None, List, [], ◌∷◌, ◌++◌, length, map, slice_index_or}
+use Rattle.std.specs.Prelude.{◌≡◌, ◌≢◌, ℕ, ◌<◌, ◌≤◌, Bool, false, not, ◌&&◌, nat_le, nat_lt, if◌then◌else◌, Option, None, List, [], ◌∷◌, ◌++◌, length, map, slice_index_or, ◌⊎◌}
 use Rattle.std.specs.List.{filter, list_any}
-use Rattle.varisat_theory.specs.Membership.{◌∈◌}
+use Rattle.varisat_theory.specs.Membership.{◌∈◌, ◌⊆◌}
 use Rattle.varisat_theory.specs.Literals.{Literal, Clause, variable_of, opposite}
 use Rattle.varisat_theory.specs.Derivations.{Line, Add, Delete}
 use Rattle.varisat_clause.specs.Stored.{StoredClause, stored_at, with_stored}
@@ -95,6 +95,12 @@ pub record IsLeftOpen (values : List (Option Bool)) (c : Clause) : Type 0 where
 pub record LeavesOpen (values : List (Option Bool)) (k j : StoredClause) (before after : List Clause) : Type 0 where
   pub long : live_of (j ∷ []) ≡ left_long values (k ∷ [])
   pub pairs : after ≡ before ++ left_pairs values (k ∷ [])
+
+-- A filter notes, of a clause with a literal that has a value, the literals whose watch lists name it.
+pub record NotesWatches (values : List (Option Bool)) (k : StoredClause) (before after : List Literal) : Type 0 where
+  pub old : before ⊆ after
+  pub noted : are_unassigned values k.literals ≡ false → (j : ℕ) → j < 2 → opposite (literal_in k.literals j) ∈ after
+  pub only : (x : Literal) → x ∈ after → (x ∈ before) ⊎ ((l : Literal) × (l ∈ k.literals) × (x ≡ opposite l))
 
 -- The clause has two different literals, for whose opposites there are lists.
 pub record IsPairIn (B : List (List Literal)) (c : Clause) : Type 0 where

@@ -12,6 +12,7 @@ pub mod error;
 pub mod forgetting;
 pub mod levels;
 pub mod load;
+mod mend;
 pub mod model;
 pub mod reduce;
 pub mod schedule;

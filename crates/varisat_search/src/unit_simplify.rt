@@ -1,5 +1,6 @@
 //! Simplification by the literals of level 0: they become unit clauses, and the kept clauses lose what these say.
-ghost use Rattle.std.specs.Prelude.{◌≡◌, ◌≢◌, ◌<◌, ◌≤◌, ◌↔◌, ◌++◌, IsTrue, None, false, [], length, drop, slice_index_or, OnOk, OnErr, IfOk, IfErr};
+ghost use Rattle.std.specs.Prelude.{◌≡◌, ◌≢◌, ◌<◌, ◌≤◌, ◌↔◌, ◌++◌, IsTrue, None, [], length, drop, slice_index_or, OnOk, OnErr, IfOk, IfErr};
+ghost use Rattle.std.specs.List.Sorted.{IsPermutation};
 ghost use Rattle.varisat_theory.specs.Membership.{◌∈◌};
 ghost use Rattle.varisat_theory.specs.Literals.{Literal, Clause, variable_of};
 ghost use Rattle.varisat_theory.specs.StepLaws.{unit_lines};
@@ -15,9 +16,10 @@ ghost use Rattle.varisat_search.specs.Seen.{search_of};
 ghost use Rattle.varisat_search.specs.SettledUnits.{CanSimplify};
 ghost use Rattle.varisat_search.specs.ProvedUnits.{units_in, implied_units, HaveUnits, ProvesUnits};
 ghost use Rattle.varisat_trace.specs.Traces.{TakesLines, BreaksOff, faults_of, CanTake, HoldsFor};
-ghost use Rattle.varisat_search.specs.Simplifications.{unassigned, with_shortened, with_pairs, IsSimplified, pair_lines, clause_lines, IsPairIn, IsLeftOpen, LeavesOpen};
+ghost use Rattle.varisat_search.specs.Simplifications.{unassigned, with_shortened, with_pairs, IsSimplified, pair_lines, clause_lines, IsPairIn, IsLeftOpen, LeavesOpen, NotesWatches};
 
 use crate::context::Context;
+use crate::mend::mend_lists;
 use crate::trace::{copy_unassigned, trace_pairs, trace_stored, trace_units};
 use std::alloc::{AllocError, Allocator};
 use varisat_analysis::clause_literals::is_satisfied;
@@ -104,6 +106,17 @@ struct UnitFilter<'a, A: Allocator + Copy> {
     assignment: &'a Assignment<A>,
     left: Vec<Lit, A>,
     pairs: Vec<[Lit; 2], A>,
+    /// Whose watch lists name a clause that goes or becomes shorter.
+    watching: Vec<Lit, A>,
+}
+
+impl<'a, A: Allocator + Copy> UnitFilter<'a, A> {
+    /// Makes equal ones neighbours of the literals whose watch lists are to be mended.
+    fn sort_watching(&mut self)
+        ensures { IsPermutation self.old.watching.items self.new.watching.items }
+    {
+        self.watching.sort_unstable();
+    }
 }
 
 impl<'a, A: Allocator + Copy> ClauseFilter<A> for UnitFilter<'a, A> {
@@ -112,16 +125,19 @@ impl<'a, A: Allocator + Copy> ClauseFilter<A> for UnitFilter<'a, A> {
     ghost accepts = { λ filter k. IsLeftOpen filter.assignment.now.current k.literals };
 
     ghost leaves = { λ filter k j after. (after.assignment ≡ filter.assignment)
-        × LeavesOpen filter.assignment.now.current k j filter.pairs.items after.pairs.items };
+        × LeavesOpen filter.assignment.now.current k j filter.pairs.items after.pairs.items
+        × NotesWatches filter.assignment.now.current k filter.watching.items after.watching.items };
 
     fn filter(&mut self, alloc: &mut ClauseAlloc<A>, cref: ClauseRef) -> Result<bool, AllocError> {
         let lits = alloc.lits(cref);
-        if is_satisfied(self.assignment, lits) {
-            return Ok(false);
-        }
-        // Most clauses stay as they are, which costs no copy.
+        // Most clauses stay as they are, which costs one look at their literals and no copy.
         if !has_assigned(self.assignment, lits) {
             return Ok(true);
+        }
+        self.watching.push(!lits[0])?;
+        self.watching.push(!lits[1])?;
+        if is_satisfied(self.assignment, lits) {
+            return Ok(false);
         }
         copy_unassigned(&mut self.left, self.assignment, lits)?;
         if self.left.len() == 2 {
@@ -180,7 +196,7 @@ fn simplify_stored<A: Allocator + Copy, P: ProofTracer>(
     requires holds { HoldsFor (P.holds proof.old) (search_of (view ctx.old)) }
     requires left { without_assigned ctx.old.assignment.current ctx.old.binary_clauses ≡ ctx.old.binary_clauses }
     ensures simplified { OnOk result (IsSimplified (view ctx.old) (view ctx.new)) }
-    ensures off { OnOk result (ctx.new.watchlists.enabled ≡ false) }
+    ensures watched { OnOk result (ctx.new.watchlists.enabled ≡ ctx.old.watchlists.enabled) }
     ensures proves { OnOk result (ProvesTo (clause_lines (view ctx.old)) ctx.old ctx.new) }
     ensures takes { OnOk result (TakesLines P.takes proof.old (clause_lines (view ctx.old)) proof.new) }
     ensures ready { OnOk result (IsReady ctx.new) }
@@ -195,16 +211,18 @@ fn simplify_stored<A: Allocator + Copy, P: ProofTracer>(
         assignment: &ctx.assignment,
         left: Vec::new(alloc),
         pairs: Vec::new(alloc),
+        watching: Vec::new(alloc),
     };
     filter_clauses(&mut ctx.clause_alloc, &mut ctx.clause_db, &mut filter)?;
     add_pairs(&mut ctx.binary_clauses, &filter.pairs)?;
-    ctx.watchlists.disable();
+    filter.sort_watching();
+    mend_lists(&mut ctx.watchlists, &filter.watching, &ctx.clause_alloc);
     Ok(())
 }
 
 /// Takes out the clauses that a literal of level 0 satisfies, and from the others the false literals. A clause of which
-/// two literals are left joins those of two literals. The watch lists are switched off. The proof deletes what goes, and a
-/// clause that becomes shorter once the shorter one was added. Where it is out of memory or the tracer fails clauses may be
+/// two literals are left joins those of two literals. The watch lists stay on where they are on. The proof deletes what
+/// goes, and a clause that becomes shorter once the shorter one was added. Where it is out of memory or the tracer fails clauses may be
 /// missing.
 pub fn unit_simplify<A: Allocator + Copy, P: ProofTracer>(
     ctx: &mut Context<A>,
@@ -213,7 +231,7 @@ pub fn unit_simplify<A: Allocator + Copy, P: ProofTracer>(
     requires can { CanSimplify ctx.old }
     requires holds { HoldsFor (P.holds proof.old) (search_of (view ctx.old)) }
     ensures simplified { OnOk result (IsSimplified (view ctx.old) (view ctx.new)) }
-    ensures off { OnOk result (ctx.new.watchlists.enabled ≡ false) }
+    ensures watched { OnOk result (ctx.new.watchlists.enabled ≡ ctx.old.watchlists.enabled) }
     ensures proves { OnOk result (ProvesTo (pair_lines (view ctx.old) ++ clause_lines (view ctx.old)) ctx.old ctx.new) }
     ensures takes { OnOk result (TakesLines P.takes proof.old (pair_lines (view ctx.old) ++ clause_lines (view ctx.old)) proof.new) }
     ensures ready { OnOk result (IsReady ctx.new) }

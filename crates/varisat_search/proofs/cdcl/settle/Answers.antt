@@ -97,6 +97,7 @@ unit_simplify-requires-clause-can g c =
       ready = p.ready;
       undecided = ap (λ (z : Context g.row.A.Denot). z.trail.decisions) k ∙ none g h;
       complete = subst (λ (z : Context g.row.A.Denot). IsComplete (kept (view z)) z.trail.literals) (sym k) ends.0;
+      propagated = subst (λ (z : Context g.row.A.Denot). z.trail.queue_head ≡ length z.trail.literals) (sym k) ends.1;
       proved = units-all (view m) (view y) (ready g h).well (none g h) (p.proved (none g h));
     }
 

@@ -1,18 +1,20 @@
-use Rattle.std.proofs.Common.{◌≡◌, ◌≢◌, ◌≤◌, ◌++◌, ◌∷◌, Bool, Option, List, [], true, false, length, refl, sym, ap, ◌∙◌, subst, arith}
-use Rattle.varisat_theory.specs.Literals.{Clause}
+use Rattle.std.proofs.Common.{◌≡◌, ◌≢◌, ◌≤◌, ◌++◌, ◌∷◌, Bool, Option, List, [], true, false, length, get_or, refl, sym, ap, ◌∙◌, subst, arith}
+use Rattle.varisat_theory.specs.Literals.{Literal, Clause, opposite}
 use Rattle.varisat_clause.specs.Stored.{StoredClause, stored_at}
 use Rattle.varisat_clause.specs.Stores.{stored_clauses}
 use Rattle.varisat_clause.specs.Filters.{left_if}
 use Rattle.varisat_clause.proofs.FilteredClauses.{alters-same}
 use Rattle.varisat_prop.specs.Simplified.{is_unassigned}
-use Rattle.varisat_search.specs.Simplifications.{has_true, unassigned, shortened_to, LeavesOpen}
+use Rattle.varisat_prop.proofs.LiteralValues.{none-made}
+use Rattle.varisat_prop.proofs.ReadElements.{element}
+use Rattle.varisat_search.specs.Simplifications.{has_true, unassigned, shortened_to, LeavesOpen, NotesWatches}
 use Rattle.varisat_analysis.proofs.CopiedLiterals.{only-two}
 use Rattle.varisat_search.proofs.ShrunkClauses.{header-length, shrunk-alters, shrunk-stored}
-use Rattle.varisat_search.proofs.FilteredUnits.{satisfied-read, unsatisfied-read, filter-short, leaves-none, leaves-pair, leaves-long, not-shortened}
+use Rattle.varisat_search.proofs.FilteredUnits.{satisfied-read, unsatisfied-read, filter-short, leaves-none, leaves-pair, leaves-long, not-shortened, notes-none, notes-two}
 use Rattle.varisat_search.proofs.UnassignedLiterals.{left-all, unassigned-read}
 use Rattle.varisat_clause.proofs.DatabaseTracks.{long-at}
 use Rattle.varisat_search.proofs.unit_simplify.UnitFilterClauseFilter.filter.Given.{Over}
-use Rattle.varisat_search.proofs.unit_simplify.UnitFilterClauseFilter.filter.Goals.{After-len}
+use Rattle.varisat_search.proofs.unit_simplify.UnitFilterClauseFilter.filter.Goals.{After-len, In_ok-push-2}
 use Rattle.varisat_search.proofs.unit_simplify.UnitFilterClauseFilter.filter.Goals as goal
 
 abbrev values : (g : Over) (c : After-len g) → List (Option Bool)
@@ -20,6 +22,20 @@ values g c = c.args.self.now.assignment.now.current
 
 abbrev clause : (g : Over) (c : After-len g) → StoredClause
 clause g c = stored_at (stored_clauses c.args.alloc.now) c.args.cref
+
+-- the literals whose watch lists name the clause are noted
+notes : (g : Over) (c : In_ok-push-2 g) → NotesWatches c.args.self.now.assignment.now.current (stored_at (stored_clauses c.args.alloc.now) c.args.cref)
+    c.args.self.now.watching.items c.push-2.new.self.items
+notes g c =
+    let k = stored_at (stored_clauses c.args.alloc.now) c.args.cref in
+    let lits = c.lits-lits.result.now in
+    let n = ap (λ (d : Clause). length d) c.lits-lits.ensures in
+    let m = (long-at c.args.alloc.now c.args.cref c.requires.sound c.requires.place).0 in
+    let first = element lits 0 c.index-lits-0.result (omega (arith, n, m)) c.index-lits-0.is ∙ ap (λ (d : Clause). get_or d 0 0) c.lits-lits.ensures in
+    let second = element lits 1 c.index-lits-1.result (omega (arith, n, m)) c.index-lits-1.is ∙ ap (λ (d : Clause). get_or d 1 0) c.lits-lits.ensures in
+    notes-two c.args.self.now.assignment.now.current k c.args.self.now.watching.items c.push-2.new.self.items c.not.result c.not-2.result
+    (omega (arith, m)) (c.not.ensures ∙ ap opposite first) (c.not-2.ensures ∙ ap opposite second)
+    (c.in_ok-push-2.ensures.items ∙ ap (λ (ls : List Literal). ls ++ c.not-2.result ∷ []) c.in_ok-push.ensures.items)
 
 -- what is left of the clause
 left-is : (g : Over) (c : After-len g) → c.copy_unassigned.new.left.items ≡ unassigned (values g c) (clause g c).literals
@@ -54,6 +70,7 @@ returns-then-is_satisfied-clause-left g c =
       refl,
       leaves-none values k c.args.self.now.pairs.items k
           (satisfied-read values c.lits-lits.result.now k.literals c.lits-lits.ensures (c.if-is_satisfied.ensures.0 refl)),
+      notes g (goal.at.returns-then-is_satisfied-clause-left g c).In_ok-push-2,
     )
 
 pub returns-then-len-eq2-clause-altered : goal.returns-then-len-eq2-clause-altered
@@ -66,9 +83,10 @@ returns-then-len-eq2-clause-left g c =
     let n : length left.items ≡ 2 = omega (arith, left.ok.0, c.if-len-eq2.true) in
     let two = only-two left.items c.index.result.now c.index-then-len-eq2.result.now n c.index.ensures c.index-then-len-eq2.ensures in (
       refl,
-      leaves-pair (values g here) (clause g here) c.args.self.now.pairs.items (clause g here) c.push.new.self.items (none-true g here)
+      leaves-pair (values g here) (clause g here) c.args.self.now.pairs.items (clause g here) c.push-then-len-eq2.new.self.items (none-true g here)
           (sym (ap (λ (d : Clause). length d) (left-is g here)) ∙ n)
-          (c.in_ok-push.ensures.items ∙ ap (λ (d : Clause). c.args.self.now.pairs.items ++ d ∷ []) (sym two ∙ left-is g here)),
+          (c.in_ok-push-3.ensures.items ∙ ap (λ (d : Clause). c.args.self.now.pairs.items ++ d ∷ []) (sym two ∙ left-is g here)),
+      notes g (goal.at.returns-then-len-eq2-clause-left g c).In_ok-push-2,
     )
 
 pub shrink-requires-clause-least : goal.shrink-requires-clause-least
@@ -96,6 +114,7 @@ returns-clause-left g c =
       refl,
       stays g here (stored_at (stored_clauses c.shrink.new.alloc) c.args.cref) c.if-len-eq2.false
           (shrunk ∙ ap (λ (d : Clause). shortened_to d (clause g here)) (c.deref.ensures.value ∙ left-is g here)),
+      notes g (goal.at.returns-clause-left g c).In_ok-push-2,
     )
 
 pub returns-then-not-has_assigned-clause-altered : goal.returns-then-not-has_assigned-clause-altered
@@ -105,11 +124,20 @@ pub returns-then-not-has_assigned-clause-left : goal.returns-then-not-has_assign
 returns-then-not-has_assigned-clause-left g c =
     let values = c.args.self.now.assignment.now.current in
     let k = stored_at (stored_clauses c.args.alloc.now) c.args.cref in
-    let free = unsatisfied-read values c.lits-lits.result.now k.literals c.lits-lits.ensures (λ h. let b = c.if-is_satisfied.ensures.1 h in cc) in
-    let full : unassigned values k.literals ≡ k.literals = left-all values k.literals (unassigned-read values c.lits-lits.result.now k.literals
-    c.lits-lits.ensures (λ h. let b = c.has_assigned.ensures.1 h in let n = c.if-not-has_assigned.true in cc)) in
+    let free = unsatisfied-read values c.lits-lits.result.now k.literals c.lits-lits.ensures
+    (λ (l, i, h). let b = c.has_assigned.ensures.1 (l, i, λ e. none-made values l l e refl h) in let n = c.if-not-has_assigned.true in cc) in
+    let none = unassigned-read values c.lits-lits.result.now k.literals c.lits-lits.ensures
+    (λ h. let b = c.has_assigned.ensures.1 h in let n = c.if-not-has_assigned.true in cc) in
+    let full : unassigned values k.literals ≡ k.literals = left-all values k.literals none in
     let long = long-at c.args.alloc.now c.args.cref c.requires.sound c.requires.place in (
       refl,
       leaves-long values k c.args.self.now.pairs.items k free (subst (λ (d : Clause). 3 ≤ length d) (sym full) long.0) c.requires.live
           (not-shortened values k c.args.self.now.pairs.items (header-length c.args.alloc.now c.args.cref c.requires.sound c.requires.place) full),
+      notes-none values k c.args.self.now.watching.items none,
     )
+
+pub bounds-lits-1 : goal.bounds-lits-1
+bounds-lits-1 g c =
+    let n = ap (λ (d : Clause). length d) c.lits-lits.ensures in
+    let m = (long-at c.args.alloc.now c.args.cref c.requires.sound c.requires.place).0 in
+    omega (arith, n, m)

@@ -4,7 +4,7 @@ use Rattle.varisat_theory.specs.Literals.{Literal}
 use Rattle.varisat_theory.specs.Journals.{Entry, Assumes}
 use Rattle.varisat_proof.specs.Proving.{OpenState, ProofParts}
 use Rattle.varisat.specs.Accepted.{identity_literals}
-use Rattle.varisat.specs.Calls.{with_naming, start, with_assumptions, TakesAssumptions}
+use Rattle.varisat.specs.Calls.{with_naming, start, with_assumptions, TakesAssumed, calling}
 use Rattle.varisat.specs.Journals.{retold, TellsProof}
 use Rattle.varisat.specs.Names.{name_all}
 use Rattle.varisat.specs.OpenProofs.{BarsAssumptions, ProofFits}
@@ -19,7 +19,7 @@ use Rattle.varisat.proofs.WrittenVariables.{written-alike}
 -- The spaces stand for a state in which the list is assumed, and the open proof fits it, and so do the words of the clause store.
 pub record ListJoins (s : State) (list : List Literal) (after : Spaces) (opened : Option OpenState) (words : ℕ) : Type 0 where
   pub state : State
-  pub takes : TakesAssumptions s list state
+  pub takes : TakesAssumed calling s list state
   pub ledger : state.ledger ≡ record s.ledger { started = true; since = 0 }
   pub size : state.words ≡ words
   pub fits : SpacesFit after state

@@ -12,8 +12,8 @@ use Rattle.varisat_proof.specs.declared.proof.format.ProofFormat.TheVariants.{Dr
 use Rattle.varisat_proof.specs.Proving.{OpenState, IsClosed}
 use Rattle.varisat.specs.OpenProofs.{OpenProof, opened_state, GoesOnWriting, searched_under, first_proof}
 use Rattle.varisat.specs.States.{State, Ledger, Verdict, Unknown, Sat, Unsat, UnsatUnderAssumptions, IsRight}
-use Rattle.varisat.specs.ProofCalls.{HasProof}
-use Rattle.varisat.specs.Calls.{IsRefuted}
+use Rattle.varisat.specs.ProofCalls.{IsProofIfOpen}
+use Rattle.varisat.specs.Calls.{IsRefuted, calling}
 use Rattle.varisat.specs.ClauseCalls.{AddsAll, AddsDimacs}
 use Rattle.varisat.specs.Calls as state
 use Rattle.varisat.specs.Calls.{IsValid, TellsVerdict}
@@ -150,7 +150,7 @@ closed-none taken None h = refl
 closed-none taken (Some w) h = absurd h
 
 proven-bytes : {W : Type 0} (taken : W → Taken) (format : ProofFormat) (target back : W) (u : State) (bytes : List ℕ) (P : List Clause) (c : Conclusion) →
-    u.proof ≡ Some (record (first_proof format (taken target)) { bytes = bytes; searched = true }) → u.ever_hidden ≡ false → HasProof u →
+    u.proof ≡ Some (record (first_proof format (taken target)) { bytes = bytes; searched = true }) → u.ever_hidden ≡ false → IsProofIfOpen calling u →
     u.assumptions ≡ [] → Carries u.clauses P → (given rest : List Clause) → P ≡ given ++ rest → u.clauses ≡ given →
     (rest ≢ [] → c ≡ conclusion.Decided None) → (c ≡ conclusion.Decided None → IsRefuted format u.verdict) →
     taken back ≡ record { bytes = (taken target).bytes ++ bytes; faults = (taken target).faults } → IsProven format P c (taken target) (taken back)
@@ -180,7 +180,7 @@ proven-bytes taken format target back u bytes P c e h has unassumed carries give
     }
 
 pub proven : {W : Type 0} (taken : W → Taken) (format : ProofFormat) (check : Bool) (limit : Option ℕ) (old new : Stand) (target back : Option W) (t u : State)
-    (c : Conclusion) (opened : Option OpenState) → AddsDimacs (prepared taken format check limit target) old done new t → Concludes t c u → HasProof u →
+    (c : Conclusion) (opened : Option OpenState) → AddsDimacs (prepared taken format check limit target) old done new t → Concludes t c u → IsProofIfOpen calling u →
     opened ≡ opened_state u.proof → IsClosed {E = SolverError} taken opened (Ok back) →
     DecidesProven taken format (allowed_steps limit) old new target back c
 proven {W = W} taken format check limit old new target back t u c opened adds finds has is closed =

@@ -34,8 +34,8 @@ use Rattle.varisat.specs.OpenProofs.{OpenProof, entries_over, IsWrittenAs, IsWri
 use Rattle.varisat.proofs.OpenProofs.{lines-renamed, plain-bytes}
 use Rattle.varisat.proofs.WrittenVariables.{there-present, there-apart, written-plain}
 use Rattle.varisat.specs.ProofBytes.{IsMarkedDerivation}
-use Rattle.varisat.specs.ProofCalls.{HasProof}
-use Rattle.varisat.specs.Calls.{IsRefuted}
+use Rattle.varisat.specs.ProofCalls.{IsProofIfOpen}
+use Rattle.varisat.specs.Calls.{IsRefuted, calling}
 use Rattle.varisat_tracer.specs.Carried.{carry}
 use Rattle.varisat.specs.Spaces.{Spaces, Carrying, Links, Translation, IsCounted, AllSpeakOf, HeldFits, VerdictFits, without_core}
 use Rattle.varisat.specs.Summaries.{Summary, spaces, StandsFor}
@@ -210,7 +210,7 @@ marked-of g s st v shown refuted u =
     }
 
 -- the bytes of a proof
-pub proof-of : (g : Summary) (s : State) → StandsFor g s → g.ledger.valid ≡ true → HasProof s
+pub proof-of : (g : Summary) (s : State) → StandsFor g s → g.ledger.valid ≡ true → IsProofIfOpen calling s
 proof-of g s st v p e =
     let j = journal-of g s st v in
     let w : IsWrittenAs s.variables s.told p = subst (IsWrittenWhereOpen s.variables s.told) e j.written in

@@ -403,10 +403,6 @@ IsExtensible s = MayAccept calling s
 abbrev pub AddsClause : State → Clause → Result (Unit {0}) SolverError → State → Type 0
 AddsClause s d r t = TakesOne calling s d r t
 
--- the list is assumed
-abbrev pub TakesAssumptions : State → List Literal → State → Type 0
-TakesAssumptions s list t = TakesAssumed calling s list t
-
 -- the call `assume`
 abbrev pub Assumes : State → List Literal → Result (Unit {0}) SolverError → State → Type 0
 Assumes s list r t = TakesList calling s list r t

@@ -70,10 +70,6 @@ module _ {V : Type 0} (by : Verdicts V) where
       IsClosed taken (opened_state s.proof) (Err (ProofIoError cause, target)) × IsProofIfOpen s × Invalidates 0 (with_proof None s) t
   Closes taken s (Err _) t = ⊥
 
--- the proof that is open is one
-abbrev pub HasProof : State → Type 0
-HasProof s = IsProofIfOpen calling s
-
 -- the call `close_proof`
 abbrev pub ClosesProof : {W : Type 0} → (W → Taken) → State → Result (Option W) (SolverError × W) → State → Type 0
 ClosesProof taken s r t = Closes calling taken s r t

@@ -1,5 +1,5 @@
 -- How many names come into use with those of a clause, and which.
-use Rattle.std.proofs.Common.{◌≡◌, ◌≢◌, ℕ, zero, suc, ◌+◌, ◌-◌, ◌<◌, ◌≤◌, max, Some, None, List, [], ◌∷◌, ◌++◌, inl, inr, ⊎_elim, length, sym, ap, ◌∙◌, subst, refl, arith}
+use Rattle.std.proofs.Common.{◌≡◌, ◌≢◌, ℕ, zero, suc, ◌+◌, ◌-◌, ◌<◌, ◌≤◌, max, Bool, true, false, nat_lt, Option, Some, None, MatchBool, MatchOption, append_assoc, List, [], ◌∷◌, ◌++◌, inl, inr, ⊎_elim, length, sym, ap, ◌∙◌, subst, refl, arith, rules}
 use Rattle.std.proofs.lemmas.Bool.{cases_lt}
 use Rattle.std.proofs.lemmas.List.{length-append}
 use Rattle.varisat_theory.specs.Membership.{◌∈◌}
@@ -8,7 +8,7 @@ use Rattle.varisat_theory.proofs.Members.{equal_or_not, ∈-append_cases, ∈-ap
 use Rattle.varisat_literals.specs.Numbers.{variable_limit}
 use Rattle.varisat_names.specs.Maps.{updated}
 use Rattle.varisat_names.proofs.Maps.{updated-at, updated-other}
-use Rattle.varisat.specs.Names.{Naming, bring, bring_next, name_one, name_all}
+use Rattle.varisat.specs.Names.{Naming, bring, bring_next, name_one, name_all, IsWitness, NameNoWitness, IsFirstWitness, IsNextWitness}
 use Rattle.varisat.specs.Calls.{IsPastLimit}
 use Rattle.varisat.proofs.NamesAlike.{IsNamedTo, Same, Alone, Onward, named-to}
 
@@ -68,6 +68,35 @@ all-in-range (l ∷ d) m n h =
     let a = one-watermark (variable_of l) m in
     all-in-range d (name_one (variable_of l) m) (λ (k, i, b). n (k, inr i, b))
     (⊎_elim (λ b. omega (arith, a, b, h)) (λ b. absurd (n (l, inl refl, b))) (cases_lt (variable_of l) variable_limit))
+
+-- a name is past the limit just where the watermark is
+pub past-limit : (d : List Literal) (m : Naming) → m.watermark ≤ variable_limit → variable_limit < (name_all d m).watermark → IsPastLimit d
+past-limit [] m h k = absurd (omega (arith, h, k))
+past-limit (l ∷ d) m h k =
+    let a = one-watermark (variable_of l) m in
+    ⊎_elim
+    (λ b. let (j, i, c) = past-limit d (name_one (variable_of l) m) (omega (arith, a, b, h)) k in (j, inr i, c))
+    (λ b. (l, inl refl, b))
+    (cases_lt (variable_of l) variable_limit)
+
+pub within-limit : (d : List Literal) (m : Naming) → (name_all d m).watermark ≤ variable_limit → IsPastLimit d → ⊥
+within-limit [] m h (j, i, c) = absurd i
+within-limit (l ∷ d) m h (j, i, c) =
+    let a = one-watermark (variable_of l) m in
+    let b = all-watermark d (name_one (variable_of l) m) in
+    ⊎_elim (λ e. let v = ap variable_of e in absurd (omega (arith, a, b, h, c, v)))
+    (λ k. within-limit d (name_one (variable_of l) m) h (j, k, c)) i
+
+pub limit-decides : (t : Bool) (d : List Literal) (m : Naming) (n w : ℕ) → nat_lt n w ≡ t → n ≡ variable_limit → w ≡ (name_all d m).watermark →
+    m.watermark ≤ variable_limit → MatchBool t (IsPastLimit d) (IsPastLimit d → ⊥)
+limit-decides true d m n w e f k h = let b = below n w e in past-limit d m h (omega (arith, b, f, k))
+  where
+    below : (n w : ℕ) → nat_lt n w ≡ true → n < w
+    below n w e = search (rules, e)
+limit-decides false d m n w e f k h = let b = above n w e in within-limit d m (omega (arith, b, f, k))
+  where
+    above : (n w : ℕ) → nat_lt n w ≡ false → w ≤ n
+    above n w e = search (rules, e)
 
 -- those from the watermark on come, and each literal may bring one beside them
 named-made : (u : ℕ) (m new : Naming) → IsNamedTo u m new → (m.made + (new.watermark - m.watermark) ≤ new.made)
@@ -198,3 +227,15 @@ module _ (start m : Naming) (d : List Literal) (l : Literal) (count : ℕ) (c : 
       ((k : Literal) → k ∈ d → variable_of k ≢ variable_of l) → AreCounted start (d ++ l ∷ []) (name_one (variable_of l) m) (count + 1)
   unfolding u
   counted-more h e n = one-more (name_one u m) h (c.still u h e n) (named-to u m)
+
+-- 5. The first witness among them.
+
+pub witness-more : (m : Naming) (d : List Literal) (l : Literal) (before after : Option ℕ) →
+    MatchOption before (NameNoWitness m d) (IsFirstWitness m d) → IsNextWitness m before (variable_of l) after →
+    MatchOption after (NameNoWitness m (d ++ l ∷ [])) (IsFirstWitness m (d ++ l ∷ []))
+witness-more m d l None None n t = λ k i a.
+    ⊎_elim (λ j. n k j a) (λ j. ⊎_elim (λ e. t (subst (λ x. IsWitness m (variable_of x)) e a)) (λ z. absurd z) j) (∈-append_cases k d (l ∷ []) i)
+witness-more m d l None (Some w) n (e, a) = (d, l, [], refl, n, sym e, subst (IsWitness m) (sym e) a)
+witness-more m d l (Some w) after (front, k, rest, e, n, q, a) t =
+    subst (λ o. MatchOption o (NameNoWitness m (d ++ l ∷ [])) (IsFirstWitness m (d ++ l ∷ []))) (sym t)
+    (front, k, rest ++ l ∷ [], ap (λ ls. ls ++ l ∷ []) e ∙ append_assoc front (k ∷ rest) (l ∷ []), n, q, a)

@@ -78,6 +78,12 @@ abbrev pub IsFirstWitness : Naming → List Literal → ℕ → Type 0
 IsFirstWitness m ls u =
     (front : List Literal) × (l : Literal) × (rest : List Literal) × (ls ≡ front ++ l ∷ rest) × NameNoWitness m front × (variable_of l ≡ u) × IsWitness m u
 
+-- the first name in mode Witness of some names, once the name comes behind them
+abbrev pub IsNextWitness : Naming → Option ℕ → ℕ → Option ℕ → Type 0
+IsNextWitness m (Some w) u after = after ≡ Some w
+IsNextWitness m None u None = IsWitness m u → ⊥
+IsNextWitness m None u (Some w) = (w ≡ u) × IsWitness m u
+
 -- Exactly the names below n are in use, each for the identity of that number, all in mode Sample: names come into use in order as long as none is freed.
 pub record AreInOrder (n : ℕ) (m : Naming) : Type 0 where
   pub made : m.made ≡ n

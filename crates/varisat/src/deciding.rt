@@ -11,6 +11,7 @@ use crate::rounds::search;
 use crate::solver::{Solver, SolverError};
 use std::alloc::Allocator;
 use std::io::Write;
+use std::mem::forget;
 use varisat_formula::io::{ByteSource, ProofTarget};
 use varisat_literals::Lit;
 use varisat_names::config::SolverConfigUpdate;
@@ -48,7 +49,8 @@ pub enum Report<A: Allocator + Copy> {
 /// accepted and closed at the end; then the target is there again. After an error it is gone. How far the search is is told
 /// on `err`, where that is wanted.
 // The new solver has a function of its own: it is dropped in one place and in one step, not at each return of `decide_in`
-// and part by part.
+// and part by part. Where all went well nothing but memory is left of it, and the program ends: a list for each literal is
+// not given back one by one.
 pub(crate) fn decide_text<W: ProofTarget, A: Allocator + Copy, S: ByteSource, E: Write>(
     alloc: A,
     cnf: &mut S,
@@ -63,8 +65,16 @@ pub(crate) fn decide_text<W: ProofTarget, A: Allocator + Copy, S: ByteSource, E:
 {
     let mut solver: Solver<W, A> = new_solver(alloc, options.check);
     let report = decide_in(&mut solver, cnf, target, options, err);
-    drop(solver);
-    report
+    match report {
+        Ok(report) => {
+            forget(solver);
+            Ok(report)
+        }
+        Err(error) => {
+            drop(solver);
+            Err(error)
+        }
+    }
 }
 
 /// A new solver, inside which a checker runs where that is wanted. Before anything is accepted that is not refused.

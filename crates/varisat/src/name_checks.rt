@@ -2,7 +2,7 @@
 ghost use Rattle.std.specs.Prelude.{◌≡◌, ◌≢◌, ◌+◌, ◌-◌, MatchBool, MatchOption};
 ghost use Rattle.varisat_theory.specs.Membership.{◌∈◌};
 ghost use Rattle.varisat_theory.specs.Literals.{Literal, variable_of};
-ghost use Rattle.varisat.specs.Names.{name_all, IsWitness, NameNoWitness, IsFirstWitness};
+ghost use Rattle.varisat.specs.Names.{name_all, IsWitness, NameNoWitness, IsFirstWitness, IsNextWitness};
 ghost use Rattle.varisat.specs.Calls.{IsPastLimit, IsCrowded};
 ghost use Rattle.varisat.specs.Accepting.{AreBounded, naming_of, ComesAlone, CountsAlone, CanBeNamed, ChecksNames};
 
@@ -80,14 +80,33 @@ fn count_alone<A: Allocator + Copy>(variables: &LinkedVariables<A>, clause: &[Li
     count
 }
 
-/// Whether there is no room for the variables of the names of the clause that are free. Names above the watermark bring
-/// those below them along. Only where each literal might need room of its own, and there is none, they are counted.
-pub fn is_crowded<A: Allocator + Copy>(variables: &LinkedVariables<A>, clause: &[Lit]) -> bool
+/// Whether a name of the clause is past the limit, by the watermark once they are named.
+fn passes_limit<A: Allocator + Copy>(
+    _variables: &LinkedVariables<A>,
+    _clause: &[Lit],
+    watermark: usize,
+) -> bool
+    requires bounded { AreBounded _variables.now }
+    requires watermark { watermark ≡ (name_all _clause.now (naming_of _variables.now)).watermark }
+    ensures { MatchBool result (IsPastLimit _clause.now) (IsPastLimit _clause.now → ⊥) }
+{
+    watermark > Var::max_count()
+}
+
+/// Whether there is no room for the variables of the names of the clause that are free, by the watermark once they are
+/// named. Names above the watermark before bring those below them along. Only where each literal might need room of its
+/// own, and there is none, they are counted.
+fn lacks_room<A: Allocator + Copy>(
+    variables: &LinkedVariables<A>,
+    clause: &[Lit],
+    watermark: usize,
+) -> bool
     requires bounded { AreBounded variables.now }
     requires in_range { IsPastLimit clause.now → ⊥ }
+    requires watermark { watermark ≡ (name_all clause.now (naming_of variables.now)).watermark }
     ensures { MatchBool result (IsCrowded (name_all clause.now (naming_of variables.now))) (IsCrowded (name_all clause.now (naming_of variables.now)) → ⊥) }
 {
-    let rising = watermark_with(variables, clause) - variables.user_watermark();
+    let rising = watermark - variables.user_watermark();
     let made = variables.global_watermark() + rising;
     if made > Var::max_count() {
         return true;
@@ -97,6 +116,15 @@ pub fn is_crowded<A: Allocator + Copy>(variables: &LinkedVariables<A>, clause: &
         return false;
     }
     count_alone(variables, clause) > room
+}
+
+/// Whether there is no room for the variables of the names of the clause that are free.
+pub fn is_crowded<A: Allocator + Copy>(variables: &LinkedVariables<A>, clause: &[Lit]) -> bool
+    requires bounded { AreBounded variables.now }
+    requires in_range { IsPastLimit clause.now → ⊥ }
+    ensures { MatchBool result (IsCrowded (name_all clause.now (naming_of variables.now))) (IsCrowded (name_all clause.now (naming_of variables.now)) → ⊥) }
+{
+    lacks_room(variables, clause, watermark_with(variables, clause))
 }
 
 /// Whether the name is a witness.
@@ -114,16 +142,41 @@ fn is_witness<A: Allocator + Copy>(variables: &LinkedVariables<A>, user: Var) ->
     }
 }
 
-/// The first name of the clause that is a witness.
-fn first_witness<A: Allocator + Copy>(variables: &LinkedVariables<A>, clause: &[Lit]) -> Option<Var>
-    ensures { MatchOption result (NameNoWitness (naming_of variables.now) clause.now) (IsFirstWitness (naming_of variables.now) clause.now) }
+/// The first witness of some names, with one name more behind them.
+fn next_witness<A: Allocator + Copy>(
+    variables: &LinkedVariables<A>,
+    before: Option<Var>,
+    user: Var,
+) -> Option<Var>
+    ensures { IsNextWitness (naming_of variables.now) before user result }
 {
-    for lit in clause {
-        if is_witness(variables, lit.var()) {
-            return Some(lit.var());
-        }
+    if before.is_some() {
+        return before;
     }
-    None
+    if is_witness(variables, user) {
+        Some(user)
+    } else {
+        None
+    }
+}
+
+/// One above the highest name that was ever in use, once those of the clause are named, and the first name of the clause
+/// that is a witness.
+// Both by one pass, since a clause is mostly short, and to leave a loop takes as long as some literals.
+fn scan_names<A: Allocator + Copy>(
+    variables: &LinkedVariables<A>,
+    clause: &[Lit],
+) -> (usize, Option<Var>)
+    ensures watermark { result.0 ≡ (name_all clause.now (naming_of variables.now)).watermark }
+    ensures witness { MatchOption result.1 (NameNoWitness (naming_of variables.now) clause.now) (IsFirstWitness (naming_of variables.now) clause.now) }
+{
+    let mut watermark = variables.user_watermark();
+    let mut first = None;
+    for lit in clause {
+        watermark = watermark.max(lit.index() + 1);
+        first = next_witness(variables, first, lit.var());
+    }
+    (watermark, first)
 }
 
 /// Refuses the names of a clause or of a list of assumptions where one is past the limit, where there is no room for
@@ -135,10 +188,11 @@ pub fn check_names<A: Allocator + Copy>(
     requires { AreBounded variables.now }
     ensures { ChecksNames variables.now list.now result }
 {
-    if is_past_limit(list) || is_crowded(variables, list) {
+    let (watermark, witness) = scan_names(variables, list);
+    if passes_limit(variables, list, watermark) || lacks_room(variables, list, watermark) {
         return Err(SolverError::VariableLimit);
     }
-    match first_witness(variables, list) {
+    match witness {
         Some(var) => Err(SolverError::WitnessVar { var }),
         None => Ok(()),
     }

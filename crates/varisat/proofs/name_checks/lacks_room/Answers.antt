@@ -1,22 +1,22 @@
 use Rattle.std.proofs.Common.{arith}
 use Rattle.varisat.specs.Accepting.{naming_of}
 use Rattle.varisat.proofs.NamesComing.{all-watermark, all-in-range, all-made}
-use Rattle.varisat.proofs.name_checks.is_crowded.Goals as goal
+use Rattle.varisat.proofs.name_checks.lacks_room.Goals as goal
 
 pub overflow_sub-rising : goal.overflow_sub-rising
 overflow_sub-rising g c =
     let a = all-watermark c.args.clause.now (naming_of c.args.variables.now) in
-    omega (arith, a, c.watermark_with.ensures, c.user_watermark.ensures)
+    omega (arith, a, c.requires.watermark, c.user_watermark.ensures)
 
 pub overflow_add-made : goal.overflow_add-made
 overflow_add-made g c =
     let a = all-in-range c.args.clause.now (naming_of c.args.variables.now) c.requires.in_range c.requires.bounded.users in
-    omega (arith, a, c.watermark_with.ensures, c.global_watermark.ensures, c.requires.bounded.globals)
+    omega (arith, a, c.requires.watermark, c.global_watermark.ensures, c.requires.bounded.globals)
 
 pub returns-then-made-max_count : goal.returns-then-made-max_count
 returns-then-made-max_count g c =
     let (a, f) = all-made c.args.clause.now (naming_of c.args.variables.now) in
-    omega (arith, a, c.watermark_with.ensures, c.user_watermark.ensures, c.global_watermark.ensures, c.max_count.ensures, c.if-made-max_count.true)
+    omega (arith, a, c.requires.watermark, c.user_watermark.ensures, c.global_watermark.ensures, c.max_count.ensures, c.if-made-max_count.true)
 
 pub returns-then-clause-room : goal.returns-then-clause-room
 returns-then-clause-room g c =
@@ -24,7 +24,7 @@ returns-then-clause-room g c =
     λ crowded. omega (
       arith,
       a,
-      c.watermark_with.ensures,
+      c.requires.watermark,
       c.user_watermark.ensures,
       c.global_watermark.ensures,
       c.max_count.ensures,

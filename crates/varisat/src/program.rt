@@ -47,7 +47,8 @@ pub fn session_lines<A: Allocator + Copy, R: Read + Drop, W: Write, E: Write>(
 /// printed; then the target is there again. A fault of the text, its source, the target or the writer, and out of
 /// memory, is told on `err`, and the status is 2. Of what was printed something is said only for a writer whose contents
 /// are known. With `check` a checker runs inside the solver, and with `progress` it is told on `err`, after so many steps each
-/// and at the end, how far the search is. The source and the target have to have counted fewer than 2^64-1 faults.
+/// and at the end, how far the search is. Where the text was decided the solver's memory is kept: this is for a program
+/// that ends then. The source and the target have to have counted fewer than 2^64-1 faults.
 pub fn solve_lines<A: Allocator + Copy, S: ByteSource, T: ProofTarget, W: Write, E: Write>(
     alloc: A,
     cnf: &mut S,

@@ -1,4 +1,4 @@
--- What the clause that `learn` adds does to the view.
+-- What the clause that `learn_from_conflict` adds does to the view.
 use Rattle.std.proofs.Common.{◌≡◌, ◌≢◌, ℕ, zero, suc, ◌<◌, ◌≤◌, Bool, true, false, nat_eq, ◌||◌, Some, None, List, [], ◌∷◌, ◌++◌, length, get_or, take, map, inl, inr, ⊎_elim, refl, sym, ap, ◌∙◌, subst, arith, length-set}
 use Rattle.std.proofs.lemmas.List.{length-map, map-append, take-append-le}
 use Rattle.std.proofs.lemmas.Bool.{cases_lt, ne_eqb}

@@ -1,4 +1,4 @@
--- The contexts of `learn`.
+-- The contexts of `learn_from_conflict`.
 use Rattle.std.proofs.Common.{◌≡◌, ℕ, ◌*◌, ◌-◌, ◌^◌, ◌<◌, ◌≤◌, Bool, false, replicate, Some, List, [], ◌∷◌, ◌++◌, length, length-set, ◌⊎◌, inl, inr, ⊎_elim, refl, sym, ap, ◌∙◌, subst, arith}
 use Rattle.std.proofs.lemmas.Bool.{cases_lt}
 use Rattle.varisat_clause.specs.Databases.{Tracks}
@@ -24,12 +24,12 @@ use Rattle.varisat_search.specs.declared.state.SolverState.{SolverState}
 use Rattle.varisat_analysis.specs.Learned.{Analysis, IsLearned, IsAsserting, AreInvolved}
 use Rattle.varisat_search.specs.AssumptionParts.{with_levels_to, HasAssumptions}
 use Rattle.varisat_search.specs.Contexts.{view, IsReady}
-use Rattle.varisat_search.specs.Frames.{ChangesAnalysis, ChangesAnalyzed, ChangesClauses, ChangesLevels, ChangesTrail}
+use Rattle.varisat_search.specs.Frames.{ChangesAnalysis, ChangesAnalyzed, ChangesBumped, ChangesClauses, ChangesLevels, ChangesTrail, ClearsFlags}
 use Rattle.varisat_search.proofs.AssumptionLevels.{has-same-decisions}
 use Rattle.varisat_search.proofs.AssumptionContexts.{IsSameList, still-assumable, same-working, cut-assumed, cut-same-list}
 use Rattle.varisat_search.proofs.Backtrack.{cut-well}
 use Rattle.varisat_search.specs.Conflicts.{Keeping, keeping_of, IsKeptAsReason, IsWatchedAsReason}
-use Rattle.varisat_search.specs.Decisions.{HasActivities, AreDecidable, SameDecidable, MakesAvailable}
+use Rattle.varisat_search.specs.Decisions.{HasActivities, AreDecidable, SameDecidable}
 use Rattle.varisat_clause.specs.Stores.{Store}
 use Rattle.varisat_clause.specs.Collected.{live_clauses}
 use Rattle.varisat_clause.specs.ClauseActivities.{ActivityScale}
@@ -168,32 +168,33 @@ pub record Analysing {A : Type 0} (x0 x : Context A) (i : Conflict) (level : ℕ
   pub ready : IsReady x0
   pub unknown : x0.solver_state.sat_state ≡ verdict.Unknown
   pub kept : ChangesAnalysis x0 x
-  pub room : x.analyze_conflict.var_count ≡ x0.analyze_conflict.var_count
   pub learned : IsLearned (view x0) i x.analyze_conflict.clause level
 
 pub analyzed-bumped : {A : Type 0} {x0 x x1 : Context A} {i : Conflict} {level : ℕ} → Analysing x0 x i level →
-    x1 ≡ record x { vsids = x1.vsids } → x1.vsids.available ≡ x.vsids.available → x1.vsids.decay ≡ x.vsids.decay →
+    x1 ≡ record x { vsids = record x.vsids { activity = x1.vsids.activity; increment = x1.vsids.increment } } →
     HasActivities (view x1) x1.vsids → Analyzed x0 x1 i level
-analyzed-bumped {A} {x0} {x} {x1} {i} {level} d k a q e =
+analyzed-bumped {A} {x0} {x} {x1} {i} {level} d k e =
     let analysis : x1.analyze_conflict ≡ x.analyze_conflict = ap (λ (y : Context A). y.analyze_conflict) k in
     record {
       ready = d.ready;
       unknown = d.unknown;
       analyzed = subst (λ (y : Context A). ChangesAnalyzed x0 y) (sym k)
-          (subst (λ (y : Context A). ChangesAnalyzed x0 (record y { vsids = x1.vsids })) (sym d.kept) refl);
+          (subst (λ (y : Context A). ChangesAnalyzed x0 (record y
+          { vsids = record y.vsids { activity = x1.vsids.activity; increment = x1.vsids.increment } })) (sym d.kept) refl);
       flags = ap (λ (y : Context A). y.tmp_flags.flags.items) k ∙ ap (λ (y : Context A). y.tmp_flags.flags.items) d.kept;
-      available = a ∙ ap (λ (y : Context A). y.vsids.available) d.kept;
-      decay = q ∙ ap (λ (y : Context A). y.vsids.decay) d.kept;
+      available = ap (λ (y : Context A). y.vsids.available) k ∙ ap (λ (y : Context A). y.vsids.available) d.kept;
+      decay = ap (λ (y : Context A). y.vsids.decay) k ∙ ap (λ (y : Context A). y.vsids.decay) d.kept;
       entries = e;
-      room = ap (λ (y : Analysis). y.var_count) analysis ∙ d.room;
+      room = ap (λ (y : Analysis). y.var_count) analysis ∙ ap (λ (y : Context A). y.analyze_conflict.var_count) d.kept;
       learned = subst (λ (y : Analysis). IsLearned (view x0) i y.clause level) (sym analysis) d.learned;
     }
 
 -- analysis writes what it found alone
-pub analysis-ready : {A : Type 0} {x0 x : Context A} → ChangesAnalysis x0 x → IsReady x0 →
-    x.analyze_conflict.var_count ≡ x0.analyze_conflict.var_count → IsReady x
-analysis-ready {x0 = x0} {x = x} k r n = subst IsReady (sym k)
-    (ready-with x0 (record x0 { analyze_conflict = x.analyze_conflict; counters = x.counters }) r refl n refl r.propagated r.decidable r.assumed r.assumable)
+pub analysis-ready : {A : Type 0} {x0 x : Context A} → ChangesAnalysis x0 x → IsReady x0 → IsReady x
+analysis-ready {x0 = x0} {x = x} k r = subst IsReady (sym k)
+    (ready-with x0 (record x0
+    { analyze_conflict = record x.analyze_conflict { var_count = x0.analyze_conflict.var_count }; counters = x.counters })
+    r refl refl refl r.propagated r.decidable r.assumed r.assumable)
 
 -- so that the variables that it met are those of the view after it too
 pub analysis-met : {A : Type 0} (x0 x : Context A) → ChangesAnalysis x0 x →
@@ -211,15 +212,6 @@ bumps-learned {A} x0 x x1 z k b e h =
     subst (λ s. BumpsInvolved s z.analyze_conflict.involved x0.vsids x1.vsids) (ap (λ (y : Context A). view y) k)
     (subst (λ a. BumpsInvolved (view x) z.analyze_conflict.involved a x1.vsids) (ap (λ (y : Context A). y.vsids) k)
     (subst (λ ps. BumpsInvolved (view x) ps x.vsids x1.vsids) (sym (ap (λ (y : Analysis). y.involved) e)) (b (omega (arith, h, n)))))
-
--- backtracking changes no activity
-pub cut-activities : {A : Type 0} (x1 x2 : Context A) (level : ℕ) → (length x1.trail.decisions ≤ level → x2 ≡ x1) →
-    (level < length x1.trail.decisions → MakesAvailable (view x1) level x1.vsids x2.vsids) → x2.vsids ≡ record x1.vsids { available = x2.vsids.available }
-cut-activities {A} x1 x2 level same cut =
-    ⊎_elim
-    (λ h. (cut h).rest)
-    (λ h. let e = ap (λ (y : Context A). y.vsids) (same h) in e ∙ ap (λ xs. record x1.vsids { available = xs }) (sym (ap (λ (a : Activities). a.available) e)))
-    (cases_lt level (length x1.trail.decisions))
 
 -- What the bumps of clauses and the learned clause's header need of the context after analysis and bumps.
 module _ {A : Type 0} {x0 x1 : Context A} {i : Conflict} {level : ℕ} (d : Analyzed x0 x1 i level) where
@@ -270,10 +262,8 @@ module _ {A : Type 0} {x0 x1 : Context A} {i : Conflict} {level : ℕ} (y : Cont
     rest = store-view x0 (with_store x0 y) d.ready.tracks.sound t.sound refl;
   }
 
-  pub analyzed-noted : y ≡ record x1
-      { clause_activity = y.clause_activity; clause_alloc = y.clause_alloc; clause_db = y.clause_db; tmp_flags = y.tmp_flags } →
-      y.tmp_flags.flags.items ≡ x1.tmp_flags.flags.items → Analyzed (with_store x0 y) y i level
-  analyzed-noted k f =
+  pub analyzed-noted : ChangesBumped x1 y → Analyzed (with_store x0 y) y i level
+  analyzed-noted (k, f) =
       let analysis : (x : Context A) → Analysis = λ x. x.analyze_conflict in
       record {
         ready = headers-ready x0 (with_store x0 y) d.ready changes t refl refl;
@@ -335,8 +325,8 @@ module _ {A : Type 0} {x0 x1 : Context A} {i : Conflict} {level : ℕ} (y : Cont
 
 -- flags were used and cleared
 pub analyzed-flags : {A : Type 0} {x0 x1 y : Context A} {i : Conflict} {level : ℕ} → Analyzed x0 x1 i level →
-    y ≡ record x1 { tmp_flags = y.tmp_flags } → y.tmp_flags.flags.items ≡ x1.tmp_flags.flags.items → Analyzed x0 y i level
-analyzed-flags {A} {x0} {x1} {y} {i} {level} d k f =
+    (y ≡ record x1 { tmp_flags = y.tmp_flags }) × ClearsFlags x1 y → Analyzed x0 y i level
+analyzed-flags {A} {x0} {x1} {y} {i} {level} d (k, f) =
     let analysis : (x : Context A) → Analysis = λ x. x.analyze_conflict in
     let count = ap (λ (x : Context A). length x.assignment.current) k in
     record {

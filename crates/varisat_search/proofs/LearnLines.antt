@@ -1,4 +1,4 @@
--- What `learn` leaves after a conflict above level 0, as a proof sees it.
+-- What `learn_from_conflict` leaves after a conflict above level 0, as a proof sees it.
 use Rattle.std.proofs.Common.{◌≡◌, ℕ, suc, ◌<◌, true, None, List, [], ◌∷◌, ◌++◌, length, get_or, take, ◌⊎◌, inl, inr, ⊎_elim, sym, ap, ◌∙◌, subst, refl}
 use Rattle.varisat_theory.specs.Membership.{◌∈◌}
 use Rattle.varisat_theory.specs.Literals.{Literal, Clause, variable_of, IsUnit}

@@ -372,10 +372,9 @@ module _ {A : Type 0} {x0 x1 : Context A} {c lits : Clause} (d : Loading x0 x1 c
   -- the clause was added
   pub loaded-added : (ordered : Clause → Type 0) (are : List Line → Type 0) → are [] → ((l : Literal) → l ∈ lits → IsTrueIn (view x1) l → ⊥) →
       (z : Context A) → ChangesLoaded x1 z → IsPropagated z.watchlists (view z) →
-      Tracks z.clause_db z.clause_alloc → z.solver_state ≡ record x1.solver_state { sat_state = z.solver_state.sat_state } →
-      z.assignment.last ≡ x1.assignment.last →
+      Tracks z.clause_db z.clause_alloc → z.assignment.last ≡ x1.assignment.last →
       IsAdded (view x1) (view z) lits x1.solver_state.sat_state z.solver_state.sat_state → Loaded ordered are x0 z c
-  loaded-added ordered are empty untrue z k p t s l a =
+  loaded-added ordered are empty untrue z k p t l a =
       let r = loading-restarted in
       let may = loading-may in
       let vsids : z.vsids ≡ x1.vsids = ap (λ (x : Context A). x.vsids) k in
@@ -407,7 +406,7 @@ module _ {A : Type 0} {x0 x1 : Context A} {c lits : Clause} (d : Loading x0 x1 c
         kept_verdict = added-verdict (view x1) (view z) lits (reopened_state x0.solver_state.sat_state) z.solver_state.sat_state b;
         assumptions = list ∙ none;
         last = subst (SavesAll (view x0) x0.assignment.last) (sym l) d.last;
-        state = s ∙ ap (λ (y : SolverState). record y { sat_state = z.solver_state.sat_state }) d.state;
+        state = ap (λ (x : Context A). x.solver_state) k ∙ ap (λ (y : SolverState). record y { sat_state = z.solver_state.sat_state }) d.state;
         keeps = record {
           decidable = added-stay z vsids a;
           decay = ap (λ (b : Activities). b.decay) vsids ∙ d.decay;

@@ -16,7 +16,7 @@ use Rattle.varisat_search.specs.Contexts.{view, IsReady}
 use Rattle.varisat_search.specs.Decisions.{AreDecidable, SameDecidable}
 use Rattle.varisat_vsids.specs.Activities.{Activities}
 use Rattle.varisat_search.specs.Steps.{IsFree, assignment_of}
-use Rattle.varisat_search.specs.Frames.{ChangesDecided}
+use Rattle.varisat_search.specs.Frames.{ChangesDecided, ClearsFlags}
 use Rattle.varisat_prop.proofs.ViewGrowth.{grows-refl}
 use Rattle.varisat_search.proofs.AssumedTruths.{takes-same, takes-trans}
 use Rattle.varisat_search.proofs.AssumptionLevels.{has-taken, taken-out, all-assumed, has-decided}
@@ -76,9 +76,9 @@ module _ {A : Type 0} (x : Context A) (y : AssumptionParts) (r : IsReady x)
     pub failed-levels : (core : List Literal) → HasAssumptions (view x) (record y { failed_core = core })
     failed-levels core = let h = left-levels in record { reached = h.reached; listed = h.listed; decided = h.decided; first = h.first; in_range = h.in_range }
 
-    pub failed-ready : (z : Context A) (core : List Literal) → z ≡ record x
-        { assumptions = record y { failed_core = core }; tmp_flags = z.tmp_flags } → z.tmp_flags.flags.items ≡ x.tmp_flags.flags.items → IsReady z
-    failed-ready z core k f =
+    pub failed-ready : (z : Context A) (core : List Literal) →
+        (z ≡ record x { assumptions = record y { failed_core = core }; tmp_flags = z.tmp_flags }) × ClearsFlags x z → IsReady z
+    failed-ready z core (k, f) =
         subst IsReady (sym k)
         (ready-with x (record x { assumptions = record y { failed_core = core }; tmp_flags = z.tmp_flags }) r refl refl f r.propagated r.decidable
         (failed-levels core) left-decidable)

@@ -16,7 +16,7 @@ use Rattle.varisat_prop.proofs.ViewGrowth.{append-nil, kinds-more}
 use Rattle.varisat_search.specs.declared.context.Context.{Context}
 use Rattle.varisat_search.specs.AssumptionParts.{AssumptionParts, KeepsAssumptions}
 use Rattle.varisat_search.specs.Contexts.{view, IsReady}
-use Rattle.varisat_search.specs.Frames.{ChangesClauses, ChangesPropagated}
+use Rattle.varisat_search.specs.Frames.{ChangesPropagated, ChangesSimplified}
 use Rattle.varisat_search.specs.Decisions.{SameDecidable}
 use Rattle.varisat_search.specs.ProvedUnits.{implied_units, ProvesUnits}
 use Rattle.varisat_search.specs.Seen.{search_of}
@@ -101,7 +101,7 @@ goes-proved {A} x z P r q none p lines h i k = record {
 -- the clauses are simplified
 pub goes-simplified : {A : Type 0} (x z : Context A) (P : List Line → Type 0) → IsReady z → (lines : List Line) →
     Proves 0 (search_of (view x)) (search_of (view z)) lines → P lines → SameDecidable (view x) x.vsids (view z) z.vsids →
-    ChangesClauses x z →
+    ChangesSimplified x z →
     GoesOnByLines P x z
 goes-simplified {A} x z P q lines h i d k = record {
   ready = q;

@@ -1,5 +1,5 @@
 -- Which error a step tells.
-use Rattle.std.proofs.Common.{List, [], inl, inr, ⊎_elim, sym, subst, ◌≡◌, ◌≢◌, ℕ, refl, ◌∙◌}
+use Rattle.std.proofs.Common.{List, [], length, inl, inr, ⊎_elim, sym, subst, ◌≡◌, ◌≢◌, ℕ, refl, ◌∙◌}
 use Rattle.varisat_theory.specs.Membership.{◌∈◌}
 use Rattle.varisat_theory.specs.Literals.{Literal, Clause, opposite}
 use Rattle.varisat_theory.specs.Propagation.{IsComplete}
@@ -24,7 +24,9 @@ use Rattle.varisat_trace.specs.Traces.{BreaksOff, faults_of}
 use Rattle.varisat_trace.proofs.Broken.{passed-on}
 use Rattle.varisat_search.specs.declared.error.StepError.{StepError}
 use Rattle.varisat_search.specs.declared.context.Context.{Context}
-use Rattle.varisat_search.specs.StepErrors.{step_error_of_store, step_error_of_trace, step_faults, HasNoRoom}
+use Rattle.varisat_search.specs.StepErrors.{step_error_of_store, step_error_of_trace, step_faults, HasNoRoom, EndsStep}
+use Rattle.varisat_search.specs.Contexts.{KeepsSchedule}
+use Rattle.varisat_search.proofs.Frames.{schedule-through}
 use Rattle.varisat_clause.specs.declared.alloc.StoreError.TheVariants as store
 use Rattle.varisat_trace.specs.declared.tracer.TraceError.TheVariants as trace
 use Rattle.varisat_search.specs.declared.error.StepError.TheVariants as step
@@ -64,6 +66,26 @@ if-full r s P h f = told-by r (λ e. e ≡ step_error_of_store s) (λ e. e ≡ s
 pub full-told : {A X : Type 0} (r : Result X StepError) (s : StoreError) (z : Context A) → IsErr r × IsErrAnd r (λ e. e ≡ step_error_of_store s) →
     (s ≡ store.Full → HasNoRoom z) → IfErr r (λ e. e ≡ step.Full → HasNoRoom z)
 full-told r s z h f = if-full r s (HasNoRoom z) h f
+
+-- a step with another error
+pub ends-unfilled : {A : Type 0} {x y : Context A} (r : Result (Unit {0}) StepError) (e : StepError) → IsErr r × IsErrAnd r (λ z. z ≡ e) →
+    e ≢ step.Full → KeepsSchedule x y → EndsStep r x y
+ends-unfilled {x = x} {y = y} r e h n k = record {
+  schedule = k;
+  full = passed-on r e (λ z. z ≡ step.Full → HasNoRoom y × (length y.assignment.current ≡ length x.assignment.current)) h (λ f. absurd (n f));
+}
+
+pub memory-unfilled : step.Memory ≢ step.Full
+memory-unfilled q = let z : step.Memory ≡ step.Full = q in cc
+
+-- a step that goes on from another context with as many variables
+pub ends-after : {A : Type 0} {x y z : Context A} (r : Result (Unit {0}) StepError) (e : StepError) → IsErr r × IsErrAnd r (λ z. z ≡ e) →
+    KeepsSchedule x y → length y.assignment.current ≡ length x.assignment.current → EndsStep (Err e) y z → EndsStep r x z
+ends-after {x = x} {z = z} r e h k n b = record {
+  schedule = schedule-through k b.schedule;
+  full = passed-on r e (λ s. s ≡ step.Full → HasNoRoom z × (length z.assignment.current ≡ length x.assignment.current)) h
+      (λ f. let (room, same) = b.full f in (room, same ∙ n));
+}
 
 -- An error tells as many faults as the tracer's that it comes from, and one of the store tells none.
 pub trace-faults : (e : TraceError) → faults_of e ≡ step_faults (step_error_of_trace e)

@@ -1,5 +1,5 @@
 -- What calls do to a whole context.
-use Rattle.std.specs.Prelude.{◌≡◌, ℕ, ◌<◌, ◌≤◌, Bool, false, Some, None, length, slice_index_or, Result, MatchBool, MatchResult}
+use Rattle.std.specs.Prelude.{◌≡◌, ℕ, ◌-◌, ◌<◌, ◌≤◌, ◌++◌, Bool, false, Some, None, length, replicate, slice_index_or, Result, MatchBool, MatchResult}
 use Rattle.std.specs.Option.{unwrap_or}
 use Rattle.varisat_theory.specs.Literals.{Literal, variable_of}
 use Rattle.varisat_literals.specs.Numbers.{polarity_of, variable_limit}
@@ -7,6 +7,7 @@ use Rattle.varisat_names.specs.declared.config.ConfigError.{ConfigError}
 use Rattle.varisat_names.specs.declared.config.SolverConfigUpdate.{SolverConfigUpdate}
 use Rattle.varisat_names.specs.Settings.{first_bad, updated_settings}
 use Rattle.varisat_prop.specs.Changes.{decided_on}
+use Rattle.varisat_vsids.specs.Activities.{raised_to}
 use Rattle.varisat_search.specs.declared.context.Context.{Context}
 use Rattle.varisat_search.specs.Contexts.{view, IsReady}
 use Rattle.varisat_search.specs.Frames.{ChangesLevels}
@@ -27,6 +28,11 @@ pub record BacktracksTo {A : Type 0} (level : ℕ) (old new : Context A) : Type 
   pub decay : new.vsids.decay ≡ old.vsids.decay
   pub assumptions : level < length old.trail.decisions → new.assumptions ≡ with_levels_to level old.assumptions
   pub kept : ChangesLevels old new
+
+-- The literal is decided, and what is remembered stays.
+pub record DecidesLit {A : Type 0} (l : Literal) (old new : Context A) : Type 0 where
+  pub level : view new ≡ decided_on (view old) l
+  pub last : new.assignment.last ≡ old.assignment.last
 
 -- The variable that is next is decided, as it was last assigned.
 abbrev pub DecidesNext : {A : Type 0} → Context A → Context A → Type 0
@@ -59,6 +65,12 @@ pub record CanRaise {A : Type 0} (n : ℕ) (x : Context A) : Type 0 where
   pub ready : IsReady x
   pub raised : length x.assignment.current ≤ n
   pub small : n ≤ variable_limit
+
+-- The new variables, up to so many in all, had the value false and are not available.
+pub record AddsUnavailable {A : Type 0} (n : ℕ) (old new : Context A) : Type 0 where
+  pub last : new.assignment.last ≡ old.assignment.last ++ replicate (n - length old.assignment.current) false
+  pub activities : new.vsids ≡ raised_to n old.vsids
+  pub decidable : SameDecidable (view old) old.vsids (view new) new.vsids
 
 -- There are so many variables now, and a proof sees the search as it was.
 pub record IsRaisedTo {A : Type 0} (n : ℕ) (old new : Context A) : Type 0 where

@@ -34,12 +34,14 @@ pub record ReducesLocalsIfDue {A : Type 0} (lines : List Line) (x y : Context A)
   pub drops : x.schedule.steps % x.solver_config.reduce_locals_interval ≡ 0 → DropsLocals lines x y
   pub stays : x.schedule.steps % x.solver_config.reduce_locals_interval ≢ 0 → (y ≡ x) × (lines ≡ [])
 
--- At each step whose number is a multiple of the interval Mid clauses become Local or lose their flag, and at others
--- nothing changes.
+-- Mid clauses become Local or lose their flag, and nothing but headers of clauses changes.
+pub record ReducesMids {A : Type 0} (x y : Context A) : Type 0 where
+  pub reduced : HoldsClauses y.clause_alloc (length x.clause_alloc.words) (mids_reduced (stored_clauses x.clause_alloc))
+  pub headers : ChangesHeaders (view x) (view y)
+
+-- At each step whose number is a multiple of the interval Mid clauses are reduced, and at others nothing changes.
 pub record ReducesMidsIfDue {A : Type 0} (x y : Context A) : Type 0 where
-  pub reduced : x.schedule.steps % x.solver_config.reduce_mids_interval ≡ 0 →
-      HoldsClauses y.clause_alloc (length x.clause_alloc.words) (mids_reduced (stored_clauses x.clause_alloc))
-  pub headers : x.schedule.steps % x.solver_config.reduce_mids_interval ≡ 0 → ChangesHeaders (view x) (view y)
+  pub reduces : x.schedule.steps % x.solver_config.reduce_mids_interval ≡ 0 → ReducesMids x y
   pub stays : x.schedule.steps % x.solver_config.reduce_mids_interval ≢ 0 → y ≡ x
 
 -- more than half of the store's words are garbage

@@ -53,6 +53,11 @@ IsAdded s t (l ∷ m ∷ n ∷ c) before after =
     (p : ℕ) × AppendsClause s.clauses t.clauses (loaded_at p (l ∷ m ∷ n ∷ c)) × IsHeadAfter s.values (l ∷ m ∷ n ∷ c) s.queue_head t.queue_head
     × (t ≡ record s { clauses = t.clauses; queue_head = t.queue_head }) × (after ≡ before)
 
+-- So the clause in `lits` is added, and what is remembered stays.
+abbrev pub AddsClause : {A : Type 0} → Context A → Context A → Type 0
+AddsClause x y =
+    IsAdded (view x) (view y) x.tmp_data.lits.items x.solver_state.sat_state y.solver_state.sat_state × (y.assignment.last ≡ x.assignment.last)
+
 -- A single literal is loaded: the kept clauses stay, and where nothing was decided the trail has at most this literal more, and the queue's head stays.
 pub record LoadsUnit (s t : View) (l : Literal) : Type 0 where
   pub clauses : kept t ≡ kept s

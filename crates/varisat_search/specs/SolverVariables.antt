@@ -1,12 +1,13 @@
 -- What the search has to do with the variables of the user's names, and how names come to have solver variables.
-use Rattle.std.specs.Prelude.{◌≡◌, ℕ, ◌<◌, ◌≤◌, ◌↔◌, Option, Some, None, List, [], ◌∷◌, length, Bool, false, IsSome}
+use Rattle.std.specs.Prelude.{◌≡◌, ℕ, ◌<◌, ◌≤◌, ◌↔◌, Option, Some, None, List, [], ◌∷◌, length, Bool, false, IsSome, Result, MatchResult}
 use Rattle.varisat_theory.specs.Literals.{Literal, variable_of, literal_of}
 use Rattle.varisat_theory.specs.Outcomes.{Loads}
 use Rattle.varisat_theory.specs.Outcomes as outcome
 use Rattle.varisat_literals.specs.Numbers.{polarity_of, variable_limit}
 use Rattle.varisat_names.specs.VarMap.{at}
 use Rattle.varisat_names.specs.VarData.{kept_at}
-use Rattle.varisat_names.specs.Variables.{Tables, AreLinked, IsNamed, IsTaken}
+use Rattle.varisat_names.specs.Variables.{Tables, AreLinked, IsNamed, IsTaken, IsDropped}
+use Rattle.varisat_vsids.specs.Activities.{with_available}
 use Rattle.varisat_search.specs.declared.context.Context.{Context}
 use Rattle.varisat_search.specs.declared.state.SatState.TheVariants as verdict
 use Rattle.varisat_search.specs.Contexts.{view, IsNotUnsat, IsReady}
@@ -73,6 +74,14 @@ pub record NameHasSolver {A : Type 0} (u : ℕ) (old new : Searched A) (v : ℕ)
   pub solver : HasSolverVariable global (record old { tables = mid }) new v
   pub linked : AreLinked new.tables
   pub variables : HasVariables new
+
+-- The solver variable was taken from its global variable, which is returned, and is not available any more; or memory was
+-- refused, and nothing changed.
+abbrev pub RemovesSolver : {A E : Type 0} → ℕ → Searched A → Searched A → Result ℕ E → Type 0
+RemovesSolver v old new r =
+    MatchResult r
+    (λ global. IsDropped old.tables new.tables global v × (new.context ≡ record old.context { vsids = with_available v false old.context.vsids }))
+    (λ _. new ≡ old)
 
 -- the names of the literals came to have solver variables in turn
 abbrev pub HaveSolversInTurn : {A : Type 0} → List Literal → Searched A → Searched A → Type 0

@@ -1,5 +1,5 @@
 -- Why a step failed, and when the clause store is full.
-use Rattle.std.specs.Prelude.{◌≡◌, ℕ, ◌+◌, ◌^◌, ◌≤◌, length}
+use Rattle.std.specs.Prelude.{◌≡◌, ℕ, ◌+◌, ◌^◌, ◌≤◌, length, Result, IfErr}
 use Rattle.varisat_clause.specs.declared.alloc.StoreError.{StoreError}
 use Rattle.varisat_clause.specs.declared.alloc.StoreError.TheVariants as store
 use Rattle.varisat_trace.specs.declared.tracer.TraceError.{TraceError}
@@ -7,6 +7,7 @@ use Rattle.varisat_trace.specs.declared.tracer.TraceError.TheVariants as trace
 use Rattle.varisat_search.specs.declared.error.StepError.{StepError}
 use Rattle.varisat_search.specs.declared.error.StepError.TheVariants as step
 use Rattle.varisat_search.specs.declared.context.Context.{Context}
+use Rattle.varisat_search.specs.Contexts.{KeepsSchedule}
 
 -- the error of a step whose clause was not stored
 abbrev pub step_error_of_store : StoreError → StepError
@@ -31,3 +32,9 @@ RefusesStoring n x y = (2 ^ 32 ≤ length y.clause_alloc.words + 3 + n) × (y.as
 -- A clause of all variables, with the three words before its literals, would bring the store to 2^32 words or more.
 abbrev pub HasNoRoom : {A : Type 0} → Context A → Type 0
 HasNoRoom x = 2 ^ 32 ≤ length x.clause_alloc.words + 3 + length x.assignment.current
+
+-- However a step ends, the schedule stays. It tells that the store is full only where that has no room for a clause of all
+-- variables, and then there are as many variables as before.
+pub record EndsStep {A : Type 0} (r : Result (Unit {0}) StepError) (x y : Context A) : Type 0 where
+  pub schedule : KeepsSchedule x y
+  pub full : IfErr r (λ error. error ≡ step.Full → HasNoRoom y × (length y.assignment.current ≡ length x.assignment.current))

@@ -10,7 +10,7 @@ ghost use Rattle.varisat_analysis.specs.Bumps.{literals_among};
 ghost use Rattle.varisat_analysis.specs.HeaderChanges.{SameButHeaders};
 ghost use Rattle.varisat_analysis.specs.Assessments.{glue_of, assessed, IsAssigned};
 ghost use Rattle.varisat_search.specs.Contexts.{view};
-ghost use Rattle.varisat_search.specs.Frames.{ChangesBumped};
+ghost use Rattle.varisat_search.specs.Frames.{ChangesBumped, ClearsFlags};
 ghost use Rattle.varisat_search.specs.Learning.{BumpsStored};
 
 use crate::context::Context;
@@ -34,7 +34,6 @@ pub fn bump_involved_clauses<A: Allocator + Copy>(ctx: &mut Context<A>) -> Resul
         BumpsStored ctx.old.analyze_conflict.involved ctx.old ctx.new) }
     ensures headers { SameButHeaders (live_clauses ctx.old.clause_alloc) (live_clauses ctx.new.clause_alloc) }
     ensures tracks { Tracks ctx.new.clause_db ctx.new.clause_alloc }
-    ensures flags { ctx.new.tmp_flags.flags.items ≡ ctx.old.tmp_flags.flags.items }
     ensures kept { ChangesBumped ctx.old ctx.new }
 {
     if ctx.trail.current_level() == 0 {
@@ -58,8 +57,7 @@ pub fn assess_learned<A: Allocator + Copy>(ctx: &mut Context<A>) -> ClauseHeader
     requires clear { ctx.old.tmp_flags.flags.items ≡ replicate (2 * length ctx.old.assignment.current) false }
     requires assigned { (l : Literal) → l ∈ ctx.old.analyze_conflict.clause → IsAssigned (view ctx.old) l }
     ensures header { result ≡ assessed (glue_of ctx.old.impl_graph.nodes.items ctx.old.analyze_conflict.clause) }
-    ensures flags { ctx.new.tmp_flags.flags.items ≡ ctx.old.tmp_flags.flags.items }
-    ensures kept { ctx.new ≡ record ctx.old { tmp_flags = ctx.new.tmp_flags } }
+    ensures kept { (ctx.new ≡ record ctx.old { tmp_flags = ctx.new.tmp_flags }) × ClearsFlags ctx.old ctx.new }
 {
     assess_learned_clause(
         &mut ctx.tmp_flags.flags,

@@ -1,5 +1,5 @@
 //! Assumptions: literals that are taken as true. They are decided first, one level each.
-ghost use Rattle.std.specs.Prelude.{◌≡◌, ◌<◌, ◌*◌, [], length, replicate, slice_get, false, OnOk, OnErr, IfOk};
+ghost use Rattle.std.specs.Prelude.{◌≡◌, ◌<◌, ◌*◌, [], length, replicate, slice_get, false, OnOk, IfOk};
 ghost use Rattle.std.specs.List.{swap_remove};
 ghost use Rattle.varisat_theory.specs.Membership.{◌∈◌};
 ghost use Rattle.varisat_theory.specs.Literals.{opposite};
@@ -10,7 +10,7 @@ ghost use Rattle.varisat_prop.specs.View.{View, WellFormed, kept};
 ghost use Rattle.varisat_analysis.specs.Learned.{Shows};
 ghost use Rattle.varisat_analysis.specs.FailedCores.{ListsFailedCore};
 ghost use Rattle.varisat_search.specs.Contexts.{view, KeepsSchedule, IsReady};
-ghost use Rattle.varisat_search.specs.Frames.{ChangesAssumed, ChangesCore, GoesForward, KeepsVariables};
+ghost use Rattle.varisat_search.specs.Frames.{ChangesAssumed, ChangesCore, GoesForward, HoldsOrUnchanged, KeepsVariables};
 ghost use Rattle.varisat_search.specs.Steps.{IsPropagatedToEnd, SavesAll};
 ghost use Rattle.varisat_search.specs.Decisions.{AreDecidable};
 ghost use Rattle.varisat_search.specs.Seen.{search_of};
@@ -105,8 +105,7 @@ impl<A: Allocator + Copy> Assumptions<A> {
 
     /// Keeps a core as the user names it. A refused growth changes nothing.
     pub fn set_user_failed_core(&mut self, core: &[Lit]) -> Result<(), AllocError>
-        ensures set { OnOk result (self.new ≡ record self.old { user_core = core.now }) }
-        ensures refused { OnErr result (self.new ≡ self.old) }
+        ensures { HoldsOrUnchanged result (self.new ≡ record self.old { user_core = core.now }) self.old self.new }
     {
         let core = copied(*self.user_core.allocator(), core)?;
         self.user_core = core;
@@ -177,8 +176,7 @@ impl<A: Allocator + Copy> Assumptions<A> {
         requires well { WellFormed s }
         requires false_now { opposite failed ∈ s.trail }
         requires flags { flags.old.flags.items ≡ replicate (2 * length s.values) false }
-        ensures kept { self.new ≡ record self.old { failed_core = self.new.failed_core } }
-        ensures flags { flags.new.flags.items ≡ flags.old.flags.items }
+        ensures kept { (self.new ≡ record self.old { failed_core = self.new.failed_core }) × (flags.new.flags.items ≡ flags.old.flags.items) }
         ensures core { OnOk result (ListsFailedCore s failed self.new.failed_core) }
     {
         let core = &mut self.failed_core;
@@ -217,9 +215,8 @@ pub fn set_assumptions<A: Allocator + Copy>(
     requires ready { IsReady ctx.old }
     requires in_range { IsInRange ctx.old.assignment.current lits.now }
     requires decidable { AreDecidable (view ctx.old) ctx.old.vsids lits.now }
-    ensures refused { OnErr result (ctx.new ≡ ctx.old) }
     ensures ready { OnOk result (IsReady ctx.new) }
-    ensures assumed { OnOk result (ctx.new.assumptions ≡ newly_assumed user.now lits.now) }
+    ensures assumed { HoldsOrUnchanged result (ctx.new.assumptions ≡ newly_assumed user.now lits.now) ctx.old ctx.new }
     ensures seen { OnOk result (search_of (view ctx.new) ≡ search_of (view ctx.old)) }
     ensures keeps { OnOk result (KeepsVariables ctx.old ctx.new) }
     ensures last { OnOk result (SavesAll (view ctx.old) ctx.old.assignment.last ctx.new.assignment.last) }
@@ -265,7 +262,6 @@ fn find_failed_core<A: Allocator + Copy>(
     requires false_now { IsMadeTrue ctx.old.assignment.current (opposite failed) }
     requires seen { s ≡ view ctx.old }
     ensures kept { ChangesCore ctx.old ctx.new }
-    ensures flags { ctx.new.tmp_flags.flags.items ≡ ctx.old.tmp_flags.flags.items }
     ensures core { OnOk result (ListsFailedCore (view ctx.old) failed ctx.new.assumptions.failed_core) }
 {
     ctx.assumptions.find_core(

@@ -11,7 +11,7 @@ ghost use Rattle.varisat_prop.specs.View.{View, kept, GrowsTrail};
 ghost use Rattle.varisat_prop.specs.Changes.{IsConflicting};
 ghost use Rattle.varisat_analysis.specs.Learned.{IsLearned, AreInvolved};
 ghost use Rattle.varisat_search.specs.Contexts.{view, IsNotUnsat, KeepsSchedule, IsReady};
-ghost use Rattle.varisat_search.specs.Frames.{ChangesAnalysis, ChangesClauses, ChangesSettled, GoesForward};
+ghost use Rattle.varisat_search.specs.Frames.{ChangesAnalysis, ChangesClauses, ChangesSettled, SearchesOn};
 ghost use Rattle.varisat_search.specs.Steps.{IsPropagatedToEnd, SavesSome};
 ghost use Rattle.varisat_search.specs.Seen.{search_of};
 ghost use Rattle.varisat_theory.specs.Journals.{Fails};
@@ -20,7 +20,7 @@ ghost use Rattle.varisat_search.specs.AssumptionParts.{TakesOutImplied};
 ghost use Rattle.varisat_search.specs.Conflicts.{ComesToDecision, EndsOrStops, keeping_of, IsKeptAsReason, IsStoredAsReason, IsWatchedAsReason};
 ghost use Rattle.varisat_search.specs.Learning.{HasMet, BumpsVariables, BumpsAndStores};
 ghost use Rattle.varisat_search.specs.SettledUnits.{IsUnsettled, FixesNone, KeepsFixed, FixesByLearning, SettlesByLines, SettlesIfUnsettled, IsSettledDown, SettlesAndSteps};
-ghost use Rattle.varisat_search.specs.StepErrors.{HasNoRoom, step_faults};
+ghost use Rattle.varisat_search.specs.StepErrors.{HasNoRoom, EndsStep, step_faults};
 ghost use Rattle.varisat_search.specs.Progress.{outcome_at, IsStepFurther, MakesStep};
 ghost use Rattle.varisat_search.specs.FoundCores.{HasCoreIfFailed};
 
@@ -64,8 +64,7 @@ fn decide<A: Allocator + Copy>(
     ensures fixed { OnOk result (FixesNone (view ctx.old) (view ctx.new)) }
     ensures taken { OnOk result (TakesOutImplied (view ctx.old) ctx.old.assumptions ctx.new.assumptions) }
     ensures decided { IfOk result (λ decided. ComesToDecision (view ctx.old) (view ctx.new) ctx.new.assumptions decided) }
-    ensures forward { OnOk result (GoesForward ctx.old ctx.new) }
-    ensures schedule { KeepsSchedule ctx.old ctx.new }
+    ensures goes { SearchesOn result ctx.old ctx.new }
 {
     match enqueue_assumption(ctx)? {
         EnqueueAssumption::Done => {}
@@ -86,8 +85,7 @@ fn find_conflict<A: Allocator + Copy>(
     ensures fixed { OnOk result ((IsUnsettled (view ctx.old) → ⊥) → FixesNone (view ctx.old) (view ctx.new)) }
     ensures taken { OnOk result (TakesOutImplied (view ctx.old) ctx.old.assumptions ctx.new.assumptions) }
     ensures found { IfOk result (λ end. EndsOrStops (view ctx.new) ctx.new.assumptions end) }
-    ensures forward { OnOk result (GoesForward ctx.old ctx.new) }
-    ensures schedule { KeepsSchedule ctx.old ctx.new }
+    ensures goes { SearchesOn result ctx.old ctx.new }
 {
     'levels: loop {
         let before = ctx.trail.propagated_count();
@@ -166,7 +164,6 @@ fn analyze<A: Allocator + Copy>(
     requires conflict { IsConflicting (view ctx.old) conflict }
     requires seen { s ≡ view ctx.old }
     ensures kept { ChangesAnalysis ctx.old ctx.new }
-    ensures count { ctx.new.analyze_conflict.var_count ≡ ctx.old.analyze_conflict.var_count }
     ensures learned { IfOk result (λ level. IsLearned (view ctx.old) conflict ctx.new.analyze_conflict.clause level) }
     ensures involved { OnOk result (AreInvolved (view ctx.old) conflict ctx.new.analyze_conflict.involved) }
     ensures met { OnOk result (HasMet (view ctx.old) ctx.new.analyze_conflict) }
@@ -199,7 +196,7 @@ fn trace_learned<A: Allocator + Copy, P: ProofTracer>(
 
 /// Learns from the conflict: adds the learned clause to the proof, bumps variables and clauses, backtracks, keeps the
 /// clause, and makes its first literal true. The empty clause gives verdict Unsat.
-fn learn<A: Allocator + Copy, P: ProofTracer>(
+fn learn_from_conflict<A: Allocator + Copy, P: ProofTracer>(
     ctx: &mut Context<A>,
     proof: &mut P,
     conflict: Conflict,
@@ -216,11 +213,7 @@ fn learn<A: Allocator + Copy, P: ProofTracer>(
     ensures involved { OnOk result (AreInvolved (view ctx.old) conflict ctx.new.analyze_conflict.involved) }
     ensures last { OnOk result (SavesSome (view ctx.old) ctx.old.assignment.last ctx.new.assignment.last) }
     ensures fixed { OnOk result (IsNotUnsat ctx.new → (0 < length ctx.old.trail.decisions) × KeepsFixed (view ctx.old) (view ctx.new)) }
-    ensures schedule { KeepsSchedule ctx.old ctx.new }
-    // The store is full only where it has no room for a clause of all variables.
-    ensures full { IfErr result (λ error. error ≡ StepError.Full → HasNoRoom ctx.new) }
-    // Then there are as many variables as before.
-    ensures size { IfErr result (λ error. error ≡ StepError.Full → length ctx.new.assignment.current ≡ length ctx.old.assignment.current) }
+    ensures ends { EndsStep result ctx.old ctx.new }
     ensures broken { IfErr result (λ error. BreaksOff P.breaks_off proof.old (step_faults error) proof.new) }
 {
     let level = analyze(ctx, conflict)?;
@@ -332,10 +325,7 @@ fn find_and_learn<A: Allocator + Copy, P: ProofTracer>(
     ensures made { OnOk result (MakesStep (λ lines. TakesStep P.takes proof.old lines (outcome_at ctx.new) proof.new) ctx.old ctx.new) }
     ensures core { OnOk result (HasCoreIfFailed ctx.new) }
     ensures fixed { OnOk result ((IsUnsettled (view ctx.old) → ⊥) → IsNotUnsat ctx.new → KeepsFixed (view ctx.old) (view ctx.new)) }
-    ensures schedule { KeepsSchedule ctx.old ctx.new }
-    ensures full { IfErr result (λ error. error ≡ StepError.Full → HasNoRoom ctx.new) }
-    // Then there are as many variables as before.
-    ensures size { IfErr result (λ error. error ≡ StepError.Full → length ctx.new.assignment.current ≡ length ctx.old.assignment.current) }
+    ensures ends { EndsStep result ctx.old ctx.new }
     ensures broken { IfErr result (λ error. BreaksOff P.breaks_off proof.old (step_faults error) proof.new) }
 {
     match find_conflict(ctx)? {
@@ -344,7 +334,7 @@ fn find_and_learn<A: Allocator + Copy, P: ProofTracer>(
             trace_core(proof, ctx)?;
             ctx.solver_state.sat_state = SatState::UnsatUnderAssumptions;
         }
-        Err(FoundConflict::Conflict(conflict)) => learn(ctx, proof, conflict)?,
+        Err(FoundConflict::Conflict(conflict)) => learn_from_conflict(ctx, proof, conflict)?,
     }
     Ok(())
 }
@@ -373,7 +363,7 @@ pub fn conflict_step<A: Allocator + Copy, P: ProofTracer>(
 {
     match settle_units(ctx, proof)? {
         Ok(()) => find_and_learn(ctx, proof)?,
-        Err(conflict) => learn(ctx, proof, conflict)?,
+        Err(conflict) => learn_from_conflict(ctx, proof, conflict)?,
     }
     Ok(())
 }

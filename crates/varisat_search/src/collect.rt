@@ -1,11 +1,11 @@
 //! The collection of the words of deleted clauses in a search.
-ghost use Rattle.std.specs.Prelude.{◌≡◌, ◌≤◌, ◌*◌, false, length, OnOk, OnErr};
+ghost use Rattle.std.specs.Prelude.{◌≡◌, false, OnOk};
 ghost use Rattle.varisat_clause.specs.Stores.{stored_clauses};
 ghost use Rattle.varisat_clause.specs.Collected.{IsCollected};
 ghost use Rattle.varisat_analysis.specs.Collections.{Repacks};
 ghost use Rattle.varisat_search.specs.Contexts.{view, IsReady};
-ghost use Rattle.varisat_search.specs.DueReductions.{IsCollectionDue};
-ghost use Rattle.varisat_search.specs.Frames.{ChangesPlaces};
+ghost use Rattle.varisat_search.specs.DueReductions.{IsCollectionDue, CollectsIfDue};
+ghost use Rattle.varisat_search.specs.Frames.{ChangesPlaces, HoldsOrUnchanged};
 
 use crate::context::Context;
 use std::alloc::{AllocError, Allocator};
@@ -17,12 +17,12 @@ use varisat_schedule::counters::count;
 /// the watch lists are switched off, since they name clauses by their old places. A refused growth changes nothing.
 fn collect<A: Allocator + Copy>(ctx: &mut Context<A>) -> Result<(), AllocError>
     requires { IsReady ctx.old }
-    ensures collected { OnOk result (IsCollected ctx.new.clause_alloc ctx.new.clause_db (stored_clauses ctx.old.clause_alloc)) }
+    ensures collected { HoldsOrUnchanged result
+        (IsCollected ctx.new.clause_alloc ctx.new.clause_db (stored_clauses ctx.old.clause_alloc)) ctx.old ctx.new }
     ensures repacks { OnOk result (Repacks (view ctx.old) (view ctx.new)) }
     ensures off { OnOk result (ctx.new.watchlists.enabled ≡ false) }
     ensures ready { OnOk result (IsReady ctx.new) }
     ensures kept { ChangesPlaces ctx.old ctx.new }
-    ensures refused { OnErr result (ctx.new ≡ ctx.old) }
 {
     let (new_alloc, new_db) = collected(&ctx.clause_alloc, &ctx.clause_db)?;
     repoint_reasons(
@@ -42,14 +42,10 @@ fn collect<A: Allocator + Copy>(ctx: &mut Context<A>) -> Result<(), AllocError>
 /// changes nothing, as where a growth was refused.
 pub fn collect_garbage<A: Allocator + Copy>(ctx: &mut Context<A>) -> Result<(), AllocError>
     requires { IsReady ctx.old }
-    ensures collected { OnOk result (IsCollectionDue ctx.old →
-        IsCollected ctx.new.clause_alloc ctx.new.clause_db (stored_clauses ctx.old.clause_alloc)) }
-    ensures repacks { OnOk result (IsCollectionDue ctx.old → Repacks (view ctx.old) (view ctx.new)) }
+    ensures collects { HoldsOrUnchanged result (CollectsIfDue ctx.old ctx.new) ctx.old ctx.new }
     ensures off { OnOk result (IsCollectionDue ctx.old → ctx.new.watchlists.enabled ≡ false) }
-    ensures stays { OnOk result (2 * ctx.old.clause_db.garbage ≤ length ctx.old.clause_alloc.words → ctx.new ≡ ctx.old) }
     ensures ready { OnOk result (IsReady ctx.new) }
     ensures kept { ChangesPlaces ctx.old ctx.new }
-    ensures refused { OnErr result (ctx.new ≡ ctx.old) }
 {
     if !is_collection_due(&ctx.clause_alloc, &ctx.clause_db) {
         return Ok(());

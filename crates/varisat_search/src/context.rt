@@ -1,16 +1,16 @@
 //! All parts of a search.
-ghost use Rattle.std.specs.Prelude.{◌≡◌, ℕ, ◌≤◌, ◌+◌, ◌-◌, ◌^◌, ◌++◌, [], length, min, replicate, slice_index_or, false, OnOk};
+ghost use Rattle.std.specs.Prelude.{◌≡◌, ℕ, ◌+◌, ◌-◌, ◌^◌, [], length, min, slice_index_or, false, OnOk};
 ghost use Rattle.varisat_search.specs.Contexts.{view, IsReady, first_state};
 ghost use Rattle.varisat_search.specs.Frames.{ChangesVariables};
 ghost use Rattle.varisat_search.specs.AssumptionParts.{no_assumptions};
-ghost use Rattle.varisat_search.specs.ContextChanges.{ChangesSettings, CanRaise, IsRaisedTo};
+ghost use Rattle.varisat_search.specs.ContextChanges.{ChangesSettings, CanRaise, AddsUnavailable, IsRaisedTo};
 ghost use Rattle.varisat_search.specs.Seen.{search_of, first_search};
 ghost use Rattle.varisat_search.specs.Decisions.{IsDecidable, SameDecidable};
 ghost use Rattle.varisat_names.specs.Settings.{default_settings};
 ghost use Rattle.varisat_prop.specs.Parts.{top_level_count};
 ghost use Rattle.varisat_schedule.specs.Plans.{first_plan};
 ghost use Rattle.varisat_clause.specs.Stores.{no_store};
-ghost use Rattle.varisat_vsids.specs.Activities.{no_activities, raised_to};
+ghost use Rattle.varisat_vsids.specs.Activities.{no_activities};
 
 use crate::assumptions::Assumptions;
 use crate::state::SolverState;
@@ -122,9 +122,7 @@ pub fn set_var_count<A: Allocator + Copy>(
     requires { CanRaise count ctx.old }
     ensures raised { OnOk result (IsRaisedTo count ctx.old ctx.new) }
     ensures remembered { (v : ℕ) → slice_index_or ctx.new.assignment.last v false ≡ slice_index_or ctx.old.assignment.last v false }
-    ensures last { OnOk result (ctx.new.assignment.last ≡ ctx.old.assignment.last ++ replicate (count - length ctx.old.assignment.current) false) }
-    ensures activities { OnOk result (ctx.new.vsids ≡ raised_to count ctx.old.vsids) }
-    ensures decidable { OnOk result (SameDecidable (view ctx.old) ctx.old.vsids (view ctx.new) ctx.new.vsids) }
+    ensures added { OnOk result (AddsUnavailable count ctx.old ctx.new) }
     ensures kept { ChangesVariables ctx.old ctx.new }
 {
     ctx.analyze_conflict.set_var_count(count)?;

@@ -1,11 +1,11 @@
 //! The choice of a literal to decide.
 ghost use Rattle.std.specs.Prelude.{◌≡◌, ℕ, None, ◌<◌, ◌≤◌, ◌-◌, ◌^◌, true, false, length, slice_index_or, OnOk, IfOk};
 ghost use Rattle.varisat_prop.specs.View.{WellFormed, kept};
-ghost use Rattle.varisat_prop.specs.Changes.{IsAssignable, decided_on};
+ghost use Rattle.varisat_prop.specs.Changes.{IsAssignable};
 ghost use Rattle.varisat_vsids.specs.Activities.{with_available};
 ghost use Rattle.varisat_search.specs.Contexts.{view, IsReady};
 ghost use Rattle.varisat_search.specs.Frames.{ChangesDecisions, ChangesTrail, ChangesVariables, GoesForward};
-ghost use Rattle.varisat_search.specs.ContextChanges.{DecidesIfLeft, CanRaise, IsRaisedTo};
+ghost use Rattle.varisat_search.specs.ContextChanges.{DecidesLit, DecidesIfLeft, CanRaise, IsRaisedTo};
 ghost use Rattle.varisat_search.specs.Decisions.{CanDecide, IsDecidable, SameDecidable, SameDecidableBut, AddsDecidable, TakesUnassigned, initialized};
 ghost use Rattle.varisat_search.specs.Forgotten.{AreNotOf, IsUnmentioned};
 
@@ -38,8 +38,7 @@ pub fn decide_lit<A: Allocator + Copy>(ctx: &mut Context<A>, lit: Lit) -> Result
     requires assignable { IsAssignable ctx.old.assignment.current ctx.old.impl_graph.nodes.items lit }
     requires level { length ctx.old.trail.decisions < 2 ^ 32 - 1 }
     requires depth { length ctx.old.trail.literals < 2 ^ 32 - 1 }
-    ensures decided { OnOk result (view ctx.new ≡ decided_on (view ctx.old) lit) }
-    ensures last { OnOk result (ctx.new.assignment.last ≡ ctx.old.assignment.last) }
+    ensures decided { OnOk result (DecidesLit lit ctx.old ctx.new) }
     ensures kept { ChangesTrail ctx.old ctx.new }
 {
     ctx.trail.new_decision_level()?;

@@ -10,7 +10,7 @@ ghost use Rattle.varisat_clause.specs.Collected.{live_clauses};
 ghost use Rattle.varisat_prop.specs.Leaving.{leaves, cleared, AreRenumbered};
 ghost use Rattle.varisat_prop.specs.View.{kept};
 ghost use Rattle.varisat_search.specs.Contexts.{view, IsReady};
-ghost use Rattle.varisat_search.specs.Frames.{ChangesDecisions};
+ghost use Rattle.varisat_search.specs.Frames.{ChangesForgotten};
 ghost use Rattle.varisat_search.specs.Decisions.{IsDecidable};
 ghost use Rattle.varisat_search.specs.Forgotten.{AreStaying, IsWithout, FlagsMentioned, FlagsAlso, FlagsImplying, forgotten_activities, search_without, clauses_without};
 ghost use Rattle.varisat_search.specs.Seen.{search_of};
@@ -83,12 +83,10 @@ pub fn drop_variables<A: Allocator + Copy>(ctx: &mut Context<A>, gone: &[bool])
     ensures ready { IsReady ctx.new }
     ensures settled { IsSettledDown (view ctx.new) }
     ensures decidable { (v : ℕ) → IsDecidable (view ctx.new) ctx.new.vsids v ↔ (IsDecidable (view ctx.old) ctx.old.vsids v × (leaves gone.now v ≡ false)) }
-    ensures last { ctx.new.assignment.last ≡ cleared gone.now false ctx.old.assignment.last }
-    ensures activities { ctx.new.vsids ≡ forgotten_activities gone.now ctx.old.vsids }
     // What a proof holds still fits where the clauses that name the variables are left out of it.
     ensures seen { search_of (view ctx.new) ≡ search_without gone.now (search_of (view ctx.old)) }
     ensures fits { (held : List Clause) → Fits held (search_of (view ctx.old)) → Fits (clauses_without gone.now held) (search_of (view ctx.new)) }
-    ensures kept { ChangesDecisions ctx.old ctx.new }
+    ensures kept { ChangesForgotten gone.now ctx.old ctx.new }
 {
     let before = ctx.trail.trail().len();
     ctx.trail.remove_units(gone);

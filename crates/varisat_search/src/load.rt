@@ -14,8 +14,8 @@ ghost use Rattle.varisat_prop.specs.Watches.{IsPropagated};
 ghost use Rattle.varisat_search.specs.Contexts.{view, IsNotUnsat, KeepsSchedule, IsReady};
 ghost use Rattle.varisat_search.specs.Steps.{IsPropagatedToEnd, SavesAll, reopened_state, IsVerdictAfter, accepted_with};
 ghost use Rattle.varisat_search.specs.Decisions.{AreDecidable};
-ghost use Rattle.varisat_search.specs.Frames.{ChangesLoaded, KeepsVariables};
-ghost use Rattle.varisat_search.specs.Loading.{HasFalseLiteral, IsHeadAfter, IsAdded, LoadsUnit, DeletesInOrder, LoadsTo};
+ghost use Rattle.varisat_search.specs.Frames.{ChangesLoaded, ClearsFlags, KeepsVariables, KeepsScheduleAndVariables};
+ghost use Rattle.varisat_search.specs.Loading.{HasFalseLiteral, IsHeadAfter, AddsClause, LoadsUnit, DeletesInOrder, LoadsTo};
 ghost use Rattle.varisat_search.specs.Forgotten.{IsUnmentioned};
 ghost use Rattle.varisat_trace.specs.Traces.{TakesLines, BreaksOff, faults_of, CanTake, HoldsWith};
 ghost use Rattle.varisat_search.specs.StepErrors.{RefusesStoring, HasNoRoom, step_faults};
@@ -44,8 +44,7 @@ fn collect_distinct<A: Allocator + Copy>(
     ensures distinct { OnOk result (IsDistinct ctx.new.tmp_data.lits.items) }
     ensures same { OnOk result (SameSet ctx.new.tmp_data.lits.items clause.now) }
     ensures tautology { IfOk result (λ found. IsTrue found ↔ IsTautology ctx.new.tmp_data.lits.items) }
-    ensures flags { OnOk result (ctx.new.tmp_flags.flags.items ≡ ctx.old.tmp_flags.flags.items) }
-    ensures kept { ctx.new ≡ record ctx.old { tmp_data = ctx.new.tmp_data; tmp_flags = ctx.new.tmp_flags } }
+    ensures kept { (ctx.new ≡ record ctx.old { tmp_data = ctx.new.tmp_data; tmp_flags = ctx.new.tmp_flags }) × ClearsFlags ctx.old ctx.new }
 {
     let found = collect_flagged(&mut ctx.tmp_data.lits, &mut ctx.tmp_flags.flags, clause)?;
     Ok(found)
@@ -92,10 +91,7 @@ fn add_distinct<A: Allocator + Copy>(ctx: &mut Context<A>) -> Result<(), StoreEr
     ensures kept { ChangesLoaded ctx.old ctx.new }
     ensures propagated { OnOk result (IsPropagated ctx.new.watchlists (view ctx.new)) }
     ensures tracks { OnOk result (Tracks ctx.new.clause_db ctx.new.clause_alloc) }
-    ensures state { OnOk result (ctx.new.solver_state ≡ record ctx.old.solver_state { sat_state = ctx.new.solver_state.sat_state }) }
-    ensures last { OnOk result (ctx.new.assignment.last ≡ ctx.old.assignment.last) }
-    ensures added { OnOk result (IsAdded (view ctx.old)
-        (view ctx.new) ctx.old.tmp_data.lits.items ctx.old.solver_state.sat_state ctx.new.solver_state.sat_state) }
+    ensures added { OnOk result (AddsClause ctx.old ctx.new) }
     ensures full { IfErr result (λ error. error ≡ StoreError.Full → RefusesStoring (length ctx.old.tmp_data.lits.items) ctx.old ctx.new) }
 {
     let Some(first) = first_of(&ctx.tmp_data.lits) else {
@@ -226,10 +222,9 @@ pub fn resurrect_unit<A: Allocator + Copy>(ctx: &mut Context<A>, lit: Lit) -> Re
     ensures state { OnOk result (IsNotUnsat ctx.old →
         ctx.new.solver_state ≡ accepted_with (reopened_state ctx.old.solver_state.sat_state) ctx.old.solver_state) }
     ensures assumptions { OnOk result (IsNotUnsat ctx.old → ctx.new.assumptions ≡ record ctx.old.assumptions { levels = 0 }) }
-    ensures keeps { OnOk result (KeepsVariables ctx.old ctx.new) }
+    ensures keeps { KeepsScheduleAndVariables result ctx.old ctx.new }
     // Where all was propagated at level 0, all is.
     ensures quiet { OnOk result (IsNotUnsat ctx.old → ctx.old.trail.decisions ≡ [] → IsPropagatedToEnd (view ctx.old) → IsPropagatedToEnd (view ctx.new)) }
-    ensures schedule { KeepsSchedule ctx.old ctx.new }
 {
     if let SatState::Unsat = ctx.solver_state.sat_state {
         return Ok(());

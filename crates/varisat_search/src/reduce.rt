@@ -1,11 +1,8 @@
 //! The reductions of the learned clauses of a search.
-ghost use Rattle.std.specs.Prelude.{◌≡◌, false, length, OnOk, OnErr, IfErr};
-ghost use Rattle.varisat_clause.specs.Stores.{stored_clauses, HoldsClauses};
-ghost use Rattle.varisat_clause.specs.Reductions.{mids_reduced};
-ghost use Rattle.varisat_analysis.specs.HeaderChanges.{ChangesHeaders};
+ghost use Rattle.std.specs.Prelude.{◌≡◌, false, OnOk, OnErr, IfErr};
 ghost use Rattle.varisat_search.specs.Contexts.{view, IsReady};
 ghost use Rattle.varisat_search.specs.Frames.{ChangesStore, ChangesTiers};
-ghost use Rattle.varisat_search.specs.DueReductions.{MarksReasons, DropsLocals, KeepsSearch};
+ghost use Rattle.varisat_search.specs.DueReductions.{MarksReasons, DropsLocals, ReducesMids, KeepsSearch};
 ghost use Rattle.varisat_search.specs.Seen.{search_of};
 ghost use Rattle.varisat_trace.specs.Traces.{TakesLines, BreaksOff, faults_of, HoldsFor};
 
@@ -57,8 +54,7 @@ pub fn reduce_locals<A: Allocator + Copy, P: ProofTracer>(
 /// growth was refused this is done for the first clauses alone.
 pub fn reduce_mids<A: Allocator + Copy>(ctx: &mut Context<A>) -> Result<(), AllocError>
     requires { IsReady ctx.old }
-    ensures reduced { OnOk result (HoldsClauses ctx.new.clause_alloc (length ctx.old.clause_alloc.words) (mids_reduced (stored_clauses ctx.old.clause_alloc))) }
-    ensures headers { OnOk result (ChangesHeaders (view ctx.old) (view ctx.new)) }
+    ensures reduces { OnOk result (ReducesMids ctx.old ctx.new) }
     ensures ready { OnOk result (IsReady ctx.new) }
     ensures kept { ChangesTiers ctx.old ctx.new }
 {

@@ -1,11 +1,10 @@
 //! The steps of a search by its schedule.
-ghost use Rattle.std.specs.Prelude.{◌≡◌, ◌-◌, ◌^◌, ◌<◌, List, [], length, OnOk, OnErr, IfErr};
+ghost use Rattle.std.specs.Prelude.{◌≡◌, ◌-◌, ◌^◌, ◌<◌, List, [], length, OnOk, IfErr};
 ghost use Rattle.varisat_prop.specs.View.{kinds};
-ghost use Rattle.varisat_schedule.specs.Plans.{next_plan};
 ghost use Rattle.varisat_schedule.specs.CallSteps.{IsPlannedStep};
 ghost use Rattle.varisat_search.specs.AssumptionParts.{KeepsAssumptions};
 ghost use Rattle.varisat_search.specs.Contexts.{view, IsReady};
-ghost use Rattle.varisat_search.specs.Frames.{ChangesBegun, ChangesReduced, ChangesPlaces, ChangesStore, ChangesTiers, KeepsVariables};
+ghost use Rattle.varisat_search.specs.Frames.{ChangesBegun, ChangesReduced, ChangesPlaces, ChangesStore, ChangesTiers, CountsStep, KeepsVariables};
 ghost use Rattle.varisat_search.specs.Decisions.{SameDecidable};
 ghost use Rattle.varisat_search.specs.Progress.{outcome_at};
 ghost use Rattle.varisat_search.specs.FoundCores.{HasCoreIfFailed};
@@ -37,7 +36,6 @@ fn restart_if_due<A: Allocator + Copy>(ctx: &mut Context<A>)
     ensures saved { SavesIfDue ctx.old.schedule ctx.old.assumptions.levels (view ctx.old) ctx.old.assignment.last ctx.new.assignment.last }
     ensures decidable { SameDecidable (view ctx.old) ctx.old.vsids (view ctx.new) ctx.new.vsids }
     ensures later { ctx.new.schedule.steps < ctx.new.schedule.next_restart }
-    ensures decay { ctx.new.vsids.decay ≡ ctx.old.vsids.decay }
     ensures kept { ChangesBegun ctx.old ctx.new }
 {
     let scale = ctx.solver_config.luby_restart_interval_scale();
@@ -70,8 +68,7 @@ fn reduce_locals_if_due<A: Allocator + Copy, P: ProofTracer>(
 /// Reduces the Mid clauses where the number of steps made is a multiple of the interval for it.
 fn reduce_mids_if_due<A: Allocator + Copy>(ctx: &mut Context<A>) -> Result<(), AllocError>
     requires { IsReady ctx.old }
-    ensures reduces { OnOk result (ReducesMidsIfDue ctx.old ctx.new) }
-    ensures keeps { OnOk result (KeepsSearch (λ lines. lines ≡ []) ctx.old ctx.new) }
+    ensures keeps { OnOk result (KeepsSearch (λ lines. ReducesMidsIfDue ctx.old ctx.new × (lines ≡ [])) ctx.old ctx.new) }
     ensures kept { ChangesTiers ctx.old ctx.new }
 {
     if ctx.schedule.steps() % ctx.solver_config.reduce_mids_interval() == 0 {
@@ -142,9 +139,7 @@ pub fn schedule_step<A: Allocator + Copy, P: ProofTracer>(
     ensures last { OnOk result (RestartsAndRemembers ctx.old.schedule ctx.old.assumptions.levels
         (view ctx.old) ctx.old.assignment.last ctx.new.assignment.last) }
     ensures state { OnOk result (ctx.new.solver_state ≡ record ctx.old.solver_state { sat_state = ctx.new.solver_state.sat_state }) }
-    ensures schedule { OnOk result (ctx.new.schedule ≡ next_plan ctx.old.solver_config.luby_restart_interval_scale ctx.old.schedule) }
-    ensures uncounted { OnErr result (ctx.new.schedule.steps ≡ ctx.old.schedule.steps) }
-    ensures config { ctx.new.solver_config ≡ ctx.old.solver_config }
+    ensures counts { CountsStep result ctx.old ctx.new }
     // The store is full only where it has no room for a clause of all variables.
     ensures full { IfErr result (λ error. error ≡ StepError.Full → HasNoRoom ctx.new) }
     ensures broken { IfErr result (λ error. BreaksOff P.breaks_off proof.old (step_faults error) proof.new) }

@@ -1,19 +1,19 @@
 //! Solver variables, which variables take once a clause or an assumption names them.
-ghost use Rattle.std.specs.Prelude.{◌≡◌, ◌≢◌, ◌<◌, None, false, length, slice_index_or, IsSome, OnOk, IfOk, OnErr, MatchOption};
+ghost use Rattle.std.specs.Prelude.{◌≡◌, ◌≢◌, ◌<◌, None, false, length, slice_index_or, IsSome, OnOk, IfOk, MatchOption};
 ghost use Rattle.varisat_theory.specs.Literals.{Literal, variable_of, literal_of};
 ghost use Rattle.varisat_theory.specs.Searches.{IsLiteralOf};
 ghost use Rattle.varisat_literals.specs.Numbers.{variable_limit};
 ghost use Rattle.varisat_names.specs.Maps.{chain};
 ghost use Rattle.varisat_names.specs.VarMap.{at};
 ghost use Rattle.varisat_names.specs.VarData.{kept_at};
-ghost use Rattle.varisat_names.specs.Variables.{Tables, IsNamed, IsDropped};
+ghost use Rattle.varisat_names.specs.Variables.{Tables, IsNamed};
 ghost use Rattle.varisat_prop.specs.View.{kept};
-ghost use Rattle.varisat_vsids.specs.Activities.{with_available};
 ghost use Rattle.varisat_search.specs.Contexts.{view, IsReady, KeepsSchedule};
 ghost use Rattle.varisat_search.specs.Decisions.{IsDecidable, SameDecidableBut};
+ghost use Rattle.varisat_search.specs.Frames.{SameVariablesBut};
 ghost use Rattle.varisat_search.specs.Forgotten.{AreNotOf, IsUnmentioned};
 ghost use Rattle.varisat_search.specs.Seen.{search_of};
-ghost use Rattle.varisat_search.specs.SolverVariables.{HasRoom, HasRoomFor, searched_with, HasVariables, KeepsSeen, HasUnitAgain, HasSolverVariable, NameHasSolver, HaveSolversInTurn, AreOver};
+ghost use Rattle.varisat_search.specs.SolverVariables.{HasRoom, HasRoomFor, searched_with, HasVariables, KeepsSeen, HasUnitAgain, HasSolverVariable, NameHasSolver, RemovesSolver, HaveSolversInTurn, AreOver};
 
 use crate::context::Context;
 use crate::decision::{add_variables, make_available, remove_var};
@@ -36,9 +36,8 @@ pub fn initialize_solver_var<A: Allocator + Copy>(
     requires known { solver < length ctx.old.assignment.current }
     requires unmentioned { (l : Literal) → IsLiteralOf (search_of (view ctx.old)) l → variable_of l ≢ solver }
     ensures ready { OnOk result (IsReady ctx.new) }
-    ensures count { OnOk result (length ctx.new.assignment.current ≡ length ctx.old.assignment.current) }
     ensures decidable { OnOk result (IsDecidable (view ctx.new) ctx.new.vsids solver) }
-    ensures others { OnOk result (SameDecidableBut solver (view ctx.old) ctx.old.vsids (view ctx.new) ctx.new.vsids) }
+    ensures others { OnOk result (SameVariablesBut solver ctx.old ctx.new) }
     ensures unit { OnOk result (MatchOption unit (KeepsSeen ctx.old ctx.new) (λ value. HasUnitAgain (literal_of solver value) ctx.old ctx.new)) }
     ensures schedule { KeepsSchedule ctx.old ctx.new }
 {
@@ -126,12 +125,10 @@ pub fn remove_solver_var<A: Allocator + Copy>(
     requires ready { IsReady ctx.old }
     requires known { solver < length ctx.old.assignment.current }
     requires taken { IsSome (at variables.old.solvers.backward solver) }
-    ensures dropped { IfOk result (λ global. IsDropped variables.old variables.new global solver) }
-    ensures removed { OnOk result (ctx.new ≡ record ctx.old { vsids = with_available solver false ctx.old.vsids }) }
+    ensures removed { RemovesSolver solver (searched_with variables.old ctx.old) (searched_with variables.new ctx.new) result }
     ensures not_decidable { OnOk result (slice_index_or ctx.old.assignment.current solver None ≡ None → IsDecidable (view ctx.new) ctx.new.vsids solver → ⊥) }
     ensures others { OnOk result (SameDecidableBut solver (view ctx.old) ctx.old.vsids (view ctx.new) ctx.new.vsids) }
     ensures ready { OnOk result (IsUnmentioned (kept (view ctx.old)) solver → AreNotOf ctx.old.assumptions.working solver → IsReady ctx.new) }
-    ensures refused { OnErr result ((variables.new ≡ variables.old) × (ctx.new ≡ ctx.old)) }
 {
     let global = variables.drop_solver_var(solver)?;
     remove_var(ctx, solver);

@@ -1,5 +1,5 @@
 //! Simplification by the literals of level 0: they become unit clauses, and the kept clauses lose what these say.
-ghost use Rattle.std.specs.Prelude.{◌≡◌, ◌≢◌, ◌<◌, ◌≤◌, ◌↔◌, ◌++◌, IsTrue, None, [], length, drop, slice_index_or, OnOk, OnErr, IfOk, IfErr};
+ghost use Rattle.std.specs.Prelude.{◌≡◌, ◌≢◌, ◌<◌, ◌≤◌, ◌↔◌, ◌++◌, IsTrue, None, [], length, drop, slice_index_or, OnOk, IfOk, IfErr};
 ghost use Rattle.std.specs.List.Sorted.{IsPermutation};
 ghost use Rattle.varisat_theory.specs.Membership.{◌∈◌};
 ghost use Rattle.varisat_theory.specs.Literals.{Literal, Clause, variable_of};
@@ -9,7 +9,7 @@ ghost use Rattle.varisat_clause.specs.Stores.{stored_clauses, IsSound, HoldsClau
 ghost use Rattle.varisat_prop.specs.Looks.{IsInRange};
 ghost use Rattle.varisat_prop.specs.Simplified.{without_assigned};
 ghost use Rattle.varisat_search.specs.Contexts.{view, IsReady};
-ghost use Rattle.varisat_search.specs.Frames.{ChangesClauses};
+ghost use Rattle.varisat_search.specs.Frames.{ChangesSimplified, HoldsOrUnchanged};
 ghost use Rattle.varisat_search.specs.Decisions.{SameDecidable};
 ghost use Rattle.varisat_search.specs.Progress.{ProvesTo};
 ghost use Rattle.varisat_search.specs.Seen.{search_of};
@@ -50,11 +50,10 @@ pub fn prove_units<A: Allocator + Copy, P: ProofTracer>(
     requires ready { IsReady ctx.old }
     requires holds { HoldsFor (P.holds proof.old) (search_of (view ctx.old)) }
     ensures found { IfOk result (λ found. IsTrue found ↔ ((ctx.old.trail.decisions ≡ []) × (0 < length ctx.old.trail.literals))) }
-    ensures proved { OnOk result (ctx.old.trail.decisions ≡ [] → ProvesUnits (view ctx.old) (view ctx.new)) }
+    ensures proved { HoldsOrUnchanged result (ctx.old.trail.decisions ≡ [] → ProvesUnits (view ctx.old) (view ctx.new)) ctx.old ctx.new }
     ensures proves { OnOk result (ctx.old.trail.decisions ≡ [] → ProvesTo (unit_lines (implied_units (view ctx.old))) ctx.old ctx.new) }
     ensures takes { OnOk result (ctx.old.trail.decisions ≡ [] → TakesLines P.takes proof.old (unit_lines (implied_units (view ctx.old))) proof.new) }
     ensures stays { 0 < length ctx.old.trail.decisions → (ctx.new ≡ ctx.old) × (proof.new ≡ proof.old) }
-    ensures failed { OnErr result (ctx.new ≡ ctx.old) }
     ensures ready { OnOk result (IsReady ctx.new) }
     ensures kept { ctx.new ≡ record ctx.old { impl_graph = ctx.new.impl_graph } }
     ensures broken { IfErr result (λ error. BreaksOff P.breaks_off proof.old (faults_of error) proof.new) }
@@ -172,11 +171,11 @@ pub fn simplify_binary<A: Allocator + Copy, P: ProofTracer>(
 ) -> Result<(), TraceError>
     requires can { CanSimplify ctx.old }
     requires holds { HoldsFor (P.holds proof.old) (search_of (view ctx.old)) }
-    ensures simplified { OnOk result (ctx.new.binary_clauses ≡ without_assigned ctx.old.assignment.current ctx.old.binary_clauses) }
+    ensures simplified { HoldsOrUnchanged result
+        (ctx.new.binary_clauses ≡ without_assigned ctx.old.assignment.current ctx.old.binary_clauses) ctx.old ctx.new }
     ensures proves { OnOk result (ProvesTo (pair_lines (view ctx.old)) ctx.old ctx.new) }
     ensures takes { OnOk result (TakesLines P.takes proof.old (pair_lines (view ctx.old)) proof.new) }
     ensures ready { OnOk result (IsReady ctx.new) }
-    ensures failed { OnErr result (ctx.new ≡ ctx.old) }
     ensures kept { ctx.new ≡ record ctx.old { binary_clauses = ctx.new.binary_clauses } }
     ensures broken { IfErr result (λ error. BreaksOff P.breaks_off proof.old (faults_of error) proof.new) }
 {
@@ -196,12 +195,11 @@ fn simplify_stored<A: Allocator + Copy, P: ProofTracer>(
     requires holds { HoldsFor (P.holds proof.old) (search_of (view ctx.old)) }
     requires left { without_assigned ctx.old.assignment.current ctx.old.binary_clauses ≡ ctx.old.binary_clauses }
     ensures simplified { OnOk result (IsSimplified (view ctx.old) (view ctx.new)) }
-    ensures watched { OnOk result (ctx.new.watchlists.enabled ≡ ctx.old.watchlists.enabled) }
     ensures proves { OnOk result (ProvesTo (clause_lines (view ctx.old)) ctx.old ctx.new) }
     ensures takes { OnOk result (TakesLines P.takes proof.old (clause_lines (view ctx.old)) proof.new) }
     ensures ready { OnOk result (IsReady ctx.new) }
     ensures decidable { OnOk result (SameDecidable (view ctx.old) ctx.old.vsids (view ctx.new) ctx.new.vsids) }
-    ensures kept { ChangesClauses ctx.old ctx.new }
+    ensures kept { ChangesSimplified ctx.old ctx.new }
     ensures broken { IfErr result (λ error. BreaksOff P.breaks_off proof.old (faults_of error) proof.new) }
 {
     let alloc = *ctx.tmp_data.lits.allocator();
@@ -231,12 +229,11 @@ pub fn unit_simplify<A: Allocator + Copy, P: ProofTracer>(
     requires can { CanSimplify ctx.old }
     requires holds { HoldsFor (P.holds proof.old) (search_of (view ctx.old)) }
     ensures simplified { OnOk result (IsSimplified (view ctx.old) (view ctx.new)) }
-    ensures watched { OnOk result (ctx.new.watchlists.enabled ≡ ctx.old.watchlists.enabled) }
     ensures proves { OnOk result (ProvesTo (pair_lines (view ctx.old) ++ clause_lines (view ctx.old)) ctx.old ctx.new) }
     ensures takes { OnOk result (TakesLines P.takes proof.old (pair_lines (view ctx.old) ++ clause_lines (view ctx.old)) proof.new) }
     ensures ready { OnOk result (IsReady ctx.new) }
     ensures decidable { OnOk result (SameDecidable (view ctx.old) ctx.old.vsids (view ctx.new) ctx.new.vsids) }
-    ensures kept { ChangesClauses ctx.old ctx.new }
+    ensures kept { ChangesSimplified ctx.old ctx.new }
     ensures broken { IfErr result (λ error. BreaksOff P.breaks_off proof.old (faults_of error) proof.new) }
 {
     simplify_binary(ctx, proof)?;

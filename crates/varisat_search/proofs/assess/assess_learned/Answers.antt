@@ -1,5 +1,5 @@
 use Rattle.std.proofs.lemmas.Grind.{common_steps}
-use Rattle.std.proofs.Common.{List, ◌∙◌, subst, arith}
+use Rattle.std.proofs.Common.{List, refl, ◌∙◌, subst, arith}
 use Rattle.varisat_theory.specs.Membership.{◌∈◌}
 use Rattle.varisat_theory.specs.Literals.{Literal}
 use Rattle.varisat_search.specs.Contexts.{view}
@@ -11,5 +11,5 @@ assess_learned_clause-requires g c =
     can-count (view c.args.ctx.now) c.requires.well c.deref_mut.result.now c.clause.result.now (c.deref_mut.ensures.value ∙ c.requires.clear)
     (λ l i. c.requires.assigned l (subst (λ (ls : List Literal). l ∈ ls) c.clause.ensures i))
 
-pub returns-clause-flags : goal.returns-clause-flags
-returns-clause-flags g c = grind (arith, common_steps)
+pub returns-clause-kept : goal.returns-clause-kept
+returns-clause-kept g c = (refl, grind (arith, common_steps))

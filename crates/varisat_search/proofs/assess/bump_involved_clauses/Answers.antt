@@ -1,5 +1,5 @@
 use Rattle.std.proofs.lemmas.Grind.{common_steps}
-use Rattle.std.proofs.Common.{List, ◌∙◌, subst, arith}
+use Rattle.std.proofs.Common.{List, refl, ◌∙◌, subst, arith}
 use Rattle.varisat_theory.specs.Membership.{◌∈◌}
 use Rattle.varisat_clause.specs.Collected.{live_clauses}
 use Rattle.varisat_prop.specs.declared.prop.graph.Conflict.{Conflict}
@@ -32,8 +32,8 @@ pub returns-clause-tracks : goal.returns-clause-tracks
 returns-clause-tracks g c = decay-tracks c.bump_named.new.db c.bump_named.new.alloc c.decay_clause_activities.new.alloc _
     c.bump_named.ensures.tracks c.decay_clause_activities.ensures.clauses
 
-pub returns-in_err-bump_named-clause-flags : goal.returns-in_err-bump_named-clause-flags
-returns-in_err-bump_named-clause-flags g c = grind (arith, common_steps)
+pub returns-in_err-bump_named-clause-kept : goal.returns-in_err-bump_named-clause-kept
+returns-in_err-bump_named-clause-kept g c = (refl, grind (arith, common_steps))
 
-pub returns-clause-flags : goal.returns-clause-flags
-returns-clause-flags g c = grind (arith, common_steps)
+pub returns-clause-kept : goal.returns-clause-kept
+returns-clause-kept g c = (refl, grind (arith, common_steps))

@@ -91,19 +91,19 @@ returns-then-lit_is_false-clause-ready g c =
     let n = next g here.In-Some in
     let z = c.find_failed_core.new.ctx in
     failed-ready c.args.ctx.now c.next_assumption.new.assumptions c.requires.ready
-    (taken g here.After-next_assumption) c.in-Some.lit n.0 n.1 z z.assumptions.failed_core c.find_failed_core.ensures.kept c.find_failed_core.ensures.flags
+    (taken g here.After-next_assumption) c.in-Some.lit n.0 n.1 z z.assumptions.failed_core c.find_failed_core.ensures.kept
 
 pub returns-then-lit_is_false-clause-taken : goal.returns-then-lit_is_false-clause-taken
 returns-then-lit_is_false-clause-taken g c =
     let here = goal.at.returns-then-lit_is_false-clause-taken g c in
     let z = c.find_failed_core.new.ctx in
-    let e = ap (λ (x : Context g.row.A.Denot). x.assumptions) c.find_failed_core.ensures.kept in
+    let e = ap (λ (x : Context g.row.A.Denot). x.assumptions) c.find_failed_core.ensures.kept.0 in
     left-implied-with c.args.ctx.now c.next_assumption.new.assumptions c.requires.ready (taken g here.After-next_assumption) z.assumptions
     (ap (λ (a : AssumptionParts). a.user) e) (ap (λ (a : AssumptionParts). a.user_core) e) (ap (λ (a : AssumptionParts). a.working) e)
 
 pub returns-then-lit_is_false-clause-before : goal.returns-then-lit_is_false-clause-before
 returns-then-lit_is_false-clause-before g c =
-    let e = ap (λ (x : Context g.row.A.Denot). x.assumptions.working) c.find_failed_core.ensures.kept in
+    let e = ap (λ (x : Context g.row.A.Denot). x.assumptions.working) c.find_failed_core.ensures.kept.0 in
     implied-before-with (view c.args.ctx.now) c.args.ctx.now.assumptions c.next_assumption.new.assumptions c.find_failed_core.new.ctx.assumptions e
     (before g (goal.at.returns-then-lit_is_false-clause-before g c).After-next_assumption)
 
@@ -112,7 +112,7 @@ returns-then-lit_is_false-clause-next g c =
     let here = goal.at.returns-then-lit_is_false-clause-next g c in
     let n = next g here.In-Some in
     let z = c.find_failed_core.new.ctx in
-    let k = c.find_failed_core.ensures.kept in (
+    let k = c.find_failed_core.ensures.kept.0 in (
       ap (λ (x : Context g.row.A.Denot). view x) k,
       subst (λ (x : Context g.row.A.Denot). HasFailed (view x) x.assumptions) (sym k)
           (has-failed c.args.ctx.now c.next_assumption.new.assumptions c.requires.ready
@@ -153,7 +153,7 @@ is-after : (g : Over) (c : In_ok-decide_lit g) (a : AssumptionParts) → record 
 is-after g c a = ap (λ (x : Context g.row.A.Denot). record x { assumptions = a }) c.decide_lit.ensures.kept
 
 decided : (g : Over) (c : In_ok-decide_lit g) (a : AssumptionParts) → view (after g c a) ≡ decided_on (view c.args.ctx.now) c.in-Some.lit
-decided g c a = ap (λ (x : Context g.row.A.Denot). view x) (sym c.decide_lit.ensures.kept) ∙ c.in_ok-decide_lit.ensures.decided
+decided g c a = ap (λ (x : Context g.row.A.Denot). view x) (sym c.decide_lit.ensures.kept) ∙ c.in_ok-decide_lit.ensures.decided.level
 
 pub returns-clause-ready : goal.returns-clause-ready
 returns-clause-ready g c =
@@ -185,7 +185,7 @@ returns-clause-before g c =
 pub returns-clause-next : goal.returns-clause-next
 returns-clause-next g c =
     let here = (goal.at.returns-clause-next g c).In_ok-decide_lit in
-    (c.in-Some.lit, free g here, c.in_ok-decide_lit.ensures.decided)
+    (c.in-Some.lit, free g here, c.in_ok-decide_lit.ensures.decided.level)
 
 pub returns-in_default-clause-forward : goal.returns-in_default-clause-forward
 returns-in_default-clause-forward g c =
@@ -193,7 +193,7 @@ returns-in_default-clause-forward g c =
 
 pub returns-then-lit_is_false-clause-forward : goal.returns-then-lit_is_false-clause-forward
 returns-then-lit_is_false-clause-forward g c =
-    let k = c.find_failed_core.ensures.kept in
+    let k = c.find_failed_core.ensures.kept.0 in
     forward-same c.args.ctx.now c.find_failed_core.new.ctx (ap (λ (y : Context g.row.A.Denot). (view y).values) k)
     (ap (λ (y : Context g.row.A.Denot). y.vsids) k) (ap (λ (y : Context g.row.A.Denot). y.assignment.last) k)
     (ap (λ (y : Context g.row.A.Denot). y.solver_state) k)
@@ -210,6 +210,6 @@ returns-clause-forward g c =
           (next-same x c.next_assumption.new.assumptions c.requires.ready (taken g at.After-next_assumption) c.in-Some.lit n.0 n.1
           (after g here c.set_levels.new.self) (free g here) (decided g here c.set_levels.new.self) refl);
       activities = subst (λ (b : Activities). b ≡ record x.vsids { available = b.available }) (sym (ap (λ (y : Context g.row.A.Denot). y.vsids) k)) refl;
-      last = c.in_ok-decide_lit.ensures.last;
+      last = c.in_ok-decide_lit.ensures.decided.last;
       state = ap (λ (y : Context g.row.A.Denot). y.solver_state) k;
     }

@@ -1,9 +1,11 @@
-use Rattle.std.proofs.Common.{length, ap, ◌∙◌, subst, arith}
+use Rattle.std.proofs.Common.{◌≡◌, ℕ, Bool, List, length, ap, ap₂, ◌∙◌, subst, arith}
 use Rattle.varisat_theory.specs.Membership.{◌∈◌}
 use Rattle.varisat_vsids.specs.Activities.{Activities, decayed}
 use Rattle.varisat_search.specs.Contexts.{view}
 use Rattle.varisat_analysis.specs.Bumps.{bumped_each}
 use Rattle.varisat_analysis.proofs.BumpedVariables.{above-inside, each-available, each-decay}
+use Rattle.varisat_search.proofs.bumps.bump_involved.Given.{Over}
+use Rattle.varisat_search.proofs.bumps.bump_involved.Goals.{After-decay}
 use Rattle.varisat_search.proofs.bumps.bump_involved.Goals as goal
 
 pub bump_each-requires : goal.bump_each-requires
@@ -23,24 +25,26 @@ returns-clause-bumps g c h =
       c.decay.ensures.decayed ∙ ap decayed (c.bump_each.ensures.bumps ∙ ap (λ vs. bumped_each vs x.vsids) c.met.ensures),
     )
 
-pub returns-clause-available : goal.returns-clause-available
-returns-clause-available g c =
+-- the same variables are available
+available : (g : Over) (c : After-decay g) → c.decay.new.self.available ≡ c.args.ctx.now.vsids.available
+available g c =
     ap (λ (b : Activities). b.available) c.decay.ensures.decayed ∙ ap (λ (b : Activities). b.available) c.bump_each.ensures.bumps
     ∙ each-available c.met.result.now c.args.ctx.now.vsids
 
-pub returns-clause-decay : goal.returns-clause-decay
-returns-clause-decay g c =
-    ap (λ (b : Activities). b.decay) c.decay.ensures.decayed ∙ ap (λ (b : Activities). b.decay) c.bump_each.ensures.bumps
-    ∙ each-decay c.met.result.now c.args.ctx.now.vsids
+pub returns-clause-kept : goal.returns-clause-kept
+returns-clause-kept g c =
+    let v = c.decay.new.self in
+    ap₂ (λ (bs : List Bool) (n : ℕ). record c.args.ctx.now { vsids = record v { available = bs; decay = n } })
+    (available g (goal.at.returns-clause-kept g c).After-decay)
+    (ap (λ (b : Activities). b.decay) c.decay.ensures.decayed ∙ ap (λ (b : Activities). b.decay) c.bump_each.ensures.bumps
+    ∙ each-decay c.met.result.now c.args.ctx.now.vsids)
 
 pub returns-clause-entries : goal.returns-clause-entries
 returns-clause-entries g c =
     let n = c.requires.ready.decidable.entries in
     record {
       activity = c.decay.ensures.count ∙ c.bump_each.ensures.count ∙ n.activity;
-      available = ap (λ xs. length xs)
-          (ap (λ (b : Activities). b.available) c.decay.ensures.decayed ∙ ap (λ (b : Activities). b.available) c.bump_each.ensures.bumps
-          ∙ each-available c.met.result.now c.args.ctx.now.vsids) ∙ n.available;
+      available = ap (λ xs. length xs) (available g (goal.at.returns-clause-entries g c).After-decay) ∙ n.available;
     }
 
 pub returns-clause-undecided : goal.returns-clause-undecided

@@ -26,8 +26,8 @@ holds g c =
 pub find_and_learn-requires-clause-holds : goal.find_and_learn-requires-clause-holds
 find_and_learn-requires-clause-holds g c = holds g (goal.at.find_and_learn-requires-clause-holds g c).In_ok-settle_units
 
-pub learn-requires-clause-holds : goal.learn-requires-clause-holds
-learn-requires-clause-holds g c = holds g (goal.at.learn-requires-clause-holds g c).In_ok-settle_units
+pub learn_from_conflict-requires-clause-holds : goal.learn_from_conflict-requires-clause-holds
+learn_from_conflict-requires-clause-holds g c = holds g (goal.at.learn_from_conflict-requires-clause-holds g c).In_ok-settle_units
 
 -- the units are settled, and a step is made from there
 after : (g : Over) (c : In_ok-settle_units g) (z : Context g.row.A.Denot) (p2 : g.row.P.Denot) →
@@ -58,16 +58,16 @@ returns-in_ok-find_and_learn-in-Ok-clause-made g c =
     after g (goal.at.returns-in_ok-find_and_learn-in-Ok-clause-made g c).In_ok-settle_units c.find_and_learn.new.ctx c.find_and_learn.new.proof
     c.in_ok-find_and_learn-in-Ok.ensures.made
 
-pub returns-in_ok-learn-in-Err-clause-made : goal.returns-in_ok-learn-in-Err-clause-made
-returns-in_ok-learn-in-Err-clause-made g c =
-    let e = c.in_ok-learn-in-Err.ensures in
+pub returns-in_ok-learn_from_conflict-in-Err-clause-made : goal.returns-in_ok-learn_from_conflict-in-Err-clause-made
+returns-in_ok-learn_from_conflict-in-Err-clause-made g c =
+    let e = c.in_ok-learn_from_conflict-in-Err.ensures in
     let takes = g.P.ProofTracer.takes in
     let p1 = c.settle_units.new.proof in
-    let p2 = c.learn.new.proof in
+    let p2 = c.learn_from_conflict.new.proof in
     let y = c.settle_units.new.ctx in
-    let z = c.learn.new.ctx in
+    let z = c.learn_from_conflict.new.ctx in
     let v = outcome_at z in
-    after g (goal.at.returns-in_ok-learn-in-Err-clause-made g c).In_ok-settle_units z p2
+    after g (goal.at.returns-in_ok-learn_from_conflict-in-Err-clause-made g c).In_ok-settle_units z p2
     (made-are y z (λ lines. TakesLines takes p1 lines p2) (λ lines. TakesStep takes p1 lines v p2)
     (λ lines h. step-lines takes p1 p2 lines v (no-core-entry (view z) z.assumptions.failed_core z.solver_state.sat_state e.further.known) h)
     (made-at-once y z (λ lines. TakesLines takes p1 lines p2) c.in_ok-settle_units.ensures.goes_on.ready e.further e.last))
@@ -75,8 +75,8 @@ returns-in_ok-learn-in-Err-clause-made g c =
 pub returns-in_ok-find_and_learn-in-Ok-clause-core : goal.returns-in_ok-find_and_learn-in-Ok-clause-core
 returns-in_ok-find_and_learn-in-Ok-clause-core g c = c.in_ok-find_and_learn-in-Ok.ensures.core
 
-pub returns-in_ok-learn-in-Err-clause-core : goal.returns-in_ok-learn-in-Err-clause-core
-returns-in_ok-learn-in-Err-clause-core g c u = absurd (learned-no-core c.learn.new.ctx.solver_state.sat_state c.in_ok-learn-in-Err.ensures.further.known u)
+pub returns-in_ok-learn_from_conflict-in-Err-clause-core : goal.returns-in_ok-learn_from_conflict-in-Err-clause-core
+returns-in_ok-learn_from_conflict-in-Err-clause-core g c u = absurd (learned-no-core c.learn_from_conflict.new.ctx.solver_state.sat_state c.in_ok-learn_from_conflict-in-Err.ensures.further.known u)
 
 pub returns-in_ok-find_and_learn-in-Ok-clause-fixes : goal.returns-in_ok-find_and_learn-in-Ok-clause-fixes
 returns-in_ok-find_and_learn-in-Ok-clause-fixes g c =
@@ -90,10 +90,10 @@ returns-in_ok-find_and_learn-in-Ok-clause-fixes g c =
       refutes = λ none f k. absurd (s.finds none f k c.in-Ok.is);
     }
 
-pub returns-in_ok-learn-in-Err-clause-fixes : goal.returns-in_ok-learn-in-Err-clause-fixes
-returns-in_ok-learn-in-Err-clause-fixes g c =
+pub returns-in_ok-learn_from_conflict-in-Err-clause-fixes : goal.returns-in_ok-learn_from_conflict-in-Err-clause-fixes
+returns-in_ok-learn_from_conflict-in-Err-clause-fixes g c =
     let s = c.in_ok-settle_units.ensures in
-    let e = c.in_ok-learn-in-Err.ensures in
+    let e = c.in_ok-learn_from_conflict-in-Err.ensures in
     let other : c.in_ok-settle_units.field-0 ≡ Ok tt → ⊥ = λ o. (let z : Err c.in-Err.conflict ≡ Ok tt = sym c.in-Err.is ∙ o in cc) in
     record {
       keeps = λ calm n. absurd (other (s.stays calm).1);
@@ -118,14 +118,14 @@ returns-in_err-find_and_learn-in-Ok-clause-size g c =
     passed-on c.from_residual-in_err-find_and_learn-in-Ok.result c.in_err-find_and_learn-in-Ok.field-0.0
     (λ z. z ≡ step.Full → length c.find_and_learn.new.ctx.assignment.current ≡ length c.args.ctx.now.assignment.current)
     c.from_residual-in_err-find_and_learn-in-Ok.ensures
-    (λ f. c.in_err-find_and_learn-in-Ok.ensures.size f ∙ c.in_ok-settle_units.ensures.goes_on.extends.count)
+    (λ f. (c.in_err-find_and_learn-in-Ok.ensures.ends.full f).1 ∙ c.in_ok-settle_units.ensures.goes_on.extends.count)
 
-pub returns-in_err-learn-in-Err-clause-size : goal.returns-in_err-learn-in-Err-clause-size
-returns-in_err-learn-in-Err-clause-size g c =
-    passed-on c.from_residual-in_err-learn-in-Err.result c.in_err-learn-in-Err.field-0.0
-    (λ z. z ≡ step.Full → length c.learn.new.ctx.assignment.current ≡ length c.args.ctx.now.assignment.current)
-    c.from_residual-in_err-learn-in-Err.ensures
-    (λ f. c.in_err-learn-in-Err.ensures.size f ∙ c.in_ok-settle_units.ensures.goes_on.extends.count)
+pub returns-in_err-learn_from_conflict-in-Err-clause-size : goal.returns-in_err-learn_from_conflict-in-Err-clause-size
+returns-in_err-learn_from_conflict-in-Err-clause-size g c =
+    passed-on c.from_residual-in_err-learn_from_conflict-in-Err.result c.in_err-learn_from_conflict-in-Err.field-0.0
+    (λ z. z ≡ step.Full → length c.learn_from_conflict.new.ctx.assignment.current ≡ length c.args.ctx.now.assignment.current)
+    c.from_residual-in_err-learn_from_conflict-in-Err.ensures
+    (λ f. (c.in_err-learn_from_conflict-in-Err.ensures.ends.full f).1 ∙ c.in_ok-settle_units.ensures.goes_on.extends.count)
 
 pub returns-in_err-find_and_learn-in-Ok-clause-broken : goal.returns-in_err-find_and_learn-in-Ok-clause-broken
 returns-in_err-find_and_learn-in-Ok-clause-broken g c =
@@ -134,9 +134,9 @@ returns-in_err-find_and_learn-in-Ok-clause-broken g c =
     c.in_err-find_and_learn-in-Ok.field-0.0 c.from_residual-in_err-find_and_learn-in-Ok.ensures
     (breaks-on g.P.ProofTracer.takes g.P.ProofTracer.breaks_off g.met.P.ProofTracer.breaks_behind t c.in_err-find_and_learn-in-Ok.ensures.broken)
 
-pub returns-in_err-learn-in-Err-clause-broken : goal.returns-in_err-learn-in-Err-clause-broken
-returns-in_err-learn-in-Err-clause-broken g c =
+pub returns-in_err-learn_from_conflict-in-Err-clause-broken : goal.returns-in_err-learn_from_conflict-in-Err-clause-broken
+returns-in_err-learn_from_conflict-in-Err-clause-broken g c =
     let (lines, p, (s, t)) = c.in_ok-settle_units.ensures.goes_on.proves in
-    step-passed g.P.ProofTracer.breaks_off c.args.proof.now c.learn.new.proof c.from_residual-in_err-learn-in-Err.result
-    c.in_err-learn-in-Err.field-0.0 c.from_residual-in_err-learn-in-Err.ensures
-    (breaks-on g.P.ProofTracer.takes g.P.ProofTracer.breaks_off g.met.P.ProofTracer.breaks_behind t c.in_err-learn-in-Err.ensures.broken)
+    step-passed g.P.ProofTracer.breaks_off c.args.proof.now c.learn_from_conflict.new.proof c.from_residual-in_err-learn_from_conflict-in-Err.result
+    c.in_err-learn_from_conflict-in-Err.field-0.0 c.from_residual-in_err-learn_from_conflict-in-Err.ensures
+    (breaks-on g.P.ProofTracer.takes g.P.ProofTracer.breaks_off g.met.P.ProofTracer.breaks_behind t c.in_err-learn_from_conflict-in-Err.ensures.broken)

@@ -7,7 +7,7 @@ use Rattle.varisat_prop.specs.Changes.{decided_on}
 use Rattle.varisat_prop.proofs.EnqueueAssignment.{decided-grows, decided-well}
 use Rattle.varisat_search.specs.declared.context.Context.{Context}
 use Rattle.varisat_search.specs.AssumptionParts.{AssumptionParts, HasAssumptions, ComesToNext}
-use Rattle.varisat_search.specs.Contexts.{view, IsReady}
+use Rattle.varisat_search.specs.Contexts.{view, KeepsSchedule, IsReady}
 use Rattle.varisat_search.specs.Frames.{ChangesDecided, ChangesDecisions}
 use Rattle.varisat_search.specs.Decisions.{AreDecidable, CanDecide, SameDecidable}
 use Rattle.varisat_search.specs.Steps.{IsFree}
@@ -19,7 +19,9 @@ use Rattle.std.proofs.lemmas.Grind.{common_steps}
 use Rattle.varisat_prop.proofs.ViewGrowth.{grows-refl}
 use Rattle.varisat_search.specs.SettledUnits.{FixesNone}
 use Rattle.varisat_search.proofs.FixedLiterals.{fixed-decided, fixed-still}
-use Rattle.varisat_search.proofs.Frames.{forward-through}
+use Rattle.varisat_search.proofs.Frames.{schedule-through, forward-through, searches-fails}
+use Rattle.varisat_search.proofs.cdcl.decide.Given.{Over}
+use Rattle.varisat_search.proofs.cdcl.decide.Goals.{After-enqueue_assumption}
 use Rattle.varisat_search.proofs.cdcl.decide.Goals as goal
 
 -- A search in which a literal is decided, or none is left to decide.
@@ -127,5 +129,36 @@ returns-clause-fixed g c =
 pub returns-clause-decided : goal.returns-clause-decided
 returns-clause-decided g c = grind (arith, common_steps)
 
-pub returns-clause-forward : goal.returns-clause-forward
-returns-clause-forward g c = forward-through c.in_ok-enqueue_assumption.ensures.forward c.in_ok-made.ensures.forward
+-- the schedule stays
+planned : (g : Over) (c : After-enqueue_assumption g) → KeepsSchedule c.args.ctx.now c.enqueue_assumption.new.ctx
+planned g c = subst (KeepsSchedule c.args.ctx.now) (sym c.enqueue_assumption.ensures.kept) (record { schedule = refl; solver_config = refl })
+
+pub returns-in_err-enqueue_assumption-clause-goes : goal.returns-in_err-enqueue_assumption-clause-goes
+returns-in_err-enqueue_assumption-clause-goes g c =
+    searches-fails c.from_residual.result c.from_residual.ensures.0
+    (planned g (goal.at.returns-in_err-enqueue_assumption-clause-goes g c).After-enqueue_assumption)
+
+pub returns-in-Enqueued-clause-goes : goal.returns-in-Enqueued-clause-goes
+returns-in-Enqueued-clause-goes g c = record {
+  forward = c.in_ok-enqueue_assumption.ensures.forward;
+  schedule = planned g (goal.at.returns-in-Enqueued-clause-goes g c).After-enqueue_assumption;
+}
+
+pub returns-in-Conflict-clause-goes : goal.returns-in-Conflict-clause-goes
+returns-in-Conflict-clause-goes g c = record {
+  forward = c.in_ok-enqueue_assumption.ensures.forward;
+  schedule = planned g (goal.at.returns-in-Conflict-clause-goes g c).After-enqueue_assumption;
+}
+
+pub returns-in_err-made-clause-goes : goal.returns-in_err-made-clause-goes
+returns-in_err-made-clause-goes g c =
+    searches-fails c.from_residual-in_err-made.result c.from_residual-in_err-made.ensures.0
+    (schedule-through (planned g (goal.at.returns-in_err-made-clause-goes g c).After-enqueue_assumption)
+    (subst (KeepsSchedule c.enqueue_assumption.new.ctx) (sym c.make_decision.ensures.kept) (record { schedule = refl; solver_config = refl })))
+
+pub returns-clause-goes : goal.returns-clause-goes
+returns-clause-goes g c = record {
+  forward = forward-through c.in_ok-enqueue_assumption.ensures.forward c.in_ok-made.ensures.forward;
+  schedule = schedule-through (planned g (goal.at.returns-clause-goes g c).After-enqueue_assumption)
+      (subst (KeepsSchedule c.enqueue_assumption.new.ctx) (sym c.make_decision.ensures.kept) (record { schedule = refl; solver_config = refl }));
+}

@@ -1,6 +1,8 @@
-use Rattle.varisat_trace.proofs.Broken.{breaks-not, passed-on}
-use Rattle.varisat_search.proofs.StepErrors.{memory-broken, trace-broken, step-passed, model-steps}
-use Rattle.std.proofs.Common.{◌≡◌, ◌∙◌, MatchResult, List, length, inl, inr, ⊎_elim, sym, subst}
+use Rattle.varisat_trace.proofs.Broken.{breaks-not}
+use Rattle.varisat_search.proofs.StepErrors.{ends-unfilled, ends-after, memory-unfilled, trace-unfilled, memory-broken, trace-broken, step-passed, model-steps}
+use Rattle.varisat_search.proofs.Frames.{schedule-through}
+use Rattle.varisat_search.specs.StepErrors.{step_error_of_trace}
+use Rattle.std.proofs.Common.{◌∙◌, MatchResult, List, inl, inr, ⊎_elim, sym, subst}
 use Rattle.varisat_theory.specs.Literals.{Clause}
 use Rattle.varisat_theory.specs.Propagation.{IsComplete, Conflicts}
 use Rattle.varisat_prop.specs.View.{kept}
@@ -26,7 +28,7 @@ finds g c =
       ready = e.ready;
       grows = e.grows;
       taken = e.taken;
-      forward = e.forward;
+      forward = e.goes.forward;
     }
 
 pub returns-in-Ok-clause-made : goal.returns-in-Ok-clause-made
@@ -56,18 +58,18 @@ returns-in_ok-trace_core-in-Err-Assumption-clause-made g c =
     (core-steps (view y) y.assumptions m.ready.well b)
     (keeps-core (view x) (view y) x.assumptions y.assumptions c.requires.ready.well m.taken b)
 
-pub returns-in_ok-learn-in-Err-Conflict-clause-made : goal.returns-in_ok-learn-in-Err-Conflict-clause-made
-returns-in_ok-learn-in-Err-Conflict-clause-made g c =
-    let here = (goal.at.returns-in_ok-learn-in-Err-Conflict-clause-made g c).In_ok-find_conflict in
-    let e = c.in_ok-learn-in-Err-Conflict.ensures in
-    let z = c.learn.new.ctx in
+pub returns-in_ok-learn_from_conflict-in-Err-Conflict-clause-made : goal.returns-in_ok-learn_from_conflict-in-Err-Conflict-clause-made
+returns-in_ok-learn_from_conflict-in-Err-Conflict-clause-made g c =
+    let here = (goal.at.returns-in_ok-learn_from_conflict-in-Err-Conflict-clause-made g c).In_ok-find_conflict in
+    let e = c.in_ok-learn_from_conflict-in-Err-Conflict.ensures in
+    let z = c.learn_from_conflict.new.ctx in
     let v = outcome_of (view z) z.assumptions.failed_core z.solver_state.sat_state in
-    made-are c.args.ctx.now z (λ lines. TakesLines g.P.ProofTracer.takes c.args.proof.now lines c.learn.new.proof)
-    (λ lines. TakesStep g.P.ProofTracer.takes c.args.proof.now lines v c.learn.new.proof)
-    (λ lines h. step-lines g.P.ProofTracer.takes c.args.proof.now c.learn.new.proof lines v
+    made-are c.args.ctx.now z (λ lines. TakesLines g.P.ProofTracer.takes c.args.proof.now lines c.learn_from_conflict.new.proof)
+    (λ lines. TakesStep g.P.ProofTracer.takes c.args.proof.now lines v c.learn_from_conflict.new.proof)
+    (λ lines h. step-lines g.P.ProofTracer.takes c.args.proof.now c.learn_from_conflict.new.proof lines v
     (no-core-entry (view z) z.assumptions.failed_core z.solver_state.sat_state e.further.known) h)
     (made-learned c.args.ctx.now c.find_conflict.new.ctx c.requires.ready (finds g here) z
-    (λ lines. TakesLines g.P.ProofTracer.takes c.args.proof.now lines c.learn.new.proof) e.further e.last)
+    (λ lines. TakesLines g.P.ProofTracer.takes c.args.proof.now lines c.learn_from_conflict.new.proof) e.further e.last)
 
 pub returns-in_ok-trace_core-in-Err-Assumption-clause-core : goal.returns-in_ok-trace_core-in-Err-Assumption-clause-core
 returns-in_ok-trace_core-in-Err-Assumption-clause-core g c u =
@@ -76,9 +78,9 @@ returns-in_ok-trace_core-in-Err-Assumption-clause-core g c u =
     (Stops (view y) y.assumptions) c.in-Err-Assumption.is c.in-Err-Assumption.field-0-is
     c.in_ok-find_conflict.ensures.found
 
-pub returns-in_ok-learn-in-Err-Conflict-clause-core : goal.returns-in_ok-learn-in-Err-Conflict-clause-core
-returns-in_ok-learn-in-Err-Conflict-clause-core g c u =
-    absurd (learned-no-core c.learn.new.ctx.solver_state.sat_state c.in_ok-learn-in-Err-Conflict.ensures.further.known u)
+pub returns-in_ok-learn_from_conflict-in-Err-Conflict-clause-core : goal.returns-in_ok-learn_from_conflict-in-Err-Conflict-clause-core
+returns-in_ok-learn_from_conflict-in-Err-Conflict-clause-core g c u =
+    absurd (learned-no-core c.learn_from_conflict.new.ctx.solver_state.sat_state c.in_ok-learn_from_conflict-in-Err-Conflict.ensures.further.known u)
 
 pub returns-in-Ok-clause-fixed : goal.returns-in-Ok-clause-fixed
 returns-in-Ok-clause-fixed g c calm n = inl (c.in_ok-find_conflict.ensures.fixed calm).0
@@ -86,9 +88,9 @@ returns-in-Ok-clause-fixed g c calm n = inl (c.in_ok-find_conflict.ensures.fixed
 pub returns-in_ok-trace_core-in-Err-Assumption-clause-fixed : goal.returns-in_ok-trace_core-in-Err-Assumption-clause-fixed
 returns-in_ok-trace_core-in-Err-Assumption-clause-fixed g c calm n = inl (c.in_ok-find_conflict.ensures.fixed calm).0
 
-pub returns-in_ok-learn-in-Err-Conflict-clause-fixed : goal.returns-in_ok-learn-in-Err-Conflict-clause-fixed
-returns-in_ok-learn-in-Err-Conflict-clause-fixed g c calm n =
-    ⊎_elim (λ e. inl (e ∙ (c.in_ok-find_conflict.ensures.fixed calm).0)) inr (c.in_ok-learn-in-Err-Conflict.ensures.fixed n).1
+pub returns-in_ok-learn_from_conflict-in-Err-Conflict-clause-fixed : goal.returns-in_ok-learn_from_conflict-in-Err-Conflict-clause-fixed
+returns-in_ok-learn_from_conflict-in-Err-Conflict-clause-fixed g c calm n =
+    ⊎_elim (λ e. inl (e ∙ (c.in_ok-find_conflict.ensures.fixed calm).0)) inr (c.in_ok-learn_from_conflict-in-Err-Conflict.ensures.fixed n).1
 
 -- what the tracer may hold fits the search after propagation and decisions
 holds : (g : Over) (c : In_ok-find_conflict g) → HoldsFor (g.P.ProofTracer.holds c.args.proof.now) (search_of (view c.find_conflict.new.ctx))
@@ -99,8 +101,8 @@ holds g c =
     holds_still (g.P.ProofTracer.holds c.args.proof.now) 0 (search_of (view x)) (search_of (view y)) c.requires.holds
     (grows_prove (view x) (view y) c.requires.ready.well m.ready.well m.grows)
 
-pub learn-requires-clause-holds : goal.learn-requires-clause-holds
-learn-requires-clause-holds g c = holds g (goal.at.learn-requires-clause-holds g c).In_ok-find_conflict
+pub learn_from_conflict-requires-clause-holds : goal.learn_from_conflict-requires-clause-holds
+learn_from_conflict-requires-clause-holds g c = holds g (goal.at.learn_from_conflict-requires-clause-holds g c).In_ok-find_conflict
 
 pub trace_core-requires : goal.trace_core-requires
 trace_core-requires g c =
@@ -123,15 +125,38 @@ returns-in_err-trace_core-in-Err-Assumption-clause-broken g c =
     c.in_err-trace_core-in-Err-Assumption.field-0.0 c.from_residual-in_err-trace_core-in-Err-Assumption.ensures
     c.in_err-trace_core-in-Err-Assumption.ensures.broken
 
-pub returns-in_err-learn-in-Err-Conflict-clause-size : goal.returns-in_err-learn-in-Err-Conflict-clause-size
-returns-in_err-learn-in-Err-Conflict-clause-size g c =
-    passed-on c.from_residual-in_err-learn-in-Err-Conflict.result c.in_err-learn-in-Err-Conflict.field-0.0
-    (λ z. z ≡ step.Full → length c.learn.new.ctx.assignment.current ≡ length c.args.ctx.now.assignment.current)
-    c.from_residual-in_err-learn-in-Err-Conflict.ensures
-    (λ f. c.in_err-learn-in-Err-Conflict.ensures.size f ∙ c.in_ok-find_conflict.ensures.grows.count)
+pub returns-in-Ok-clause-ends : goal.returns-in-Ok-clause-ends
+returns-in-Ok-clause-ends g c =
+    let k = c.find_conflict.ensures.goes.schedule in
+    record { schedule = record { schedule = k.schedule; solver_config = k.solver_config }; full = tt }
 
-pub returns-in_err-learn-in-Err-Conflict-clause-broken : goal.returns-in_err-learn-in-Err-Conflict-clause-broken
-returns-in_err-learn-in-Err-Conflict-clause-broken g c =
-    step-passed g.P.ProofTracer.breaks_off c.args.proof.now c.learn.new.proof c.from_residual-in_err-learn-in-Err-Conflict.result
-    c.in_err-learn-in-Err-Conflict.field-0.0 c.from_residual-in_err-learn-in-Err-Conflict.ensures
-    c.in_err-learn-in-Err-Conflict.ensures.broken
+pub returns-in_ok-trace_core-in-Err-Assumption-clause-ends : goal.returns-in_ok-trace_core-in-Err-Assumption-clause-ends
+returns-in_ok-trace_core-in-Err-Assumption-clause-ends g c =
+    let k = c.find_conflict.ensures.goes.schedule in
+    record { schedule = record { schedule = k.schedule; solver_config = k.solver_config }; full = tt }
+
+pub returns-in_ok-learn_from_conflict-in-Err-Conflict-clause-ends : goal.returns-in_ok-learn_from_conflict-in-Err-Conflict-clause-ends
+returns-in_ok-learn_from_conflict-in-Err-Conflict-clause-ends g c =
+    record { schedule = schedule-through c.find_conflict.ensures.goes.schedule c.learn_from_conflict.ensures.ends.schedule; full = tt }
+
+pub returns-in_err-find_conflict-clause-ends : goal.returns-in_err-find_conflict-clause-ends
+returns-in_err-find_conflict-clause-ends g c =
+    ends-unfilled c.from_residual.result step.Memory c.from_residual.ensures memory-unfilled c.find_conflict.ensures.goes.schedule
+
+pub returns-in_err-trace_core-in-Err-Assumption-clause-ends : goal.returns-in_err-trace_core-in-Err-Assumption-clause-ends
+returns-in_err-trace_core-in-Err-Assumption-clause-ends g c =
+    let e = c.in_err-trace_core-in-Err-Assumption.field-0.0 in
+    ends-unfilled c.from_residual-in_err-trace_core-in-Err-Assumption.result (step_error_of_trace e)
+    c.from_residual-in_err-trace_core-in-Err-Assumption.ensures (trace-unfilled e) c.find_conflict.ensures.goes.schedule
+
+pub returns-in_err-learn_from_conflict-in-Err-Conflict-clause-ends : goal.returns-in_err-learn_from_conflict-in-Err-Conflict-clause-ends
+returns-in_err-learn_from_conflict-in-Err-Conflict-clause-ends g c =
+    ends-after c.from_residual-in_err-learn_from_conflict-in-Err-Conflict.result c.in_err-learn_from_conflict-in-Err-Conflict.field-0.0
+    c.from_residual-in_err-learn_from_conflict-in-Err-Conflict.ensures c.find_conflict.ensures.goes.schedule
+    c.in_ok-find_conflict.ensures.grows.count c.in_err-learn_from_conflict-in-Err-Conflict.ensures.ends
+
+pub returns-in_err-learn_from_conflict-in-Err-Conflict-clause-broken : goal.returns-in_err-learn_from_conflict-in-Err-Conflict-clause-broken
+returns-in_err-learn_from_conflict-in-Err-Conflict-clause-broken g c =
+    step-passed g.P.ProofTracer.breaks_off c.args.proof.now c.learn_from_conflict.new.proof c.from_residual-in_err-learn_from_conflict-in-Err-Conflict.result
+    c.in_err-learn_from_conflict-in-Err-Conflict.field-0.0 c.from_residual-in_err-learn_from_conflict-in-Err-Conflict.ensures
+    c.in_err-learn_from_conflict-in-Err-Conflict.ensures.broken

@@ -1,14 +1,14 @@
-use Rattle.std.proofs.Common.{refl, ◌∙◌, arith}
+use Rattle.std.proofs.Common.{refl, arith}
 use Rattle.varisat_prop.specs.View.{GrowsTrail}
 use Rattle.varisat_prop.proofs.ViewGrowth.{grows-refl, grows-trans, grows-longer}
 use Rattle.varisat_prop.proofs.TrailValues.{trail-short}
 use Rattle.varisat_search.specs.declared.context.Context.{Context}
-use Rattle.varisat_search.specs.Contexts.{view, IsReady}
+use Rattle.varisat_search.specs.Contexts.{view, KeepsSchedule, IsReady}
 use Rattle.varisat_search.specs.Frames.{GoesForward}
 use Rattle.varisat_search.proofs.AssumedTruths.{takes-refl, takes-trans}
 use Rattle.varisat_search.proofs.DecidableVariables.{propagated-same}
 use Rattle.varisat_search.specs.SettledUnits.{IsUnsettled, FixesNone}
-use Rattle.varisat_search.proofs.Frames.{schedule-nothing, forward-nothing, forward-through}
+use Rattle.varisat_search.proofs.Frames.{schedule-nothing, schedule-through, forward-nothing, forward-through, searches-fails}
 use Rattle.varisat_search.proofs.FixedLiterals.{fixed-propagated, fixes-through}
 use Rattle.varisat_search.proofs.PropagatedContext.{propagated-ready}
 use Rattle.varisat_search.proofs.StepOutcome.{Finding, finding-begins, finding-propagated, not-err}
@@ -66,8 +66,24 @@ returns-in-Err-clause-grows g c = grown g (goal.at.returns-in-Err-clause-grows g
 pub returns-in-Err-clause-fixed : goal.returns-in-Err-clause-fixed
 returns-in-Err-clause-fixed g c = fixed g (goal.at.returns-in-Err-clause-fixed g c).After-count
 
-pub returns-in-Err-clause-forward : goal.returns-in-Err-clause-forward
-returns-in-Err-clause-forward g c = forward g (goal.at.returns-in-Err-clause-forward g c).After-count
+-- it keeps the schedule too
+planned : (g : Over) (c : After-count g) → KeepsSchedule c.args.ctx.now (mid g c)
+planned g c = let k = c.levels.invariant.schedule in record { schedule = k.schedule; solver_config = k.solver_config }
+
+pub returns-in_err-propagated-clause-goes : goal.returns-in_err-propagated-clause-goes
+returns-in_err-propagated-clause-goes g c =
+    let k = c.levels.invariant.schedule in
+    searches-fails c.from_residual.result c.from_residual.ensures.0 (record { schedule = k.schedule; solver_config = k.solver_config })
+
+pub returns-in-Err-clause-goes : goal.returns-in-Err-clause-goes
+returns-in-Err-clause-goes g c =
+    let here = (goal.at.returns-in-Err-clause-goes g c).After-count in
+    record { forward = forward g here; schedule = planned g here }
+
+pub returns-in_err-decide-clause-goes : goal.returns-in_err-decide-clause-goes
+returns-in_err-decide-clause-goes g c =
+    searches-fails c.from_residual-in_err-decide.result c.from_residual-in_err-decide.ensures.0
+    (schedule-through (planned g (goal.at.returns-in_err-decide-clause-goes g c).After-count) c.decide.ensures.goes.schedule)
 
 pub decide-requires-clause-ready : goal.decide-requires-clause-ready
 decide-requires-clause-ready g c = ready g (goal.at.decide-requires-clause-ready g c).After-count
@@ -105,9 +121,11 @@ returns-in-Ok-false-clause-taken g c =
     takes-trans (view c.args.ctx.now) (view (mid g here)) c.args.ctx.now.assumptions c.levels.ctx.assumptions c.decide.new.ctx.assumptions
     (grown g here) c.levels.invariant.taken c.in_ok-decide.ensures.taken
 
-pub returns-in-Ok-false-clause-forward : goal.returns-in-Ok-false-clause-forward
-returns-in-Ok-false-clause-forward g c =
-    forward-through (forward g (goal.at.returns-in-Ok-false-clause-forward g c).After-count) c.in_ok-decide.ensures.forward
+pub returns-in-Ok-false-clause-goes : goal.returns-in-Ok-false-clause-goes
+returns-in-Ok-false-clause-goes g c =
+    let here = (goal.at.returns-in-Ok-false-clause-goes g c).After-count in
+    let e = c.in_ok-decide.ensures.goes in
+    record { forward = forward-through (forward g here) e.forward; schedule = schedule-through (planned g here) e.schedule }
 
 pub returns-in-Err-2-clause-grows : goal.returns-in-Err-2-clause-grows
 returns-in-Err-2-clause-grows g c =
@@ -125,9 +143,11 @@ returns-in-Err-2-clause-taken g c =
     takes-trans (view c.args.ctx.now) (view (mid g here)) c.args.ctx.now.assumptions c.levels.ctx.assumptions c.decide.new.ctx.assumptions
     (grown g here) c.levels.invariant.taken c.in_ok-decide.ensures.taken
 
-pub returns-in-Err-2-clause-forward : goal.returns-in-Err-2-clause-forward
-returns-in-Err-2-clause-forward g c =
-    forward-through (forward g (goal.at.returns-in-Err-2-clause-forward g c).After-count) c.in_ok-decide.ensures.forward
+pub returns-in-Err-2-clause-goes : goal.returns-in-Err-2-clause-goes
+returns-in-Err-2-clause-goes g c =
+    let here = (goal.at.returns-in-Err-2-clause-goes g c).After-count in
+    let e = c.in_ok-decide.ensures.goes in
+    record { forward = forward-through (forward g here) e.forward; schedule = schedule-through (planned g here) e.schedule }
 
 pub levels-smaller : goal.levels-smaller
 levels-smaller g c =
@@ -153,10 +173,6 @@ levels-preserved g c =
       grows = grows-trans (view x) (view (mid g here)) (view z) (grown g here) e.grows;
       fixed = λ calm. fixes-through (view x) (view (mid g here)) (view z) (fixed g here calm) e.fixed;
       taken = takes-trans (view x) (view (mid g here)) x.assumptions c.levels.ctx.assumptions z.assumptions (grown g here) i.taken e.taken;
-      forward = forward-through (forward g here) e.forward;
-      schedule = record {
-        schedule = c.decide.ensures.schedule.schedule
-            ∙ i.schedule.schedule;
-        solver_config = c.decide.ensures.schedule.solver_config ∙ i.schedule.solver_config;
-      };
+      forward = forward-through (forward g here) e.goes.forward;
+      schedule = schedule-through (planned g here) e.goes.schedule;
     }

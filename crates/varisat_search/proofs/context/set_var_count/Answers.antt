@@ -80,11 +80,15 @@ returns-clause-raised g c =
       seen = r.seen;
     }
 
-pub returns-clause-decidable : goal.returns-clause-decidable
-returns-clause-decidable g c =
+pub returns-clause-added : goal.returns-clause-added
+returns-clause-added g c =
     let x = c.args.ctx.now in
-    raised-same (view x) (after g (goal.at.returns-clause-decidable g c).In_ok-set_var_count-4) x.vsids c.args.count
-    c.in_ok-set_var_count-2.ensures.current c.in_ok-set_var_count-6.ensures.raised
+    record {
+      last = c.in_ok-set_var_count-2.ensures.last;
+      activities = c.in_ok-set_var_count-6.ensures.raised;
+      decidable = raised-same (view x) (after g (goal.at.returns-clause-added g c).In_ok-set_var_count-4) x.vsids c.args.count
+          c.in_ok-set_var_count-2.ensures.current c.in_ok-set_var_count-6.ensures.raised;
+    }
 
 pub returns-in_err-set_var_count-3-clause-remembered : goal.returns-in_err-set_var_count-3-clause-remembered
 returns-in_err-set_var_count-3-clause-remembered g c = grind (arith, common_steps)

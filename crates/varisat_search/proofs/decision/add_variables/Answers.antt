@@ -28,7 +28,7 @@ loop-index-init g c =
       seen = e.raised.seen;
       within = (omega (arith, n), omega (arith, n, raised));
       decidable = subst (λ k. AddsDecidable (length old.assignment.current) k (view old) old.vsids (view new) new.vsids) (sym n)
-          (none-added (length old.assignment.current) (view old) old.vsids (view new) new.vsids e.decidable);
+          (none-added (length old.assignment.current) (view old) old.vsids (view new) new.vsids e.added.decidable);
       remembered = c.set_var_count.ensures.remembered;
       kept = e.kept;
     }

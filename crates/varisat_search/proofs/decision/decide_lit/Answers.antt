@@ -21,5 +21,9 @@ enqueue_assignment-requires g c =
 pub returns-clause-decided : goal.returns-clause-decided
 returns-clause-decided g c =
     let x = c.args.ctx.now in
-    c.in_ok-enqueue_assignment.ensures.view x.clause_alloc x.binary_clauses
-    ∙ ap (λ t. enqueued (view_of x.clause_alloc x.binary_clauses x.assignment t x.impl_graph) c.args.lit reason.Unit) c.in_ok-new_decision_level.ensures
+    record {
+      level = c.in_ok-enqueue_assignment.ensures.view x.clause_alloc x.binary_clauses
+          ∙ ap (λ t. enqueued (view_of x.clause_alloc x.binary_clauses x.assignment t x.impl_graph) c.args.lit reason.Unit)
+          c.in_ok-new_decision_level.ensures;
+      last = c.in_ok-enqueue_assignment.ensures.last;
+    }

@@ -39,7 +39,7 @@ returns-clause-decided g c =
     let k = taken g here in (
       c.lit-lit.result,
       (inside g here, k.found.unassigned),
-      c.in_ok-decide_lit.ensures.decided,
+      c.in_ok-decide_lit.ensures.decided.level,
       ap polarity_of c.lit-lit.ensures ∙ polarity-literal c.in-Some.var c.last_var_value.result ∙ c.last_var_value.ensures
           ∙ ap (λ v. get_or x.assignment.last v false) (sym (variable-is g here)),
       k.found,
@@ -52,10 +52,10 @@ returns-clause-forward g c =
     let here = (goal.at.returns-clause-forward g c).In_ok-decide_lit in
     record {
       decidable = subst (λ (y : Activities). SameDecidable (view x) x.vsids (view z) y) (sym (stays g here))
-          (subst (λ u. SameDecidable (view x) x.vsids u c.take_unassigned.new.vsids) (sym c.in_ok-decide_lit.ensures.decided)
+          (subst (λ u. SameDecidable (view x) x.vsids u c.take_unassigned.new.vsids) (sym c.in_ok-decide_lit.ensures.decided.level)
           (decided-same (view x) x.vsids c.take_unassigned.new.vsids c.requires.decidable c.lit-lit.result (inside g here) (taken g here)));
       activities = subst (λ (y : Activities). y ≡ record x.vsids { available = y.available }) (sym (stays g here)) (taken g here).rest;
-      last = c.in_ok-decide_lit.ensures.last;
+      last = c.in_ok-decide_lit.ensures.decided.last;
       state = ap (λ (y : Context g.row.A.Denot). y.solver_state) c.decide_lit.ensures.kept;
     }
 
@@ -65,7 +65,7 @@ returns-clause-decidable g c =
     let z = c.decide_lit.new.ctx in
     let here = (goal.at.returns-clause-decidable g c).In_ok-decide_lit in
     subst (λ (y : Activities). CanDecide (view z) y) (sym (stays g here))
-    (subst (λ u. CanDecide u c.take_unassigned.new.vsids) (sym c.in_ok-decide_lit.ensures.decided)
+    (subst (λ u. CanDecide u c.take_unassigned.new.vsids) (sym c.in_ok-decide_lit.ensures.decided.level)
     (decided-decidable (view x) x.vsids c.take_unassigned.new.vsids c.requires.decidable c.lit-lit.result (inside g here) (taken g here)))
 
 pub returns-in_default-clause-decided : goal.returns-in_default-clause-decided

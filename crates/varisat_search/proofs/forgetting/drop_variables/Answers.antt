@@ -1,4 +1,4 @@
-use Rattle.std.proofs.Common.{◌≡◌, Bool, true, false, not, ◌||◌, List, [], ◌∷◌, ◌++◌, inl, inr, ⊎_elim, refl, sym, ap, ◌∙◌, subst, ◌<◌, ◌↔◌, length, map, arith}
+use Rattle.std.proofs.Common.{◌≡◌, Bool, true, false, not, ◌||◌, List, [], ◌∷◌, ◌++◌, inl, inr, ⊎_elim, refl, sym, ap, ap₂, ◌∙◌, subst, ◌<◌, ◌↔◌, length, map, arith}
 use Rattle.std.specs.Prelude.{cond}
 use Rattle.std.specs.List.{filter, list_any}
 use Rattle.std.proofs.lemmas.List.Elements.{filter-append}
@@ -14,7 +14,7 @@ use Rattle.varisat_search.specs.Forgotten.{AreStaying, search_without, clauses_w
 use Rattle.varisat_search.proofs.DecidableVariables.{true-or-false}
 use Rattle.varisat_theory.proofs.Places.{place_in}
 use Rattle.varisat_analysis.proofs.WellFormedViews.{inside-at}
-use Rattle.varisat_prop.specs.Parts.{TrailParts}
+use Rattle.varisat_prop.specs.Parts.{TrailParts, Values}
 use Rattle.varisat_prop.specs.View.{View}
 use Rattle.varisat_prop.proofs.TrailValues.{fits-node}
 use Rattle.varisat_vsids.specs.Activities.{Activities}
@@ -168,6 +168,12 @@ returns-clause-ready g c =
     let here = (goal.at.returns-clause-ready g c).After-forget_activities in
     without-ready c.args.ctx.now (after g here) c.args.gone.now c.requires.ready c.requires.settled
     (dropped g here) c.requires.unmentioned c.requires.unassumed c.forget_activities.ensures refl
+
+pub returns-clause-kept : goal.returns-clause-kept
+returns-clause-kept g c =
+    let z = after g (goal.at.returns-clause-kept g c).After-forget_activities in
+    ap₂ (λ (bs : List Bool) (b : Activities). record z { assignment = record z.assignment { last = bs }; vsids = b })
+    (ap (λ (a : Values). a.last) c.forget_values.ensures) c.forget_activities.ensures
 
 pub returns-clause-settled : goal.returns-clause-settled
 returns-clause-settled g c =

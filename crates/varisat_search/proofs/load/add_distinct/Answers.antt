@@ -49,9 +49,11 @@ returns-clause-added g c =
     let i : l ∈ x.tmp_data.lits.items = subst (λ ls. l ∈ ls) (sym e) (inl refl) in
     let n = made-none x.assignment.current l (c.requires.untrue l i) (λ t. let b = c.if-lit_is_false.ensures.1 t in cc) in
     let one = only-one x.tmp_data.lits.items c.in-Some.ensures.0 l e (omega (arith, c.if-len-gt1.false, c.len.ensures, x.tmp_data.lits.ok.0)) in
-    let z = view_of x.clause_alloc x.binary_clauses c.enqueue_assignment.new.assignment c.enqueue_assignment.new.trail c.enqueue_assignment.new.impl_graph in
-    subst (λ ls. IsAdded (view x) z ls x.solver_state.sat_state x.solver_state.sat_state) (sym one)
-    (inr ((c.requires.in_range l i, n), c.in_ok-enqueue_assignment.ensures.view x.clause_alloc x.binary_clauses, refl))
+    let z = view_of x.clause_alloc x.binary_clauses c.enqueue_assignment.new.assignment c.enqueue_assignment.new.trail c.enqueue_assignment.new.impl_graph in (
+      subst (λ ls. IsAdded (view x) z ls x.solver_state.sat_state x.solver_state.sat_state) (sym one)
+          (inr ((c.requires.in_range l i, n), c.in_ok-enqueue_assignment.ensures.view x.clause_alloc x.binary_clauses, refl)),
+      c.in_ok-enqueue_assignment.ensures.last,
+    )
 
 pub watch_clause-requires-clause-listed : goal.watch_clause-requires-clause-listed
 watch_clause-requires-clause-listed g c = λ l h.
@@ -104,11 +106,13 @@ pub returns-then-len-eq2-clause-added : goal.returns-then-len-eq2-clause-added
 returns-then-len-eq2-clause-added g c =
     let x = c.args.ctx.now in
     let here = goal.at.returns-then-len-eq2-clause-added g c in
-    let z = view_of x.clause_alloc c.add_binary_clause.new.self x.assignment c.reset_queue_if_false.new.trail x.impl_graph in
-    added-pair (view x) z x.tmp_data.lits.items x.solver_state.sat_state x.solver_state.sat_state c.index.result.now c.index-then-len-eq2.result.now
-    (two g here.After-index-then-len-eq2)
-    (subst (λ ls. IsHeadAfter x.assignment.current ls x.trail.queue_head c.reset_queue_if_false.new.trail.queue_head)
-    c.deref-then-len-gt1.ensures.value c.reset_queue_if_false.ensures.head) (with-two g here.In_ok-add_binary_clause) refl
+    let z = view_of x.clause_alloc c.add_binary_clause.new.self x.assignment c.reset_queue_if_false.new.trail x.impl_graph in (
+      added-pair (view x) z x.tmp_data.lits.items x.solver_state.sat_state x.solver_state.sat_state c.index.result.now c.index-then-len-eq2.result.now
+          (two g here.After-index-then-len-eq2)
+          (subst (λ ls. IsHeadAfter x.assignment.current ls x.trail.queue_head c.reset_queue_if_false.new.trail.queue_head)
+          c.deref-then-len-gt1.ensures.value c.reset_queue_if_false.ensures.head) (with-two g here.In_ok-add_binary_clause) refl,
+      refl,
+    )
 
 pub returns-then-len-eq2-clause-propagated : goal.returns-then-len-eq2-clause-propagated
 returns-then-len-eq2-clause-propagated g c =
@@ -144,11 +148,13 @@ returns-then-len-gt1-clause-added g c =
     let whole : z ≡ record (view x) { clauses = live_clauses c.add_clause.new.alloc; queue_head = c.reset_queue_if_false.new.trail.queue_head } =
     ap (λ (u : TrailParts). view_of c.add_clause.new.alloc x.binary_clauses x.assignment u x.impl_graph) c.reset_queue_if_false.ensures.kept
     ∙ ap (λ (b : Bool). record (view x)
-    { sound = b; clauses = live_clauses c.add_clause.new.alloc; queue_head = c.reset_queue_if_false.new.trail.queue_head }) sound in
-    added-long (view x) z x.tmp_data.lits.items x.solver_state.sat_state x.solver_state.sat_state j many c.deref-then-len-gt1-2.ensures.value
-    (ap (λ (h : Header). record h { len = length c.deref-then-len-gt1-2.result.now }) c.new.ensures) k
-    (subst (λ ls. IsHeadAfter x.assignment.current ls x.trail.queue_head c.reset_queue_if_false.new.trail.queue_head)
-    c.deref-then-len-gt1.ensures.value c.reset_queue_if_false.ensures.head) whole refl
+    { sound = b; clauses = live_clauses c.add_clause.new.alloc; queue_head = c.reset_queue_if_false.new.trail.queue_head }) sound in (
+      added-long (view x) z x.tmp_data.lits.items x.solver_state.sat_state x.solver_state.sat_state j many c.deref-then-len-gt1-2.ensures.value
+          (ap (λ (h : Header). record h { len = length c.deref-then-len-gt1-2.result.now }) c.new.ensures) k
+          (subst (λ ls. IsHeadAfter x.assignment.current ls x.trail.queue_head c.reset_queue_if_false.new.trail.queue_head)
+          c.deref-then-len-gt1.ensures.value c.reset_queue_if_false.ensures.head) whole refl,
+      refl,
+    )
 
 pub returns-then-len-gt1-clause-propagated : goal.returns-then-len-gt1-clause-propagated
 returns-then-len-gt1-clause-propagated g c =

@@ -82,7 +82,7 @@ undone g c =
 loading : (g : Over) (c : In_ok-collect_distinct g) → Loading c.args.ctx.now (copied g c) c.args.lits.now c.collect_distinct.new.ctx.tmp_data.lits.items
 loading g c =
     subst (λ (x : Context g.row.A.Denot). Loading c.args.ctx.now x c.args.lits.now c.collect_distinct.new.ctx.tmp_data.lits.items)
-    (sym c.collect_distinct.ensures.kept) record {
+    (sym c.collect_distinct.ensures.kept.0) record {
       ready = c.requires.ready;
       in_range = c.requires.in_range;
       same = λ e. ap (λ (x : Context g.row.A.Denot). view x) (c.full_restart.ensures.undone.same (let n = ap length e in omega (arith, n)));
@@ -98,7 +98,7 @@ loading g c =
       );
       state = ap (λ (x : Context g.row.A.Denot). x.solver_state) c.full_restart.ensures.undone.kept ∙ c.accept_clause.ensures;
       analysis = ap (λ (x : Context g.row.A.Denot). x.analyze_conflict.var_count) c.full_restart.ensures.undone.kept;
-      flags = c.in_ok-collect_distinct.ensures.flags ∙ ap (λ (x : Context g.row.A.Denot). x.tmp_flags.flags.items) c.full_restart.ensures.undone.kept;
+      flags = c.collect_distinct.ensures.kept.1 ∙ ap (λ (x : Context g.row.A.Denot). x.tmp_flags.flags.items) c.full_restart.ensures.undone.kept;
       watches = ap (λ (x : Context g.row.A.Denot). x.watchlists) c.full_restart.ensures.undone.kept;
       tracks = subst (λ (x : Context g.row.A.Denot). Tracks x.clause_db x.clause_alloc) (sym c.full_restart.ensures.undone.kept) c.requires.ready.tracks;
       schedule = record {
@@ -227,7 +227,7 @@ returns g c =
     let o = loaded-added (loading g (goal.at.returns g c).In_ok-collect_distinct) (g.P.ProofTracer.in_order p)
     (λ lines. TakesLines g.P.ProofTracer.takes p lines p) (g.met.P.ProofTracer.takes_none p)
     (λ l i t. let b = c.if-is_satisfied.ensures.1 (l, subst (λ ys. l ∈ ys) (sym c.deref.ensures.value) i, t) in absurd cc)
-    c.add_distinct.new.ctx k e.propagated e.tracks e.state e.last e.added in
+    c.add_distinct.new.ctx k e.propagated e.tracks e.added.1 e.added.0 in
     record {
       full = tt;
       size = tt;
@@ -246,7 +246,7 @@ returns g c =
       schedule = o.schedule;
       single =
           λ l i. loaded-one (loading g (goal.at.returns g c).In_ok-collect_distinct) l i c.add_distinct.new.ctx
-          c.collect_distinct.new.ctx.solver_state.sat_state c.add_distinct.new.ctx.solver_state.sat_state e.added;
+          c.collect_distinct.new.ctx.solver_state.sat_state c.add_distinct.new.ctx.solver_state.sat_state e.added.0;
     }
 
 pub returns-in_err-add_distinct-clause-full : goal.returns-in_err-add_distinct-clause-full
@@ -266,7 +266,7 @@ returns-in_err-add_distinct-clause-size g c =
     let here = goal.at.returns-in_err-add_distinct-clause-size g c in
     if-full c.from_residual-in_err-add_distinct.result c.in_err-add_distinct.field-0.0 _ c.from_residual-in_err-add_distinct.ensures (λ h.
     let (room, same) = c.in_err-add_distinct.ensures.full h in
-    ap length same ∙ ap (λ (x : Context g.row.A.Denot). length x.assignment.current) c.collect_distinct.ensures.kept
+    ap length same ∙ ap (λ (x : Context g.row.A.Denot). length x.assignment.current) c.collect_distinct.ensures.kept.0
     ∙ (undone g here.After-full_restart).count)
 
 pub returns-in_err-collect_distinct-clause-broken : goal.returns-in_err-collect_distinct-clause-broken

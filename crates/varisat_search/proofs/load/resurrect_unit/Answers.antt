@@ -134,11 +134,10 @@ returns-then-eq g c =
       lines = λ n. b.lines;
       state = λ n. b.state;
       assumptions = λ n. b.assumptions;
-      keeps = b.keeps;
+      keeps = record { schedule = b.schedule; variables = b.keeps };
       quiet = λ n none all. subst (λ (y : Context g.row.A.Denot). y.trail.queue_head ≡ length y.trail.literals) (sym k)
           (next-quiet x.trail.literals c.load_clause.new.ctx.trail.literals x.trail.queue_head c.load_clause.new.ctx.trail.queue_head c.args.lit
           (u.trail none) (u.head none) all (sym c.queue_head.ensures ∙ is-literal c.queue_head.result c.args.lit (sym c.if-eq.ensures)));
-      schedule = b.schedule;
     }
 
 pub returns-else-eq : goal.returns-else-eq
@@ -153,9 +152,8 @@ returns-else-eq g c =
       lines = λ n. b.lines;
       state = λ n. b.state;
       assumptions = λ n. b.assumptions;
-      keeps = b.keeps;
+      keeps = record { schedule = b.schedule; variables = b.keeps };
       quiet = λ n none all. none-quiet x.trail.literals c.load_clause.new.ctx.trail.literals x.trail.queue_head
           c.load_clause.new.ctx.trail.queue_head c.args.lit (u.trail none) (u.head none) all
           (λ h. let a : false ≡ true = c.if-eq.ensures ∙ literal-is c.queue_head.result c.args.lit (c.queue_head.ensures ∙ h) in cc);
-      schedule = b.schedule;
     }

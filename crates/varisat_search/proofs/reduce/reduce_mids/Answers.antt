@@ -57,8 +57,11 @@ changes g c =
       rest = store-view x (after g c) c.requires.tracks.sound c.reduce_mids.ensures.tracks.sound refl;
     }
 
-pub returns-clause-headers : goal.returns-clause-headers
-returns-clause-headers g c = changes g (goal.at.returns-clause-headers g c).In_ok-reduce_mids
+pub returns-clause-reduces : goal.returns-clause-reduces
+returns-clause-reduces g c = record {
+  reduced = c.in_ok-reduce_mids.ensures.reduced;
+  headers = changes g (goal.at.returns-clause-reduces g c).In_ok-reduce_mids;
+}
 
 pub returns-clause-ready : goal.returns-clause-ready
 returns-clause-ready g c =

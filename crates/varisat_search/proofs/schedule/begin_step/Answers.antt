@@ -1,5 +1,5 @@
 use Rattle.varisat_trace.proofs.Broken.{error-broken}
-use Rattle.std.proofs.Common.{refl, sym, subst}
+use Rattle.std.proofs.Common.{refl, sym, ap, subst}
 use Rattle.varisat_search.specs.declared.context.Context.{Context}
 use Rattle.varisat_search.specs.Contexts.{view}
 use Rattle.varisat_search.specs.Frames.{ChangesRestarted}
@@ -33,7 +33,7 @@ returns-clause-begins g c =
       saves = c.restart_if_due.ensures.saved;
       begins = subst (λ (y : Context g.row.A.Denot). ChangesRestarted x y) (sym e) refl;
       decidable = c.restart_if_due.ensures.decidable;
-      decay = c.restart_if_due.ensures.decay;
+      decay = ap (λ (y : Context g.row.A.Denot). y.vsids.decay) e;
       reduces = c.in_ok-reduce_if_due.ensures.keeps;
       rest = c.reduce_if_due.ensures.kept;
     }

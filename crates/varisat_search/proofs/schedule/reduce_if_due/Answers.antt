@@ -8,7 +8,7 @@ use Rattle.varisat_search.proofs.schedule.reduce_if_due.Goals.{In_ok-collect_gar
 use Rattle.std.proofs.lemmas.Bool.{cases_lt}
 use Rattle.varisat_search.specs.declared.context.Context.{Context}
 use Rattle.varisat_search.specs.DueReductions.{ReducesIfDue}
-use Rattle.varisat_search.proofs.DueReductions.{repacks-keep, keeps-same, keeps-trans}
+use Rattle.varisat_search.proofs.DueReductions.{repacks-keep, keeps-are, keeps-same, keeps-trans}
 use Rattle.varisat_search.proofs.schedule.reduce_if_due.Goals as goal
 use Rattle.varisat_trace.specs.Traces.{TakesLines}
 
@@ -29,22 +29,23 @@ returns-clause-keeps g c =
     let e = c.in_ok-collect_garbage.ensures in
     let r = c.in_ok-reduce_mids_if_due.ensures.keeps.ready in
     let none : List Line → Type 0 = λ lines. lines ≡ [] in
+    let (_, proves, (reduces, _)) = c.in_ok-reduce_mids_if_due.ensures.keeps.proves in
     keeps-trans c.args.ctx.now l z _ none (are g h)
     (λ first more (i, t) j. nothing (are g h) first more (
       record {
         after_locals = l;
         after_mids = m;
         locals = i;
-        mids = c.in_ok-reduce_mids_if_due.ensures.reduces;
-        collected =
-            record { collected = e.collected; repacks = e.repacks; stays = e.stays };
+        mids = reduces;
+        collected = e.collects;
       },
       t,
     ) j)
     c.in_ok-reduce_locals_if_due.ensures.keeps
-    (keeps-trans l m z none none none (λ first more i j. nothing none first more i j) c.in_ok-reduce_mids_if_due.ensures.keeps (⊎_elim
-    (λ h. repacks-keep m z e.ready (ap (λ (x : Context g.row.A.Denot). x.vsids) c.collect_garbage.ensures.kept) r (e.repacks h))
-    (λ h. keeps-same m z r (e.stays h))
+    (keeps-trans l m z none none none (λ first more i j. nothing none first more i j)
+    (keeps-are none (λ lines p i. i.1) c.in_ok-reduce_mids_if_due.ensures.keeps) (⊎_elim
+    (λ h. repacks-keep m z e.ready (ap (λ (x : Context g.row.A.Denot). x.vsids) c.collect_garbage.ensures.kept) r (e.collects.repacks h))
+    (λ h. keeps-same m z r (e.collects.stays h))
     (cases_lt (length m.clause_alloc.words) (2 * m.clause_db.garbage))))
 
 pub returns-in_err-reduce_locals_if_due-clause-broken : goal.returns-in_err-reduce_locals_if_due-clause-broken

@@ -1,9 +1,12 @@
 use Rattle.std.proofs.Common.{◌≡◌, refl, ap, ◌∙◌}
 use Rattle.varisat_schedule.specs.Plans.{step_begun}
+use Rattle.varisat_vsids.specs.Activities.{Activities}
 use Rattle.varisat_search.specs.declared.context.Context.{Context}
 use Rattle.varisat_search.specs.Contexts.{view}
+use Rattle.varisat_search.specs.Frames.{begun_plan}
 use Rattle.varisat_search.specs.Restarts.{RestartsIfDue}
 use Rattle.varisat_search.proofs.AssumptionContexts.{own-levels}
+use Rattle.varisat_search.proofs.Frames.{cut-activities}
 use Rattle.varisat_search.proofs.ReadyAfter.{backtracked-ready, ready-with}
 use Rattle.varisat_search.proofs.schedule.restart_if_due.Given.{Over}
 use Rattle.varisat_search.proofs.schedule.restart_if_due.Goals.{After-restart}
@@ -63,3 +66,11 @@ returns-clause-kept g c =
       schedule = p;
     })
     (c.begin_step.ensures.plan ∙ ap (λ n. step_begun n c.args.ctx.now.schedule) c.luby_restart_interval_scale-scale.ensures.value)
+    ∙ ap (λ (v : Activities). record c.args.ctx.now {
+      assignment = c.restart.new.ctx.assignment;
+      counters = c.restart.new.ctx.counters;
+      trail = c.restart.new.ctx.trail;
+      vsids = v;
+      schedule = begun_plan c.args.ctx.now;
+    })
+    (cut-activities (before g here) c.restart.new.ctx c.args.ctx.now.assumptions.levels c.restart.ensures.same c.restart.ensures.available)

@@ -45,11 +45,11 @@ returns-clause-variables g c =
       room = taken-room m n c.args.global v k.room t;
       solvers = taken-small m n c.args.global v c.prove_linked.ensures k.room k.solvers t;
       ready = i.ready;
-      count = i.count ∙ e.raised.count ∙ c.solver_watermark.ensures;
+      count = i.others.count ∙ e.raised.count ∙ c.solver_watermark.ensures;
       decidable = taken-decidable m n c.args.global v (length old.assignment.current) (view old) old.vsids (view mid) mid.vsids
           (view new) new.vsids t k.decidable k.count
           (subst (λ j. AddsDecidable (length old.assignment.current) j (view old) old.vsids (view mid) mid.vsids) c.solver_watermark.ensures e.decidable)
-          i.decidable i.others;
+          i.decidable i.others.decidable;
     }
 
 pub returns-clause-solver : goal.returns-clause-solver

@@ -181,6 +181,15 @@ pub returns-clause-decidable : goal.returns-clause-decidable
 returns-clause-decidable g c = let here = goal.at.returns-clause-decidable g c in
     simplified-decidable (simplifies g here.After-mend_lists (at g here.In_ok-trace_stored) (left g here.In_ok-filter_clauses))
 
+-- the lists stay on or off
+pub returns-clause-kept : goal.returns-clause-kept
+returns-clause-kept g c = ap (λ (on : Bool). record c.args.ctx.now {
+  binary_clauses = c.add_pairs.new.binary_clauses;
+  clause_alloc = c.filter_clauses.new.alloc;
+  clause_db = c.filter_clauses.new.db;
+  watchlists = record c.mend_lists.new.watchlists { enabled = on };
+}) c.mend_lists.ensures.enabled
+
 pub returns-in_err-trace_stored-clause-broken : goal.returns-in_err-trace_stored-clause-broken
 returns-in_err-trace_stored-clause-broken g c =
     error-broken g.P.ProofTracer.breaks_off c.args.proof.now c.trace_stored.new.proof c.from_residual.result c.in_err-trace_stored.field-0.0

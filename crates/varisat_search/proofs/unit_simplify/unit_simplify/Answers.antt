@@ -1,11 +1,13 @@
 use Rattle.varisat_trace.proofs.Broken.{error-broken, breaks-on}
-use Rattle.std.proofs.Common.{List, subst}
+use Rattle.std.proofs.Common.{◌≡◌, List, ap, ◌∙◌, subst}
 use Rattle.varisat_theory.specs.Derivations.{Line}
 use Rattle.varisat_theory.specs.Outcomes.{Proves}
 use Rattle.varisat_theory.proofs.StepParts.{parts_join}
 use Rattle.varisat_trace.specs.Traces.{TakesLines}
 use Rattle.varisat_trace.proofs.Traced.{lines-more, holds_on}
+use Rattle.varisat_search.specs.declared.context.Context.{Context}
 use Rattle.varisat_search.specs.Contexts.{view}
+use Rattle.varisat_search.specs.Frames.{ChangesSimplified}
 use Rattle.varisat_search.specs.Seen.{search_of}
 use Rattle.varisat_search.specs.Simplifications.{pair_lines, clause_lines}
 use Rattle.varisat_search.proofs.SimplifiedBinary.{SimplifiesBinary, binary-can, binary-left, binary-lines, all-simplified, all-decidable}
@@ -33,6 +35,24 @@ simplify_stored-requires g c =
 pub returns-clause-simplified : goal.returns-clause-simplified
 returns-clause-simplified g c =
     all-simplified (first g (goal.at.returns-clause-simplified g c).In_ok-simplify_binary) c.simplify_stored.new.ctx c.in_ok-simplify_stored.ensures.simplified
+
+-- what else stays does so through both
+kept : {A : Type 0} (x y z : Context A) → y ≡ record x { binary_clauses = y.binary_clauses } → ChangesSimplified y z → ChangesSimplified x z
+kept {A} x y z a b = b ∙ ap (λ (w : Context A). record w {
+  binary_clauses = z.binary_clauses;
+  clause_alloc = z.clause_alloc;
+  clause_db = z.clause_db;
+  counters = z.counters;
+  watchlists = record z.watchlists { enabled = w.watchlists.enabled };
+}) a
+
+pub returns-clause-kept : goal.returns-clause-kept
+returns-clause-kept g c =
+    kept c.args.ctx.now c.simplify_binary.new.ctx c.simplify_stored.new.ctx c.simplify_binary.ensures.kept c.simplify_stored.ensures.kept
+
+pub returns-in_err-simplify_stored-clause-kept : goal.returns-in_err-simplify_stored-clause-kept
+returns-in_err-simplify_stored-clause-kept g c =
+    kept c.args.ctx.now c.simplify_binary.new.ctx c.simplify_stored.new.ctx c.simplify_binary.ensures.kept c.simplify_stored.ensures.kept
 
 pub returns-clause-proves : goal.returns-clause-proves
 returns-clause-proves g c =

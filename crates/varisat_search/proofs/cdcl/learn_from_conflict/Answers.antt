@@ -1,5 +1,5 @@
 use Rattle.varisat_trace.proofs.Broken.{breaks-on, breaks-not}
-use Rattle.varisat_search.proofs.StepErrors.{memory-broken, trace-broken, store-broken, if-full, full-told}
+use Rattle.varisat_search.proofs.StepErrors.{memory-broken, trace-broken, store-broken, if-full, ends-unfilled, memory-unfilled, trace-unfilled}
 use Rattle.std.proofs.Common.{◌≡◌, List, [], ◌∷◌, ◌++◌, refl, sym, ap, ◌∙◌, subst, length, arith}
 use Rattle.varisat_theory.specs.Literals.{Literal, Clause}
 use Rattle.varisat_theory.specs.Derivations.{Line, Add}
@@ -10,7 +10,10 @@ use Rattle.varisat_clause.specs.Headers.{Header}
 use Rattle.varisat_clause.specs.Stores.{Store}
 use Rattle.varisat_prop.specs.declared.prop.graph.ImplNode.{ImplNode}
 use Rattle.varisat_search.specs.declared.context.Context.{Context}
-use Rattle.varisat_search.specs.Contexts.{view}
+use Rattle.varisat_search.specs.Contexts.{view, KeepsSchedule}
+use Rattle.varisat_search.specs.Frames.{ChangesClauses}
+use Rattle.varisat_search.specs.StepErrors.{step_error_of_trace}
+use Rattle.varisat_search.specs.declared.error.StepError.TheVariants as step
 use Rattle.varisat_analysis.specs.Learned.{Analysis, AreInvolved}
 use Rattle.varisat_search.specs.Steps.{SavesSome}
 use Rattle.varisat_search.specs.Progress.{IsStepFurther}
@@ -18,14 +21,15 @@ use Rattle.varisat_analysis.specs.Assessments.{glue_of, assessed}
 use Rattle.varisat_search.specs.Conflicts.{IsStoredAsReason}
 use Rattle.varisat_vsids.specs.Activities.{Activities}
 use Rattle.varisat_analysis.proofs.BumpedClauses.{tier-redundant}
-use Rattle.varisat_search.proofs.LearnContext.{analysis-ready, analysis-met, bumps-learned, cut-activities, Analyzed, analyzed-bumped, analyzed-well, analyzed-tracks, analyzed-clear, learned-assigned, analyzed-named, analyzed-assigned, with_store, analyzed-noted, noted-further, noted-saves, noted-bumps, analyzed-flags, Backtracked, learned-length, learned-count, saves-some, learned-listed, learned-paired, learned-tracks, Learning, learning-fits, learning-free, learning-node, learning-further, learning-activities, learning-fixed, refuted-undecided, refuted-further}
-use Rattle.varisat_search.proofs.cdcl.learn.Given.{Over}
-use Rattle.varisat_search.proofs.cdcl.learn.Goals.{After-backtrack, In_ok-reason, In_ok-enqueue_assignment}
-use Rattle.varisat_search.proofs.cdcl.learn.Goals as goal
+use Rattle.varisat_search.proofs.Frames.{schedule-through, cut-activities}
+use Rattle.varisat_search.proofs.LearnContext.{analysis-ready, analysis-met, bumps-learned, Analyzed, analyzed-bumped, analyzed-well, analyzed-tracks, analyzed-clear, learned-assigned, analyzed-named, analyzed-assigned, with_store, analyzed-noted, noted-further, noted-saves, noted-bumps, analyzed-flags, Backtracked, learned-length, learned-count, saves-some, learned-listed, learned-paired, learned-tracks, Learning, learning-fits, learning-free, learning-node, learning-further, learning-activities, learning-fixed, refuted-undecided, refuted-further}
+use Rattle.varisat_search.proofs.cdcl.learn_from_conflict.Given.{Over}
+use Rattle.varisat_search.proofs.cdcl.learn_from_conflict.Goals.{After-backtrack, In_ok-reason, In_ok-enqueue_assignment}
+use Rattle.varisat_search.proofs.cdcl.learn_from_conflict.Goals as goal
 use Rattle.varisat_trace.specs.Traces.{TakesLines}
 
 pub bump_involved-requires-clause-ready : goal.bump_involved-requires-clause-ready
-bump_involved-requires-clause-ready g c = analysis-ready c.analyze.ensures.kept c.requires.ready c.analyze.ensures.count
+bump_involved-requires-clause-ready g c = analysis-ready c.analyze.ensures.kept c.requires.ready
 
 pub bump_involved-requires-clause-met : goal.bump_involved-requires-clause-met
 bump_involved-requires-clause-met g c = analysis-met c.args.ctx.now c.analyze.new.ctx c.analyze.ensures.kept c.in_ok-level.ensures.met
@@ -38,11 +42,10 @@ bump_involved_clauses-requires g c =
       ready = c.requires.ready;
       unknown = c.requires.unknown;
       kept = c.analyze.ensures.kept;
-      room = c.analyze.ensures.count;
       learned =
           c.in_ok-level.ensures.learned;
     })
-    c.bump_involved.ensures.kept c.bump_involved.ensures.available c.bump_involved.ensures.decay
+    c.bump_involved.ensures.kept
     c.bump_involved.ensures.entries in
     let a = subst (λ (x : Analysis). AreInvolved (view c.args.ctx.now) c.args.conflict x.involved)
     (sym (ap analysis c.bump_involved.ensures.kept)) c.in_ok-level.ensures.involved in
@@ -62,14 +65,13 @@ assess_learned-header-requires g c =
       ready = c.requires.ready;
       unknown = c.requires.unknown;
       kept = c.analyze.ensures.kept;
-      room = c.analyze.ensures.count;
       learned =
           c.in_ok-level.ensures.learned;
     })
-    c.bump_involved.ensures.kept c.bump_involved.ensures.available c.bump_involved.ensures.decay
+    c.bump_involved.ensures.kept
     c.bump_involved.ensures.entries in
     let e = analyzed-noted c.bump_involved_clauses.new.ctx d c.bump_involved_clauses.ensures.tracks c.bump_involved_clauses.ensures.headers
-    c.bump_involved_clauses.ensures.kept c.bump_involved_clauses.ensures.flags in
+    c.bump_involved_clauses.ensures.kept in
     record { well = analyzed-well e; clear = analyzed-clear e; assigned = learned-assigned e }
 
 pub backtrack-requires-clause-well : goal.backtrack-requires-clause-well
@@ -79,15 +81,14 @@ backtrack-requires-clause-well g c =
       ready = c.requires.ready;
       unknown = c.requires.unknown;
       kept = c.analyze.ensures.kept;
-      room = c.analyze.ensures.count;
       learned =
           c.in_ok-level.ensures.learned;
     })
-    c.bump_involved.ensures.kept c.bump_involved.ensures.available c.bump_involved.ensures.decay
+    c.bump_involved.ensures.kept
     c.bump_involved.ensures.entries in
     let e = analyzed-noted c.bump_involved_clauses.new.ctx d c.bump_involved_clauses.ensures.tracks c.bump_involved_clauses.ensures.headers
-    c.bump_involved_clauses.ensures.kept c.bump_involved_clauses.ensures.flags in
-    analyzed-well (analyzed-flags e c.assess_learned-header.ensures.kept c.assess_learned-header.ensures.flags)
+    c.bump_involved_clauses.ensures.kept in
+    analyzed-well (analyzed-flags e c.assess_learned-header.ensures.kept)
 
 -- after analysis and the bumps of variables; as it were with the clauses that were bumped; and after backtracking
 begun : (g : Over) (c : After-backtrack g) → Analyzed c.args.ctx.now c.bump_involved.new.ctx c.args.conflict c.in_ok-level.level
@@ -97,20 +98,19 @@ begun g c =
       ready = c.requires.ready;
       unknown = c.requires.unknown;
       kept = c.analyze.ensures.kept;
-      room = c.analyze.ensures.count;
       learned =
           c.in_ok-level.ensures.learned;
     })
-    c.bump_involved.ensures.kept c.bump_involved.ensures.available c.bump_involved.ensures.decay c.bump_involved.ensures.entries
+    c.bump_involved.ensures.kept c.bump_involved.ensures.entries
 
 undone : (g : Over) (c : After-backtrack g) → Backtracked (with_store c.args.ctx.now c.bump_involved_clauses.new.ctx)
     c.assess_learned-header.new.ctx c.backtrack.new.ctx c.args.conflict c.in_ok-level.level
 undone g c =
     let d = begun g c in
     let e = analyzed-noted c.bump_involved_clauses.new.ctx d c.bump_involved_clauses.ensures.tracks c.bump_involved_clauses.ensures.headers
-    c.bump_involved_clauses.ensures.kept c.bump_involved_clauses.ensures.flags in
+    c.bump_involved_clauses.ensures.kept in
     record {
-      begun = analyzed-flags e c.assess_learned-header.ensures.kept c.assess_learned-header.ensures.flags;
+      begun = analyzed-flags e c.assess_learned-header.ensures.kept;
       same = c.backtrack.ensures.same;
       cut = c.backtrack.ensures.cut;
       saved = c.backtrack.ensures.saved;
@@ -145,7 +145,7 @@ saves g c =
 analysis-stays : (g : Over) (c : After-backtrack g) → c.backtrack.new.ctx.analyze_conflict ≡ c.analyze.new.ctx.analyze_conflict
 analysis-stays g c =
     let analysis : (x : Context g.row.A.Denot) → Analysis = λ x. x.analyze_conflict in
-    ap analysis c.backtrack.ensures.kept ∙ ap analysis c.assess_learned-header.ensures.kept ∙ ap analysis c.bump_involved_clauses.ensures.kept
+    ap analysis c.backtrack.ensures.kept ∙ ap analysis c.assess_learned-header.ensures.kept.0 ∙ ap analysis c.bump_involved_clauses.ensures.kept.0
     ∙ ap analysis c.bump_involved.ensures.kept
 
 -- the line that was taken is that of the clause that is kept
@@ -214,7 +214,7 @@ returns-clause-bumps g c h =
     let y = c.assess_learned-header.new.ctx in
     let w = c.backtrack.new.ctx in
     let z = last g here.In_ok-enqueue_assignment in
-    let same : y.vsids ≡ x1.vsids = ap activities c.assess_learned-header.ensures.kept ∙ ap activities c.bump_involved_clauses.ensures.kept in (
+    let same : y.vsids ≡ x1.vsids = ap activities c.assess_learned-header.ensures.kept.0 ∙ ap activities c.bump_involved_clauses.ensures.kept.0 in (
       x1.vsids,
       bumps-learned c.args.ctx.now c.analyze.new.ctx x1 z c.analyze.ensures.kept c.bump_involved.ensures.bumps
           (ap analysis c.keep_learned.ensures.kept ∙ analysis-stays g here.After-backtrack) h,
@@ -234,14 +234,14 @@ returns-clause-stored g c h =
     let z = c.keep_learned.new.ctx in
     let keeps : z.analyze_conflict ≡ w.analyze_conflict = ap analysis c.keep_learned.ensures.kept in
     let read : z.analyze_conflict ≡ c.bump_involved.new.ctx.analyze_conflict = keeps ∙ analysis-stays g b ∙ sym (ap analysis c.bump_involved.ensures.kept) in
-    let before : w.analyze_conflict ≡ y.analyze_conflict = ap analysis c.backtrack.ensures.kept ∙ ap analysis c.assess_learned-header.ensures.kept in
+    let before : w.analyze_conflict ≡ y.analyze_conflict = ap analysis c.backtrack.ensures.kept ∙ ap analysis c.assess_learned-header.ensures.kept.0 in
     let store : w.clause_alloc ≡ y.clause_alloc = ap (λ (x : Context g.row.A.Denot). x.clause_alloc) c.backtrack.ensures.kept
-    ∙ ap (λ (x : Context g.row.A.Denot). x.clause_alloc) c.assess_learned-header.ensures.kept in
+    ∙ ap (λ (x : Context g.row.A.Denot). x.clause_alloc) c.assess_learned-header.ensures.kept.0 in
     let scale : z.clause_activity ≡ y.clause_activity = ap (λ (x : Context g.row.A.Denot). x.clause_activity) c.keep_learned.ensures.kept
     ∙ ap (λ (x : Context g.row.A.Denot). x.clause_activity) c.backtrack.ensures.kept
-    ∙ ap (λ (x : Context g.row.A.Denot). x.clause_activity) c.assess_learned-header.ensures.kept in
+    ∙ ap (λ (x : Context g.row.A.Denot). x.clause_activity) c.assess_learned-header.ensures.kept.0 in
     let nodes : y.impl_graph.nodes.items ≡ x0.impl_graph.nodes.items =
-    ap (λ (x : Context g.row.A.Denot). x.impl_graph.nodes.items) c.bump_involved_clauses.ensures.kept
+    ap (λ (x : Context g.row.A.Denot). x.impl_graph.nodes.items) c.bump_involved_clauses.ensures.kept.0
     ∙ ap (λ (x : Context g.row.A.Denot). x.impl_graph.nodes.items) c.bump_involved.ensures.kept
     ∙ ap (λ (x : Context g.row.A.Denot). x.impl_graph.nodes.items) c.analyze.ensures.kept in
     let clause : y.analyze_conflict.clause ≡ z.analyze_conflict.clause = sym (ap (λ (a : Analysis). a.clause) (keeps ∙ before)) in
@@ -308,23 +308,66 @@ returns-in_default-clause-involved g c =
 pub returns-in_default-clause-last : goal.returns-in_default-clause-last
 returns-in_default-clause-last g c = saves g (goal.at.returns-in_default-clause-last g c).After-backtrack
 
-pub returns-in_err-reason-clause-full : goal.returns-in_err-reason-clause-full
-returns-in_err-reason-clause-full g c =
-    let w = c.backtrack.new.ctx in
-    let z = c.keep_learned.new.ctx in
-    full-told c.from_residual-in_err-reason.result c.in_err-reason.field-0.0 z c.from_residual-in_err-reason.ensures (λ h.
-    let room = c.in_err-reason.ensures.full h in
-    let short = learned-length (undone g (goal.at.returns-in_err-reason-clause-full g c).After-backtrack) c.in-Some.first c.in-Some.ensures.0
-    (sym c.clause.ensures ∙ c.in-Some.ensures.1) in
-    let count = ap (λ (x : Context g.row.A.Denot). length x.assignment.current) c.keep_learned.ensures.kept in
-    omega (arith, room, short, count))
+-- the schedule stays until levels are undone, and while the clause is kept
+planned : (g : Over) (c : After-backtrack g) → KeepsSchedule c.args.ctx.now c.backtrack.new.ctx
+planned g c =
+    schedule-through (subst (KeepsSchedule c.args.ctx.now) (sym c.analyze.ensures.kept) (record { schedule = refl; solver_config = refl }))
+    (schedule-through (subst (KeepsSchedule c.analyze.new.ctx) (sym c.bump_involved.ensures.kept) (record { schedule = refl; solver_config = refl }))
+    (schedule-through (subst (KeepsSchedule c.bump_involved.new.ctx) (sym c.bump_involved_clauses.ensures.kept.0)
+    (record { schedule = refl; solver_config = refl }))
+    (schedule-through (subst (KeepsSchedule c.bump_involved_clauses.new.ctx) (sym c.assess_learned-header.ensures.kept.0)
+    (record { schedule = refl; solver_config = refl }))
+    (subst (KeepsSchedule c.assess_learned-header.new.ctx) (sym c.backtrack.ensures.kept) (record { schedule = refl; solver_config = refl })))))
 
-pub returns-in_err-reason-clause-size : goal.returns-in_err-reason-clause-size
-returns-in_err-reason-clause-size g c =
-    if-full c.from_residual-in_err-reason.result c.in_err-reason.field-0.0 _ c.from_residual-in_err-reason.ensures (λ h.
-    ap (λ (x : Context g.row.A.Denot). length x.assignment.current) c.keep_learned.ensures.kept
-    ∙ learned-count (undone g (goal.at.returns-in_err-reason-clause-size g c).After-backtrack) c.in-Some.first c.in-Some.ensures.0
-    (sym c.clause.ensures ∙ c.in-Some.ensures.1))
+keeping : {A : Type 0} {x y z : Context A} → KeepsSchedule x y → ChangesClauses y z → KeepsSchedule x z
+keeping {y = y} a k = schedule-through a (subst (KeepsSchedule y) (sym k) (record { schedule = refl; solver_config = refl }))
+
+pub returns-in_err-level-clause-ends : goal.returns-in_err-level-clause-ends
+returns-in_err-level-clause-ends g c =
+    ends-unfilled c.from_residual.result step.Memory c.from_residual.ensures memory-unfilled
+    (subst (KeepsSchedule c.args.ctx.now) (sym c.analyze.ensures.kept) (record { schedule = refl; solver_config = refl }))
+
+pub returns-in_err-trace_learned-clause-ends : goal.returns-in_err-trace_learned-clause-ends
+returns-in_err-trace_learned-clause-ends g c =
+    let e = c.in_err-trace_learned.field-0.0 in
+    ends-unfilled c.from_residual-in_err-trace_learned.result (step_error_of_trace e) c.from_residual-in_err-trace_learned.ensures (trace-unfilled e)
+    (subst (KeepsSchedule c.args.ctx.now) (sym c.analyze.ensures.kept) (record { schedule = refl; solver_config = refl }))
+
+pub returns-in_err-bump_involved_clauses-clause-ends : goal.returns-in_err-bump_involved_clauses-clause-ends
+returns-in_err-bump_involved_clauses-clause-ends g c =
+    ends-unfilled c.from_residual-in_err-bump_involved_clauses.result step.Memory c.from_residual-in_err-bump_involved_clauses.ensures memory-unfilled
+    (schedule-through (subst (KeepsSchedule c.args.ctx.now) (sym c.analyze.ensures.kept) (record { schedule = refl; solver_config = refl }))
+    (schedule-through (subst (KeepsSchedule c.analyze.new.ctx) (sym c.bump_involved.ensures.kept) (record { schedule = refl; solver_config = refl }))
+    (subst (KeepsSchedule c.bump_involved.new.ctx) (sym c.bump_involved_clauses.ensures.kept.0) (record { schedule = refl; solver_config = refl }))))
+
+pub returns-in_default-clause-ends : goal.returns-in_default-clause-ends
+returns-in_default-clause-ends g c =
+    let k = planned g (goal.at.returns-in_default-clause-ends g c).After-backtrack in
+    record { schedule = record { schedule = k.schedule; solver_config = k.solver_config }; full = tt }
+
+pub returns-in_err-reason-clause-ends : goal.returns-in_err-reason-clause-ends
+returns-in_err-reason-clause-ends g c =
+    let here = (goal.at.returns-in_err-reason-clause-ends g c).After-backtrack in
+    let split = sym c.clause.ensures ∙ c.in-Some.ensures.1 in
+    let count = ap (λ (x : Context g.row.A.Denot). length x.assignment.current) c.keep_learned.ensures.kept in
+    record {
+      schedule = keeping (planned g here) c.keep_learned.ensures.kept;
+      full = if-full c.from_residual-in_err-reason.result c.in_err-reason.field-0.0 _ c.from_residual-in_err-reason.ensures (λ h.
+          let room = c.in_err-reason.ensures.full h in
+          let short = learned-length (undone g here) c.in-Some.first c.in-Some.ensures.0 split in
+          (omega (arith, room, short, count), count ∙ learned-count (undone g here) c.in-Some.first c.in-Some.ensures.0 split));
+    }
+
+pub returns-in_err-enqueue_assignment-clause-ends : goal.returns-in_err-enqueue_assignment-clause-ends
+returns-in_err-enqueue_assignment-clause-ends g c =
+    let k = keeping (planned g (goal.at.returns-in_err-enqueue_assignment-clause-ends g c).After-backtrack) c.keep_learned.ensures.kept in
+    ends-unfilled c.from_residual-in_err-enqueue_assignment.result step.Memory c.from_residual-in_err-enqueue_assignment.ensures memory-unfilled
+    (record { schedule = k.schedule; solver_config = k.solver_config })
+
+pub returns-clause-ends : goal.returns-clause-ends
+returns-clause-ends g c =
+    let k = keeping (planned g (goal.at.returns-clause-ends g c).After-backtrack) c.keep_learned.ensures.kept in
+    record { schedule = record { schedule = k.schedule; solver_config = k.solver_config }; full = tt }
 
 pub returns-in_err-level-clause-broken : goal.returns-in_err-level-clause-broken
 returns-in_err-level-clause-broken g c =

@@ -9,6 +9,7 @@ pub mod ParserProgress
 pub mod ParserTakes
 pub mod PieceReaders
 pub mod SmallTexts
+pub mod TakenTexts
 pub mod TargetParts
 pub mod TokenBytes
 pub mod TokenRuns

@@ -1,14 +1,16 @@
 -- Texts that are read with a call of a function for each piece.
-use Rattle.std.proofs.Common.{◌≡◌, [], ◌∷◌, ◌++◌, inl, inr, Bool, true, false, None, Some, Result, Ok, Err, refl, sym, ap, subst, ◌∙◌}
+use Rattle.std.proofs.Common.{◌≡◌, ℕ, List, ◌⊎◌, [], ◌∷◌, ◌++◌, inl, inr, Bool, true, false, None, Some, Result, Ok, Err, refl, sym, ap, subst, ◌∙◌}
+use Rattle.std.specs.List.{FoldsTo}
 use Rattle.std.proofs.lemmas.Fn.{FoldsTo-push}
 use Rattle.varisat_formula.specs.declared.dimacs.error.DimacsError.{DimacsError}
 use Rattle.varisat_formula.specs.declared.dimacs.error.DimacsErrorKind.TheVariants.{OutOfMemory}
-use Rattle.varisat_formula.specs.Dimacs.{Ends, GoesOn, BreaksOff}
+use Rattle.varisat_formula.specs.Dimacs.{Reading, Ends, GoesOn, BreaksOff}
 use Rattle.varisat_formula.specs.Rest.{Progress, begin, dimacs_from, AdvancesBy, IsEnding, fault_of}
 use Rattle.varisat_formula.proofs.ParserMemory.{kept_by}
 use Rattle.varisat_formula.proofs.ParserProgress.{over_gives, breaks_off}
 use Rattle.varisat_formula.specs.Streams.{Stand}
-use Rattle.varisat_formula.specs.Parsed.{Calling, TakesPiece, Turn, Turns, TakesEnd, Finishes, Refuses}
+use Rattle.varisat_formula.specs.Parsed.{Standing, Calling, TakesPiece, GivesReading, Turn, Turns, TakesEnd, Finishes, Takes, HasFault, IsRefused, Refuses}
+use Rattle.varisat_formula.proofs.ParsedSources.{ReadSo, read_nothing, read_more, piece_told, text_broken, text_ended}
 
 -- the end of a text that was read, without a fault
 end_whole : (p q : Progress) → p.reading.fault ≡ None → q.reading.fault ≡ None → IsEnding p q → q.reading ≡ dimacs_from p []
@@ -34,6 +36,61 @@ advances_back : (p m : Progress) → AdvancesBy p [] m → AdvancesBy m [] p
 advances_back p m z = record { same = λ ending rest. sym (z.same ending rest) }
 
 module _ {F P E : Type 0} (by : Calling F P E) where
+  -- the function always returns Ok, and leaves the reader as far as it has come
+  abbrev pub IsIdle : Type 0
+  IsIdle = (f g : F) (p q : P) (r : Result (Unit {0}) E) → by.calls f p r g q → (r ≡ Ok tt) × (by.progress q ≡ by.progress p)
+
+  read_in_turns : (source : Stand) (pieces : List (List ℕ)) (a b : Standing F P) → IsIdle → ReadSo source a.source (by.progress a.reader) [] →
+      FoldsTo (Turn by) a pieces b → ReadSo source b.source (by.progress b.reader) []
+  read_in_turns source [] a b idle w e = subst (λ (x : Standing F P). ReadSo source x.source (by.progress x.reader) []) e w
+  read_in_turns source (piece ∷ pieces) a b idle w (m, k, rest) =
+      read_in_turns source pieces m b idle
+      (subst (λ x. ReadSo source m.source x []) (sym (idle _ _ _ _ _ k.calls).1)
+      (read_more source a.source m.source (by.progress a.reader) (by.progress k.read) [] true (Ok true) w k.takes refl)) rest
+
+  read_by : (source : Stand) (f : F) (now : Standing F P) → IsIdle → Turns by source f now → ReadSo source now.source (by.progress now.reader) []
+  read_by source f now idle w =
+      read_in_turns source w.pieces (record { source = source; reader = w.start; function = f }) now idle
+      (read_nothing source (by.progress w.start) w.begins) w.turns
+
+  end_read : (source : Stand) (s : Standing F P) (r : Result (Unit {0}) DimacsError) (t : Stand) (read : P) →
+      ReadSo source s.source (by.progress s.reader) [] → TakesEnd by s r t read → GivesReading source (by.progress read).reading t
+  end_read source s r t read w k =
+      let m : Progress = by.progress k.behind in
+      let z : AdvancesBy (by.progress s.reader) [] m = subst (λ x. AdvancesBy (by.progress s.reader) x m) (k.takes.ends refl).0 (k.takes.good false refl).0 in
+      text_ended source t m (by.progress read) [] (read_more source s.source t (by.progress s.reader) m [] false (Ok false) w k.takes refl)
+      (k.takes.ends refl).1 (ends_before m (by.progress s.reader) (by.progress read) (advances_back (by.progress s.reader) m z) k.reads)
+
+  pub finishes_read : (source after : Stand) (f : F) (reader : P) → IsIdle → Finishes by source f after reader →
+      GivesReading source (by.progress reader).reading after × ((by.progress reader).reading.fault ≡ None)
+  finishes_read source after f reader idle w =
+      let e = (idle _ _ _ _ _ w.calls).1 in (
+        subst (λ x. GivesReading source x.reading after) (sym e)
+            (end_read source w.last (Ok tt) after w.read (read_by source f w.last idle w.turns) w.ends),
+        ap (λ x. x.reading.fault) e ∙ sym w.ends.answer,
+      )
+
+  pub refuses_read : (source after : Stand) (f : F) (e : E) → IsIdle → Refuses by source f after e →
+      (d : DimacsError) × by.made d e × (reading : Reading) × GivesReading source reading after × (reading.fault ≡ Some d)
+  refuses_read source after f e idle w = why w.why
+    where
+      so : ReadSo source w.last.source (by.progress w.last.reader) []
+      so = read_by source f w.last idle w.turns
+
+      fault_in : (d : DimacsError) (read : P) → Takes by w.last (Err d) after read →
+          (reading : Reading) × GivesReading source reading after × (reading.fault ≡ Some d)
+      fault_in d read (inl k) = (
+        (by.progress read).reading,
+        text_broken source w.last.source after (by.progress w.last.reader) (by.progress read) [] d (Err d) so k refl,
+        piece_told source w.last.source after (by.progress w.last.reader) (by.progress read) [] d (Err d) so k refl,
+      )
+      fault_in d read (inr k) = ((by.progress read).reading, end_read source w.last (Err d) after read so k, sym k.answer)
+
+      why : HasFault by w.last after e ⊎ IsRefused by w.last after e →
+          (d : DimacsError) × by.made d e × (reading : Reading) × GivesReading source reading after × (reading.fault ≡ Some d)
+      why (inl h) = let (reading, g, n) = fault_in h.fault h.read h.takes in (h.fault, h.made, reading, g, n)
+      why (inr h) = absurd (let x : Err e ≡ Ok tt = (idle _ _ _ _ _ h.calls).0 in cc)
+
   pub turns_none : (source : Stand) (f : F) (reader : P) → by.progress reader ≡ begin →
       Turns by source f (record { source = source; reader = reader; function = f })
   turns_none source f reader e = record { start = reader; begins = e; pieces = []; turns = refl }

@@ -5,5 +5,6 @@ pub mod Machine
 pub mod Parsed
 pub mod Rest
 pub mod Streams
+pub mod TakenTexts
 pub mod Written
 pub use Rattle.varisat_literals.specs.Numbers

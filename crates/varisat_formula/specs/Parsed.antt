@@ -7,7 +7,7 @@ use Rattle.varisat_formula.specs.declared.dimacs.error.DimacsError.{DimacsError}
 use Rattle.varisat_formula.specs.declared.dimacs.error.DimacsErrorKind.TheVariants.{Io, OutOfMemory}
 use Rattle.varisat_formula.specs.Formulas.{Formula}
 use Rattle.varisat_formula.specs.Streams.{Stand, Reads, HasEnded}
-use Rattle.varisat_formula.specs.Dimacs.{is_blank, dimacs, so_far, broken, BreaksOff}
+use Rattle.varisat_formula.specs.Dimacs.{Reading, is_blank, dimacs, so_far, broken, BreaksOff}
 use Rattle.varisat_formula.specs.Rest.{Progress, begin, gives_from, dimacs_from, AdvancesBy, KeepsToken, IsEnding, RunsOutIn, failing, fault_of}
 
 -- Why a piece ended with the fault, and by how much the source's count of faults rose. The fault stands in the text; or memory
@@ -31,30 +31,34 @@ abbrev pub EndsToken : List ℕ → Stand → Type 0
 EndsToken [] t = HasEnded t
 EndsToken (b ∷ bs) t = is_blank b ≡ true
 
--- memory ran out behind this front of the text, where a token ends that was to be kept: the fault has the token's line
-pub record RunsOutAt (text : List ℕ) (e : DimacsError) (t : Stand) : Type 0 where
-  pub front : List ℕ
-  pub rest : List ℕ
-  pub splits : front ++ rest ≡ text
+-- memory ran out behind this front of the text, where a token ends that was to be kept
+pub record RunsOutAt (front rest : List ℕ) (t : Stand) : Type 0 where
   pub ends : EndsToken rest t
   pub wants : KeepsToken (so_far front) (so_far (front ++ 32 ∷ []))
-  pub told : (broken OutOfMemory front).fault ≡ Some e
 
--- Why a text has a fault. It stands in what was read, whatever comes behind it; or at the end of the text; or a token could not
--- be kept; or the source failed.
-pub data IsFaultOf (text : List ℕ) (e : DimacsError) (s t : Stand) : Type 0 where
-  InText : ((rest : List ℕ) → (dimacs (text ++ rest)).fault ≡ Some e) → t.faults ≡ s.faults → IsFaultOf text e s t
-  AtEnd : (dimacs text).fault ≡ Some e → HasEnded t → t.faults ≡ s.faults → IsFaultOf text e s t
-  WantsMemory : RunsOutAt text e t → t.faults ≡ s.faults → IsFaultOf text e s t
-  OfSource : (broken Io text).fault ≡ Some e → t.faults ≡ s.faults + 1 → IsFaultOf text e s t
+-- what a text gives, over what a source gave meanwhile
+pub data GivesReading (s : Stand) (reading : Reading) (t : Stand) : Type 0 where
+  -- the source ended, and this is the whole text
+  Whole : (text : List ℕ) → Reads s text t → HasEnded t → t.faults ≡ s.faults → reading ≡ dimacs text → GivesReading s reading t
+  -- the text has a fault, whatever comes behind
+  FaultInText : (text : List ℕ) → Reads s text t → t.faults ≡ s.faults → ((rest : List ℕ) → dimacs (text ++ rest) ≡ reading) →
+      reading.fault ≢ None → GivesReading s reading t
+  -- the source failed behind the text
+  TextFailed : (text : List ℕ) → Reads s text t → t.faults ≡ s.faults + 1 → reading ≡ broken Io text → GivesReading s reading t
+  -- memory ran out in the reader behind this front of it
+  ReaderRanOut : (front rest : List ℕ) → Reads s (front ++ rest) t → RunsOutAt front rest t → t.faults ≡ s.faults →
+      reading ≡ broken OutOfMemory front → GivesReading s reading t
 
--- The text is what the source gave meanwhile; and the formula or the fault is what it means.
+-- the formula or the fault is what was read
+abbrev pub TellsReading : Reading → Result Formula DimacsError → Type 0
+TellsReading reading (Ok f) = (f ≡ record { var_count = reading.highest; clauses = reading.clauses }) × (reading.fault ≡ None)
+TellsReading reading (Err e) = reading.fault ≡ Some e
+
+-- the formula or the fault is what the text gives
 pub record Parses (s : Stand) (r : Result Formula DimacsError) (t : Stand) : Type 0 where
-  pub text : List ℕ
-  pub reads : Reads s text t
-  pub formula : (f : Formula) → r ≡ Ok f → (f ≡ record { var_count = (dimacs text).highest; clauses = (dimacs text).clauses })
-      × ((dimacs text).fault ≡ None) × HasEnded t × (t.faults ≡ s.faults)
-  pub fault : (e : DimacsError) → r ≡ Err e → IsFaultOf text e s t
+  pub reading : Reading
+  pub gives : GivesReading s reading t
+  pub tells : TellsReading reading r
 
 -- how a source, a reader and a caller's function stand
 pub record Standing (F P : Type 0) : Type 0 where

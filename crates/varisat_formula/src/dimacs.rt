@@ -11,5 +11,6 @@ pub mod writer;
 
 pub use error::{DimacsError, DimacsErrorKind};
 pub use incremental::PieceReader;
+pub use parse::{ClauseSink, read_clauses};
 pub use parser::DimacsParser;
 pub use writer::write_dimacs;

@@ -1,8 +1,11 @@
 //! Reads texts from sources.
-ghost use Rattle.std.specs.Prelude.{◌≡◌, ◌-◌, ◌<◌, ◌^◌, length};
+ghost use Rattle.std.specs.Prelude.{◌≡◌, ◌-◌, ◌<◌, ◌^◌, List, Result, length, IfOk, IfErr};
+ghost use Rattle.varisat_theory.specs.Literals.{Clause};
 ghost use Rattle.varisat_formula.specs.Parsed.{TakesPiece, Parses};
+ghost use Rattle.varisat_formula.specs.TakenTexts.{TakesText, RefusesClause};
 
 use crate::dimacs::error::DimacsError;
+use crate::dimacs::incremental::PieceReader;
 use crate::dimacs::parser::DimacsParser;
 use crate::formula::CnfFormula;
 use crate::io::{ByteSource, PIECE};
@@ -36,18 +39,58 @@ impl<A: Allocator + Copy> DimacsParser<A> {
         requires { (S.stand source.old).faults < 2 ^ 64 - 1 }
         ensures { Parses (S.stand source.old) result (S.stand source.new) }
     {
-        let mut parser = DimacsParser::new_in(alloc);
-        let mut buffer = [0; PIECE];
-        'pieces: loop {
-            match parser.next_piece(source, &mut buffer) {
-                Ok(true) => {}
-                Ok(false) => break,
-                Err(fault) => return Err(fault),
-            }
-        }
-        match parser.finish() {
-            Ok(()) => Ok(parser.take_formula()),
+        let parsed: Result<DimacsParser<A>, DimacsError> = DimacsParser::parse_incremental(
+            alloc,
+            source,
+            |_parser| Ok(()),
+        );
+        match parsed {
+            Ok(mut parser) => Ok(parser.take_formula()),
             Err(fault) => Err(fault),
         }
+    }
+}
+
+/// Takes the clauses of a text.
+pub trait ClauseSink {
+    /// Why it refused one.
+    type Error;
+
+    /// What clauses make of it, by what the call returned.
+    ghost takes: { Self → List Clause → Result (Unit {0}) Self.Error → Self → Type 0 };
+
+    /// Takes the clauses in turn, up to the first that it refuses.
+    fn take_clauses<A: Allocator + Copy>(
+        &mut self,
+        clauses: &CnfFormula<A>,
+    ) -> Result<(), Self::Error>
+        ensures { takes self.old clauses.now.clauses result self.new };
+}
+
+/// Reads all of the source as one text, whose clauses the sink takes as they end, up to the first that it refuses.
+/// Returns the refusal, or else the first fault of the text or the source, if there is one, behind all clauses that
+/// ended before it.
+pub fn read_clauses<S: ByteSource, T: ClauseSink, A: Allocator + Copy>(
+    alloc: A,
+    source: &mut S,
+    sink: &mut T,
+) -> Result<Option<DimacsError>, T::Error>
+    requires { (S.stand source.old).faults < 2 ^ 64 - 1 }
+    ensures taken { IfOk result (λ fault. TakesText T.takes (S.stand source.old) sink.old fault (S.stand source.new) sink.new) }
+    ensures refused { IfErr result (λ e. RefusesClause T.takes (S.stand source.old) sink.old e (S.stand source.new) sink.new) }
+{
+    let mut parser = DimacsParser::new_in(alloc);
+    let mut buffer = [0; PIECE];
+    'pieces: while let Ok(true) = parser.next_piece(source, &mut buffer) {
+        match sink.take_clauses(&parser.take_formula()) {
+            Ok(()) => {}
+            Err(error) => return Err(error),
+        }
+    }
+    // After a fault the clauses are still here that ended before it.
+    let end = parser.finish();
+    match sink.take_clauses(&parser.take_formula()) {
+        Ok(()) => Ok(end.err()),
+        Err(error) => Err(error),
     }
 }

@@ -1,0 +1,50 @@
+-- A piece's clauses are taken, or one is refused; and at the end the last ones.
+use Rattle.std.proofs.Common.{rules, [], ◌++◌, ◌≡◌, ◌⊎◌, inl, Ok, Err, false, inr, ap, ◌∙◌}
+use Rattle.varisat_formula.specs.declared.dimacs.error.DimacsError.{DimacsError}
+use Rattle.varisat_formula.proofs.ParsedSources.{read_nothing, read_more, read_taken, gives_first, text_over}
+use Rattle.varisat_formula.specs.TakenTexts.{InOne}
+use Rattle.varisat_formula.proofs.TakenTexts.{err_told, takes_more, takes_text, refuses_last}
+use Rattle.varisat_formula.proofs.dimacs.parse.read_clauses.Goals as goal
+use Rattle.varisat_formula.proofs.dimacs.parse.read_clauses.Goals.{in_default, in_default-2}
+
+pub pieces-init : goal.pieces-init
+pieces-init g c = record {
+  front = [];
+  read = read_nothing _ _ c.new_in-parser.ensures.begins;
+  takes = λ clauses r t w. w;
+}
+
+pub pieces-preserved : goal.pieces-preserved
+pieces-preserved g c = record {
+  front = c.pieces.invariant.front ++ c.take_formula.result.clauses;
+  read = read_taken _ _ _ _ _ c.take_formula.result
+      (read_more _ _ _ _ _ _ c.in-Ok-true.field-0 _ c.pieces.invariant.read c.next_piece.ensures.takes c.in-Ok-true.is)
+      c.take_formula.ensures.rest c.take_formula.ensures.later;
+  takes = takes_more _ _ _ _ _ _ c.pieces.invariant.takes c.in-Ok.ensures;
+}
+
+pub returns-in-Err-clause-refused : goal.returns-in-Err-clause-refused
+returns-in-Err-clause-refused g c =
+    record {
+      clauses = c.pieces.invariant.front ++ c.take_formula.result.clauses;
+      given = inr (gives_first _ _ _ _ (read_taken _ _ _ _ _ c.take_formula.result
+          (read_more _ _ _ _ _ _ c.in-Ok-true.field-0 _ c.pieces.invariant.read c.next_piece.ensures.takes c.in-Ok-true.is)
+          c.take_formula.ensures.rest c.take_formula.ensures.later));
+      takes_some = c.pieces.invariant.takes _ _ _ (InOne c.in-Err.ensures);
+    }
+
+pub returns-in-Ok-take_clauses-clause-taken : goal.returns-in-Ok-take_clauses-clause-taken
+returns-in-Ok-take_clauses-clause-taken g c =
+    let last : (c.next_piece.result ≡ Ok false) ⊎ ((x : DimacsError) × (c.next_piece.result ≡ Err x)) =
+    elim c.match-next_piece.branch [ in_default w ↦ inl (search rules) | in_default-2 w ↦ inr (_, w.in_default.is) ] in
+    takes_text _ _ _ _ _ _ _ _ _ _ c.pieces.invariant.takes
+    (text_over _ _ _ _ _ _ _ _ c.pieces.invariant.read c.next_piece.ensures.takes last c.finish-end.ensures.reads)
+    (ap (λ f. f.clauses) c.take_formula-2.ensures.formula) (c.err.ensures.value ∙ err_told _ ∙ c.finish-end.ensures.answer) c.in-Ok-take_clauses.ensures
+
+pub returns-clause-refused : goal.returns-clause-refused
+returns-clause-refused g c =
+    let last : (c.next_piece.result ≡ Ok false) ⊎ ((x : DimacsError) × (c.next_piece.result ≡ Err x)) =
+    elim c.match-next_piece.branch [ in_default w ↦ inl (search rules) | in_default-2 w ↦ inr (_, w.in_default.is) ] in
+    refuses_last _ _ _ _ _ _ _ _ _ _ c.pieces.invariant.takes
+    (text_over _ _ _ _ _ _ _ _ c.pieces.invariant.read c.next_piece.ensures.takes last c.finish-end.ensures.reads)
+    (ap (λ f. f.clauses) c.take_formula-2.ensures.formula) c.in-Err-take_clauses.ensures

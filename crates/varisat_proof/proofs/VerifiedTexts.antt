@@ -3,11 +3,10 @@ use Rattle.std.proofs.Common.{◌≡◌, ℕ, List, [], Bool, true, false, Optio
 use Rattle.varisat_theory.specs.Membership.{◌∈◌, SameSet}
 use Rattle.varisat_theory.specs.Literals.{Clause, IsSatisfiable}
 use Rattle.varisat_theory.proofs.Members.{∈-append_right, ∈-append_cases}
-use Rattle.varisat_formula.specs.declared.dimacs.error.DimacsErrorKind.{DimacsErrorKind}
-use Rattle.varisat_formula.specs.declared.dimacs.error.DimacsErrorKind.TheVariants as kind
-use Rattle.varisat_formula.specs.declared.dimacs.error.DimacsError.{DimacsError}
-use Rattle.varisat_formula.specs.Dimacs.{Reading, nothing, items, read, lines, last_line, BreaksOff, close_by, broken}
+use Rattle.varisat_formula.specs.Dimacs.{Reading}
 use Rattle.varisat_formula.specs.Streams.{Stand}
+use Rattle.varisat_formula.specs.Parsed.{GivesReading}
+use Rattle.varisat_formula.proofs.ParsedSources.{gives_whole}
 use Rattle.varisat_proof.specs.declared.proof.format.ProofFormat.{ProofFormat}
 use Rattle.varisat_proof.specs.declared.proof.format.ProofFormat.TheVariants.{Drat, BinaryDrat, Marked}
 use Rattle.varisat_proof.specs.declared.proof.format.Encoding.TheVariants.{Text}
@@ -16,34 +15,17 @@ use Rattle.varisat_proof.specs.declared.checker.error.CheckVerdict.{CheckVerdict
 use Rattle.varisat_proof.specs.declared.checker.error.CheckVerdict.TheVariants.{Refutation, Derivation}
 use Rattle.varisat_proof.specs.declared.checker.error.CheckerError.{CheckerError}
 use Rattle.varisat_proof.specs.declared.checker.error.CheckerError.TheVariants.{CheckFailed, NoSuchClause, CoreNotAssumed, Parse, Io, OutOfMemory, Dimacs, Spent}
-use Rattle.varisat_proof.specs.Calls.{CheckerState, Checks, ChecksBytes, ChecksMarked, IsMarkedResult, core_lists, GivesReading, Whole, FaultInText, TextFailed, ReaderRanOut, AddsText, Added, ClauseRanOut, Unread}
+use Rattle.varisat_proof.specs.Calls.{CheckerState, Checks, ChecksBytes, ChecksMarked, IsMarkedResult, core_lists, AddsText, Added, ClauseRanOut, Unread}
 use Rattle.varisat_proof.specs.Marked.{MarkedTold, nothing_told, IsCheckOf, state_of}
 use Rattle.varisat_proof.specs.Verified.{AreGiven, IsMarkedCheck, IsMarkedVerdict, VerifiesMarked, VerifiesBy, GivesClauses, GivesUnsatisfiable, Sources, Verifies, verdict_of, verdict_status}
 use Rattle.varisat_proof.proofs.CheckResults.{checks_sound}
 use Rattle.varisat_proof.proofs.CheckedSources.{checks_ok, checks_err, checks_right}
 use Rattle.varisat_proof.proofs.MarkedReports.{refutation_sound}
 
--- a text that breaks off has a fault
-closed_broken : (f : Option DimacsError) (x : DimacsErrorKind) (r : Reading) (n : ℕ) → r.fault ≡ f → (close_by f (BreaksOff x) r n).fault ≡ None → ⊥
-closed_broken None x r n h e = cc
-closed_broken (Some d) x r n h e = let z : Some d ≡ None = sym h ∙ e in cc
-
-broken_fails : (x : DimacsErrorKind) (text : List ℕ) → (broken x text).fault ≡ None → ⊥
-broken_fails x text e =
-    let r : Reading = read nothing (items false 1 (lines text)) in closed_broken r.fault x r (last_line 1 (lines text)) refl e
-
 whole_text : (s t : Stand) (reading : Reading) → GivesReading s reading t → reading.fault ≡ None → GivesClauses s reading.clauses t
-whole_text s t reading (Whole text r h q e) f = record {
-  text = text;
-  reads = r;
-  ended = h;
-  fine = ap (λ x. x.fault) (sym e) ∙
-      f;
-  clauses_are = ap (λ x. x.clauses) e;
-}
-whole_text s t reading (FaultInText text r q e n) f = absurd (n f)
-whole_text s t reading (TextFailed text r q e) f = absurd (broken_fails kind.Io text (ap (λ x. x.fault) (sym e) ∙ f))
-whole_text s t reading (ReaderRanOut front rest r q e) f = absurd (broken_fails kind.OutOfMemory front (ap (λ x. x.fault) (sym e) ∙ f))
+whole_text s t reading g f =
+    let w = gives_whole s t reading g f in
+    record { text = w.text; reads = w.reads; ended = w.ended; fine = ap (λ x. x.fault) (sym w.is) ∙ f; clauses_are = ap (λ x. x.clauses) w.is }
 
 -- a new checker took the text
 record Took (s t : Stand) (mid : CheckerState) : Type 0 where

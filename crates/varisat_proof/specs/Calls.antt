@@ -7,9 +7,10 @@ use Rattle.varisat_theory.specs.Derivations.{Line, Add, Delete, Derives}
 use Rattle.varisat_plain.specs.Checking.{IsWrong}
 use Rattle.varisat_theory.specs.Held.{without}
 use Rattle.varisat_formula.specs.declared.dimacs.error.DimacsErrorKind.TheVariants as kind
-use Rattle.varisat_formula.specs.Dimacs.{Reading, dimacs, broken}
+use Rattle.varisat_formula.specs.Dimacs.{Reading}
 use Rattle.varisat_formula.specs.Streams as streams
 use Rattle.varisat_formula.specs.Streams.{Stand, HasEnded}
+use Rattle.varisat_formula.specs.Parsed.{GivesReading}
 use Rattle.varisat_proof.specs.declared.proof.format.ProofFormat.{ProofFormat}
 use Rattle.varisat_trace.specs.declared.step.ProofStep.{ProofStep}
 use Rattle.varisat_trace.specs.declared.step.ProofStep.TheVariants.{AtClause, UnitClauses, DeleteClause, DeleteVar, FailedAssumptions}
@@ -166,19 +167,6 @@ pub record IsTrueReport {A : Type 0} (P : List Clause) (report : MarkedReport A)
       → IsSatisfiableWith (P ++ take core.0 report.inputs.clauses) core.1 → ⊥
 
 -- 3. DIMACS texts.
--- what a text gives, over what a source gave meanwhile
-pub data GivesReading (old : Stand) (reading : Reading) (new : Stand) : Type 0 where
-  -- the source ended, and this is the whole text
-  Whole : (text : List ℕ) → streams.Reads old text new → HasEnded new → new.faults ≡ old.faults → reading ≡ dimacs text → GivesReading old reading new
-  -- the text has a fault, whatever comes behind
-  FaultInText : (text : List ℕ) → streams.Reads old text new → new.faults ≡ old.faults → ((rest : List ℕ) → dimacs (text ++ rest) ≡ reading) →
-      reading.fault ≢ None → GivesReading old reading new
-  -- the source failed behind the text
-  TextFailed : (text : List ℕ) → streams.Reads old text new → new.faults ≡ old.faults + 1 → reading ≡ broken kind.Io text → GivesReading old reading new
-  -- memory ran out in the reader behind this front of it
-  ReaderRanOut : (front rest : List ℕ) → streams.Reads old (front ++ rest) new → new.faults ≡ old.faults → reading ≡ broken kind.OutOfMemory front →
-      GivesReading old reading new
-
 -- The clauses of a text join the present ones; its fault, if there is one, is returned.
 abbrev pub AddsRead : CheckerState → Reading → Result (Unit {0}) CheckerError → CheckerState → Type 0
 AddsRead old reading (Ok u) new = (reading.fault ≡ None) × Becomes old (old.clauses ++ reading.clauses) new

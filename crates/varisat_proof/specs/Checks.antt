@@ -13,7 +13,7 @@ use Rattle.varisat_proof.specs.declared.checker.line.LineStatus.TheVariants.{Tak
 use Rattle.varisat_proof.specs.declared.checker.error.CheckVerdict.{CheckVerdict}
 use Rattle.varisat_proof.specs.declared.checker.error.CheckVerdict.TheVariants.{Refutation, Derivation}
 use Rattle.varisat_proof.specs.declared.checker.error.CheckerError.{CheckerError}
-use Rattle.varisat_proof.specs.declared.checker.error.CheckerError.TheVariants.{CheckFailed, NoSuchClause, CoreNotAssumed, Parse, Io, OutOfMemory, Dimacs, Spent}
+use Rattle.varisat_proof.specs.declared.checker.error.CheckerError.TheVariants.{CheckFailed, NoSuchClause, CoreNotAssumed, Parse, OutOfMemory, Dimacs}
 use Rattle.varisat_proof.specs.declared.checker.check.Count.{Count}
 use Rattle.varisat_proof.specs.Lines.{ProofLine, line_of_kind, step_number}
 use Rattle.varisat_proof.specs.Machine.{Parsed, ReaderState, parsed, parsed_from}

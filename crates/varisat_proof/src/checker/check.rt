@@ -2,7 +2,6 @@
 ghost use Rattle.std.specs.Prelude.{◌≡◌, ◌≢◌, [], ◌∷◌, ◌++◌, ◌-◌, ◌<◌, ◌^◌, ◌↔◌, length, true, false, Ok, Err, OnOk, OnErr, IfOk, IfErr, IsTrue, ◌||◌, slice_index_or};
 ghost use Rattle.varisat_theory.specs.Membership.{◌∈◌, SameSet};
 ghost use Rattle.varisat_theory.specs.Literals.{Clause, IsSatisfiable};
-ghost use Rattle.varisat_formula.specs.Rest.{Progress, IsEnding};
 ghost use Rattle.varisat_theory.specs.Derivations.{Line, Add, Delete, TakesOut};
 ghost use Rattle.varisat_theory.specs.Propagation.{Conflicts, Follows};
 ghost use Rattle.varisat_plain.specs.Checking.{IsAbsent};
@@ -16,7 +15,7 @@ ghost use Rattle.varisat_proof.specs.Lines.{line_of_kind};
 ghost use Rattle.varisat_proof.specs.Marked.{state_of};
 ghost use Rattle.varisat_proof.specs.Results.{IsResult};
 ghost use Rattle.varisat_proof.specs.Checks.{TellsStatus, TakesNext, position_of, ReadsNext, EndsBehind, ChecksFrom, result_at_end, ChecksLine, ChecksUnits, ChecksCore, RefusesText};
-ghost use Rattle.varisat_proof.specs.Calls.{with_clause, standing_of, BecomesOrRefuses, AddsRead, AddsText, IsStep, Checks, ChecksMarked, IsMarkedResult, IsTrueReport, IsRightFor, spends};
+ghost use Rattle.varisat_proof.specs.Calls.{with_clause, standing_of, BecomesOrRefuses, AddsText, IsStep, Checks, ChecksMarked, IsMarkedResult, IsTrueReport, IsRightFor, spends};
 
 use crate::checker::error::{CheckVerdict, CheckerError};
 use crate::checker::line::LineStatus;
@@ -27,7 +26,7 @@ use crate::proof::format::{Encoding, LineKind, ProofFormat};
 use crate::proof::step::ProofStep;
 use std::alloc::{AllocError, Allocator};
 use std::marker::Model;
-use varisat_formula::dimacs::{DimacsError, DimacsErrorKind, DimacsParser};
+use varisat_formula::dimacs::{ClauseSink, DimacsError, DimacsErrorKind, read_clauses};
 use varisat_formula::formula::CnfFormula;
 use varisat_formula::io::{ByteSource, PIECE};
 use varisat_literals::{Lit, Var};
@@ -170,22 +169,6 @@ impl<A: Allocator + Copy> Checker<A> {
         CheckerError::Dimacs { cause: fault }
     }
 
-    /// Ends the text, adds the clauses that it leaves, and returns its fault, if there is one.
-    fn end_text(&mut self, parser: &mut DimacsParser<A>) -> Result<(), CheckerError>
-        requires { self.old.spent ≡ false }
-        ensures { (p : Progress) × IsEnding parser.old p × AddsRead self.old p.reading result self.new }
-    {
-        let end = parser.finish();
-        match self.add_formula(&parser.take_formula()) {
-            Ok(()) => {}
-            Err(error) => return Err(error),
-        }
-        match end {
-            Ok(()) => Ok(()),
-            Err(fault) => Err(self.refuse_text(fault)),
-        }
-    }
-
     /// Adds the clauses of a DIMACS CNF text in turn, without a check. The text's first fault is returned, and the
     /// clauses that ended before it stay. Where memory runs out, also in the reader, the checker is spent.
     pub fn add_dimacs_cnf<S: ByteSource>(&mut self, source: &mut S) -> Result<(), CheckerError>
@@ -195,21 +178,11 @@ impl<A: Allocator + Copy> Checker<A> {
         if self.spent {
             return Err(CheckerError::Spent);
         }
-        let mut parser = DimacsParser::new_in(self.alloc);
-        let mut buffer = [0; PIECE];
-        'pieces: loop {
-            let more = parser.next_piece(source, &mut buffer);
-            match self.add_formula(&parser.take_formula()) {
-                Ok(()) => {}
-                Err(error) => return Err(error),
-            }
-            match more {
-                Ok(true) => {}
-                Ok(false) => break,
-                Err(fault) => return Err(self.refuse_text(fault)),
-            }
+        match read_clauses(self.alloc, source, self) {
+            Ok(None) => Ok(()),
+            Ok(Some(fault)) => Err(self.refuse_text(fault)),
+            Err(error) => Err(error),
         }
-        self.end_text(&mut parser)
     }
 
     /// Takes out the clauses with a literal of the variable, without a check. It takes no memory; a spent checker
@@ -604,5 +577,18 @@ impl<A: Allocator + Copy> Checker<A> {
                 Err(error)
             }
         }
+    }
+}
+
+impl<A: Allocator + Copy> ClauseSink for Checker<A> {
+    type Error = CheckerError;
+
+    ghost takes = { λ c clauses r d. BecomesOrRefuses c (c.clauses ++ clauses) r d };
+
+    fn take_clauses<B: Allocator + Copy>(
+        &mut self,
+        clauses: &CnfFormula<B>,
+    ) -> Result<(), CheckerError> {
+        self.add_formula(clauses)
     }
 }

@@ -10,7 +10,7 @@ use Rattle.varisat_formula.specs.declared.dimacs.error.DimacsError.{DimacsError}
 use Rattle.varisat_names.specs.declared.config.SolverConfigUpdate.{SolverConfigUpdate}
 use Rattle.varisat.specs.States.{Known, State, Ledger, Unknown}
 use Rattle.varisat.specs.Names.{Sample, Witness}
-use Rattle.varisat.specs.Additions.{Gave, AllAdded, OneRefused, RefusedAtOnce, NoFault, MemoryFault, Fault, ClauseRefused, ClausesAdded, RefusedEarly, FaultInText, Whole, MemoryRanOut, SourceFailed, Read, Unread}
+use Rattle.varisat.specs.Additions.{AllAdded, OneRefused, RefusedAtOnce, NoFault, MemoryFault, Fault, ClauseRefused, ClausesAdded, RefusedEarly, Read, Unread}
 use Rattle.varisat.specs.Additions as additions
 use Rattle.varisat.specs.Usage as usage
 use Rattle.varisat.specs.Budgets.{CountsSteps}
@@ -153,16 +153,9 @@ module _ {V : Type 0} (by : Verdicts V) (keeps : KeepsFew by) where
   add-reading s t R r (ClauseRefused e k a) h = add-all s t R.clauses (Err e) a h
   add-reading s t R r (ClausesAdded mid a f) h = tell-fault mid t R.fault r f (add-all s mid R.clauses (Ok tt) a h)
 
-  add-given : (s t : Known V) (old new : Stand) (g : Gave old new) (r : Result (Unit {0}) SolverError) → additions.AddsGiven by g s r t →
-      HasFewSteps s → HasFewSteps t
-  add-given s t old new g r (RefusedEarly ended from e k a n) h = add-all s t ended (Err e) a h
-  add-given s t old new g r (FaultInText R from x a n) h = add-reading s t R r a h
-  add-given s t old new g r (Whole end a n) h = add-reading s t _ r a h
-  add-given s t old new g r (MemoryRanOut front rest e a n) h = add-reading s t _ r a h
-  add-given s t old new g r (SourceFailed a n) h = add-reading s t _ r a h
-
   add-text : (s t : Known V) (old new : Stand) (r : Result (Unit {0}) SolverError) → additions.AddsText by s old r new t → HasFewSteps s → HasFewSteps t
-  add-text s t old new r (Read v g a) h = add-given s t old new g r a h
+  add-text s t old new r (Read v R g a) h = add-reading s t R r a h
+  add-text s t old new r (RefusedEarly v ended g e k a) h = add-all s t ended (Err e) a h
   add-text s t old new r (Unread e (v, k) n) h = same s t k h
 
   call-keeps : {W S A : Type 0} (seen : S → Stand) (taken : W → Taken) (c : Call W S A) (a : Answer W S A) (s t : Known V) → Makes by seen taken s c a t →

@@ -3,19 +3,20 @@ use Rattle.std.proofs.Common.{◌≡◌, ◌≢◌, ◌∙◌, ℕ, true, false,
 use Rattle.varisat_theory.specs.Literals.{Clause}
 use Rattle.varisat_formula.specs.Dimacs.{Reading, dimacs}
 use Rattle.varisat_formula.specs.Streams.{Stand}
+use Rattle.varisat_formula.proofs.ParsedSources.{gives_whole}
 use Rattle.varisat.specs.States.{State, Unknown, Unsat}
 use Rattle.varisat.specs.Names.{AreInOrder}
 use Rattle.varisat.specs.Counts.{count_with}
 use Rattle.varisat.specs.ClauseCalls.{AddsAll, AddsDimacs}
 use Rattle.varisat.specs.Calls as state
 use Rattle.varisat.specs.Additions as additions
-use Rattle.varisat.specs.Additions.{Gave, NoFault, MemoryFault, Fault, ClauseRefused, ClausesAdded, RefusedEarly, FaultInText, Whole, MemoryRanOut, SourceFailed, Read, Unread}
+use Rattle.varisat.specs.Additions.{NoFault, MemoryFault, Fault, ClauseRefused, ClausesAdded, RefusedEarly, Read, Unread}
 use Rattle.varisat.specs.Decided as conclusion
 use Rattle.varisat.specs.Decided.{Conclusion}
 use Rattle.varisat.specs.Proven.{Concludes}
 use Rattle.varisat.proofs.LikeStates.{same-clauses, same-naming}
 use Rattle.varisat.proofs.NamesInOrder.{stay-in-order}
-use Rattle.varisat.proofs.ProgramDecides.{done, broken-fails}
+use Rattle.varisat.proofs.ProgramDecides.{done}
 
 pub record AreFirst (P : List Clause) (s t : State) : Type 0 where
   pub given : List Clause
@@ -80,18 +81,14 @@ first-read n s t R o (ClausesAdded m a (NoFault none k e)) =
 first-read n s t R o (ClausesAdded m a (MemoryFault y f k e b)) = absurd cc
 first-read n s t R o (ClausesAdded m a (Fault y f k e b)) = absurd cc
 
-first-given : (n : ℕ) (s t : State) (old new : Stand) (g : Gave old new) → AreInOrder n s.naming → additions.AddsGiven state.calling g s done t →
-    AreFirst (dimacs g.text).clauses s t
-first-given n s t old new g o (RefusedEarly ended from e k a f) = absurd cc
-first-given n s t old new g o (FaultInText R from x a f) = absurd (x (first-read n s t R o a).0)
-first-given n s t old new g o (Whole end a f) = (first-read n s t _ o a).1
-first-given n s t old new g o (MemoryRanOut front rest e a f) = absurd (broken-fails _ front (first-read n s t _ o a).0)
-first-given n s t old new g o (SourceFailed a f) = absurd (broken-fails _ g.text (first-read n s t _ o a).0)
-
 -- those of a text that was taken in whole
 pub first-of-text : (n : ℕ) (s t : State) (old new : Stand) → AreInOrder n s.naming → AddsDimacs s old done new t →
     (text : List ℕ) × (new.given ≡ old.given ++ text) × AreFirst (dimacs text).clauses s t
-first-of-text n s t old new o (Read v g a) = (g.text, g.reads.gave, first-given n s t old new g o a)
+first-of-text n s t old new o (Read v R g a) =
+    let (fine, first) = first-read n s t R o a in
+    let w = gives_whole old new R g fine in
+    (w.text, w.reads.gave, subst (λ (x : Reading). AreFirst x.clauses s t) w.is first)
+first-of-text n s t old new o (RefusedEarly v ended g e k a) = absurd cc
 first-of-text n s t old new o (Unread e k f) = absurd cc
 
 -- Where they are known to be unsatisfiable no other conclusion is found.

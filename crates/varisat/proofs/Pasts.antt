@@ -20,7 +20,7 @@ use Rattle.varisat.specs.States.{Known, State, Ledger, Verdict, Unknown, Sat, Un
 use Rattle.varisat.specs.Names.{Naming, Mode, bring, bring_next, bring_if_free, name_one, name_all, through_names, free_name, set_mode, give_name, AreShown}
 use Rattle.varisat.specs.Models.{list_names, model_of, IsCompletable}
 use Rattle.varisat.specs.Additions as additions
-use Rattle.varisat.specs.Additions.{Gave, AllAdded, OneRefused, RefusedAtOnce, NoFault, MemoryFault, Fault, ClauseRefused, ClausesAdded, RefusedEarly, FaultInText, Whole, MemoryRanOut, SourceFailed, Read, Unread}
+use Rattle.varisat.specs.Additions.{AllAdded, OneRefused, RefusedAtOnce, NoFault, MemoryFault, Fault, ClauseRefused, ClausesAdded, RefusedEarly, Read, Unread}
 use Rattle.varisat.specs.Calls as state
 use Rattle.varisat.specs.Calls.{calling, IsValid, Invalidates, IsLikeButLeft, IsLike, Ignored, Accepted, MayAccept, TakesOne, TakesList, RefusesNames, accept, count_anew, start, with_naming, answer_of, reopened_verdict, assumed_verdict, VerdictAfter}
 use Rattle.varisat.specs.Pasts as past
@@ -276,17 +276,10 @@ add-reading v s t R r g (ClausesAdded mid a f) =
     let (w, b, h) = add-all v s mid R.clauses (Ok tt) g a in
     let (x, c, i) = tell-fault w mid t R.fault r h f in (x, ClausesAdded (past_of w mid) b c, i)
 
-add-given : (v : Findings) (s t : State) (old new : Stand) (y : Gave old new) (r : Result (Unit {0}) SolverError) → Agrees v s →
-    additions.AddsGiven calling y s r t → Leads (additions.AddsGiven telling y (past_of v s) r) t
-add-given v s t old new y r g (RefusedEarly ended from e k a n) = let (w, b, h) = add-all v s t ended (Err e) g a in (w, RefusedEarly ended from e k b n, h)
-add-given v s t old new y r g (FaultInText R from x a n) = let (w, b, h) = add-reading v s t R r g a in (w, FaultInText R from x b n, h)
-add-given v s t old new y r g (Whole end a n) = let (w, b, h) = add-reading v s t _ r g a in (w, Whole end b n, h)
-add-given v s t old new y r g (MemoryRanOut front rest e a n) = let (w, b, h) = add-reading v s t _ r g a in (w, MemoryRanOut front rest e b n, h)
-add-given v s t old new y r g (SourceFailed a n) = let (w, b, h) = add-reading v s t _ r g a in (w, SourceFailed b n, h)
-
 pub add-text : (v : Findings) (s t : State) (old new : Stand) (r : Result (Unit {0}) SolverError) → Agrees v s → additions.AddsText calling s old r new t →
     Leads (additions.AddsText telling (past_of v s) old r new) t
-add-text v s t old new r g (Read c y a) = let (w, b, h) = add-given v s t old new y r g a in (w, Read c y b, h)
+add-text v s t old new r g (Read c R y a) = let (w, b, h) = add-reading v s t R r g a in (w, Read c R y b, h)
+add-text v s t old new r g (RefusedEarly c ended y e k a) = let (w, b, h) = add-all v s t ended (Err e) g a in (w, RefusedEarly c ended y e k b, h)
 add-text v s t old new r g (Unread e (c, k) n) = (v, Unread e (c, ap (past_of v) k) n, stays v s t k g)
 
 -- 5. A new variable.

@@ -7,10 +7,9 @@ use Rattle.varisat_theory.specs.Literals.{Literal, Clause, Assignment, variable_
 use Rattle.varisat_theory.proofs.Members.{∈-append_cases}
 use Rattle.varisat_theory.proofs.Count.{length-distinct}
 use Rattle.varisat_theory.proofs.Assigned.{satisfies_fewer}
-use Rattle.varisat_formula.specs.declared.dimacs.error.DimacsErrorKind.{DimacsErrorKind}
-use Rattle.varisat_formula.specs.declared.dimacs.error.DimacsError.{DimacsError}
-use Rattle.varisat_formula.specs.Dimacs.{Reading, nothing, items, read, lines, last_line, BreaksOff, close_by, dimacs, broken}
-use Rattle.varisat_formula.specs.Streams.{Stand, Taken, HasEnded}
+use Rattle.varisat_formula.specs.Dimacs.{Reading, dimacs}
+use Rattle.varisat_formula.specs.Streams.{Stand, Taken, Reads, HasEnded}
+use Rattle.varisat_formula.proofs.ParsedSources.{gives_whole}
 use Rattle.varisat_names.specs.declared.config.SolverConfigUpdate.{SolverConfigUpdate}
 use Rattle.varisat_names.specs.Settings.{Settings, no_update}
 use Rattle.varisat_proof.specs.declared.proof.format.ProofFormat.{ProofFormat}
@@ -25,7 +24,7 @@ use Rattle.varisat.specs.OpenProofs.{OpenProof, first_proof}
 use Rattle.varisat.specs.Calls as state
 use Rattle.varisat.specs.Calls.{count_anew, Ignored, Accepted}
 use Rattle.varisat.specs.Additions as additions
-use Rattle.varisat.specs.Additions.{Gave, NoFault, MemoryFault, Fault, ClauseRefused, ClausesAdded, RefusedEarly, FaultInText, Whole, MemoryRanOut, SourceFailed, Read, Unread}
+use Rattle.varisat.specs.Additions.{NoFault, MemoryFault, Fault, ClauseRefused, ClausesAdded, RefusedEarly, Read, Unread}
 use Rattle.varisat.specs.Pasts.{Findings, Past, empty_past, telling}
 use Rattle.varisat.specs.Budgets.{CountsSteps}
 use Rattle.varisat.specs.Decided.{IsUpToHighest, IsModel, named_variables, allowed_steps, Conclusion, Decided, Unknown, IsConclusion, Decides, StatusIsTrue, conclusion_status}
@@ -41,15 +40,6 @@ use Rattle.varisat.proofs.MoreClauses.{Carries, carries-all, carries-through, ca
 
 abbrev pub done : Result (Unit {0}) SolverError
 done = Ok tt
-
--- a text that breaks off has a fault
-closed-broken : (f : Option DimacsError) (x : DimacsErrorKind) (r : Reading) (n : ℕ) → r.fault ≡ f → (close_by f (BreaksOff x) r n).fault ≡ None → ⊥
-closed-broken None x r n h e = cc
-closed-broken (Some d) x r n h e = let z : Some d ≡ None = sym h ∙ e in cc
-
-pub broken-fails : (x : DimacsErrorKind) (text : List ℕ) → (broken x text).fault ≡ None → ⊥
-broken-fails x text e =
-    let r : Reading = read nothing (items false 1 (lines text)) in closed-broken r.fault x r (last_line 1 (lines text)) refl e
 
 -- how many names are in use once those of the clauses are
 abbrev count-all : ℕ → List Clause → ℕ
@@ -197,20 +187,24 @@ reading-whole p q R (ClausesAdded m a (Fault y n k e b)) = absurd cc
 
 -- a text that was taken in whole
 record Takes (old new : Stand) (p q : Past) : Type 0 where
-  read : Gave old new
+  text : List ℕ
+  reads : Reads old text new
   ended : HasEnded new
-  fine : (dimacs read.text).fault ≡ None
-  all : AddsWhole p (dimacs read.text).clauses q
-
-takes-given : (old new : Stand) (p q : Past) (g : Gave old new) → additions.AddsGiven telling g p done q → Takes old new p q
-takes-given old new p q g (RefusedEarly ended from e k a n) = absurd cc
-takes-given old new p q g (FaultInText R from x a n) = absurd (x (reading-whole p q R a).0)
-takes-given old new p q g (Whole end a n) = let (x, y) = reading-whole p q _ a in record { read = g; ended = end; fine = x; all = y }
-takes-given old new p q g (MemoryRanOut front rest e a n) = absurd (broken-fails _ front (reading-whole p q _ a).0)
-takes-given old new p q g (SourceFailed a n) = absurd (broken-fails _ g.text (reading-whole p q _ a).0)
+  fine : (dimacs text).fault ≡ None
+  all : AddsWhole p (dimacs text).clauses q
 
 takes : (old new : Stand) (p q : Past) → additions.AddsText telling p old done new q → Takes old new p q
-takes old new p q (Read v g a) = takes-given old new p q g a
+takes old new p q (Read v R g a) =
+    let (fine, all) = reading-whole p q R a in
+    let w = gives_whole old new R g fine in
+    record {
+      text = w.text;
+      reads = w.reads;
+      ended = w.ended;
+      fine = ap (λ x. x.fault) (sym w.is) ∙ fine;
+      all = subst (λ (x : Reading). AddsWhole p x.clauses q) w.is all;
+    }
+takes old new p q (RefusedEarly v ended g e k a) = absurd cc
 takes old new p q (Unread e k n) = absurd cc
 
 -- a new solver's state with the settings for a file, and a proof that is open, or none
@@ -289,7 +283,7 @@ module _ (check : Bool) (proof : Option OpenProof) (limit : Option ℕ) (old new
 
   -- what was found, and that the text's clauses are those of the solver and others
   abbrev pub Found : Conclusion → Type 0
-  Found c = (d : Decides (allowed_steps limit) old new c) × Carries t.clauses (dimacs d.read.text).clauses
+  Found c = (d : Decides (allowed_steps limit) old new c) × Carries t.clauses (dimacs d.text).clauses
 
   found-none : (u : State) → state.Solves t (Ok false) u → Found (Decided None)
   found-none u f =
@@ -297,9 +291,10 @@ module _ (check : Bool) (proof : Option OpenProof) (limit : Option ℕ) (old new
       let q = past_of v t in
       let (z, (c, n, few, told, refuted, e), h) = solve v t u (Ok false) g f in
       let w = takes old new (begun_past check proof limit) q x in
-      let r = begun-took check proof limit q (dimacs w.read.text).clauses w.all in (
+      let r = begun-took check proof limit q (dimacs w.text).clauses w.all in (
         record {
-          read = w.read;
+          text = w.text;
+          reads = w.reads;
           ended = w.ended;
           fine = w.fine;
           found =
@@ -313,13 +308,13 @@ module _ (check : Bool) (proof : Option OpenProof) (limit : Option ℕ) (old new
       let (v, x, g) = text-taken in
       let q = past_of v t in
       let w = takes old new (begun_past check proof limit) q x in
-      let r = begun-took check proof limit q (dimacs w.read.text).clauses w.all in
-      let names = named_variables [] (dimacs w.read.text).clauses in
+      let r = begun-took check proof limit q (dimacs w.text).clauses w.all in
+      let names = named_variables [] (dimacs w.text).clauses in
       let fewer = length-distinct t.counted names (r.once tt) (r.counted [] (λ i h. h)) in
       let early = spent-early (length t.counted) (allowed_steps limit) t.ledger.settings.max_steps t.ledger.since t.ledger.steps u.ledger.steps f.steps
       (ap (λ (s : Settings). s.max_steps) r.settings) r.steps in
       let power : 2 ^ (2 * length t.counted + 3) ≤ 2 ^ (2 * length names + 3) = pow_mono (omega (arith, fewer)) in (
-        record { read = w.read; ended = w.ended; fine = w.fine; found = omega (arith, early, power) },
+        record { text = w.text; reads = w.reads; ended = w.ended; fine = w.fine; found = omega (arith, early, power) },
         r.carries,
       )
     where
@@ -336,8 +331,14 @@ module _ (check : Bool) (proof : Option OpenProof) (limit : Option ℕ) (old new
       let q = past_of v t in
       let (z, (w, s, few, told, e), h) = solve v t u (Ok true) g f in
       let k = takes old new (begun_past check proof limit) q x in
-      let r = begun-took check proof limit q (dimacs k.read.text).clauses k.all in (
-        record { read = k.read; ended = k.ended; fine = k.fine; found = outcome (dimacs k.read.text).clauses r.whole (s.0, s.1) z (same-clauses f.rest) (same-naming f.rest) h },
+      let r = begun-took check proof limit q (dimacs k.text).clauses k.all in (
+        record {
+          text = k.text;
+          reads = k.reads;
+          ended = k.ended;
+          fine = k.fine;
+          found = outcome (dimacs k.text).clauses r.whole (s.0, s.1) z (same-clauses f.rest) (same-naming f.rest) h;
+        },
         r.carries,
       )
     where
@@ -365,15 +366,15 @@ outcome-is-true max_steps old new outcome status d e = record {
   unsatisfiable = λ text g t. subst (λ x. IsSatisfiable (dimacs x).clauses → ⊥) (same text g) (none outcome (sym e ∙ t) d.found);
 }
   where
-    same : (text : List ℕ) → new.given ≡ old.given ++ text → d.read.text ≡ text
-    same text g = append_cancel_left old.given d.read.text text (sym d.read.reads.gave ∙ g)
+    same : (text : List ℕ) → new.given ≡ old.given ++ text → d.text ≡ text
+    same text g = append_cancel_left old.given d.text text (sym d.reads.gave ∙ g)
 
-    found : (o : Conclusion) → conclusion_status o ≡ 10 → IsConclusion max_steps (dimacs d.read.text).clauses o → IsSatisfiable (dimacs d.read.text).clauses
+    found : (o : Conclusion) → conclusion_status o ≡ 10 → IsConclusion max_steps (dimacs d.text).clauses o → IsSatisfiable (dimacs d.text).clauses
     found Unknown h k = absurd (omega (arith, h))
     found (Decided None) h k = absurd (omega (arith, h))
     found (Decided (Some m)) h k = (k.satisfied.0, k.satisfied.2)
 
-    none : (o : Conclusion) → conclusion_status o ≡ 20 → IsConclusion max_steps (dimacs d.read.text).clauses o → IsSatisfiable (dimacs d.read.text).clauses → ⊥
+    none : (o : Conclusion) → conclusion_status o ≡ 20 → IsConclusion max_steps (dimacs d.text).clauses o → IsSatisfiable (dimacs d.text).clauses → ⊥
     none Unknown h k = absurd (omega (arith, h))
     none (Decided None) h k = k
     none (Decided (Some m)) h k = absurd (omega (arith, h))

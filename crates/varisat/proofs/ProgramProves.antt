@@ -18,7 +18,7 @@ use Rattle.varisat.specs.ClauseCalls.{AddsAll, AddsDimacs}
 use Rattle.varisat.specs.Calls as state
 use Rattle.varisat.specs.Calls.{IsValid, TellsVerdict}
 use Rattle.varisat.specs.Additions as additions
-use Rattle.varisat.specs.Additions.{Gave, NoFault, MemoryFault, Fault, ClauseRefused, ClausesAdded, RefusedEarly, FaultInText, Whole, MemoryRanOut, SourceFailed, Read, Unread}
+use Rattle.varisat.specs.Additions.{NoFault, MemoryFault, Fault, ClauseRefused, ClausesAdded, RefusedEarly, Read, Unread}
 use Rattle.varisat.specs.Decided as conclusion
 use Rattle.varisat.specs.Decided.{Conclusion, allowed_steps}
 use Rattle.varisat.specs.Proven.{prepared, Concludes, Reports, IsProven, IsProvenIf, DecidesProven, Fails, AsSearched, AsListed}
@@ -67,15 +67,9 @@ keeps-reading s t R (ClausesAdded m a (NoFault n k e)) = keeps-through s m t (ke
 keeps-reading s t R (ClausesAdded m a (MemoryFault y n k e b)) = absurd cc
 keeps-reading s t R (ClausesAdded m a (Fault y n k e b)) = absurd cc
 
-keeps-given : (s t : State) (old new : Stand) (g : Gave old new) → additions.AddsGiven state.calling g s done t → Keeps s t
-keeps-given s t old new g (RefusedEarly ended from e k a n) = absurd cc
-keeps-given s t old new g (FaultInText R from x a n) = keeps-reading s t R a
-keeps-given s t old new g (Whole end a n) = keeps-reading s t _ a
-keeps-given s t old new g (MemoryRanOut front rest e a n) = keeps-reading s t _ a
-keeps-given s t old new g (SourceFailed a n) = keeps-reading s t _ a
-
 keeps-text : (s t : State) (old new : Stand) → AddsDimacs s old done new t → Keeps s t
-keeps-text s t old new (Read v g a) = keeps-given s t old new g a
+keeps-text s t old new (Read v R g a) = keeps-reading s t R a
+keeps-text s t old new (RefusedEarly v ended g e k a) = absurd cc
 keeps-text s t old new (Unread e k n) = absurd cc
 
 -- 2. What asking keeps.
@@ -188,8 +182,8 @@ proven {W = W} taken format check limit old new target back t u c opened adds fi
     let (d, carries) = found check (unsearched taken format target) limit old new s t (prepared-begun taken format check limit target) adds c u finds in
     record {
       decides = d;
-      proven = go target back adds (dimacs d.read.text).clauses carries (λ text same. ap (λ xs. (dimacs xs).clauses)
-          (append_cancel_left old.given d.read.text text (sym d.read.reads.gave ∙ same)))
+      proven = go target back adds (dimacs d.text).clauses carries (λ text same. ap (λ xs. (dimacs xs).clauses)
+          (append_cancel_left old.given d.text text (sym d.reads.gave ∙ same)))
           (subst (λ o. IsClosed {E = SolverError} taken o (Ok back)) is closed);
     }
   where

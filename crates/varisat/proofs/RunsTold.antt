@@ -6,7 +6,7 @@ use Rattle.varisat_theory.specs.Journals.{Accepts, Assumes, LeadsBy}
 use Rattle.varisat_formula.specs.Dimacs.{Reading}
 use Rattle.varisat_formula.specs.Streams.{Stand, Taken}
 use Rattle.varisat.specs.States.{State, Ledger, empty_state}
-use Rattle.varisat.specs.Additions.{Gave, AllAdded, OneRefused, RefusedAtOnce, NoFault, MemoryFault, Fault, ClauseRefused, ClausesAdded, RefusedEarly, FaultInText, Whole, MemoryRanOut, SourceFailed, Read, Unread}
+use Rattle.varisat.specs.Additions.{AllAdded, OneRefused, RefusedAtOnce, NoFault, MemoryFault, Fault, ClauseRefused, ClausesAdded, RefusedEarly, Read, Unread}
 use Rattle.varisat.specs.Additions as additions
 use Rattle.varisat.specs.Usage as usage
 use Rattle.varisat.specs.ClauseCalls.{AddsAll, AddsDimacs, AddsFormula, TellsFault}
@@ -113,16 +113,9 @@ add-reading s t R r (ClauseRefused e k a) w = add-all s t R.clauses (Err e) a w
 add-reading s t R r (ClausesAdded mid a f) w = let second = tell-fault mid t R.fault r f w in
     through s mid t (add-all s mid R.clauses (Ok tt) a second.valid) second
 
-add-given : (s t : State) (old new : Stand) (g : Gave old new) (r : Result (Unit {0}) SolverError) → additions.AddsGiven state.calling g s r t →
-    state.IsValid t → TellsOn s t
-add-given s t old new g r (RefusedEarly ended from e k a n) w = add-all s t ended (Err e) a w
-add-given s t old new g r (FaultInText R from x a n) w = add-reading s t R r a w
-add-given s t old new g r (Whole end a n) w = add-reading s t _ r a w
-add-given s t old new g r (MemoryRanOut front rest e a n) w = add-reading s t _ r a w
-add-given s t old new g r (SourceFailed a n) w = add-reading s t _ r a w
-
 add-text : (s t : State) (old new : Stand) (r : Result (Unit {0}) SolverError) → AddsDimacs s old r new t → state.IsValid t → TellsOn s t
-add-text s t old new r (Read v g a) w = add-given s t old new g r a w
+add-text s t old new r (Read v R g a) w = add-reading s t R r a w
+add-text s t old new r (RefusedEarly v ended g e k a) w = add-all s t ended (Err e) a w
 add-text s t old new r (Unread e (v, k) n) w = tells-same s t k w
 
 -- 2. Variables and assumptions.

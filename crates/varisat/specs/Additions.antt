@@ -1,23 +1,16 @@
 -- Clauses that are added in turn, from lists and from DIMACS CNF texts, as one clause is.
-use Rattle.std.specs.Prelude.{◌≡◌, ◌≢◌, ℕ, ◌+◌, List, [], ◌∷◌, ◌++◌, ◌⊎◌, Option, Some, None, Result, Ok, Err}
+use Rattle.std.specs.Prelude.{◌≡◌, ◌≢◌, List, [], ◌∷◌, ◌⊎◌, Option, Some, None, Result, Ok, Err}
 use Rattle.varisat_theory.specs.Literals.{Clause}
 use Rattle.varisat_formula.specs.declared.dimacs.error.DimacsError.{DimacsError}
 use Rattle.varisat_formula.specs.declared.dimacs.error.DimacsErrorKind.TheVariants as kind
-use Rattle.varisat_formula.specs.Dimacs.{Reading, dimacs, broken}
-use Rattle.varisat_formula.specs.Streams.{Stand, Reads, HasEnded}
+use Rattle.varisat_formula.specs.Dimacs.{Reading}
+use Rattle.varisat_formula.specs.Streams.{Stand}
+use Rattle.varisat_formula.specs.Parsed.{GivesReading}
+use Rattle.varisat_formula.specs.TakenTexts.{GivesFirst}
 use Rattle.varisat.specs.States.{Known}
 use Rattle.varisat.specs.Calls.{IsValid, IsRefusedInvalid, Invalidates, count_anew, Verdicts, TakesOne}
 use Rattle.varisat.specs.declared.solver.SolverError.{SolverError}
 use Rattle.varisat.specs.declared.solver.SolverError.TheVariants as error
-
--- what a source gave in a call
-pub record Gave (old new : Stand) : Type 0 where
-  pub text : List ℕ
-  pub reads : Reads old text new
-
--- the first clauses of the list
-abbrev pub IsBeginning : List Clause → List Clause → Type 0
-IsBeginning P clauses = (rest : List Clause) × (clauses ≡ P ++ rest)
 
 module _ {V : Type 0} (by : Verdicts V) where
   -- the clauses in turn, up to the first refusal; those before it stay
@@ -43,23 +36,10 @@ module _ {V : Type 0} (by : Verdicts V) where
     ClauseRefused : (e : SolverError) → r ≡ Err e → AddsAll s reading.clauses (Err e) t → AddsReading s reading r t
     ClausesAdded : (mid : Known V) → AddsAll s reading.clauses (Ok tt) mid → TellsFault reading.fault mid r t → AddsReading s reading r t
 
-  -- How what a source gave decides the answer.
-  pub data AddsGiven {old new : Stand} (g : Gave old new) (s : Known V) (r : Result (Unit {0}) SolverError) (t : Known V) : Type 0 where
-    -- a clause is refused that ended in it, whatever comes behind
-    RefusedEarly : (ended : List Clause) → ((rest : List ℕ) → IsBeginning ended (dimacs (g.text ++ rest)).clauses) → (e : SolverError) → r ≡ Err e →
-        AddsAll s ended (Err e) t → new.faults ≡ old.faults → AddsGiven g s r t
-    -- it has a fault, whatever comes behind
-    FaultInText : (reading : Reading) → ((rest : List ℕ) → dimacs (g.text ++ rest) ≡ reading) → reading.fault ≢ None → AddsReading s reading r t →
-        new.faults ≡ old.faults → AddsGiven g s r t
-    -- it is the whole text
-    Whole : HasEnded new → AddsReading s (dimacs g.text) r t → new.faults ≡ old.faults → AddsGiven g s r t
-    -- memory ran out in the reader behind this front of it
-    MemoryRanOut : (front : List ℕ) → (rest : List ℕ) → front ++ rest ≡ g.text → AddsReading s (broken kind.OutOfMemory front) r t →
-        new.faults ≡ old.faults → AddsGiven g s r t
-    -- the source failed behind it
-    SourceFailed : AddsReading s (broken kind.Io g.text) r t → new.faults ≡ old.faults + 1 → AddsGiven g s r t
-
   -- A text is added that a source gives. An invalid solver refuses it, and reads nothing.
   pub data AddsText (s : Known V) (old : Stand) (r : Result (Unit {0}) SolverError) (new : Stand) (t : Known V) : Type 0 where
-    Read : IsValid s → (g : Gave old new) → AddsGiven g s r t → AddsText s old r new t
+    Read : IsValid s → (reading : Reading) → GivesReading old reading new → AddsReading s reading r t → AddsText s old r new t
+    -- a clause is refused that ended in what the source gave, whatever comes behind
+    RefusedEarly : IsValid s → (ended : List Clause) → GivesFirst old ended new → (e : SolverError) → r ≡ Err e → AddsAll s ended (Err e) t →
+        AddsText s old r new t
     Unread : r ≡ Err error.Invalid → IsRefusedInvalid s t → new ≡ old → AddsText s old r new t

@@ -4,8 +4,7 @@ use Rattle.std.specs.Option.{unwrap_or}
 use Rattle.varisat_theory.specs.Membership.{◌∈◌}
 use Rattle.varisat_theory.specs.Literals.{Literal, Clause, Assignment, variable_of, SatisfiesAll, MakesTrue, IsSatisfiable}
 use Rattle.varisat_formula.specs.Dimacs.{dimacs}
-use Rattle.varisat_formula.specs.Streams.{Stand, HasEnded}
-use Rattle.varisat.specs.Additions.{Gave}
+use Rattle.varisat_formula.specs.Streams.{Stand, Reads, HasEnded}
 use Rattle.varisat_proof.specs.Verified.{fault_status}
 use Rattle.varisat.specs.States.{join_counted}
 use Rattle.varisat.specs.Models.{IsRising}
@@ -62,10 +61,11 @@ IsConclusion max_steps P Unknown = min max_steps (2 ^ 64 - 1) < 2 ^ (2 * length 
 
 -- What a source gave in a call, up to its end, is a text without a fault, and this is the conclusion for its clauses.
 pub record Decides (max_steps : ℕ) (old new : Stand) (conclusion : Conclusion) : Type 0 where
-  pub read : Gave old new
+  pub text : List ℕ
+  pub reads : Reads old text new
   pub ended : HasEnded new
-  pub fine : (dimacs read.text).fault ≡ None
-  pub found : IsConclusion max_steps (dimacs read.text).clauses conclusion
+  pub fine : (dimacs text).fault ≡ None
+  pub found : IsConclusion max_steps (dimacs text).clauses conclusion
 
 -- what is printed where a model was found
 abbrev pub model_text : List Literal → List ℕ

@@ -27,6 +27,7 @@ pub mod Spaces
 pub mod Journals
 pub mod Usage
 pub mod ClauseCalls
+pub mod TextCalls
 pub mod VariableChanges
 pub mod Dropping
 pub mod Counts

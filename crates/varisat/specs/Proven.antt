@@ -90,7 +90,7 @@ IsProvenIf taken format clauses conclusion (Some target) (Some back) = IsProven 
 pub record DecidesProven {W : Type 0} (taken : W → Taken) (format : ProofFormat) (max_steps : ℕ) (old new : Stand)
     (target back : Option W) (conclusion : Conclusion) : Type 0 where
   pub decides : Decides max_steps old new conclusion
-  pub proven : IsProvenIf taken format (dimacs decides.read.text).clauses conclusion target back
+  pub proven : IsProvenIf taken format (dimacs decides.text).clauses conclusion target back
 
 -- When deciding a text fails with the error, where the solver was in the state s before: as it takes the text in; as it searches, or
 -- lists the model that it found; or as its proof is closed.

@@ -15,7 +15,6 @@ use Rattle.varisat_names.specs.VarMap.{at}
 use Rattle.varisat_names.specs.VarData.{kept_at}
 use Rattle.varisat_names.specs.Variables.{Tables}
 use Rattle.std.specs.declared.io.Error.{Error}
-use Rattle.varisat_formula.specs.Rest.{Progress, IsEnding}
 use Rattle.varisat_proof.specs.Calls.{CheckerState}
 use Rattle.varisat_proof.specs.Proving.{OpenState, ProofParts, marked_searched, Flushes}
 use Rattle.varisat.specs.OpenProofs.{opened_state, IsWrittenWhereOpen}
@@ -23,7 +22,6 @@ use Rattle.varisat_tracer.specs.Tracing.{CanTell}
 use Rattle.varisat.specs.States.{State, Ledger, FlagsFit}
 use Rattle.varisat.specs.Accepting.{AreBounded, DecidesInUse, IsAssumedSolver}
 use Rattle.varisat.specs.Models.{put_name}
-use Rattle.varisat.specs.ClauseCalls.{AddsReading}
 use Rattle.varisat.specs.Carried.{value_or}
 use Rattle.varisat.specs.Spaces.{Spaces, SpacesFit}
 use Rattle.varisat.specs.SinceChange.{CountsSince}
@@ -127,10 +125,6 @@ pub record StandsFor (g : Summary) (s : State) : Type 0 where
 -- From each state that the solver g stands for the relation leads to one that it stands for as h.
 abbrev pub StandsOnce : Summary → (State → State → Type 0) → Summary → Type 0
 StandsOnce g R h = (s : State) → StandsFor g s → (t : State) × R s t × StandsFor h t
-
--- The text that the reader p is in ends, and the solver stands for a state to which the clauses that are left and the fault lead.
-abbrev pub StandsOnceEnded : Progress → State → Result (Unit {0}) SolverError → Summary → Type 0
-StandsOnceEnded p s r h = (q : Progress) × IsEnding p q × (t : State) × AddsReading s q.reading r t × StandsFor h t
 
 -- A search ends in a valid solver: an open proof is one under which `solve` was called. Where it can't be flushed the solver is invalid.
 abbrev pub EndsSearch : Summary → Result (Unit {0}) SolverError → Summary → Type 0

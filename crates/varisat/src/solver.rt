@@ -14,9 +14,9 @@ use std::io;
 use std::marker::Model;
 use thiserror::Error;
 use varisat_clause::header::Tier;
-use varisat_formula::dimacs::{DimacsError, DimacsErrorKind, DimacsParser};
+use varisat_formula::dimacs::{ClauseSink, DimacsError, DimacsErrorKind, read_clauses};
 use varisat_formula::formula::{CnfFormula, ExtendFormula};
-use varisat_formula::io::{ByteSource, PIECE, ProofTarget};
+use varisat_formula::io::{ByteSource, ProofTarget};
 use varisat_literals::{Lit, Var};
 use varisat_names::config::{ConfigField, SolverConfigUpdate};
 use varisat_names::variables::LinkedVariables;
@@ -254,7 +254,7 @@ impl<W: ProofTarget, A: Allocator + Copy> Solver<W, A> {
     ghost use Rattle.varisat.specs.Calls.{IsValid, count_anew, with_max_steps, AddsClause, MakesVar, Assumes, Searches, Solves, TellsModel, TellsCore, Configures, TellsSteps, TellsSince, TellsValid, answer_of};
     ghost use Rattle.varisat.specs.ClauseCalls.{AddsAll, AddsFormula, AddsDimacs, TellsFault};
     ghost use Rattle.varisat.specs.Told.{told_list, lent_list};
-    ghost use Rattle.varisat.specs.Summaries.{StandsFor, StandsOnce, StandsOnceEnded, EndsSearch, HasFullStore};
+    ghost use Rattle.varisat.specs.Summaries.{StandsFor, StandsOnce, EndsSearch, HasFullStore};
     ghost use Rattle.varisat.specs.Targets.{WritesOn, WritesAll};
     ghost use Rattle.varisat_proof.specs.Proving.{marked_searched};
     ghost use Rattle.varisat.specs.Journals.{IsJournal};
@@ -459,23 +459,6 @@ impl<W: ProofTarget, A: Allocator + Copy> Solver<W, A> {
         SolverError::Dimacs { cause: fault }
     }
 
-    /// Ends the text, accepts the clauses that it leaves, and returns its fault, if there is one.
-    fn end_text(&mut self, parser: &mut DimacsParser<A>) -> Result<(), SolverError>
-        ensures target { WritesOn self.old.opened result self.new.opened }
-        ensures full { result ≡ Err SolverError.ClauseStoreFull → HasFullStore self.new }
-        ensures call { (s : State) → StandsFor self.old s → IsValid s → StandsOnceEnded parser.old s result self.new }
-    {
-        let end = parser.finish();
-        self.add_clauses(&parser.take_formula())?;
-        match end {
-            Ok(()) => {
-                self.begin_count();
-                Ok(())
-            }
-            Err(fault) => Err(self.refuse_text(fault)),
-        }
-    }
-
     /// Accepts the clauses of a DIMACS CNF text in turn, up to the first that is refused or the text's first fault,
     /// which is then returned, whatever the pieces in which the source gives the text. The clauses before it stay. Out
     /// of memory in the reader is returned as in any call.
@@ -486,18 +469,14 @@ impl<W: ProofTarget, A: Allocator + Copy> Solver<W, A> {
         ensures call { StandsOnce self.old (λ s t. AddsDimacs s (S.stand source.old) result (S.stand source.new) t) self.new }
     {
         ensure_valid(&self.ctx)?;
-        let mut parser = DimacsParser::new_in(self.alloc);
-        let mut buffer = [0; PIECE];
-        'pieces: loop {
-            let more = parser.next_piece(source, &mut buffer);
-            self.add_clauses(&parser.take_formula())?;
-            match more {
-                Ok(true) => {}
-                Ok(false) => break,
-                Err(fault) => return Err(self.refuse_text(fault)),
+        match read_clauses(self.alloc, source, self) {
+            Ok(None) => {
+                self.begin_count();
+                Ok(())
             }
+            Ok(Some(fault)) => Err(self.refuse_text(fault)),
+            Err(error) => Err(error),
         }
-        self.end_text(&mut parser)
     }
 
     /// Brings the least free name into use. Refused in an invalid solver, where all 2^28 names are in use or so many
@@ -811,5 +790,20 @@ impl<W: ProofTarget, A: Allocator + Copy> ExtendFormula for Solver<W, A> {
 
     fn new_var(&mut self) -> Result<Var, SolverError> {
         Solver::new_var(self)
+    }
+}
+
+impl<W: ProofTarget, A: Allocator + Copy> ClauseSink for Solver<W, A> {
+    ghost use Rattle.varisat.specs.TextCalls.{TakesClauses};
+
+    type Error = SolverError;
+
+    ghost takes = { TakesClauses };
+
+    fn take_clauses<B: Allocator + Copy>(
+        &mut self,
+        clauses: &CnfFormula<B>,
+    ) -> Result<(), SolverError> {
+        self.add_clauses(clauses)
     }
 }

@@ -63,10 +63,6 @@ pub if-full : {X : Type 0} (r : Result X StepError) (s : StoreError) (P : Type 0
     (s ≡ store.Full → P) → IfErr r (λ e. e ≡ step.Full → P)
 if-full r s P h f = told-by r (λ e. e ≡ step_error_of_store s) (λ e. e ≡ step.Full → P) h (λ e p q. f (store-full s (sym p ∙ q)))
 
-pub full-told : {A X : Type 0} (r : Result X StepError) (s : StoreError) (z : Context A) → IsErr r × IsErrAnd r (λ e. e ≡ step_error_of_store s) →
-    (s ≡ store.Full → HasNoRoom z) → IfErr r (λ e. e ≡ step.Full → HasNoRoom z)
-full-told r s z h f = if-full r s (HasNoRoom z) h f
-
 -- a step with another error
 pub ends-unfilled : {A : Type 0} {x y : Context A} (r : Result (Unit {0}) StepError) (e : StepError) → IsErr r × IsErrAnd r (λ z. z ≡ e) →
     e ≢ step.Full → KeepsSchedule x y → EndsStep r x y

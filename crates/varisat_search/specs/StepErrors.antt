@@ -33,8 +33,8 @@ RefusesStoring n x y = (2 ^ 32 ≤ length y.clause_alloc.words + 3 + n) × (y.as
 abbrev pub HasNoRoom : {A : Type 0} → Context A → Type 0
 HasNoRoom x = 2 ^ 32 ≤ length x.clause_alloc.words + 3 + length x.assignment.current
 
--- However a step ends, the schedule stays. It tells that the store is full only where that has no room for a clause of all
--- variables, and then there are as many variables as before.
+-- However a step or the loading of a clause ends, the schedule stays. It tells that the store is full only where that has no
+-- room for a clause of all variables, and then there are as many variables as before.
 pub record EndsStep {A : Type 0} (r : Result (Unit {0}) StepError) (x y : Context A) : Type 0 where
   pub schedule : KeepsSchedule x y
   pub full : IfErr r (λ error. error ≡ step.Full → HasNoRoom y × (length y.assignment.current ≡ length x.assignment.current))

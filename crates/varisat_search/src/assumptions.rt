@@ -9,8 +9,8 @@ ghost use Rattle.varisat_prop.specs.Looks.{IsInRange};
 ghost use Rattle.varisat_prop.specs.View.{View, WellFormed, kept};
 ghost use Rattle.varisat_analysis.specs.Learned.{Shows};
 ghost use Rattle.varisat_analysis.specs.FailedCores.{ListsFailedCore};
-ghost use Rattle.varisat_search.specs.Contexts.{view, KeepsSchedule, IsReady};
-ghost use Rattle.varisat_search.specs.Frames.{ChangesAssumed, ChangesCore, GoesForward, HoldsOrUnchanged, KeepsVariables};
+ghost use Rattle.varisat_search.specs.Contexts.{view, IsReady};
+ghost use Rattle.varisat_search.specs.Frames.{ChangesAssumed, ChangesCore, GoesForward, HoldsOrUnchanged, KeepsScheduleAndVariables};
 ghost use Rattle.varisat_search.specs.Steps.{IsPropagatedToEnd, SavesAll};
 ghost use Rattle.varisat_search.specs.Decisions.{AreDecidable};
 ghost use Rattle.varisat_search.specs.Seen.{search_of};
@@ -218,11 +218,10 @@ pub fn set_assumptions<A: Allocator + Copy>(
     ensures ready { OnOk result (IsReady ctx.new) }
     ensures assumed { HoldsOrUnchanged result (ctx.new.assumptions ≡ newly_assumed user.now lits.now) ctx.old ctx.new }
     ensures seen { OnOk result (search_of (view ctx.new) ≡ search_of (view ctx.old)) }
-    ensures keeps { OnOk result (KeepsVariables ctx.old ctx.new) }
+    ensures keeps { KeepsScheduleAndVariables result ctx.old ctx.new }
     ensures last { OnOk result (SavesAll (view ctx.old) ctx.old.assignment.last ctx.new.assignment.last) }
     ensures state { OnOk result (ctx.new.solver_state ≡ record ctx.old.solver_state { sat_state = assumed_state ctx.old.solver_state.sat_state }) }
     ensures undecided { OnOk result (ctx.new.trail.decisions ≡ []) }
-    ensures schedule { KeepsSchedule ctx.old ctx.new }
 {
     let alloc = *ctx.assumptions.working.allocator();
     let user = copied(alloc, user)?;

@@ -10,7 +10,7 @@ ghost use Rattle.varisat_clause.specs.Databases.{Tracks};
 ghost use Rattle.varisat_prop.specs.View.{View, kept, GrowsTrail};
 ghost use Rattle.varisat_prop.specs.Changes.{IsConflicting};
 ghost use Rattle.varisat_analysis.specs.Learned.{IsLearned, AreInvolved};
-ghost use Rattle.varisat_search.specs.Contexts.{view, IsNotUnsat, KeepsSchedule, IsReady};
+ghost use Rattle.varisat_search.specs.Contexts.{view, IsNotUnsat, IsReady};
 ghost use Rattle.varisat_search.specs.Frames.{ChangesAnalysis, ChangesClauses, ChangesSettled, SearchesOn};
 ghost use Rattle.varisat_search.specs.Steps.{IsPropagatedToEnd, SavesSome};
 ghost use Rattle.varisat_search.specs.Seen.{search_of};
@@ -20,7 +20,7 @@ ghost use Rattle.varisat_search.specs.AssumptionParts.{TakesOutImplied};
 ghost use Rattle.varisat_search.specs.Conflicts.{ComesToDecision, EndsOrStops, keeping_of, IsKeptAsReason, IsStoredAsReason, IsWatchedAsReason};
 ghost use Rattle.varisat_search.specs.Learning.{HasMet, BumpsVariables, BumpsAndStores};
 ghost use Rattle.varisat_search.specs.SettledUnits.{IsUnsettled, FixesNone, KeepsFixed, FixesByLearning, SettlesByLines, SettlesIfUnsettled, IsSettledDown, SettlesAndSteps};
-ghost use Rattle.varisat_search.specs.StepErrors.{HasNoRoom, EndsStep, step_faults};
+ghost use Rattle.varisat_search.specs.StepErrors.{EndsStep, step_faults};
 ghost use Rattle.varisat_search.specs.Progress.{outcome_at, IsStepFurther, MakesStep};
 ghost use Rattle.varisat_search.specs.FoundCores.{HasCoreIfFailed};
 
@@ -354,11 +354,7 @@ pub fn conflict_step<A: Allocator + Copy, P: ProofTracer>(
     ensures made { OnOk result (SettlesAndSteps (λ lines. TakesStep P.takes proof.old lines (outcome_at ctx.new) proof.new) ctx.old ctx.new) }
     ensures core { OnOk result (HasCoreIfFailed ctx.new) }
     ensures fixes { OnOk result (FixesByLearning ctx.old ctx.new) }
-    ensures schedule { KeepsSchedule ctx.old ctx.new }
-    // The store is full only where it has no room for a clause of all variables.
-    ensures full { IfErr result (λ error. error ≡ StepError.Full → HasNoRoom ctx.new) }
-    // Then there are as many variables as before.
-    ensures size { IfErr result (λ error. error ≡ StepError.Full → length ctx.new.assignment.current ≡ length ctx.old.assignment.current) }
+    ensures ends { EndsStep result ctx.old ctx.new }
     ensures broken { IfErr result (λ error. BreaksOff P.breaks_off proof.old (step_faults error) proof.new) }
 {
     match settle_units(ctx, proof)? {

@@ -11,14 +11,14 @@ ghost use Rattle.varisat_prop.specs.Parts.{IsMadeTrue};
 ghost use Rattle.varisat_prop.specs.Looks.{IsInRange};
 ghost use Rattle.varisat_prop.specs.View.{WellFormed, kept};
 ghost use Rattle.varisat_prop.specs.Watches.{IsPropagated};
-ghost use Rattle.varisat_search.specs.Contexts.{view, IsNotUnsat, KeepsSchedule, IsReady};
+ghost use Rattle.varisat_search.specs.Contexts.{view, IsNotUnsat, IsReady};
 ghost use Rattle.varisat_search.specs.Steps.{IsPropagatedToEnd, SavesAll, reopened_state, IsVerdictAfter, accepted_with};
 ghost use Rattle.varisat_search.specs.Decisions.{AreDecidable};
 ghost use Rattle.varisat_search.specs.Frames.{ChangesLoaded, ClearsFlags, KeepsVariables, KeepsScheduleAndVariables};
 ghost use Rattle.varisat_search.specs.Loading.{HasFalseLiteral, IsHeadAfter, AddsClause, LoadsUnit, DeletesInOrder, LoadsTo};
 ghost use Rattle.varisat_search.specs.Forgotten.{IsUnmentioned};
 ghost use Rattle.varisat_trace.specs.Traces.{TakesLines, BreaksOff, faults_of, CanTake, HoldsWith};
-ghost use Rattle.varisat_search.specs.StepErrors.{RefusesStoring, HasNoRoom, step_faults};
+ghost use Rattle.varisat_search.specs.StepErrors.{RefusesStoring, EndsStep, step_faults};
 ghost use Rattle.varisat_search.specs.Seen.{search_of};
 
 use crate::cdcl::first_of;
@@ -171,11 +171,7 @@ pub fn load_clause<A: Allocator + Copy, P: ProofTracer>(
     ensures state { OnOk result (IsNotUnsat ctx.old → ctx.new.solver_state ≡ accepted_with ctx.new.solver_state.sat_state ctx.old.solver_state) }
     ensures undecided { OnOk result (IsNotUnsat ctx.old → ctx.new.trail.decisions ≡ []) }
     ensures single { OnOk result ((l : Literal) → lits.now ≡ l ∷ [] → LoadsUnit (view ctx.old) (view ctx.new) l) }
-    ensures schedule { KeepsSchedule ctx.old ctx.new }
-    // The store is full only where it has no room for a clause of all variables.
-    ensures full { IfErr result (λ error. error ≡ StepError.Full → HasNoRoom ctx.new) }
-    // Then there are as many variables as before.
-    ensures size { IfErr result (λ error. error ≡ StepError.Full → length ctx.new.assignment.current ≡ length ctx.old.assignment.current) }
+    ensures ends { EndsStep result ctx.old ctx.new }
     ensures broken { IfErr result (λ error. BreaksOff P.breaks_off proof.old (step_faults error) proof.new) }
 {
     if let SatState::Unsat = ctx.solver_state.sat_state {

@@ -301,7 +301,7 @@ returns-in_err-load_clause-clause-size g c =
     SpacesFit (spaces_with c.args.tracer.now.tables c.args.tracer.now.proof.checker c.args.ctx.now) s →
     length c.load_clause.new.ctx.assignment.current ≤ (name_all c.args.clause.now s.naming).made)
     c.from_residual-in_err-load_clause.ensures (λ f s fit.
-    let same = (c.in_err-load_clause.ensures {u = tt}).size f in
+    let same = ((c.in_err-load_clause.ensures {u = tt}).ends.full f).1 in
     let (variables, keep, (w, k)) = all-named-in g here s fit in
     let few = few-made w _ _ k in
     omega (arith, same, few))

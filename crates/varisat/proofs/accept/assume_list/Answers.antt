@@ -114,9 +114,9 @@ returns-clause-kept g c =
     subst (λ (t : Tables). IsKept t new) (sym (c.in_ok-tell_assumptions.ensures {u = tt}).told.tables) (record {
       bounded = y.bounded;
       ready = r.ready;
-      count = r.keeps.count ∙ k.count ∙ sym long;
+      count = r.keeps.variables.count ∙ k.count ∙ sym long;
       decidable = tables-in-use taken marked (view new) new.vsids (c.mark_assumed-2.ensures.solvers ∙ c.mark_assumed.ensures.solvers)
-          (same-in-use taken (view mid) mid.vsids (view new) new.vsids k.decidable r.keeps.decidable);
+          (same-in-use taken (view mid) mid.vsids (view new) new.vsids k.decidable r.keeps.variables.decidable);
       assumed = λ l h. y.named l (subst (λ ls. l ∈ ls) (ap (λ (z : AssumptionParts). z.user) r.assumed) h);
       marked = λ l z h f. c.mark_assumed-2.ensures.marked l z (subst (λ ls. l ∈ ls) (ap (λ (z : AssumptionParts). z.user) r.assumed) h)
           (ap (λ (m : BiMap). at m.forward (variable_of l)) (sym c.mark_assumed-2.ensures.users) ∙ f);
@@ -187,7 +187,7 @@ returns-clause-assumed g c s f =
       are_cleared = subst (λ ls. AreMarked ls false m c.mark_assumed.new.variables) c.user_assumptions.ensures c.mark_assumed.ensures;
       are_marked = c.mark_assumed-2.ensures;
       seen = r.seen;
-      same_count = r.keeps.count;
+      same_count = r.keeps.variables.count;
       parts_are = r.assumed ∙ ap (λ ls. newly_assumed list ls) items;
       verdict = ap (λ (x : SolverState). x.sat_state) r.state;
     } in

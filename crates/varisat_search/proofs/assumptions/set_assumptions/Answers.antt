@@ -78,10 +78,16 @@ returns-clause-keeps g c =
     let x = c.args.ctx.now in
     let b = c.full_restart.ensures.undone in
     record {
-      decidable = b.decidable;
-      decay = b.decay;
-      count = ⊎_elim
-          (λ (h : 0 < length x.trail.decisions). (b.cut h).count)
-          (λ (h : length x.trail.decisions ≤ 0). ap (λ (z : Context g.row.A.Denot). length z.assignment.current) (b.same h))
-          (cases_lt 0 (length x.trail.decisions));
+      schedule = record {
+        schedule = ap (λ (z : Context g.row.A.Denot). z.schedule) b.kept;
+        solver_config = ap (λ (z : Context g.row.A.Denot). z.solver_config) b.kept;
+      };
+      variables = record {
+        decidable = b.decidable;
+        decay = b.decay;
+        count = ⊎_elim
+            (λ (h : 0 < length x.trail.decisions). (b.cut h).count)
+            (λ (h : length x.trail.decisions ≤ 0). ap (λ (z : Context g.row.A.Denot). length z.assignment.current) (b.same h))
+            (cases_lt 0 (length x.trail.decisions));
+      };
     }

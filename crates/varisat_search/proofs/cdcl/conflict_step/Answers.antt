@@ -1,13 +1,15 @@
-use Rattle.varisat_trace.proofs.Broken.{breaks-on, passed-on}
-use Rattle.varisat_search.proofs.StepErrors.{trace-broken, step-passed}
+use Rattle.varisat_trace.proofs.Broken.{breaks-on}
+use Rattle.varisat_search.proofs.StepErrors.{ends-unfilled, ends-after, trace-unfilled, trace-broken, step-passed}
+use Rattle.varisat_search.proofs.Frames.{schedule-through}
+use Rattle.varisat_search.specs.StepErrors.{step_error_of_trace}
+use Rattle.varisat_search.specs.Frames.{ChangesSettled}
 use Rattle.std.proofs.Common.{◌≡◌, ◌∙◌, Ok, Err, ⊎_elim, length, refl, sym, ap, subst, arith}
 use Rattle.varisat_theory.specs.Outcomes.{Steps}
 use Rattle.varisat_search.specs.declared.context.Context.{Context}
 use Rattle.varisat_search.specs.Progress.{outcome_at, MakesStep}
-use Rattle.varisat_search.specs.declared.error.StepError.TheVariants as step
 use Rattle.varisat_search.specs.declared.state.SatState.TheVariants as verdict
 use Rattle.varisat_search.specs.SettledUnits.{IsUnsettled, KeepsFixed, SettlesUnits, SettlesFirst}
-use Rattle.varisat_search.specs.Contexts.{view}
+use Rattle.varisat_search.specs.Contexts.{view, KeepsSchedule}
 use Rattle.varisat_search.specs.Seen.{search_of}
 use Rattle.varisat_search.proofs.MadeSteps.{made-are, made-with, no-core-entry, learned-no-core, made-settled, made-at-once}
 use Rattle.varisat_trace.specs.Traces.{TakesLines, TakesStep, HoldsFor}
@@ -113,19 +115,34 @@ returns-in_err-settle_units-clause-broken g c =
     c.from_residual.ensures
     c.in_err-settle_units.ensures.broken
 
-pub returns-in_err-find_and_learn-in-Ok-clause-size : goal.returns-in_err-find_and_learn-in-Ok-clause-size
-returns-in_err-find_and_learn-in-Ok-clause-size g c =
-    passed-on c.from_residual-in_err-find_and_learn-in-Ok.result c.in_err-find_and_learn-in-Ok.field-0.0
-    (λ z. z ≡ step.Full → length c.find_and_learn.new.ctx.assignment.current ≡ length c.args.ctx.now.assignment.current)
-    c.from_residual-in_err-find_and_learn-in-Ok.ensures
-    (λ f. (c.in_err-find_and_learn-in-Ok.ensures.ends.full f).1 ∙ c.in_ok-settle_units.ensures.goes_on.extends.count)
+-- settling the units keeps the schedule
+planned : {A : Type 0} {x y : Context A} → ChangesSettled x y → KeepsSchedule x y
+planned {x = x} k = subst (KeepsSchedule x) (sym k) (record { schedule = refl; solver_config = refl })
 
-pub returns-in_err-learn_from_conflict-in-Err-clause-size : goal.returns-in_err-learn_from_conflict-in-Err-clause-size
-returns-in_err-learn_from_conflict-in-Err-clause-size g c =
-    passed-on c.from_residual-in_err-learn_from_conflict-in-Err.result c.in_err-learn_from_conflict-in-Err.field-0.0
-    (λ z. z ≡ step.Full → length c.learn_from_conflict.new.ctx.assignment.current ≡ length c.args.ctx.now.assignment.current)
-    c.from_residual-in_err-learn_from_conflict-in-Err.ensures
-    (λ f. (c.in_err-learn_from_conflict-in-Err.ensures.ends.full f).1 ∙ c.in_ok-settle_units.ensures.goes_on.extends.count)
+pub returns-in_err-settle_units-clause-ends : goal.returns-in_err-settle_units-clause-ends
+returns-in_err-settle_units-clause-ends g c =
+    let e = c.in_err-settle_units.field-0.0 in
+    ends-unfilled c.from_residual.result (step_error_of_trace e) c.from_residual.ensures (trace-unfilled e) (planned c.settle_units.ensures.kept)
+
+pub returns-in_ok-find_and_learn-in-Ok-clause-ends : goal.returns-in_ok-find_and_learn-in-Ok-clause-ends
+returns-in_ok-find_and_learn-in-Ok-clause-ends g c =
+    record { schedule = schedule-through (planned c.settle_units.ensures.kept) c.find_and_learn.ensures.ends.schedule; full = tt }
+
+pub returns-in_ok-learn_from_conflict-in-Err-clause-ends : goal.returns-in_ok-learn_from_conflict-in-Err-clause-ends
+returns-in_ok-learn_from_conflict-in-Err-clause-ends g c =
+    record { schedule = schedule-through (planned c.settle_units.ensures.kept) c.learn_from_conflict.ensures.ends.schedule; full = tt }
+
+pub returns-in_err-find_and_learn-in-Ok-clause-ends : goal.returns-in_err-find_and_learn-in-Ok-clause-ends
+returns-in_err-find_and_learn-in-Ok-clause-ends g c =
+    ends-after c.from_residual-in_err-find_and_learn-in-Ok.result c.in_err-find_and_learn-in-Ok.field-0.0
+    c.from_residual-in_err-find_and_learn-in-Ok.ensures (planned c.settle_units.ensures.kept) c.in_ok-settle_units.ensures.goes_on.extends.count
+    c.in_err-find_and_learn-in-Ok.ensures.ends
+
+pub returns-in_err-learn_from_conflict-in-Err-clause-ends : goal.returns-in_err-learn_from_conflict-in-Err-clause-ends
+returns-in_err-learn_from_conflict-in-Err-clause-ends g c =
+    ends-after c.from_residual-in_err-learn_from_conflict-in-Err.result c.in_err-learn_from_conflict-in-Err.field-0.0
+    c.from_residual-in_err-learn_from_conflict-in-Err.ensures (planned c.settle_units.ensures.kept) c.in_ok-settle_units.ensures.goes_on.extends.count
+    c.in_err-learn_from_conflict-in-Err.ensures.ends
 
 pub returns-in_err-find_and_learn-in-Ok-clause-broken : goal.returns-in_err-find_and_learn-in-Ok-clause-broken
 returns-in_err-find_and_learn-in-Ok-clause-broken g c =

@@ -4,12 +4,15 @@ use Rattle.varisat_theory.specs.Literals.{Literal, Clause}
 use Rattle.varisat_prop.specs.View.{View}
 use Rattle.varisat_search.specs.declared.context.Context.{Context}
 use Rattle.varisat_search.specs.declared.state.SatState.{SatState}
-use Rattle.varisat_search.specs.Contexts.{view}
+use Rattle.varisat_search.specs.Contexts.{view, KeepsSchedule}
 use Rattle.varisat_search.specs.Loading.{IsAdded, LoadsUnit}
 use Rattle.varisat_search.proofs.LoadView.{restarted-kept, Restarted, restarted}
 use Rattle.varisat_search.proofs.LoadContext.{Loading, loading-restarted, Loaded, loading-other, loading-propagated, loading-inside, loaded-tautology, loaded-satisfied, loaded-deleted, loaded-added}
 use Rattle.varisat_trace.proofs.Broken.{breaks-not}
-use Rattle.varisat_search.proofs.StepErrors.{memory-broken, trace-broken, store-broken, if-full, full-told}
+use Rattle.varisat_search.proofs.StepErrors.{ends-unfilled, memory-unfilled, trace-unfilled, memory-broken, trace-broken, store-broken, if-full}
+use Rattle.varisat_search.proofs.Frames.{schedule-through}
+use Rattle.varisat_search.specs.StepErrors.{step_error_of_trace}
+use Rattle.varisat_search.specs.declared.error.StepError.TheVariants as step
 use Rattle.std.specs.List.Sorted.{IsPermutation}
 use Rattle.std.specs.Vec.{with_items}
 use Rattle.std.proofs.lemmas.Bool.{cases_lt}
@@ -21,7 +24,7 @@ use Rattle.varisat_search.specs.Seen.{search_of}
 use Rattle.varisat_theory.specs.Derivations.{Line}
 use Rattle.varisat_trace.specs.Traces.{TakesLines}
 use Rattle.varisat_search.proofs.load.load_clause.Given.{Over}
-use Rattle.varisat_search.proofs.load.load_clause.Goals.{After-full_restart, In_ok-collect_distinct, In_ok-trace_satisfied}
+use Rattle.varisat_search.proofs.load.load_clause.Goals.{After-full_restart, After-collect_distinct, In_ok-collect_distinct, In_ok-trace_satisfied}
 use Rattle.varisat_search.proofs.load.load_clause.Goals as goal
 
 -- What loading a single literal does to the view.
@@ -129,8 +132,6 @@ returns-then-branch g c =
     let o = loaded-tautology (loading g (goal.at.returns-then-branch g c).In_ok-collect_distinct) (g.P.ProofTracer.in_order p)
     (λ lines. TakesLines g.P.ProofTracer.takes p lines p) (g.met.P.ProofTracer.takes_none p) taut in
     record {
-      full = tt;
-      size = tt;
       broken = tt;
       ready = o.ready;
       unsat = λ e. absurd (c.in_default.not-Unsat e);
@@ -143,7 +144,7 @@ returns-then-branch g c =
       keeps = o.keeps;
       undecided =
           λ n. o.undecided;
-      schedule = o.schedule;
+      ends = record { schedule = o.schedule; full = tt };
       single =
           λ l e. loaded-none (loading g (goal.at.returns-then-branch g c).In_ok-collect_distinct) l e;
     }
@@ -188,8 +189,6 @@ returns-then-is_satisfied g c =
     let d = loading-other (ordered g c).tmp_data (loading g (goal.at.returns-then-is_satisfied g c).In_ok-collect_distinct) in
     let o = satisfied g c d in
     record {
-      full = tt;
-      size = tt;
       broken = tt;
       ready = o.ready;
       unsat = λ e. absurd (c.in_default.not-Unsat e);
@@ -202,7 +201,7 @@ returns-then-is_satisfied g c =
       keeps = o.keeps;
       undecided =
           λ n. o.undecided;
-      schedule = o.schedule;
+      ends = record { schedule = o.schedule; full = tt };
       single = λ l e. loaded-none d l e;
     }
 
@@ -229,8 +228,6 @@ returns g c =
     (λ l i t. let b = c.if-is_satisfied.ensures.1 (l, subst (λ ys. l ∈ ys) (sym c.deref.ensures.value) i, t) in absurd cc)
     c.add_distinct.new.ctx k e.propagated e.tracks e.added.1 e.added.0 in
     record {
-      full = tt;
-      size = tt;
       broken = tt;
       ready = o.ready;
       unsat = λ e. absurd (c.in_default.not-Unsat e);
@@ -243,31 +240,49 @@ returns g c =
       keeps = o.keeps;
       undecided =
           λ n. o.undecided;
-      schedule = o.schedule;
+      ends = record { schedule = o.schedule; full = tt };
       single =
           λ l i. loaded-one (loading g (goal.at.returns g c).In_ok-collect_distinct) l i c.add_distinct.new.ctx
           c.collect_distinct.new.ctx.solver_state.sat_state c.add_distinct.new.ctx.solver_state.sat_state e.added.0;
     }
 
-pub returns-in_err-add_distinct-clause-full : goal.returns-in_err-add_distinct-clause-full
-returns-in_err-add_distinct-clause-full g c =
-    let d = loading g (goal.at.returns-in_err-add_distinct-clause-full g c).In_ok-collect_distinct in
-    let x = c.collect_distinct.new.ctx in
-    let z = c.add_distinct.new.ctx in
-    full-told c.from_residual-in_err-add_distinct.result c.in_err-add_distinct.field-0.0 z c.from_residual-in_err-add_distinct.ensures (λ h.
-    let (room, same) = c.in_err-add_distinct.ensures.full h in
-    let short = clause-short x.tmp_data.lits.items (length x.assignment.current) d.distinct
-    (λ t. let b = c.in_ok-collect_distinct.ensures.tautology.1 t in absurd cc) (loading-inside d) in
-    let count = ap length same in
-    omega (arith, room, short, count))
+-- the schedule stays while the literals are copied
+planned : (g : Over) (c : After-collect_distinct g) → KeepsSchedule c.args.ctx.now c.collect_distinct.new.ctx
+planned g c =
+    let k = c.full_restart.ensures.undone.kept in
+    subst (KeepsSchedule c.args.ctx.now) (sym c.collect_distinct.ensures.kept.0)
+    (record { schedule = ap (λ (x : Context g.row.A.Denot). x.schedule) k; solver_config = ap (λ (x : Context g.row.A.Denot). x.solver_config) k })
 
-pub returns-in_err-add_distinct-clause-size : goal.returns-in_err-add_distinct-clause-size
-returns-in_err-add_distinct-clause-size g c =
-    let here = goal.at.returns-in_err-add_distinct-clause-size g c in
-    if-full c.from_residual-in_err-add_distinct.result c.in_err-add_distinct.field-0.0 _ c.from_residual-in_err-add_distinct.ensures (λ h.
-    let (room, same) = c.in_err-add_distinct.ensures.full h in
-    ap length same ∙ ap (λ (x : Context g.row.A.Denot). length x.assignment.current) c.collect_distinct.ensures.kept.0
-    ∙ (undone g here.After-full_restart).count)
+pub returns-in_err-collect_distinct-clause-ends : goal.returns-in_err-collect_distinct-clause-ends
+returns-in_err-collect_distinct-clause-ends g c =
+    ends-unfilled c.from_residual.result step.Memory c.from_residual.ensures memory-unfilled
+    (planned g (goal.at.returns-in_err-collect_distinct-clause-ends g c).After-collect_distinct)
+
+pub returns-in_err-trace_satisfied-clause-ends : goal.returns-in_err-trace_satisfied-clause-ends
+returns-in_err-trace_satisfied-clause-ends g c =
+    let e = c.in_err-trace_satisfied.field-0.0 in
+    let k = planned g (goal.at.returns-in_err-trace_satisfied-clause-ends g c).After-collect_distinct in
+    ends-unfilled c.from_residual-in_err-trace_satisfied.result (step_error_of_trace e) c.from_residual-in_err-trace_satisfied.ensures
+    (trace-unfilled e) (record { schedule = k.schedule; solver_config = k.solver_config })
+
+pub returns-in_err-add_distinct-clause-ends : goal.returns-in_err-add_distinct-clause-ends
+returns-in_err-add_distinct-clause-ends g c =
+    let here = goal.at.returns-in_err-add_distinct-clause-ends g c in
+    let d = loading g here.In_ok-collect_distinct in
+    let x = c.collect_distinct.new.ctx in
+    record {
+      schedule = schedule-through (planned g here.After-collect_distinct)
+          (subst (KeepsSchedule x) (sym c.add_distinct.ensures.kept) (record { schedule = refl; solver_config = refl }));
+      full = if-full c.from_residual-in_err-add_distinct.result c.in_err-add_distinct.field-0.0 _ c.from_residual-in_err-add_distinct.ensures (λ h.
+          let (room, same) = c.in_err-add_distinct.ensures.full h in
+          let short = clause-short x.tmp_data.lits.items (length x.assignment.current) d.distinct
+          (λ t. let b = c.in_ok-collect_distinct.ensures.tautology.1 t in absurd cc) (loading-inside d) in
+          let count = ap length same in (
+            omega (arith, room, short, count),
+            count ∙ ap (λ (x : Context g.row.A.Denot). length x.assignment.current) c.collect_distinct.ensures.kept.0
+                ∙ (undone g here.After-full_restart).count,
+          ));
+    }
 
 pub returns-in_err-collect_distinct-clause-broken : goal.returns-in_err-collect_distinct-clause-broken
 returns-in_err-collect_distinct-clause-broken g c =

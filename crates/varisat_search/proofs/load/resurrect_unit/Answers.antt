@@ -104,7 +104,7 @@ loaded g c =
       state = e.state n ∙ ap (λ (b : SatState). record x.solver_state { sat_state = b; formula_is_empty = false }) v;
       assumptions = e.assumptions n;
       keeps = e.keeps;
-      schedule = c.load_clause.ensures.schedule;
+      schedule = c.load_clause.ensures.ends.schedule;
     }
 
 pub load_clause-requires-clause-holds : goal.load_clause-requires-clause-holds

@@ -6,9 +6,9 @@ use Rattle.varisat_formula.specs.Streams.{Stand}
 use Rattle.varisat_formula.specs.Parsed.{GivesReading}
 use Rattle.varisat_formula.specs.TakenTexts.{GivesFirst, TakesInTurn, InOne, InMore}
 use Rattle.varisat.specs.States.{State}
-use Rattle.varisat.specs.Additions.{ClauseRefused, Read, RefusedEarly}
-use Rattle.varisat.specs.Calls.{IsValid}
-use Rattle.varisat.specs.ClauseCalls.{AddsAll, AddsDimacs}
+use Rattle.varisat.specs.Additions.{AddsAll, ClauseRefused, Read, RefusedEarly}
+use Rattle.varisat.specs.Calls.{IsValid, calling}
+use Rattle.varisat.specs.ClauseCalls.{AddsDimacs}
 use Rattle.varisat.specs.Summaries.{Summary}
 use Rattle.varisat.specs.TextCalls.{TakesClauses}
 use Rattle.varisat.specs.declared.solver.SolverError.{SolverError}
@@ -31,7 +31,7 @@ takes-in-turn g h clauses r (InMore first rest mid e k more) =
     })
 
 pub text-refused : (s t : State) (old new : Stand) (clauses : List Clause) (e : SolverError) → IsValid s →
-    ((R : Reading) × GivesReading old R new × (R.clauses ≡ clauses)) ⊎ GivesFirst old clauses new → AddsAll s clauses (Err e) t →
+    ((R : Reading) × GivesReading old R new × (R.clauses ≡ clauses)) ⊎ GivesFirst old clauses new → AddsAll calling s clauses (Err e) t →
     AddsDimacs s old (Err e) new t
-text-refused s t old new clauses e v (inl (R, g, i)) a = Read v R g (ClauseRefused e refl (subst (λ P. AddsAll s P (Err e) t) (sym i) a))
+text-refused s t old new clauses e v (inl (R, g, i)) a = Read v R g (ClauseRefused e refl (subst (λ P. AddsAll calling s P (Err e) t) (sym i) a))
 text-refused s t old new clauses e v (inr g) a = RefusedEarly v clauses g e refl a

@@ -3,24 +3,26 @@ use Rattle.std.proofs.Common.{◌≡◌, inl, inr, List, [], ◌∷◌, ◌++◌
 use Rattle.std.specs.Result.{IsErr, IsErrAnd}
 use Rattle.varisat_theory.specs.Literals.{Clause}
 use Rattle.varisat.specs.States.{State}
-use Rattle.varisat.specs.ClauseCalls.{AddsAll}
-use Rattle.varisat.specs.Calls.{IsValid, Ignored, Accepted, AddsClause}
+use Rattle.varisat.specs.Additions.{AddsAll}
+use Rattle.varisat.specs.Calls.{IsValid, Ignored, Accepted, AddsClause, calling}
 use Rattle.varisat.specs.declared.solver.SolverError.{SolverError}
 use Rattle.varisat.proofs.LikeStates.{same-ledger}
 
 -- more clauses behind those that were accepted
-pub adds-more : (s mid t : State) (P Q : List Clause) (r : Result (Unit {0}) SolverError) → AddsAll s P (Ok tt) mid → AddsAll mid Q r t → AddsAll s (P ++ Q) r t
-adds-more s mid t [] Q r a b = subst (λ x. AddsAll x Q r t) a.1 b
+pub adds-more : (s mid t : State) (P Q : List Clause) (r : Result (Unit {0}) SolverError) → AddsAll calling s P (Ok tt) mid →
+    AddsAll calling mid Q r t → AddsAll calling s (P ++ Q) r t
+adds-more s mid t [] Q r a b = subst (λ x. AddsAll calling x Q r t) a.1 b
 adds-more s mid t (c ∷ P) Q r (inl (u, a, rest)) b = inl (u, a, adds-more u mid t P Q r rest b)
 adds-more s mid t (c ∷ P) Q r (inr (e, k, a)) b = absurd cc
 
 -- the clause behind them decides
-pub adds-last : (s mid t : State) (P : List Clause) (c : Clause) → AddsAll s P (Ok tt) mid → AddsClause mid c (Ok tt) t → AddsAll s (P ++ c ∷ []) (Ok tt) t
+pub adds-last : (s mid t : State) (P : List Clause) (c : Clause) → AddsAll calling s P (Ok tt) mid → AddsClause mid c (Ok tt) t →
+    AddsAll calling s (P ++ c ∷ []) (Ok tt) t
 adds-last s mid t P c a b = adds-more s mid t P (c ∷ []) (Ok tt) a (inl (t, b, (refl, refl)))
 
 -- the clauses behind a refused one don't count
-pub adds-refused : (s mid t : State) (P Q : List Clause) (c : Clause) (e : SolverError) → AddsAll s P (Ok tt) mid → AddsClause mid c (Err e) t →
-    AddsAll s (P ++ c ∷ Q) (Err e) t
+pub adds-refused : (s mid t : State) (P Q : List Clause) (c : Clause) (e : SolverError) → AddsAll calling s P (Ok tt) mid → AddsClause mid c (Err e) t →
+    AddsAll calling s (P ++ c ∷ Q) (Err e) t
 adds-refused s mid t P Q c e a b = adds-more s mid t P (c ∷ Q) (Err e) a (inr (e, refl, b))
 
 -- an error that is handed on as it is
@@ -29,7 +31,7 @@ told-error (Ok x) e (a, b) = absurd cc
 told-error (Err x) e (a, b) = ap Err b
 
 -- clauses behind a refused one don't count
-pub adds-longer : (s t : State) (P Q : List Clause) (e : SolverError) → AddsAll s P (Err e) t → AddsAll s (P ++ Q) (Err e) t
+pub adds-longer : (s t : State) (P Q : List Clause) (e : SolverError) → AddsAll calling s P (Err e) t → AddsAll calling s (P ++ Q) (Err e) t
 adds-longer s t [] Q e a = absurd cc
 adds-longer s t (c ∷ P) Q e (inl (u, a, rest)) = inl (u, a, adds-longer u t P Q e rest)
 adds-longer s t (c ∷ P) Q e (inr a) = inr a
@@ -39,7 +41,7 @@ clause-valid : (s t : State) (c : Clause) → AddsClause s c (Ok tt) t → IsVal
 clause-valid s t c (v, Ignored n e) = subst IsValid (sym e) v
 clause-valid s t c (v, Accepted n p (w, k, e)) = ap (λ x. x.valid) (same-ledger e) ∙ v
 
-pub adds-valid : (s t : State) (P : List Clause) → IsValid s → AddsAll s P (Ok tt) t → IsValid t
+pub adds-valid : (s t : State) (P : List Clause) → IsValid s → AddsAll calling s P (Ok tt) t → IsValid t
 adds-valid s t [] v a = subst IsValid (sym a.1) v
 adds-valid s t (c ∷ P) v (inl (u, a, rest)) = adds-valid u t P (clause-valid s u c a) rest
 adds-valid s t (c ∷ P) v (inr (e, k, a)) = absurd cc

@@ -7,7 +7,7 @@ use Rattle.varisat_names.specs.Settings.{Settings}
 use Rattle.varisat.specs.States.{State, with_variables, with_words, Ledger, IsWellFormed, FlagsFit, Unknown}
 use Rattle.varisat_search.specs.StepErrors.{step_faults}
 use Rattle.varisat.specs.Refusals.{step_refusal}
-use Rattle.varisat.specs.Calls.{IsLikeButLeft, IsLike, IsValid, Invalidates, IsStoreFull, MayConstrain, IsExtensible, AddsClause, CountsCall, Searches, with_steps, Assumes}
+use Rattle.varisat.specs.Calls.{IsLikeButLeft, IsLike, IsValid, Invalidates, IsStoreFull, MayConstrain, MayAccept, calling, AddsClause, CountsCall, Searches, with_steps, Assumes}
 use Rattle.varisat_theory.specs.Journals.{Entry}
 use Rattle.varisat.specs.Journals.{TellsMore, TellsStaying, AreDerived}
 use Rattle.varisat.specs.Names.{name_all}
@@ -187,7 +187,7 @@ pub broken-untold : (s : State) (words : ℕ) → s.ledger.valid ≡ true → Is
 broken-untold s words v w = broken-invalid 0 s s.proof words v (goes-on-unfailed s.proof) w
 
 -- a clause could not be kept
-pub adds-broken : (e : StepError) (s t : State) (d : Clause) → (step_faults e ≡ 1 → IsOpen s.proof) → IsExtensible s → MayConstrain s.naming d →
+pub adds-broken : (e : StepError) (s t : State) (d : Clause) → (step_faults e ≡ 1 → IsOpen s.proof) → MayAccept calling s → MayConstrain s.naming d →
     Invalidates (step_faults e) s t → (e ≡ step.Full → IsStoreFull (name_all d s.naming).made t) → AddsClause s d (Err (step_refusal e)) t
 adds-broken step.Full s t d o n l i f = (n, l, i, f refl)
 adds-broken step.Memory s t d o n l i f = (n, l, i)
@@ -204,6 +204,6 @@ assumes-broken (step.Target cause) s t list n o b l i = (o refl, b, l, i)
 pub searches-broken : (e : StepError) (s t : State) → (step_faults e ≡ 1 → IsOpen s.proof) → s.verdict ≡ Unknown →
     CountsCall s (Err (step_refusal e)) t → Invalidates (step_faults e) (with_steps t.ledger.steps s) t →
     (e ≡ step.Full → IsStoreFull s.naming.made t) → Searches s (Err (step_refusal e)) t
-searches-broken step.Full s t o u c i f = (u, c, i, f refl)
+searches-broken step.Full s t o u c i f = ((u, c, i), f refl)
 searches-broken step.Memory s t o u c i f = (u, c, i)
-searches-broken (step.Target cause) s t o u c i f = (o refl, u, c, i)
+searches-broken (step.Target cause) s t o u c i f = (o refl, (u, c, i))

@@ -5,7 +5,7 @@ use Rattle.varisat_theory.specs.Literals.{Literal, Clause}
 use Rattle.varisat_theory.specs.Propagation.{Conflicts}
 use Rattle.varisat_theory.specs.Journals.{Fails, Leads}
 use Rattle.varisat_theory.proofs.Journals.{leads_cut}
-use Rattle.varisat.specs.Calls.{TellsVerdict}
+use Rattle.varisat.specs.Calls.{TellsVerdict, calling}
 use Rattle.varisat_theory.specs.Journals.{Entry, rename_entry}
 use Rattle.varisat_proof.specs.declared.proof.format.LineKind.TheVariants as kind
 use Rattle.varisat_proof.specs.declared.proof.format.ProofFormat.TheVariants.{Marked}
@@ -18,10 +18,10 @@ use Rattle.varisat.specs.Journals.{TellsMore, EndWithCore, EndBy}
 use Rattle.varisat.proofs.OpenProofs.{bytes-more}
 use Rattle.varisat.specs.States.{State, Unknown, UnsatUnderAssumptions}
 
-pub cores-are-told : (s t : State) (b : Bool) (core : List Literal) (held : List Clause) → TellsVerdict s b t → s.verdict ≡ Unknown →
+pub cores-are-told : (s t : State) (b : Bool) (core : List Literal) (held : List Clause) → TellsVerdict calling s b t → s.verdict ≡ Unknown →
     t.verdict ≡ UnsatUnderAssumptions core → Leads [] t.told held → Conflicts held core
 cores-are-told s t b core held r u e led =
-    let (front, d, ends) = subst (λ v. EndBy v r.told.entries) e (r.ends u) in
+    let (front, d, ends) = subst (λ v. EndBy v r.told.entries) e (r.right.ends u) in
     let whole : t.told ≡ (s.told ++ front) ++ Fails core ∷ [] = r.told.joined ∙ ap (λ es. s.told ++ es) ends
     ∙ sym (append_assoc s.told front (Fails core ∷ [])) in
     let (before, first, (after, (conflict, same), last)) =

@@ -1,5 +1,5 @@
 -- At each moment of a run few steps were made since the last change.
-use Rattle.std.proofs.Common.{◌≡◌, ℕ, zero, suc, ◌+◌, ◌-◌, Bool, true, false, List, [], ◌∷◌, length, Option, Some, None, inl, inr, ⊎_elim, Result, Ok, Err, sym, ap, ◌∙◌, subst, refl, arith}
+use Rattle.std.proofs.Common.{◌≡◌, ℕ, zero, suc, ◌+◌, ◌-◌, Bool, true, false, List, [], ◌∷◌, length, Option, inl, inr, Result, Ok, Err, sym, ap, ◌∙◌, subst, refl, arith}
 use Rattle.std.specs.declared.alloc.AllocError.{AllocError}
 use Rattle.varisat_theory.specs.Literals.{Literal, Clause}
 use Rattle.varisat_theory.specs.CallBounds.{AreFew}
@@ -8,7 +8,7 @@ use Rattle.varisat_formula.specs.Dimacs.{Reading}
 use Rattle.varisat_formula.specs.Streams.{Stand, Taken}
 use Rattle.varisat_formula.specs.declared.dimacs.error.DimacsError.{DimacsError}
 use Rattle.varisat_names.specs.declared.config.SolverConfigUpdate.{SolverConfigUpdate}
-use Rattle.varisat.specs.States.{Known, State, Ledger, Unknown}
+use Rattle.varisat.specs.States.{Known, State, Ledger}
 use Rattle.varisat.specs.Names.{Sample, Witness}
 use Rattle.varisat.specs.Additions.{AllAdded, OneRefused, RefusedAtOnce, NoFault, MemoryFault, Fault, ClauseRefused, ClausesAdded, RefusedEarly, Read, Unread}
 use Rattle.varisat.specs.Additions as additions
@@ -17,8 +17,7 @@ use Rattle.varisat.specs.Budgets.{CountsSteps}
 use Rattle.varisat.specs.OpenProofs.{BarsAssumptions}
 use Rattle.varisat.specs.Calls as state
 use Rattle.varisat.specs.Calls.{calling, Verdicts, Ignored, Accepted, Decided, Searched, IsValid, IsSolved, Invalidates, IsLikeButLeft, CountsCall}
-use Rattle.varisat.specs.Pasts as past
-use Rattle.varisat.specs.Pasts.{Past, empty_past, telling}
+use Rattle.varisat.specs.Pasts.{empty_past, telling}
 use Rattle.varisat_proof.specs.declared.proof.format.ProofFormat.{ProofFormat}
 use Rattle.varisat.specs.ProofCalls.{OpensProof, EnablesChecking, Closes}
 use Rattle.varisat.specs.Told.{told_list, told_vars}
@@ -31,7 +30,6 @@ use Rattle.varisat.specs.declared.session.Answer.TheVariants as answer
 use Rattle.varisat.specs.declared.solver.SolverError.{SolverError}
 use Rattle.varisat.specs.declared.solver.SolverError.TheVariants.{OutOfMemory, Invalid, ProofIoError, ClauseStoreFull, WitnessVar, AssumedVar, VariableLimit, ClauseAfterSolve, ProofOpen, ProofTooLate, Interrupted, ConfigOutOfRange}
 use Rattle.varisat.proofs.LikeStates.{same-counted, same-ledger}
-use Rattle.varisat.proofs.VerdictAnswers.{is-unknown-or-not}
 
 none-is-few : (since n : ℕ) → since ≡ 0 → AreFew n since
 none-is-few since n e = subst (AreFew n) (sym e) (few_none n)
@@ -43,10 +41,6 @@ joined-are-few n max_steps before now start end r e c = let k = c.count in let b
     subst (AreFew n) (sym (e ∙ (let z : before + (end - start) ≡ before + c.made = omega (arith, k) in z))) b
 
 -- 1. What each call keeps, whatever is known of verdicts.
-record KeepsFew {V : Type 0} (by : Verdicts V) : Type 1 where
-  solves : (s t : Known V) (r : Result Bool SolverError) → by.solves s r t → HasFewSteps s → HasFewSteps t
-  tells_model : (s t : Known V) (r : Result (Option (List Literal)) AllocError) → by.tells_model s r t → t ≡ s
-  tells_core : (s t : Known V) (r : Result (Option (List Literal)) AllocError) → by.tells_core s r t → t ≡ s
 
 same : {V : Type 0} (s t : Known V) → t ≡ s → HasFewSteps s → HasFewSteps t
 same s t e h = subst HasFewSteps (sym e) h
@@ -112,7 +106,26 @@ refuse unbarred s t d VariableLimit a h = same s t a.3 h
 refuse unbarred s t d (WitnessVar u) a h = same s t a.4 h
 refuse unbarred s t d e a h = absurd a
 
-module _ {V : Type 0} (by : Verdicts V) (keeps : KeepsFew by) where
+tell-list : {V : Type 0} (may : Option (List Literal) → Type 0) (s t : Known V) (r : Result (Option (List Literal)) AllocError) →
+    state.TellsList may s r t → HasFewSteps s → HasFewSteps t
+tell-list may s t (Ok m) a h = same s t a.1 h
+tell-list may s t (Err e) a h = same s t a.2 h
+
+-- the steps of a call are counted, by which variables are counted before and after it
+joined : {V : Type 0} (x : V) (s t : Known V) (r : Result Bool SolverError) → IsSolved x s t → CountsCall s r t → HasFewSteps t
+joined x s t r e c v = subst (λ (xs : List ℕ). AreFew (length xs) t.ledger.since) (sym (same-counted e))
+    (joined-are-few (length s.counted) s.ledger.settings.max_steps s.ledger.since t.ledger.since s.ledger.steps t.ledger.steps r
+    (ap (λ (x : Ledger). x.since) (same-ledger e)) c)
+
+-- no step is made
+unmoved : {V : Type 0} (x : V) (s t : Known V) → IsSolved x s t → t.ledger.steps ≡ s.ledger.steps → HasFewSteps s → HasFewSteps t
+unmoved x s t e n h v =
+    let k = ap (λ (x : Ledger). x.since) (same-ledger e) in
+    let z : t.ledger.since ≡ s.ledger.since = omega (arith, k, n) in
+    subst (λ (xs : List ℕ). AreFew (length xs) t.ledger.since) (sym (same-counted e))
+    (subst (AreFew (length s.counted)) (sym z) (h (sym (ap (λ (x : Ledger). x.valid) (same-ledger e)) ∙ v)))
+
+module _ {V : Type 0} (by : Verdicts V) where
   anew : (s t : Known V) → t ≡ state.count_anew s → HasFewSteps t
   anew s t e = begun-as (state.count_anew s) t e refl
 
@@ -158,6 +171,23 @@ module _ {V : Type 0} (by : Verdicts V) (keeps : KeepsFew by) where
   add-text s t old new r (RefusedEarly v ended g e k a) h = add-all s t ended (Err e) a h
   add-text s t old new r (Unread e (v, k) n) h = same s t k h
 
+  returned : (s t : Known V) (b : Bool) → state.TellsVerdict by s b t → HasFewSteps s → HasFewSteps t
+  returned s t b r h = go r.steps
+    where
+      go : state.CountsIf by s (Ok b) t → HasFewSteps t
+      go (Decided n e told) = unmoved t.verdict s t r.rest e h
+      go (Searched u c) = joined t.verdict s t (Ok b) r.rest c
+
+  solve : (s t : Known V) (r : Result Bool SolverError) → state.Solves by s r t → HasFewSteps s → HasFewSteps t
+  solve s t (Ok b) r h = returned (state.once_searched s) t b r h
+  solve s t (Err Interrupted) r h = joined _ (state.once_searched s) t (Err Interrupted) r.rest r.steps
+  solve s t (Err Invalid) a h = same s t a.1 h
+  solve s t (Err OutOfMemory) a h = no-way _ t a.2
+  solve s t (Err ClauseStoreFull) (a, full) h = no-way _ t a.2
+  solve s t (Err (ProofIoError cause)) (o, inl a) h = no-way _ t a.2
+  solve s t (Err (ProofIoError cause)) (o, inr a) h = no-way _ t a.1
+  solve s t (Err e) a h = absurd a
+
   call-keeps : {W S A : Type 0} (seen : S → Stand) (taken : W → Taken) (c : Call W S A) (a : Answer W S A) (s t : Known V) → Makes by seen taken s c a t →
       HasFewSteps s → HasFewSteps t
   call-keeps seen taken (call.AddClause d) (answer.AddClause r) s t m h = add-clause s t d.items r m h
@@ -169,9 +199,9 @@ module _ {V : Type 0} (by : Verdicts V) (keeps : KeepsFew by) where
   call-keeps seen taken (call.HideVar u) (answer.HideVar r) s t m h = change-var true (usage.hide_name u) u s t r refl m h
   call-keeps seen taken call.ObserveInternalVars (answer.ObserveInternalVars r) s t m h = observe s t (told_vars r) m h
   call-keeps seen taken (call.Assume list) (answer.Assume r) s t m h = assume-list s t list.items r m h
-  call-keeps seen taken call.Solve (answer.Solve r) s t m h = keeps.solves s t r m h
-  call-keeps seen taken call.Model (answer.Model r) s t m h = same s t (keeps.tells_model s t (told_list r) m) h
-  call-keeps seen taken call.FailedCore (answer.FailedCore r) s t m h = same s t (keeps.tells_core s t (told_list r) m) h
+  call-keeps seen taken call.Solve (answer.Solve r) s t m h = solve s t r m h
+  call-keeps seen taken call.Model (answer.Model r) s t m h = tell-list (by.model s) s t (told_list r) m h
+  call-keeps seen taken call.FailedCore (answer.FailedCore r) s t m h = tell-list (by.core s) s t (told_list r) m h
   call-keeps seen taken (call.Config u) (answer.Config r) s t m h = config s t u r m h
   call-keeps seen taken call.Steps (answer.Steps n) s t m h = same s t m.1 h
   call-keeps seen taken call.StepsSinceChange (answer.StepsSinceChange n) s t m h = same s t m.2 h
@@ -189,88 +219,14 @@ module _ {V : Type 0} (by : Verdicts V) (keeps : KeepsFew by) where
   along seen taken (c ∷ calls) [] s h (suc k) t r = absurd r
   along seen taken (c ∷ calls) (a ∷ answers) s h (suc k) t (mid, m, holds, r) = along seen taken calls answers mid (call-keeps seen taken c a s mid m h) k t r
 
--- 2. A call that solves.
-
--- the steps of a call are counted, by which variables are counted before and after it
-joined : {V : Type 0} (x : V) (s t : Known V) (r : Result Bool SolverError) → IsSolved x s t → CountsCall s r t → HasFewSteps t
-joined x s t r e c v = subst (λ (xs : List ℕ). AreFew (length xs) t.ledger.since) (sym (same-counted e))
-    (joined-are-few (length s.counted) s.ledger.settings.max_steps s.ledger.since t.ledger.since s.ledger.steps t.ledger.steps r
-    (ap (λ (x : Ledger). x.since) (same-ledger e)) c)
-
--- no step is made
-unmoved : {V : Type 0} (x : V) (s t : Known V) → IsSolved x s t → t.ledger.steps ≡ s.ledger.steps → HasFewSteps s → HasFewSteps t
-unmoved x s t e n h v =
-    let k = ap (λ (x : Ledger). x.since) (same-ledger e) in
-    let z : t.ledger.since ≡ s.ledger.since = omega (arith, k, n) in
-    subst (λ (xs : List ℕ). AreFew (length xs) t.ledger.since) (sym (same-counted e))
-    (subst (AreFew (length s.counted)) (sym z) (h (sym (ap (λ (x : Ledger). x.valid) (same-ledger e)) ∙ v)))
-
-fails : {V : Type 0} (unknown : Type 0) (s t : Known V) (e : SolverError) → state.FailsSearch unknown s e t → HasFewSteps s → HasFewSteps t
-fails unknown s t OutOfMemory (u, c, b) h = no-way _ t b
-fails unknown s t ClauseStoreFull (u, c, b, full) h = no-way _ t b
-fails unknown s t Invalid a h = same s t a.1 h
-fails unknown s t e a h = absurd a
-
-fails-target : {V : Type 0} (unknown : Type 0) (s t : Known V) → state.FailsTarget unknown s t → HasFewSteps t
-fails-target unknown s t (inl (u, b)) = no-way _ t b
-fails-target unknown s t (inr b) = no-way _ t b
-
--- 3. States.
-
-state-solves : (s t : State) (r : Result Bool SolverError) → state.Solves s r t → HasFewSteps s → HasFewSteps t
-state-solves s t (Ok b) r h =
-    ⊎_elim
-    (λ u. joined t.verdict (state.once_searched s) t (Ok b) r.rest (r.steps u))
-    (λ n. unmoved t.verdict (state.once_searched s) t r.rest (r.known n).1 h)
-    (is-unknown-or-not s.verdict)
-state-solves s t (Err (ProofIoError cause)) (o, c, f) h = fails-target (s.verdict ≡ Unknown) s t f
-state-solves s t (Err Interrupted) r h = joined s.verdict (state.once_searched s) t (Err Interrupted) r.rest r.steps
-state-solves s t (Err e) a h = fails (s.verdict ≡ Unknown) s t e a h
-
-state-model : (s t : State) (r : Result (Option (List Literal)) AllocError) → state.TellsModel s r t → t ≡ s
-state-model s t (Ok m) a = a.1
-state-model s t (Err e) a = a.2
-
-state-core : (s t : State) (r : Result (Option (List Literal)) AllocError) → state.TellsCore s r t → t ≡ s
-state-core s t (Ok m) a = a.1
-state-core s t (Err e) a = a.2
-
-state-keeps : KeepsFew calling
-state-keeps = record { solves = state-solves; tells_model = state-model; tells_core = state-core }
+-- 2. Runs.
 
 -- from a state with few steps on they stay few
 pub run-stays-few : {W S A : Type 0} (seen : S → Stand) (taken : W → Taken) (calls : List (Call W S A)) (answers : List (Answer W S A))
     (s : State) → HasFewSteps s → HasFewStepsAlong calling seen taken s calls answers
-run-stays-few seen taken calls answers s h = along calling state-keeps seen taken calls answers s h
-
--- 4. Pasts.
-
-past-told : (p q : Past) (b : Bool) → IsSolved (past.answered b p.verdict) (state.once_searched p) q → past.CountsSearch p (Ok b) q → HasFewSteps p →
-    HasFewSteps q
-past-told p q b e (Decided w n same) h = unmoved (past.answered b p.verdict) (state.once_searched p) q e n h
-past-told p q b e (Searched w k) h = joined (past.answered b p.verdict) (state.once_searched p) q (Ok b) e k
-
-past-solves : (p q : Past) (r : Result Bool SolverError) → past.Solves p r q → HasFewSteps p → HasFewSteps q
-past-solves p q (Ok true) (v, sat, few, told, e) h = past-told p q true e few h
-past-solves p q (Ok false) (v, sat, few, told, refuted, e) h = past-told p q false e few h
-past-solves p q (Err (ProofIoError cause)) (o, c, f) h = fails-target (past.IsUndecided p) p q f
-past-solves p q (Err Interrupted) r h = joined _ (state.once_searched p) q (Err Interrupted) r.rest r.steps
-past-solves p q (Err e) a h = fails (past.IsUndecided p) p q e a h
-
-past-model : (p q : Past) (r : Result (Option (List Literal)) AllocError) → past.TellsModel p r q → q ≡ p
-past-model p q (Ok (Some m)) a = a.3
-past-model p q (Ok None) a = a.1
-past-model p q (Err e) a = a.2
-
-past-core : (p q : Past) (r : Result (Option (List Literal)) AllocError) → past.TellsCore p r q → q ≡ p
-past-core p q (Ok (Some core)) a = a.4
-past-core p q (Ok None) a = a.1
-past-core p q (Err e) a = a.2
-
-past-keeps : KeepsFew telling
-past-keeps = record { solves = past-solves; tells_model = past-model; tells_core = past-core }
+run-stays-few seen taken calls answers s h = along calling seen taken calls answers s h
 
 -- from the first call on they are few
 pub answers-stay-few : {W S A : Type 0} (seen : S → Stand) (taken : W → Taken) (calls : List (Call W S A)) (answers : List (Answer W S A)) →
     HasFewStepsAlong telling seen taken empty_past calls answers
-answers-stay-few seen taken calls answers = along telling past-keeps seen taken calls answers empty_past (λ v. none-is-few 0 0 refl)
+answers-stay-few seen taken calls answers = along telling seen taken calls answers empty_past (λ v. none-is-few 0 0 refl)

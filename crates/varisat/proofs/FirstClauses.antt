@@ -7,10 +7,11 @@ use Rattle.varisat_formula.proofs.ParsedSources.{gives_whole}
 use Rattle.varisat.specs.States.{State, Unknown, Unsat}
 use Rattle.varisat.specs.Names.{AreInOrder}
 use Rattle.varisat.specs.Counts.{count_with}
-use Rattle.varisat.specs.ClauseCalls.{AddsAll, AddsDimacs}
+use Rattle.varisat.specs.ClauseCalls.{AddsDimacs}
 use Rattle.varisat.specs.Calls as state
 use Rattle.varisat.specs.Additions as additions
-use Rattle.varisat.specs.Additions.{NoFault, MemoryFault, Fault, ClauseRefused, ClausesAdded, RefusedEarly, Read, Unread}
+use Rattle.varisat.specs.Calls.{calling}
+use Rattle.varisat.specs.Additions.{AddsAll, NoFault, MemoryFault, Fault, ClauseRefused, ClausesAdded, RefusedEarly, Read, Unread}
 use Rattle.varisat.specs.Decided as conclusion
 use Rattle.varisat.specs.Decided.{Conclusion}
 use Rattle.varisat.specs.Proven.{Concludes}
@@ -26,7 +27,7 @@ pub record AreFirst (P : List Clause) (s t : State) : Type 0 where
   pub refuted : rest ≢ [] → t.verdict ≡ Unsat
 
 -- once they are known to be unsatisfiable no other joins
-all-ignored : (s t : State) (P : List Clause) → s.verdict ≡ Unsat → AddsAll s P done t → (t.clauses ≡ s.clauses) × (t.verdict ≡ Unsat)
+all-ignored : (s t : State) (P : List Clause) → s.verdict ≡ Unsat → AddsAll calling s P done t → (t.clauses ≡ s.clauses) × (t.verdict ≡ Unsat)
 all-ignored s t [] u (x, e) = (ap (λ (y : State). y.clauses) e, ap (λ (y : State). y.verdict) e ∙ u)
 all-ignored s t (c ∷ P) u (inl (mid, (v, state.Ignored n e), more)) =
     let (same, known) = all-ignored mid t P (ap (λ (y : State). y.verdict) e ∙ u) more in
@@ -34,7 +35,7 @@ all-ignored s t (c ∷ P) u (inl (mid, (v, state.Ignored n e), more)) =
 all-ignored s t (c ∷ P) u (inl (mid, (v, state.Accepted n lim a), more)) = absurd (n.unrefuted u)
 all-ignored s t (c ∷ P) u (inr (e, k, a)) = absurd cc
 
-first-clauses : (n : ℕ) (s t : State) (P : List Clause) → AreInOrder n s.naming → AddsAll s P done t → AreFirst P s t
+first-clauses : (n : ℕ) (s t : State) (P : List Clause) → AreInOrder n s.naming → AddsAll calling s P done t → AreFirst P s t
 first-clauses n s t [] o (x, e) = record {
   given = [];
   rest = [];
@@ -96,6 +97,6 @@ pub finds-refuted : (t u : State) (c : Conclusion) → Concludes t c u → t.ver
 finds-refuted t u conclusion.Unknown r e = let z : Unsat ≡ Unknown = sym e ∙ r.unknown in absurd cc
 finds-refuted t u (conclusion.Decided None) r e = refl
 finds-refuted t u (conclusion.Decided (Some model)) (r, m) e =
-    let same = (r.known (λ k. let z : Unsat ≡ Unknown = sym e ∙ k in absurd cc)).0 ∙ e in
-    let z : Some false ≡ Some true = ap state.answer_of (sym same) ∙ r.answer in
+    let same = r.right.known (λ k. let z : Unsat ≡ Unknown = sym e ∙ k in absurd cc) ∙ e in
+    let z : Some false ≡ Some true = ap state.answer_of (sym same) ∙ r.right.answer in
     let y : false ≡ true = cc in absurd cc

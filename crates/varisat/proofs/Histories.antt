@@ -9,12 +9,12 @@ use Rattle.varisat.specs.declared.session.Answer.TheVariants as answer
 use Rattle.varisat.specs.States.{State, empty_state}
 use Rattle.varisat.specs.Journals.{IsJournal, IsToldWithin}
 use Rattle.varisat.specs.Calls.{IsValid}
-use Rattle.varisat.specs.Pasts as past
 use Rattle.varisat.specs.Told.{told_list, told_vars}
 use Rattle.varisat.specs.Names.{Sample, Witness}
+use Rattle.varisat.specs.Turns.{Makes}
 use Rattle.varisat.specs.Runs.{MakesCall, Run}
-use Rattle.varisat.specs.Pasts.{Findings, empty_past}
-use Rattle.varisat.specs.Histories.{IsTrue, AreTrue}
+use Rattle.varisat.specs.Pasts.{Findings, IsPastJournal, empty_past, telling}
+use Rattle.varisat.specs.Histories.{AreTrue}
 use Rattle.varisat.proofs.Pasts.{Agrees, Leads, past_of, add-clause, add-formula, add-text, make-var, set-usage, hide, observe, assume-list, tell-model, tell-core, config, open-proof, close, enable-checking, stays, new-agrees}
 use Rattle.varisat.proofs.SolvedPasts.{solve}
 use Rattle.varisat.proofs.RunsTold.{call-within}
@@ -26,7 +26,7 @@ of-ok (Err e) P Q f h = tt
 
 -- a call moves the past and the state alike
 is-true : {W S A : Type 0} (seen : S → Stand) (taken : W → Taken) (c : Call W S A) (a : Answer W S A) (v : Findings) (s t : State) → Agrees v s →
-    MakesCall seen taken s c a t → Leads (IsTrue seen taken (past_of v s) c a) t
+    MakesCall seen taken s c a t → Leads (Makes telling seen taken (past_of v s) c a) t
 is-true seen taken (call.AddClause d) (answer.AddClause r) v s t g m = add-clause v s t d.items r g m
 is-true seen taken (call.AddFormula f) (answer.AddFormula r) v s t g m = add-formula v s t f.clauses r g m
 is-true seen taken (call.AddDimacsCnf source) (answer.AddDimacsCnf r back) v s t g m = add-text v s t (seen source) (seen back) r g m
@@ -50,7 +50,7 @@ is-true seen taken _ _ v s t g m = absurd m
 
 -- what was told is the past's journal, as it is the state's
 past-journal : (v : Findings) (s : State) → Agrees v s → (IsValid s → IsJournal s) → (IsValid s → IsToldWithin s.ledger.steps s.told) → IsValid s →
-    past.IsJournal (past_of v s)
+    IsPastJournal (past_of v s)
 past-journal v s g told within c =
     let k = g c in
     let j = told c in

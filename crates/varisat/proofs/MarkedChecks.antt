@@ -9,7 +9,8 @@ use Rattle.varisat_proof.specs.Telling.{lines_told, bytes_told}
 use Rattle.varisat_proof.proofs.MarkedOnce.{check_through}
 use Rattle.varisat_proof.proofs.PassingJournals.{marked_accepted, journals_pass}
 use Rattle.varisat.specs.Laws.{MarkedProofsPass}
-use Rattle.varisat.specs.Pasts.{IsRefuted}
+use Rattle.varisat.specs.Calls.{IsRefuted}
+use Rattle.varisat.specs.Pasts.{telling}
 
 pub marked-proofs-pass : MarkedProofsPass
 marked-proofs-pass = λ p opened result end journal has format shown check.
@@ -21,5 +22,5 @@ marked-proofs-pass = λ p opened result end journal has format shown check.
     let marked = has.marked shown in (
       journals_pass p.told held result end (by_leads p.ledger.steps [] p.told held by) (journal.stays shown) journal.cores range begun,
       λ r. (check_through (Text true) (state_of [] nothing_told) (bytes_told Marked p.told) (lines_told (Text true) p.told) marked.after result end
-          (marked_accepted p.told range) marked.takes begun).1 (marked.refutes (subst (λ (f : ProofFormat). IsRefuted f p) (sym format) r)),
+          (marked_accepted p.told range) marked.takes begun).1 (marked.refutes (subst (λ (f : ProofFormat). IsRefuted telling f p) (sym format) r)),
     )

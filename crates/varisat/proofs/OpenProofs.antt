@@ -4,7 +4,6 @@ use Rattle.std.specs.Prelude.{flat_map, is_some, take, not, ◌&&◌}
 use Rattle.std.proofs.lemmas.List.{append-nil, map-append}
 use Rattle.std.specs.declared.io.Error.{Error}
 use Rattle.varisat_theory.specs.Literals.{Literal, Clause}
-use Rattle.varisat_theory.specs.Derivations.{Line}
 use Rattle.varisat_theory.specs.Renaming.{rename_line}
 use Rattle.varisat_theory.specs.Journals.{Entry, Accepts, Writes, Assumes, Fails, Leaves, lines_of, rename_entry}
 use Rattle.varisat_theory.proofs.Journals.{lines_append}
@@ -21,7 +20,7 @@ use Rattle.varisat_proof.specs.Proving as proving
 use Rattle.varisat_tracer.specs.Tracing.{BreaksProof}
 use Rattle.varisat_tracer.proofs.Telling.{unopened-unbroken}
 use Rattle.varisat_tracer.specs.Carried.{carry}
-use Rattle.varisat.specs.OpenProofs.{OpenProof, opened_state, IsOpen, lines_over, IsWrittenWhereOpen, ProofFits, GoesOnWriting, GoesOnFailing, searched_under, first_proof, taken_of, BarsClauses, BarsAssumptions, entries_over}
+use Rattle.varisat.specs.OpenProofs.{OpenProof, opened_state, IsOpen, lines_over, IsWrittenWhereOpen, ProofFits, GoesOnWriting, GoesOnFailing, searched_under, first_proof, BarsClauses, BarsAssumptions, entries_over}
 use Rattle.varisat.specs.Journals.{TellsProof}
 use Rattle.varisat.proofs.ToldEntries.{OnlyLeave}
 
@@ -261,7 +260,8 @@ fitted-before o variables told proof f = go o proof f.same f.written
     go (Some a) (Some p) e w =
         let q : OpenProof = record p { searched = a.searched } in
         let was : OpenState = record a { searched = true } in
-        let is : OpenState = record { format = p.format; taken = taken_of p; searched = p.searched } in
+        let took : Taken = record { bytes = p.first ++ p.bytes; faults = p.faults } in
+        let is : OpenState = record { format = p.format; taken = took; searched = p.searched } in
         let some : Some was ≡ Some is = e in
         let same : was ≡ is = cc in (
           Some q,

@@ -1,6 +1,6 @@
 -- What a past says of the journal.
-use Rattle.std.proofs.Common.{◌≡◌, ℕ, ◌+◌, ◌≤◌, List, [], ◌++◌, sym, ap, ◌∙◌, subst, refl, arith}
-use Rattle.std.proofs.lemmas.List.{append-nil}
+use Rattle.std.proofs.Common.{◌≡◌, ℕ, ◌+◌, ◌≤◌, List, [], ◌++◌, sym, ap, ◌∙◌, subst, arith}
+use Rattle.std.proofs.lemmas.List.{append-nil, append_cancel_left}
 use Rattle.varisat_theory.specs.Literals.{Clause}
 use Rattle.varisat_theory.specs.Counted.{added}
 use Rattle.varisat_theory.specs.Journals.{Entry, Leads, lines_of}
@@ -45,9 +45,5 @@ told-interrupted k n a b steps x m more =
     }
 
 -- nothing
-pub said-nothing : (n : ℕ) (a b : List Entry) → b ≡ a → TellsMore n a b
-said-nothing n a b e = record { entries = []; joined = e ∙ sym (append-nil a); goes = λ held d. (held, refl) }
-
-pub nothing-said : (n : ℕ) (a b : List Entry) (e : b ≡ a) → AreDerived (said-nothing n a b e).entries
-unfolding said-nothing
-nothing-said n a b e = tt
+pub nothing-said : {n : ℕ} {a b : List Entry} (m : TellsMore n a b) → b ≡ a → AreDerived m.entries
+nothing-said {n} {a} {b} m e = subst AreDerived (sym (append_cancel_left a m.entries [] (sym m.joined ∙ e ∙ sym (append-nil a)))) tt

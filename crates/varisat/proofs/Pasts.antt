@@ -10,7 +10,6 @@ use Rattle.varisat_formula.specs.declared.dimacs.error.DimacsError.{DimacsError}
 use Rattle.varisat_formula.specs.Dimacs.{Reading}
 use Rattle.varisat_formula.specs.Streams.{Stand, Taken}
 use Rattle.varisat_proof.specs.declared.proof.format.ProofFormat.{ProofFormat}
-use Rattle.varisat_proof.specs.declared.proof.format.ProofFormat.TheVariants.{Drat, BinaryDrat, Marked}
 use Rattle.varisat_proof.specs.Assumed.{lists_of}
 use Rattle.varisat_names.specs.declared.config.SolverConfigUpdate.{SolverConfigUpdate}
 use Rattle.varisat_names.proofs.Maps.{updated-other, updated-all}
@@ -22,9 +21,9 @@ use Rattle.varisat.specs.Models.{list_names, model_of, IsCompletable}
 use Rattle.varisat.specs.Additions as additions
 use Rattle.varisat.specs.Additions.{AllAdded, OneRefused, RefusedAtOnce, NoFault, MemoryFault, Fault, ClauseRefused, ClausesAdded, RefusedEarly, Read, Unread}
 use Rattle.varisat.specs.Calls as state
-use Rattle.varisat.specs.Calls.{calling, IsValid, Invalidates, IsLikeButLeft, IsLike, Ignored, Accepted, MayAccept, TakesOne, TakesList, RefusesNames, accept, count_anew, start, with_naming, answer_of, reopened_verdict, assumed_verdict, VerdictAfter}
+use Rattle.varisat.specs.Calls.{calling, IsValid, Invalidates, IsLikeButLeft, IsLike, Ignored, Accepted, MayAccept, TakesOne, TakesList, TellsList, IsRefuted, RefusesNames, accept, count_anew, start, with_naming, answer_of, reopened_verdict, assumed_verdict, VerdictAfter}
 use Rattle.varisat.specs.Pasts as past
-use Rattle.varisat.specs.Pasts.{Findings, Past, telling}
+use Rattle.varisat.specs.Pasts.{Findings, Past, MayTellModel, MayTellCore, telling}
 use Rattle.varisat.specs.Usage as usage
 use Rattle.varisat.specs.declared.solver.SolverError.{SolverError}
 use Rattle.varisat.specs.declared.solver.SolverError.TheVariants.{ProofIoError, OutOfMemory, Invalid, ClauseStoreFull, WitnessVar, VariableLimit, AssumedVar, ClauseAfterSolve, ProofOpen, ProofTooLate, ConfigOutOfRange}
@@ -200,7 +199,10 @@ accepted v s t d n (w, after, e) k =
           (λ r. reopened-not-true s.verdict (ap answer_of (sym ((same-verdict e) ∙ r)) ∙ h)) cases);
       told = told-more 0 s.told t.told v.interrupted_steps k.told
           (tells-through 0 0 s.told (s.told ++ Accepts c ∷ []) t.told (tells 0 s.told (Accepts c ∷ []) (accepts-goes s.told c)) e.told);
-      failed = λ h. ⊎_elim (λ r. ap answer_of ((same-verdict e) ∙ r.0)) (λ r. ap answer_of ((same-verdict e) ∙ r) ∙ reopened-false s.verdict (k.failed h)) cases;
+      failed = λ h. ⊎_elim
+          (λ r. ap answer_of ((same-verdict e) ∙ r.0))
+          (λ r. ap answer_of ((same-verdict e) ∙ r) ∙ reopened-false s.verdict (k.failed h))
+          cases;
       core = λ l h. ⊎_elim
           (λ r. let z : Unsat ≡ UnsatUnderAssumptions l = sym ((same-verdict e) ∙ r.0) ∙ h in absurd cc)
           (λ r. k.core l (reopened-core s.verdict l (sym ((same-verdict e) ∙ r) ∙ h))) cases;
@@ -209,8 +211,8 @@ accepted v s t d n (w, after, e) k =
           (λ r. k.some l (reopened-core s.verdict l (sym ((same-verdict e) ∙ r) ∙ h))) cases;
       right = ⊎_elim
           (λ r. right-like t (s.clauses ++ c ∷ []) s.assumptions t.counted Unsat (same-clauses e) (same-assumptions e) refl ((same-verdict e) ∙ r.0) r.1)
-          (λ r. right-like t (s.clauses ++ c ∷ []) s.assumptions t.counted (reopened_verdict s.verdict) (same-clauses e) (same-assumptions e) refl ((same-verdict e) ∙ r)
-          (right-reopened s.clauses c s.assumptions s.counted t.counted s.verdict n k.right))
+          (λ r. right-like t (s.clauses ++ c ∷ []) s.assumptions t.counted (reopened_verdict s.verdict) (same-clauses e) (same-assumptions e) refl
+          ((same-verdict e) ∙ r) (right-reopened s.clauses c s.assumptions s.counted t.counted s.verdict n k.right))
           cases;
     }
 
@@ -324,7 +326,8 @@ changes-var may_leave f b keeps v s t u (Ok x) g (c, small, free, e) = (
   v,
   (c, small, free, like-past v (changed f b (usage.name_var u s)) t e),
   λ _. let k = g c in
-      knows-like v s t (f (name_one u s.naming)) (b s.ever_hidden) (record s.ledger { since = 0 }) e (keeps (name_one u s.naming) (capped-one u s.naming k.capped)) k,
+      knows-like v s t (f (name_one u s.naming)) (b s.ever_hidden) (record s.ledger { since = 0 }) e
+      (keeps (name_one u s.naming) (capped-one u s.naming k.capped)) k,
 )
 changes-var may_leave f b keeps v s t u (Err Invalid) g (c, e) = (v, (c, ap (past_of v) e), stays v s t e g)
 changes-var may_leave f b keeps v s t u (Err VariableLimit) g (c, full, e) = (v, (c, full, ap (past_of v) e), stays v s t e g)
@@ -403,20 +406,18 @@ open-proof taken target format v s t (Err (ProofTooLate, back)) g (h, c, n, b, e
 open-proof taken target format v s t (Err e) g a = absurd a
 
 -- what the past claims of the clauses the state does
-claimed : (v : Findings) (s : State) → Knows v s → (f : ProofFormat) → past.IsRefuted f (past_of v s) → state.IsRefuted f s.verdict
-claimed v s k Drat c = k.failed c
-claimed v s k BinaryDrat c = k.failed c
-claimed v s k Marked (c, none) = go s.verdict refl
+claimed : (v : Findings) (s : State) → Knows v s → (f : ProofFormat) → IsRefuted telling f (past_of v s) → IsRefuted calling f s
+claimed v s k f (c, alone) = (k.failed c, λ m. go (alone m) s.verdict refl)
   where
     nothing : (list : List Literal) → list ⊆ [] → list ≡ []
     nothing [] h = refl
     nothing (l ∷ list) h = absurd (h l (inl refl))
 
-    go : (x : Verdict) → s.verdict ≡ x → s.verdict ≡ Unsat
-    go Unknown e = let z : None ≡ Some false = ap answer_of (sym e) ∙ k.failed c in absurd cc
-    go (Sat a) e = let z : Some true ≡ Some false = ap answer_of (sym e) ∙ k.failed c in let y : true ≡ false = cc in absurd cc
-    go Unsat e = e
-    go (UnsatUnderAssumptions list) e =
+    go : s.assumptions ≡ [] → (x : Verdict) → s.verdict ≡ x → s.verdict ≡ Unsat
+    go none Unknown e = let z : None ≡ Some false = ap answer_of (sym e) ∙ k.failed c in absurd cc
+    go none (Sat a) e = let z : Some true ≡ Some false = ap answer_of (sym e) ∙ k.failed c in let y : true ≡ false = cc in absurd cc
+    go none Unsat e = e
+    go none (UnsatUnderAssumptions list) e =
         let fails = subst (IsRight s.clauses s.assumptions s.counted) e k.right in
         absurd (k.some list e (nothing list (subst (λ A. list ⊆ A) none fails.0)))
 
@@ -475,23 +476,12 @@ no-model m (Sat a) e x = cc
 no-model m Unsat e x = let z : false ≡ true = cc in cc
 no-model m (UnsatUnderAssumptions core) e x = let z : false ≡ true = cc in cc
 
-pub tell-model : (v : Findings) (s t : State) (r : Result (Option (List Literal)) AllocError) → Agrees v s → state.TellsModel s r t →
-    Leads (past.TellsModel (past_of v s) r) t
-tell-model v s t (Ok (Some m)) g (inl (c, e), same) =
-    let k = g c in
-    let (a, x, l) = model-sat s.naming s.verdict m e in
-    let whole = completable s a k.capped (subst (IsRight s.clauses s.assumptions s.counted) x k.right) in (
-      v,
-      (c, k.found (ap answer_of x), subst (IsCompletable s.naming s.clauses s.assumptions s.counted) (sym l) whole, ap (past_of v) same),
-      stays v s t same g,
-    )
-tell-model v s t (Ok (Some m)) g (inr (c, e), same) = absurd cc
-tell-model v s t (Ok None) g (inl (c, e), same) =
-    let k = g c in
-    (v, ((λ _. false_from_ne_true v.has_model (λ h. no-model s.naming s.verdict e (k.model h))), ap (past_of v) same), stays v s t same g)
-tell-model v s t (Ok None) g (inr (c, e), same) =
-    (v, ((λ w. absurd (let z : true ≡ false = sym w ∙ c in cc)), ap (past_of v) same), stays v s t same g)
-tell-model v s t (Err e) g (c, x, same) = (v, (c, (g c).found x, ap (past_of v) same), stays v s t same g)
+may-tell-model : (v : Findings) (s : State) (m : Option (List Literal)) → Knows v s → calling.model s m → MayTellModel (past_of v s) m
+may-tell-model v s None k e = false_from_ne_true v.has_model (λ h. no-model s.naming s.verdict e (k.model h))
+may-tell-model v s (Some model) k e =
+    let (a, x, l) = model-sat s.naming s.verdict model e in
+    let whole = completable s a k.capped (subst (IsRight s.clauses s.assumptions s.counted) x k.right) in
+    (k.found (ap answer_of x), subst (IsCompletable s.naming s.clauses s.assumptions s.counted) (sym l) whole)
 
 -- 10. A core.
 
@@ -499,27 +489,27 @@ tell-model v s t (Err e) g (c, x, same) = (v, (c, (g c).found x, ap (past_of v) 
 no-model-false : (v : Findings) (s : State) → Knows v s → answer_of s.verdict ≡ Some false → v.has_model ≡ false
 no-model-false v s k a = false_from_ne_true v.has_model (λ h. let z : Some false ≡ Some true = sym a ∙ k.model h in let y : false ≡ true = cc in cc)
 
-pub tell-core : (v : Findings) (s t : State) (r : Result (Option (List Literal)) AllocError) → Agrees v s → state.TellsCore s r t →
-    Leads (past.TellsCore (past_of v s) r) t
-tell-core v s t (Ok (Some core)) g (inl (c, e), same) =
-    let k = g c in (
-      v,
-      (
-        c,
-        no-model-false v s k (core-answer s.verdict (map (through_names s.naming) core) e.1),
-        e.0,
-        told-fails s core k.right e,
-        ap (past_of v) same,
-      ),
-      stays v s t same g,
-    )
-tell-core v s t (Ok (Some core)) g (inr (c, e), same) = absurd cc
-tell-core v s t (Ok None) g (inl (c, e), same) =
-    let k = g c in
-    (v, ((λ _. false_from_ne_true v.has_core (λ h. no-core s.verdict e (k.failed h))), ap (past_of v) same), stays v s t same g)
-tell-core v s t (Ok None) g (inr (c, e), same) =
-    (v, ((λ w. absurd (let z : true ≡ false = sym w ∙ c in cc)), ap (past_of v) same), stays v s t same g)
-tell-core v s t (Err e) g (c, x, same) = (v, (c, no-model-false v s (g c) x, ap (past_of v) same), stays v s t same g)
+may-tell-core : (v : Findings) (s : State) (core : Option (List Literal)) → Knows v s → calling.core s core → MayTellCore (past_of v s) core
+may-tell-core v s None k e = false_from_ne_true v.has_core (λ h. no-core s.verdict e (k.failed h))
+may-tell-core v s (Some core) k e =
+    (no-model-false v s k (core-answer s.verdict (map (through_names s.naming) core) e.1), e.0, told-fails s core k.right e)
+
+-- what is told of a state is told of the past
+tell-list : (of-state : Option (List Literal) → Type 0) (of-past : Option (List Literal) → Type 0) (v : Findings) (s t : State)
+    (r : Result (Option (List Literal)) AllocError) → Agrees v s → ((list : Option (List Literal)) → Knows v s → of-state list → of-past list) →
+    TellsList of-state s r t → Leads (TellsList of-past (past_of v s) r) t
+tell-list of-state of-past v s t (Ok list) g to (inl (c, h), same) = (v, (inl (c, to list (g c) h), ap (past_of v) same), stays v s t same g)
+tell-list of-state of-past v s t (Ok list) g to (inr n, same) = (v, (inr n, ap (past_of v) same), stays v s t same g)
+tell-list of-state of-past v s t (Err e) g to (c, (list, h), same) =
+    (v, (c, (list, to (Some list) (g c) h), ap (past_of v) same), stays v s t same g)
+
+pub tell-model : (v : Findings) (s t : State) (r : Result (Option (List Literal)) AllocError) → Agrees v s → TellsList (calling.model s) s r t →
+    Leads (TellsList (MayTellModel (past_of v s)) (past_of v s) r) t
+tell-model v s t r g a = tell-list (calling.model s) (MayTellModel (past_of v s)) v s t r g (may-tell-model v s) a
+
+pub tell-core : (v : Findings) (s t : State) (r : Result (Option (List Literal)) AllocError) → Agrees v s → TellsList (calling.core s) s r t →
+    Leads (TellsList (MayTellCore (past_of v s)) (past_of v s) r) t
+tell-core v s t r g a = tell-list (calling.core s) (MayTellCore (past_of v s)) v s t r g (may-tell-core v s) a
 
 -- 11. Before the first call.
 

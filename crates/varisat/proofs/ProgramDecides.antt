@@ -22,7 +22,7 @@ use Rattle.varisat.specs.Counts.{count_with}
 use Rattle.varisat.specs.ClauseCalls.{AddsDimacs}
 use Rattle.varisat.specs.OpenProofs.{OpenProof, first_proof}
 use Rattle.varisat.specs.Calls as state
-use Rattle.varisat.specs.Calls.{count_anew, Ignored, Accepted}
+use Rattle.varisat.specs.Calls.{calling, count_anew, Ignored, Accepted}
 use Rattle.varisat.specs.Additions as additions
 use Rattle.varisat.specs.Additions.{NoFault, MemoryFault, Fault, ClauseRefused, ClausesAdded, RefusedEarly, Read, Unread}
 use Rattle.varisat.specs.Pasts.{Findings, Past, empty_past, telling}
@@ -285,11 +285,12 @@ module _ (check : Bool) (proof : Option OpenProof) (limit : Option ℕ) (old new
   abbrev pub Found : Conclusion → Type 0
   Found c = (d : Decides (allowed_steps limit) old new c) × Carries t.clauses (dimacs d.text).clauses
 
-  found-none : (u : State) → state.Solves t (Ok false) u → Found (Decided None)
+  found-none : (u : State) → state.Solves calling t (Ok false) u → Found (Decided None)
   found-none u f =
       let (v, x, g) = text-taken in
       let q = past_of v t in
-      let (z, (c, n, few, told, refuted, e), h) = solve v t u (Ok false) g f in
+      let (z, e, h) = solve v t u (Ok false) g f in
+      let n = e.right.1 in
       let w = takes old new (begun_past check proof limit) q x in
       let r = begun-took check proof limit q (dimacs w.text).clauses w.all in (
         record {
@@ -303,7 +304,7 @@ module _ (check : Bool) (proof : Option OpenProof) (limit : Option ℕ) (old new
         r.carries,
       )
 
-  found-unknown : (u : State) → state.Solves t (Err Interrupted) u → Found Unknown
+  found-unknown : (u : State) → state.Solves calling t (Err Interrupted) u → Found Unknown
   found-unknown u f =
       let (v, x, g) = text-taken in
       let q = past_of v t in
@@ -325,11 +326,13 @@ module _ (check : Bool) (proof : Option OpenProof) (limit : Option ℕ) (old new
           let d = k.count in
           ⊎_elim (λ (s : k.made ≡ own). omega (arith, s, e, b)) (λ (s : after ≡ 2 ^ 64 - 1). omega (arith, s, d, z, b)) (k.spent refl)
 
-  found-model : (model : List Literal) (u v : State) → state.Solves t (Ok true) u → state.TellsModel u (Ok (Some model)) v → Found (Decided (Some model))
+  found-model : (model : List Literal) (u v : State) → state.Solves calling t (Ok true) u →
+      state.TellsList (calling.model u) u (Ok (Some model)) v → Found (Decided (Some model))
   found-model model u y f d =
       let (v, x, g) = text-taken in
       let q = past_of v t in
-      let (z, (w, s, few, told, e), h) = solve v t u (Ok true) g f in
+      let (z, e, h) = solve v t u (Ok true) g f in
+      let s = e.right.1 in
       let k = takes old new (begun_past check proof limit) q x in
       let r = begun-took check proof limit q (dimacs k.text).clauses k.all in (
         record {
@@ -346,7 +349,8 @@ module _ (check : Bool) (proof : Option OpenProof) (limit : Option ℕ) (old new
           IsSatisfiable t.clauses → (z : Findings) → u.clauses ≡ t.clauses → u.naming ≡ t.naming → Agrees z u → IsModel P model
       outcome P (inl n) s z e same h = absurd (n s)
       outcome P (inr (clauses, order)) s z e same h =
-          let (w, (x, i, o, still), j) = tell-model z u y (Ok (Some model)) h d in
+          let (w, (may, still), j) = tell-model z u y (Ok (Some model)) h d in
+          let o = ⊎_elim (λ x. x.1.1) (λ x. absurd (let none : Some model ≡ None = x.1 in cc)) may in
           let told = subst (λ Q. IsCompletable u.naming Q u.assumptions u.counted model) (e ∙ clauses) o in
           own-model P u.naming u.assumptions u.counted model (subst (AreInOrder (count-all 0 P)) (sym same) order) told
 

@@ -8,17 +8,15 @@ use Rattle.varisat_proof.specs.Telling.{bytes_told}
 use Rattle.varisat_formula.specs.Dimacs.{Reading, dimacs}
 use Rattle.varisat_formula.specs.Streams.{Stand, Taken}
 use Rattle.varisat_proof.specs.declared.proof.format.ProofFormat.{ProofFormat}
-use Rattle.varisat_proof.specs.declared.proof.format.ProofFormat.TheVariants.{Drat, BinaryDrat, Marked}
 use Rattle.varisat_proof.specs.Proving.{OpenState, IsClosed}
 use Rattle.varisat.specs.OpenProofs.{OpenProof, opened_state, GoesOnWriting, searched_under, first_proof}
 use Rattle.varisat.specs.States.{State, Ledger, Verdict, Unknown, Sat, Unsat, UnsatUnderAssumptions, IsRight}
 use Rattle.varisat.specs.ProofCalls.{IsProofIfOpen}
-use Rattle.varisat.specs.Calls.{IsRefuted, calling}
-use Rattle.varisat.specs.ClauseCalls.{AddsAll, AddsDimacs}
+use Rattle.varisat.specs.ClauseCalls.{AddsDimacs}
 use Rattle.varisat.specs.Calls as state
-use Rattle.varisat.specs.Calls.{IsValid, TellsVerdict}
+use Rattle.varisat.specs.Calls.{calling, IsValid, IsRefuted, TellsVerdict}
 use Rattle.varisat.specs.Additions as additions
-use Rattle.varisat.specs.Additions.{NoFault, MemoryFault, Fault, ClauseRefused, ClausesAdded, RefusedEarly, Read, Unread}
+use Rattle.varisat.specs.Additions.{AddsAll, NoFault, MemoryFault, Fault, ClauseRefused, ClausesAdded, RefusedEarly, Read, Unread}
 use Rattle.varisat.specs.Decided as conclusion
 use Rattle.varisat.specs.Decided.{Conclusion, allowed_steps}
 use Rattle.varisat.specs.Proven.{prepared, Concludes, Reports, IsProven, IsProvenIf, DecidesProven, Fails, AsSearched, AsListed}
@@ -56,12 +54,12 @@ keeps-clause : (s t : State) (d : Clause) → state.AddsClause s d done t → Ke
 keeps-clause s t d (v, state.Ignored n e) = keeps-anew s t e
 keeps-clause s t d (v, state.Accepted n lim (w, after, e)) = record { proof = e.proof; assumptions = same-assumptions e; hidden = (same-hidden e) }
 
-keeps-clauses : (s t : State) (P : List Clause) → AddsAll s P done t → Keeps s t
+keeps-clauses : (s t : State) (P : List Clause) → AddsAll calling s P done t → Keeps s t
 keeps-clauses s t [] (u, e) = subst (Keeps s) (sym e) (keeps-all-of s)
 keeps-clauses s t (c ∷ P) (inl (mid, a, rest)) = keeps-through s mid t (keeps-clause s mid c a) (keeps-clauses mid t P rest)
 keeps-clauses s t (c ∷ P) (inr (e, k, a)) = absurd cc
 
-keeps-reading : (s t : State) (R : Reading) → additions.AddsReading state.calling s R done t → Keeps s t
+keeps-reading : (s t : State) (R : Reading) → additions.AddsReading calling s R done t → Keeps s t
 keeps-reading s t R (ClauseRefused e k a) = absurd cc
 keeps-reading s t R (ClausesAdded m a (NoFault n k e)) = keeps-through s m t (keeps-clauses s m R.clauses a) (keeps-anew m t e)
 keeps-reading s t R (ClausesAdded m a (MemoryFault y n k e b)) = absurd cc
@@ -81,7 +79,7 @@ record Asks (t u : State) : Type 0 where
   hidden : u.ever_hidden ≡ t.ever_hidden
   clauses : u.clauses ≡ t.clauses
 
-asks-told : (t u : State) (b : Bool) → TellsVerdict (state.once_searched t) b u → Asks t u
+asks-told : (t u : State) (b : Bool) → TellsVerdict calling (state.once_searched t) b u → Asks t u
 asks-told t u b r = record {
   valid = ap (λ (l : Ledger). l.valid) (same-ledger r.rest) ∙ r.valid;
   proof = r.rest.proof;
@@ -105,24 +103,22 @@ pub finds-valid : (t u : State) (c : Conclusion) → Concludes t c u → IsValid
 finds-valid t u c f = (asks t u c f).valid
 
 -- where none was found the answer was false, and as nothing was assumed it speaks of the clauses
-finds-none : (t u : State) (c : Conclusion) (f : ProofFormat) → Concludes t c u → t.assumptions ≡ [] → c ≡ conclusion.Decided None → IsRefuted f u.verdict
+finds-none : (t u : State) (c : Conclusion) (f : ProofFormat) → Concludes t c u → t.assumptions ≡ [] → c ≡ conclusion.Decided None → IsRefuted calling f u
 finds-none t u conclusion.Unknown f r n e = absurd cc
 finds-none t u (conclusion.Decided (Some model)) f r n e = let z : Some model ≡ None = cc in absurd cc
-finds-none t u (conclusion.Decided None) Drat r n e = r.answer
-finds-none t u (conclusion.Decided None) BinaryDrat r n e = r.answer
-finds-none t u (conclusion.Decided None) Marked r n e = go u.verdict refl
+finds-none t u (conclusion.Decided None) f r n e = (r.right.answer, λ _. go u.verdict refl)
   where
     nothing : (list : List Literal) → list ⊆ [] → list ≡ []
     nothing [] h = refl
     nothing (l ∷ list) h = absurd (h l (inl refl))
 
     go : (v : Verdict) → u.verdict ≡ v → u.verdict ≡ Unsat
-    go Unknown e = let z : None ≡ Some false = ap state.answer_of (sym e) ∙ r.answer in absurd cc
-    go (Sat a) e = let z : Some true ≡ Some false = ap state.answer_of (sym e) ∙ r.answer in let y : true ≡ false = cc in absurd cc
+    go Unknown e = let z : None ≡ Some false = ap state.answer_of (sym e) ∙ r.right.answer in absurd cc
+    go (Sat a) e = let z : Some true ≡ Some false = ap state.answer_of (sym e) ∙ r.right.answer in let y : true ≡ false = cc in absurd cc
     go Unsat e = e
     go (UnsatUnderAssumptions list) e =
-        let fails = subst (IsRight u.clauses u.assumptions u.counted) e r.right in
-        absurd (r.core list e (nothing list (subst (λ A. list ⊆ A) ((same-assumptions r.rest) ∙ n) fails.0)))
+        let fails = subst (IsRight u.clauses u.assumptions u.counted) e r.right.right in
+        absurd (r.right.core list e (nothing list (subst (λ A. list ⊆ A) ((same-assumptions r.rest) ∙ n) fails.0)))
 
 -- 3. The target of the proof.
 
@@ -146,7 +142,7 @@ closed-none taken (Some w) h = absurd h
 proven-bytes : {W : Type 0} (taken : W → Taken) (format : ProofFormat) (target back : W) (u : State) (bytes : List ℕ) (P : List Clause) (c : Conclusion) →
     u.proof ≡ Some (record (first_proof format (taken target)) { bytes = bytes; searched = true }) → u.ever_hidden ≡ false → IsProofIfOpen calling u →
     u.assumptions ≡ [] → Carries u.clauses P → (given rest : List Clause) → P ≡ given ++ rest → u.clauses ≡ given →
-    (rest ≢ [] → c ≡ conclusion.Decided None) → (c ≡ conclusion.Decided None → IsRefuted format u.verdict) →
+    (rest ≢ [] → c ≡ conclusion.Decided None) → (c ≡ conclusion.Decided None → IsRefuted calling format u) →
     taken back ≡ record { bytes = (taken target).bytes ++ bytes; faults = (taken target).faults } → IsProven format P c (taken target) (taken back)
 proven-bytes taken format target back u bytes P c e h has unassumed carries given rest begins joined whole none same =
     let b = has (record (first_proof format (taken target)) { bytes = bytes; searched = true }) e in
@@ -174,8 +170,8 @@ proven-bytes taken format target back u bytes P c e h has unassumed carries give
     }
 
 pub proven : {W : Type 0} (taken : W → Taken) (format : ProofFormat) (check : Bool) (limit : Option ℕ) (old new : Stand) (target back : Option W) (t u : State)
-    (c : Conclusion) (opened : Option OpenState) → AddsDimacs (prepared taken format check limit target) old done new t → Concludes t c u → IsProofIfOpen calling u →
-    opened ≡ opened_state u.proof → IsClosed {E = SolverError} taken opened (Ok back) →
+    (c : Conclusion) (opened : Option OpenState) → AddsDimacs (prepared taken format check limit target) old done new t → Concludes t c u →
+    IsProofIfOpen calling u → opened ≡ opened_state u.proof → IsClosed {E = SolverError} taken opened (Ok back) →
     DecidesProven taken format (allowed_steps limit) old new target back c
 proven {W = W} taken format check limit old new target back t u c opened adds finds has is closed =
     let s = prepared taken format check limit target in

@@ -1,12 +1,12 @@
 -- What is said of a clause or a list of assumptions whose names were looked at before they come into use.
-use Rattle.std.proofs.Common.{Err, ◌≡◌, true, List, None, ◌⊎◌, inl, inr, ⊎_elim, refl}
+use Rattle.std.proofs.Common.{Err, ◌≡◌, true, List, ◌⊎◌, inl, inr, ⊎_elim, refl}
 use Rattle.varisat_theory.specs.Literals.{Literal}
 use Rattle.varisat.specs.declared.solver.SolverError.{SolverError}
 use Rattle.varisat.specs.declared.solver.SolverError.TheVariants.{WitnessVar, VariableLimit}
 use Rattle.varisat.specs.OpenProofs.{BarsAssumptions}
 use Rattle.varisat.specs.States.{State}
 use Rattle.varisat.specs.Names.{name_all, NameNoWitness}
-use Rattle.varisat.specs.Calls.{IsPastLimit, IsCrowded, MayConstrain, IsExtensible, AddsClause, Assumes}
+use Rattle.varisat.specs.Calls.{IsPastLimit, IsCrowded, MayConstrain, MayAccept, AddsClause, Assumes, calling}
 use Rattle.varisat.specs.Summaries.{Summary, StandsFor}
 use Rattle.varisat.specs.Accepting.{CanBeNamed, ChecksNames, naming_of}
 use Rattle.varisat.proofs.CallStates.{stands-valid}
@@ -20,7 +20,7 @@ module _ (g : Summary) (s : State) (st : StandsFor g s) (valid : g.ledger.valid 
   limit-passed : IsPastLimit d ⊎ IsCrowded (name_all d (naming_of g.tables)) → IsPastLimit d ⊎ IsCrowded (name_all d s.naming)
   limit-passed c = let (w, k) = st.fits valid in ⊎_elim (λ a. inl a) (λ b. inr (crowded-state w g s k d b)) c
 
-  pub clause-refused : IsExtensible s → (e : SolverError) → ChecksNames g.tables d (Err e) → AddsClause s d (Err e) s
+  pub clause-refused : MayAccept calling s → (e : SolverError) → ChecksNames g.tables d (Err e) → AddsClause s d (Err e) s
   clause-refused n VariableLimit c = (stands-valid g s st valid, n, limit-passed c, refl)
   clause-refused n (WitnessVar u) c = let (w, k) = st.fits valid in (stands-valid g s st valid, n, c.0.in_range, witness-state w g s k d u c.1, refl)
   clause-refused n e c = absurd c

@@ -1,15 +1,15 @@
 -- What the calls of a run tell together.
-use Rattle.std.proofs.Common.{◌≡◌, ℕ, ◌+◌, ◌-◌, Bool, true, false, Option, None, List, [], ◌∷◌, ◌++◌, map, inl, inr, ⊎_elim, Result, Ok, Err, sym, ap, ◌∙◌, subst, refl, arith}
+use Rattle.std.proofs.Common.{◌≡◌, ℕ, ◌+◌, ◌-◌, Bool, true, false, Option, None, List, [], ◌∷◌, ◌++◌, map, inl, inr, Result, Ok, Err, sym, ap, ◌∙◌, subst, refl, arith}
 use Rattle.varisat_theory.specs.Literals.{Literal, Clause}
 use Rattle.std.specs.declared.alloc.AllocError.{AllocError}
 use Rattle.varisat_theory.specs.Journals.{Accepts, Assumes, LeadsBy}
 use Rattle.varisat_formula.specs.Dimacs.{Reading}
 use Rattle.varisat_formula.specs.Streams.{Stand, Taken}
 use Rattle.varisat.specs.States.{State, Ledger, empty_state}
-use Rattle.varisat.specs.Additions.{AllAdded, OneRefused, RefusedAtOnce, NoFault, MemoryFault, Fault, ClauseRefused, ClausesAdded, RefusedEarly, Read, Unread}
+use Rattle.varisat.specs.Additions.{AddsAll, TellsFault, AllAdded, OneRefused, RefusedAtOnce, NoFault, MemoryFault, Fault, ClauseRefused, ClausesAdded, RefusedEarly, Read, Unread}
 use Rattle.varisat.specs.Additions as additions
 use Rattle.varisat.specs.Usage as usage
-use Rattle.varisat.specs.ClauseCalls.{AddsAll, AddsDimacs, AddsFormula, TellsFault}
+use Rattle.varisat.specs.ClauseCalls.{AddsDimacs, AddsFormula}
 use Rattle.varisat.specs.Calls as state
 use Rattle.varisat.specs.Names.{Naming, Sample, Witness, set_mode, free_name, name_all, through_names}
 use Rattle.varisat.specs.Told.{told_list, told_vars}
@@ -27,7 +27,6 @@ use Rattle.varisat.specs.declared.solver.SolverError.{SolverError}
 use Rattle.varisat.specs.declared.solver.SolverError.TheVariants.{OutOfMemory, Invalid, ProofIoError, ClauseStoreFull, WitnessVar, AssumedVar, VariableLimit, ClauseAfterSolve, ProofOpen, ProofTooLate, Interrupted, ConfigOutOfRange}
 use Rattle.varisat_theory.proofs.Journals.{by_leads, by_leads_append}
 use Rattle.varisat.proofs.LikeStates.{same-ledger}
-use Rattle.varisat.proofs.VerdictAnswers.{is-unknown-or-not}
 use Rattle.varisat.proofs.ToldEntries.{tells-nothing, tells-through, tells, accepts-goes, assumes-goes}
 
 -- From a valid state steps were made, and as many clauses that lines added count at most.
@@ -93,7 +92,7 @@ add-clause s t d (Err VariableLimit) a w = tells-same s t a.3 w
 add-clause s t d (Err (WitnessVar u)) a w = tells-same s t a.4 w
 add-clause s t d (Err e) a w = absurd a
 
-add-all : (s t : State) (P : List Clause) (r : Result (Unit {0}) SolverError) → AddsAll s P r t → state.IsValid t → TellsOn s t
+add-all : (s t : State) (P : List Clause) (r : Result (Unit {0}) SolverError) → AddsAll state.calling s P r t → state.IsValid t → TellsOn s t
 add-all s t [] r a w = tells-same s t a.1 w
 add-all s t (c ∷ P) r (inl (mid, a, rest)) w = let second = add-all mid t P r rest w in through s mid t (add-clause s mid c (Ok tt) a second.valid) second
 add-all s t (c ∷ P) r (inr (e, k, a)) w = add-clause s t c (Err e) a w
@@ -103,7 +102,7 @@ add-formula s t P r (AllAdded v mid a e k) w = let second = tells-anew mid t k w
 add-formula s t P r (OneRefused v x e a) w = add-all s t P (Err x) a w
 add-formula s t P r (RefusedAtOnce e (v, k)) w = tells-same s t k w
 
-tell-fault : (s t : State) (x : Option DimacsError) (r : Result (Unit {0}) SolverError) → TellsFault x s r t → state.IsValid t → TellsOn s t
+tell-fault : (s t : State) (x : Option DimacsError) (r : Result (Unit {0}) SolverError) → TellsFault state.calling x s r t → state.IsValid t → TellsOn s t
 tell-fault s t x r (NoFault n e k) w = tells-anew s t k w
 tell-fault s t x r (MemoryFault y n m e b) w = absurd (no-way s t b w)
 tell-fault s t x r (Fault y n m e k) w = tells-same s t k w
@@ -158,33 +157,35 @@ assume-list s t list (Err e) a w = absurd a
 
 -- 3. Steps.
 
-solve : (s t : State) (r : Result Bool SolverError) → state.Solves s r t → state.IsValid t → TellsOn s t
+steps-made : (s t : State) (r : Result Bool SolverError) → state.CountsIf state.calling s r t →
+    t.ledger.steps ≡ s.ledger.steps + (t.ledger.steps - s.ledger.steps)
+steps-made s t r (state.Searched u k) = let c = k.count in omega (arith, c)
+steps-made s t r (state.Decided n e told) = omega (arith, e)
+
+solve : (s t : State) (r : Result Bool SolverError) → state.Solves state.calling s r t → state.IsValid t → TellsOn s t
 solve s t (Ok b) r w = record {
   valid = r.valid;
   made = t.ledger.steps - s.ledger.steps;
-  count = ⊎_elim (λ u. let c = (r.steps u).count in omega (arith, c)) (λ n. let c = (r.known n).1 in omega (arith, c)) (is-unknown-or-not s.verdict);
+  count = steps-made (state.once_searched s) t (Ok b) r.steps;
   told = r.told;
 }
-solve s t (Err OutOfMemory) (u, c, b) w = absurd (no-way (state.with_steps t.ledger.steps s) t b w)
-solve s t (Err ClauseStoreFull) (u, c, b, full) w = absurd (no-way (state.with_steps t.ledger.steps s) t b w)
-solve s t (Err (ProofIoError cause)) (o, c, inl (u, b)) w = absurd (no-way (state.with_steps t.ledger.steps s) t b w)
-solve s t (Err (ProofIoError cause)) (o, c, inr b) w = absurd (no-way (state.with_steps t.ledger.steps (state.once_searched s)) t b w)
 solve s t (Err Interrupted) r w = record {
   valid = r.valid;
   made = t.ledger.steps - s.ledger.steps;
   count = let c = r.steps.count in omega (arith, c);
   told = r.told;
 }
+solve s t (Err OutOfMemory) a w = absurd (no-way (state.with_steps t.ledger.steps s) t a.2 w)
+solve s t (Err ClauseStoreFull) (a, full) w = absurd (no-way (state.with_steps t.ledger.steps s) t a.2 w)
+solve s t (Err (ProofIoError cause)) (o, inl a) w = absurd (no-way (state.with_steps t.ledger.steps s) t a.2 w)
+solve s t (Err (ProofIoError cause)) (o, inr a) w = absurd (no-way (state.with_steps t.ledger.steps (state.once_searched s)) t a.1 w)
 solve s t (Err Invalid) a w = tells-same s t a.1 w
 solve s t (Err e) a w = absurd a
 
-tell-model : (s t : State) (r : Result (Option (List Literal)) AllocError) → state.TellsModel s r t → state.IsValid t → TellsOn s t
-tell-model s t (Ok m) a w = tells-same s t a.1 w
-tell-model s t (Err e) a w = tells-same s t a.2 w
-
-tell-core : (s t : State) (r : Result (Option (List Literal)) AllocError) → state.TellsCore s r t → state.IsValid t → TellsOn s t
-tell-core s t (Ok m) a w = tells-same s t a.1 w
-tell-core s t (Err e) a w = tells-same s t a.2 w
+tell-list : (may : Option (List Literal) → Type 0) (s t : State) (r : Result (Option (List Literal)) AllocError) → state.TellsList may s r t →
+    state.IsValid t → TellsOn s t
+tell-list may s t (Ok m) a w = tells-same s t a.1 w
+tell-list may s t (Err e) a w = tells-same s t a.2 w
 
 config : (s t : State) (u : SolverConfigUpdate) (r : Result (Unit {0}) SolverError) → state.Configures s u r t → state.IsValid t → TellsOn s t
 config s t u (Ok x) (v, n, e) w = tells-plainly s t v (ap (λ (x : State). x.ledger.steps) e)
@@ -232,8 +233,8 @@ call-tells seen taken (call.HideVar u) (answer.HideVar r) s t m w = changes-var 
 call-tells seen taken call.ObserveInternalVars (answer.ObserveInternalVars r) s t m w = observe s t (told_vars r) m w
 call-tells seen taken (call.Assume list) (answer.Assume r) s t m w = assume-list s t list.items r m w
 call-tells seen taken call.Solve (answer.Solve r) s t m w = solve s t r m w
-call-tells seen taken call.Model (answer.Model r) s t m w = tell-model s t (told_list r) m w
-call-tells seen taken call.FailedCore (answer.FailedCore r) s t m w = tell-core s t (told_list r) m w
+call-tells seen taken call.Model (answer.Model r) s t m w = tell-list (state.calling.model s) s t (told_list r) m w
+call-tells seen taken call.FailedCore (answer.FailedCore r) s t m w = tell-list (state.calling.core s) s t (told_list r) m w
 call-tells seen taken (call.Config u) (answer.Config r) s t m w = config s t u r m w
 call-tells seen taken call.Steps (answer.Steps n) s t m w = tells-same s t m.1 w
 call-tells seen taken call.StepsSinceChange (answer.StepsSinceChange n) s t m w = tells-same s t m.2 w

@@ -9,18 +9,17 @@ use Rattle.varisat_theory.proofs.Journals.{goes_on_further}
 use Rattle.varisat_theory.proofs.NewClauses.{goes_adding_none, goes_adding_further}
 use Rattle.varisat_names.specs.Settings.{Settings}
 use Rattle.varisat.specs.Budgets.{CountsSteps}
-use Rattle.varisat.specs.Calls.{TellsVerdict, IsInterrupted, Invalidates, IsStoreFull, Searches, with_steps, with_max_steps, with_verdict}
+use Rattle.varisat.specs.Calls.{calling, CountsIf, Decided, Searched, TellsVerdict, IsSpent, FailsStep, Invalidates, IsStoreFull, Searches, with_steps, with_max_steps, with_verdict}
 use Rattle.varisat.specs.Journals.{retold, TellsMore, AreDerived}
 use Rattle.varisat.specs.Names.{Naming}
 use Rattle.varisat.specs.OpenProofs.{GoesOnWriting, lines_over}
-use Rattle.varisat.specs.States.{State, Ledger, Unknown}
+use Rattle.varisat.specs.States.{State, Ledger, Unknown, Unsat}
 use Rattle.varisat.specs.declared.solver.SolverError.{SolverError}
 use Rattle.varisat.specs.declared.solver.SolverError.TheVariants.{Interrupted, ProofIoError, OutOfMemory, Invalid, ClauseStoreFull, WitnessVar, VariableLimit, AssumedVar, ClauseAfterSolve, ProofOpen, ProofTooLate, ConfigOutOfRange, Dimacs}
 use Rattle.varisat.proofs.LikeStates.{same-assumptions, same-by, same-clauses, same-counted, same-hidden, same-ledger, same-naming, same-verdict}
 use Rattle.varisat.proofs.CallStates.{ledger-is}
 use Rattle.varisat.proofs.OpenProofs.{goes-on-none, goes-on-through, goes-on-failing, open-before}
 use Rattle.varisat.proofs.ToldEntries.{tells-nothing, nothing-derived, stays-nothing, derived-through, ends-through}
-use Rattle.varisat.proofs.VerdictAnswers.{is-unknown-or-not}
 
 -- 1. Searches that were interrupted.
 
@@ -127,7 +126,7 @@ adds-further k zero told es fs z g h =
 adds-further k (suc m) told es fs z g h = goes_adding_further k (suc m) told es fs (λ e. let x : suc m ≡ 0 = e in absurd cc) g h
 
 -- One more was interrupted.
-pub goes-on : (k a : ℕ) (s m t : State) → WentOn a s m → IsInterrupted (with_max_steps k m) t → t.ledger.steps < 2 ^ 64 → WentOn (a + k) s t
+pub goes-on : (k a : ℕ) (s m t : State) → WentOn a s m → IsSpent calling (with_max_steps k m) t → t.ledger.steps < 2 ^ 64 → WentOn (a + k) s t
 unfolding counts-on
 goes-on k a s m t w e small =
     let c = e.steps in
@@ -215,7 +214,7 @@ counts-low n k since before after r c = let x = c.count in omega (arith, x)
 -- all of them were interrupted, and there was one
 all-interrupted : (n : ℕ) (s t : State) → WentOn n s t → s.ledger.valid ≡ true → s.verdict ≡ Unknown →
     CountsSteps (length s.counted) n s.ledger.since s.ledger.steps t.ledger.steps (Err Interrupted) →
-    IsInterrupted (with_max_steps n s) (with_max_steps n t)
+    IsSpent calling (with_max_steps n s) (with_max_steps n t)
 all-interrupted n s t w valid unknown counts =
     let count = w.count in
     let same : w.made ≡ t.ledger.steps - s.ledger.steps = omega (arith, count) in
@@ -242,21 +241,40 @@ all-interrupted n s t w valid unknown counts =
       still = λ e. ap (λ (x : State). with_max_steps n x) (w.still (omega (arith, count, e)));
     }
 
+-- the steps are counted alike
+steps-on : (k n a : ℕ) (s m t : State) (r : Result Bool SolverError) → WentOn a s m → a + k ≤ n → (r ≡ Err Interrupted → a + k ≡ n) → t.ledger.steps < 2 ^ 64 →
+    CountsIf calling (with_max_steps k m) r t → CountsIf calling (with_max_steps n s) r (with_max_steps n t)
+steps-on k n a s m t r w least all small (Searched u c) =
+    Searched (sym w.verdict ∙ u) (counts-on k a n s m t.ledger.steps r w c least all small)
+steps-on k n a s m t r w least all small (Decided x e told) =
+    let none = w.known (was x) in
+    let count = w.count in
+    Decided (inl (was x)) (omega (arith, e, none, count)) (λ v. told v ∙ ap (λ (y : State). y.told) (w.still none))
+  where
+    was : (m.verdict ≢ Unknown) ⊎ (m.verdict ≡ Unsat) → s.verdict ≢ Unknown
+    was (inl d) u = d (w.verdict ∙ u)
+    was (inr d) u = let z : Unsat ≡ Unknown = sym d ∙ w.verdict ∙ u in cc
+
+steps-low : (s t : State) (r : Result Bool SolverError) → CountsIf calling s r t → s.ledger.steps ≤ t.ledger.steps
+steps-low s t r (Searched u c) = counts-low _ _ _ _ _ r c
+steps-low s t r (Decided n e told) = omega (arith, e)
+
 -- a verdict is returned
 verdict-on : (k n a : ℕ) (s m t : State) (b : Bool) → WentOn a s m → a + k ≤ n → t.ledger.steps < 2 ^ 64 →
-    TellsVerdict (with_max_steps k m) b t → TellsVerdict (with_max_steps n s) b (with_max_steps n t)
+    TellsVerdict calling (with_max_steps k m) b t → TellsVerdict calling (with_max_steps n s) b (with_max_steps n t)
 verdict-on k n a s m t b w least small v =
+    let low = steps-low (with_max_steps k m) t (Ok b) v.steps in
     record {
       valid = sym w.valid ∙ v.valid;
-      known = λ z.
-          let (x, y, same) = v.known (λ u. z (sym w.verdict ∙ u)) in
-          let none = w.known z in
-          let count = w.count in
-          (x ∙ w.verdict, omega (arith, y, none, count), same ∙ ap (λ (x : State). x.told) (w.still none));
-      steps = λ u. counts-on k a n s m t.ledger.steps (Ok b) w (v.steps (w.verdict ∙ u)) least
-          (λ e. let z : Ok b ≡ Err Interrupted = e in absurd cc) small;
-      answer = v.answer;
-      right = v.right;
+      steps = steps-on k n a s m t (Ok b) w least (λ e. let z : Ok b ≡ Err Interrupted = e in absurd cc) small v.steps;
+      right = record {
+        known = λ z. v.right.known (λ u. z (sym w.verdict ∙ u)) ∙ w.verdict;
+        answer = v.right.answer;
+        right = v.right.right;
+        ends = λ u. ends-through w.told.entries v.told.entries t.verdict w.derived (v.right.ends (w.verdict ∙ u));
+        refuted = v.right.refuted;
+        core = v.right.core;
+      };
       rest = record {
         same = same-by (retold t.told (with_verdict t.verdict (with_steps t.ledger.steps (with_max_steps n s)))) (with_max_steps n t)
             (same-naming v.rest ∙ w.naming) (same-hidden v.rest ∙ w.ever_hidden) (same-clauses v.rest ∙ w.clauses)
@@ -276,13 +294,16 @@ verdict-on k n a s m t b w least small v =
             (goes_on_further w.made (t.ledger.steps - m.ledger.steps) s.told w.told.entries v.told.entries w.told.goes
             (subst (λ x. GoesOn (t.ledger.steps - m.ledger.steps) x v.told.entries) w.told.joined v.told.goes));
       };
-      ends = λ u. ends-through w.told.entries v.told.entries t.verdict w.derived (v.ends (w.verdict ∙ u));
-      refuted = v.refuted;
-      core = v.core;
     }
-  where
-    low : m.ledger.steps ≤ t.ledger.steps
-    low = ⊎_elim (λ u. counts-low _ _ _ _ _ (Ok b) (v.steps u)) (λ u. let x = (v.known u).1 in omega (arith, x)) (is-unknown-or-not m.verdict)
+
+-- a step fails
+step-on : (faults k n a : ℕ) (s m t : State) (e : SolverError) → WentOn a s m → a + k ≤ n → (e ≡ Interrupted → a + k ≡ n) →
+    t.ledger.steps < 2 ^ 64 → FailsStep calling faults (with_max_steps k m) e t → FailsStep calling faults (with_max_steps n s) e (with_max_steps n t)
+step-on faults k n a s m t e w least all small (u, c, i) = (
+  sym w.verdict ∙ u,
+  counts-on k a n s m t.ledger.steps (Err e) w c least (λ z. let same : e ≡ Interrupted = cc in all same) small,
+  invalid-on faults k n a s m t w (counts-low _ _ _ _ _ (Err e) c) i,
+)
 
 -- Searches that were interrupted and then one more come to what one search comes to.
 pub comes-to : (k n a : ℕ) (s m t : State) (r : Result Bool SolverError) → WentOn a s m → Searches (with_max_steps k m) r t → a + k ≤ n →
@@ -294,22 +315,14 @@ comes-to k n a s m t (Err Interrupted) w h least all small =
     (counts-on k a n s m t.ledger.steps (Err Interrupted) w h.steps least all small)
 comes-to k n a s m t (Err Invalid) w (v, e) least all small =
     (sym w.valid ∙ v, ap (λ (x : State). with_max_steps n x) (e ∙ ap (λ (x : State). with_max_steps k x) (w.refused (sym w.valid ∙ v))))
-comes-to k n a s m t (Err OutOfMemory) w (u, c, i) least all small = (
-  sym w.verdict ∙ u,
-  counts-on k a n s m t.ledger.steps (Err OutOfMemory) w c least (λ e. absurd cc) small,
-  invalid-on 0 k n a s m t w (counts-low _ _ _ _ _ (Err OutOfMemory) c) i,
-)
-comes-to k n a s m t (Err ClauseStoreFull) w (u, c, i, full) least all small = (
-  sym w.verdict ∙ u,
-  counts-on k a n s m t.ledger.steps (Err ClauseStoreFull) w c least (λ e. absurd cc) small,
-  invalid-on 0 k n a s m t w (counts-low _ _ _ _ _ (Err ClauseStoreFull) c) i,
+comes-to k n a s m t (Err OutOfMemory) w h least all small = step-on 0 k n a s m t OutOfMemory w least (λ e. absurd cc) small h
+comes-to k n a s m t (Err ClauseStoreFull) w (h, full) least all small = (
+  step-on 0 k n a s m t ClauseStoreFull w least (λ e. absurd cc) small h,
   subst (λ (named : Naming). IsStoreFull named.made (with_max_steps n t)) w.naming full,
 )
-comes-to k n a s m t (Err (ProofIoError cause)) w (o, u, c, i) least all small = (
+comes-to k n a s m t (Err (ProofIoError cause)) w (o, h) least all small = (
   open-before s.proof m.proof w.proof o,
-  sym w.verdict ∙ u,
-  counts-on k a n s m t.ledger.steps (Err (ProofIoError cause)) w c least (λ e. absurd cc) small,
-  invalid-on 1 k n a s m t w (counts-low _ _ _ _ _ (Err (ProofIoError cause)) c) i,
+  step-on 1 k n a s m t (ProofIoError cause) w least (λ e. absurd cc) small h,
 )
 comes-to k n a s m t (Err (WitnessVar u)) w h least all small = absurd h
 comes-to k n a s m t (Err VariableLimit) w h least all small = absurd h

@@ -1,7 +1,7 @@
 -- A hidden variable comes back under a free name, and what is said of those that stay hidden.
-use Rattle.std.proofs.Common.{◌≡◌, ℕ, ◌+◌, ◌<◌, max, true, false, Some, None, inl, inr, ⊎_elim, sym, ap, ◌∙◌, subst, refl, arith}
+use Rattle.std.proofs.Common.{◌≡◌, ◌⊎◌, ℕ, ◌+◌, ◌<◌, max, true, false, List, Some, None, inl, inr, ⊎_elim, sym, ap, ◌∙◌, subst, refl, arith}
 use Rattle.varisat_theory.specs.Membership.{◌∈◌}
-use Rattle.varisat_theory.specs.Literals.{Literal, variable_of}
+use Rattle.varisat_theory.specs.Literals.{Literal, Clause, Assignment, variable_of, SatisfiesAll}
 use Rattle.varisat_names.specs.Maps.{updated, onward, chain}
 use Rattle.varisat_names.specs.declared.variables.data.VarData.{VarData}
 use Rattle.varisat_names.specs.declared.variables.data.SamplingMode.TheVariants as sampling
@@ -9,9 +9,8 @@ use Rattle.varisat_names.proofs.Maps.{updated-at, updated-other, updated-all, jo
 use Rattle.varisat.specs.States.{State, IsWellFormed}
 use Rattle.varisat.specs.Names.{Witness, give_name, IsUnnamed}
 use Rattle.varisat.specs.Calls.{with_naming}
-use Rattle.varisat.specs.Usage.{LetStayHidden}
 use Rattle.varisat_tracer.specs.Carried.{carry}
-use Rattle.varisat.specs.Spaces.{Spaces, Carrying, ModeFits, NamesFit, ModesFit, IsolationCase, NotIsolated, Apart, Forced, AssumptionsFit, MarksFit, Links}
+use Rattle.varisat.specs.Spaces.{Spaces, Carrying, IsApart, ModeFits, NamesFit, ModesFit, IsolationCase, NotIsolated, Apart, Forced, AssumptionsFit, MarksFit, Links}
 use Rattle.varisat.proofs.SpacesAgree.{identities-same, units-same, isolation-same, carry-same, map-same, core-same}
 use Rattle.varisat.proofs.VariableMoves.{in_mode, show}
 use Rattle.varisat.proofs.HiddenStates.{field-same}
@@ -141,6 +140,10 @@ module _ (w : Carrying) (p : Spaces) (s : State) (u x i : ℕ) (k : Links w p s)
     told = k.told;
     checked = k.checked;
   }
+
+-- No wide clause names the identity, or all assignments that satisfy the clauses agree on it.
+abbrev pub LetStayHidden : List Clause → ℕ → Type 0
+LetStayHidden P i = IsApart P i ⊎ ((a b : Assignment) → SatisfiesAll a P → SatisfiesAll b P → a i ≡ b i)
 
 -- Where each live variable has a name, an identity without one may stay hidden.
 pub may-stay : (w : Carrying) (p : Spaces) (s : State) → Links w p s → ((x : ℕ) → p.user_from_global x ≡ None → (p.kept x).deleted ≡ true) →

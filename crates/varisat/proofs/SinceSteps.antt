@@ -1,5 +1,5 @@
 -- A search comes on: by steps, by propagation between them, and as variables leave it.
-use Rattle.std.proofs.Common.{◌≡◌, ◌≢◌, ℕ, zero, suc, ◌+◌, ◌-◌, ◌*◌, ◌^◌, ◌<◌, ◌≤◌, ◌↔◌, Bool, true, false, not, ◌||◌, nat_eq, eq-eqb, if◌then◌else◌, Some, None, List, [], ◌∷◌, ◌++◌, length, map, get_or, replicate, inl, inr, ⊎_elim, refl, sym, ap, ◌∙◌, subst, arith, pow_pos, append_assoc}
+use Rattle.std.proofs.Common.{◌≡◌, ◌≢◌, ℕ, zero, suc, ◌+◌, ◌-◌, ◌*◌, ◌^◌, ◌<◌, ◌≤◌, ◌↔◌, Bool, true, false, not, ◌||◌, nat_eq, eq-eqb, if◌then◌else◌, Some, None, List, [], ◌∷◌, ◌++◌, length, map, get_or, replicate, inl, inr, ⊎_elim, refl, sym, ap, ◌∙◌, subst, arith, append_assoc}
 use Rattle.std.specs.Prelude.{cond}
 use Rattle.std.specs.List.{filter}
 use Rattle.std.proofs.lemmas.List.{length-map, length-append, length-replicate, replicate-append-replicate}

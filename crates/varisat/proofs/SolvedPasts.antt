@@ -5,41 +5,52 @@ use Rattle.varisat_theory.specs.Membership.{◌⊆◌}
 use Rattle.varisat_theory.specs.Literals.{Literal, SatisfiesAll, MakesTrue, IsSatisfiable, IsSatisfiableWith}
 use Rattle.varisat_proof.specs.Passing.{ToldConflict}
 use Rattle.varisat_proof.specs.Assumed.{lists_of}
-use Rattle.varisat.specs.States.{State, Verdict, Unknown, Sat, Unsat, UnsatUnderAssumptions, IsRight}
-use Rattle.varisat.specs.Journals.{retold, EndBy}
-use Rattle.varisat.specs.Calls as state
-use Rattle.varisat.specs.Calls.{CountsIf, Decided, Searched, FailsSearch, FailsTarget, IsSpent, with_steps, with_verdict, once_searched, answer_of}
+use Rattle.varisat.specs.States.{State, Ledger, Verdict, Unknown, Sat, Unsat, UnsatUnderAssumptions, IsRight}
+use Rattle.varisat.specs.Journals.{retold, AreDerived, EndBy}
+use Rattle.varisat.specs.Calls.{calling, CountsIf, Decided, Searched, TellsVerdict, IsSpent, FailsStep, Solves, with_steps, with_verdict, once_searched, answer_of}
 use Rattle.varisat.specs.Pasts as past
-use Rattle.varisat.specs.Pasts.{Findings, IsUndecided, answered}
+use Rattle.varisat.specs.Pasts.{Findings, IsAnswer, TellsFalse, telling}
 use Rattle.varisat.specs.declared.solver.SolverError.{SolverError}
 use Rattle.varisat.specs.declared.solver.SolverError.TheVariants.{Interrupted, ProofIoError, OutOfMemory, Invalid, ClauseStoreFull}
-use Rattle.varisat.proofs.LikeStates.{same-assumptions, same-clauses, same-counted, same-naming, same-verdict}
+use Rattle.varisat.proofs.LikeStates.{same-assumptions, same-clauses, same-counted, same-ledger, same-naming, same-verdict}
 use Rattle.varisat.proofs.VerdictAnswers.{is-unknown-or-not, answer-sat, right-false}
-use Rattle.varisat.proofs.PastJournals.{told-more, told-interrupted, said-nothing, nothing-said}
+use Rattle.varisat.proofs.PastJournals.{told-more, told-interrupted, nothing-said}
 use Rattle.varisat.proofs.GivenEntries.{lists-derived, lists-ended, lists-on}
 use Rattle.varisat.proofs.Pasts.{IsCapped, Knows, Agrees, Leads, past_of, like-past, broken-past, breaks, stays, refuted, right-like}
 
+-- the findings once the answer was returned
+abbrev answered : Bool → Findings → Findings
+answered b v = record v { has_model = b; has_core = not b }
+
+-- nothing is told where the verdict was known
+same-told : (s t : State) (b : Bool) → TellsVerdict calling s b t → s.verdict ≢ Unknown → t.told ≡ s.told
+same-told s t b r n = go r.steps
+  where
+    go : CountsIf calling s (Ok b) t → t.told ≡ s.told
+    go (Searched u c) = absurd (n u)
+    go (Decided k steps told) = told (ap (λ (l : Ledger). l.valid) (same-ledger r.rest) ∙ r.valid)
+
 -- no list of assumptions is given by a call that solves
-lists-solved : (s t : State) (b : Bool) → state.TellsVerdict s b t → lists_of t.told ≡ lists_of s.told
+lists-solved : (s t : State) (b : Bool) → TellsVerdict calling s b t → lists_of t.told ≡ lists_of s.told
 lists-solved s t b r = ⊎_elim
-    (λ u. lists-on s.told t.told r.told (lists-ended t.verdict r.told.entries (r.ends u)))
-    (λ n. ap lists_of (r.known n).2)
+    (λ u. lists-on s.told t.told r.told (lists-ended t.verdict r.told.entries (r.right.ends u)))
+    (λ n. ap lists_of (same-told s t b r n))
     (is-unknown-or-not s.verdict)
 
 -- what is known behind an answer
-solved : (v : Findings) (s t : State) (b : Bool) → Knows v s → state.TellsVerdict (once_searched s) b t → Knows (answered b v) t
+solved : (v : Findings) (s t : State) (b : Bool) → Knows v s → TellsVerdict calling (once_searched s) b t → Knows (answered b v) t
 solved v s t b k r =
     let e = r.rest in
     record {
       capped = subst IsCapped (sym (same-naming e)) k.capped;
       lists = lists-solved (once_searched s) t b r ∙ k.lists;
-      model = λ x. r.answer ∙ ap Some x;
-      found = λ x. told-true b (sym r.answer ∙ x);
-      failed = λ x. r.answer ∙ ap Some (not-true b x);
-      core = λ l h. told-false b (sym r.answer ∙ ap answer_of h);
-      some = r.core;
+      model = λ x. r.right.answer ∙ ap Some x;
+      found = λ x. told-true b (sym r.right.answer ∙ x);
+      failed = λ x. r.right.answer ∙ ap Some (not-true b x);
+      core = λ l h. told-false b (sym r.right.answer ∙ ap answer_of h);
+      some = r.right.core;
       told = told-more (t.ledger.steps - s.ledger.steps) s.told t.told v.interrupted_steps k.told r.told;
-      right = r.right;
+      right = r.right.right;
     }
   where
     told-true : (b : Bool) → Some b ≡ Some true → b ≡ true
@@ -49,46 +60,44 @@ solved v s t b k r =
     told-false b e = let z : b ≡ false = cc in ap not z
 
 -- neither a model nor a core was found last where the verdict is unknown
-undecided : (v : Findings) (s : State) → Knows v s → s.verdict ≡ Unknown → IsUndecided (past_of v s)
-undecided v s k u = record {
-  no_model = false_from_ne_true v.has_model (λ e. let z : None ≡ Some true = ap answer_of (sym u) ∙ k.model e in cc);
-  no_core = false_from_ne_true v.has_core (λ e. let z : None ≡ Some false = ap answer_of (sym u) ∙ k.failed e in cc);
-}
+undecided : (v : Findings) (s : State) → Knows v s → s.verdict ≡ Unknown → (v.has_model ≡ false) × (v.has_core ≡ false)
+undecided v s k u = (
+  false_from_ne_true v.has_model (λ e. let z : None ≡ Some true = ap answer_of (sym u) ∙ k.model e in cc),
+  false_from_ne_true v.has_core (λ e. let z : None ≡ Some false = ap answer_of (sym u) ∙ k.failed e in cc),
+)
 
 -- and where it is known a model or a core was, or no assignment satisfies the clauses
-known-by : (v : Findings) (s : State) → Knows v s → s.verdict ≢ Unknown → (v.has_model ≡ true) ⊎ ((v.has_core ≡ true) ⊎ (IsSatisfiable s.clauses → ⊥))
+known-by : (v : Findings) (s : State) → Knows v s → (s.verdict ≢ Unknown) ⊎ (s.verdict ≡ Unsat) →
+    ((v.has_model ≡ false) × (v.has_core ≡ false) → ⊥) ⊎ (IsSatisfiable s.clauses → ⊥)
 known-by v s k n = go s.verdict refl
   where
-    go : (x : Verdict) → s.verdict ≡ x → (v.has_model ≡ true) ⊎ ((v.has_core ≡ true) ⊎ (IsSatisfiable s.clauses → ⊥))
-    go Unknown e = absurd (n e)
-    go (Sat a) e = inl (k.found (ap answer_of e))
-    go Unsat e = inr (inr (refuted v s k e))
-    go (UnsatUnderAssumptions core) e = inr (inl (k.core core e))
+    go : (x : Verdict) → s.verdict ≡ x → ((v.has_model ≡ false) × (v.has_core ≡ false) → ⊥) ⊎ (IsSatisfiable s.clauses → ⊥)
+    go Unknown e = absurd (⊎_elim (λ d. d e) (λ d. let z : Unknown ≡ Unsat = sym e ∙ d in cc) n)
+    go (Sat a) e = inl (λ (m, c). let z : true ≡ false = sym (k.found (ap answer_of e)) ∙ m in cc)
+    go Unsat e = inr (refuted v s k e)
+    go (UnsatUnderAssumptions core) e = inl (λ (m, c). let z : true ≡ false = sym (k.core core e) ∙ c in cc)
 
 -- how the steps are counted of a call whether or not the verdict is known
-counted-if : (v w : Findings) (s t : State) (r : Result Bool SolverError) → Knows v s → CountsIf (s.verdict ≢ Unknown) (s.verdict ≡ Unknown) s r t →
-    past.CountsSearch (past_of v s) r (past_of w t)
+counted-if : (v w : Findings) (s t : State) (r : Result Bool SolverError) → Knows v s → CountsIf calling s r t →
+    CountsIf telling (past_of v s) r (past_of w t)
 counted-if v w s t r k (Searched u c) = Searched (undecided v s k u) c
 counted-if v w s t r k (Decided n e told) = Decided (known-by v s k n) e told
 
 -- and of one that returns a verdict
-counted : (v w : Findings) (s t : State) (b : Bool) → Knows v s → state.TellsVerdict (once_searched s) b t →
-    past.CountsSearch (past_of v s) (Ok b) (past_of w t)
-counted v w s t b k r =
-    ⊎_elim
-    (λ u. Searched (undecided v s k u) (r.steps u))
-    (λ n. let (x, steps, told) = r.known n in Decided (known-by v s k n) steps (λ c. told))
-    (is-unknown-or-not s.verdict)
+counted : (v w : Findings) (s t : State) (r : Result Bool SolverError) → Knows v s → CountsIf calling (once_searched s) r t →
+    CountsIf telling (once_searched (past_of v s)) r (past_of w t)
+counted v w s t r k (Searched u c) = Searched (undecided v s k u) c
+counted v w s t r k (Decided n e told) = Decided (known-by v s k n) e told
 
 -- some assignment satisfies the clauses and the assumptions where true is returned
-some-with : (s t : State) → state.TellsVerdict (once_searched s) true t → IsSatisfiableWith s.clauses s.assumptions
+some-with : (s t : State) → TellsVerdict calling (once_searched s) true t → IsSatisfiableWith s.clauses s.assumptions
 some-with s t r =
-    let (a, e) = answer-sat t.verdict r.answer in
-    let right = subst (IsRight t.clauses t.assumptions t.counted) e r.right in
+    let (a, e) = answer-sat t.verdict r.right.answer in
+    let right = subst (IsRight t.clauses t.assumptions t.counted) e r.right.right in
     (a, subst (SatisfiesAll a) (same-clauses r.rest) right.0, subst (MakesTrue a) (same-assumptions r.rest) right.1)
 
 -- what was told refutes where false is returned and nothing assumed
-conflict-told : (s t : State) → state.TellsVerdict (once_searched s) false t → s.assumptions ≡ [] → ToldConflict t.told
+conflict-told : (s t : State) → TellsVerdict calling (once_searched s) false t → s.assumptions ≡ [] → ToldConflict t.told
 conflict-told s t r n = go t.verdict refl
   where
     none : (list : List Literal) → list ⊆ [] → list ≡ []
@@ -96,54 +105,61 @@ conflict-told s t r n = go t.verdict refl
     none (l ∷ list) h = absurd (h l (inl refl))
 
     go : (v : Verdict) → t.verdict ≡ v → ToldConflict t.told
-    go Unknown e = absurd (let z : None ≡ Some false = ap answer_of (sym e) ∙ r.answer in cc)
-    go (Sat a) e = absurd (let z : Some true ≡ Some false = ap answer_of (sym e) ∙ r.answer in let y : true ≡ false = cc in cc)
-    go Unsat e = r.refuted e
+    go Unknown e = absurd (let z : None ≡ Some false = ap answer_of (sym e) ∙ r.right.answer in cc)
+    go (Sat a) e = absurd (let z : Some true ≡ Some false = ap answer_of (sym e) ∙ r.right.answer in let y : true ≡ false = cc in cc)
+    go Unsat e = r.right.refuted e
     go (UnsatUnderAssumptions list) e =
-        let fails = subst (IsRight t.clauses t.assumptions t.counted) e r.right in
-        absurd (r.core list e (none list (subst (λ A. list ⊆ A) ((same-assumptions r.rest) ∙ n) fails.0)))
+        let fails = subst (IsRight t.clauses t.assumptions t.counted) e r.right.right in
+        absurd (r.right.core list e (none list (subst (λ A. list ⊆ A) ((same-assumptions r.rest) ∙ n) fails.0)))
 
 -- and none does where false is
-none-with : (s t : State) → state.TellsVerdict (once_searched s) false t → IsSatisfiableWith s.clauses s.assumptions → ⊥
+none-with : (s t : State) → TellsVerdict calling (once_searched s) false t → IsSatisfiableWith s.clauses s.assumptions → ⊥
 none-with s t r =
     subst (λ P. IsSatisfiableWith P s.assumptions → ⊥) (same-clauses r.rest)
-    (subst (λ A. IsSatisfiableWith t.clauses A → ⊥) (same-assumptions r.rest) (right-false t.clauses t.assumptions t.counted t.verdict r.answer r.right))
+    (subst (λ A. IsSatisfiableWith t.clauses A → ⊥) (same-assumptions r.rest)
+    (right-false t.clauses t.assumptions t.counted t.verdict r.right.answer r.right.right))
+
+-- nothing is told where the verdict was known, so what is told are lines and variables that leave
+nothing-told : (s t : State) (b : Bool) (r : TellsVerdict calling (once_searched s) b t) → s.verdict ≢ Unknown → AreDerived r.told.entries
+nothing-told s t b r n = nothing-said r.told (same-told (once_searched s) t b r n)
 
 -- what is told where true is returned
-tells-true : (v w : Findings) (s t : State) → state.TellsVerdict (once_searched s) true t → past.TellsTrue (past_of v s) (past_of w t)
-tells-true v w s t r = go t.verdict refl (is-unknown-or-not s.verdict)
+tells-true : (s t : State) (r : TellsVerdict calling (once_searched s) true t) → AreDerived r.told.entries
+tells-true s t r = go t.verdict refl (is-unknown-or-not s.verdict)
   where
-    go : (x : Verdict) → t.verdict ≡ x → (s.verdict ≡ Unknown) ⊎ (s.verdict ≢ Unknown) → past.TellsTrue (past_of v s) (past_of w t)
-    go x e (inr n) =
-        let nothing = (r.known n).2 in
-        let more = t.ledger.steps - s.ledger.steps in
-        (said-nothing more s.told t.told nothing, nothing-said more s.told t.told nothing)
-    go Unknown e (inl u) = absurd (let z : None ≡ Some true = ap answer_of (sym e) ∙ r.answer in cc)
-    go (Sat a) e (inl u) = (r.told, subst (λ v. EndBy v r.told.entries) e (r.ends u))
-    go Unsat e (inl u) = absurd (let z : Some false ≡ Some true = ap answer_of (sym e) ∙ r.answer in let y : false ≡ true = cc in cc)
+    go : (x : Verdict) → t.verdict ≡ x → (s.verdict ≡ Unknown) ⊎ (s.verdict ≢ Unknown) → AreDerived r.told.entries
+    go x e (inr n) = nothing-told s t true r n
+    go Unknown e (inl u) = absurd (let z : None ≡ Some true = ap answer_of (sym e) ∙ r.right.answer in cc)
+    go (Sat a) e (inl u) = subst (λ v. EndBy v r.told.entries) e (r.right.ends u)
+    go Unsat e (inl u) = absurd (let z : Some false ≡ Some true = ap answer_of (sym e) ∙ r.right.answer in let y : false ≡ true = cc in cc)
     go (UnsatUnderAssumptions core) e (inl u) =
-        absurd (let z : Some false ≡ Some true = ap answer_of (sym e) ∙ r.answer in let y : false ≡ true = cc in cc)
+        absurd (let z : Some false ≡ Some true = ap answer_of (sym e) ∙ r.right.answer in let y : false ≡ true = cc in cc)
 
 -- and where false is
-tells-false : (v w : Findings) (s t : State) → Knows v s → state.TellsVerdict (once_searched s) false t → past.TellsFalse (past_of v s) (past_of w t)
+tells-false : (v w : Findings) (s t : State) → Knows v s → (r : TellsVerdict calling (once_searched s) false t) →
+    TellsFalse (once_searched (past_of v s)) r.told.entries (past_of w t)
 tells-false v w s t k r = go t.verdict refl (is-unknown-or-not s.verdict)
   where
-    go : (x : Verdict) → t.verdict ≡ x → (s.verdict ≡ Unknown) ⊎ (s.verdict ≢ Unknown) → past.TellsFalse (past_of v s) (past_of w t)
-    go Unknown e c = absurd (let z : None ≡ Some false = ap answer_of (sym e) ∙ r.answer in cc)
-    go (Sat a) e c = absurd (let z : Some true ≡ Some false = ap answer_of (sym e) ∙ r.answer in let y : true ≡ false = cc in cc)
-    go Unsat e (inl u) = past.Refuted r.told (subst (λ v. EndBy v r.told.entries) e (r.ends u)) (r.refuted e)
-    go Unsat e (inr n) =
-        let nothing = (r.known n).2 in
-        let more = t.ledger.steps - s.ledger.steps in
-        past.Refuted (said-nothing more s.told t.told nothing) (nothing-said more s.told t.told nothing) (r.refuted e)
+    go : (x : Verdict) → t.verdict ≡ x → (s.verdict ≡ Unknown) ⊎ (s.verdict ≢ Unknown) →
+        TellsFalse (once_searched (past_of v s)) r.told.entries (past_of w t)
+    go Unknown e c = absurd (let z : None ≡ Some false = ap answer_of (sym e) ∙ r.right.answer in cc)
+    go (Sat a) e c = absurd (let z : Some true ≡ Some false = ap answer_of (sym e) ∙ r.right.answer in let y : true ≡ false = cc in cc)
+    go Unsat e (inl u) = past.Refuted (subst (λ v. EndBy v r.told.entries) e (r.right.ends u)) (r.right.refuted e)
+    go Unsat e (inr n) = past.Refuted (nothing-told s t false r n) (r.right.refuted e)
     go (UnsatUnderAssumptions core) e (inl u) =
-        let fails = subst (IsRight t.clauses t.assumptions t.counted) e r.right in
-        past.Failed r.told core (subst (λ A. core ⊆ A) (same-assumptions r.rest) fails.0) (subst (λ v. EndBy v r.told.entries) e (r.ends u))
-    go (UnsatUnderAssumptions core) e (inr n) = past.Again (k.core core (sym (r.known n).0 ∙ e)) (r.known n).2
+        let fails = subst (IsRight t.clauses t.assumptions t.counted) e r.right.right in
+        past.Failed core (subst (λ A. core ⊆ A) (same-assumptions r.rest) fails.0) (subst (λ v. EndBy v r.told.entries) e (r.right.ends u))
+    go (UnsatUnderAssumptions core) e (inr n) = past.Again (k.core core (sym (r.right.known n) ∙ e)) (same-told (once_searched s) t false r n)
+
+-- what an answer says
+answers : (v : Findings) (s t : State) (b : Bool) → Knows v s → (r : TellsVerdict calling (once_searched s) b t) →
+    IsAnswer (once_searched (past_of v s)) b r.told.entries (past_of (answered b v) t)
+answers v s t true k r = (refl, some-with s t r, tells-true s t r)
+answers v s t false k r = (refl, none-with s t r, tells-false v (answered false v) s t k r, conflict-told s t r)
 
 -- a call is interrupted
-interrupted : (v : Findings) (s t : State) → Knows v s → state.IsInterrupted (once_searched s) t →
-    Knows (past.interrupted (t.ledger.steps - s.ledger.steps) v) t
+interrupted : (v : Findings) (s t : State) → Knows v s → IsSpent calling (once_searched s) t →
+    Knows (telling.interrupted (t.ledger.steps - s.ledger.steps) v) t
 interrupted v s t k r =
     let e = r.rest in
     record {
@@ -159,11 +175,10 @@ interrupted v s t k r =
     }
 
 -- and its steps are spent
-spent : (v : Findings) (s t : State) → Knows v s → state.IsInterrupted (once_searched s) t →
-    let w : Findings = past.interrupted (t.ledger.steps - s.ledger.steps) v in
-    IsSpent (IsUndecided (past_of v s)) w (once_searched (past_of v s)) (past_of w t)
+spent : (v : Findings) (s t : State) → Knows v s → IsSpent calling (once_searched s) t →
+    IsSpent telling (once_searched (past_of v s)) (past_of (telling.interrupted (t.ledger.steps - s.ledger.steps) v) t)
 spent v s t k r =
-    let w : Findings = past.interrupted (t.ledger.steps - s.ledger.steps) v in
+    let w : Findings = telling.interrupted (t.ledger.steps - s.ledger.steps) v in
     record {
       valid = r.valid;
       unknown = undecided v s k r.unknown;
@@ -180,35 +195,38 @@ spent v s t k r =
     none : (after before steps : ℕ) → after ≡ before → steps + (after - before) ≡ steps
     none after before steps e = omega (arith, e)
 
-pub solve : (v : Findings) (s t : State) (r : Result Bool SolverError) → Agrees v s → state.Solves s r t → Leads (past.Solves (past_of v s) r) t
-solve v s t (Ok true) g r =
+-- an answer is returned
+returned : (v : Findings) (s t : State) (b : Bool) → Agrees v s → TellsVerdict calling (once_searched s) b t → Leads (Solves telling (past_of v s) (Ok b)) t
+returned v s t b g r =
     let k = g r.valid in
-    let w = answered true v in
-    let few = counted v w s t true k r in
-    let rest = like-past w (retold t.told (with_verdict t.verdict (with_steps t.ledger.steps (once_searched s)))) t r.rest in
-    (w, (r.valid, some-with s t r, few, tells-true v w s t r, rest), λ _. solved v s t true k r)
-solve v s t (Ok false) g r =
-    let k = g r.valid in
-    let w = answered false v in
-    let few = counted v w s t false k r in
-    let rest = like-past w (retold t.told (with_verdict t.verdict (with_steps t.ledger.steps (once_searched s)))) t r.rest in
-    (w, (r.valid, none-with s t r, few, tells-false v w s t k r, conflict-told s t r, rest), λ _. solved v s t false k r)
-solve v s t (Err OutOfMemory) g (u, c, b) =
-    (v, (undecided v s (g b.valid) u, c, broken-past 0 v (with_steps t.ledger.steps s) t b), breaks v (with_steps t.ledger.steps s) t b)
-solve v s t (Err ClauseStoreFull) g (u, c, b, full) =
-    (v, (undecided v s (g b.valid) u, c, broken-past 0 v (with_steps t.ledger.steps s) t b, full), breaks v (with_steps t.ledger.steps s) t b)
-solve v s t (Err (ProofIoError cause)) g (o, c, inl (u, b)) =
-    let k = g b.valid in
-    let m = with_steps t.ledger.steps s in
-    let few = counted-if v v s t (Err (ProofIoError cause)) k c in
-    (v, (o, few, inl (undecided v s k u, broken-past 1 v m t b)), breaks v m t b)
-solve v s t (Err (ProofIoError cause)) g (o, c, inr b) =
-    let k = g b.valid in
+    let w = answered b v in (
+      w,
+      record {
+        valid = r.valid;
+        steps = counted v w s t (Ok b) k r.steps;
+        told = r.told;
+        right = answers v s t b k r;
+        rest = like-past w (retold t.told (with_verdict t.verdict (with_steps t.ledger.steps (once_searched s)))) t r.rest;
+      },
+      λ _. solved v s t b k r,
+    )
+
+-- a step failed
+step-failed : (faults : ℕ) (v : Findings) (s t : State) (e : SolverError) → Agrees v s → FailsStep calling faults s e t →
+    FailsStep telling faults (past_of v s) e (past_of v t)
+step-failed faults v s t e g (u, c, b) = (undecided v s (g b.valid) u, c, broken-past faults v (with_steps t.ledger.steps s) t b)
+
+pub solve : (v : Findings) (s t : State) (r : Result Bool SolverError) → Agrees v s → Solves calling s r t → Leads (Solves telling (past_of v s) r) t
+solve v s t (Ok b) g r = returned v s t b g r
+solve v s t (Err OutOfMemory) g a = (v, step-failed 0 v s t OutOfMemory g a, breaks v (with_steps t.ledger.steps s) t a.2)
+solve v s t (Err ClauseStoreFull) g (a, full) = (v, (step-failed 0 v s t ClauseStoreFull g a, full), breaks v (with_steps t.ledger.steps s) t a.2)
+solve v s t (Err (ProofIoError cause)) g (o, inl a) =
+    (v, (o, inl (step-failed 1 v s t (ProofIoError cause) g a)), breaks v (with_steps t.ledger.steps s) t a.2)
+solve v s t (Err (ProofIoError cause)) g (o, inr (c, b)) =
     let m = with_steps t.ledger.steps (once_searched s) in
-    let few = counted-if v v s t (Err (ProofIoError cause)) k c in
-    (v, (o, few, inr (broken-past 1 v m t b)), breaks v m t b)
+    (v, (o, inr (counted-if v v s t (Err (ProofIoError cause)) (g b.valid) c, broken-past 1 v m t b)), breaks v m t b)
 solve v s t (Err Interrupted) g r =
     let k = g r.valid in
-    (past.interrupted (t.ledger.steps - s.ledger.steps) v, spent v s t k r, λ _. interrupted v s t k r)
+    (telling.interrupted (t.ledger.steps - s.ledger.steps) v, spent v s t k r, λ _. interrupted v s t k r)
 solve v s t (Err Invalid) g (c, e) = (v, (c, ap (past_of v) e), stays v s t e g)
 solve v s t (Err e) g r = absurd r

@@ -31,9 +31,9 @@ use Rattle.varisat_names.proofs.Maps.{chain-none, chain-some, chain-through, is-
 use Rattle.varisat.specs.Budgets.{CountsSteps}
 use Rattle.varisat.specs.declared.solver.SolverError.{SolverError}
 use Rattle.varisat.specs.States.{State, Ledger, Verdict, Unknown, Sat, Unsat, UnsatUnderAssumptions, IsRight, empty_state}
-use Rattle.varisat.specs.Names.{Naming, bring, bring_next, bring_if_free, name_one, IsLeastFree, through_names}
+use Rattle.varisat.specs.Names.{Naming, bring, bring_next, bring_if_free, name_one, IsLeastFree}
 use Rattle.varisat.specs.Models.{put_name, model_of, IsCompletable, core_of, IsCoreToTell}
-use Rattle.varisat.specs.Calls.{with_naming, IsValid, TellsModel, TellsCore, TellsVerdict, answer_of, with_verdict, with_steps}
+use Rattle.varisat.specs.Calls.{calling, with_naming, IsValid, Decided, TellsList, TellsVerdict, answer_of, with_verdict}
 use Rattle.varisat.specs.Told.{told_list}
 use Rattle.std.specs.Option.{IsSome}
 use Rattle.std.specs.Result.{IsErr}
@@ -56,7 +56,7 @@ use Rattle.varisat.specs.Spaces.{Carrying, Translation, HeldFits, translation, w
 use Rattle.varisat.specs.Summaries.{Summary, IsKept, StandsFor, spaces, spaces_of, list_tables}
 use Rattle.varisat.proofs.SpacesAgree.{map-map}
 use Rattle.varisat.proofs.CallStates.{like-still}
-use Rattle.varisat.proofs.VerdictAnswers.{right-false, right-core, core-answer}
+use Rattle.varisat.proofs.VerdictAnswers.{right-false, right-core}
 use Rattle.varisat.proofs.Carried.{carry-at, carry-sign}
 use Rattle.varisat.proofs.SolveVerdict.{told-with, steps-tell, steps-derived, steps-add, core-ends, steps-told-as, core-tells, core-told-as, maps-alike, recount, spaces-same, sat-found, unsat-found, core-found, found, went-on}
 use Rattle.varisat.proofs.ModelsFit.{told, is-sat, is-unsat, is-core, is-unknown}
@@ -489,15 +489,11 @@ sat-right g s st valid e =
     let r = subst (IsRight s.clauses s.assumptions s.counted) v k.right in
     (a, r.0, r.1)
 
-pub sat-answer : (g : Summary) (s : State) → StandsFor g s → g.ledger.valid ≡ true → g.sat_state ≡ verdict.Sat → answer_of s.verdict ≡ Some true
-sat-answer g s st v e = let (w, k) = st.fits v in ap answer_of
-    (is-sat w.identity (spaces g).model (assignment_of g.search) s.verdict
-    (subst (λ y. VerdictFits w.identity (spaces g).model y s.verdict) (ap (outcome_of g.search g.assumed.failed_core) e) k.verdict)).1
-
-pub tells-error : {A : Type 0} (s : State) (r : Result (Option (Vec Literal A)) AllocError) → IsErr r → IsValid s →
-    answer_of s.verdict ≡ Some true → TellsModel s (told_list r) s
-tells-error s (Ok m) h v a = absurd (let z : false ≡ true = h in cc)
-tells-error s (Err e) h v a = (v, a, refl)
+-- a list that is refused, where there is one
+pub tells-error : {A : Type 0} (may : Option (List Literal) → Type 0) (s : State) (list : List Literal) (r : Result (Option (Vec Literal A)) AllocError) →
+    IsErr r → IsValid s → may (Some list) → TellsList may s (told_list r) s
+tells-error may s list (Ok m) h v a = absurd (let z : false ≡ true = h in cc)
+tells-error may s list (Err e) h v a = (v, (list, a), refl)
 
 -- 6. The core.
 
@@ -568,20 +564,22 @@ core-not-empty id m (outcome.Sat found) x list e f = absurd (subst (VerdictFits 
 core-not-empty id m outcome.Unsat x list e f = absurd (subst (VerdictFits id m outcome.Unsat) e f)
 core-not-empty id m (outcome.UnsatUnder found) x list e f = subst (VerdictFits id m (outcome.UnsatUnder found)) e f
 
-pub known-told : (g : Summary) (s : State) (b : Bool) → StandsFor g s → g.ledger.valid ≡ true → answer_at g.sat_state ≡ Some b → TellsVerdict s b s
+pub known-told : (g : Summary) (s : State) (b : Bool) → StandsFor g s → g.ledger.valid ≡ true → answer_at g.sat_state ≡ Some b → TellsVerdict calling s b s
 known-told g s b st v e =
     let a = answers-alike g s st v ∙ e in
     record {
       valid = ap (λ (l : Ledger). l.valid) st.ledger ∙ v;
-      known = λ n. (refl, refl, refl);
-      steps = λ u. absurd (let z : None ≡ Some b = ap answer_of (sym u) ∙ a in cc);
-      answer = a;
-      right = (st.fits v).1.right;
-      rest = like-still s;
+      steps = Decided (inl (λ u. let z : None ≡ Some b = ap answer_of (sym u) ∙ a in cc)) refl (λ _. refl);
       told = let z : 0 ≡ s.ledger.steps - s.ledger.steps = omega arith in subst (λ n. TellsMore n s.told s.told) z (tells-nothing s.told);
-      ends = λ u. absurd (let z : None ≡ Some b = ap answer_of (sym u) ∙ a in cc);
-      refuted = told-refuted g s st v;
-      core = λ list h. let (w, k) = st.fits v in core-not-empty w.identity (spaces g).model (spaces g).outcome s.verdict list h k.verdict;
+      right = record {
+        known = λ n. refl;
+        answer = a;
+        right = (st.fits v).1.right;
+        ends = λ u. absurd (let z : None ≡ Some b = ap answer_of (sym u) ∙ a in cc);
+        refuted = told-refuted g s st v;
+        core = λ list h. let (w, k) = st.fits v in core-not-empty w.identity (spaces g).model (spaces g).outcome s.verdict list h k.verdict;
+      };
+      rest = like-still s;
     }
 
 pub false-right : (g : Summary) (s : State) → StandsFor g s → g.ledger.valid ≡ true → answer_at g.sat_state ≡ Some false →
@@ -609,11 +607,7 @@ answered-false x (inl e) = ap answer_at e
 answered-false x (inr e) = ap answer_at e
 
 -- a copy of the core that is refused
-core-refused : (s t : State) (core : List Literal) (e : AllocError) → TellsCore s (Ok (Some core)) t → TellsCore s (Err e) s
-core-refused s t core e (inl (v, x), same) = (v, core-answer s.verdict (map (through_names s.naming) core) x.1, refl)
-core-refused s t core e (inr (v, x), same) = absurd cc
-
 pub told-refused-core : {A : Type 0} (s t : State) (core : List Literal) (r : Result (Option (Vec Literal A)) AllocError) → IsErr r →
-    TellsCore s (Ok (Some core)) t → TellsCore s (told_list r) s
-told-refused-core s t core (Ok m) h a = absurd (let z : false ≡ true = h in cc)
-told-refused-core s t core (Err e) h a = core-refused s t core e a
+    TellsList (calling.core s) s (Ok (Some core)) t → TellsList (calling.core s) s (told_list r) s
+told-refused-core s t core r h (inl (v, x), same) = tells-error (calling.core s) s core r h v x
+told-refused-core s t core r h (inr (v, x), same) = absurd cc

@@ -31,7 +31,7 @@ use Rattle.varisat_search.proofs.DueReductions.{keeps-are}
 use Rattle.varisat_search.proofs.RestartSteps.{Begun, begun-view}
 use Rattle.varisat_search.proofs.SolverVariables.{in-use-all}
 use Rattle.varisat.specs.Budgets.{CountsSteps}
-use Rattle.varisat.specs.Calls.{IsValid, TellsVerdict, IsInterrupted, CountsCall, answer_of, with_verdict, with_steps}
+use Rattle.varisat.specs.Calls.{calling, IsValid, Searched, TellsVerdict, IsSpent, CountsCall, answer_of, with_verdict, with_steps}
 use Rattle.varisat.specs.declared.solver.SolverError.TheVariants.{Interrupted}
 use Rattle.varisat_proof.specs.Passing.{ToldConflict}
 use Rattle.varisat.specs.Journals.{retold, TellsLeaving}
@@ -290,24 +290,26 @@ module _ {A : Type 0} {k : ℕ} {s : State} {p q : ProofParts} (m : Tables) (y :
   pub comes-verdict : (b : Bool) → IsValid s → s.verdict ≡ Unknown →
       CountsSteps (length s.counted) s.ledger.settings.max_steps s.ledger.since s.ledger.steps n (Ok b) →
       answer_at y.solver_state.sat_state ≡ Some b → k ≡ n - s.ledger.steps → GoesOnWriting s.proof now →
-      TellsVerdict s b (after-solve c.told c.verdict n now words s)
+      TellsVerdict calling s b (after-solve c.told c.verdict n now words s)
   comes-verdict b valid was counts answer made grows = record {
     valid = valid;
-    known = λ z. absurd (z was);
-    steps = λ _. counts;
-    answer = comes-answer m y c ∙ answer;
-    right = comes-right m y c;
-    rest = like-grown (after-solve c.told c.verdict n s.proof s.words s) now words grows;
+    steps = Searched was counts;
     told = record { entries = c.more.entries; joined = c.more.joined; goes = subst (λ j. GoesOn j s.told c.more.entries) made c.more.goes };
-    ends = λ _. c.ends;
-    refuted = comes-refuted m y c;
-    core = λ list e. let (w, l) = c.fits in
-        core-not-empty w.identity (spaces_with m q.checker y).model (spaces_with m q.checker y).outcome c.verdict list e l.verdict;
+    right = record {
+      known = λ z. absurd (z was);
+      answer = comes-answer m y c ∙ answer;
+      right = comes-right m y c;
+      ends = λ _. c.ends;
+      refuted = comes-refuted m y c;
+      core = λ list e. let (w, l) = c.fits in
+          core-not-empty w.identity (spaces_with m q.checker y).model (spaces_with m q.checker y).outcome c.verdict list e l.verdict;
+    };
+    rest = like-grown (after-solve c.told c.verdict n s.proof s.words s) now words grows;
   }
 
   pub comes-interrupted : IsValid s → s.verdict ≡ Unknown → CountsSteps
       (length s.counted) s.ledger.settings.max_steps s.ledger.since s.ledger.steps n (Err Interrupted) → c.verdict ≡ Unknown →
-      k ≡ n - s.ledger.steps → (n ≡ s.ledger.steps → ⊥) → GoesOnWriting s.proof now → IsInterrupted s (after-solve c.told c.verdict n now words s)
+      k ≡ n - s.ledger.steps → (n ≡ s.ledger.steps → ⊥) → GoesOnWriting s.proof now → IsSpent calling s (after-solve c.told c.verdict n now words s)
   comes-interrupted valid was counts unknown made moved grows = record {
     valid = valid;
     unknown = was;
@@ -333,7 +335,7 @@ module _ {A : Type 0} {k : ℕ} {s : State} {p q : ProofParts} (m : Tables) (y :
   }
 
 -- no step could be made
-pub interrupted-still : (s : State) → IsValid s → s.verdict ≡ Unknown → CountsCall s (Err Interrupted) s → IsInterrupted s s
+pub interrupted-still : (s : State) → IsValid s → s.verdict ≡ Unknown → CountsCall s (Err Interrupted) s → IsSpent calling s s
 interrupted-still s valid was counts =
     let none : 0 ≡ s.ledger.steps - s.ledger.steps = omega arith in
     let nothing = tells-nothing s.told in

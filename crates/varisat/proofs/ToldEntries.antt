@@ -8,7 +8,7 @@ use Rattle.varisat_theory.specs.Derivations.{Line, Add, Delete, SpeakOf}
 use Rattle.varisat_theory.specs.Renaming.{rename_line}
 use Rattle.varisat_theory.specs.Held.{without}
 use Rattle.varisat_theory.specs.Journals.{Entry, Accepts, Writes, Assumes, Leaves, Fails, NoneLeaves, Leads, accepted_of, lines_of, written, GoesOn}
-use Rattle.varisat_theory.proofs.Journals.{goes_on_further, accepted_append, lines_append, stays_append, written_accepts, written_lines, written_stays}
+use Rattle.varisat_theory.proofs.Journals.{goes_on_further, accepted_append, stays_append, written_accepts, written_stays}
 use Rattle.varisat_theory.proofs.Members.{∈-append_left, ∈-append_right, ∈-append_cases}
 use Rattle.varisat_theory.proofs.HeldDrops.{without_less}
 use Rattle.varisat_theory.proofs.Renaming.{map-∈}

@@ -186,10 +186,10 @@ unassumed-refuted g s st v none-assumed e =
 
 -- a proof that is open claims no more than that
 claims-refuted : (g : Summary) (s : State) → StandsFor g s → g.ledger.valid ≡ true → (p : OpenProof) → s.proof ≡ Some p → (f : ProofFormat) →
-    p.format ≡ f → IsRefuted f s.verdict → s.verdict ≡ Unsat
-claims-refuted g s st v p e Drat f a = unassumed-refuted g s st v ((st.flags v).unassumed (p, e, ap has_marks f)) a
-claims-refuted g s st v p e BinaryDrat f a = unassumed-refuted g s st v ((st.flags v).unassumed (p, e, ap has_marks f)) a
-claims-refuted g s st v p e Marked f a = a
+    p.format ≡ f → IsRefuted calling f s → s.verdict ≡ Unsat
+claims-refuted g s st v p e Drat f a = unassumed-refuted g s st v ((st.flags v).unassumed (p, e, ap has_marks f)) a.0
+claims-refuted g s st v p e BinaryDrat f a = unassumed-refuted g s st v ((st.flags v).unassumed (p, e, ap has_marks f)) a.0
+claims-refuted g s st v p e Marked f a = a.1 refl
 
 -- where nothing was ever hidden a marked proof is one of the clauses and the assumptions
 marked-of : (g : Summary) (s : State) → StandsFor g s → g.ledger.valid ≡ true → s.ever_hidden ≡ false → (refuted : Type 0) →
@@ -223,5 +223,5 @@ proof-of g s st v p e =
       in_range = j.in_range;
       derives = j.derives;
       refutes = λ h a. j.refutes h (claims-refuted g s st v p e p.format refl a);
-      marked = λ h. marked-of g s st v h (IsRefuted p.format s.verdict) (claims-refuted g s st v p e p.format refl);
+      marked = λ h. marked-of g s st v h (IsRefuted calling p.format s) (claims-refuted g s st v p e p.format refl);
     }

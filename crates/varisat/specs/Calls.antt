@@ -9,11 +9,12 @@ use Rattle.std.specs.declared.alloc.AllocError.{AllocError}
 use Rattle.varisat_theory.specs.Membership.{◌∈◌}
 use Rattle.varisat_theory.specs.Literals.{Literal, Clause, variable_of, opposite, IsUnit, IsSatisfiable}
 use Rattle.varisat_theory.specs.NewClauses.{GoesOnAdding}
+use Rattle.varisat_theory.specs.Journals.{Entry}
 use Rattle.varisat_theory.specs.Journals as entry
 use Rattle.varisat_proof.specs.Passing.{ToldConflict}
 use Rattle.varisat_theory.specs.CallBounds.{AreFew}
 use Rattle.varisat_proof.specs.declared.proof.format.ProofFormat.{ProofFormat}
-use Rattle.varisat_proof.specs.declared.proof.format.ProofFormat.TheVariants.{Drat, BinaryDrat, Marked}
+use Rattle.varisat_proof.specs.Lines.{has_marks}
 use Rattle.varisat.specs.Journals.{retold, TellsMore, AreDerived, EndBy, IsJournal}
 use Rattle.varisat.specs.OpenProofs.{IsOpen, BarsClauses, BarsAssumptions, searched_under, lines_over, GoesOnWriting, GoesOnFailing}
 use Rattle.varisat.specs.States.{Known, State, join_counted, Verdict, Unknown, Sat, Unsat, UnsatUnderAssumptions, HasRightVerdict, IsWellFormed}
@@ -130,19 +131,26 @@ RefusesNames unbarred s d OutOfMemory t = unbarred × MayConstrain s.naming d ×
 RefusesNames unbarred s d (ProofIoError cause) t = IsOpen s.proof × unbarred × MayConstrain s.naming d × Invalidates 1 s t
 RefusesNames unbarred s d _ t = ⊥
 
--- What is said of verdicts, where V is what is known of them. `refuted`: no assignment satisfies the clauses, and `unrefuted`: that is
--- not known. `reopens`: what one more clause makes of it, behind these, and `assumed`: what another list of assumptions does. `solves`,
--- `tells_model` and `tells_core`: which answers these calls give. `disproves`: the clauses alone are known to be unsatisfiable, in a
--- proof of this format. `holds`: what is so behind each call.
+-- What is said of verdicts, where V is what is known of them.
 pub record Verdicts (V : Type 0) : Type 1 where
+  -- no assignment satisfies the clauses; and this is not known
   pub refuted : Known V → Type 0
   pub unrefuted : Known V → Type 0
+  -- it is not known whether one satisfies the clauses and the assumptions
+  pub undecided : Known V → Type 0
+  -- what one more clause makes of it, behind these, and what another list of assumptions does
   pub reopens : List Clause → Clause → V → V → Type 0
   pub assumed : List Literal → V → V
-  pub solves : Known V → Result Bool SolverError → Known V → Type 0
-  pub tells_model : Known V → Result (Option (List Literal)) AllocError → Known V → Type 0
-  pub tells_core : Known V → Result (Option (List Literal)) AllocError → Known V → Type 0
-  pub disproves : ProofFormat → Known V → Type 0
+  -- what an answer of `solve` says, where the call told these entries; and what so many steps make of it that come to none
+  pub answers : Known V → Bool → List Entry → Known V → Type 0
+  pub interrupted : ℕ → V → V
+  -- what `model` and `failed_core` may tell, if anything
+  pub model : Known V → Option (List Literal) → Type 0
+  pub core : Known V → Option (List Literal) → Type 0
+  -- the answer is false; and then, the clauses alone are why
+  pub fails : Known V → Type 0
+  pub alone : Known V → Type 0
+  -- what is so behind each call
   pub holds : Known V → Type 0
 
 module _ {V : Type 0} (by : Verdicts V) where
@@ -197,10 +205,6 @@ with_verdict v s = record s { verdict = v }
 abbrev pub with_steps : {V : Type 0} → ℕ → Known V → Known V
 with_steps n s = record s { ledger = record s.ledger { steps = n; since = s.ledger.since + (n - s.ledger.steps) } }
 
--- the same, where a call may make so many steps
-abbrev pub with_max_steps : {V : Type 0} → ℕ → Known V → Known V
-with_max_steps n s = record s { ledger = record s.ledger { settings = record s.ledger.settings { max_steps = n } } }
-
 -- how the steps are counted that a call makes before the verdict is known, by its answer
 abbrev pub CountsCall : {V : Type 0} → Known V → Result Bool SolverError → Known V → Type 0
 CountsCall s r t = CountsSteps (length s.counted) s.ledger.settings.max_steps s.ledger.since s.ledger.steps t.ledger.steps r
@@ -213,40 +217,67 @@ once_searched s = record s { proof = searched_under s.proof }
 abbrev pub IsSolved : {V : Type 0} → V → Known V → Known V → Type 0
 IsSolved v s t = IsLike (retold t.told (with_verdict v (with_steps t.ledger.steps s))) t
 
--- The steps are spent before a verdict is known, where v is known of it then. The search can go on from there.
-pub record IsSpent {V : Type 0} (is_unknown : Type 0) (v : V) (s t : Known V) : Type 0 where
-  pub valid : IsValid s
-  pub unknown : is_unknown
-  pub steps : CountsCall s (Err Interrupted) t
-  pub rest : IsSolved v s t
-  -- a proof writes each identity as the variable that it had
-  pub variables : t.variables ≡ s.variables
-  -- of the clauses that it told to be added as many count as steps were made; and each step added a new one, of which no clause that
-  -- was held just before is a part, and which is held as the step ends
-  pub told : TellsMore (t.ledger.steps - s.ledger.steps) s.told t.told
-  pub adds : GoesOnAdding (t.ledger.steps - s.ledger.steps) s.told told.entries
-  -- no core is told
-  pub derived : AreDerived told.entries
-  -- where no step was made nothing changed
-  pub still : t.ledger.steps ≡ s.ledger.steps → t ≡ s
+module _ {V : Type 0} (by : Verdicts V) where
+  -- How the steps are counted that a call makes, by its answer: none is made, and nothing told, where the answer is known.
+  pub data CountsIf (s : Known V) (r : Result Bool SolverError) (t : Known V) : Type 0 where
+    Decided : (by.undecided s → ⊥) ⊎ by.refuted s → t.ledger.steps ≡ s.ledger.steps → (IsValid t → t.told ≡ s.told) → CountsIf s r t
+    Searched : by.undecided s → CountsCall s r t → CountsIf s r t
 
--- How the steps are counted that a call makes, by its answer: none is made, and nothing told, where the verdict is known.
-pub data CountsIf {V : Type 0} (known unknown : Type 0) (s : Known V) (r : Result Bool SolverError) (t : Known V) : Type 0 where
-  Decided : known → t.ledger.steps ≡ s.ledger.steps → (IsValid t → t.told ≡ s.told) → CountsIf known unknown s r t
-  Searched : unknown → CountsCall s r t → CountsIf known unknown s r t
+  -- An answer is returned.
+  pub record TellsVerdict (s : Known V) (b : Bool) (t : Known V) : Type 0 where
+    pub valid : IsValid s
+    pub steps : CountsIf s (Ok b) t
+    -- of the clauses that it told to be added as many count as steps were made
+    pub told : TellsMore (t.ledger.steps - s.ledger.steps) s.told t.told
+    pub right : by.answers s b told.entries t
+    pub rest : IsSolved t.verdict s t
 
--- How a call of `solve` is refused, or fails where the verdict is unknown.
-abbrev pub FailsSearch : {V : Type 0} → Type 0 → Known V → SolverError → Known V → Type 0
-FailsSearch unknown s Invalid t = IsRefusedInvalid s t
-FailsSearch unknown s OutOfMemory t = unknown × CountsCall s (Err OutOfMemory) t × Invalidates 0 (with_steps t.ledger.steps s) t
-FailsSearch unknown s ClauseStoreFull t =
-    unknown × CountsCall s (Err ClauseStoreFull) t × Invalidates 0 (with_steps t.ledger.steps s) t × IsStoreFull s.naming.made t
-FailsSearch unknown s _ t = ⊥
+  -- The steps are spent before an answer is known. The search can go on from there.
+  pub record IsSpent (s t : Known V) : Type 0 where
+    pub valid : IsValid s
+    pub unknown : by.undecided s
+    pub steps : CountsCall s (Err Interrupted) t
+    pub rest : IsSolved (by.interrupted (t.ledger.steps - s.ledger.steps) s.verdict) s t
+    -- a proof writes each identity as the variable that it had
+    pub variables : t.variables ≡ s.variables
+    -- of the clauses that it told to be added as many count as steps were made; and each step added a new one, of which no clause that
+    -- was held just before is a part, and which is held as the step ends
+    pub told : TellsMore (t.ledger.steps - s.ledger.steps) s.told t.told
+    pub adds : GoesOnAdding (t.ledger.steps - s.ledger.steps) s.told told.entries
+    -- no core is told
+    pub derived : AreDerived told.entries
+    -- where no step was made nothing changed
+    pub still : t.ledger.steps ≡ s.ledger.steps → t ≡ s
 
--- The target of an open proof failed in a step, which comes only where the verdict is unknown, or as it was flushed.
-abbrev pub FailsTarget : {V : Type 0} → Type 0 → Known V → Known V → Type 0
-FailsTarget unknown s t =
-    (unknown × Invalidates 1 (with_steps t.ledger.steps s) t) ⊎ Invalidates 1 (with_steps t.ledger.steps (once_searched s)) t
+  -- A step fails, from which there is no way back.
+  abbrev pub FailsStep : ℕ → Known V → SolverError → Known V → Type 0
+  FailsStep faults s e t = by.undecided s × CountsCall s (Err e) t × Invalidates faults (with_steps t.ledger.steps s) t
+
+  -- Steps are made, and then an open proof is marked as one under which `solve` was called, and flushed, also where the answer was
+  -- known. Its target may fail in a step, or as it is flushed.
+  abbrev pub Solves : Known V → Result Bool SolverError → Known V → Type 0
+  Solves s (Ok b) t = TellsVerdict (once_searched s) b t
+  Solves s (Err Interrupted) t = IsSpent (once_searched s) t
+  Solves s (Err Invalid) t = IsRefusedInvalid s t
+  Solves s (Err OutOfMemory) t = FailsStep 0 s OutOfMemory t
+  Solves s (Err ClauseStoreFull) t = FailsStep 0 s ClauseStoreFull t × IsStoreFull s.naming.made t
+  Solves s (Err (ProofIoError cause)) t =
+      IsOpen s.proof
+      × (FailsStep 1 s (ProofIoError cause) t
+      ⊎ (CountsIf s (Err (ProofIoError cause)) t × Invalidates 1 (with_steps t.ledger.steps (once_searched s)) t))
+  Solves s (Err _) t = ⊥
+
+  -- The clauses alone are known to be unsatisfiable: where a proof can have assumptions, false says no more than that those fail.
+  abbrev pub IsRefuted : ProofFormat → Known V → Type 0
+  IsRefuted format s = by.fails s × (has_marks format ≡ true → by.alone s)
+
+-- The calls `model` and `failed_core`.
+
+-- A list is told that may be told, or none, and none by an invalid solver. Running out of memory comes only where there is a list to
+-- tell, and changes nothing.
+abbrev pub TellsList : {V : Type 0} → (Option (List Literal) → Type 0) → Known V → Result (Option (List Literal)) AllocError → Known V → Type 0
+TellsList may s (Ok list) t = ((IsValid s × may list) ⊎ ((is_valid s ≡ false) × (list ≡ None))) × (t ≡ s)
+TellsList may s (Err _) t = IsValid s × ((list : List Literal) × may (Some list)) × (t ≡ s)
 
 -- The call `config`.
 
@@ -316,68 +347,18 @@ answer_of (Sat found) = Some true
 answer_of Unsat = Some false
 answer_of (UnsatUnderAssumptions core) = Some false
 
--- A verdict is returned, and is right. One that was known stays, no step is made, and nothing told.
-pub record TellsVerdict (s : State) (b : Bool) (t : State) : Type 0 where
-  pub valid : IsValid s
-  pub known : s.verdict ≢ Unknown → (t.verdict ≡ s.verdict) × (t.ledger.steps ≡ s.ledger.steps) × (t.told ≡ s.told)
-  pub steps : s.verdict ≡ Unknown → CountsCall s (Ok b) t
+-- The verdict of t gives the answer, and is right. One that was known stays.
+pub record HasVerdict (s : State) (b : Bool) (told : List Entry) (t : State) : Type 0 where
+  pub known : s.verdict ≢ Unknown → t.verdict ≡ s.verdict
   pub answer : answer_of t.verdict ≡ Some b
   pub right : HasRightVerdict t
-  pub rest : IsSolved t.verdict s t
-  -- of the clauses that it told to be added as many count as steps were made
-  pub told : TellsMore (t.ledger.steps - s.ledger.steps) s.told t.told
   -- where it was not known before these are lines and variables that leave, and at last the core that was found, if one was: by
   -- propagation over what is held it conflicts
-  pub ends : s.verdict ≡ Unknown → EndBy t.verdict told.entries
+  pub ends : s.verdict ≡ Unknown → EndBy t.verdict told
   -- under Unsat propagation over what is held conflicts
   pub refuted : t.verdict ≡ Unsat → ToldConflict t.told
   -- a core that was found is not empty
   pub core : (list : List Literal) → t.verdict ≡ UnsatUnderAssumptions list → list ≢ []
-
--- the steps are spent before a verdict is known
-abbrev pub IsInterrupted : State → State → Type 0
-IsInterrupted s t = IsSpent (s.verdict ≡ Unknown) s.verdict s t
-
--- What the steps of a call come to.
-abbrev pub Searches : State → Result Bool SolverError → State → Type 0
-Searches s (Ok b) t = TellsVerdict s b t
-Searches s (Err (ProofIoError cause)) t =
-    IsOpen s.proof × (s.verdict ≡ Unknown) × CountsCall s (Err (ProofIoError cause)) t × Invalidates 1 (with_steps t.ledger.steps s) t
-Searches s (Err Interrupted) t = IsInterrupted s t
-Searches s (Err e) t = FailsSearch (s.verdict ≡ Unknown) s e t
-
--- what the steps of a call come to that may make so many
-abbrev pub SearchesWithin : ℕ → State → Result Bool SolverError → State → Type 0
-SearchesWithin max_steps s r t = Searches (with_max_steps max_steps s) r (with_max_steps max_steps t)
-
--- Steps are made, and then an open proof is marked as one under which `solve` was called, and flushed, also where the verdict was
--- known. Its target may fail in a step, or as it is flushed.
-abbrev pub Solves : State → Result Bool SolverError → State → Type 0
-Solves s (Ok b) t = TellsVerdict (once_searched s) b t
-Solves s (Err (ProofIoError cause)) t =
-    IsOpen s.proof × CountsIf (s.verdict ≢ Unknown) (s.verdict ≡ Unknown) s (Err (ProofIoError cause)) t × FailsTarget (s.verdict ≡ Unknown) s t
-Solves s (Err Interrupted) t = IsInterrupted (once_searched s) t
-Solves s (Err e) t = FailsSearch (s.verdict ≡ Unknown) s e t
-
--- The call `model`.
-
--- running out of memory comes only where there is a list to tell, and changes nothing
-abbrev pub TellsModel : State → Result (Option (List Literal)) AllocError → State → Type 0
-TellsModel s (Ok m) t = ((IsValid s × (m ≡ model_of s.naming s.verdict)) ⊎ ((is_valid s ≡ false) × (m ≡ None))) × (t ≡ s)
-TellsModel s (Err _) t = IsValid s × (answer_of s.verdict ≡ Some true) × (t ≡ s)
-
--- The call `failed_core`.
-
--- Running out of memory comes only where the core is copied and there is one, and changes nothing.
-abbrev pub TellsCore : State → Result (Option (List Literal)) AllocError → State → Type 0
-TellsCore s (Ok core) t = ((IsValid s × IsCoreToTell s core) ⊎ ((is_valid s ≡ false) × (core ≡ None))) × (t ≡ s)
-TellsCore s (Err _) t = IsValid s × (answer_of s.verdict ≡ Some false) × (t ≡ s)
-
--- The clauses alone are known to be unsatisfiable: where a proof can have assumptions, false says no more than that those fail.
-abbrev pub IsRefuted : ProofFormat → Verdict → Type 0
-IsRefuted Drat verdict = answer_of verdict ≡ Some false
-IsRefuted BinaryDrat verdict = answer_of verdict ≡ Some false
-IsRefuted Marked verdict = verdict ≡ Unsat
 
 -- 3. States.
 
@@ -386,18 +367,17 @@ abbrev pub calling : Verdicts Verdict
 calling = record {
   refuted = λ s. s.verdict ≡ Unsat;
   unrefuted = λ s. s.verdict ≢ Unsat;
+  undecided = λ s. s.verdict ≡ Unknown;
   reopens = VerdictAfter;
   assumed = λ list v. assumed_verdict v;
-  solves = Solves;
-  tells_model = TellsModel;
-  tells_core = TellsCore;
-  disproves = λ format s. IsRefuted format s.verdict;
+  answers = HasVerdict;
+  interrupted = λ steps v. v;
+  model = λ s list. list ≡ model_of s.naming s.verdict;
+  core = IsCoreToTell;
+  fails = λ s. answer_of s.verdict ≡ Some false;
+  alone = λ s. s.verdict ≡ Unsat;
   holds = λ s. IsValid s → IsJournal s;
 }
-
--- one more clause may join those accepted
-abbrev pub IsExtensible : State → Type 0
-IsExtensible s = MayAccept calling s
 
 -- the call `add_clause`
 abbrev pub AddsClause : State → Clause → Result (Unit {0}) SolverError → State → Type 0
@@ -406,3 +386,18 @@ AddsClause s d r t = TakesOne calling s d r t
 -- the call `assume`
 abbrev pub Assumes : State → List Literal → Result (Unit {0}) SolverError → State → Type 0
 Assumes s list r t = TakesList calling s list r t
+
+-- What the steps of a call of `solve` come to, before an open proof is marked and flushed.
+abbrev pub Searches : State → Result Bool SolverError → State → Type 0
+Searches s (Ok b) t = TellsVerdict calling s b t
+Searches s (Err Interrupted) t = IsSpent calling s t
+Searches s (Err (ProofIoError cause)) t = IsOpen s.proof × FailsStep calling 1 s (ProofIoError cause) t
+Searches s (Err e) t = Solves calling s (Err e) t
+
+-- the same, where a call may make so many steps
+abbrev pub with_max_steps : {V : Type 0} → ℕ → Known V → Known V
+with_max_steps n s = record s { ledger = record s.ledger { settings = record s.ledger.settings { max_steps = n } } }
+
+-- what the steps of a call come to that may make so many
+abbrev pub SearchesWithin : ℕ → State → Result Bool SolverError → State → Type 0
+SearchesWithin max_steps s r t = Searches (with_max_steps max_steps s) r (with_max_steps max_steps t)

@@ -2,14 +2,11 @@
 use Rattle.std.specs.Prelude.{List}
 use Rattle.varisat_formula.specs.Streams.{Stand, Taken}
 use Rattle.varisat.specs.Pasts.{Past, telling}
-use Rattle.varisat.specs.Turns.{Makes, MakesInTurn}
+use Rattle.varisat.specs.Turns.{MakesInTurn}
 use Rattle.varisat.specs.declared.session.Call.{Call}
 use Rattle.varisat.specs.declared.session.Answer.{Answer}
 
--- Where the past was p, the call may get the answer, and then the past is q. `seen` tells how a source stands, and `taken` what a target took.
-abbrev pub IsTrue : {W S A : Type 0} → (S → Stand) → (W → Taken) → Past → Call W S A → Answer W S A → Past → Type 0
-IsTrue seen taken p c a q = Makes telling seen taken p c a q
-
--- Where the past was p, the calls in turn may get the answers in turn, one each.
+-- Where the past was p, the calls in turn may get the answers in turn, one each. `seen` tells how a source stands, and `taken` what a
+-- target took.
 abbrev pub AreTrue : {W S A : Type 0} → (S → Stand) → (W → Taken) → Past → List (Call W S A) → List (Answer W S A) → Type 0
 AreTrue seen taken p calls answers = (q : Past) × MakesInTurn telling seen taken p calls answers q

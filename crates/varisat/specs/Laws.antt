@@ -28,10 +28,10 @@ use Rattle.varisat.specs.Journals.{TellsMore, EndWithCore}
 use Rattle.varisat.specs.Names.{Naming, no_names, name_one, name_all, through_names, IsLeastFree, AreInOrder}
 use Rattle.varisat.specs.Models.{AreNamesInUse}
 use Rattle.varisat.specs.ProofCalls.{IsProof}
-use Rattle.varisat.specs.Calls.{IsPastLimit, IsCrowded, TellsVerdict, accept, assume}
+use Rattle.varisat.specs.Calls.{IsPastLimit, IsCrowded, TellsVerdict, IsRefuted, accept, assume, calling}
 use Rattle.varisat.specs.Counts.{count_with}
 use Rattle.varisat.specs.States.{State, Unknown, UnsatUnderAssumptions}
-use Rattle.varisat.specs.Pasts.{Findings, Past, IsJournal, IsRefuted, telling}
+use Rattle.varisat.specs.Pasts.{Findings, Past, IsPastJournal, telling}
 
 -- Before the first call names are in order. They stay so where those of a list of literals come into use, and where the least
 -- free one does, which is the one above them.
@@ -57,7 +57,7 @@ CrowdedIsPastLimit = (n : ℕ) (m : Naming) (ls : List Literal) → AreInOrder n
 -- Where a call of `solve` finds a core, propagation over what is held then conflicts with it: the core was told at last.
 abbrev pub CoresAreTold : Type 0
 CoresAreTold =
-    (s t : State) (b : Bool) (core : List Literal) (held : List Clause) → TellsVerdict s b t → s.verdict ≡ Unknown →
+    (s t : State) (b : Bool) (core : List Literal) (held : List Clause) → TellsVerdict calling s b t → s.verdict ≡ Unknown →
     t.verdict ≡ UnsatUnderAssumptions core → Leads [] t.told held → Conflicts held core
 
 -- Where a call tells a core at last, a marked proof of what was told ends with its line.
@@ -73,9 +73,9 @@ CoresAreWritten =
 abbrev pub MarkedProofsPass : Type 0
 MarkedProofsPass =
     (p : Past) (opened : OpenProof) (result : Result CheckVerdict CheckerError) (end : ProofState)
-    → IsJournal p → IsProof telling p opened → opened.format ≡ Marked → p.ever_hidden ≡ false
+    → IsPastJournal p → IsProof telling p opened → opened.format ≡ Marked → p.ever_hidden ≡ false
     → IsCheckOf (Text true) (state_of [] nothing_told) opened.bytes result end
-    → PassesWith p.told result end.told × (IsRefuted Marked p → result ≡ Ok Refutation)
+    → PassesWith p.told result end.told × (IsRefuted telling Marked p → result ≡ Ok Refutation)
 
 -- Where nothing was hidden a check of the bytes of an open proof over the accepted clauses finds that they refute, or that they are a
 -- derivation and do not; so it does of the bytes that the program leaves.

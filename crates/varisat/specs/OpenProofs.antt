@@ -20,14 +20,10 @@ pub record OpenProof : Type 0 where
   pub bytes : List ℕ
   pub searched : Bool
 
--- what the target of an open proof took: what it had before, and the bytes of the proof
-abbrev pub taken_of : OpenProof → Taken
-taken_of p = record { bytes = p.first ++ p.bytes; faults = p.faults }
-
--- what holds the proof, if one is open
+-- what holds the proof, if one is open: its target took what it had before, and the bytes of the proof
 abbrev pub opened_state : Option OpenProof → Option OpenState
 opened_state None = None
-opened_state (Some p) = Some (record { format = p.format; taken = taken_of p; searched = p.searched })
+opened_state (Some p) = Some (record { format = p.format; taken = record { bytes = p.first ++ p.bytes; faults = p.faults }; searched = p.searched })
 
 -- a proof is open
 abbrev pub IsOpen : Option OpenProof → Type 0

@@ -13,7 +13,7 @@ use Rattle.varisat_proof.specs.Written.{AreInRange}
 use Rattle.varisat.specs.OpenProofs.{OpenProof, opened_state, IsOpen, first_proof, entries_over, lines_over, HaveOwnVariables}
 use Rattle.varisat.specs.ProofBytes.{IsMarkedDerivation}
 use Rattle.varisat.specs.States.{Known, State}
-use Rattle.varisat.specs.Calls.{IsValid, Invalidates, IsRefusedInvalid, count_anew, Verdicts, calling}
+use Rattle.varisat.specs.Calls.{IsValid, Invalidates, IsRefusedInvalid, count_anew, Verdicts, IsRefuted, calling}
 use Rattle.varisat.specs.declared.solver.SolverError.{SolverError}
 use Rattle.varisat.specs.declared.solver.SolverError.TheVariants.{ProofIoError, Invalid, ProofOpen, ProofTooLate}
 
@@ -30,13 +30,10 @@ OpensProof taken target format s (Err (ProofOpen, back)) t = (back ≡ target) �
 OpensProof taken target format s (Err (ProofTooLate, back)) t = (back ≡ target) × IsValid s × (s.proof ≡ None) × (s.ledger.started ≡ true) × (t ≡ s)
 OpensProof taken target format s (Err _) t = ⊥
 
--- a checker runs inside, and steps are counted anew
-abbrev pub begin_checking : {V : Type 0} → Known V → Known V
-begin_checking s = record s { ledger = record s.ledger { since = 0; checking = true } }
-
--- Self checking is switched on before anything is accepted, or was so before. No other call changes whether a checker runs.
+-- Self checking is switched on before anything is accepted, or was so before: a checker runs inside, and steps are counted anew. No
+-- other call changes whether one runs.
 abbrev pub EnablesChecking : {V : Type 0} → Known V → Result (Unit {0}) SolverError → Known V → Type 0
-EnablesChecking s (Ok _) t = IsValid s × (s.ledger.started ≡ false) × (t ≡ begin_checking s)
+EnablesChecking s (Ok _) t = IsValid s × (s.ledger.started ≡ false) × (t ≡ record s { ledger = record s.ledger { since = 0; checking = true } })
 EnablesChecking s (Err Invalid) t = IsRefusedInvalid s t
 EnablesChecking s (Err ProofTooLate) t = IsValid s × (s.ledger.started ≡ true) × (t ≡ s)
 EnablesChecking s (Err _) t = ⊥
@@ -53,8 +50,8 @@ module _ {V : Type 0} (by : Verdicts V) where
     pub plain : s.ever_hidden ≡ false → entries_over s.variables s.told ≡ s.told
     pub in_range : s.ever_hidden ≡ false → AreInRange (lines_told (Text true) s.told)
     pub derives : s.ever_hidden ≡ false → IsDerivation s.clauses (lines_of s.told)
-    pub refutes : s.ever_hidden ≡ false → by.disproves p.format s → Refutes s.clauses (lines_of s.told)
-    pub marked : s.ever_hidden ≡ false → IsMarkedDerivation s.told s.clauses s.assumptions (by.disproves p.format s)
+    pub refutes : s.ever_hidden ≡ false → IsRefuted by p.format s → Refutes s.clauses (lines_of s.told)
+    pub marked : s.ever_hidden ≡ false → IsMarkedDerivation s.told s.clauses s.assumptions (IsRefuted by p.format s)
 
   -- so it is where a proof is open
   abbrev pub IsProofIfOpen : Known V → Type 0

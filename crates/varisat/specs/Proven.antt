@@ -20,7 +20,7 @@ use Rattle.varisat.specs.ProofBytes.{IsMarkedDerivation}
 use Rattle.varisat.specs.ProofCalls.{with_proof, ClosesProof}
 use Rattle.varisat.specs.States.{State, new_state}
 use Rattle.varisat.specs.ClauseCalls.{AddsDimacs}
-use Rattle.varisat.specs.Calls.{Solves, TellsModel, with_update, count_anew}
+use Rattle.varisat.specs.Calls.{Solves, TellsList, with_update, count_anew, calling}
 use Rattle.varisat.specs.declared.solver.SolverError.{SolverError}
 use Rattle.varisat.specs.declared.solver.SolverError.TheVariants.{Interrupted, OutOfMemory}
 use Rattle.varisat.specs.declared.deciding.Report.{Report}
@@ -51,16 +51,16 @@ prepared taken format check limit (Some target) = count_anew (with_proof (Some (
 
 -- What a solver in the state s comes to as it is asked: a model that it tells, that there is none, or that its steps are spent.
 abbrev pub Concludes : State → Conclusion → State → Type 0
-Concludes s Unknown t = Solves s (Err Interrupted) t
-Concludes s (Decided None) t = Solves s (Ok false) t
-Concludes s (Decided (Some model)) t = Solves s (Ok true) t × TellsModel t (Ok (Some model)) t
+Concludes s Unknown t = Solves calling s (Err Interrupted) t
+Concludes s (Decided None) t = Solves calling s (Ok false) t
+Concludes s (Decided (Some model)) t = Solves calling s (Ok true) t × TellsList (calling.model t) t (Ok (Some model)) t
 
 -- The same with the errors: those of the search, and out of memory also where a model was found that could not be listed.
 abbrev pub Reports : {A : Type 0} → State → Result (Report A) SolverError → State → Type 0
 Reports s (Ok report) t = Concludes s (concluded report) t
 Reports s (Err Interrupted) t = ⊥
-Reports s (Err OutOfMemory) t = Solves s (Err OutOfMemory) t ⊎ Solves s (Ok true) t
-Reports s (Err e) t = Solves s (Err e) t
+Reports s (Err OutOfMemory) t = Solves calling s (Err OutOfMemory) t ⊎ Solves calling s (Ok true) t
+Reports s (Err e) t = Solves calling s (Err e) t
 
 -- The target took just the bytes of what was told, in numbers that a reader takes, and counted no fault. The lines are a derivation
 -- from the clauses, and refute them where the conclusion is that they have no model. DRAT has just these lines. Marked text gives
@@ -96,8 +96,8 @@ pub record DecidesProven {W : Type 0} (taken : W → Taken) (format : ProofForma
 -- lists the model that it found; or as its proof is closed.
 pub data Fails {W : Type 0} (taken : W → Taken) (s : State) (old new : Stand) (e : SolverError) : Type 0 where
   AsRead : (t : State) → AddsDimacs s old (Err e) new t → Fails taken s old new e
-  AsSearched : (t u : State) → AddsDimacs s old (Ok tt) new t → Solves t (Err e) u → e ≢ Interrupted → Fails taken s old new e
-  AsListed : (t u : State) → AddsDimacs s old (Ok tt) new t → Solves t (Ok true) u → e ≡ OutOfMemory → Fails taken s old new e
+  AsSearched : (t u : State) → AddsDimacs s old (Ok tt) new t → Solves calling t (Err e) u → e ≢ Interrupted → Fails taken s old new e
+  AsListed : (t u : State) → AddsDimacs s old (Ok tt) new t → Solves calling t (Ok true) u → e ≡ OutOfMemory → Fails taken s old new e
   AsClosed : (t u v : State) (c : Conclusion) (back : W) → AddsDimacs s old (Ok tt) new t → Concludes t c u → ClosesProof taken u (Err (e, back)) v →
       Fails taken s old new e
 

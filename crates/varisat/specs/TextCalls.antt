@@ -1,7 +1,8 @@
 -- How clauses of a text are taken.
 use Rattle.std.specs.Prelude.{◌≡◌, List, Result, Err}
 use Rattle.varisat_theory.specs.Literals.{Clause}
-use Rattle.varisat.specs.ClauseCalls.{AddsAll}
+use Rattle.varisat.specs.Calls.{calling}
+use Rattle.varisat.specs.Additions.{AddsAll}
 use Rattle.varisat.specs.Summaries.{Summary, StandsOnce, HasFullStore}
 use Rattle.varisat.specs.Targets.{WritesOn}
 use Rattle.varisat.specs.declared.solver.SolverError.{SolverError}
@@ -11,4 +12,4 @@ use Rattle.varisat.specs.declared.solver.SolverError.TheVariants.{ClauseStoreFul
 pub record TakesClauses (g : Summary) (clauses : List Clause) (r : Result (Unit {0}) SolverError) (h : Summary) : Type 0 where
   pub target : WritesOn g.opened r h.opened
   pub full : r ≡ Err ClauseStoreFull → HasFullStore h
-  pub call : StandsOnce g (λ s t. AddsAll s clauses r t) h
+  pub call : StandsOnce g (λ s t. AddsAll calling s clauses r t) h

@@ -3,7 +3,7 @@ use Rattle.std.specs.Prelude.{◌≡◌, List, [], ◌∷◌}
 use Rattle.varisat_formula.specs.Streams.{Stand, Taken}
 use Rattle.varisat.specs.States.{Known}
 use Rattle.varisat.specs.Names.{Sample, Witness}
-use Rattle.varisat.specs.Calls.{Verdicts, TakesOne, TakesList, MakesVar, Configures, TellsSteps, TellsSince, TellsValid}
+use Rattle.varisat.specs.Calls.{Verdicts, TakesOne, TakesList, MakesVar, Solves, TellsList, Configures, TellsSteps, TellsSince, TellsValid}
 use Rattle.varisat.specs.ProofCalls.{OpensProof, EnablesChecking, Closes}
 use Rattle.varisat.specs.Additions.{AddsList, AddsText}
 use Rattle.varisat.specs.Usage.{SetsMode, HidesVar, Observes}
@@ -26,9 +26,9 @@ module _ {V : Type 0} (by : Verdicts V) where
   Makes seen taken s (call.HideVar u) (answer.HideVar r) t = HidesVar s u r t
   Makes seen taken s call.ObserveInternalVars (answer.ObserveInternalVars r) t = Observes s (told_vars r) t
   Makes seen taken s (call.Assume list) (answer.Assume r) t = TakesList by s list.items r t
-  Makes seen taken s call.Solve (answer.Solve r) t = by.solves s r t
-  Makes seen taken s call.Model (answer.Model r) t = by.tells_model s (told_list r) t
-  Makes seen taken s call.FailedCore (answer.FailedCore r) t = by.tells_core s (told_list r) t
+  Makes seen taken s call.Solve (answer.Solve r) t = Solves by s r t
+  Makes seen taken s call.Model (answer.Model r) t = TellsList (by.model s) s (told_list r) t
+  Makes seen taken s call.FailedCore (answer.FailedCore r) t = TellsList (by.core s) s (told_list r) t
   Makes seen taken s (call.Config u) (answer.Config r) t = Configures s u r t
   Makes seen taken s call.Steps (answer.Steps n) t = TellsSteps s n t
   Makes seen taken s call.StepsSinceChange (answer.StepsSinceChange n) t = TellsSince s n t

@@ -14,15 +14,12 @@ use Rattle.varisat.specs.Spaces.{IsApart}
 use Rattle.varisat.specs.declared.solver.SolverError.{SolverError}
 use Rattle.varisat.specs.declared.solver.SolverError.TheVariants.{OutOfMemory, Invalid, VariableLimit, AssumedVar}
 
--- The clauses let the identity stay hidden: no wide one names it, or all assignments that satisfy them agree on it.
-abbrev pub LetStayHidden : List Clause → ℕ → Type 0
-LetStayHidden P i = IsApart P i ⊎ ((a b : Assignment) → SatisfiesAll a P → SatisfiesAll b P → a i ≡ b i)
-
--- Hidden variables came back under these names, and those that did not may stay hidden.
+-- Hidden variables came back under these names. Those that did not may stay hidden: no wide clause names them, or all assignments that
+-- satisfy the clauses agree on them.
 pub record AreAllShown (us : List ℕ) (P : List Clause) (old new : Naming) : Type 0 where
   pub in_turn : AreShown us old new
   pub in_range : (u : ℕ) → u ∈ us → u < variable_limit
-  pub rest : (i : ℕ) → i < new.made → IsUnnamed new i → LetStayHidden P i
+  pub rest : (i : ℕ) → i < new.made → IsUnnamed new i → IsApart P i ⊎ ((a b : Assignment) → SatisfiesAll a P → SatisfiesAll b P → a i ≡ b i)
 
 -- the name is in use, and its variable is assumed
 abbrev pub IsAssumed : {V : Type 0} → Known V → ℕ → Type 0

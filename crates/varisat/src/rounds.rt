@@ -2,7 +2,7 @@
 ghost use Rattle.std.specs.Prelude.{◌≡◌, ◌↔◌, ◌<◌, ◌≤◌, IsTrue, Err};
 ghost use Rattle.varisat.specs.States.{State};
 ghost use Rattle.varisat.specs.Summaries.{StandsFor, StandsOnce};
-ghost use Rattle.varisat.specs.Calls.{SearchesWithin, Solves};
+ghost use Rattle.varisat.specs.Calls.{SearchesWithin, Solves, calling};
 
 use crate::progress::{write_head, write_row, write_summary};
 use crate::solver::{Solver, SolverError};
@@ -17,7 +17,7 @@ pub(crate) fn search<W: ProofTarget, A: Allocator + Copy, E: Write>(
     interval: Option<u64>,
     err: &mut E,
 ) -> Result<bool, SolverError>
-    ensures { (s : State) → StandsFor solver.old s → (t : State) × Solves s result t × StandsFor solver.new t }
+    ensures { (s : State) → StandsFor solver.old s → (t : State) × Solves calling s result t × StandsFor solver.new t }
 {
     match interval {
         Some(interval) => search_in_rounds(solver, interval, err),
@@ -31,7 +31,7 @@ fn search_in_rounds<W: ProofTarget, A: Allocator + Copy, E: Write>(
     interval: u64,
     err: &mut E,
 ) -> Result<bool, SolverError>
-    ensures { (s : State) → StandsFor solver.old s → (t : State) × Solves s result t × StandsFor solver.new t }
+    ensures { (s : State) → StandsFor solver.old s → (t : State) × Solves calling s result t × StandsFor solver.new t }
 {
     let max_steps = solver.max_steps();
     // Of a writer that fails here nothing is left to tell.

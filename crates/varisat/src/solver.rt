@@ -251,8 +251,9 @@ impl<W: ProofTarget, A: Allocator + Copy> Solver<W, A> {
     ghost use Rattle.std.specs.declared.io.Error.{Error};
     ghost use Rattle.varisat.specs.States.{State, empty_state};
     ghost use Rattle.varisat.specs.Models.{IsCompletableIn, HasModel, HasCore, IsNamedCore};
-    ghost use Rattle.varisat.specs.Calls.{IsValid, count_anew, with_max_steps, AddsClause, MakesVar, Assumes, Searches, Solves, TellsModel, TellsCore, Configures, TellsSteps, TellsSince, TellsValid, answer_of};
-    ghost use Rattle.varisat.specs.ClauseCalls.{AddsAll, AddsFormula, AddsDimacs, TellsFault};
+    ghost use Rattle.varisat.specs.Calls.{IsValid, count_anew, with_max_steps, AddsClause, MakesVar, Assumes, Searches, Solves, TellsList, Configures, TellsSteps, TellsSince, TellsValid, answer_of, calling};
+    ghost use Rattle.varisat.specs.ClauseCalls.{AddsFormula, AddsDimacs};
+    ghost use Rattle.varisat.specs.Additions.{AddsAll, TellsFault};
     ghost use Rattle.varisat.specs.Told.{told_list, lent_list};
     ghost use Rattle.varisat.specs.Summaries.{StandsFor, StandsOnce, EndsSearch, HasFullStore};
     ghost use Rattle.varisat.specs.Targets.{WritesOn, WritesAll};
@@ -422,7 +423,7 @@ impl<W: ProofTarget, A: Allocator + Copy> Solver<W, A> {
     ) -> Result<(), SolverError>
         ensures target { WritesOn self.old.opened result self.new.opened }
         ensures full { result ≡ Err SolverError.ClauseStoreFull → HasFullStore self.new }
-        ensures call { StandsOnce self.old (λ s t. AddsAll s formula.now.clauses result t) self.new }
+        ensures call { StandsOnce self.old (λ s t. AddsAll calling s formula.now.clauses result t) self.new }
     {
         for clause in formula.iter() {
             self.add_clause(clause)?;
@@ -451,7 +452,7 @@ impl<W: ProofTarget, A: Allocator + Copy> Solver<W, A> {
         ensures same { self.new.opened ≡ self.old.opened }
         ensures faults { told_faults result ≡ 0 }
         ensures full { result ≢ SolverError.ClauseStoreFull }
-        ensures call { (s : State) → StandsFor self.old s → IsValid s → (t : State) × TellsFault (Some fault) s (Err result) t × StandsFor self.new t }
+        ensures call { (s : State) → StandsFor self.old s → IsValid s → (t : State) × TellsFault calling (Some fault) s (Err result) t × StandsFor self.new t }
     {
         if let DimacsErrorKind::OutOfMemory = fault.kind {
             return invalidate(&mut self.ctx, SolverError::OutOfMemory);
@@ -599,7 +600,7 @@ impl<W: ProofTarget, A: Allocator + Copy> Solver<W, A> {
     /// The next call then goes on. Where memory runs out, the clause store is full or the target of an open proof fails,
     /// the solver is invalid; a proof that cannot be flushed is told in place of spent steps.
     pub fn solve(&mut self) -> Result<bool, SolverError>
-        ensures call { StandsOnce self.old (λ s t. Solves s result t) self.new }
+        ensures call { StandsOnce self.old (λ s t. Solves calling s result t) self.new }
         ensures satisfiable { result ≡ Ok true → (s : State) → StandsFor self.old s → IsSatisfiableWith s.clauses s.assumptions }
         ensures unsatisfiable { result ≡ Ok false → (s : State) → StandsFor self.old s → IsSatisfiableWith s.clauses s.assumptions → ⊥ }
         ensures model { result ≡ Ok true → (s : State) → StandsFor self.new s → HasModel s }
@@ -667,7 +668,7 @@ impl<W: ProofTarget, A: Allocator + Copy> Solver<W, A> {
     /// The names in use in increasing order with the values that were found, if the last thing that was found out is
     /// that the clauses are satisfiable; else None, as in an invalid solver. Where memory runs out nothing changes.
     pub fn model(&self) -> Result<Option<Vec<Lit, A>>, AllocError>
-        ensures call { StandsOnce self.now (λ s t. TellsModel s (told_list result) t) self.now }
+        ensures call { StandsOnce self.now (λ s t. TellsList (calling.model s) s (told_list result) t) self.now }
         ensures completable { (m : List ℕ) → told_list result ≡ Ok (Some m) → (s : State) → StandsFor self.now s → IsCompletableIn s m }
         ensures absent { told_list result ≡ Ok None → (s : State) → StandsFor self.now s → IsValid s → answer_of s.verdict ≡ Some true → ⊥ }
     {
@@ -688,7 +689,7 @@ impl<W: ProofTarget, A: Allocator + Copy> Solver<W, A> {
     /// that was found out is that these are unsatisfiable under the assumptions; an empty list where the clauses alone
     /// are; else None, as in an invalid solver.
     pub fn failed_core(&self) -> Option<&[Lit]>
-        ensures call { StandsOnce self.now (λ s t. TellsCore s (Ok (lent_list result)) t) self.now }
+        ensures call { StandsOnce self.now (λ s t. TellsList (calling.core s) s (Ok (lent_list result)) t) self.now }
         ensures fails { (core : List ℕ) → lent_list result ≡ Some core → (s : State) → StandsFor self.now s → IsNamedCore s core }
         ensures absent { lent_list result ≡ None → (s : State) → StandsFor self.now s → IsValid s → answer_of s.verdict ≡ Some false → ⊥ }
     {
@@ -705,7 +706,7 @@ impl<W: ProofTarget, A: Allocator + Copy> Solver<W, A> {
 
     /// A copy of the failed core. Where memory runs out nothing changes.
     pub(crate) fn copy_core(&self) -> Result<Option<Vec<Lit, A>>, AllocError>
-        ensures { StandsOnce self.now (λ s t. TellsCore s (told_list result) t) self.now }
+        ensures { StandsOnce self.now (λ s t. TellsList (calling.core s) s (told_list result) t) self.now }
     {
         match self.failed_core() {
             Some(core) => {

@@ -10,7 +10,7 @@ use Rattle.varisat.specs.States.{State, Verdict, Unsat, IsRight}
 use Rattle.varisat.specs.Names.{Naming, name_all, through_names, AreInOrder}
 use Rattle.varisat.specs.Models.{IsCompletable, AreNamesInUse}
 use Rattle.varisat.specs.Counts.{count_with}
-use Rattle.varisat.specs.Calls.{IsPastLimit, IsCrowded, AddsClause, Ignored, Accepted, VerdictAfter, Refuted, Reopened, Assumes, Solves, Configures}
+use Rattle.varisat.specs.Calls.{IsPastLimit, IsCrowded, AddsClause, Ignored, Accepted, VerdictAfter, Refuted, Reopened, Assumes, Solves, Configures, calling}
 use Rattle.varisat_names.specs.declared.config.SolverConfigUpdate.{SolverConfigUpdate}
 use Rattle.varisat.specs.declared.solver.SolverError.TheVariants.{Interrupted}
 use Rattle.varisat.proofs.LikeStates.{same-assumptions, same-clauses, same-ledger, same-naming, same-verdict}
@@ -158,20 +158,20 @@ searched s t P A n most v m c a l u f = record {
   limit = ap (λ x. x.max_steps) l ∙ f.limit;
 }
 
-pub decided : (s t : State) (b : Bool) (P : List Clause) (A : List Literal) (n most : ℕ) → Solves s (Ok b) t → WasGiven s P A n most →
+pub decided : (s t : State) (b : Bool) (P : List Clause) (A : List Literal) (n most : ℕ) → Solves calling s (Ok b) t → WasGiven s P A n most →
     WasGiven t P A t.ledger.steps most
 decided s t b P A n most r f =
     searched s t P A n most (ap (λ l. l.valid) (same-ledger r.rest) ∙ f.valid) (same-naming r.rest) (same-clauses r.rest) (same-assumptions r.rest)
-    (ap (λ l. l.settings) (same-ledger r.rest)) (λ u h. subst (IsRight t.clauses t.assumptions t.counted) u r.right h) f
+    (ap (λ l. l.settings) (same-ledger r.rest)) (λ u h. subst (IsRight t.clauses t.assumptions t.counted) u r.right.right h) f
 
-pub interrupted : (s t : State) (P : List Clause) (A : List Literal) (n most : ℕ) → Solves s (Err Interrupted) t → WasGiven s P A n most →
+pub interrupted : (s t : State) (P : List Clause) (A : List Literal) (n most : ℕ) → Solves calling s (Err Interrupted) t → WasGiven s P A n most →
     WasGiven t P A t.ledger.steps most
 interrupted s t P A n most r f =
     searched s t P A n most (ap (λ l. l.valid) (same-ledger r.rest) ∙ f.valid) (same-naming r.rest) (same-clauses r.rest) (same-assumptions r.rest)
     (ap (λ l. l.settings) (same-ledger r.rest)) (λ u h. f.refuted (sym (same-verdict r.rest) ∙ u) (subst IsSatisfiable (same-clauses r.rest) h)) f
 
 -- the steps are spent
-pub all-spent : (s t : State) (P : List Clause) (A : List Literal) (n most : ℕ) → Solves s (Err Interrupted) t → WasGiven s P A n most →
+pub all-spent : (s t : State) (P : List Clause) (A : List Literal) (n most : ℕ) → Solves calling s (Err Interrupted) t → WasGiven s P A n most →
     (t.ledger.steps ≡ n + most) ⊎ (t.ledger.steps ≡ 2 ^ 64 - 1)
 all-spent s t P A n most r f =
     let k = r.steps in

@@ -11,7 +11,7 @@ use Rattle.varisat_names.specs.declared.config.SolverConfigUpdate.{SolverConfigU
 use Rattle.varisat_names.specs.declared.config.ConfigField.TheVariants.{MaxSteps}
 use Rattle.varisat.specs.States.{State, empty_state}
 use Rattle.varisat.proofs.NameLaws.{none-in-order}
-use Rattle.varisat.specs.Calls.{AddsClause, Assumes, Solves, Configures}
+use Rattle.varisat.specs.Calls.{AddsClause, Assumes, Solves, Configures, calling}
 use Rattle.varisat.specs.declared.solver.SolverError.{SolverError}
 use Rattle.varisat.specs.declared.solver.SolverError.TheVariants as error
 use Rattle.varisat.specs.Summaries.{Summary, StandsFor, HasFullStore}
@@ -133,7 +133,7 @@ begin-refused g h d e free own call why = refused-now Begins g h (refusal_for e)
 
 -- a search
 pub search-fails : (g h : Client) (e : SolverError) → is_some g.refusal ≡ false →
-    ((s : State) → StandsFor g.solver s → (t : State) × Solves s (Err e) t × StandsFor h.solver t) →
+    ((s : State) → StandsFor g.solver s → (t : State) × Solves calling s (Err e) t × StandsFor h.solver t) →
     (e ≡ error.ClauseStoreFull → HasFullStore h.solver) → h.refusal ≡ Some (refusal_for e) → Moves (IsSearchEnd end.Refused) g h
 search-fails g h e free call full why = refused-now (IsSearchEnd end.Refused) g h (refusal_for e) free why (λ p st r.
     let k = st.holds r in
@@ -267,7 +267,7 @@ limit-refused steps u g h after e free given call p st =
 
 -- a search that found a model
 pub finds-model : (r : SearchEnd) (g m h : Client) → is_some g.refusal ≡ false → m ≡ record g { solver = m.solver } →
-    ((s : State) → StandsFor g.solver s → (t : State) × Solves s (Ok true) t × StandsFor m.solver t) → KeepsModel r m h → Moves (IsSearchEnd r) g h
+    ((s : State) → StandsFor g.solver s → (t : State) × Solves calling s (Ok true) t × StandsFor m.solver t) → KeepsModel r m h → Moves (IsSearchEnd r) g h
 finds-model r g m h e q call (client.Refused x) = runs-out (IsSearchEnd r) g h e x.refusal (λ p free. past.Refused x.answer (Memory free refl))
 finds-model r g m h e q call (client.Kept list found tells set o) = λ p st.
     let free = not-refused g p st e in
@@ -290,7 +290,7 @@ finds-model r g m h e q call (client.Kept list found tells set o) = λ p st.
 
 -- a search that found that there is none
 pub finds-core : (r : SearchEnd) (g m h : Client) → is_some g.refusal ≡ false → m ≡ record g { solver = m.solver } →
-    ((s : State) → StandsFor g.solver s → (t : State) × Solves s (Ok false) t × StandsFor m.solver t) → KeepsCore r m h → Moves (IsSearchEnd r) g h
+    ((s : State) → StandsFor g.solver s → (t : State) × Solves calling s (Ok false) t × StandsFor m.solver t) → KeepsCore r m h → Moves (IsSearchEnd r) g h
 finds-core r g m h e q call (client.Refused x) = runs-out (IsSearchEnd r) g h e x.refusal (λ p free. past.Refused x.answer (Memory free refl))
 finds-core r g m h e q call (client.Kept core found tells set o) = λ p st.
     let free = not-refused g p st e in
@@ -314,7 +314,8 @@ finds-core r g m h e q call (client.Kept core found tells set o) = λ p st.
 
 -- a search whose steps are spent
 pub spends-steps : (g h : Client) → is_some g.refusal ≡ false → h ≡ record g { solver = h.solver } →
-    ((s : State) → StandsFor g.solver s → (t : State) × Solves s (Err error.Interrupted) t × StandsFor h.solver t) → Moves (IsSearchEnd end.Interrupted) g h
+    ((s : State) → StandsFor g.solver s → (t : State) × Solves calling s (Err error.Interrupted) t × StandsFor h.solver t) →
+    Moves (IsSearchEnd end.Interrupted) g h
 spends-steps g h e q call p st =
     let free = not-refused g p st e in
     let k = st.holds free in

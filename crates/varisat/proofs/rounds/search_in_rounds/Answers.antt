@@ -2,7 +2,7 @@
 use Rattle.std.proofs.Common.{◌≡◌, ◌∙◌, ℕ, Bool, Result, sym, ap, subst}
 use Rattle.varisat.specs.States.{State, Ledger}
 use Rattle.varisat.specs.Summaries.{Summary, StandsFor}
-use Rattle.varisat.specs.Calls.{Searches, Solves, with_max_steps}
+use Rattle.varisat.specs.Calls.{Searches, Solves, with_max_steps, calling}
 use Rattle.varisat.specs.declared.solver.SolverError.{SolverError}
 use Rattle.varisat.proofs.Additions.{told-error}
 use Rattle.varisat.proofs.SearchEnds.{ends-early, solve-ends, solve-fails}
@@ -37,7 +37,7 @@ returns-in_err-end_search g c s st =
     solve-fails c.set_max_steps.new.self c.end_search.new.self s (with_max_steps n t) r e
     (found-under n c.args.solver.now s t r c.max_steps-max_steps.ensures st h) (c.set_max_steps.ensures t x)
     (sym c.is_valid.ensures.now ∙ c.if-not-is_valid.false) c.in_err-end_search.ensures
-    in (u, subst (λ k. Solves s k u) (sym (told-error c.from_residual.result e c.from_residual.ensures)) f, z)
+    in (u, subst (λ k. Solves calling s k u) (sym (told-error c.from_residual.result e c.from_residual.ensures)) f, z)
 
 pub returns : goal.returns
 returns g c s st =

@@ -3,7 +3,7 @@ use Rattle.varisat_search.specs.declared.state.SolverState.{SolverState}
 use Rattle.varisat_schedule.specs.Plans.{Plan}
 use Rattle.varisat_tracer.specs.TracerLaws.{checked-runs}
 use Rattle.varisat.specs.States.{State, Ledger}
-use Rattle.varisat.specs.Calls.{count_anew, IsExtensible, Ignored, Accepted, AddsClause}
+use Rattle.varisat.specs.Calls.{calling, count_anew, MayAccept, Ignored, Accepted, AddsClause}
 use Rattle.varisat.proofs.CallStates.{ledger-is, none-since, stands-valid, proof-fits, broken, broken-invalid, adds-broken}
 use Rattle.varisat.proofs.AcceptClause.{not-refuted}
 use Rattle.varisat_tracer.specs.Tracing.{tracer_state, BreaksProof}
@@ -43,7 +43,7 @@ pub returns-in_err-check_names-clause-call : goal.returns-in_err-check_names-cla
 returns-in_err-check_names-clause-call g c s st =
     let q = rw (← c.self.view_is) at st in
     let ok = ap not c.in_ok-ensure_valid.ensures in
-    let bad : IsExtensible s = record {
+    let bad : MayAccept calling s = record {
       unrefuted = not-refuted _ s q ok c.in_default.not-Unsat;
       unbarred = unclosed-there _ s.variables s.told s.proof c.bars_clauses.result (proof-fits q ok) c.bars_clauses.ensures c.if-bars_clauses.false;
     } in
@@ -77,7 +77,7 @@ returns-clause-call g c s st =
     let old = c.self.inside in
     let new = c.accept_user_clause-accepted.new in
     let (is, counted) = c.in_ok-end_change.ensures in
-    let bad : IsExtensible s = record {
+    let bad : MayAccept calling s = record {
       unrefuted = not-refuted _ s q ok c.in_default.not-Unsat;
       unbarred = unclosed-there _ s.variables s.told s.proof c.bars_clauses.result (proof-fits q ok) c.bars_clauses.ensures c.if-bars_clauses.false;
     } in
@@ -116,7 +116,7 @@ returns-in_err-end_change-clause-call g c s st =
     let old = c.self.inside in
     let new = c.accept_user_clause-accepted.new in
     let (error, is, told, made, count) = c.in_err-end_change.ensures in
-    let bad : IsExtensible s = record {
+    let bad : MayAccept calling s = record {
       unrefuted = not-refuted _ s q ok c.in_default.not-Unsat;
       unbarred = unclosed-there _ s.variables s.told s.proof c.bars_clauses.result (proof-fits q ok) c.bars_clauses.ensures c.if-bars_clauses.false;
     } in

@@ -1,7 +1,8 @@
 -- The clauses so far are accepted; with those that are left they are the formula's.
 use Rattle.std.proofs.Common.{◌≡◌, ◌++◌, map, Ok}
 use Rattle.varisat.specs.States.{State}
-use Rattle.varisat.specs.ClauseCalls.{AddsAll}
+use Rattle.varisat.specs.Calls.{calling}
+use Rattle.varisat.specs.Additions.{AddsAll}
 use Rattle.varisat.specs.Summaries.{StandsFor}
 use Rattle.varisat.specs.Targets.{WritesAll}
 use Rattle.varisat.proofs.solver.Solver.add_clauses.Given as goal
@@ -9,6 +10,6 @@ use Rattle.varisat.proofs.solver.Solver.add_clauses.Given as goal
 abbrev pub invariant-loop-clause : goal.invariant-loop-clause
 invariant-loop-clause g l = record {
   target : WritesAll l.initial.self.opened l.self.opened;
-  so_far : (s : State) → StandsFor l.initial.self s → (t : State) × AddsAll s (map (λ c. c.now) l.yielded) (Ok tt) t × StandsFor l.self t;
+  so_far : (s : State) → StandsFor l.initial.self s → (t : State) × AddsAll calling s (map (λ c. c.now) l.yielded) (Ok tt) t × StandsFor l.self t;
   whole : map (λ c. c.now) l.yielded ++ l.clause-iterator ≡ l.fn.formula.clauses;
 }

@@ -2,7 +2,8 @@
 use Rattle.std.proofs.Common.{◌∙◌, Err, refl, sym, ap, not, subst}
 use Rattle.varisat.specs.Additions.{ClausesAdded, NoFault, Read, Unread}
 use Rattle.varisat.specs.Calls.{count_anew}
-use Rattle.varisat.specs.ClauseCalls.{TellsFault}
+use Rattle.varisat.specs.Calls.{calling}
+use Rattle.varisat.specs.Additions.{TellsFault}
 use Rattle.varisat.specs.Refusals.{told_faults}
 use Rattle.varisat.specs.Summaries.{Summary}
 use Rattle.varisat.specs.Targets.{WritesAll, WritesUpTo}
@@ -34,7 +35,7 @@ returns-in-Ok-Some-clause-call g c s st =
     let (t, f, z) = c.refuse_text.ensures.call u w (adds-valid s u _ valid a) in (
       t,
       Read valid k.reading k.gives
-          (ClausesAdded u a (subst (λ x. TellsFault x u (Err c.refuse_text.result) t) (sym (sym k.told ∙ c.in-Ok-Some.field-0-is)) f)),
+          (ClausesAdded u a (subst (λ x. TellsFault calling x u (Err c.refuse_text.result) t) (sym (sym k.told ∙ c.in-Ok-Some.field-0-is)) f)),
       z,
     )
 

@@ -2,7 +2,8 @@ use Rattle.std.proofs.Common.{◌∙◌, not, refl, ap, sym, subst}
 use Rattle.std.specs.Option.{IsSome}
 use Rattle.varisat.specs.States.{Ledger}
 use Rattle.varisat.specs.Summaries.{Summary}
-use Rattle.varisat.specs.ProofCalls.{begin_checking, EnablesChecking}
+use Rattle.varisat.specs.Calls.{count_anew}
+use Rattle.varisat.specs.ProofCalls.{EnablesChecking}
 use Rattle.varisat.proofs.CallStates.{stands-valid}
 use Rattle.varisat.proofs.SelfChecking.{begun-or-on, some-there, tells-checking, some-checking, with_checking, stands-checking}
 use Rattle.varisat.proofs.ChangeEnds.{stands-invalid, invalid-told}
@@ -27,7 +28,7 @@ returns-clause-call g c s st =
     let ok = ap not c.in_ok-ensure_valid.ensures in
     let fresh = ap (λ (l : Ledger). l.started) q.ledger ∙ c.if-is_late.false in
     let (e, runs) = begun-or-on c.self.inside.tracer.proof c.begin_checking.new.self c.begin_checking.ensures.begun c.begin_checking.ensures.stays in (
-      begin_checking s,
+      count_anew (with_checking s),
       (stands-valid _ s q ok, fresh, refl),
       c.begin_count.ensures.call (with_checking s) (stands-checking c.self.inside.tracer.tables c.self.inside.tracer.proof
           c.begin_checking.new.self c.self.inside.started c.self.inside.changed_at c.self.inside.ctx s e

@@ -1,8 +1,9 @@
 use Rattle.std.proofs.Common.{◌≡◌, ◌∙◌, length, not, refl, sym, ap, subst, inl, Some}
+use Rattle.varisat.specs.Calls.{calling}
 use Rattle.varisat.specs.Models.{IsCompletable}
 use Rattle.varisat.specs.Summaries.{list_tables}
 use Rattle.varisat.proofs.CallStates.{stands-valid}
-use Rattle.varisat.proofs.SolverCalls.{sat-model, sat-answer, tells-error}
+use Rattle.varisat.proofs.SolverCalls.{sat-model, tells-error}
 use Rattle.varisat.proofs.solver.Solver.model.Goals as goal
 
 pub returns-in_ok-list-in-Sat-clause-call : goal.returns-in_ok-list-in-Sat-clause-call
@@ -24,7 +25,7 @@ pub returns-in_err-list-in-Sat-clause-call : goal.returns-in_err-list-in-Sat-cla
 returns-in_err-list-in-Sat-clause-call g c s st =
     let q = rw (← c.self.view_is) at st in (
       s,
-      tells-error s c.from_residual.result c.from_residual.ensures.0 (stands-valid _ s q (ap not c.if-self.false))
-          (sat-answer _ s q (ap not c.if-self.false) c.in-Sat.is),
+      tells-error (calling.model s) s _ c.from_residual.result c.from_residual.ensures.0 (stands-valid _ s q (ap not c.if-self.false))
+          (sym (sat-model _ s q (ap not c.if-self.false) c.in-Sat.is).0),
       st,
     )

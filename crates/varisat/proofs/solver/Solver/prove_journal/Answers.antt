@@ -1,5 +1,4 @@
-use Rattle.std.proofs.Common.{Bool, true, false, not, length, ap, sym, ◌∙◌, subst}
-use Rattle.varisat_theory.specs.CallBounds.{AreFew}
+use Rattle.std.proofs.Common.{ap, sym, ◌∙◌}
 use Rattle.varisat.specs.States.{Ledger}
 use Rattle.varisat.proofs.SolverCalls.{counted-few, not-valid}
 use Rattle.varisat.proofs.ToldJournals.{journal-of}

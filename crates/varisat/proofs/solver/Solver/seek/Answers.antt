@@ -19,7 +19,7 @@ use Rattle.varisat_proof.specs.Calls.{CheckerState}
 use Rattle.varisat_proof.specs.Proving.{ProofParts}
 use Rattle.varisat.specs.Spaces.{Spaces, SpacesFit}
 use Rattle.varisat.specs.Summaries.{StandsFor, StandsForSome, spaces_of, spaces_with, undecided_spaces}
-use Rattle.varisat.specs.Calls.{with_steps, Searches, IsInterrupted, TellsVerdict}
+use Rattle.varisat.specs.Calls.{calling, with_steps, Searches, IsSpent, TellsVerdict}
 use Rattle.varisat.specs.declared.solver.SolverError.{SolverError}
 use Rattle.varisat.specs.declared.solver.SolverError.TheVariants.{Interrupted, ClauseStoreFull, Invalid}
 use Rattle.varisat_search.specs.StepErrors.{step_faults}
@@ -95,7 +95,7 @@ module _ {A : Type 0} {p q : TracerState} {started : Bool} {changed_at : ℕ} {x
 -- a verdict was found
 found-call : {A : Type 0} {p q : TracerState} {started : Bool} {changed_at : ℕ} {x y : Context A} {b : Bool} {s : State}
     (d : Sought p q started changed_at x y (Some b) s) → CountsSteps
-    (length s.counted) s.ledger.settings.max_steps s.ledger.since s.ledger.steps y.schedule.steps (Ok b) → (t : State) × TellsVerdict s b t
+    (length s.counted) s.ledger.settings.max_steps s.ledger.since s.ledger.steps y.schedule.steps (Ok b) → (t : State) × TellsVerdict calling s b t
     × StandsFor (summary_of q started changed_at y) t
 found-call {p = p} {q = q} {started = started} {changed_at = changed_at} {x = x} {y = y} {b = b} {s = s} d k = (
   after-solve (comes d).told (comes d).verdict y.schedule.steps (goes-on d).0 (length y.clause_alloc.words) s,
@@ -109,7 +109,7 @@ found-call {p = p} {q = q} {started = started} {changed_at = changed_at} {x = x}
 moved-call : {A : Type 0} {p q : TracerState} {started : Bool} {changed_at : ℕ} {x y : Context A} {s : State}
     (d : Sought p q started changed_at x y None s) → CountsSteps
     (length s.counted) s.ledger.settings.max_steps s.ledger.since s.ledger.steps y.schedule.steps (Err Interrupted) →
-    s.ledger.steps < y.schedule.steps → (t : State) × IsInterrupted s t × StandsFor (summary_of q started changed_at y) t
+    s.ledger.steps < y.schedule.steps → (t : State) × IsSpent calling s t × StandsFor (summary_of q started changed_at y) t
 moved-call {p = p} {q = q} {started = started} {changed_at = changed_at} {x = x} {y = y} {s = s} d k h =
     let last = answered-none y.solver_state.sat_state (sym d.finds.answer) in
     let unknown = unknown-undecided q.tables q.proof.checker y
@@ -128,7 +128,7 @@ moved-call {p = p} {q = q} {started = started} {changed_at = changed_at} {x = x}
 still-call : {A : Type 0} {p q : TracerState} {started : Bool} {changed_at : ℕ} {x y : Context A} {s : State}
     (d : Sought p q started changed_at x y None s) → CountsSteps
     (length s.counted) s.ledger.settings.max_steps s.ledger.since s.ledger.steps y.schedule.steps (Err Interrupted) →
-    y.schedule.steps ≡ s.ledger.steps → (t : State) × IsInterrupted s t × StandsFor (summary_of q started changed_at y) t
+    y.schedule.steps ≡ s.ledger.steps → (t : State) × IsSpent calling s t × StandsFor (summary_of q started changed_at y) t
 still-call {A} {p} {q} {started} {changed_at} {x} {y} {s} d k e =
     let (same, parts) = d.finds.still (e ∙ ap (λ (l : Ledger). l.steps) d.stood.ledger) in (
       s,
@@ -142,7 +142,7 @@ still-call {A} {p} {q} {started} {changed_at} {x} {y} {s} d k e =
 spent-call : {A : Type 0} {p q : TracerState} {started : Bool} {changed_at : ℕ} {x y : Context A} {s : State}
     (d : Sought p q started changed_at x y None s) → CountsSteps
     (length s.counted) s.ledger.settings.max_steps s.ledger.since s.ledger.steps y.schedule.steps (Err Interrupted) → (t : State)
-    × IsInterrupted s t × StandsFor (summary_of q started changed_at y) t
+    × IsSpent calling s t × StandsFor (summary_of q started changed_at y) t
 spent-call {A} {p} {q} {started} {changed_at} {x} {y} {s} d k =
     ⊎_elim (λ (h : s.ledger.steps < y.schedule.steps). moved-call d k h)
     (λ (h : y.schedule.steps ≤ s.ledger.steps). still-call d k (let e = k.count in omega (arith, e, h))) (cases_lt s.ledger.steps y.schedule.steps)

@@ -3,7 +3,7 @@ use Rattle.std.proofs.Common.{◌≡◌, ◌∙◌, true, not, sym, ap, subst}
 use Rattle.varisat.specs.Dropping.{LeavesInTime}
 use Rattle.varisat.specs.declared.solver.SolverError.TheVariants.{ClauseStoreFull}
 use Rattle.varisat.proofs.Targets.{writes-marked, ends-writing, fails-writing, ends-not-full, still-full, same-error, ends-badly-invalid}
-use Rattle.varisat.specs.Calls.{Solves}
+use Rattle.varisat.specs.Calls.{Solves, calling}
 use Rattle.varisat.specs.ProofCalls.{with_proof}
 use Rattle.varisat.specs.Summaries.{Summary, StandsFor}
 use Rattle.varisat.proofs.Additions.{told-error}
@@ -16,7 +16,7 @@ returns-in_err-end_search-clause-call g c s st =
     let valid = subst (λ (x : Summary). x.ledger.valid ≡ true) c.self.view_is (ap not c.if-self.false) in
     let (u, f, z) =
     solve-fails c.seek-found.new.self c.end_search.new.self s t c.seek-found.result c.in_err-end_search.field-0.0 k w valid c.in_err-end_search.ensures
-    in (u, subst (λ r. Solves s r u) (sym (told-error c.from_residual.result c.in_err-end_search.field-0.0 c.from_residual.ensures)) f, z)
+    in (u, subst (λ r. Solves calling s r u) (sym (told-error c.from_residual.result c.in_err-end_search.field-0.0 c.from_residual.ensures)) f, z)
 
 pub returns-clause-call : goal.returns-clause-call
 returns-clause-call g c s st =

@@ -1,4 +1,4 @@
-use Rattle.std.proofs.Common.{◌≡◌, ◌∙◌, ◌-◌, ◌<◌, ◌*◌, ◌^◌, ◌+◌, not, length, refl, sym, ap, subst}
+use Rattle.std.proofs.Common.{◌∙◌, ◌-◌, length, refl, sym, ap, subst}
 use Rattle.varisat_theory.specs.CallBounds.{AreFew}
 use Rattle.varisat.specs.States.{Ledger}
 use Rattle.varisat.proofs.SolverCalls.{counted-few, not-valid}

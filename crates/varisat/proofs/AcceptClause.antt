@@ -39,18 +39,17 @@ use Rattle.varisat.specs.OpenProofs.{OpenProof}
 use Rattle.varisat.specs.Journals.{retold, TellsStaying}
 use Rattle.varisat.specs.Summaries.{Summary, spaces, spaces_of, StandsFor}
 use Rattle.varisat.specs.Accepting.{HasSolver, AreJoined}
-use Rattle.varisat.proofs.SpacesMoves.{give, take_solver, count, solver_literal, accept}
-use Rattle.varisat.proofs.KeptCounts.{given-most}
+use Rattle.varisat.proofs.SpacesAgree.{give, take_solver, count, solver_literal, accept}
+use Rattle.varisat.proofs.VariableMoves.{given-most}
 use Rattle.varisat.proofs.NewNames.{given}
 use Rattle.varisat.proofs.ToldProofs.{AreToldAs}
 use Rattle.varisat.proofs.Counted.{counted, join-more, join-only, join-once}
 use Rattle.varisat.proofs.AcceptSolverVariables.{taken}
-use Rattle.varisat.proofs.SearchLinks.{relinked}
+use Rattle.varisat.proofs.SearchLinks.{relinked, view-long}
 use Rattle.varisat.proofs.ModelsFit.{is-core}
 use Rattle.varisat.proofs.AcceptLoad.{loaded}
 use Rattle.varisat.proofs.SolveVerdict.{forgotten, core-known, model-same, spaces-same, maps-same}
 use Rattle.varisat.proofs.Carried.{carry-at}
-use Rattle.varisat.proofs.SearchViews.{view-long}
 
 abbrev pub with_tables : Tables → Summary → Summary
 with_tables t g = record g { tables = t }

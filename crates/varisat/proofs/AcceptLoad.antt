@@ -26,10 +26,9 @@ use Rattle.varisat.specs.Calls.{ContradictsUnit, VerdictAfter, Refuted, Reopened
 use Rattle.varisat_tracer.specs.Carried.{carry, told_as}
 use Rattle.varisat.specs.Carried.{is_forced}
 use Rattle.varisat.specs.Spaces.{Spaces, Carrying, IsWide, IsApart, IsolationCase, NotIsolated, Apart, Forced, IsolationFits, Translation, translation, CheckerFits, SharesHeld, IsCounted, IsGone, TellsWhole, SearchHolds, CoreFits, without_core, VerdictFits, Links}
-use Rattle.varisat.proofs.SpacesMoves.{AreTaken, solver_literal, IsTouched, IsMarkedFor, accept, AreLong, AreInUse}
+use Rattle.varisat.proofs.SpacesAgree.{AreTaken, solver_literal, IsTouched, IsMarkedFor, accept, AreLong, AreInUse, map-map, holds-same, isolation-same, marks-same}
 use Rattle.varisat_names.proofs.Maps.{chain-some, chain-through}
-use Rattle.varisat.proofs.SearchLinks.{relinked-marks}
-use Rattle.varisat.proofs.SpacesAgree.{map-map, holds-same, isolation-same, marks-same}
+use Rattle.varisat.proofs.SearchLinks.{relinked-marks, answers-covers, fixed-on, refuted}
 use Rattle.varisat.proofs.Carried.{carry-at, carry-sign, map-empty, satisfied-carried, forced-value, wide-back}
 use Rattle.varisat_tracer.specs.RenamedEntries.{carry-opposites}
 use Rattle.varisat.proofs.AcceptSolverVariables.{one-literal}
@@ -40,7 +39,6 @@ use Rattle.varisat_proof.specs.Proving.{IsCheckedIf}
 use Rattle.varisat.proofs.CheckedHeld.{checker-on, checker-still, told-carried, global-carried}
 use Rattle.varisat_theory.proofs.Journals.{written_stays}
 use Rattle.varisat.proofs.ToldProofs.{AreToldAs}
-use Rattle.varisat.proofs.SearchHeld.{answers-covers, fixed-on, refuted}
 
 module _ (w : Carrying) (p : Spaces) (s : State) (d : Clause) (k : Links w p s) (taken : AreTaken p d) where
   r : Translation

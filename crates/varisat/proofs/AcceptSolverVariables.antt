@@ -16,16 +16,14 @@ use Rattle.varisat.specs.States.{State}
 use Rattle.varisat_tracer.specs.Carried.{carry}
 use Rattle.varisat.specs.Carried.{is_forced}
 use Rattle.varisat.specs.Spaces.{Spaces, Carrying, Translation, translation, IsSettledBy, SearchHolds, AssumptionsFit, without_core, Links}
-use Rattle.varisat.proofs.SpacesMoves.{take_solver}
+use Rattle.varisat.proofs.SpacesAgree.{take_solver, carry-same, working-same, settled-through}
 use Rattle.varisat_search.proofs.TakenSolvers.{few, below, below-count, ∈-below}
 use Rattle.varisat_names.proofs.Maps.{updated-at, updated-other, updated-all, joined, chain-some, chain-none, chain-through, is-some}
-use Rattle.varisat.proofs.SpacesAgree.{carry-same, working-same, settled-through}
-use Rattle.varisat.proofs.ForgottenWith.{settled-with}
+use Rattle.varisat.proofs.DroppedSolvers.{settled-with}
 use Rattle.varisat.proofs.Carried.{carry-at, carry-sign}
 use Rattle.varisat.proofs.ReachedHeld.{IsInUse, only, unmentioned, fits-without, same-apart, inside-apart, live-apart, in-use-lives}
-use Rattle.varisat.proofs.SearchHeld.{with-model, without-model}
+use Rattle.varisat.proofs.SearchLinks.{with-model, without-model, relinked}
 use Rattle.varisat.proofs.NewNames.{linked}
-use Rattle.varisat.proofs.SearchLinks.{relinked}
 
 -- no two solver variables stand for one identity
 pub one-solver : (w : Carrying) (p : Spaces) (s : State) (k : Links w p s) (v v' i : ℕ) → (translation w p s.told).identity v ≡ Some i →

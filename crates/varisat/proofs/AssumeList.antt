@@ -22,7 +22,7 @@ use Rattle.varisat.specs.Journals.{retold}
 use Rattle.varisat.specs.Spaces.{Carrying, MarksFit, Links, SpacesFit}
 use Rattle.varisat.specs.Summaries.{Summary, spaces, spaces_of}
 use Rattle.varisat.specs.Accepting.{HasSolver, AreMarked}
-use Rattle.varisat.proofs.SpacesMoves.{IsMarkedFor, count, solver_literal}
+use Rattle.varisat.proofs.SpacesAgree.{IsMarkedFor, count, solver_literal}
 use Rattle.varisat.proofs.AcceptLoad.{list-carried, assumed}
 use Rattle.varisat.proofs.AcceptClause.{raised}
 use Rattle.varisat.proofs.SolveVerdict.{forgotten, spaces-same}

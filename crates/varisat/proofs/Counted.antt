@@ -6,7 +6,7 @@ use Rattle.varisat_theory.proofs.Members.{∈-append_left, ∈-append_right, ∈
 use Rattle.varisat_theory.proofs.Count.{length-distinct}
 use Rattle.varisat.specs.States.{State, is_member, join_one, join_counted, Verdict, Unknown, Sat, Unsat, UnsatUnderAssumptions, IsRight}
 use Rattle.varisat.specs.Spaces.{Spaces, Carrying, Links}
-use Rattle.varisat.proofs.SpacesMoves.{count}
+use Rattle.varisat.proofs.SpacesAgree.{count}
 use Rattle.varisat.proofs.ToldEntries.{told-counted}
 
 member-is : (i : ℕ) (xs : List ℕ) → is_member i xs ≡ true → i ∈ xs

@@ -1,49 +1,147 @@
 -- Variables leave the search in turn: what that does to the tables, said of the states.
-use Rattle.std.proofs.Common.{◌≡◌, ◌≢◌, ℕ, nat_eq, not, if◌then◌else◌, Bool, true, false, Option, Some, None, List, [], ◌∷◌, ◌++◌, ◌⊎◌, inl, inr, ⊎_elim, length, sym, ap, ap₂, ◌∙◌, subst, refl, arith, eq-eqb, ne_eqb}
+use Rattle.std.proofs.Common.{◌≡◌, ℕ, Bool, true, false, Option, Some, None, [], ◌∷◌, ◌++◌, inr, sym, ap, ◌∙◌, subst, refl, inl, ⊎_elim, ◌≢◌, nat_eq, not, if◌then◌else◌, List, ◌⊎◌, length, ap₂, arith, eq-eqb, ne_eqb}
 use Rattle.std.specs.List.{filter}
 use Rattle.varisat_theory.specs.Membership.{◌∈◌}
-use Rattle.varisat_theory.specs.Literals.{Literal, Clause, variable_of, literal_of}
-use Rattle.varisat_theory.specs.Held.{SameClauses, mentions}
-use Rattle.varisat_theory.specs.Searches.{KeptClause, Search, clauses_of, IsLiteralOf}
-use Rattle.varisat_theory.specs.Outcomes as outcome
-use Rattle.varisat_theory.proofs.Members.{equal_or_not}
-use Rattle.varisat_theory.proofs.StepCovers.{dropped_are_covered}
+use Rattle.varisat_theory.specs.Literals.{Literal, Assignment, variable_of, literal_of, SatisfiesAll, Clause}
+use Rattle.varisat_theory.specs.Searches.{Search, clauses_of, KeptClause, IsLiteralOf}
+use Rattle.varisat_theory.proofs.Members.{∈-append_right, equal_or_not}
+use Rattle.varisat_theory.proofs.Held.{same_satisfied}
 use Rattle.varisat_literals.specs.Numbers.{polarity_of}
+use Rattle.varisat_search.proofs.StepOutcome.{variable-literal, polarity-literal}
+use Rattle.varisat_names.specs.Maps.{updated, chain}
+use Rattle.varisat_names.specs.VarData.{dead, kept_at, IsKeptAs}
+use Rattle.varisat_names.specs.declared.variables.data.VarData.{VarData}
+use Rattle.varisat_names.proofs.Maps.{updated-at, updated-other, updated-all, chain-some, is-some}
+use Rattle.varisat.specs.States.{State}
+use Rattle.varisat.specs.Names.{identity_of}
+use Rattle.varisat.specs.Spaces.{Spaces, Carrying, SearchHolds, without_core, translation, Links, SpacesFit, Translation}
+use Rattle.varisat.specs.Dropping.{fixed_to, LosesSolverVar}
+use Rattle.varisat.proofs.Carried.{true-value}
+use Rattle.varisat.proofs.SearchLinks.{agrees-through, relinked}
+use Rattle.varisat.proofs.SolveVerdict.{maps-alike, maps-same, recount}
+use Rattle.varisat_proof.specs.Calls.{CheckerState}
+use Rattle.varisat_proof.specs.Proving.{IsCheckedIf, ProofParts, IsTold}
+use Rattle.varisat_theory.specs.Journals.{Leaves, Entry}
+use Rattle.varisat.specs.Journals.{retold, TellsLeaving}
+use Rattle.varisat.proofs.VariableMoves.{leave_search, leave_all, recycle, kept-most}
+use Rattle.varisat.proofs.RecycledGlobals.{recycled}
+use Rattle.varisat.proofs.DroppedSolvers.{IsWithout, left, still-forced}
+use Rattle.varisat_theory.specs.Held.{SameClauses, mentions}
+use Rattle.varisat_theory.proofs.StepCovers.{dropped_are_covered}
 use Rattle.varisat_prop.specs.View.{View}
 use Rattle.varisat_prop.proofs.SimplifiedPairs.{filter-∈, ∈-filter}
 use Rattle.varisat_search.specs.AssumptionParts.{AssumptionParts}
 use Rattle.varisat_search.specs.Seen.{search_of}
-use Rattle.varisat_search.specs.declared.state.SatState.TheVariants as verdict
-use Rattle.varisat_search.proofs.StepOutcome.{variable-literal}
-use Rattle.varisat_names.specs.Maps.{updated}
 use Rattle.varisat_names.specs.VarMap.{at}
 use Rattle.varisat_names.specs.VarBiMap.{BiMap, IsParted}
-use Rattle.varisat_names.specs.VarData.{dead, kept_at, IsKeptAs}
 use Rattle.varisat_names.specs.Variables.{Tables, IsChangedTo, unused, unless_unused}
-use Rattle.varisat_proof.specs.Calls.{CheckerState}
-use Rattle.varisat_proof.specs.Proving.{ProofParts, IsCheckedIf, IsTold}
 use Rattle.varisat.proofs.CheckedHeld.{checked-nothing}
 use Rattle.varisat_tracer.specs.Tracing.{TracerState, leaves_if_deleted}
-use Rattle.varisat_names.specs.declared.variables.data.VarData.{VarData}
-use Rattle.varisat_names.proofs.Maps.{updated-at, updated-other, updated-all}
-use Rattle.varisat.specs.States.{State}
 use Rattle.varisat_tracer.specs.Carried.{carry}
 use Rattle.varisat.specs.Carried.{is_forced}
-use Rattle.varisat_theory.specs.Journals.{Entry, Leaves}
-use Rattle.varisat.specs.Journals.{retold, TellsLeaving}
 use Rattle.varisat.proofs.ToldProofs.{leaving-none, leaving-nothing, leaving-one, leaving-through}
-use Rattle.varisat.specs.Spaces.{Spaces, Carrying, Translation, SearchHolds, translation, Links, SpacesFit}
 use Rattle.varisat.specs.Summaries.{spaces_of}
-use Rattle.varisat.specs.Dropping.{fixed_to, LosesSolverVar}
-use Rattle.varisat.proofs.SpacesMoves.{with_search}
+use Rattle.varisat.proofs.SpacesAgree.{with_search}
 use Rattle.varisat.proofs.ReachedHeld.{shares-more}
-use Rattle.varisat.proofs.SolveVerdict.{maps-alike, maps-same, recount}
-use Rattle.varisat.proofs.KeptCounts.{kept-most}
-use Rattle.varisat.proofs.SearchLinks.{relinked}
-use Rattle.varisat.proofs.VariableMoves.{leave_search, leave_all}
-use Rattle.varisat.proofs.DroppedSolvers.{IsWithout}
-use Rattle.varisat.proofs.DroppedFixed.{IsGone, fixed-stays, fixed-left}
-use Rattle.varisat.proofs.DroppedApart.{apart-left, apart-recycled}
+use Rattle.varisat_theory.specs.Outcomes as outcome
+use Rattle.varisat_search.specs.declared.state.SatState.TheVariants as verdict
+
+-- A variable whose value is fixed leaves the search, and its value is kept. Where it has no name, its global variable may be used again.
+
+-- A literal that is held as a unit clause is true under each assignment that satisfies the accepted clauses.
+proved-value : (w : Carrying) (p : Spaces) (s : State) (v x i : ℕ) (l : Literal) → Links w p s → p.outcome ≡ outcome.Unknown →
+    p.global_from_solver v ≡ Some x → w.identity x ≡ Some i → variable_of l ≡ v → l ∈ p.search.proved → (a : Assignment) →
+    SatisfiesAll a s.clauses → a i ≡ polarity_of l
+proved-value w p s v x i l k unknown pair at over proved a m =
+    let to = chain p.global_from_solver w.identity in
+    let read : Assignment = λ u. a (identity_of (to u)) in
+    let h = subst (SearchHolds s.clauses (translation w p s.told) p.search) (ap without_core unknown) k.holds in
+    let (d, e, unit) = h.holds.units l proved in
+    let all = same_satisfied read h.held _ h.holds.same (h.implied a read m (agrees-through to a)) in
+    let (n, y, z) = all d (∈-append_right d (clauses_of p.search.kept) h.holds.others e) in
+    let same = unit.1 n y in
+    sym (ap (λ o. a (identity_of o)) (ap to over ∙ chain-some p.global_from_solver w.identity v x pair ∙ at))
+    ∙ ap (λ m. read (variable_of m)) (sym same) ∙ true-value read n z ∙ ap polarity_of same
+
+-- The identity that a proof writes as x is gone from the state, and the spaces stand for what is left.
+pub record IsGone (x : ℕ) (p : Spaces) (s : State) : Type 0 where
+  pub identity : ℕ
+  pub variable : s.variables identity ≡ Some x
+  pub fits : SpacesFit p (retold (s.told ++ Leaves identity ∷ []) s)
+
+-- whatever is kept in between of the isolated global variable
+pub left-recycled : (w : Carrying) (p : Spaces) (s : State) (v x i : ℕ) (t : Search) (d : VarData) → Links w (leave_search v x t d p) s →
+    p.outcome ≡ outcome.Unknown → w.identity x ≡ Some i → p.user_from_global x ≡ None → d.isolated ≡ true → (checker : Option CheckerState) →
+    IsCheckedIf p.checker (Leaves x ∷ []) checker → IsGone x (record (leave_all v x t p) { checker = checker }) s
+left-recycled w p s v x i t d k unknown at unnamed alone checker told =
+    let mid = leave_search v x t d p in
+    let unsolved = updated-at p.solver_from_global x None in
+    let isolated = ap (λ (a : VarData). a.isolated) (updated-at p.kept x d) ∙ alone in
+    record {
+      identity = i;
+      variable = k.variables i x (k.identities.one_to_one.there x i at);
+      fits =
+          maps-same (record (recycle x mid) { checker = checker }) (record (leave_all v x t p) { checker = checker })
+          (retold (s.told ++ Leaves i ∷ []) s)
+          (maps-alike (record (recycle x mid) { checker = checker }) (record (leave_all v x t p) { checker = checker }) refl
+          (λ y. updated-all (λ y a. a ≡ updated (updated p.kept x d) x dead y) p.kept x dead (sym (updated-at (updated p.kept x d) x dead)) y
+          (λ n. sym (updated-other (updated p.kept x d) x dead y n ∙ updated-other p.kept x d y n)))
+          (λ a e y. refl)) refl
+          (recycled w mid s x i k at unnamed unsolved isolated
+          (λ e. let z : outcome.Unknown ≡ outcome.Unsat = sym (ap without_core unknown) ∙ e in cc) checker told);
+    }
+
+-- The variable is not assumed, and its value is fixed at level 0.
+module _ (w : Carrying) (p : Spaces) (s : State) (v x : ℕ) (b : Bool) (t : Search) (k : Links w p s) (unknown : p.outcome ≡ outcome.Unknown)
+    (pair : p.global_from_solver v ≡ Some x) (unassumed : (p.kept x).assumed ≡ false) (f : IsWithout v (Some b) p.search t) where
+  links-left : (i : ℕ) → w.identity x ≡ Some i → i ∈ s.counted →
+      Links (record w { forced = updated w.forced i (Some b) }) (leave_search v x t (fixed_to b (p.kept x)) p) s
+  links-left i at c =
+      let l = literal_of v b in
+      let sure = (λ (a : Assignment) (m : SatisfiesAll a s.clauses) (y : Bool) (e : Some b ≡ Some y). let q : b ≡ y = cc in
+      proved-value w p s v x i l k unknown pair at (variable-literal v b) (f.units b refl) a m ∙ polarity-literal v b ∙ q) in
+      left w p s v x i (Some b) t k unknown pair at c unassumed f (fixed_to b (p.kept x)) sure refl (inr (b, refl))
+
+  -- the global variable stays, with the value
+  pub fixed-stays : SpacesFit (leave_search v x t (fixed_to b (p.kept x)) p) s
+  fixed-stays = let (i, at, c) = k.solvers.live v x pair in (record w { forced = updated w.forced i (Some b) }, links-left i at c)
+
+  -- a hidden one may be used again
+  pub fixed-left : p.user_from_global x ≡ None → (checker : Option CheckerState) → IsCheckedIf p.checker (Leaves x ∷ []) checker →
+      IsGone x (record (leave_all v x t p) { checker = checker }) s
+  fixed-left unnamed checker told =
+      let (i, at, c) = k.solvers.live v x pair in
+      left-recycled (record w { forced = updated w.forced i (Some b) }) p s v x i t (fixed_to b (p.kept x))
+      (links-left i at c) unknown at unnamed refl checker told
+
+-- A variable without a value that no kept clause mentions leaves the search. Where it has no name and is isolated, its global variable may be used again.
+
+module _ (w : Carrying) (p : Spaces) (s : State) (v x i : ℕ) (t : Search) (k : Links w p s) (unknown : p.outcome ≡ outcome.Unknown)
+    (pair : p.global_from_solver v ≡ Some x) (at : w.identity x ≡ Some i) (c : i ∈ s.counted) (unassumed : (p.kept x).assumed ≡ false)
+    (f : IsWithout v None p.search t) where
+  no-unit : (p.kept x).unit ≡ None
+  no-unit = sym (k.units.unit x i at)
+      ∙ ⊎_elim (λ e. e) (λ (b, e). let z = still-forced w p s v x i None t k unknown pair at c unassumed f b e in absurd cc) (is-some (w.forced i))
+
+  links-apart : Links (record w { forced = updated w.forced i None }) (leave_search v x t (p.kept x) p) s
+  links-apart = left w p s v x i None t k unknown pair at c unassumed f (p.kept x) (λ a m b e. absurd cc)
+      (ap (λ (u : Option Bool). record (p.kept x) { unit = u }) no-unit) (inl refl)
+
+-- it stays as it is
+pub apart-left : (w : Carrying) (p : Spaces) (s : State) (v x : ℕ) (t : Search) → Links w p s → p.outcome ≡ outcome.Unknown →
+    p.global_from_solver v ≡ Some x → (p.kept x).assumed ≡ false → IsWithout v None p.search t → SpacesFit (leave_search v x t (p.kept x) p) s
+apart-left w p s v x t k unknown pair unassumed f = let (i, at, c) = k.solvers.live v x pair in
+    (record w { forced = updated w.forced i None }, links-apart w p s v x i t k unknown pair at c unassumed f)
+
+-- it may be used again
+pub apart-recycled : (w : Carrying) (p : Spaces) (s : State) (v x : ℕ) (t : Search) → Links w p s → p.outcome ≡ outcome.Unknown →
+    p.global_from_solver v ≡ Some x → (p.kept x).assumed ≡ false → p.user_from_global x ≡ None → (p.kept x).isolated ≡ true →
+    IsWithout v None p.search t → (checker : Option CheckerState) → IsCheckedIf p.checker (Leaves x ∷ []) checker →
+    IsGone x (record (leave_all v x t p) { checker = checker }) s
+apart-recycled w p s v x t k unknown pair unassumed unnamed alone f checker told =
+    let (i, at, c) = k.solvers.live v x pair in
+    left-recycled (record w { forced = updated w.forced i None }) p s v x i t (p.kept x)
+    (links-apart w p s v x i t k unknown pair at c unassumed f) unknown at unnamed alone checker told
 
 -- The solver variable was dropped. Before that its global variable was kept with its value and as isolated, where the value is fixed.
 abbrev pub IsLeft : Option Bool → TracerState → TracerState → ℕ → Type 0

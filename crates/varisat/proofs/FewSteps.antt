@@ -29,7 +29,7 @@ use Rattle.varisat.specs.declared.session.Call.TheVariants as call
 use Rattle.varisat.specs.declared.session.Answer.TheVariants as answer
 use Rattle.varisat.specs.declared.solver.SolverError.{SolverError}
 use Rattle.varisat.specs.declared.solver.SolverError.TheVariants.{OutOfMemory, Invalid, ProofIoError, ClauseStoreFull, WitnessVar, AssumedVar, VariableLimit, ClauseAfterSolve, ProofOpen, ProofTooLate, Interrupted, ConfigOutOfRange}
-use Rattle.varisat.proofs.LikeStates.{same-counted, same-ledger}
+use Rattle.varisat.proofs.CallStates.{same-counted, same-ledger}
 
 none-is-few : (since n : ℕ) → since ≡ 0 → AreFew n since
 none-is-few since n e = subst (AreFew n) (sym e) (few_none n)

@@ -1,18 +1,24 @@
--- What is found out over the tables of names is so over the names of a state for which they stand.
-use Rattle.std.proofs.Common.{◌≡◌, ℕ, Some, None, List, ⊎_elim, sym, ap, ◌∙◌, refl}
+-- What is said of a clause or a list of assumptions whose names were looked at before they come into use.
+use Rattle.std.proofs.Common.{◌≡◌, ℕ, Some, None, List, ⊎_elim, sym, ap, ◌∙◌, refl, Err, true, ◌⊎◌, inl, inr}
 use Rattle.varisat_theory.specs.Literals.{Literal, variable_of}
 use Rattle.varisat_names.specs.VarMap.{at}
 use Rattle.varisat_names.specs.VarData.{kept_at}
 use Rattle.varisat_names.specs.declared.variables.data.SamplingMode.{SamplingMode}
-use Rattle.varisat_names.specs.declared.variables.data.SamplingMode.TheVariants as sampling
 use Rattle.varisat_names.proofs.Maps.{chain-none, chain-some, is-some}
 use Rattle.varisat.specs.States.{State}
 use Rattle.varisat.specs.Names.{Mode, Sample, Witness, name_all, IsWitness, NameNoWitness, IsFirstWitness}
-use Rattle.varisat.specs.Calls.{IsCrowded}
+use Rattle.varisat.specs.Calls.{IsCrowded, IsPastLimit, MayConstrain, MayAccept, AddsClause, Assumes, calling}
 use Rattle.varisat.specs.Spaces.{Carrying, ModeFits, Links}
-use Rattle.varisat.specs.Summaries.{Summary, spaces}
-use Rattle.varisat.specs.Accepting.{mode_of, naming_of}
-use Rattle.varisat.proofs.NamesAlike.{AreAlike, all-alike, alike-crowded}
+use Rattle.varisat.specs.Summaries.{Summary, spaces, StandsFor}
+use Rattle.varisat.specs.Accepting.{mode_of, naming_of, CanBeNamed, ChecksNames}
+use Rattle.varisat.proofs.NamesComing.{AreAlike, all-alike, alike-crowded}
+use Rattle.varisat.specs.declared.solver.SolverError.{SolverError}
+use Rattle.varisat.specs.declared.solver.SolverError.TheVariants.{WitnessVar, VariableLimit}
+use Rattle.varisat.specs.OpenProofs.{BarsAssumptions}
+use Rattle.varisat.proofs.CallStates.{stands-valid}
+use Rattle.varisat_names.specs.declared.variables.data.SamplingMode.TheVariants as sampling
+
+-- What is found out over the tables of names is so over the names of a state for which they stand.
 
 pub fits-mode : (a : SamplingMode) (b : Mode) → ModeFits a b → mode_of a ≡ b
 fits-mode sampling.Sample Sample f = refl
@@ -67,3 +73,21 @@ module _ (w : Carrying) (g : Summary) (s : State) (k : Links w (spaces g) s) whe
 
   pub witness-state : (d : List Literal) (u : ℕ) → IsFirstWitness (naming_of g.tables) d u → IsFirstWitness s.naming d u
   witness-state d u (front, l, rest, e, n, v, a) = (front, l, rest, e, no-witness-state front n, v, is-witness u a)
+
+module _ (g : Summary) (s : State) (st : StandsFor g s) (valid : g.ledger.valid ≡ true) (d : List Literal) where
+  -- the names may be constrained
+  pub may-constrain : CanBeNamed d g.tables → NameNoWitness (naming_of g.tables) d → MayConstrain s.naming d
+  may-constrain c n = let (w, k) = st.fits valid in record { in_range = c.in_range; sampled = no-witness-state w g s k d n }
+
+  limit-passed : IsPastLimit d ⊎ IsCrowded (name_all d (naming_of g.tables)) → IsPastLimit d ⊎ IsCrowded (name_all d s.naming)
+  limit-passed c = let (w, k) = st.fits valid in ⊎_elim (λ a. inl a) (λ b. inr (crowded-state w g s k d b)) c
+
+  pub clause-refused : MayAccept calling s → (e : SolverError) → ChecksNames g.tables d (Err e) → AddsClause s d (Err e) s
+  clause-refused n VariableLimit c = (stands-valid g s st valid, n, limit-passed c, refl)
+  clause-refused n (WitnessVar u) c = let (w, k) = st.fits valid in (stands-valid g s st valid, n, c.0.in_range, witness-state w g s k d u c.1, refl)
+  clause-refused n e c = absurd c
+
+  pub list-refused : (BarsAssumptions s.proof → ⊥) → (e : SolverError) → ChecksNames g.tables d (Err e) → Assumes s d (Err e) s
+  list-refused n VariableLimit c = (stands-valid g s st valid, n, limit-passed c, refl)
+  list-refused n (WitnessVar u) c = let (w, k) = st.fits valid in (stands-valid g s st valid, n, c.0.in_range, witness-state w g s k d u c.1, refl)
+  list-refused n e c = absurd c

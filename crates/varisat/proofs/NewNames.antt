@@ -15,9 +15,8 @@ use Rattle.varisat.specs.Calls.{with_naming}
 use Rattle.varisat_tracer.specs.Carried.{carry}
 use Rattle.varisat.specs.Spaces.{Spaces, Carrying, ModeFits, IdentitiesFit, NamesFit, ModesFit, UnitsFit, IsolationCase, NotIsolated, Apart, Forced, IsolationFits, AssumptionsFit, MarksFit, without_core, translation, IsPlain, Links, SpacesFit}
 use Rattle.varisat.proofs.CheckedHeld.{all-live, checker-alike}
-use Rattle.varisat.proofs.SpacesMoves.{give}
+use Rattle.varisat.proofs.SpacesAgree.{give, carry-same, map-same, working-same, core-same, holds-same, told-same, verdict-moved}
 use Rattle.varisat_names.proofs.Maps.{updated-at, updated-other, updated-all, joined, chain-same, chain-some, chain-none, chain-through, is-some}
-use Rattle.varisat.proofs.SpacesAgree.{carry-same, map-same, working-same, core-same, holds-same, told-same, verdict-moved}
 
 -- what follows from the links
 

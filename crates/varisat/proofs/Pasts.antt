@@ -27,11 +27,10 @@ use Rattle.varisat.specs.Pasts.{Findings, Past, MayTellModel, MayTellCore, telli
 use Rattle.varisat.specs.Usage as usage
 use Rattle.varisat.specs.declared.solver.SolverError.{SolverError}
 use Rattle.varisat.specs.declared.solver.SolverError.TheVariants.{ProofIoError, OutOfMemory, Invalid, ClauseStoreFull, WitnessVar, VariableLimit, AssumedVar, ClauseAfterSolve, ProofOpen, ProofTooLate, ConfigOutOfRange}
-use Rattle.varisat.proofs.LikeStates.{same-assumptions, same-clauses, same-counted, same-naming, same-verdict}
-use Rattle.varisat.proofs.ToldEntries.{tells-through, tells, accepts-goes, assumes-goes}
+use Rattle.varisat.proofs.CallStates.{same-assumptions, same-clauses, same-counted, same-naming, same-verdict}
+use Rattle.varisat.proofs.ToldEntries.{tells-through, tells, accepts-goes, assumes-goes, lists-append, lists-derived, lists-on}
 use Rattle.varisat.proofs.PastJournals.{KnowsTold, told-more}
-use Rattle.varisat.proofs.GivenEntries.{lists-append, lists-derived, lists-on}
-use Rattle.varisat.proofs.VerdictAnswers.{told-fails, core-answer, no-core, reopened-core, assumed-no-core, reopened-not-true, reopened-false, right-reopened, assumed-not-true, right-assumed}
+use Rattle.varisat.proofs.SearchVerdicts.{told-fails, core-answer, no-core, reopened-core, assumed-no-core, reopened-not-true, reopened-false, right-reopened, assumed-not-true, right-assumed}
 use Rattle.varisat.proofs.ModelsFit.{completable}
 
 -- 1. No name is in use from the watermark on.

@@ -1,9 +1,13 @@
 -- A text that a new solver takes in, and what is found then.
-use Rattle.std.proofs.Common.{Bool, ◌≡◌, ℕ, ◌+◌, ◌-◌, ◌*◌, ◌^◌, ◌<◌, ◌≤◌, max, min, length, ⊎_elim, Err, true, false, List, [], ◌∷◌, ◌++◌, ◌⊎◌, inl, inr, sym, ap, ◌∙◌, subst, refl, Option, Some, None, Result, Ok, map, append_assoc, append-nil, arith}
+use Rattle.std.proofs.Common.{List, [], ◌∷◌, ◌++◌, Bool, ◌≡◌, ℕ, ◌+◌, ◌-◌, ◌*◌, ◌^◌, ◌<◌, ◌≤◌, max, min, length, ⊎_elim, Err, true, false, ◌⊎◌, inl, inr, sym, ap, ◌∙◌, subst, refl, Option, Some, None, Result, Ok, map, append_assoc, append-nil, arith}
 use Rattle.std.proofs.lemmas.List.{append_cancel_left}
 use Rattle.std.proofs.Math.Pow.{pow_mono}
+use Rattle.varisat_theory.specs.Literals.{Clause, Literal, Assignment, variable_of, MakesTrue, SatisfiesAll, IsSatisfiable}
+use Rattle.varisat_theory.specs.Derivations.{Line, IsDerivation, Refutes}
+use Rattle.varisat_theory.specs.Held.{SameClauses}
+use Rattle.varisat_theory.proofs.Held.{same_set-self, same_clauses-self, same_clauses-back, put_back}
+use Rattle.varisat_theory.proofs.Lines.{derivation_derives, derives_derivation, derives_beside, derives_same, refutes_beside, refutes_same, same_lines-self}
 use Rattle.varisat_theory.specs.Membership.{◌∈◌, ◌⊆◌, IsDistinct}
-use Rattle.varisat_theory.specs.Literals.{Literal, Clause, Assignment, variable_of, MakesTrue, SatisfiesAll, IsSatisfiable}
 use Rattle.varisat_theory.proofs.Members.{∈-append_cases}
 use Rattle.varisat_theory.proofs.Count.{length-distinct}
 use Rattle.varisat_theory.proofs.Assigned.{satisfies_fewer}
@@ -21,22 +25,47 @@ use Rattle.varisat.specs.Models.{IsCompletable}
 use Rattle.varisat.specs.Counts.{count_with}
 use Rattle.varisat.specs.ClauseCalls.{AddsDimacs}
 use Rattle.varisat.specs.OpenProofs.{OpenProof, first_proof}
-use Rattle.varisat.specs.Calls as state
 use Rattle.varisat.specs.Calls.{calling, count_anew, Ignored, Accepted}
-use Rattle.varisat.specs.Additions as additions
 use Rattle.varisat.specs.Additions.{NoFault, MemoryFault, Fault, ClauseRefused, ClausesAdded, RefusedEarly, Read, Unread}
 use Rattle.varisat.specs.Pasts.{Findings, Past, empty_past, telling}
 use Rattle.varisat.specs.Budgets.{CountsSteps}
 use Rattle.varisat.specs.Decided.{IsUpToHighest, IsModel, named_variables, allowed_steps, Conclusion, Decided, Unknown, IsConclusion, Decides, StatusIsTrue, conclusion_status}
 use Rattle.varisat.specs.declared.solver.SolverError.{SolverError}
 use Rattle.varisat.specs.declared.solver.SolverError.TheVariants.{Interrupted, Invalid, ConfigOutOfRange, ProofOpen, ProofTooLate}
-use Rattle.varisat.proofs.LikeStates.{same-assumptions, same-clauses, same-counted, same-ledger, same-naming}
-use Rattle.varisat.proofs.NamesInOrder.{stay-in-order, count-above, count-within, through-all}
-use Rattle.varisat.proofs.NameLaws.{none-in-order, in-use-below}
+use Rattle.varisat.proofs.CallStates.{same-assumptions, same-clauses, same-counted, same-ledger, same-naming}
+use Rattle.varisat.proofs.NameLaws.{stay-in-order, count-above, count-within, through-all, none-in-order, in-use-below}
 use Rattle.varisat.proofs.Counted.{join-more, join-has, join-only, join-once}
 use Rattle.varisat.proofs.Pasts.{Agrees, past_of, stays-but, add-text, tell-model, new-agrees}
 use Rattle.varisat.proofs.SolvedPasts.{solve}
-use Rattle.varisat.proofs.MoreClauses.{Carries, carries-all, carries-through, carries-one-more}
+use Rattle.varisat.specs.Calls as state
+use Rattle.varisat.specs.Additions as additions
+
+-- Lines that are a proof from some clauses, and stay one from these and others.
+
+-- What is a derivation from P is one from Q, and what refutes P refutes Q.
+pub record Carries (P Q : List Clause) : Type 0 where
+  pub derives : (lines : List Line) → IsDerivation P lines → IsDerivation Q lines
+  pub refutes : (lines : List Line) → Refutes P lines → Refutes Q lines
+
+pub carries-all : (P : List Clause) → Carries P P
+carries-all P = record { derives = λ lines d. d; refutes = λ lines r. r }
+
+pub carries-through : (P Q R : List Clause) → Carries P Q → Carries Q R → Carries P R
+carries-through P Q R f g = record { derives = λ lines d. g.derives lines (f.derives lines d); refutes = λ lines r. g.refutes lines (f.refutes lines r) }
+
+-- one more clause among them
+pub carries-one-more : (P : List Clause) (c : Clause) (Q : List Clause) → Carries (P ++ Q) (P ++ c ∷ Q)
+carries-one-more P c Q = record {
+  derives = λ lines d.
+      let (last, e) = derivation_derives (P ++ Q) lines d in
+      let (after, f, same) = derives_same (c ∷ (P ++ Q)) (P ++ c ∷ Q) lines lines (c ∷ last) moved (same_lines-self lines)
+      (derives_beside (c ∷ []) (P ++ Q) lines last e) in
+      derives_derivation (P ++ c ∷ Q) lines after f;
+  refutes = λ lines r. refutes_same (c ∷ (P ++ Q)) (P ++ c ∷ Q) lines lines moved (same_lines-self lines) (refutes_beside (c ∷ []) (P ++ Q) lines r);
+}
+  where
+    moved : SameClauses (c ∷ (P ++ Q)) (P ++ c ∷ Q)
+    moved = same_clauses-back (P ++ c ∷ Q) (c ∷ (P ++ Q)) (put_back P Q (P ++ Q) c c (same_set-self c) (same_clauses-self (P ++ Q)))
 
 abbrev pub done : Result (Unit {0}) SolverError
 done = Ok tt

@@ -1,33 +1,51 @@
 -- What the calls of a run tell together.
-use Rattle.std.proofs.Common.{◌≡◌, ℕ, ◌+◌, ◌-◌, Bool, true, false, Option, None, List, [], ◌∷◌, ◌++◌, map, inl, inr, Result, Ok, Err, sym, ap, ◌∙◌, subst, refl, arith}
-use Rattle.varisat_theory.specs.Literals.{Literal, Clause}
+use Rattle.std.proofs.Common.{List, [], ◌∷◌, ◌++◌, refl, subst, ◌≡◌, ℕ, ◌+◌, ◌-◌, Bool, true, false, Option, None, map, inl, inr, Result, Ok, Err, sym, ap, ◌∙◌, arith}
 use Rattle.std.specs.declared.alloc.AllocError.{AllocError}
-use Rattle.varisat_theory.specs.Journals.{Accepts, Assumes, LeadsBy}
-use Rattle.varisat_formula.specs.Dimacs.{Reading}
 use Rattle.varisat_formula.specs.Streams.{Stand, Taken}
 use Rattle.varisat.specs.States.{State, Ledger, empty_state}
-use Rattle.varisat.specs.Additions.{AddsAll, TellsFault, AllAdded, OneRefused, RefusedAtOnce, NoFault, MemoryFault, Fault, ClauseRefused, ClausesAdded, RefusedEarly, Read, Unread}
-use Rattle.varisat.specs.Additions as additions
-use Rattle.varisat.specs.Usage as usage
-use Rattle.varisat.specs.ClauseCalls.{AddsDimacs, AddsFormula}
-use Rattle.varisat.specs.Calls as state
-use Rattle.varisat.specs.Names.{Naming, Sample, Witness, set_mode, free_name, name_all, through_names}
-use Rattle.varisat.specs.Told.{told_list, told_vars}
-use Rattle.varisat.specs.Runs.{MakesCall, Run}
+use Rattle.varisat.specs.Calls.{IsValid}
+use Rattle.varisat.specs.Journals.{IsJournal, IsToldWithin, TellsMore}
+use Rattle.varisat.specs.Runs.{MakesCall, Run, MayStillFail, AreReady}
 use Rattle.varisat.specs.declared.session.Call.{Call}
 use Rattle.varisat.specs.declared.session.Answer.{Answer}
-use Rattle.varisat.specs.declared.session.Call.TheVariants as call
-use Rattle.varisat.specs.declared.session.Answer.TheVariants as answer
+use Rattle.varisat_theory.specs.Literals.{Literal, Clause}
+use Rattle.varisat_theory.specs.Journals.{Accepts, Assumes, LeadsBy}
+use Rattle.varisat_formula.specs.Dimacs.{Reading}
+use Rattle.varisat.specs.Additions.{AddsAll, TellsFault, AllAdded, OneRefused, RefusedAtOnce, NoFault, MemoryFault, Fault, ClauseRefused, ClausesAdded, RefusedEarly, Read, Unread}
+use Rattle.varisat.specs.ClauseCalls.{AddsDimacs, AddsFormula}
+use Rattle.varisat.specs.Names.{Naming, Sample, Witness, set_mode, free_name, name_all, through_names}
+use Rattle.varisat.specs.Told.{told_list, told_vars}
 use Rattle.varisat_names.specs.declared.config.SolverConfigUpdate.{SolverConfigUpdate}
 use Rattle.varisat_formula.specs.declared.dimacs.error.DimacsError.{DimacsError}
 use Rattle.varisat_proof.specs.declared.proof.format.ProofFormat.{ProofFormat}
 use Rattle.varisat.specs.ProofCalls.{with_proof, OpensProof, EnablesChecking, ClosesProof}
-use Rattle.varisat.specs.Journals.{IsToldWithin, TellsMore}
 use Rattle.varisat.specs.declared.solver.SolverError.{SolverError}
 use Rattle.varisat.specs.declared.solver.SolverError.TheVariants.{OutOfMemory, Invalid, ProofIoError, ClauseStoreFull, WitnessVar, AssumedVar, VariableLimit, ClauseAfterSolve, ProofOpen, ProofTooLate, Interrupted, ConfigOutOfRange}
 use Rattle.varisat_theory.proofs.Journals.{by_leads, by_leads_append}
-use Rattle.varisat.proofs.LikeStates.{same-ledger}
+use Rattle.varisat.proofs.CallStates.{same-ledger}
 use Rattle.varisat.proofs.ToldEntries.{tells-nothing, tells-through, tells, accepts-goes, assumes-goes}
+use Rattle.varisat.specs.Additions as additions
+use Rattle.varisat.specs.Usage as usage
+use Rattle.varisat.specs.Calls as state
+use Rattle.varisat.specs.declared.session.Call.TheVariants as call
+use Rattle.varisat.specs.declared.session.Answer.TheVariants as answer
+
+-- Runs that go on.
+
+-- one more call
+pub run-push : {W S A : Type 0} (seen : S → Stand) (taken : W → Taken) (s t u : State) (calls : List (Call W S A)) (answers : List (Answer W S A))
+    (c : Call W S A) (a : Answer W S A) → Run seen taken s calls answers t → MakesCall seen taken t c a u → (IsValid u → IsJournal u) →
+    Run seen taken s (calls ++ c ∷ []) (answers ++ a ∷ []) u
+run-push seen taken s t u [] [] c a r g j = (u, subst (λ x. MakesCall seen taken x c a u) r g, j, refl)
+run-push seen taken s t u [] (b ∷ answers) c a r g j = absurd r
+run-push seen taken s t u (d ∷ calls) [] c a r g j = absurd r
+run-push seen taken s t u (d ∷ calls) (b ∷ answers) c a r g j = (r.0, r.1, r.2, run-push seen taken r.0 t u calls answers c a r.3 g j)
+
+-- what calls that go on are given is ready
+pub ready-next : {W S A : Type 0} (seen : S → Stand) (taken : W → Taken) (before after : List (Call W S A)) (c : Call W S A) →
+    AreReady seen taken (before ++ c ∷ after) → MayStillFail seen taken c
+ready-next seen taken [] after c r = r.0
+ready-next seen taken (b ∷ before) after c r = ready-next seen taken before after c r.1
 
 -- From a valid state steps were made, and as many clauses that lines added count at most.
 pub record TellsOn (s t : State) : Type 0 where

@@ -1,11 +1,19 @@
 -- A search comes on: by steps, by propagation between them, and as variables leave it.
-use Rattle.std.proofs.Common.{◌≡◌, ◌≢◌, ℕ, zero, suc, ◌+◌, ◌-◌, ◌*◌, ◌^◌, ◌<◌, ◌≤◌, ◌↔◌, Bool, true, false, not, ◌||◌, nat_eq, eq-eqb, if◌then◌else◌, Some, None, List, [], ◌∷◌, ◌++◌, length, map, get_or, replicate, inl, inr, ⊎_elim, refl, sym, ap, ◌∙◌, subst, arith, append_assoc}
+use Rattle.std.proofs.Common.{◌≡◌, List, Result, Ok, Err, MatchResult, true, false, inl, inr, ⊎_elim, sym, subst, ◌≢◌, ℕ, zero, suc, ◌+◌, ◌-◌, ◌*◌, ◌^◌, ◌<◌, ◌≤◌, ◌↔◌, Bool, not, ◌||◌, nat_eq, eq-eqb, if◌then◌else◌, Some, None, [], ◌∷◌, ◌++◌, length, map, get_or, replicate, refl, ap, ◌∙◌, arith, append_assoc}
+use Rattle.std.specs.Result.{IsErr}
 use Rattle.std.specs.Prelude.{cond}
 use Rattle.std.specs.List.{filter}
 use Rattle.std.proofs.lemmas.List.{length-map, length-append, length-replicate, replicate-append-replicate}
+use Rattle.varisat_theory.specs.Derivations.{Line}
+use Rattle.varisat_names.specs.Variables.{Tables}
+use Rattle.varisat_search.specs.declared.context.Context.{Context}
+use Rattle.varisat_search.specs.Contexts.{view, IsNotUnsat, IsReady}
+use Rattle.varisat_search.specs.DueReductions.{BeginsStep}
+use Rattle.varisat_search.specs.SettledUnits.{FixesByLearning, GoesOnByLines, IsSettledDown}
+use Rattle.varisat_search.proofs.FixedLiterals.{begun-fixed}
+use Rattle.varisat.specs.Dropping.{AreOverAssumed, LeavesInTime, HasLetLeave}
 use Rattle.varisat_theory.specs.Membership.{◌∈◌, IsDistinct}
 use Rattle.varisat_theory.specs.Literals.{Literal, variable_of}
-use Rattle.varisat_theory.specs.Derivations.{Line}
 use Rattle.varisat_theory.proofs.Members.{∈-append_cases, distinct_append}
 use Rattle.varisat_theory.specs.CallBounds.{AreFew}
 use Rattle.varisat_theory.proofs.CallBounds.{few_none}
@@ -26,16 +34,33 @@ use Rattle.varisat_prop.proofs.Leaving.{cleared-length}
 use Rattle.varisat_prop.proofs.SimplifiedPairs.{∈-filter}
 use Rattle.varisat_vsids.specs.Activities.{Activities}
 use Rattle.varisat_names.specs.Settings.{Settings}
-use Rattle.varisat_search.specs.declared.context.Context.{Context}
-use Rattle.varisat_search.specs.Contexts.{view, IsReady}
 use Rattle.varisat_search.specs.Decisions.{HasActivities, IsDecidable, SameDecidable}
-use Rattle.varisat_search.specs.DueReductions.{BeginsStep}
 use Rattle.varisat_search.specs.Forgotten.{IsWithout}
 use Rattle.varisat_search.specs.Progress.{RaisesRank}
-use Rattle.varisat_search.specs.SettledUnits.{GoesOnByLines, IsSettledDown}
 use Rattle.varisat_search.proofs.DecidableVariables.{same-trans}
 use Rattle.varisat_search.proofs.ForgottenViews.{trail-distinct, distinct-left}
 use Rattle.varisat.specs.SinceChange.{call_from, HasComeSince, HasBegunWithout, HasBegunSince, GoesOnWithin, BeginsWithin, CountsSince}
+
+-- Variables leave in time, step by step.
+
+-- a step begins
+pub leaves-begun : {A : Type 0} {are : List Line → Type 0} (t u : Tables) (x z : Context A) → IsReady x → BeginsStep are x z → u ≡ t →
+    LeavesInTime t (view x) → LeavesInTime u (view z)
+leaves-begun t u x z r b e h =
+    let (same, news) = begun-fixed x z r b in
+    subst (λ (m : Tables). LeavesInTime m (view z)) (sym e) (⊎_elim (λ n. inl (subst (AreOverAssumed t) (sym same) n)) (λ k. inr (news k)) h)
+
+-- and makes its conflict step
+pub leaves-stepped : {A : Type 0} (t u : Tables) (x y : Context A) → u ≡ t → FixesByLearning x y → HasLetLeave t (view x) →
+    IsNotUnsat y → LeavesInTime u (view y)
+leaves-stepped t u x y e f (inl (none, calm)) n =
+    subst (λ (m : Tables). LeavesInTime m (view y)) (sym e) (⊎_elim (λ same. inl (subst (AreOverAssumed t) (sym same) none)) inr (f.keeps calm n))
+leaves-stepped t u x y e f (inr (undecided, (conflict, is_false))) n = absurd (n (f.refutes undecided conflict is_false))
+
+-- what an error is of
+pub failed-there : {X E : Type 0} (r : Result X E) (A : X → Type 0) (B : E → Type 0) → IsErr r → MatchResult r A B → (e : E) × B e
+failed-there (Ok x) A B h m = absurd (let z : false ≡ true = h in cc)
+failed-there (Err e) A B h m = (e, m)
 
 -- 1. Variables that may be decided.
 

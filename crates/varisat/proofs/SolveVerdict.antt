@@ -33,7 +33,7 @@ use Rattle.varisat_tracer.specs.Carried.{carry, told_as}
 use Rattle.varisat.specs.Carried.{is_forced, value_or}
 use Rattle.varisat.specs.Spaces.{Spaces, Carrying, Translation, translation, CheckerFits, IsCounted, TellsWhole, SearchHolds, AssumptionsFit, MarksFit, WorkingFits, CoreFits, without_core, VerdictFits, Links, SpacesFit, IsGone}
 use Rattle.varisat.specs.Journals.{retold, TellsMore, AreDerived, EndWithCore}
-use Rattle.varisat.proofs.SpacesMoves.{AreLong, AreInUse}
+use Rattle.varisat.proofs.SpacesAgree.{AreLong, AreInUse, map-map, identities-same, names-same, modes-same, units-same, isolation-same, solvers-same, assumptions-same, marks-same, working-same, holds-same, told-same, value-same}
 use Rattle.varisat.proofs.CheckedHeld.{checker-on, told-carried, global-carried}
 use Rattle.varisat.proofs.ToldProofs.{AreToldAs}
 use Rattle.std.proofs.lemmas.List.{append-nil}
@@ -45,11 +45,9 @@ use Rattle.varisat.proofs.ForgottenCopies.{there-back, back-there, copies}
 use Rattle.varisat.proofs.ReachedHeld.{told_lines, IsInUse, lines-lead, told-quiet, counted-literal}
 use Rattle.varisat.proofs.ToldEntries.{tells-also, also-ends, written-derived, told-written, told-failed, spoken-renamed}
 use Rattle.varisat_names.proofs.Maps.{chain-some, is-some}
-use Rattle.varisat.proofs.SpacesAgree.{map-map, identities-same, names-same, modes-same, units-same, isolation-same, solvers-same, assumptions-same, marks-same, working-same, holds-same, told-same, value-same}
 use Rattle.varisat.proofs.Carried.{map-empty, value-true, true-value, value-carry, forced-value}
 use Rattle.varisat_tracer.specs.RenamedEntries.{carry-opposites}
-use Rattle.varisat.proofs.SearchLinks.{relinked}
-use Rattle.varisat.proofs.SearchHeld.{answers-covers, agrees-through, held-on, without-model, refuted}
+use Rattle.varisat.proofs.SearchLinks.{relinked, answers-covers, agrees-through, held-on, without-model, refuted}
 
 -- what is told once steps were made with the lines
 abbrev pub told-with : Carrying → Spaces → State → List Line → List Entry

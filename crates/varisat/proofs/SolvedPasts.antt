@@ -12,10 +12,10 @@ use Rattle.varisat.specs.Pasts as past
 use Rattle.varisat.specs.Pasts.{Findings, IsAnswer, TellsFalse, telling}
 use Rattle.varisat.specs.declared.solver.SolverError.{SolverError}
 use Rattle.varisat.specs.declared.solver.SolverError.TheVariants.{Interrupted, ProofIoError, OutOfMemory, Invalid, ClauseStoreFull}
-use Rattle.varisat.proofs.LikeStates.{same-assumptions, same-clauses, same-counted, same-ledger, same-naming, same-verdict}
-use Rattle.varisat.proofs.VerdictAnswers.{is-unknown-or-not, answer-sat, right-false}
+use Rattle.varisat.proofs.CallStates.{same-assumptions, same-clauses, same-counted, same-ledger, same-naming, same-verdict}
+use Rattle.varisat.proofs.SearchVerdicts.{is-unknown-or-not, answer-sat, right-false}
 use Rattle.varisat.proofs.PastJournals.{told-more, told-interrupted, nothing-said}
-use Rattle.varisat.proofs.GivenEntries.{lists-derived, lists-ended, lists-on}
+use Rattle.varisat.proofs.ToldEntries.{lists-derived, lists-ended, lists-on}
 use Rattle.varisat.proofs.Pasts.{IsCapped, Knows, Agrees, Leads, past_of, like-past, broken-past, breaks, stays, refuted, right-like}
 
 -- the findings once the answer was returned

@@ -54,15 +54,14 @@ use Rattle.varisat.specs.Journals.{retold, TellsMore}
 use Rattle.varisat.proofs.ToldEntries.{tells-nothing}
 use Rattle.varisat.specs.Spaces.{Carrying, Translation, HeldFits, translation, without_core, CoreFits, VerdictFits, Links, SpacesFit, FitWithNew, list_globals}
 use Rattle.varisat.specs.Summaries.{Summary, IsKept, StandsFor, spaces, spaces_of, list_tables}
-use Rattle.varisat.proofs.SpacesAgree.{map-map}
+use Rattle.varisat.proofs.SpacesAgree.{map-map, AreInUse}
 use Rattle.varisat.proofs.CallStates.{like-still}
-use Rattle.varisat.proofs.VerdictAnswers.{right-false, right-core}
+use Rattle.varisat.proofs.SearchVerdicts.{right-false, right-core}
 use Rattle.varisat.proofs.Carried.{carry-at, carry-sign}
 use Rattle.varisat.proofs.SolveVerdict.{told-with, steps-tell, steps-derived, steps-add, core-ends, steps-told-as, core-tells, core-told-as, maps-alike, recount, spaces-same, sat-found, unsat-found, core-found, found, went-on}
 use Rattle.varisat.proofs.ModelsFit.{told, is-sat, is-unsat, is-core, is-unknown}
 use Rattle.varisat.proofs.AcceptClause.{with_tables, name-below, name-above, given-spaces}
-use Rattle.varisat.proofs.SearchViews.{view-long}
-use Rattle.varisat.proofs.SpacesMoves.{AreInUse}
+use Rattle.varisat.proofs.SearchLinks.{view-long}
 
 -- 1. A new solver.
 

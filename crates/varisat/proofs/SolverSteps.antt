@@ -40,19 +40,17 @@ use Rattle.varisat.specs.Searches.{answer_at, TellsSome, ComesTo, ComesOn, Makes
 use Rattle.varisat.specs.Spaces.{Spaces, translation, VerdictFits, SpacesFit}
 use Rattle.varisat.specs.States.{State, Verdict, Unknown, Unsat, HasRightVerdict, IsRight, FlagsFit}
 use Rattle.varisat.specs.Summaries.{IsKept, spaces_of, spaces_with, undecided_spaces}
-use Rattle.varisat.proofs.LikeStates.{same-by}
+use Rattle.varisat.proofs.CallStates.{same-by, like-grown, like-still}
 use Rattle.varisat.proofs.AcceptClause.{ledger-free, proof-free, words-free}
-use Rattle.varisat.proofs.CallStates.{like-grown, like-still}
 use Rattle.varisat.proofs.ModelsFit.{is-sat, is-unknown}
 use Rattle.varisat.proofs.OpenProofs.{barred-before}
-use Rattle.varisat.proofs.PlainTables.{assumed-named}
+use Rattle.varisat.proofs.TableMarks.{assumed-named}
 use Rattle.varisat.proofs.ToldProofs.{proof-quiet, proof-through}
-use Rattle.varisat.proofs.SearchVerdicts.{kept-on}
+use Rattle.varisat.proofs.SearchVerdicts.{kept-on, right-false}
 use Rattle.varisat.proofs.SolverCalls.{comes-made, answers-fit, unsat-told, core-not-empty}
 use Rattle.varisat.proofs.ToldEntries.{tells-nothing, nothing-derived, stays-nothing, tells-none, none-derived, ends-through, ends-derived, derived-ends}
 use Rattle.varisat_proof.specs.Assumed.{lists_of}
-use Rattle.varisat.proofs.VariablesInUse.{same-in-use}
-use Rattle.varisat.proofs.VerdictAnswers.{right-false}
+use Rattle.varisat.proofs.VariableMoves.{same-in-use}
 
 -- 1. In turn.
 

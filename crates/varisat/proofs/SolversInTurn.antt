@@ -35,17 +35,16 @@ use Rattle.varisat_tracer.specs.Carried.{carry}
 use Rattle.varisat.specs.Spaces.{Spaces, SpacesFit, FitWithNew}
 use Rattle.varisat.specs.Summaries.{Summary, spaces, spaces_of, IsKept}
 use Rattle.varisat.specs.Accepting.{naming_of, CanBeNamed, HasNames}
-use Rattle.varisat.proofs.SpacesMoves.{count}
+use Rattle.varisat.proofs.SpacesAgree.{count}
 use Rattle.varisat.proofs.Counted.{join-has}
 use Rattle.varisat.proofs.Carried.{carry-at, carry-sign}
-use Rattle.varisat.proofs.NamesAlike.{IsNamedTo, Same, Alone, Onward, named-to, AreAlike, alike-self, one-named}
-use Rattle.varisat.proofs.NamesComing.{one-watermark, next-below, all-made}
-use Rattle.varisat.proofs.PlainTables.{is-there, there-is, assumed-keeps, marked-keeps}
+use Rattle.varisat.proofs.NamesComing.{IsNamedTo, Same, Alone, Onward, named-to, AreAlike, alike-self, one-named, one-watermark, next-below, all-made}
+use Rattle.varisat.proofs.TableMarks.{is-there, there-is, assumed-keeps, marked-keeps}
 use Rattle.varisat.proofs.AcceptClause.{with_tables, named-one, HasNoModel, taken-one, raised, counted-spaces}
 use Rattle.varisat.proofs.AcceptSolverVariables.{solvers-few}
 use Rattle.varisat.proofs.VariableChanges.{unsat-or-not}
 use Rattle.varisat.proofs.ReturnedVariables.{kept-verdict, no-model, returned, state-back, parts-back}
-use Rattle.varisat.proofs.SearchViews.{view-long}
+use Rattle.varisat.proofs.SearchLinks.{view-long}
 
 -- 1. There is room.
 

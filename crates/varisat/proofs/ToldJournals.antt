@@ -31,17 +31,15 @@ use Rattle.varisat.specs.States.{State, Verdict, Unknown, Sat, Unsat, UnsatUnder
 use Rattle.varisat.specs.Calls.{answer_of}
 use Rattle.varisat.specs.Journals.{IsJournal}
 use Rattle.varisat.specs.OpenProofs.{OpenProof, entries_over, IsWrittenAs, IsWrittenWhereOpen}
-use Rattle.varisat.proofs.OpenProofs.{lines-renamed, plain-bytes}
-use Rattle.varisat.proofs.WrittenVariables.{there-present, there-apart, written-plain}
+use Rattle.varisat.proofs.OpenProofs.{lines-renamed, plain-bytes, there-present, there-apart, written-plain}
 use Rattle.varisat.specs.ProofBytes.{IsMarkedDerivation}
 use Rattle.varisat.specs.ProofCalls.{IsProofIfOpen}
 use Rattle.varisat.specs.Calls.{IsRefuted, calling}
 use Rattle.varisat_tracer.specs.Carried.{carry}
 use Rattle.varisat.specs.Spaces.{Spaces, Carrying, Links, Translation, IsCounted, AllSpeakOf, HeldFits, VerdictFits, without_core}
 use Rattle.varisat.specs.Summaries.{Summary, spaces, StandsFor}
-use Rattle.varisat.proofs.GivenEntries.{all-wider, lines-speak}
+use Rattle.varisat.proofs.ToldEntries.{all-wider, lines-speak, OnlyLeave, unspoken, only-leave}
 use Rattle.varisat.proofs.SearchLinks.{relinked}
-use Rattle.varisat.proofs.ToldEntries.{OnlyLeave, unspoken, only-leave}
 use Rattle.varisat.proofs.SolverCalls.{told-refuted}
 
 led-of : (r : Translation) (fixed : List Literal) (share : List Clause) (o : Outcome) → HeldFits r fixed share (without_core o) →

@@ -26,7 +26,7 @@ use Rattle.varisat.specs.Accepting.{AreBounded, naming_of}
 use Rattle.varisat_names.specs.NamesAndModes.{MovesName, SetsModeOf, LosesName, GetsName, OtherwiseSet, AreShownInTurn}
 use Rattle.varisat.specs.VariableChanges.{IsMarkedAssumed, CanBeChanged, StaysKept, IsNamedAs, SetsNamedMode, LeavesIfUnused, HidesNamed}
 use Rattle.varisat_search.proofs.TakenSolvers.{few, below, below-count, ∈-below}
-use Rattle.varisat.proofs.KeptCounts.{given-most}
+use Rattle.varisat.proofs.VariableMoves.{given-most}
 use Rattle.varisat_search.proofs.KeptNames.{KeepsNames, given-keeps, next-keeps}
 
 -- 1. A name comes into use.

@@ -1,12 +1,41 @@
 -- What the parts of the calls that hide and show variables do to the spaces.
-use Rattle.std.proofs.Common.{ℕ, ◌+◌, max, false, Some, None}
+use Rattle.std.proofs.Common.{◌≡◌, ℕ, ◌+◌, ◌≤◌, false, List, length, arith, ◌↔◌, sym, subst, max, Some, None}
+use Rattle.std.specs.Option.{IsSome}
+use Rattle.varisat_names.specs.VarData.{kept_at, IsKeptAs, dead}
+use Rattle.varisat_names.specs.Variables.{Tables, IsGiven}
+use Rattle.varisat_names.specs.declared.variables.data.VarData.{VarData}
+use Rattle.varisat_names.proofs.Tables.{least-near, live-inside}
+use Rattle.varisat_prop.specs.View.{View}
+use Rattle.varisat_vsids.specs.Activities.{Activities}
+use Rattle.varisat_search.specs.Decisions.{IsDecidable, SameDecidable}
+use Rattle.varisat_names.specs.VarBiMap.{BiMap}
+use Rattle.varisat_names.specs.VarMap.{at}
+use Rattle.varisat.specs.Accepting.{DecidesInUse}
 use Rattle.varisat_theory.specs.Searches.{Search}
 use Rattle.varisat_names.specs.Maps.{updated}
-use Rattle.varisat_names.specs.VarData.{dead}
-use Rattle.varisat_names.specs.declared.variables.data.VarData.{VarData}
 use Rattle.varisat_names.specs.declared.variables.data.SamplingMode.{SamplingMode}
-use Rattle.varisat_names.specs.declared.variables.data.SamplingMode.TheVariants as sampling
 use Rattle.varisat.specs.Spaces.{Spaces}
+use Rattle.varisat_names.specs.declared.variables.data.SamplingMode.TheVariants as sampling
+
+-- How many global variables there are after a change.
+
+-- a live variable was made before
+pub kept-most : (old new : List VarData) (x : ℕ) (d : VarData) → (kept_at old x).deleted ≡ false → IsKeptAs old x d new → length new ≤ length old
+kept-most old new x d live k = let b = live-inside old x live in let c = k.count in omega (arith, b, c)
+
+-- a name that comes into use needs one more at most
+pub given-most : (old new : Tables) (u x : ℕ) → IsGiven old new u x → length new.kept ≤ length old.kept + 1
+given-most old new u x g = let b = least-near old.kept x g.unused in let c = g.kept.count in omega (arith, b, c)
+
+-- The solver variables in use, and which of them may be decided.
+
+-- the same ones may be decided
+pub same-in-use : (m : Tables) (s : View) (a : Activities) (t : View) (b : Activities) → DecidesInUse m s a → SameDecidable s a t b → DecidesInUse m t b
+same-in-use m s a t b d g v = ((λ h. (d v).0 ((g v).1 h)), (λ h. (g v).0 ((d v).1 h)))
+
+-- the same ones are in use
+pub tables-in-use : (m n : Tables) (s : View) (a : Activities) → n.solvers ≡ m.solvers → DecidesInUse m s a → DecidesInUse n s a
+tables-in-use m n s a e d = subst (λ (x : BiMap). (v : ℕ) → IsDecidable s a v ↔ IsSome (at x.backward v)) (sym e) d
 
 -- what is kept of the global variable is d
 abbrev pub with_data : ℕ → VarData → Spaces → Spaces

@@ -1,21 +1,25 @@
 -- What the calls that set modes, hide and show variables do to the states that the solver stands for.
-use Rattle.std.proofs.Common.{◌≡◌, ◌≢◌, ℕ, Bool, true, false, Result, Err, Option, Some, None, List, [], ◌∷◌, inl, inr, ⊎_elim, length, sym, ap, ◌∙◌, subst, refl}
+use Rattle.std.proofs.Common.{◌≡◌, ℕ, ◌<◌, true, None, List, ◌≢◌, Bool, false, Result, Err, Option, Some, [], ◌∷◌, inl, inr, ⊎_elim, length, sym, ap, ◌∙◌, subst, refl}
 use Rattle.std.specs.Option.{is_some}
+use Rattle.varisat_theory.specs.Membership.{◌∈◌}
+use Rattle.varisat_literals.specs.Numbers.{variable_limit}
+use Rattle.varisat_names.specs.VarMap.{at}
+use Rattle.varisat_names.specs.VarData.{kept_at}
+use Rattle.varisat.specs.States.{State, with_variables}
+use Rattle.varisat.specs.Names.{Naming, AreShown, Mode, name_one, give_name}
+use Rattle.varisat.specs.Calls.{with_naming, IsCrowded}
+use Rattle.varisat.specs.Usage.{AreAllShown, ChangesVar, SetsMode, name_var, IsAssumed, with_mode, hide_name}
+use Rattle.varisat.specs.Spaces.{SpacesFit, Carrying, ModeFits, Links, KeepVariables, FitWithNew}
+use Rattle.varisat.specs.Summaries.{Summary, spaces, IsKept}
+use Rattle.varisat.proofs.ShownStates.{may-stay}
 use Rattle.varisat_theory.specs.Literals.{variable_of, literal_of}
 use Rattle.varisat_search.proofs.StepOutcome.{variable-literal}
 use Rattle.varisat_search.specs.declared.context.Context.{Context}
 use Rattle.varisat_search.specs.Contexts.{view}
-use Rattle.varisat_names.specs.VarMap.{at}
 use Rattle.varisat_names.specs.VarBiMap.{BiMap}
 use Rattle.varisat_names.specs.Variables.{Tables, AreLinked}
 use Rattle.varisat_names.specs.declared.variables.data.SamplingMode.{SamplingMode}
-use Rattle.varisat_names.specs.declared.variables.data.SamplingMode.TheVariants as sampling
 use Rattle.varisat_names.proofs.Maps.{chain-none, is-some, some-of}
-use Rattle.varisat.specs.States.{State, with_variables}
-use Rattle.varisat.specs.Names.{Mode, Naming, name_one, give_name}
-use Rattle.varisat.specs.Calls.{IsCrowded, with_naming}
-use Rattle.varisat.specs.Usage.{AreAllShown, ChangesVar, SetsMode, name_var}
-use Rattle.varisat.specs.Usage.{IsAssumed, with_mode, hide_name}
 use Rattle.varisat_names.specs.NamesAndModes.{AreShownInTurn, ShowsAllHidden}
 use Rattle.varisat.specs.VariableChanges.{IsMarkedAssumed, IsMarkedName, ChecksChange, StaysKept, SetsNamedMode, HidesNamed}
 use Rattle.varisat.specs.Accepting.{AreBounded, naming_of}
@@ -23,20 +27,32 @@ use Rattle.varisat_theory.specs.Journals.{Entry}
 use Rattle.varisat_names.specs.declared.variables.data.VarData.{VarData}
 use Rattle.varisat_proof.specs.Proving.{ProofParts}
 use Rattle.varisat_tracer.specs.Tracing.{TracerState}
-use Rattle.varisat_search.specs.declared.state.SatState.TheVariants as verdict
 use Rattle.varisat.specs.Journals.{retold, TellsLeaving}
 use Rattle.varisat.proofs.ToldProofs.{leaving-nothing}
-use Rattle.varisat.specs.Spaces.{Carrying, ModeFits, Links, SpacesFit, KeepVariables, FitWithNew}
-use Rattle.varisat.specs.Summaries.{Summary, IsKept, spaces}
 use Rattle.varisat.specs.declared.solver.SolverError.{SolverError}
 use Rattle.varisat.specs.declared.solver.SolverError.TheVariants.{OutOfMemory, VariableLimit, AssumedVar}
 use Rattle.varisat.proofs.AcceptClause.{with_tables, named-one}
 use Rattle.varisat.proofs.CallStates.{Begins}
 use Rattle.varisat.proofs.NamingStates.{crowded-state}
 use Rattle.varisat.proofs.HiddenTables.{marked-assumed, assumed-marked, mode-spaces, hidden-spaces, with_checker, left-spaces, shown-spaces}
-use Rattle.varisat.proofs.ShownInTurn.{HaveShown, all-shown}
 use Rattle.varisat.proofs.VariableChanges.{hidden-unnamed, hidden-keeps, unsat-or-not, turns-stay}
-use Rattle.varisat.proofs.VariablesInUse.{tables-in-use}
+use Rattle.varisat.proofs.VariableMoves.{tables-in-use}
+use Rattle.varisat_names.specs.declared.variables.data.SamplingMode.TheVariants as sampling
+use Rattle.varisat_search.specs.declared.state.SatState.TheVariants as verdict
+
+-- Hidden variables come back one after the other, each under the least free name.
+
+-- The names came into use, and what is held stands for the state with them.
+abbrev pub HaveShown : List ℕ → Summary → State → Type 0
+HaveShown us g s = (m : Naming) × AreShown us s.naming m × SpacesFit (spaces g) (with_naming m s)
+
+-- Once each live variable has a name, all that must be shown is.
+pub all-shown : (us : List ℕ) (g : Summary) (s : State) → HaveShown us g s → ((u : ℕ) → u ∈ us → u < variable_limit) →
+    ((x : ℕ) → at g.tables.users.backward x ≡ None → (kept_at g.tables.kept x).deleted ≡ true) → (m : Naming) × AreAllShown us s.clauses s.naming m
+    × SpacesFit (spaces g) (with_naming m s)
+all-shown us g s (m, turns, f) in-range named =
+    let (w, k) = f in
+    (m, record { in_turn = turns; in_range = in-range; rest = λ i h n. may-stay w (spaces g) (with_naming m s) k named i h n }, f)
 
 -- 1. What is found out of a name.
 

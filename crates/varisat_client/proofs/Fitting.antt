@@ -13,10 +13,9 @@ use Rattle.varisat.specs.Counts.{count_with}
 use Rattle.varisat.specs.Calls.{IsPastLimit, IsCrowded, AddsClause, Ignored, Accepted, VerdictAfter, Refuted, Reopened, Assumes, Solves, Configures, calling}
 use Rattle.varisat_names.specs.declared.config.SolverConfigUpdate.{SolverConfigUpdate}
 use Rattle.varisat.specs.declared.solver.SolverError.TheVariants.{Interrupted}
-use Rattle.varisat.proofs.LikeStates.{same-assumptions, same-clauses, same-ledger, same-naming, same-verdict}
-use Rattle.varisat.proofs.NamesInOrder.{stay-in-order, count-above, count-within}
-use Rattle.varisat.proofs.VerdictAnswers.{reopened-not-unsat, assumed-unsat}
-use Rattle.varisat.proofs.NameLaws.{names-are-identities, crowded-is-past-limit}
+use Rattle.varisat.proofs.CallStates.{same-assumptions, same-clauses, same-ledger, same-naming, same-verdict}
+use Rattle.varisat.proofs.NameLaws.{stay-in-order, count-above, count-within, names-are-identities, crowded-is-past-limit}
+use Rattle.varisat.proofs.SearchVerdicts.{reopened-not-unsat, assumed-unsat}
 use Rattle.varisat_client.specs.Pasts.{IsFoundModel}
 use Rattle.varisat_client.specs.Clients.{WasGiven}
 

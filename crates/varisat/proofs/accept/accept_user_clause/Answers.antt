@@ -38,7 +38,7 @@ use Rattle.varisat.proofs.TableMarks.{marks-bounded, joined-same, assumed-joined
 use Rattle.varisat.proofs.CheckedHeld.{relied-open}
 use Rattle.varisat.proofs.AcceptClause.{clause-accepted, few-made}
 use Rattle.varisat.proofs.SolverSteps.{some-through}
-use Rattle.varisat.proofs.VariablesInUse.{same-in-use, tables-in-use}
+use Rattle.varisat.proofs.VariableMoves.{same-in-use, tables-in-use}
 use Rattle.varisat_search.proofs.SolverVariables.{in-use-all}
 use Rattle.varisat.proofs.accept.accept_user_clause.Given.{Over}
 use Rattle.varisat.proofs.accept.accept_user_clause.Goals.{In_ok-solver_from_user_lits, In_ok-tell_clause, In_ok-load_clause}

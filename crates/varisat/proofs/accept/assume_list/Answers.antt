@@ -29,7 +29,7 @@ use Rattle.varisat.specs.Summaries.{Summary, spaces_of, IsKept}
 use Rattle.varisat.proofs.AssumeList.{Assuming, forgets, list-told, list-assumed}
 use Rattle.varisat.proofs.ReturnedVariables.{no-model-assumed, assumed-again}
 use Rattle.varisat.proofs.SolversInTurn.{HaveSolvers, have-solvers-then, has-variables, can-have-room, over-leads, over-carried, all-named, literals-within, literals-decidable}
-use Rattle.varisat.proofs.VariablesInUse.{same-in-use, tables-in-use}
+use Rattle.varisat.proofs.VariableMoves.{same-in-use, tables-in-use}
 use Rattle.varisat.proofs.TableMarks.{names-marked, marked-same, assumed-listed}
 use Rattle.varisat.proofs.accept.assume_list.Given.{Over}
 use Rattle.varisat.proofs.accept.assume_list.Goals.{In_ok-solver_from_user_lits}

@@ -9,7 +9,7 @@ use Rattle.varisat_prop.proofs.ReadElements.{item-∈}
 use Rattle.varisat_tracer.specs.Carried.{carry}
 use Rattle.varisat.proofs.ReadPlaces.{take-item}
 use Rattle.varisat.proofs.Carried.{carried-literal}
-use Rattle.varisat.proofs.PlainTables.{is-there}
+use Rattle.varisat.proofs.TableMarks.{is-there}
 use Rattle.varisat.proofs.carrying.carry_literals.Goals as goal
 
 -- where both maps lead

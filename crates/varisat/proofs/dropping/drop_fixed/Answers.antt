@@ -8,7 +8,7 @@ use Rattle.varisat_prop.specs.Changes.{IsConflicting}
 use Rattle.varisat_search.specs.SettledUnits.{IsUnsettled}
 use Rattle.varisat_search.proofs.FixedLiterals.{fixed-undecided}
 use Rattle.varisat.specs.Dropping.{AreOverAssumed}
-use Rattle.varisat.proofs.LeavesInTime.{failed-there}
+use Rattle.varisat.proofs.SinceSteps.{failed-there, come-settled}
 use Rattle.varisat_names.specs.Variables.{Tables}
 use Rattle.varisat_tracer.specs.Tracing.{tracer_state, open_parts, BreaksProof}
 use Rattle.varisat_proof.specs.Proving.{ProofParts}
@@ -17,14 +17,12 @@ use Rattle.varisat.specs.Searches.{TellsSome, ComesOn}
 use Rattle.varisat.specs.Summaries.{undecided_spaces, IsKept}
 use Rattle.varisat.proofs.SearchVerdicts.{kept-on}
 use Rattle.varisat.proofs.dropping.drop_fixed.Given.{Over}
-use Rattle.varisat.proofs.dropping.drop_fixed.Goals.{In-Ok, In_ok-drop_unneeded}
+use Rattle.varisat.proofs.dropping.drop_fixed.Goals.{In-Ok, In_ok-drop_unneeded, then-current_level-gt0-via-then-current_level-gt0, then-current_level-gt0-via-else-current_level-gt0+then-fully_propagated}
 use Rattle.varisat_search.specs.declared.context.Context.{Context}
 use Rattle.varisat_search.specs.Contexts.{view}
 use Rattle.varisat.proofs.CheckedHeld.{relied}
-use Rattle.varisat.proofs.SinceSteps.{come-settled}
 use Rattle.varisat.proofs.SolverSteps.{some-through, comes-nowhere, comes-through, leaving-comes, unknown-undecided, part-comes, some-none}
 use Rattle.varisat.proofs.dropping.drop_fixed.Goals as goal
-use Rattle.varisat.proofs.dropping.drop_fixed.Goals.{then-current_level-gt0-via-then-current_level-gt0, then-current_level-gt0-via-else-current_level-gt0+then-fully_propagated}
 
 pub settle-requires-clause-holds : goal.settle-requires-clause-holds
 settle-requires-clause-holds g c = relied c.args.tracer.now.tables c.args.tracer.now.proof

@@ -11,9 +11,8 @@ use Rattle.varisat_search.specs.Contexts.{view}
 use Rattle.varisat_tracer.specs.Tracing.{tracer_state}
 use Rattle.varisat.specs.Dropping.{leads_to_unassumed, unassumed_among, FlagsVariables, AreDroppedAlone, LeavesTables}
 use Rattle.varisat.proofs.DroppedAlone.{dropped-told}
-use Rattle.varisat.proofs.DroppedKept.{HaveLeft, have-left, values-left}
+use Rattle.varisat.proofs.DroppedLists.{HaveLeft, have-left, values-left, on-inside, unmentioned, assumed-stay, unassumed-distinct, unassumed-taken, kept-dropped, none-left, stands-dropped}
 use Rattle.varisat.proofs.SinceSteps.{come-dropped}
-use Rattle.varisat.proofs.DroppedListed.{on-inside, unmentioned, assumed-stay, unassumed-distinct, unassumed-taken, kept-dropped, none-left, stands-dropped}
 use Rattle.varisat.proofs.dropping.drop_listed.Given.{Over}
 use Rattle.varisat.proofs.dropping.drop_listed.Goals.{In_ok-gone, In_ok-drop_solver_vars}
 use Rattle.varisat.proofs.dropping.drop_listed.Goals as goal

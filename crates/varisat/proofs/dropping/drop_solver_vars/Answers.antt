@@ -12,7 +12,7 @@ use Rattle.varisat_prop.proofs.ReadElements.{item-∈}
 use Rattle.varisat_tracer.specs.Tracing.{tracer_state, open_parts}
 use Rattle.varisat.specs.Dropping.{fixed_to, LosesSolverVar, IsDroppedAlone, AreDroppedAlone, LeavesTables}
 use Rattle.varisat.proofs.ReadPlaces.{take-item, split-item}
-use Rattle.varisat.proofs.PlainTables.{is-there, there-is}
+use Rattle.varisat.proofs.TableMarks.{is-there, there-is}
 use Rattle.varisat.proofs.DroppedAlone.{sign-same, changed-twice, leaves-none, leaves-one, leaves-then, dropped-push, distinct-after}
 use Rattle.varisat.proofs.dropping.drop_solver_vars.Goals as goal
 

@@ -8,9 +8,8 @@ use Rattle.varisat_search.specs.Seen.{search_of}
 use Rattle.varisat_search.specs.Contexts.{view}
 use Rattle.varisat_tracer.specs.Tracing.{tracer_state}
 use Rattle.varisat.specs.Dropping.{FlagsVariables, ListsUnneeded, AreReleased, LeavesTables}
-use Rattle.varisat.proofs.DroppedKept.{HaveLeft, have-left, values-left}
+use Rattle.varisat.proofs.DroppedLists.{HaveLeft, have-left, values-left, needed-shown, none-leaves, released-told, unneeded-inside, unneeded-taken, unneeded-unmentioned, named-stay, kept-released, needed-left, stands-released}
 use Rattle.varisat.proofs.SinceSteps.{come-dropped}
-use Rattle.varisat.proofs.DroppedUnneeded.{needed-shown, none-leaves, released-told, unneeded-inside, unneeded-taken, unneeded-unmentioned, named-stay, kept-released, needed-left, stands-released}
 use Rattle.varisat.proofs.dropping.drop_unneeded.Given.{Over}
 use Rattle.varisat.proofs.dropping.drop_unneeded.Goals.{In_ok-gone, In_ok-list_unneeded, In_ok-release_solver_vars}
 use Rattle.varisat.proofs.dropping.drop_unneeded.Goals as goal

@@ -2,7 +2,7 @@ use Rattle.std.proofs.Common.{◌≡◌, ◌+◌, true, false, sym, ap, ◌∙�
 use Rattle.varisat_theory.specs.Literals.{variable_of}
 use Rattle.varisat_names.specs.VarMap.{at}
 use Rattle.varisat.specs.Dropping.{leads_to_hidden}
-use Rattle.varisat.proofs.DroppedUnneeded.{ListsBelow, lists-none, lists-pass, lists-one, lists-all}
+use Rattle.varisat.proofs.DroppedLists.{ListsBelow, lists-none, lists-pass, lists-one, lists-all}
 use Rattle.varisat.proofs.dropping.list_unneeded.Goals as goal
 
 pub loop-index-init : goal.loop-index-init

@@ -1,4 +1,4 @@
-use Rattle.varisat.proofs.DroppedUnneeded.{ListsBelow}
+use Rattle.varisat.proofs.DroppedLists.{ListsBelow}
 use Rattle.varisat.proofs.dropping.list_unneeded.Given as goal
 
 abbrev pub invariant-loop-index : goal.invariant-loop-index

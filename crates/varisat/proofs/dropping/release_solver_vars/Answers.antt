@@ -6,9 +6,9 @@ use Rattle.varisat_tracer.specs.Tracing.{tracer_state, open_parts}
 use Rattle.varisat_prop.proofs.ReadElements.{item-∈}
 use Rattle.varisat.specs.Dropping.{LosesSolverVar, AreReleased, LeavesTables}
 use Rattle.varisat.proofs.ReadPlaces.{take-item, split-item}
-use Rattle.varisat.proofs.PlainTables.{is-there, there-is}
+use Rattle.varisat.proofs.TableMarks.{is-there, there-is}
 use Rattle.varisat.proofs.DroppedAlone.{leaves-none, leaves-dropped, leaves-then, taken-live, distinct-after}
-use Rattle.varisat.proofs.DroppedUnneeded.{released-push}
+use Rattle.varisat.proofs.DroppedLists.{released-push}
 use Rattle.varisat.proofs.dropping.release_solver_vars.Goals as goal
 
 pub loop-lit-init : goal.loop-lit-init

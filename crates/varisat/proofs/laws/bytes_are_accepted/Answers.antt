@@ -1,4 +1,4 @@
-use Rattle.varisat.proofs.AcceptedBytes.{bytes-are-accepted}
+use Rattle.varisat.proofs.WrittenProofs.{bytes-are-accepted}
 use Rattle.varisat.proofs.laws.bytes_are_accepted.Goals as goal
 
 pub returns : goal.returns

@@ -1,4 +1,4 @@
-use Rattle.varisat.proofs.CoresTold.{cores-are-told}
+use Rattle.varisat.proofs.WrittenProofs.{cores-are-told}
 use Rattle.varisat.proofs.laws.cores_are_told.Goals as goal
 
 pub returns : goal.returns

@@ -1,4 +1,4 @@
-use Rattle.varisat.proofs.CoresTold.{cores-are-written}
+use Rattle.varisat.proofs.WrittenProofs.{cores-are-written}
 use Rattle.varisat.proofs.laws.cores_are_written.Goals as goal
 
 pub returns : goal.returns

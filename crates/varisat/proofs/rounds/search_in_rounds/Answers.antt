@@ -5,8 +5,7 @@ use Rattle.varisat.specs.Summaries.{Summary, StandsFor}
 use Rattle.varisat.specs.Calls.{Searches, Solves, with_max_steps, calling}
 use Rattle.varisat.specs.declared.solver.SolverError.{SolverError}
 use Rattle.varisat.proofs.Additions.{told-error}
-use Rattle.varisat.proofs.SearchEnds.{ends-early, solve-ends, solve-fails}
-use Rattle.varisat.proofs.SearchRounds.{same-limit}
+use Rattle.varisat.proofs.SearchRounds.{ends-early, solve-ends, solve-fails, same-limit}
 use Rattle.varisat.proofs.rounds.search_in_rounds.Goals as goal
 
 -- what the rounds came to, under the limit that the solver had

@@ -4,7 +4,7 @@ use Rattle.std.specs.Vec.Iter.{into_iter_items}
 use Rattle.varisat.specs.States.{Ledger}
 use Rattle.varisat.specs.Runs.{Run, AreReady}
 use Rattle.varisat.proofs.ToldJournals.{journal-of}
-use Rattle.varisat.proofs.Runs.{run-push, ready-next}
+use Rattle.varisat.proofs.RunsTold.{run-push, ready-next}
 use Rattle.varisat.proofs.FewSteps.{run-stays-few}
 use Rattle.varisat.proofs.session.run.Goals as goal
 

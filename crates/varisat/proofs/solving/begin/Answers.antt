@@ -11,9 +11,8 @@ use Rattle.varisat_trace.proofs.Broken.{passed-on}
 use Rattle.varisat_tracer.specs.Tracing.{tracer_state, TakesGlobally, BreaksProof}
 use Rattle.varisat_tracer.proofs.Telling.{breaks-proof, proof-breaks-on}
 use Rattle.varisat.specs.Summaries.{undecided_spaces, IsKept}
-use Rattle.varisat.proofs.LeavesInTime.{leaves-begun}
+use Rattle.varisat.proofs.SinceSteps.{leaves-begun, come-begun}
 use Rattle.varisat.proofs.CheckedHeld.{relied, some-on}
-use Rattle.varisat.proofs.SinceSteps.{come-begun}
 use Rattle.varisat.proofs.SolverSteps.{comes-through, unknown-undecided, some-through, begins-any, begin-count, begin-kept, begin-told, begin-tables, begin-tells, begin-comes}
 use Rattle.varisat.proofs.solving.begin.Given.{Over}
 use Rattle.varisat.proofs.solving.begin.Goals.{In_ok-begin_step}

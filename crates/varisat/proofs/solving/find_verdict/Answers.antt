@@ -14,9 +14,8 @@ use Rattle.varisat.proofs.CheckedHeld.{some-on}
 use Rattle.varisat.proofs.FindVerdictSteps.{searching-at, not-less, Stepping, one-more, stepping-moved, stepping-goes-on, stepping-counts, stepping-since, stepping-shortens, none-made, counts-spent, counts-refused, since-stopped, told-refused, not-spent, room}
 use Rattle.varisat.proofs.SolverSteps.{comes-nowhere, comes-through, comes-undecided, comes-decided, unknown-undecided, some-none, some-through}
 use Rattle.varisat.proofs.solving.find_verdict.Given.{Over}
-use Rattle.varisat.proofs.solving.find_verdict.Goals.{In_ok-make_step}
+use Rattle.varisat.proofs.solving.find_verdict.Goals.{In_ok-make_step, then-steps-first-via-then-steps-first, then-steps-first-via-else-steps-first+then-steps}
 use Rattle.varisat.proofs.solving.find_verdict.Goals as goal
-use Rattle.varisat.proofs.solving.find_verdict.Goals.{then-steps-first-via-then-steps-first, then-steps-first-via-else-steps-first+then-steps}
 
 -- the step that was made
 made : (g : Over) (c : In_ok-make_step g) → MakesSolverStep (tracer_state c.steps.tracer) (tracer_state c.make_step.new.tracer) c.steps.ctx c.make_step.new.ctx

@@ -9,10 +9,9 @@ use Rattle.varisat_tracer.specs.Tracing.{tracer_state, BreaksProof}
 use Rattle.varisat_tracer.proofs.Telling.{proof-breaks-on, tells-on}
 use Rattle.varisat.specs.Searches.{BeginsSolverStep, MakesNamedStep}
 use Rattle.varisat.specs.Summaries.{undecided_spaces, spaces_with}
-use Rattle.varisat.proofs.LeavesInTime.{leaves-stepped}
+use Rattle.varisat.proofs.SinceSteps.{leaves-stepped, come-ended, steps-begun, step-ended}
 use Rattle.varisat.proofs.CheckedHeld.{some-on}
 use Rattle.varisat.proofs.SearchVerdicts.{ready-counted, named-counted, kept-named, kept-counted}
-use Rattle.varisat.proofs.SinceSteps.{come-ended, steps-begun, step-ended}
 use Rattle.varisat.proofs.SolverSteps.{comes-through, unknown-undecided, some-through, named-comes}
 use Rattle.varisat.proofs.solving.make_step.Given.{Over}
 use Rattle.varisat.proofs.solving.make_step.Goals.{In_ok-begin, In_ok-named_conflict_step}

@@ -10,7 +10,7 @@ use Rattle.varisat_tracer.specs.Tracing.{tracer_state, BreaksProof}
 use Rattle.varisat_tracer.proofs.Telling.{breaks-proof, proof-unbroken, proof-breaks-on}
 use Rattle.varisat.specs.Accepting.{HasUser}
 use Rattle.varisat.proofs.CheckedHeld.{relied}
-use Rattle.varisat.proofs.PlainTables.{assumed-named}
+use Rattle.varisat.proofs.TableMarks.{assumed-named}
 use Rattle.varisat.proofs.SearchVerdicts.{named-plainly, named-also}
 use Rattle.varisat.proofs.solving.named_conflict_step.Goals as goal
 

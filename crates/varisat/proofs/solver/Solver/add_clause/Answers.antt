@@ -14,12 +14,12 @@ use Rattle.varisat.specs.Targets.{WritesAll, WritesUpTo}
 use Rattle.varisat.specs.declared.solver.SolverError.TheVariants.{ClauseStoreFull, Invalid, ClauseAfterSolve}
 use Rattle.varisat.proofs.Targets.{writes-nothing, refused-unwritten, tells-writes, breaks-writes, names-unwritten, names-not-full, refused-full, same-error}
 use Rattle.varisat.proofs.OpenProofs.{broken-open, broken-on, closed-there, unclosed-there}
-use Rattle.varisat.proofs.ClauseJoins.{ClauseJoins, clause-joins}
+use Rattle.varisat.proofs.Joins.{ClauseJoins, clause-joins}
 use Rattle.varisat.proofs.ChangeEnds.{kept-changed, stands-broken, stands-invalid, invalid-told}
 use Rattle.varisat.proofs.SettingsCalls.{summary_of, stands-same}
 use Rattle.varisat.proofs.Additions.{told-error}
 use Rattle.varisat.proofs.SolverCalls.{unsat-known}
-use Rattle.varisat.proofs.RefusedNames.{may-constrain, clause-refused}
+use Rattle.varisat.proofs.NamingStates.{may-constrain, clause-refused}
 use Rattle.varisat.proofs.solver.Solver.add_clause.Given.{Over}
 use Rattle.varisat.proofs.solver.Solver.add_clause.Goals.{In_ok-end_change}
 use Rattle.varisat.proofs.solver.Solver.add_clause.Goals as goal

@@ -8,8 +8,7 @@ use Rattle.varisat.specs.Refusals.{told_faults}
 use Rattle.varisat.specs.Summaries.{Summary}
 use Rattle.varisat.specs.Targets.{WritesAll, WritesUpTo}
 use Rattle.varisat.specs.declared.solver.SolverError.TheVariants.{ClauseStoreFull, Invalid}
-use Rattle.varisat.proofs.Additions.{adds-valid}
-use Rattle.varisat.proofs.AddTexts.{takes-in-turn, text-refused}
+use Rattle.varisat.proofs.Additions.{adds-valid, takes-in-turn, text-refused}
 use Rattle.varisat.proofs.CallStates.{stands-valid}
 use Rattle.varisat.proofs.ChangeEnds.{stands-invalid, invalid-told}
 use Rattle.varisat.proofs.Targets.{up-to-then, refused-unwritten, same-error}

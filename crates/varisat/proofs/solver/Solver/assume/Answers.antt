@@ -10,7 +10,7 @@ use Rattle.varisat.specs.OpenProofs.{BarsAssumptions}
 use Rattle.varisat.specs.Summaries.{StandsFor, spaces_with}
 use Rattle.varisat.proofs.ChangeEnds.{kept-changed, stands-broken, stands-invalid, invalid-told}
 use Rattle.varisat.proofs.SettingsCalls.{summary_of, stands-same}
-use Rattle.varisat.proofs.ListJoins.{ListJoins, list-joins}
+use Rattle.varisat.proofs.Joins.{ListJoins, list-joins}
 use Rattle.varisat.specs.States.{State, Ledger}
 use Rattle.varisat.specs.declared.solver.SolverError.TheVariants.{Invalid, ProofOpen, ProofIoError}
 use Rattle.varisat.specs.Calls.{Assumes}
@@ -18,7 +18,7 @@ use Rattle.varisat.proofs.OpenProofs.{barred-there, unbarred-there, broken-open,
 use Rattle.varisat.proofs.Targets.{refused-unwritten, tells-writes, breaks-writes, names-unwritten, names-not-broken, broken-not-memory, same-error}
 use Rattle.varisat.proofs.CallStates.{ledger-is, none-since, stands-valid, proof-fits, broken, broken-invalid, assumes-broken}
 use Rattle.varisat.proofs.Additions.{told-error}
-use Rattle.varisat.proofs.RefusedNames.{may-constrain, list-refused}
+use Rattle.varisat.proofs.NamingStates.{may-constrain, list-refused}
 use Rattle.varisat.proofs.solver.Solver.assume.Given.{Over}
 use Rattle.varisat.proofs.solver.Solver.assume.Goals.{In_ok-end_change}
 use Rattle.varisat.proofs.solver.Solver.assume.Goals as goal

@@ -5,7 +5,7 @@ use Rattle.varisat.specs.Summaries.{Summary}
 use Rattle.varisat.specs.Calls.{count_anew}
 use Rattle.varisat.specs.ProofCalls.{EnablesChecking}
 use Rattle.varisat.proofs.CallStates.{stands-valid}
-use Rattle.varisat.proofs.SelfChecking.{begun-or-on, some-there, tells-checking, some-checking, with_checking, stands-checking}
+use Rattle.varisat.proofs.SettingsCalls.{begun-or-on, some-there, tells-checking, some-checking, with_checking, stands-checking}
 use Rattle.varisat.proofs.ChangeEnds.{stands-invalid, invalid-told}
 use Rattle.varisat.proofs.solver.Solver.enable_self_checking.Goals as goal
 

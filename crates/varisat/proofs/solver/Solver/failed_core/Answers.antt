@@ -2,7 +2,7 @@ use Rattle.std.proofs.Common.{◌≡◌, ◌∙◌, not, refl, sym, ap, subst, i
 use Rattle.varisat_theory.specs.Literals.{Literal}
 use Rattle.varisat.specs.Models.{IsCoreToTell}
 use Rattle.varisat.proofs.CallStates.{stands-valid}
-use Rattle.varisat.proofs.VerdictAnswers.{told-fails}
+use Rattle.varisat.proofs.SearchVerdicts.{told-fails}
 use Rattle.varisat.proofs.SolverCalls.{core-to-tell}
 use Rattle.varisat.proofs.solver.Solver.failed_core.Goals as goal
 

@@ -11,19 +11,16 @@ use Rattle.varisat.specs.Calls.{with_naming, start, MakesVar}
 use Rattle.varisat.specs.Accepting.{AreBounded}
 use Rattle.varisat.proofs.AcceptClause.{with_tables, ledger-free}
 use Rattle.varisat_search.proofs.KeptNames.{given-keeps}
-use Rattle.varisat.proofs.PlainTables.{is-there, there-is, assumed-keeps, marked-keeps}
-use Rattle.varisat.proofs.KeptCounts.{given-most}
+use Rattle.varisat.proofs.TableMarks.{is-there, there-is, assumed-keeps, marked-keeps}
+use Rattle.varisat.proofs.VariableMoves.{given-most, tables-in-use}
 use Rattle.varisat.proofs.CallStates.{ledger-is, none-since, stands-valid, proof-fits, flags-started, like-varied, broken, broken-untold}
-use Rattle.varisat.proofs.OpenProofs.{goes-on-none, fits-alike, lines-of-entries}
-use Rattle.varisat.proofs.WrittenVariables.{written-alike}
+use Rattle.varisat.proofs.OpenProofs.{goes-on-none, fits-alike, lines-of-entries, written-alike}
 use Rattle.varisat.proofs.Additions.{told-error}
 use Rattle.varisat.proofs.ChangeEnds.{kept-changed, stands-broken, stands-invalid, invalid-told}
 use Rattle.varisat.proofs.SettingsCalls.{summary_of, stands-same}
 use Rattle.varisat.proofs.SolverCalls.{least-free, named-alone, new-named}
-use Rattle.varisat.proofs.VariablesInUse.{tables-in-use}
 use Rattle.varisat.proofs.solver.Solver.new_var.Given.{Over}
-use Rattle.varisat.proofs.solver.Solver.new_var.Goals.{In_ok-user}
-use Rattle.varisat.proofs.solver.Solver.new_var.Goals.{then-index-max_count-via-then-index-max_count, then-index-max_count-via-else-index-max_count+then-global_watermark-max_count}
+use Rattle.varisat.proofs.solver.Solver.new_var.Goals.{In_ok-user, then-index-max_count-via-then-index-max_count, then-index-max_count-via-else-index-max_count+then-global_watermark-max_count}
 use Rattle.varisat.proofs.solver.Solver.new_var.Goals as goal
 
 -- no number is past the limit then

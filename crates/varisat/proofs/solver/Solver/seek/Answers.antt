@@ -29,7 +29,7 @@ use Rattle.varisat.proofs.AcceptClause.{few-made}
 use Rattle.varisat.specs.Changes.{invalidated}
 use Rattle.varisat.proofs.SettingsCalls.{summary_of, stands-same}
 use Rattle.varisat.proofs.SolverCalls.{counted-call, was-unknown, sat-model, sat-right, known-told, false-right, false-core, answered-true, answered-false, answered-none}
-use Rattle.varisat.proofs.GivenEntries.{lists-ended, lists-on}
+use Rattle.varisat.proofs.ToldEntries.{lists-ended, lists-on}
 use Rattle.varisat.proofs.SolverSteps.{unknown-undecided, after-solve, flags-after, comes-satisfiable, comes-unsatisfiable, comes-fits, comes-verdict, comes-interrupted, interrupted-still}
 use Rattle.varisat.proofs.solver.Solver.seek.Given.{Over}
 use Rattle.varisat.proofs.solver.Solver.seek.Goals.{In-Ok-Some, In-Ok-None}

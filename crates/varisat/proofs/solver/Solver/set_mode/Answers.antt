@@ -10,12 +10,11 @@ use Rattle.varisat.proofs.AcceptClause.{proof-free}
 use Rattle.varisat.proofs.Additions.{told-error}
 use Rattle.varisat.proofs.CallStates.{ledger-is, none-since, begins, broken, broken-untold}
 use Rattle.varisat.proofs.ChangeEnds.{kept-changed, stands-broken, stands-invalid, invalid-told}
-use Rattle.varisat.proofs.GivenEntries.{lists-derived, lists-on}
+use Rattle.varisat.proofs.ToldEntries.{lists-derived, lists-on}
 use Rattle.varisat.proofs.ModeChanges.{changed-stays, changed-tells, with_changed, mode-changed, mode-invalid, mode-not-changed, mode-broken}
-use Rattle.varisat.proofs.OpenProofs.{proof-goes-on, lines-of-entries, barred-before}
+use Rattle.varisat.proofs.OpenProofs.{proof-goes-on, lines-of-entries, barred-before, written-alike}
 use Rattle.varisat.proofs.SettingsCalls.{summary_of, stands-same}
 use Rattle.varisat.proofs.VariableStates.{unassumed-state, kept-after}
-use Rattle.varisat.proofs.WrittenVariables.{written-alike}
 use Rattle.varisat.proofs.solver.Solver.set_mode.Goals as goal
 
 pub invariant_of-self-2 : goal.invariant_of-self-2

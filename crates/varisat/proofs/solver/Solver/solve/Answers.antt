@@ -7,7 +7,7 @@ use Rattle.varisat.specs.Calls.{Solves, calling}
 use Rattle.varisat.specs.ProofCalls.{with_proof}
 use Rattle.varisat.specs.Summaries.{Summary, StandsFor}
 use Rattle.varisat.proofs.Additions.{told-error}
-use Rattle.varisat.proofs.SearchEnds.{solve-ends, solve-fails, stood-before}
+use Rattle.varisat.proofs.SearchRounds.{solve-ends, solve-fails, stood-before}
 use Rattle.varisat.proofs.solver.Solver.solve.Goals as goal
 
 pub returns-in_err-end_search-clause-call : goal.returns-in_err-end_search-clause-call

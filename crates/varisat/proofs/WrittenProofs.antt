@@ -1,0 +1,110 @@
+-- What the bytes of a proof say: the clauses accepted, the cores told, and that a marked proof passes.
+use Rattle.std.proofs.Common.{◌≡◌, ◌∙◌, ℕ, Bool, Option, List, [], ◌∷◌, ◌++◌, map, sym, ap, subst, append_assoc, true, false, inl, inr, refl, Result}
+use Rattle.std.proofs.lemmas.List.{append-nil, map-append, append_cancel_left}
+use Rattle.varisat_theory.specs.Literals.{Literal, Clause}
+use Rattle.varisat_theory.specs.Propagation.{Conflicts}
+use Rattle.varisat_theory.specs.Journals.{Fails, Leads, Entry, rename_entry, Accepts, Writes, Assumes, Leaves, lines_of}
+use Rattle.varisat_theory.proofs.Journals.{leads_cut, by_leads}
+use Rattle.varisat.specs.Calls.{TellsVerdict, calling, IsRefuted}
+use Rattle.varisat_proof.specs.declared.proof.format.ProofFormat.TheVariants.{Marked, Drat, BinaryDrat}
+use Rattle.varisat_proof.specs.Lines.{line_of_kind, ProofLine, encoding_of, plain_lines, plain_encoding, has_marks}
+use Rattle.varisat_proof.specs.Written.{line_text, Written, AreInRange}
+use Rattle.varisat_proof.specs.Telling.{bytes_told, lines_told}
+use Rattle.varisat_tracer.specs.Carried.{carry}
+use Rattle.varisat.specs.OpenProofs.{entries_over, lines_over}
+use Rattle.varisat.specs.Journals.{TellsMore, EndWithCore, EndBy}
+use Rattle.varisat.proofs.OpenProofs.{bytes-more, lines-renamed}
+use Rattle.varisat.specs.States.{State, Unknown, UnsatUnderAssumptions}
+use Rattle.varisat_theory.specs.Membership.{◌∈◌}
+use Rattle.varisat_theory.specs.Derivations.{IsDerivation}
+use Rattle.varisat_proof.specs.declared.proof.format.Encoding.TheVariants.{Text}
+use Rattle.varisat_proof.specs.declared.proof.format.ProofFormat.{ProofFormat}
+use Rattle.varisat_proof.specs.declared.checker.error.CheckVerdict.{CheckVerdict}
+use Rattle.varisat_proof.specs.declared.checker.error.CheckerError.{CheckerError}
+use Rattle.varisat_proof.specs.Results.{IsResult, IsAccepted}
+use Rattle.varisat_proof.specs.Steps.{lines_written}
+use Rattle.varisat_proof.proofs.RightResults.{derivation_accepted}
+use Rattle.varisat.specs.Laws.{BytesAreAccepted, MarkedProofsPass}
+use Rattle.varisat_proof.specs.Marked.{nothing_told, state_of, IsCheckOf}
+use Rattle.varisat_proof.proofs.MarkedOnce.{check_through}
+use Rattle.varisat_proof.proofs.PassingJournals.{marked_accepted, journals_pass}
+use Rattle.varisat.specs.Pasts.{telling}
+use Rattle.varisat_proof.specs.declared.proof.format.LineKind.TheVariants as kind
+
+-- A core that a call of `solve` finds is told and written, and conflicts with what is held then.
+
+pub cores-are-told : (s t : State) (b : Bool) (core : List Literal) (held : List Clause) → TellsVerdict calling s b t → s.verdict ≡ Unknown →
+    t.verdict ≡ UnsatUnderAssumptions core → Leads [] t.told held → Conflicts held core
+cores-are-told s t b core held r u e led =
+    let (front, d, ends) = subst (λ v. EndBy v r.told.entries) e (r.right.ends u) in
+    let whole : t.told ≡ (s.told ++ front) ++ Fails core ∷ [] = r.told.joined ∙ ap (λ es. s.told ++ es) ends
+    ∙ sym (append_assoc s.told front (Fails core ∷ [])) in
+    let (before, first, (after, (conflict, same), last)) =
+    leads_cut [] (s.told ++ front) (Fails core ∷ []) held (subst (λ es. Leads [] es held) whole led) in
+    subst (λ P. Conflicts P core) (sym same ∙ last) conflict
+
+-- its line is the last one
+pub cores-are-written : (n : ℕ) (before after : List Entry) (more : TellsMore n before after) (core : List Literal) (variables : ℕ → Option ℕ)
+    (bytes : List ℕ) → EndWithCore core more.entries → bytes ≡ bytes_told Marked (entries_over variables after) →
+    (front : List ℕ) × (bytes ≡ front ++ line_text (line_of_kind kind.Fails (map (carry variables) core)))
+cores-are-written n before after more core variables bytes (front, d, ends) e =
+    let over = entries_over variables (before ++ front) in
+    let last = Fails (map (carry variables) core) ∷ [] in
+    let whole : after ≡ (before ++ front) ++ Fails core ∷ [] = more.joined ∙ ap (λ es. before ++ es) ends
+    ∙ sym (append_assoc before front (Fails core ∷ [])) in (
+      bytes_told Marked over,
+      e ∙ ap (λ es. bytes_told Marked (entries_over variables es)) whole
+          ∙ ap (bytes_told Marked) (map-append (rename_entry (carry variables)) (before ++ front) (Fails core ∷ []))
+          ∙ bytes-more Marked over last
+          ∙ ap (λ xs. bytes_told Marked over ++ xs) (append-nil (line_text (line_of_kind kind.Fails (map (carry variables) core)))),
+    )
+
+-- A check accepts the bytes of a proof.
+
+-- what has no marks is read as it is written
+written-read : (f : ProofFormat) → has_marks f ≡ false → encoding_of f ≡ plain_encoding f
+written-read Drat d = refl
+written-read BinaryDrat d = refl
+written-read Marked d = let z : true ≡ false = d in absurd cc
+
+-- the lines that every format has
+plain-told : (es : List Entry) (line : ProofLine) → line ∈ plain_lines (lines_of es) → line ∈ lines_told (Text true) es
+plain-told [] line h = absurd h
+plain-told (Accepts c ∷ es) line h = inr (plain-told es line h)
+plain-told (Writes l ∷ es) line (inl e) = inl e
+plain-told (Writes l ∷ es) line (inr h) = inr (plain-told es line h)
+plain-told (Assumes a ∷ es) line h = inr (plain-told es line h)
+plain-told (Fails core ∷ es) line h = inr (plain-told es line h)
+plain-told (Leaves v ∷ es) line h = plain-told es line h
+
+accepted-lines : (f : ProofFormat) (P : List Clause) (es : List Entry) (bytes : List ℕ) (r : Result CheckVerdict CheckerError) (Q : List Clause) →
+    has_marks f ≡ false → IsDerivation P (lines_of es) → AreInRange (lines_told (Text true) es) →
+    bytes ≡ lines_written (encoding_of f) (plain_lines (lines_of es)) → IsResult f P bytes r Q → IsAccepted P (lines_of es) r
+accepted-lines f P es bytes r Q d derives range w a =
+    derivation_accepted f P (lines_of es) bytes r Q derives (λ line l h i. range line l (plain-told es line h) i)
+    (subst (λ e. Written e (plain_lines (lines_of es)) bytes) (written-read f d) w) a
+
+pub bytes-are-accepted : BytesAreAccepted
+bytes-are-accepted = record {
+  proof = λ p opened r Q b d shown a.
+      let same : lines_over p.variables p.told ≡ lines_of p.told = sym (lines-renamed (carry p.variables) p.told) ∙ ap lines_of (b.plain shown) in
+      accepted-lines opened.format p.clauses p.told opened.bytes r Q d (b.derives shown) (b.in_range shown)
+      (b.drat d ∙ ap (λ ls. lines_written (encoding_of opened.format) (plain_lines ls)) same) a;
+  program = λ f P c old new bytes r Q p d e a. accepted-lines f P p.told bytes r Q d p.derives p.in_range
+      (append_cancel_left old.bytes bytes (bytes_told f p.told) (sym e ∙ p.bytes) ∙ p.plain d) a;
+}
+
+-- What a check of a marked proof returns.
+
+pub marked-proofs-pass : MarkedProofsPass
+marked-proofs-pass = λ p opened result end journal has format shown check.
+    let range = journal.in_range shown in
+    let (held, by) = journal.within in
+    let is : opened.bytes ≡ bytes_told Marked p.told = has.written ∙ ap (bytes_told opened.format) (has.plain shown)
+    ∙ ap (λ (f : ProofFormat). bytes_told f p.told) format in
+    let begun = subst (λ xs. IsCheckOf (Text true) (state_of [] nothing_told) xs result end) is check in
+    let marked = has.marked shown in (
+      journals_pass p.told held result end (by_leads p.ledger.steps [] p.told held by) (journal.stays shown) journal.cores range begun,
+      λ r. (check_through (Text true) (state_of [] nothing_told) (bytes_told Marked p.told) (lines_told (Text true) p.told) marked.after result end
+          (marked_accepted p.told range) marked.takes begun).1 (marked.refutes (subst (λ (f : ProofFormat). IsRefuted telling f p) (sym format) r)),
+    )

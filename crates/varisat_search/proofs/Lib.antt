@@ -23,7 +23,6 @@ pub mod ClausesExchanged
 pub mod HeaderChanges
 pub mod DiscardedClauses
 pub mod RepackedView
-pub mod RewatchedClauses
 pub mod DueReductions
 pub mod LearnedHeaders
 pub mod AssumedTruths
@@ -34,7 +33,6 @@ pub mod ReadyAfter
 pub mod NextAssumption
 pub mod AssumptionOutcomes
 pub mod ProvedUnits
-pub mod ProvedUnitLines
 pub mod PropagatedContext
 pub mod UnassignedLiterals
 pub mod SimplifiedLines
@@ -57,6 +55,5 @@ pub mod MentionedFlags
 pub mod SolverVariables
 pub mod TakenSolvers
 pub mod TracedClauses
-pub mod DeletedLocals
 pub mod LoadedTrue
 pub mod LeastHeld

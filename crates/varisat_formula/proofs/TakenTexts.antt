@@ -26,7 +26,8 @@ module _ {S E : Type 0} (takes : S → List Clause → Result (Unit {0}) E → S
 
   -- a reading was given, of which the sink took the last clauses
   pub takes_text : (old new : Stand) (s mid t : S) (front clauses : List Clause) (R : Reading) (fault : Option DimacsError) →
-      TakesBehind s front mid → GivesReading old (with_front front R) new → clauses ≡ R.clauses → fault ≡ R.fault → takes mid clauses (Ok tt) t → TakesText takes old s fault new t
+      TakesBehind s front mid → GivesReading old (with_front front R) new → clauses ≡ R.clauses → fault ≡ R.fault → takes mid clauses (Ok tt) t →
+      TakesText takes old s fault new t
   takes_text old new s mid t front clauses R fault w g e f k = record {
     reading = with_front front R;
     gives = g;

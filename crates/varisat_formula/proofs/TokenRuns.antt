@@ -104,7 +104,8 @@ abbrev pub in_token : Word → Progress → Progress
 in_token w p = record p { place = Plain w }
 
 -- a run of bytes behind a part of a piece
-pub advances_run : (p s q : Progress) (piece : List ℕ) (i k : ℕ) → AdvancesBy p (take i piece) s → AdvancesBy s (take k (take (length piece - i) (drop i piece))) q →
+pub advances_run : (p s q : Progress) (piece : List ℕ) (i k : ℕ) → AdvancesBy p (take i piece) s →
+    AdvancesBy s (take k (take (length piece - i) (drop i piece))) q →
     AdvancesBy p (take (i + k) piece) q
 advances_run p s q piece i k f g =
     subst (λ t. AdvancesBy p t q) (sym (take-add i k piece)) (advances_more p s q (take i piece) (take k (drop i piece)) f

@@ -17,7 +17,12 @@ use Rattle.varisat_search.specs.MendedLists.{AreMended, MendsLists}
 
 -- 1. A watch.
 pub still-live : (s : Store) (p : ℕ) → IsPlace (stored_clauses s) p → (header_at (stored_clauses s) p).deleted ≡ false → IsPlace (live_clauses s) p
-still-live s p h e = (stored_at (stored_clauses s) p, ∈-live (stored_clauses s) (stored_at (stored_clauses s) p) (stored-∈ (stored_clauses s) p h) e, place-is (stored_clauses s) p h)
+still-live s p h e = (
+  stored_at (stored_clauses s) p,
+  ∈-live (stored_clauses s) (stored_at (stored_clauses s) p)
+      (stored-∈ (stored_clauses s) p h) e,
+  place-is (stored_clauses s) p h,
+)
 
 pub not-live : (s : Store) (p : ℕ) → IsSound s → (header_at (stored_clauses s) p).deleted ≡ true → IsPlace (live_clauses s) p → ⊥
 not-live s p ok e h =

@@ -55,7 +55,8 @@ loop-lit-preserved g c =
     subst (λ u. AreFlagged (set c.loop-lit.flags u true) (xs ++ v ∷ [])) (sym c.code-in-loop-lit.ensures.code)
     (flagged-more c.loop-lit.flags xs v c.loop-lit.invariant.flagged (omega (arith, i, n))) in
     let e = c.code-in-loop-lit-2.ensures.code ∙ c.not-opposite.ensures in
-    let there : IsTrue (slice_index_or (set c.loop-lit.flags c.code-in-loop-lit.result true) c.code-in-loop-lit-2.result false) ↔ (opposite v ∈ (xs ++ v ∷ [])) =
+    let there : IsTrue (slice_index_or (set c.loop-lit.flags c.code-in-loop-lit.result true) c.code-in-loop-lit-2.result false) ↔
+    (opposite v ∈ (xs ++ v ∷ [])) =
     subst (λ (j : ℕ). IsTrue (slice_index_or (set c.loop-lit.flags c.code-in-loop-lit.result true) j false) ↔ (opposite v ∈ (xs ++ v ∷ []))) (sym e)
     (f (opposite v)) in
     rw c.in_ok-push.ensures.items (record {
@@ -67,7 +68,13 @@ loop-lit-preserved g c =
 
 pub loop-lit-init : goal.loop-lit-init
 loop-lit-init g c = rw c.clear.ensures.items
-    (record { distinct = tt; same = ((λ x i. i), (λ x i. i)); tautology = ((λ e. absurd cc), (λ (l, a, b). absurd a)); flagged = flagged-none c.args.flags.now c.requires.clear })
+    (record {
+      distinct = tt;
+      same = ((λ x i. i), (λ x i. i));
+      tautology = ((λ e. absurd cc), (λ (l, a, b). absurd a));
+      flagged =
+          flagged-none c.args.flags.now c.requires.clear;
+    })
 
 pub returns-clause-same : goal.returns-clause-same
 returns-clause-same g c =

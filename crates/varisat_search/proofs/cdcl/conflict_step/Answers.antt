@@ -78,7 +78,8 @@ pub returns-in_ok-find_and_learn-in-Ok-clause-core : goal.returns-in_ok-find_and
 returns-in_ok-find_and_learn-in-Ok-clause-core g c = c.in_ok-find_and_learn-in-Ok.ensures.core
 
 pub returns-in_ok-learn_from_conflict-in-Err-clause-core : goal.returns-in_ok-learn_from_conflict-in-Err-clause-core
-returns-in_ok-learn_from_conflict-in-Err-clause-core g c u = absurd (learned-no-core c.learn_from_conflict.new.ctx.solver_state.sat_state c.in_ok-learn_from_conflict-in-Err.ensures.further.known u)
+returns-in_ok-learn_from_conflict-in-Err-clause-core g c u =
+    absurd (learned-no-core c.learn_from_conflict.new.ctx.solver_state.sat_state c.in_ok-learn_from_conflict-in-Err.ensures.further.known u)
 
 pub returns-in_ok-find_and_learn-in-Ok-clause-fixes : goal.returns-in_ok-find_and_learn-in-Ok-clause-fixes
 returns-in_ok-find_and_learn-in-Ok-clause-fixes g c =

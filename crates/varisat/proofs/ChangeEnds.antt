@@ -1,19 +1,21 @@
 -- What a solver keeps and stands for once a change ended.
-use Rattle.std.proofs.Common.{◌≡◌, ◌∙◌, ◌-◌, ℕ, Bool, true, false, Option, length, Result, Err, IsErr, IsErrAnd, refl, sym, ap, subst}
+use Rattle.std.proofs.Common.{◌≡◌, ◌∙◌, ◌-◌, ℕ, Bool, true, false, not, Option, length, Result, Err, IsErr, IsErrAnd, refl, sym, ap, subst}
 use Rattle.varisat_names.specs.Variables.{Tables}
 use Rattle.varisat_proof.specs.Proving.{ProofParts, is_there}
 use Rattle.varisat_search.specs.declared.context.Context.{Context}
 use Rattle.varisat_tracer.specs.Tracing.{TracerState, CanTell}
 use Rattle.varisat.specs.Calls.{is_valid}
 use Rattle.varisat.specs.Changes.{invalidated, CountsAnew}
-use Rattle.varisat.specs.OpenProofs.{OpenProof, opened_state}
-use Rattle.varisat.specs.States.{State, Ledger}
+use Rattle.varisat.specs.Accepting.{AreBounded}
+use Rattle.varisat.specs.OpenProofs.{OpenProof, ProofFits, opened_state}
+use Rattle.varisat.specs.Spaces.{SpacesFit}
+use Rattle.varisat.specs.States.{State, Ledger, FlagsFit}
 use Rattle.varisat.specs.Summaries.{Summary, IsKept, IsKeptSince, StandsFor, StandsForSome, spaces_with}
 use Rattle.varisat.specs.declared.solver.SolverError.{SolverError}
 use Rattle.varisat.specs.declared.solver.SolverError.TheVariants.{Invalid}
 use Rattle.varisat.proofs.Additions.{told-error}
-use Rattle.varisat.proofs.CallStates.{ledger-is, broken}
-use Rattle.varisat.proofs.SettingsCalls.{summary_of}
+use Rattle.varisat.proofs.CallStates.{ledger-is, none-since, broken}
+use Rattle.varisat.proofs.SettingsCalls.{summary_of, stands-same}
 use Rattle.varisat.proofs.SinceSteps.{since-now}
 
 -- 1. The change came to a value.
@@ -23,6 +25,27 @@ pub kept-changed : {A : Type 0} (tables : Tables) (proof : ProofParts) (x y : Co
 kept-changed {A} tables proof x y started changed_at c k t s =
     subst (λ (z : Context A). IsKeptSince tables proof z started changed_at) (sym c.same)
     (record { kept = k; tells = t; counts = since-now changed_at x c.steps k.ready c.plan; stands = s })
+
+-- It stands for the state that the change comes to, where steps are counted anew.
+pub stands-changed : {A : Type 0} (p q : TracerState) (started : Bool) (before changed_at : ℕ) (x y z : Context A) (s t : State) →
+    StandsFor (summary_of p started before x) s → CountsAnew y z changed_at → y.solver_state.state_is_invalid ≡ x.solver_state.state_is_invalid →
+    y.schedule.steps ≡ x.schedule.steps → y.solver_config ≡ x.solver_config → is_there q.proof.checker ≡ is_there p.proof.checker →
+    t.ledger ≡ record s.ledger { started = true; since = 0 } → t.words ≡ length y.clause_alloc.words →
+    SpacesFit (spaces_with q.tables q.proof.checker y) t → ProofFits q.proof.opened t.variables t.told t.proof → FlagsFit t →
+    AreBounded q.tables → StandsFor (summary_of q true changed_at z) t
+stands-changed {A} p q started before changed_at x y z s t st counted valid steps config checking ledger size fits proof flags bounded =
+    stands-same q true changed_at y z t counted.same (record {
+      ledger = ledger
+          ∙ ledger-is _ _ _ _ _ _ _ (ap (λ (l : Ledger). l.valid) st.ledger ∙ ap not (sym valid)) refl (ap (λ (l : Ledger). l.steps) st.ledger ∙ sym steps)
+          (none-since changed_at y.schedule.steps counted.steps) (ap (λ (l : Ledger). l.settings) st.ledger ∙ sym config)
+          (ap (λ (l : Ledger). l.checking) st.ledger ∙ sym checking);
+      words = size;
+      same = proof.same;
+      fits = λ _. fits;
+      written = λ _. proof.written;
+      flags = λ _. flags;
+      bounded = λ _. bounded;
+    })
 
 -- 2. It failed.
 

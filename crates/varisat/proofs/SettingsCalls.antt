@@ -29,6 +29,19 @@ use Rattle.varisat.proofs.ToldJournals.{checking-begins}
 
 -- A solver whose settings changed.
 
+-- what a solver holds, where no proof is open and no words are counted
+abbrev pub summary_in : {A : Type 0} → Tables → Option CheckerState → Context A → Ledger → Summary
+summary_in tables checker x ledger = record {
+  tables = tables;
+  opened = None;
+  checker = checker;
+  search = view x;
+  assumed = x.assumptions;
+  sat_state = x.solver_state.sat_state;
+  words = 0;
+  ledger = ledger;
+}
+
 -- what a solver with the parts holds
 abbrev pub summary_of : {A : Type 0} → TracerState → Bool → ℕ → Context A → Summary
 summary_of parts started changed_at x =

@@ -2,7 +2,7 @@ use Rattle.varisat_search.specs.declared.error.StepError.TheVariants as step
 use Rattle.varisat_search.specs.StepErrors.{step_faults, HasNoRoom}
 use Rattle.varisat_trace.proofs.Broken.{passed-on}
 -- What each part did to the maps and to the search.
-use Rattle.std.proofs.Common.{None, ◌≡◌, ◌≢◌, ◌≤◌, arith, ◌++◌, ◌∷◌, [], List, false, sym, ap, ap₂, ◌∙◌, subst, refl, length, map}
+use Rattle.std.proofs.Common.{◌≡◌, ◌≢◌, ◌≤◌, arith, ◌++◌, ◌∷◌, [], List, false, sym, ap, ap₂, ◌∙◌, subst, refl, length, map}
 use Rattle.std.specs.Option.{IsSome}
 use Rattle.varisat_theory.specs.Membership.{◌∈◌}
 use Rattle.varisat_theory.specs.Literals.{variable_of}
@@ -31,7 +31,8 @@ use Rattle.varisat.specs.Journals.{retold}
 use Rattle.varisat_proof.specs.Proving.{IsCheckedIf}
 use Rattle.varisat.specs.States.{State, with_variables}
 use Rattle.varisat.specs.Spaces.{SpacesFit, FitWithNew}
-use Rattle.varisat.specs.Summaries.{Summary, spaces_of, spaces_with, IsKept}
+use Rattle.varisat.specs.Summaries.{spaces_of, spaces_with, IsKept}
+use Rattle.varisat.proofs.SettingsCalls.{summary_in}
 use Rattle.varisat.proofs.ReturnedVariables.{reopened-not, no-model-reopened, reopened-spaces, verdict-after}
 use Rattle.varisat.proofs.SolversInTurn.{with_names, HaveSolvers, have-solvers-then, has-variables, can-have-room, over-leads, over-carried, all-named, literals-within, literals-decidable}
 use Rattle.varisat.proofs.TableMarks.{marks-bounded, joined-same, assumed-joined}
@@ -96,17 +97,7 @@ all-named-in : (g : Over) (c : In_ok-solver_from_user_lits g) (s : State) →
 all-named-in g c s f =
     let old = c.args.ctx.now in
     let checker = c.args.tracer.now.proof.checker in
-    let first : Summary = record {
-      tables = c.args.tracer.now.tables;
-      opened = None;
-      checker = checker;
-      search = view old;
-      assumed =
-          old.assumptions;
-      sat_state = old.solver_state.sat_state;
-      words = 0;
-      ledger = s.ledger;
-    } in
+    let first = summary_in c.args.tracer.now.tables checker old s.ledger in
     let begins = subst (λ y. SpacesFit (spaces_of c.args.tracer.now.tables checker (view old) old.assumptions y)
     (with_verdict (reopened_verdict s.verdict) s)) (sym (ap (λ (x : SolverState). x.sat_state) c.reopen.ensures)) (reopened-spaces first s f) in
     (have g c).stands checker (with_verdict (reopened_verdict s.verdict) s) begins
@@ -210,17 +201,7 @@ returns-clause-accepted g c s f =
     let (variables, keep, named) = all-named-in g here s f in
     let n2 = with_variables variables (with_verdict (reopened_verdict s.verdict) n) in
     let (x, told, v, more, told-as, k) =
-    clause-accepted (record {
-      tables = m;
-      opened = None;
-      checker = c.args.tracer.now.proof.checker;
-      search = view mid;
-      assumed =
-          mid.assumptions;
-      sat_state = mid.solver_state.sat_state;
-      words = 0;
-      ledger = s.ledger;
-    }) n2 list joined
+    clause-accepted (summary_in m c.args.tracer.now.proof.checker mid s.ledger) n2 list joined
     (view new) new.assumptions new.solver_state.sat_state after.proof.checker
     (record {
       not_unsat = opened g here;

@@ -1,5 +1,5 @@
 -- What each part did to the maps, the marks and the search.
-use Rattle.std.proofs.Common.{None, ◌≡◌, ◌≢◌, true, false, refl, sym, ap, ap₂, ◌∙◌, subst, length, map, ◌++◌, ◌∷◌, []}
+use Rattle.std.proofs.Common.{◌≡◌, ◌≢◌, true, false, refl, sym, ap, ap₂, ◌∙◌, subst, length, map, ◌++◌, ◌∷◌, []}
 use Rattle.varisat_theory.specs.Membership.{◌∈◌}
 use Rattle.varisat_theory.specs.Literals.{variable_of}
 use Rattle.varisat_names.specs.Maps.{chain}
@@ -25,8 +25,9 @@ use Rattle.varisat_theory.specs.Journals.{Assumes}
 use Rattle.varisat.specs.Journals.{retold}
 use Rattle.varisat.specs.Spaces.{SpacesFit}
 use Rattle.varisat.specs.States.{with_variables}
-use Rattle.varisat.specs.Summaries.{Summary, spaces_of, IsKept}
+use Rattle.varisat.specs.Summaries.{spaces_of, IsKept}
 use Rattle.varisat.proofs.AssumeList.{Assuming, forgets, list-told, list-assumed}
+use Rattle.varisat.proofs.SettingsCalls.{summary_in}
 use Rattle.varisat.proofs.ReturnedVariables.{no-model-assumed, assumed-again}
 use Rattle.varisat.proofs.SolversInTurn.{HaveSolvers, have-solvers-then, has-variables, can-have-room, over-leads, over-carried, all-named, literals-within, literals-decidable}
 use Rattle.varisat.proofs.VariableMoves.{same-in-use, tables-in-use}
@@ -151,17 +152,7 @@ returns-clause-assumed g c s f =
     let before : TracerState = record { tables = marked; proof = c.args.tracer.now.proof } in
     let after = tracer_state c.tell_assumptions.new.tracer in
     let taken = (c.in_ok-tell_assumptions.ensures {u = tt}).told in
-    let first : Summary = record {
-      tables = c.args.tracer.now.tables;
-      opened = None;
-      checker = checker;
-      search = view old;
-      assumed =
-          old.assumptions;
-      sat_state = old.solver_state.sat_state;
-      words = 0;
-      ledger = s.ledger;
-    } in
+    let first = summary_in c.args.tracer.now.tables checker old s.ledger in
     let (w, k) = f in
     let begins = subst (λ y. SpacesFit (spaces_of c.args.tracer.now.tables checker (view old) old.assumptions y)
     (with_verdict (assumed_verdict s.verdict) s)) (sym (ap (λ (x : SolverState). x.sat_state) c.assume.ensures))
@@ -171,17 +162,7 @@ returns-clause-assumed g c s f =
     let told = s.told ++ Assumes carried ∷ [] in
     let (variables, keep, named) = all.stands checker (with_verdict (assumed_verdict s.verdict) s) begins in
     let n2 = with_variables variables (with_verdict (assumed_verdict s.verdict) n) in
-    let second : Summary = record {
-      tables = m;
-      opened = None;
-      checker = checker;
-      search = view mid;
-      assumed = mid.assumptions;
-      sat_state =
-          mid.solver_state.sat_state;
-      words = 0;
-      ledger = s.ledger;
-    } in
+    let second = summary_in m checker mid s.ledger in
     let assuming : Assuming second list c.mark_assumed.new.variables marked (view new) new.assumptions new.solver_state.sat_state = record {
       all = over-leads to list c.solver_from_user_lits.new.solver_lits.items over;
       are_cleared = subst (λ ls. AreMarked ls false m c.mark_assumed.new.variables) c.user_assumptions.ensures c.mark_assumed.ensures;

@@ -2,9 +2,9 @@ use Rattle.std.proofs.Common.{true, Err, subst, ◌∙◌, not, length, arith, r
 use Rattle.varisat_search.specs.declared.state.SolverState.{SolverState}
 use Rattle.varisat_schedule.specs.Plans.{Plan}
 use Rattle.varisat_tracer.specs.TracerLaws.{checked-runs}
-use Rattle.varisat.specs.States.{State, Ledger}
+use Rattle.varisat.specs.States.{State}
 use Rattle.varisat.specs.Calls.{calling, count_anew, MayAccept, Ignored, Accepted, AddsClause}
-use Rattle.varisat.proofs.CallStates.{ledger-is, none-since, stands-valid, proof-fits, broken, broken-invalid, adds-broken}
+use Rattle.varisat.proofs.CallStates.{stands-valid, proof-fits, broken, broken-invalid, adds-broken}
 use Rattle.varisat.proofs.AcceptClause.{not-refuted}
 use Rattle.varisat_tracer.specs.Tracing.{tracer_state, BreaksProof}
 use Rattle.varisat_search.specs.StepErrors.{step_faults}
@@ -15,8 +15,8 @@ use Rattle.varisat.specs.declared.solver.SolverError.TheVariants.{ClauseStoreFul
 use Rattle.varisat.proofs.Targets.{writes-nothing, refused-unwritten, tells-writes, breaks-writes, names-unwritten, names-not-full, refused-full, same-error}
 use Rattle.varisat.proofs.OpenProofs.{broken-open, broken-on, closed-there, unclosed-there}
 use Rattle.varisat.proofs.Joins.{ClauseJoins, clause-joins}
-use Rattle.varisat.proofs.ChangeEnds.{kept-changed, stands-broken, stands-invalid, invalid-told}
-use Rattle.varisat.proofs.SettingsCalls.{summary_of, stands-same}
+use Rattle.varisat.proofs.ChangeEnds.{kept-changed, stands-changed, stands-broken, stands-invalid, invalid-told}
+use Rattle.varisat.proofs.SettingsCalls.{summary_of}
 use Rattle.varisat.proofs.Additions.{told-error}
 use Rattle.varisat.proofs.SolverCalls.{unsat-known}
 use Rattle.varisat.proofs.NamingStates.{may-constrain, clause-refused}
@@ -93,20 +93,10 @@ returns-clause-call g c s st =
             (may-constrain _ s q ok c.args.clause.now c.in_ok-check_names.ensures.0 c.in_ok-check_names.ensures.1)
             j.accepts,
       ),
-      stands-same (tracer_state new.tracer) true c.end_change.new.changed_at new.ctx c.end_change.new.ctx j.state counted.same (record {
-        ledger = j.ledger
-            ∙ ledger-is _ _ _ _ _ _ _ (ap (λ (x : Ledger). x.valid) q.ledger ∙ ap (λ (x : SolverState). not x.state_is_invalid) (sym state)) refl
-            (ap (λ (x : Ledger). x.steps) q.ledger ∙ sym (ap (λ (x : Plan). x.steps) plan.schedule))
-            (none-since c.end_change.new.changed_at new.ctx.schedule.steps counted.steps)
-            (ap (λ (x : Ledger). x.settings) q.ledger ∙ sym plan.solver_config)
-            (ap (λ (x : Ledger). x.checking) q.ledger ∙ sym (checked-runs old.tracer.proof.checker new.tracer.proof.checker tells.0 tells.1.checked));
-        words = j.size;
-        same = j.proof.same;
-        fits = λ _. j.fits;
-        written = λ _. j.proof.written;
-        flags = λ _. j.flags (q.flags ok);
-        bounded = λ _. kept.bounded;
-      }),
+      stands-changed (tracer_state old.tracer) (tracer_state new.tracer) old.started old.changed_at c.end_change.new.changed_at old.ctx new.ctx
+          c.end_change.new.ctx s j.state q counted (ap (λ (x : SolverState). x.state_is_invalid) state) (ap (λ (x : Plan). x.steps) plan.schedule)
+          plan.solver_config (checked-runs old.tracer.proof.checker new.tracer.proof.checker tells.0 tells.1.checked) j.ledger j.size j.fits j.proof
+          (j.flags (q.flags ok)) kept.bounded,
     )
 
 pub returns-in_err-end_change-clause-call : goal.returns-in_err-end_change-clause-call

@@ -54,8 +54,8 @@ IsAdded s t (l ∷ m ∷ n ∷ c) before after =
     × (t ≡ record s { clauses = t.clauses; queue_head = t.queue_head }) × (after ≡ before)
 
 -- So the clause in `lits` is added, and what is remembered stays.
-abbrev pub AddsClause : {A : Type 0} → Context A → Context A → Type 0
-AddsClause x y =
+abbrev pub AddsLoaded : {A : Type 0} → Context A → Context A → Type 0
+AddsLoaded x y =
     IsAdded (view x) (view y) x.tmp_data.lits.items x.solver_state.sat_state y.solver_state.sat_state × (y.assignment.last ≡ x.assignment.last)
 
 -- A single literal is loaded: the kept clauses stay, and where nothing was decided the trail has at most this literal more, and the queue's head stays.

@@ -15,7 +15,7 @@ ghost use Rattle.varisat_search.specs.Contexts.{view, IsNotUnsat, IsReady};
 ghost use Rattle.varisat_search.specs.Steps.{IsPropagatedToEnd, SavesAll, reopened_state, IsVerdictAfter, accepted_with};
 ghost use Rattle.varisat_search.specs.Decisions.{AreDecidable};
 ghost use Rattle.varisat_search.specs.Frames.{ChangesLoaded, ClearsFlags, KeepsVariables, KeepsScheduleAndVariables};
-ghost use Rattle.varisat_search.specs.Loading.{HasFalseLiteral, IsHeadAfter, AddsClause, LoadsUnit, DeletesInOrder, LoadsTo};
+ghost use Rattle.varisat_search.specs.Loading.{HasFalseLiteral, IsHeadAfter, AddsLoaded, LoadsUnit, DeletesInOrder, LoadsTo};
 ghost use Rattle.varisat_search.specs.Forgotten.{IsUnmentioned};
 ghost use Rattle.varisat_trace.specs.Traces.{TakesLines, BreaksOff, faults_of, CanTake, HoldsWith};
 ghost use Rattle.varisat_search.specs.StepErrors.{RefusesStoring, EndsStep, step_faults};
@@ -91,7 +91,7 @@ fn add_distinct<A: Allocator + Copy>(ctx: &mut Context<A>) -> Result<(), StoreEr
     ensures kept { ChangesLoaded ctx.old ctx.new }
     ensures propagated { OnOk result (IsPropagated ctx.new.watchlists (view ctx.new)) }
     ensures tracks { OnOk result (Tracks ctx.new.clause_db ctx.new.clause_alloc) }
-    ensures added { OnOk result (AddsClause ctx.old ctx.new) }
+    ensures added { OnOk result (AddsLoaded ctx.old ctx.new) }
     ensures full { IfErr result (λ error. error ≡ StoreError.Full → RefusesStoring (length ctx.old.tmp_data.lits.items) ctx.old ctx.new) }
 {
     let Some(first) = first_of(&ctx.tmp_data.lits) else {

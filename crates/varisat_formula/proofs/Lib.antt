@@ -1,3 +1,4 @@
+pub mod AllowedLiterals
 pub mod CutTexts
 pub mod DecimalDigits
 pub mod FormulaBuffers

@@ -1,15 +1,12 @@
 -- Tokens that are kept.
-use Rattle.std.proofs.Common.{◌≡◌, ℕ, ◌+◌, ◌-◌, List, [], ◌∷◌, ◌++◌, ◌⊎◌, inl, inr, true, false, refl, sym, ap, subst, ◌∙◌, length, length-append, append-nil, append_assoc, arith, None, take, drop, get_or, take-append-drop, Option, Some}
-use Rattle.std.proofs.Math.Seq.{take-add}
-use Rattle.std.proofs.lemmas.List.{get_or-drop}
+use Rattle.std.proofs.Common.{◌≡◌, ℕ, List, [], ◌∷◌, ◌++◌, true, false, refl, sym, ap, subst, ◌∙◌, length, length-append, append-nil, arith, None, take, get_or, Option, Some}
 use Rattle.varisat_formula.specs.declared.dimacs.token.Word.{Word}
 use Rattle.varisat_formula.specs.declared.dimacs.parser.Place.TheVariants.{Plain}
 use Rattle.varisat_formula.specs.declared.dimacs.error.DimacsError.{DimacsError}
 use Rattle.varisat_formula.specs.declared.dimacs.error.DimacsErrorKind.TheVariants.{OutOfMemory}
 use Rattle.varisat_formula.specs.Dimacs.{Reading, read, failed, is_blank, GoesOn, BreaksOff, close, close_by}
 use Rattle.varisat_formula.specs.Rest.{Progress, word_items, line_rest, gives_from, so_far_from, AdvancesBy, KeepsToken, WantsRoom, RunsOut, RunsOutIn}
-use Rattle.varisat_formula.proofs.ParserProgress.{open_gives, goes_on, breaks_off, advances_more}
-use Rattle.varisat_formula.proofs.TokenRuns.{rest_of}
+use Rattle.varisat_formula.proofs.ParserProgress.{open_gives, goes_on, breaks_off}
 
 longer : {X : Type 0} (xs : List X) (x : X) → xs ++ x ∷ [] ≡ xs → ⊥
 longer xs x e = let f = ap length e in let g = length-append xs (x ∷ []) in absurd (omega arith)
@@ -47,28 +44,6 @@ ran_out p s q text f e h w k =
       wants = kept_by (so_far_from p text) (so_far_from p (text ++ 32 ∷ [])) s.reading (read s.reading (word_items s.line w.word)) here there w.keeps;
     }
 
--- behind a part of a text
-ran_out_behind : (p s q : Progress) (a b : List ℕ) → AdvancesBy p a s → RunsOut s b q → RunsOut p (a ++ b) q
-ran_out_behind p s q a b f r = record {
-  reading = r.reading ∙ f.same (BreaksOff OutOfMemory) b;
-  wants = kept_by (so_far_from p (a ++ b)) (so_far_from p ((a ++ b) ++ 32 ∷ [])) (so_far_from s b) (so_far_from s (b ++ 32 ∷ []))
-      (sym (f.same GoesOn b)) (ap (λ t. so_far_from p t) (append_assoc a b (32 ∷ [])) ∙ sym (f.same GoesOn (b ++ 32 ∷ []))) r.wants;
-}
-
 pub ran_out_in : (p s q : Progress) (piece : List ℕ) (i : ℕ) → AdvancesBy p (take i piece) s → s.over ≡ false → s.reading.fault ≡ None →
     WantsRoom s → is_blank (get_or piece i 0) ≡ true → q.reading ≡ failed s.reading s.line OutOfMemory → RunsOutIn p piece q
 ran_out_in p s q piece i f e h w b k = record { at = i; blank = b; out = ran_out p s q (take i piece) f e h w k }
-
--- what stops the reader in the rest of a piece stops it in the piece
-pub stops_behind : (p s q : Progress) (piece : List ℕ) (i : ℕ) → AdvancesBy p (take i piece) s →
-    AdvancesBy s (take (length piece - i) (drop i piece)) q ⊎ RunsOutIn s (take (length piece - i) (drop i piece)) q →
-    AdvancesBy p piece q ⊎ RunsOutIn p piece q
-stops_behind p s q piece i f r =
-    elim (subst (λ t. AdvancesBy s t q ⊎ RunsOutIn s t q) (rest_of i piece) r) [
-      | inl g ↦ inl (subst (λ t. AdvancesBy p t q) (take-append-drop i piece) (advances_more p s q (take i piece) (drop i piece) f g))
-      | inr g ↦ inr (record {
-        at = i + g.at;
-        blank = ap is_blank (sym (get_or-drop i piece g.at 0)) ∙ g.blank;
-        out = subst (λ t. RunsOut p t q) (sym (take-add i g.at piece)) (ran_out_behind p s q (take i piece) (take g.at (drop i piece)) f g.out);
-      })
-    ]

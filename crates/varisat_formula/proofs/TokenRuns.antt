@@ -1,18 +1,22 @@
 -- Several bytes of one token at a time.
-use Rattle.std.proofs.Common.{◌≡◌, ℕ, ◌+◌, ◌-◌, ◌*◌, ◌^◌, ◌<◌, ◌≤◌, List, [], ◌∷◌, ◌++◌, Bool, true, false, ◌==◌, suc, if◌then◌else◌, refl, sym, ap, subst, ◌∙◌, length, take, drop, get_or, arith, rules, append_assoc, take-append-drop, Some}
+use Rattle.std.proofs.Common.{◌≡◌, ℕ, ◌+◌, ◌-◌, ◌*◌, ◌^◌, ◌<◌, ◌≤◌, List, [], ◌∷◌, ◌++◌, ◌⊎◌, Bool, true, false, ◌==◌, nat_lt, zero, suc, inl, inr, if◌then◌else◌, refl, sym, ap, subst, ◌∙◌, length, take, drop, get_or, arith, rules, None}
+use Rattle.std.proofs.Math.Nat.{pow-le-pow_right, pow-succ'}
 use Rattle.std.proofs.Math.Seq.{take-add}
+use Rattle.varisat_literals.specs.Numbers.{variable_limit}
 use Rattle.std.proofs.lemmas.List.{get_or-drop, length-drop, take_all, take_more}
-use Rattle.varisat_formula.specs.declared.dimacs.token.Digits.TheVariants.{Empty, Number, NoNumber}
+use Rattle.varisat_formula.specs.declared.dimacs.token.Digits.TheVariants.{Number, NoNumber}
 use Rattle.varisat_formula.specs.declared.dimacs.token.Word.{Word}
-use Rattle.varisat_formula.specs.declared.dimacs.parser.Place.TheVariants.{Plain}
-use Rattle.varisat_formula.specs.declared.dimacs.error.DimacsError.{DimacsError}
-use Rattle.varisat_formula.specs.Dimacs.{is_blank, is_digit, is_line_feed, read}
-use Rattle.varisat_formula.specs.Machine.{after_byte, after_digit, grown, no_word, no_digits, a_number, GoesOnTo}
-use Rattle.varisat_formula.specs.Rest.{Progress, AdvancesBy, word_items, gives_from}
+use Rattle.varisat_formula.specs.declared.dimacs.header.HeaderPart.TheVariants.{Name}
+use Rattle.varisat_formula.specs.declared.dimacs.parser.Place.{Place}
+use Rattle.varisat_formula.specs.declared.dimacs.parser.Place.TheVariants.{Start, Comment, Header, Plain}
+use Rattle.varisat_formula.specs.declared.dimacs.token.Meaning.TheVariants.{End}
+use Rattle.varisat_formula.specs.Dimacs.{Reading, Token, after_token, step_by, next, is_blank, is_digit, is_line_feed, read}
+use Rattle.varisat_formula.specs.Machine.{after_byte, after_digit, grown, no_word, a_number, GoesOnTo}
+use Rattle.varisat_formula.specs.Rest.{Progress, AdvancesBy, IsBetween, ReadsOn, start_place, word_items}
 use Rattle.varisat_formula.proofs.TokenBytes.{grown_below, digit_bound}
-use Rattle.varisat_formula.proofs.ParserProgress.{advances_none, advances_more, reads_byte, plain_more, plain_blank, gives_failed}
+use Rattle.varisat_formula.proofs.ParserProgress.{LineStep, advances_none, advances_more, reads_byte, reads_line_feed, start_more, plain_more, plain_blank}
 
-pub goes_on_more : (w v u : Word) (xs ys : List ℕ) → GoesOnTo w xs v → GoesOnTo v ys u → GoesOnTo w (xs ++ ys) u
+goes_on_more : (w v u : Word) (xs ys : List ℕ) → GoesOnTo w xs v → GoesOnTo v ys u → GoesOnTo w (xs ++ ys) u
 goes_on_more w v u [] ys e h = subst (λ x. GoesOnTo x ys u) (sym e) h
 goes_on_more w v u (x ∷ xs) ys g h = (g.0, goes_on_more (after_byte w x) v u xs ys g.1 h)
 
@@ -35,54 +39,50 @@ one_digit_more m n b p s h =
     ∙ ap (λ t. record { minus = m; digits = if t then grown n (b - 48) else NoNumber }) h
     ∙ sym (ap (λ d. record { minus = m; digits = d }) (grown_below n (b - 48) (λ e. absurd (omega (arith, e, p))) (omega (arith, s, k))))
 
-pub digit_more : (w : Word) (m : Bool) (n d : ℕ) (bytes : List ℕ) (i : ℕ) → i < length bytes → 0 < n → n < 2 ^ 32 → is_digit (get_or bytes i 0) ≡ true →
+digit_behind : (w : Word) (m : Bool) (n d : ℕ) (bytes : List ℕ) (i : ℕ) → i < length bytes → 0 < n → n < 2 ^ 32 → is_digit (get_or bytes i 0) ≡ true →
     d ≡ get_or bytes i 0 - 48 → GoesOnTo w (take i bytes) (a_number m n) → GoesOnTo w (take (i + 1) bytes) (a_number m (n * 10 + d))
-digit_more w m n d bytes i l p s h e g =
+digit_behind w m n d bytes i l p s h e g =
     let b = get_or bytes i 0 in
     subst (λ t. GoesOnTo w t (a_number m (n * 10 + d))) (sym (take_more bytes i 0 l))
     (goes_on_more w (a_number m n) (a_number m (n * 10 + d)) (take i bytes) (b ∷ []) g
     (not_blank b h, one_digit_more m n b p s h ∙ ap (λ x. a_number m (n * 10 + x)) (sym e)))
 
--- 2. Bytes before and behind.
-pub run_more : (w v u : Word) (bytes : List ℕ) (i k : ℕ) → GoesOnTo w (take i bytes) v → GoesOnTo v (take k (take (length bytes - i) (drop i bytes))) u →
-    GoesOnTo w (take (i + k) bytes) u
-run_more w v u bytes i k g f =
-    subst (λ t. GoesOnTo w t u) (sym (take-add i k bytes))
-    (goes_on_more w v u (take i bytes) (take k (drop i bytes)) g (subst (λ t. GoesOnTo v (take k t) u) (rest_of i bytes) f))
+pub digit_more : (w : Word) (m : Bool) (n d : ℕ) (bytes : List ℕ) (at end : ℕ) → at ≤ end → end < length bytes → 0 < n → n < 2 ^ 32 →
+    is_digit (get_or bytes end 0) ≡ true → d ≡ get_or bytes end 0 - 48 → GoesOnTo w (take (end - at) (drop at bytes)) (a_number m n) →
+    GoesOnTo w (take (end + 1 - at) (drop at bytes)) (a_number m (n * 10 + d))
+digit_more w m n d bytes at end b l p s h e g =
+    let here : at + (end - at) ≡ end = omega (arith, b) in
+    let more : end - at + 1 ≡ end + 1 - at = omega (arith, b) in
+    let within = length-drop at bytes in
+    let same : get_or (drop at bytes) (end - at) 0 ≡ get_or bytes end 0 = get_or-drop at bytes (end - at) 0 ∙ ap (λ i. get_or bytes i 0) here in
+    subst (λ k. GoesOnTo w (take k (drop at bytes)) (a_number m (n * 10 + d))) more
+    (digit_behind w m n d (drop at bytes) (end - at) (omega (arith, within, l, b)) p s (ap is_digit same ∙ h) (e ∙ ap (λ x. x - 48) (sym same)) g)
 
+-- a number up to the limit has at most nine digits
+few_digits : (k n : ℕ) → 10 ^ k ≤ n → n ≤ variable_limit → k ≤ 8
+few_digits k n h l = by_size (nat_lt 8 k) refl
+  where
+    by_size : (t : Bool) → nat_lt 8 k ≡ t → k ≤ 8
+    by_size true e =
+        let many : 9 ≤ k = search (rules, e) in
+        let large : 10 ^ 9 ≤ 10 ^ k = pow-le-pow_right (omega arith) many in
+        absurd (omega (arith, large, h, l))
+    by_size false e = search (rules, e)
+
+pub digits_within : (size at sign end n : ℕ) → 11 ≤ size - at → sign ≤ 1 → 10 ^ (end - (at + sign) - 1) ≤ n → n ≤ variable_limit → end < size
+digits_within size at sign end n s h p l = let k = few_digits (end - (at + sign) - 1) n p l in omega (arith, s, h, k)
+
+pub power_more : (start end n d : ℕ) → start < end → 10 ^ (end - start - 1) ≤ n → 10 ^ (end + 1 - start - 1) ≤ n * 10 + d
+power_more start end n d s h =
+    let e : end + 1 - start - 1 ≡ suc (end - start - 1) = omega (arith, s) in
+    let q : 10 ^ suc (end - start - 1) ≡ 10 * 10 ^ (end - start - 1) = pow-succ' 10 (end - start - 1) in
+    subst (λ k. 10 ^ k ≤ n * 10 + d) (sym e) (subst (λ x. x ≤ n * 10 + d) (sym q) (omega (arith, h)))
+
+-- 2. A byte that is no blank.
 pub byte_more : (w v u : Word) (bytes : List ℕ) (i : ℕ) → i < length bytes → is_blank (get_or bytes i 0) ≡ false → u ≡ after_byte v (get_or bytes i 0) →
     GoesOnTo w (take i bytes) v → GoesOnTo w (take (i + 1) bytes) u
 byte_more w v u bytes i l h e g =
     subst (λ t. GoesOnTo w t u) (sym (take_more bytes i 0 l)) (goes_on_more w v u (take i bytes) (get_or bytes i 0 ∷ []) g (h, sym e))
-
-front_more : (w v : Word) (bytes : List ℕ) (k : ℕ) → 0 < length bytes → is_blank (get_or bytes 0 0) ≡ false →
-    GoesOnTo (after_byte w (get_or bytes 0 0)) (take k (take (length bytes - 1) (drop 1 bytes))) v → GoesOnTo w (take (1 + k) bytes) v
-front_more w v [] k l h g = absurd (omega (arith, l))
-front_more w v (b ∷ bs) k l h g =
-    let e : 1 + k ≡ suc k = omega arith in
-    let f : GoesOnTo (after_byte w b) (take k bs) v = subst (λ t. GoesOnTo (after_byte w b) (take k t) v) (rest_of 1 (b ∷ bs)) g in
-    subst (λ n. GoesOnTo w (take n (b ∷ bs)) v) (sym e) (h, f)
-
--- a digit behind a minus sign or none
-first_digit : (m : Bool) (b : ℕ) → is_digit b ≡ true → after_byte (no_digits m) b ≡ a_number m (b - 48)
-first_digit m b h = by_sign m ∙ ap (λ t. record { minus = m; digits = if t then Number (b - 48) else NoNumber }) h
-  where
-    no_sign : (b == 45) ≡ false
-    no_sign = let k = digit_bound b h in search (rules, k)
-
-    by_sign : (m : Bool) → after_byte (no_digits m) b ≡ record { minus = m; digits = after_digit Empty b }
-    by_sign true = refl
-    by_sign false = ap (λ t. if t then record { minus = true; digits = Empty } else record { minus = false; digits = after_digit Empty b }) no_sign
-
-pub digit_in_front : (m : Bool) (d : ℕ) (v : Word) (bytes : List ℕ) (k : ℕ) → 0 < length bytes → is_digit (get_or bytes 0 0) ≡ true →
-    d ≡ get_or bytes 0 0 - 48 → GoesOnTo (a_number m d) (take k (take (length bytes - 1) (drop 1 bytes))) v → GoesOnTo (no_digits m) (take (1 + k) bytes) v
-digit_in_front m d v bytes k l h e g =
-    let b = get_or bytes 0 0 in
-    front_more (no_digits m) v bytes k l (not_blank b h)
-    (subst (λ w. GoesOnTo w (take k (take (length bytes - 1) (drop 1 bytes))) v) (ap (λ n. a_number m n) e ∙ sym (first_digit m b h)) g)
-
-pub some_bytes : (bytes : List ℕ) (t : Bool) → t ≡ (length bytes == 0) → t ≡ false → 0 < length bytes
-some_bytes bytes t e f = search (rules, e, f)
 
 -- 3. What they make of the reader.
 no_feed : (b : ℕ) → is_blank b ≡ false → is_line_feed b ≡ false
@@ -104,7 +104,7 @@ abbrev pub in_token : Word → Progress → Progress
 in_token w p = record p { place = Plain w }
 
 -- a run of bytes behind a part of a piece
-pub advances_run : (p s q : Progress) (piece : List ℕ) (i k : ℕ) → AdvancesBy p (take i piece) s →
+advances_run : (p s q : Progress) (piece : List ℕ) (i k : ℕ) → AdvancesBy p (take i piece) s →
     AdvancesBy s (take k (take (length piece - i) (drop i piece))) q →
     AdvancesBy p (take (i + k) piece) q
 advances_run p s q piece i k f g =
@@ -121,23 +121,19 @@ advances_one p s q piece i l f g =
 pub advances_whole : (p q : Progress) (piece : List ℕ) (i : ℕ) → i ≡ length piece → AdvancesBy p (take i piece) q → AdvancesBy p piece q
 advances_whole p q piece i e f = subst (λ t. AdvancesBy p t q) (take_all i piece (omega (arith, e))) f
 
-pub run_before : (i k : ℕ) (xs : List ℕ) → i ≤ length xs → k ≤ length (take (length xs - i) (drop i xs)) → (i + k ≡ length xs → ⊥) → i + k < length xs
-run_before i k xs h l n = let e = ap length (rest_of i xs) in let d = length-drop i xs in grind (arith, h, l, n, e, d)
+run_within : (i k : ℕ) (xs : List ℕ) → i ≤ length xs → k ≤ length (take (length xs - i) (drop i xs)) → i + k ≤ length xs
+run_within i k xs h l = let e = ap length (rest_of i xs) in let d = length-drop i xs in omega (arith, h, l, e, d)
 
-pub token_run : (p s : Progress) (w v : Word) (piece : List ℕ) (i k : ℕ) → AdvancesBy p (take i piece) (in_token w s) → s.over ≡ false →
-    GoesOnTo w (take k (take (length piece - i) (drop i piece))) v → AdvancesBy p (take (i + k) piece) (in_token v s)
-token_run p s w v piece i k f e g =
-    advances_run p (in_token w s) (in_token v s) piece i k f (advances_word (in_token w s) (in_token v s) w v _ g e refl refl)
+pub reads_on : (p s q : Progress) (piece : List ℕ) (i k : ℕ) → ReadsOn p piece i s → ReadsOn s (take (length piece - i) (drop i piece)) k q →
+    ReadsOn p piece (i + k) q
+reads_on p s q piece i k f g = record {
+  within = run_within i k piece f.within g.within;
+  reads = advances_run p s q piece i k f.reads g.reads;
+  goes_on = g.goes_on;
+}
 
--- the byte where a run stops
-pub run_stops : (i k : ℕ) (xs : List ℕ) → i ≤ length xs → k ≤ length (take (length xs - i) (drop i xs)) → (i + k ≡ length xs → ⊥) →
-    (k < length (take (length xs - i) (drop i xs)) → is_blank (get_or (take (length xs - i) (drop i xs)) k 0) ≡ true) → is_blank (get_or xs (i + k) 0) ≡ true
-run_stops i k xs h l n b =
-    let e = rest_of i xs in
-    let before = run_before i k xs h l n in
-    let m = ap length e in
-    let d = length-drop i xs in
-    ap is_blank (sym (get_or-drop i xs k 0) ∙ sym (ap (λ ys. get_or ys k 0) e)) ∙ b (omega (arith, before, m, d))
+pub before_end : (i n : ℕ) → i ≤ n → (i ≡ n → ⊥) → i < n
+before_end i n l h = grind (arith, l, h)
 
 -- a token ends
 token_end : (s : Progress) (v : Word) (b : ℕ) → s.over ≡ false → is_blank b ≡ true → is_line_feed b ≡ false →
@@ -148,24 +144,103 @@ token_end s v b e h n =
 no_line_feed : (b : ℕ) → (b ≡ 10 → ⊥) → is_line_feed b ≡ false
 no_line_feed b n = search (rules, n)
 
-pub token_ends : (p s t : Progress) (v u : Word) (piece : List ℕ) (i : ℕ) → i < length piece → AdvancesBy p (take i piece) (in_token v s) → s.over ≡ false →
-    is_blank (get_or piece i 0) ≡ true → (get_or piece i 0 ≡ 10 → ⊥) → t ≡ record s { reading = read s.reading (word_items s.line v) } → u ≡ no_word →
-    AdvancesBy p (take (i + 1) piece) (in_token u t)
-token_ends p s t v u piece i l f e h n k w =
-    let ended : Progress = record s { reading = read s.reading (word_items s.line v) } in
-    advances_one p (in_token v s) (in_token u t) piece i l f
-    (subst (λ x. AdvancesBy (in_token v s) (get_or piece i 0 ∷ []) (in_token u x)) (sym k)
-    (subst (λ x. AdvancesBy (in_token v s) (get_or piece i 0 ∷ []) (in_token x ended)) (sym w)
-    (token_end s v (get_or piece i 0) e h (no_line_feed (get_or piece i 0) n))))
+token_ends : (p s t : Progress) (v : Word) (piece : List ℕ) (i : ℕ) → i < length piece → AdvancesBy p (take i piece) (in_token v s) → s.over ≡ false →
+    is_blank (get_or piece i 0) ≡ true → (get_or piece i 0 ≡ 10 → ⊥) → t ≡ record s { reading = read s.reading (word_items s.line v) } →
+    AdvancesBy p (take (i + 1) piece) (in_token no_word t)
+token_ends p s t v piece i l f e h n k =
+    advances_one p (in_token v s) (in_token no_word t) piece i l f
+    (subst (λ x. AdvancesBy (in_token v s) (get_or piece i 0 ∷ []) (in_token no_word x)) (sym k)
+    (token_end s v (get_or piece i 0) e h (no_line_feed (get_or piece i 0) n)))
 
--- a part of a piece was read that has a fault
-pub stopped_within : (p s q : Progress) (piece : List ℕ) (i : ℕ) (e : DimacsError) → AdvancesBy p (take i piece) s → q.reading ≡ s.reading →
-    q.reading.fault ≡ Some e → AdvancesBy p piece q
-stopped_within p s q piece i e f r h = record {
-  same = λ ending rest.
-      gives_failed ending q e h rest
-      ∙ r
-      ∙ sym (gives_failed ending s e (ap (λ x. x.fault) (sym r) ∙ h) (drop i piece ++ rest))
-      ∙ f.same ending (drop i piece ++ rest)
-      ∙ ap (λ t. gives_from ending p t) (sym (append_assoc (take i piece) (drop i piece) rest) ∙ ap (λ t. t ++ rest) (take-append-drop i piece));
-}
+-- a literal that begins between two tokens, and the space behind it
+begins_word : (b : ℕ) → b ≤ 57 → is_blank b ≡ false → start_place b ≡ Plain (after_byte no_word b)
+begins_word b h k =
+    let no_comment : (b == 99) ≡ false = search (rules, h) in
+    let no_header : (b == 112) ≡ false = search (rules, h) in
+    let plain : Place = Plain (after_byte no_word b) in
+    ap (λ t. if t then Comment else (if b == 112 then Header Name else (if is_blank b then Plain no_word else plain))) no_comment
+    ∙ ap (λ t. if t then Header Name else (if is_blank b then Plain no_word else plain)) no_header
+    ∙ ap (λ t. if t then Plain no_word else plain) k
+
+from_start : (s : Progress) (v : Word) (bs : List ℕ) → s.over ≡ false → 0 < length bs → get_or bs 0 0 ≤ 57 → GoesOnTo no_word bs v →
+    AdvancesBy (record s { place = Start }) bs (in_token v s)
+from_start s v [] e l h g = absurd (omega (arith, l))
+from_start s v (b ∷ bs) e l h g =
+    let begun : Progress = in_token (after_byte no_word b) s in
+    let starts : Progress = record s { place = Start } in
+    let step = subst (λ x. LineStep s.line Start b [] x) (begins_word b h g.0) (start_more s.line b) in
+    advances_more starts begun (in_token v s) (b ∷ []) bs
+    (reads_byte starts starts begun b [] Start (Plain (after_byte no_word b)) refl e refl refl step (no_feed b g.0))
+    (advances_word begun (in_token v s) (after_byte no_word b) v bs g.1 e refl refl)
+
+from_between : (s : Progress) (place : Place) (v : Word) (bs : List ℕ) → IsBetween place → s.over ≡ false → 0 < length bs → get_or bs 0 0 ≤ 57 →
+    GoesOnTo no_word bs v → AdvancesBy (record s { place = place }) bs (in_token v s)
+from_between s place v bs b e l h g =
+    elim b [
+      | inl k ↦ subst (λ x. AdvancesBy (record s { place = x }) bs (in_token v s)) (sym k) (from_start s v bs e l h g)
+      | inr k ↦ advances_word (record s { place = place }) (in_token v s) no_word v bs g e k refl
+    ]
+
+literal_ends_at : (p s t : Progress) (place : Place) (v : Word) (bytes : List ℕ) (at end : ℕ) → IsBetween place → s.over ≡ false →
+    AdvancesBy p (take at bytes) (record s { place = place }) → at < end → end < length bytes → get_or bytes at 0 ≤ 57 →
+    GoesOnTo no_word (take (end - at) (drop at bytes)) v → get_or bytes end 0 ≡ 32 → t ≡ record s { reading = read s.reading (word_items s.line v) } →
+    AdvancesBy p (take (end + 1) bytes) (in_token no_word t)
+literal_ends_at p s t place v bytes at end b e f some l h g space t_is =
+    let d = length-drop at bytes in
+    let size : 0 < length (take (end - at) (drop at bytes)) = some_front (end - at) (drop at bytes) (omega (arith, some)) (omega (arith, l, some, d)) in
+    let front : get_or (take (end - at) (drop at bytes)) 0 0 ≡ get_or bytes at 0 = front_of (end - at) (drop at bytes) (omega (arith, some))
+    ∙ get_or-drop at bytes 0 0 ∙ ap (λ i. get_or bytes i 0) (omega arith) in
+    let read_on = from_between s place v (take (end - at) (drop at bytes)) b e size (subst (λ x. x ≤ 57) (sym front) h) g in
+    let here : AdvancesBy p (take end bytes) (in_token v s) = subst (λ n. AdvancesBy p (take n bytes) (in_token v s)) (omega (arith, some))
+    (subst (λ xs. AdvancesBy p xs (in_token v s)) (sym (take-add at (end - at) bytes))
+    (advances_more p (record s { place = place }) (in_token v s) (take at bytes) (take (end - at) (drop at bytes)) f read_on)) in
+    token_ends p s t v bytes end l here e (ap is_blank space) (no_space space) t_is
+  where
+    some_front : (k : ℕ) (xs : List ℕ) → 0 < k → 0 < length xs → 0 < length (take k xs)
+    some_front zero xs p l = absurd (omega (arith, p))
+    some_front (suc k) [] p l = absurd (omega (arith, l))
+    some_front (suc k) (x ∷ xs) p l = omega arith
+
+    front_of : (k : ℕ) (xs : List ℕ) → 0 < k → get_or (take k xs) 0 0 ≡ get_or xs 0 0
+    front_of zero xs p = absurd (omega (arith, p))
+    front_of (suc k) [] p = refl
+    front_of (suc k) (x ∷ xs) p = refl
+
+    no_space : {n : ℕ} → n ≡ 32 → n ≡ 10 → ⊥
+    no_space e f = omega (arith, e, f)
+
+-- so many bytes were read, which are none or end between two tokens; the place is not yet written
+abbrev pub ReadsBetween : Progress → List ℕ → ℕ → Progress → Type 0
+ReadsBetween p bytes n q = ((n ≡ 0) × (q ≡ p)) ⊎ ((0 < n) × AdvancesBy p (take n bytes) (in_token no_word q))
+
+pub literal_ends : (p s t : Progress) (v : Word) (bytes : List ℕ) (at end : ℕ) → IsBetween p.place → s.over ≡ false → ReadsBetween p bytes at s →
+    at < end → end < length bytes → get_or bytes at 0 ≤ 57 → GoesOnTo no_word (take (end - at) (drop at bytes)) v → get_or bytes end 0 ≡ 32 →
+    t ≡ record s { reading = read s.reading (word_items s.line v) } → AdvancesBy p (take (end + 1) bytes) (in_token no_word t)
+literal_ends p s t v bytes at end b e r some l h g space t_is =
+    elim r [
+      | inl z ↦ literal_ends_at p s t p.place v bytes at end b e (none_yet z.0 z.1) some l h g space t_is
+      | inr y ↦ literal_ends_at p s t (Plain no_word) v bytes at end (inr refl) e y.1 some l h g space t_is
+    ]
+  where
+    none_yet : at ≡ 0 → s ≡ p → AdvancesBy p (take at bytes) (record s { place = p.place })
+    none_yet z q =
+        subst (λ n. AdvancesBy p (take n bytes) (record s { place = p.place })) (sym z)
+        (subst (λ x. AdvancesBy p [] (record x { place = p.place })) (sym q) (advances_none p))
+
+-- the end of a clause and of its line
+pub end_reads : (p q : Progress) (bytes : List ℕ) → p.over ≡ false → p.reading.fault ≡ None → IsBetween p.place → 2 ≤ length bytes →
+    get_or bytes 0 0 ≡ 48 → get_or bytes 1 0 ≡ 10 → q ≡ record p { line = next p.line; place = Start; reading = after_token p.reading p.line End } →
+    AdvancesBy p (take 2 bytes) q
+end_reads p q [] e h b l x y k = absurd (omega (arith, l))
+end_reads p q (c ∷ []) e h b l x y k = absurd (omega (arith, l))
+end_reads p q (c ∷ d ∷ rest) e h b l x y k =
+    subst (λ n. AdvancesBy p (n ∷ d ∷ []) q) (sym x) (subst (λ n. AdvancesBy p (48 ∷ n ∷ []) q) (sym y)
+    (advances_more p (in_token zero_word p) q (48 ∷ []) (10 ∷ [])
+    (from_between p p.place zero_word (48 ∷ []) b e (omega arith) (omega arith) (refl, refl))
+    (reads_line_feed (in_token zero_word p) q 10 e refl (k ∙ ap ended (sym (ap (λ f. step_by f p.reading (Token p.line End)) h))))))
+  where
+    zero_word : Word
+    zero_word = a_number false 0
+
+    ended : Reading → Progress
+    ended r = record p { line = next p.line; place = Start; reading = r }

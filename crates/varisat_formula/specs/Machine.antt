@@ -58,10 +58,6 @@ abbrev pub word_from : Word → List ℕ → Word
 word_from w [] = w
 word_from w (b ∷ bs) = word_from (after_byte w b) bs
 
--- behind a minus sign or none
-abbrev pub no_digits : Bool → Word
-no_digits m = record { minus = m; digits = Empty }
-
 -- behind digits that write the number, with a minus sign before them or none
 abbrev pub a_number : Bool → ℕ → Word
 a_number m n = record { minus = m; digits = Number n }

@@ -1,12 +1,13 @@
 -- What the rest of a text gives, for a text whose beginning was read.
-use Rattle.std.specs.Prelude.{◌≡◌, ℕ, List, [], ◌∷◌, ◌++◌, ◌⊎◌, Bool, true, false, ◌==◌, if◌then◌else◌, Option, Some, None, Result, Ok, Err, take, slice_index}
+use Rattle.std.specs.Prelude.{◌≡◌, ℕ, ◌<◌, ◌≤◌, List, [], ◌∷◌, ◌++◌, ◌⊎◌, Bool, true, false, ◌==◌, if◌then◌else◌, length, Option, Some, None, Result, Ok, Err, take, slice_index}
 use Rattle.varisat_formula.specs.declared.dimacs.token.Word.{Word}
 use Rattle.varisat_formula.specs.declared.dimacs.header.HeaderPart.TheVariants.{Name}
 use Rattle.varisat_formula.specs.declared.dimacs.parser.Place.{Place}
 use Rattle.varisat_formula.specs.declared.dimacs.parser.Place.TheVariants.{Start, Comment, Header, Plain}
+use Rattle.varisat_literals.specs.Numbers.{variable_limit}
 use Rattle.varisat_formula.specs.declared.dimacs.error.DimacsError.{DimacsError}
 use Rattle.varisat_formula.specs.declared.dimacs.error.DimacsErrorKind.TheVariants.{Io, OutOfMemory}
-use Rattle.varisat_formula.specs.Dimacs.{Item, Token, Reading, nothing, is_blank, header_items, line_items, items, next, lines, last_line, read, Ending, Ends, GoesOn, BreaksOff, is_whole, close}
+use Rattle.varisat_formula.specs.Dimacs.{Item, Token, Reading, nothing, is_one_too_many, is_above, is_blank, header_items, line_items, items, next, lines, last_line, read, Ending, Ends, GoesOn, BreaksOff, is_whole, close}
 use Rattle.varisat_formula.specs.Machine.{no_word, is_none, after_byte, word_says, header_from, header_says}
 
 -- where the reader stands: in which line, at its start, in a comment, behind a part of a header, or in another line behind
@@ -111,3 +112,24 @@ pub record RunsOutIn (p : Progress) (text : List ℕ) (q : Progress) : Type 0 wh
 -- with the clauses that were taken before
 abbrev pub with_front : List (List ℕ) → Reading → Reading
 with_front front r = record r { clauses = front ++ r.clauses }
+
+-- the text is not over, and has no fault so far
+pub record IsReading (p : Progress) : Type 0 where
+  pub not_over : p.over ≡ false
+  pub no_fault : p.reading.fault ≡ None
+
+-- q is what p becomes by reading the first n of the bytes, among which is no fault
+pub record ReadsOn (p : Progress) (bytes : List ℕ) (n : ℕ) (q : Progress) : Type 0 where
+  pub within : n ≤ length bytes
+  pub reads : AdvancesBy p (take n bytes) q
+  pub goes_on : IsReading q
+
+-- at the start of a line, or behind a token and its blank
+abbrev pub IsBetween : Place → Type 0
+IsBetween place = (place ≡ Start) ⊎ (place ≡ Plain no_word)
+
+-- a literal with a number up to n is no fault here
+pub record Allows (r : Reading) (n : ℕ) : Type 0 where
+  pub small : n ≤ variable_limit
+  pub room : 0 < n → is_one_too_many r.header r.begun r.count ≡ false
+  pub below : (m : ℕ) → m ≤ n → is_above r.header m ≡ false

@@ -1,15 +1,15 @@
 //! A reader of DIMACS CNF text.
-ghost use Rattle.std.specs.Prelude.{◌≡◌, ℕ, List, [], ◌∷◌, ◌++◌, ◌⊎◌, ◌≢◌, true, false, Option, None, Some, Result, Ok, Err, OnOk, OnErr, IfOk, IfErr, ◌≤◌, length, take};
+ghost use Rattle.std.specs.Prelude.{◌≡◌, ℕ, List, [], ◌∷◌, ◌++◌, ◌⊎◌, ◌≢◌, true, false, IsTrue, MatchBool, Option, None, Some, Result, Ok, Err, OnOk, OnErr, IfOk, IfErr};
 ghost use Rattle.varisat_formula.specs.declared.dimacs.parser.Place.TheVariants.{Start};
 ghost use Rattle.varisat_formula.specs.declared.dimacs.error.DimacsErrorKind.TheVariants.{Io, OutOfMemory};
 ghost use Rattle.varisat_formula.specs.Dimacs.{Reading, failed, next, read, is_line_feed, is_blank, gives, Ending, BreaksOff};
 ghost use Rattle.varisat_formula.specs.Machine.{no_word};
-ghost use Rattle.varisat_formula.specs.Rest.{begin, word_items, line_ended, start_place, gives_from, dimacs_from, AdvancesBy, KeepsToken, WantsRoom, IsEnding, RunsOut, RunsOutIn, failing, fault_of, with_front};
+ghost use Rattle.varisat_formula.specs.Rest.{begin, word_items, line_ended, start_place, gives_from, dimacs_from, AdvancesBy, IsBetween, IsReading, ReadsOn, KeepsToken, WantsRoom, IsEnding, RunsOut, RunsOutIn, failing, fault_of, with_front};
 
 use crate::dimacs::error::{DimacsError, DimacsErrorKind};
 use crate::dimacs::header::HeaderPart;
 use crate::dimacs::reading::Reader;
-use crate::dimacs::token::{Word, is_blank_byte};
+use crate::dimacs::token::{Word, is_blank_byte, literal_at};
 use crate::formula::CnfFormula;
 use std::alloc::{AllocError, Allocator};
 use std::marker::Model;
@@ -60,8 +60,6 @@ impl<A: Allocator + Copy> DimacsParser<A> {
     }
 
     /// Reads the token that ends here, if there is one.
-    // Each blank comes here, and mostly there is a token, which stands in registers then.
-    #[inline(always)]
     fn end_token(&mut self, word: Word) -> Result<(), AllocError>
         requires { self.old.reading.fault ≡ None }
         ensures ok { OnOk result (self.new ≡ record self.old { reading = read self.old.reading (word_items self.old.line word) }) }
@@ -164,57 +162,100 @@ impl<A: Allocator + Copy> DimacsParser<A> {
         }
     }
 
-    /// Where the reader stands in a line of tokens: reads it up to its line feed or the end of the bytes. Returns how many
-    /// bytes these are, none elsewhere.
-    // Most bytes of a text are read here. The place is written only at the end, and the token stands in registers.
-    fn read_tokens(&mut self, bytes: &[u8]) -> Result<usize, DimacsError>
-        requires open { self.old.over ≡ false }
-        requires fine { self.old.reading.fault ≡ None }
-        ensures within { IfOk result (λ count. count ≤ length bytes.now) }
-        ensures reads { IfOk result (λ count. AdvancesBy self.old (take count bytes.now) self.new) }
-        ensures fine { OnOk result (self.new.reading.fault ≡ None) }
-        ensures stops { OnErr result (AdvancesBy self.old bytes.now self.new ⊎ RunsOutIn self.old bytes.now self.new) }
-        ensures fault { IfErr result (λ fault. self.new.reading.fault ≡ Some fault) }
-        ensures open { self.new.over ≡ false }
+    /// Whether the reader stands at the start of a line or behind a token and its blank.
+    fn is_between(&self) -> bool
+        ensures { IsTrue result → IsBetween self.now.place }
     {
-        let Place::Plain(begun) = self.place else {
-            return Ok(0);
-        };
-        let mut word = begun;
-        let mut count = 0;
-        'tokens: loop {
-            let (longer, more) = word.with_bytes(&bytes[count..]);
-            count += more;
-            if count == bytes.len() || bytes[count] == b'\n' {
-                self.place = Place::Plain(longer);
-                return Ok(count);
-            }
-            match self.end_token(longer) {
-                Ok(()) => {}
-                Err(_) => return Err(self.run_out()),
-            }
-            if let Some(fault) = self.told() {
-                return Err(fault);
-            }
-            word = Word::new();
-            count += 1;
+        match self.place {
+            Place::Start => true,
+            Place::Plain(word) => word.is_none(),
+            Place::Comment | Place::Header(_) => false,
         }
+    }
+
+    /// Between two tokens, reads the literals in front of the bytes of which each has a space behind it, up to the first
+    /// that is a fault or needs memory. Returns how many bytes these are.
+    // Most bytes of a text are read here. The place is written only at the end.
+    #[inline(always)]
+    fn read_literals(&mut self, bytes: &[u8]) -> usize
+        requires { IsReading self.old }
+        ensures { ReadsOn self.old bytes.now result self.new }
+    {
+        if !self.is_between() {
+            return 0;
+        }
+        let allowed = self.reader.highest_allowed();
+        let mut count = 0;
+        'literals: while let Some(token) = literal_at(bytes, count) {
+            if !self.reader.literal_with_room(allowed, token) {
+                break;
+            }
+            count = token.end + 1;
+        }
+        if count > 0 {
+            self.place = Place::Plain(Word::new());
+        }
+        count
+    }
+
+    /// Between two tokens, where the bytes begin with the end of a clause and of its line, reads both, unless that is a
+    /// fault or needs memory. Returns whether it did; else nothing changes.
+    fn read_end(&mut self, bytes: &[u8]) -> bool
+        requires { IsReading self.old }
+        ensures { MatchBool result (ReadsOn self.old bytes.now 2 self.new) (self.new ≡ self.old) }
+    {
+        if bytes.len() < 2 || bytes[0] != b'0' || bytes[1] != b'\n' {
+            return false;
+        }
+        if !self.is_between() || !self.reader.end_with_room() {
+            return false;
+        }
+        self.place = Place::Start;
+        self.line = self.line.saturating_add(1);
+        true
+    }
+
+    /// Reads literals and the ends of clauses' lines, as far as `read_literals` and `read_end` do. Returns how many bytes
+    /// these are.
+    fn read_lines(&mut self, bytes: &[u8]) -> usize
+        requires { IsReading self.old }
+        ensures { ReadsOn self.old bytes.now result self.new }
+    {
+        let mut count = 0;
+        'lines: loop {
+            count += self.read_literals(&bytes[count..]);
+            if !self.read_end(&bytes[count..]) {
+                return count;
+            }
+            count += 2;
+        }
+    }
+
+    /// Reads the bytes of a token up to the blank behind it. Returns how many these are, none where the reader does not
+    /// stand in a line of tokens.
+    fn read_word(&mut self, bytes: &[u8]) -> usize
+        requires { IsReading self.old }
+        ensures { ReadsOn self.old bytes.now result self.new }
+    {
+        let Place::Plain(word) = self.place else {
+            return 0;
+        };
+        let (longer, count) = word.with_bytes(bytes);
+        self.place = Place::Plain(longer);
+        count
     }
 
     /// The bytes of the piece in turn.
     fn read_piece(&mut self, piece: &[u8]) -> Result<(), DimacsError>
-        requires open { self.old.over ≡ false }
-        requires fine { self.old.reading.fault ≡ None }
+        requires { IsReading self.old }
         ensures reads { AdvancesBy self.old piece.now self.new ⊎ RunsOutIn self.old piece.now self.new }
         ensures answer { fault_of result ≡ self.new.reading.fault }
         ensures open { self.new.over ≡ false }
     {
         let mut at = 0;
         'bytes: while at < piece.len() {
-            match self.read_tokens(&piece[at..]) {
-                Ok(count) => at += count,
-                Err(fault) => return Err(fault),
-            }
+            at += self.read_lines(&piece[at..]);
+            at += self.read_word(&piece[at..]);
             if at == piece.len() {
                 return Ok(());
             }

@@ -1,16 +1,19 @@
 //! What a DIMACS text gave so far.
-ghost use Rattle.std.specs.Prelude.{◌≡◌, ℕ, List, [], ◌∷◌, ◌++◌, ◌+◌, ◌/◌, ◌<◌, ◌≤◌, ◌^◌, max, Option, None, Some, OnOk, OnErr};
+ghost use Rattle.std.specs.Prelude.{◌≡◌, ℕ, IsTrue, false, List, [], ◌∷◌, ◌++◌, ◌+◌, ◌/◌, ◌<◌, ◌≤◌, ◌^◌, max, Option, None, Some, OnOk, OnErr};
 ghost use Rattle.varisat_formula.specs.Dimacs.{Reading, nothing, failed, is_one_too_many, is_above, next, after_token, after_header, is_started, is_short, at_end, FitsLimit};
 ghost use Rattle.varisat_literals.specs.Numbers.{variable_limit};
-ghost use Rattle.varisat_formula.specs.Rest.{KeepsToken};
+ghost use Rattle.varisat_formula.specs.declared.dimacs.token.Meaning.TheVariants.{End};
+ghost use Rattle.varisat_formula.specs.Machine.{word_says, a_number};
+ghost use Rattle.varisat_formula.specs.Rest.{Allows, KeepsToken};
 
 use crate::dimacs::error::{DimacsError, DimacsErrorKind};
 use crate::dimacs::header::{Heading, Sizes};
-use crate::dimacs::token::Meaning;
+use crate::dimacs::token::{LiteralToken, Meaning};
 use crate::formula::{CnfFormula, ExtendFormula, Lit};
 use std::alloc::{AllocError, Allocator};
 use std::marker::Model;
 use std::mem;
+use varisat_literals::VARIABLE_LIMIT;
 
 /// What a text gave so far: the clauses that ended since they were last taken, the open clause, how many clauses ended,
 /// what the header says, and the first fault. The formula's count of variables is the larger of the header's and the
@@ -118,6 +121,15 @@ impl<A: Allocator + Copy> Reader<A> {
         Ok(())
     }
 
+    /// Ends the clause, if that is no fault and there is room for it. Else nothing changes.
+    pub fn end_with_room(&mut self) -> bool
+        ensures ended { IsTrue result → (line : ℕ) → self.new ≡ after_token self.old line End }
+        ensures same { result ≡ false → self.new ≡ self.old }
+        ensures fine { self.new.fault ≡ self.old.fault }
+    {
+        !self.is_full() && self.formula.has_room(self.begun.len()) && self.end_clause().is_ok()
+    }
+
     /// Takes a literal into the open clause, unless memory runs out: then nothing changes.
     fn literal(&mut self, literal: Lit) -> Result<(), AllocError>
         ensures ok { OnOk result (self.new ≡ record self.old { begun = self.old.begun ++ literal ∷ []; highest = max self.old.highest (literal / 2 + 1) }) }
@@ -132,8 +144,39 @@ impl<A: Allocator + Copy> Reader<A> {
         }
     }
 
-    /// Reads a token, unless memory runs out: then nothing changes.
+    /// Up to which number a literal is no fault here: 0 where none may come.
+    pub fn highest_allowed(&self) -> u64
+        ensures { Allows self.now result }
+    {
+        if self.is_full() {
+            return 0;
+        }
+        match self.header {
+            None => VARIABLE_LIMIT as u64,
+            Some(sizes) => sizes.vars.min(VARIABLE_LIMIT as u64),
+        }
+    }
+
+    /// Takes a literal, if its number is allowed and there is room for it. Else nothing changes.
     #[inline(always)]
+    pub fn literal_with_room(&mut self, allowed: u64, token: LiteralToken) -> bool
+        requires allows { Allows self.old allowed }
+        requires some { 0 < token.number }
+        ensures taken { IsTrue result → (line : ℕ) → self.new ≡ after_token self.old line (word_says (a_number token.minus token.number)) }
+        ensures same { result ≡ false → self.new ≡ self.old }
+        ensures fine { self.new.fault ≡ self.old.fault }
+        ensures allows { Allows self.new allowed }
+    {
+        if token.number > allowed || self.begun.len() >= self.begun.capacity() {
+            return false;
+        }
+        self.begun
+            .push_reserved(Lit::from_index((token.number - 1) as usize, !token.minus));
+        self.formula.set_var_count(token.number as usize);
+        true
+    }
+
+    /// Reads a token, unless memory runs out: then nothing changes.
     pub fn token(&mut self, line: u64, meaning: Meaning) -> Result<(), AllocError>
         ensures ok { OnOk result (self.new ≡ after_token self.old line meaning) }
         ensures err { OnErr result (self.new ≡ self.old) }

@@ -1,9 +1,8 @@
-//! Tokens, a byte or a run of bytes at a time. A piece may end inside a token; what its bytes say so far is kept in place of
-//! the bytes, so that a token of any length takes no memory, also one with a fault.
-ghost use Rattle.std.specs.Prelude.{◌≡◌, ◌<◌, ◌≤◌, ◌^◌, ℕ, Bool, true, Some, length, take, slice_index};
-ghost use Rattle.varisat_formula.specs.declared.dimacs.token.Digits.TheVariants.{Empty};
+//! Tokens, a whole literal at once or byte by byte. A piece may end inside a token; what its bytes say so far is kept in
+//! place of the bytes, so that a token of any length takes no memory, also one with a fault.
+ghost use Rattle.std.specs.Prelude.{◌≡◌, ◌<◌, ◌≤◌, ◌^◌, ℕ, Bool, true, Some, ◌-◌, length, take, drop, slice_index, IfSome};
 ghost use Rattle.varisat_formula.specs.Dimacs.{positive, negative, in_range, is_digit, is_blank};
-ghost use Rattle.varisat_formula.specs.Machine.{after_digit, grown, after_byte, is_none, is_empty, word_says, no_word, no_digits, a_number, GoesOnTo};
+ghost use Rattle.varisat_formula.specs.Machine.{after_digit, grown, after_byte, is_none, is_empty, word_says, no_word, a_number, GoesOnTo};
 
 use crate::formula::Lit;
 use varisat_literals::VARIABLE_LIMIT;
@@ -72,23 +71,52 @@ fn grown(number: u64, digit: u64) -> Digits
     }
 }
 
-/// The number with the digits in front of the bytes, and how many these are. It stops where the number is above the limit of
-/// variables, before it might not fit.
-fn digits_behind(number: u64, bytes: &[u8]) -> (u64, usize)
-    requires { 0 < number }
-    ensures within { result.1 ≤ length bytes.now }
-    ensures word { (m : Bool) → GoesOnTo (a_number m number) (take result.1 bytes.now) (a_number m result.0) }
+/// A literal of a text: whether it has a minus sign, its number, and where it ends.
+#[derive(Clone, Copy)]
+pub struct LiteralToken {
+    pub minus: bool,
+    pub number: u64,
+    pub end: usize,
+}
+
+/// As many bytes as the longest literal has with a space behind it: a minus sign, nine digits and the space.
+const LONGEST: usize = 11;
+
+/// The literal that begins at this place, where a space stands behind it. None near the end of the bytes and for each
+/// other token: these are read byte by byte.
+// The limit of numbers bounds their digits, so that no digit needs a look whether the bytes end.
+#[inline(always)]
+pub fn literal_at(bytes: &[u8], at: usize) -> Option<LiteralToken>
+    requires { at ≤ length bytes.now }
+    ensures within { IfSome result (λ t. (at < t.end) × (t.end < length bytes.now)) }
+    ensures word { IfSome result (λ t. GoesOnTo no_word (take (t.end - at) (drop at bytes.now)) (a_number t.minus t.number)) }
+    ensures some { IfSome result (λ t. 0 < t.number) }
+    ensures first { IfSome result (λ t. slice_index bytes.now at ≤ 57) }
+    ensures space { IfSome result (λ t. slice_index bytes.now t.end ≡ 32) }
 {
-    let mut longer = number;
-    let mut count = 0;
-    for b in bytes {
-        if longer > VARIABLE_LIMIT as u64 || !is_digit_byte(*b) {
-            return (longer, count);
-        }
-        longer = longer * 10 + u64::from(*b - b'0');
-        count += 1;
+    if bytes.len() - at < LONGEST {
+        return None;
     }
-    (longer, count)
+    // As many literals have a sign as have none, so that a branch for either would be guessed wrong too often.
+    let minus = bytes[at] == b'-';
+    let start = at + usize::from(minus);
+    let first = bytes[start];
+    if first < b'1' || first > b'9' {
+        return None;
+    }
+    let mut number = u64::from(first - b'0');
+    let mut end = start + 1;
+    'digits: while is_digit_byte(bytes[end]) {
+        number = number * 10 + u64::from(bytes[end] - b'0');
+        if number > VARIABLE_LIMIT as u64 {
+            return None;
+        }
+        end += 1;
+    }
+    if bytes[end] != b' ' {
+        return None;
+    }
+    Some(LiteralToken { minus, number, end })
 }
 
 impl Digits {
@@ -127,27 +155,6 @@ fn in_range(polarity: bool, number: u64) -> Meaning
     }
 }
 
-/// Behind a minus sign or none: the token with the number in front of the bytes, as far as `digits_behind` reads it, and
-/// how many bytes these are.
-fn number_behind(minus: bool, bytes: &[u8]) -> (Word, usize)
-    ensures within { result.1 ≤ length bytes.now }
-    ensures word { GoesOnTo (no_digits minus) (take result.1 bytes.now) result.0 }
-{
-    if bytes.is_empty() || !is_digit_byte(bytes[0]) {
-        let word = Word {
-            minus,
-            digits: Digits::Empty,
-        };
-        return (word, 0);
-    }
-    let first = Word {
-        minus,
-        digits: Digits::Number(u64::from(bytes[0] - b'0')),
-    };
-    let (word, count) = first.with_digits(&bytes[1..]);
-    (word, 1 + count)
-}
-
 impl Word {
     /// No byte.
     pub fn new() -> Word
@@ -183,67 +190,19 @@ impl Word {
         }
     }
 
-    /// With the digits in front of the bytes, as far as `digits_behind` reads them, and how many these are. Behind another
-    /// token than a number above 0 there is none.
-    fn with_digits(self, bytes: &[u8]) -> (Word, usize)
-        ensures within { result.1 ≤ length bytes.now }
-        ensures word { GoesOnTo self (take result.1 bytes.now) result.0 }
-    {
-        match self.digits {
-            Digits::Number(number) if number > 0 => {
-                let (longer, count) = digits_behind(number, bytes);
-                let word = Word {
-                    minus: self.minus,
-                    digits: Digits::Number(longer),
-                };
-                (word, count)
-            }
-            _ => (self, 0),
-        }
-    }
-
-    /// Where there is no digit: whether there is a minus sign, once one in front of the bytes is read, and how many bytes
-    /// these are.
-    fn with_sign(self, bytes: &[u8]) -> (bool, usize)
-        requires { self.digits ≡ Empty }
-        ensures within { result.1 ≤ length bytes.now }
-        ensures word { GoesOnTo self (take result.1 bytes.now) (no_digits result.0) }
-    {
-        if self.minus || bytes.is_empty() {
-            return (self.minus, 0);
-        }
-        // As many literals have a sign as have none, so that a branch for either would be guessed wrong too often.
-        let minus = bytes[0] == b'-';
-        (minus, usize::from(minus))
-    }
-
-    /// With a number in front of the bytes, or the rest of one, and how many bytes these are.
-    #[inline(always)]
-    fn with_number(self, bytes: &[u8]) -> (Word, usize)
-        ensures within { result.1 ≤ length bytes.now }
-        ensures word { GoesOnTo self (take result.1 bytes.now) result.0 }
-    {
-        match self.digits {
-            Digits::Empty => {
-                let (minus, sign) = self.with_sign(bytes);
-                let (word, count) = number_behind(minus, &bytes[sign..]);
-                (word, sign + count)
-            }
-            _ => self.with_digits(bytes),
-        }
-    }
-
     /// With the bytes up to the next blank, and how many these are.
-    // Mostly they are a number and no more.
-    #[inline(always)]
     pub fn with_bytes(self, bytes: &[u8]) -> (Word, usize)
         ensures within { result.1 ≤ length bytes.now }
         ensures word { GoesOnTo self (take result.1 bytes.now) result.0 }
         ensures stops { result.1 < length bytes.now → is_blank (slice_index bytes.now result.1) ≡ true }
     {
-        let (mut word, mut count) = self.with_number(bytes);
-        'bytes: while count < bytes.len() && !is_blank_byte(bytes[count]) {
-            word = word.after(bytes[count]);
+        let mut word = self;
+        let mut count = 0;
+        for b in bytes {
+            if is_blank_byte(*b) {
+                return (word, count);
+            }
+            word = word.after(*b);
             count += 1;
         }
         (word, count)

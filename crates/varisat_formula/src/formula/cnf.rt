@@ -215,6 +215,12 @@ impl<A: Allocator + Copy> CnfFormula<A> {
         Ok(())
     }
 
+    /// Whether a clause of so many literals needs no growth.
+    pub(crate) fn has_room(&self, count: usize) -> bool {
+        self.lengths.len() < self.lengths.capacity()
+            && count <= self.literals.capacity() - self.literals.len()
+    }
+
     /// The clauses in order.
     pub fn iter(&self) -> Clauses<'_>
         ensures { result ≡ self.now.clauses }

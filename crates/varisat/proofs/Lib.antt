@@ -4,6 +4,7 @@ pub mod AcceptSolverVariables
 pub mod Additions
 pub mod WrittenProofs
 pub mod AssumeList
+pub mod BegunSteps
 pub mod CallStates
 pub mod ChangeEnds
 pub mod Carried

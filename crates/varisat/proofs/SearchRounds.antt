@@ -22,7 +22,8 @@ use Rattle.varisat_theory.proofs.Journals.{goes_on_further}
 use Rattle.varisat_theory.proofs.NewClauses.{goes_adding_none, goes_adding_further}
 use Rattle.varisat_names.specs.Settings.{Settings}
 use Rattle.varisat.specs.Budgets.{CountsSteps}
-use Rattle.varisat.specs.Journals.{retold, TellsMore, AreDerived}
+use Rattle.varisat.specs.Journals.{retold, TellsMore, BeginsAdding, AreDerived}
+use Rattle.varisat.proofs.BegunSteps.{begins-further}
 use Rattle.varisat.specs.Names.{Naming}
 use Rattle.varisat.proofs.ToldEntries.{tells-nothing, nothing-derived, stays-nothing, derived-through, ends-through}
 
@@ -57,6 +58,7 @@ ends-well s t (Ok b) h v = record {
   valid = h.valid;
   steps = counts-searched s t (Ok b) h.steps;
   told = h.told;
+  adds = h.adds;
   right = right-searched s t b h.told.entries h.right;
   rest = like-searched _ t h.rest;
 }
@@ -439,6 +441,16 @@ steps-low : (s t : State) (r : Result Bool SolverError) → CountsIf calling s r
 steps-low s t r (Searched u c) = counts-low _ _ _ _ _ r c
 steps-low s t r (Decided n e told) = omega (arith, e)
 
+-- where the last search made no step, no search before it made one
+made-before : (k a : ℕ) (s m t : State) (b : Bool) (w : WentOn a s m) → CountsIf calling (with_max_steps k m) (Ok b) t →
+    t.ledger.steps - m.ledger.steps ≡ 0 → w.made ≡ 0
+made-before k a s m t b w (Searched u c) e = let one = c.found b refl in let sum = c.count in absurd (omega (arith, one, sum, e))
+made-before k a s m t b w (Decided x same told) e = w.known (was x)
+  where
+    was : (m.verdict ≢ Unknown) ⊎ (m.verdict ≡ Unsat) → s.verdict ≢ Unknown
+    was (inl d) u = d (w.verdict ∙ u)
+    was (inr d) u = let z : Unsat ≡ Unknown = sym d ∙ w.verdict ∙ u in cc
+
 -- a verdict is returned
 verdict-on : (k n a : ℕ) (s m t : State) (b : Bool) → WentOn a s m → a + k ≤ n → t.ledger.steps < 2 ^ 64 →
     TellsVerdict calling (with_max_steps k m) b t → TellsVerdict calling (with_max_steps n s) b (with_max_steps n t)
@@ -474,6 +486,9 @@ verdict-on k n a s m t b w least small v =
             (goes_on_further w.made (t.ledger.steps - m.ledger.steps) s.told w.told.entries v.told.entries w.told.goes
             (subst (λ x. GoesOn (t.ledger.steps - m.ledger.steps) x v.told.entries) w.told.joined v.told.goes));
       };
+      adds = subst (λ j. BeginsAdding (j - 1) s.told (w.told.entries ++ v.told.entries)) (let x = w.count in omega (arith, x, low))
+          (begins-further w.made (t.ledger.steps - m.ledger.steps) s.told w.told.entries v.told.entries (made-before k a s m t b w v.steps) w.adds
+          (subst (λ x. BeginsAdding (t.ledger.steps - m.ledger.steps - 1) x v.told.entries) w.told.joined v.adds));
     }
 
 -- a step fails

@@ -205,6 +205,7 @@ returned v s t b g r =
         valid = r.valid;
         steps = counted v w s t (Ok b) k r.steps;
         told = r.told;
+        adds = r.adds;
         right = answers v s t b k r;
         rest = like-past w (retold t.told (with_verdict t.verdict (with_steps t.ledger.steps (once_searched s)))) t r.rest;
       },

@@ -45,6 +45,7 @@ use Rattle.varisat_proof.specs.Calls.{CheckerState}
 use Rattle.varisat_proof.specs.Proving.{IsCheckedIf}
 use Rattle.varisat_tracer.specs.Tracing.{TracerState, global_literal, TakesGlobally}
 use Rattle.varisat.specs.Searches.{answer_at, ComesTo}
+use Rattle.varisat.proofs.BegunSteps.{begins-nothing}
 use Rattle.std.proofs.lemmas.List.{append-nil}
 use Rattle.varisat_theory.specs.Journals.{Entry, Fails, written}
 use Rattle.varisat_trace.specs.Traces.{TakesStep}
@@ -317,10 +318,10 @@ checked-lines p q es c = subst (λ xs. IsCheckedIf p.proof.checker (told_as (glo
 
 -- what the state is then
 pub comes-made : (p q : TracerState) (search : View) (assumed : AssumptionParts) (s : State) (t : View) (y z : AssumptionParts) (after : SatState)
-    (n : ℕ) (lines : List Line) → SpacesFit (spaces_of p.tables p.proof.checker search assumed verdict.Unknown) s →
+    (n : ℕ) (lines : List Line) → SpacesFit (spaces_of p.tables p.proof.checker search assumed verdict.Unknown) s → n ≤ 1 →
     StepsMade (searching p search assumed s) t y z after n lines → TakesStep TakesGlobally p lines (outcome_of t y.failed_core after) q →
     ComesTo n s p.proof q.proof (spaces_of p.tables q.proof.checker t z after)
-comes-made p q search assumed s t y z verdict.Unknown n lines (w, k) v takes =
+comes-made p q search assumed s t y z verdict.Unknown n lines (w, k) one v takes =
     let g = searching p search assumed s in
     let long = view-long t v.well in
     let told = told-with w (spaces g) s lines in
@@ -330,13 +331,14 @@ comes-made p q search assumed s t y z verdict.Unknown n lines (w, k) v takes =
       verdict = Unknown;
       told = told;
       more = steps-tell w (spaces g) s k refl (search_of t) outcome.Unknown n lines v.steps long v.in_use;
+      begins = begins-nothing (n - 1) s.told _ (omega (arith, one));
       adds = λ e. steps-add w (spaces g) s k refl (search_of t) outcome.Unknown n lines v.steps long v.in_use refl;
       ends = steps-derived w (spaces g) s k refl (search_of t) outcome.Unknown n lines v.steps long v.in_use;
       proof = proof-told p q (written lines ++ []) s.variables s.told told takes
           (steps-told-as w (spaces g) s k refl (search_of t) outcome.Unknown n lines v.steps long v.in_use);
       fits = left-spaces g q.proof.checker (retold told (with_verdict Unknown s)) t y z verdict.Unknown v (w, links);
     }
-comes-made p q search assumed s t y z verdict.Sat n lines (w, k) v takes =
+comes-made p q search assumed s t y z verdict.Sat n lines (w, k) one v takes =
     let g = searching p search assumed s in
     let long = view-long t v.well in
     let told = told-with w (spaces g) s lines in
@@ -348,12 +350,13 @@ comes-made p q search assumed s t y z verdict.Sat n lines (w, k) v takes =
       told = told;
       more = steps-tell w (spaces g) s k refl (search_of t) (outcome.Sat (assignment_of t)) n lines v.steps long v.in_use;
       adds = λ e. absurd (let z : Sat a ≡ Unknown = e in cc);
+      begins = begins-nothing (n - 1) s.told _ (omega (arith, one));
       ends = steps-derived w (spaces g) s k refl (search_of t) (outcome.Sat (assignment_of t)) n lines v.steps long v.in_use;
       proof = proof-told p q (written lines ++ []) s.variables s.told told takes
           (steps-told-as w (spaces g) s k refl (search_of t) (outcome.Sat (assignment_of t)) n lines v.steps long v.in_use);
       fits = left-spaces g q.proof.checker (retold told (with_verdict (Sat a) s)) t y z verdict.Sat v (w, links);
     }
-comes-made p q search assumed s t y z verdict.Unsat n lines (w, k) v takes =
+comes-made p q search assumed s t y z verdict.Unsat n lines (w, k) one v takes =
     let g = searching p search assumed s in
     let long = view-long t v.well in
     let told = told-with w (spaces g) s lines in
@@ -364,12 +367,13 @@ comes-made p q search assumed s t y z verdict.Unsat n lines (w, k) v takes =
       told = told;
       more = steps-tell w (spaces g) s k refl (search_of t) outcome.Unsat n lines v.steps long v.in_use;
       adds = λ e. absurd (let z : Unsat ≡ Unknown = e in cc);
+      begins = begins-nothing (n - 1) s.told _ (omega (arith, one));
       ends = steps-derived w (spaces g) s k refl (search_of t) outcome.Unsat n lines v.steps long v.in_use;
       proof = proof-told p q (written lines ++ []) s.variables s.told told takes
           (steps-told-as w (spaces g) s k refl (search_of t) outcome.Unsat n lines v.steps long v.in_use);
       fits = left-spaces g q.proof.checker (retold told (with_verdict Unsat s)) t y z verdict.Unsat v (w, links);
     }
-comes-made p q search assumed s t y z verdict.UnsatUnderAssumptions n lines (w, k) v takes =
+comes-made p q search assumed s t y z verdict.UnsatUnderAssumptions n lines (w, k) one v takes =
     let g = searching p search assumed s in
     let long = view-long t v.well in
     let (named, same) = names-carried g s w k v.working y.failed_core z.user_core (v.assumes.core y.failed_core refl).0 (v.named refl) in
@@ -384,6 +388,7 @@ comes-made p q search assumed s t y z verdict.UnsatUnderAssumptions n lines (w, 
       more = core-tells w (spaces g) s k refl (search_of t) (outcome.UnsatUnder y.failed_core) n lines v.steps long v.in_use assumed y refl
           v.assumes q.proof.checker y.failed_core z.user_core refl same;
       adds = λ e. absurd (let z : UnsatUnderAssumptions core ≡ Unknown = e in cc);
+      begins = begins-nothing (n - 1) s.told _ (omega (arith, one));
       ends = core-ends w (spaces g) s k refl (search_of t) (outcome.UnsatUnder y.failed_core) n lines v.steps long v.in_use assumed y refl
           v.assumes q.proof.checker y.failed_core z.user_core refl same;
       proof = proof-told p q (written lines ++ Fails y.failed_core ∷ []) s.variables s.told told takes
@@ -570,6 +575,7 @@ known-told g s b st v e =
       valid = ap (λ (l : Ledger). l.valid) st.ledger ∙ v;
       steps = Decided (inl (λ u. let z : None ≡ Some b = ap answer_of (sym u) ∙ a in cc)) refl (λ _. refl);
       told = let z : 0 ≡ s.ledger.steps - s.ledger.steps = omega arith in subst (λ n. TellsMore n s.told s.told) z (tells-nothing s.told);
+      adds = begins-nothing (s.ledger.steps - s.ledger.steps - 1) s.told _ (omega arith);
       right = record {
         known = λ n. refl;
         answer = a;

@@ -47,6 +47,8 @@ use Rattle.varisat.proofs.OpenProofs.{barred-before}
 use Rattle.varisat.proofs.TableMarks.{assumed-named}
 use Rattle.varisat.proofs.ToldProofs.{proof-quiet, proof-through}
 use Rattle.varisat.proofs.SearchVerdicts.{kept-on, right-false}
+use Rattle.varisat.proofs.BegunSteps.{begins-nothing, begins-further}
+use Rattle.varisat.specs.Journals.{BeginsAdding}
 use Rattle.varisat.proofs.SolverCalls.{comes-made, answers-fit, unsat-told, core-not-empty}
 use Rattle.varisat.proofs.ToldEntries.{tells-nothing, nothing-derived, stays-nothing, tells-none, none-derived, ends-through, ends-derived, derived-ends}
 use Rattle.varisat_proof.specs.Assumed.{lists_of}
@@ -68,6 +70,7 @@ comes-nowhere n s p after e u f =
       told = s.told;
       more = more;
       adds = λ u. subst (λ m. GoesOnAdding m s.told more.entries) (sym e) (goes_adding_none n s.told more.entries more.goes);
+      begins = begins-nothing (n - 1) s.told more.entries (omega (arith, e));
       ends = derived-ends more.entries s.verdict u (none-derived n s.told e);
       proof = proof-quiet s.variables s.told p;
       fits = f;
@@ -93,6 +96,8 @@ comes-through n m k p q r before mid last sum steps unknown first second s fit =
       };
       adds = λ e. subst (λ j. GoesOnAdding j s.told (es ++ more)) sum
           (goes_adding_further n m s.told es more steps (a.adds (unknown t a.fits)) (subst (λ xs. GoesOnAdding m xs more) a.more.joined (b.adds e)));
+      begins = subst (λ j. BeginsAdding (j - 1) s.told (es ++ more)) sum
+          (begins-further n m s.told es more steps (a.adds (unknown t a.fits)) (subst (λ xs. BeginsAdding (m - 1) xs more) a.more.joined b.begins));
       ends = ends-through es more b.verdict (ends-derived es a.verdict (unknown t a.fits) a.ends) b.ends;
       proof = proof-through s.variables s.told a.told b.told p q r a.proof b.proof;
       fits = b.fits;
@@ -109,6 +114,7 @@ leaving-comes p q before after unknown leave s fit =
       told = told;
       more = t.more;
       adds = λ e. goes_adding_none 0 s.told t.more.entries t.more.goes;
+      begins = begins-nothing (0 - 1) s.told t.more.entries (omega arith);
       ends = derived-ends t.more.entries s.verdict (unknown s fit) t.derived;
       proof = t.proof;
       fits = f;
@@ -134,7 +140,7 @@ part-comes p q x y lines kept proves takes ready count decidable same s fit =
     ready.decidable ready.well in
     subst (λ (m : Tables). ComesTo 0 s p.proof q.proof (undecided_spaces m q.proof.checker y)) (sym takes.tables)
     (subst (λ (a : AssumptionParts). ComesTo 0 s p.proof q.proof (spaces_of p.tables q.proof.checker (view y) a verdict.Unknown)) (sym same)
-    (comes-made p q (view x) x.assumptions s (view y) x.assumptions x.assumptions verdict.Unknown 0 lines fit
+    (comes-made p q (view x) x.assumptions s (view y) x.assumptions x.assumptions verdict.Unknown 0 lines fit (omega arith)
     (record {
       unknown = refl;
       working = λ l h. assumed-named p.tables (variable_of l) (kept.working l h);
@@ -207,7 +213,7 @@ named-comes p q x y kept f s fit =
     let (lines, steps, takes) = f.steps in
     let v = outcome_of (view y) f.parts.failed_core y.solver_state.sat_state in
     subst (λ (m : Tables). ComesTo 1 s p.proof q.proof (spaces_with m q.proof.checker y)) (sym f.tables)
-    (comes-made p q (view x) x.assumptions s (view y) f.parts y.assumptions y.solver_state.sat_state 1 lines fit
+    (comes-made p q (view x) x.assumptions s (view y) f.parts y.assumptions y.solver_state.sat_state 1 lines fit (omega arith)
     (record {
       unknown = refl;
       working = λ l h. assumed-named p.tables (variable_of l) (kept.working l h);
@@ -293,6 +299,7 @@ module _ {A : Type 0} {k : ℕ} {s : State} {p q : ProofParts} (m : Tables) (y :
     valid = valid;
     steps = Searched was counts;
     told = record { entries = c.more.entries; joined = c.more.joined; goes = subst (λ j. GoesOn j s.told c.more.entries) made c.more.goes };
+    adds = subst (λ j. BeginsAdding (j - 1) s.told c.more.entries) made c.begins;
     right = record {
       known = λ z. absurd (z was);
       answer = comes-answer m y c ∙ answer;

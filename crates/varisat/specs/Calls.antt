@@ -15,7 +15,7 @@ use Rattle.varisat_proof.specs.Passing.{ToldConflict}
 use Rattle.varisat_theory.specs.CallBounds.{AreFew}
 use Rattle.varisat_proof.specs.declared.proof.format.ProofFormat.{ProofFormat}
 use Rattle.varisat_proof.specs.Lines.{has_marks}
-use Rattle.varisat.specs.Journals.{retold, TellsMore, AreDerived, EndBy, IsJournal}
+use Rattle.varisat.specs.Journals.{retold, TellsMore, BeginsAdding, AreDerived, EndBy, IsJournal}
 use Rattle.varisat.specs.OpenProofs.{IsOpen, BarsClauses, BarsAssumptions, searched_under, lines_over, GoesOnWriting, GoesOnFailing}
 use Rattle.varisat.specs.States.{Known, State, join_counted, Verdict, Unknown, Sat, Unsat, UnsatUnderAssumptions, HasRightVerdict, IsWellFormed}
 use Rattle.varisat.specs.Names.{Naming, name_one, name_all, through_names, IsLeastFree, NameNoWitness, IsFirstWitness}
@@ -229,6 +229,8 @@ module _ {V : Type 0} (by : Verdicts V) where
     pub steps : CountsIf s (Ok b) t
     -- of the clauses that it told to be added as many count as steps were made
     pub told : TellsMore (t.ledger.steps - s.ledger.steps) s.told t.told
+    -- and each step but the last, which came to the answer, added a new one, as where the steps are spent
+    pub adds : BeginsAdding (t.ledger.steps - s.ledger.steps - 1) s.told told.entries
     pub right : by.answers s b told.entries t
     pub rest : IsSolved t.verdict s t
 

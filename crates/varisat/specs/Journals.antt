@@ -3,6 +3,7 @@ use Rattle.std.specs.Prelude.{◌≡◌, ℕ, true, false, Option, List, [], ◌
 use Rattle.varisat_theory.specs.Literals.{Literal, Clause}
 use Rattle.varisat_theory.specs.Journals.{Entry, Writes, Fails, Leaves, Leads, LeadsBy, NoneLeaves, accepted_of, lines_of, rename_entry, GoesOn}
 use Rattle.varisat_theory.specs.Derivations.{IsDerivation, Refutes}
+use Rattle.varisat_theory.specs.NewClauses.{GoesOnAdding}
 use Rattle.varisat_proof.specs.declared.proof.format.Encoding.TheVariants.{Text}
 use Rattle.varisat_proof.specs.Telling.{lines_told}
 use Rattle.varisat_proof.specs.Proving.{ProofParts, IsTold}
@@ -22,6 +23,13 @@ pub record TellsMore (n : ℕ) (before after : List Entry) : Type 0 where
   pub entries : List Entry
   pub joined : after ≡ before ++ entries
   pub goes : GoesOn n before entries
+
+-- The first of the further entries go on in k parts in turn that each add a new clause, and then come others.
+pub record BeginsAdding (k : ℕ) (told es : List Entry) : Type 0 where
+  pub front : List Entry
+  pub back : List Entry
+  pub split : es ≡ front ++ back
+  pub adds : GoesOnAdding k told front
 
 -- No clause is accepted, nothing is assumed and no core told: the entries are lines, and variables that leave.
 abbrev pub AreDerived : List Entry → Type 0

@@ -1,5 +1,5 @@
 -- The steps of a solver, and what they come to.
-use Rattle.std.specs.Prelude.{◌≡◌, ℕ, Bool, true, false, Option, Some, None, List, length}
+use Rattle.std.specs.Prelude.{◌≡◌, ℕ, ◌-◌, Bool, true, false, Option, Some, None, List, length}
 use Rattle.varisat_theory.specs.Derivations.{Line}
 use Rattle.varisat_theory.specs.Outcomes.{Steps}
 use Rattle.varisat_theory.specs.Journals.{Entry}
@@ -21,7 +21,7 @@ use Rattle.varisat_search.specs.SettledUnits.{FixesByLearning}
 use Rattle.varisat.specs.Calls.{with_verdict}
 use Rattle.varisat.specs.Carried.{named_literals}
 use Rattle.varisat.specs.Dropping.{LeavesWhereUnsettled, LeavesInTime, HasLetLeave}
-use Rattle.varisat.specs.Journals.{retold, TellsMore, EndBy, TellsProof}
+use Rattle.varisat.specs.Journals.{retold, TellsMore, BeginsAdding, EndBy, TellsProof}
 use Rattle.varisat.specs.SinceChange.{GoesOnSince, BeginsWithin}
 use Rattle.varisat.specs.Spaces.{Spaces, SpacesFit}
 use Rattle.varisat.specs.States.{State, Verdict, Unknown}
@@ -39,12 +39,14 @@ abbrev pub TellsSome : ProofParts → ProofParts → Type 0
 TellsSome p q = (given : List Entry) × IsTold p given q
 
 -- What a search comes to from a state without a verdict: a verdict or none, and what it told further, to the proof too. Of the
--- clauses that were added n or fewer count, and where there is no verdict n or more are new. A core that was found is told at last.
+-- clauses that were added n or fewer count, and n or more are new, or one less where there is a verdict. A core that was found is told
+-- at last.
 pub record ComesTo (n : ℕ) (s : State) (p q : ProofParts) (after : Spaces) : Type 0 where
   pub verdict : Verdict
   pub told : List Entry
   pub more : TellsMore n s.told told
   pub adds : verdict ≡ Unknown → GoesOnAdding n s.told more.entries
+  pub begins : BeginsAdding (n - 1) s.told more.entries
   pub ends : EndBy verdict more.entries
   pub proof : TellsProof s.variables s.told told p q
   pub fits : SpacesFit after (retold told (with_verdict verdict s))

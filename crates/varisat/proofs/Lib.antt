@@ -29,6 +29,7 @@ pub mod NamesComing
 pub mod NamingStates
 pub mod NewNames
 pub mod PastJournals
+pub mod PrintedLists
 pub mod Pasts
 pub mod SolvedPasts
 pub mod TableMarks

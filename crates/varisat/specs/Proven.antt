@@ -1,6 +1,5 @@
 -- How the program's `solve` asks a new solver, what it leaves in the target of a proof, and when it fails.
 use Rattle.std.specs.Prelude.{◌≡◌, ◌≢◌, ◌⊎◌, ℕ, Bool, ◌-◌, ◌^◌, ◌<◌, ◌++◌, true, false, List, [], Option, Some, None, Result, Ok, Err}
-use Rattle.std.specs.Io.KnownBytes.{Appends}
 use Rattle.varisat_theory.specs.Literals.{Clause}
 use Rattle.varisat_theory.specs.Derivations.{IsDerivation, Refutes}
 use Rattle.varisat_theory.specs.Journals.{Entry, lines_of}
@@ -14,7 +13,7 @@ use Rattle.varisat_proof.specs.Lines.{encoding_of, plain_lines, has_marks}
 use Rattle.varisat_proof.specs.Telling.{lines_told, bytes_told}
 use Rattle.varisat_proof.specs.Steps.{lines_written}
 use Rattle.varisat_proof.specs.Written.{AreInRange}
-use Rattle.varisat_proof.specs.Verified.{fault_status}
+use Rattle.varisat_proof.specs.Verified.{fault_status, EndsPrinting}
 use Rattle.varisat.specs.OpenProofs.{first_proof}
 use Rattle.varisat.specs.ProofBytes.{IsMarkedDerivation}
 use Rattle.varisat.specs.ProofCalls.{with_proof, ClosesProof}
@@ -115,14 +114,14 @@ DecidesWithStatus taken o old new target back status =
 abbrev pub FailsBy : {W : Type 0} → (W → Taken) → SolveOptions → Option W → Stand → Stand → SolverError → Type 0
 FailsBy taken o target old new e = Fails taken (prepared taken o.format o.check o.max_steps target) old new e
 
--- the conclusion was printed with its status, unless the writer failed
+-- the conclusion is printed with its status, or a beginning of it where the writer fails
 abbrev pub Prints : Conclusion → ℕ → Option (List ℕ) → Option (List ℕ) → Type 0
-Prints conclusion status old new = (status ≡ fault_status) ⊎ ((status ≡ conclusion_status conclusion) × Appends old new (conclusion_text conclusion))
+Prints conclusion status before printed = EndsPrinting (conclusion_status conclusion) (conclusion_text conclusion) status before printed
 
--- What the program's `solve` comes to, by its status: deciding fails; or the text is decided, and the conclusion is printed, unless
--- the writer fails. A fault's status comes only from these two failures.
+-- What the program's `solve` comes to: deciding fails, nothing is printed, and the status tells a fault; or the text is decided, and
+-- the conclusion is printed.
 abbrev pub SolvesText : {W : Type 0} → (W → Taken) → SolveOptions → Stand → Stand → Option W → Option W →
     Option (List ℕ) → Option (List ℕ) → ℕ → Type 0
 SolvesText taken o old new target back before printed status =
-    ((error : SolverError) × (status ≡ fault_status) × FailsBy taken o target old new error)
+    ((error : SolverError) × FailsBy taken o target old new error × (status ≡ fault_status) × (printed ≡ before))
     ⊎ ((conclusion : Conclusion) × DecidesBy taken o old new target back conclusion × Prints conclusion status before printed)

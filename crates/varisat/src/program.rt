@@ -1,6 +1,7 @@
 //! The commands of the program, over readers and writers.
-ghost use Rattle.std.specs.Prelude.{◌≡◌, ◌-◌, ◌^◌, ◌<◌, OnOk, IfOk};
+ghost use Rattle.std.specs.Prelude.{◌≡◌, ◌-◌, ◌^◌, ◌<◌, OnOk, OnErr, IfOk};
 ghost use Rattle.std.specs.Io.KnownBytes.{Appends};
+ghost use Rattle.varisat_formula.specs.Printed.{AppendsPart};
 ghost use Rattle.varisat.specs.Decided.{concluded, StatusIsTrue, model_text, conclusion_text, conclusion_status};
 ghost use Rattle.varisat.specs.Proven.{CanCountFault, SolvesText};
 ghost use Rattle.varisat_proof.specs.Verified.{fault_status};
@@ -13,7 +14,9 @@ use crate::solver::{Solver, SolverError};
 use std::alloc::Allocator;
 use std::fmt::Display;
 use std::io::{self, BufRead, BufReader, Empty, Read, Write};
-use varisat_formula::io::{ByteSource, MemoryTarget, ProofTarget, ReadSource};
+use varisat_formula::io::{
+    ByteSource, MemoryTarget, ProofTarget, ReadSource, print_text, write_text,
+};
 use varisat_literals::Lit;
 pub use varisat_proof::program::{STATUS_FAULT, check_lines};
 
@@ -45,10 +48,11 @@ pub fn session_lines<A: Allocator + Copy, R: Read + Drop, W: Write, E: Write>(
 /// UNSATISFIABLE`, status 20; or `s UNKNOWN`, status 0, where the steps are spent before that is known. A target takes
 /// the lines of the search as a proof, which is opened before a clause is accepted and closed before anything is
 /// printed; then the target is there again. A fault of the text, its source, the target or the writer, and out of
-/// memory, is told on `err`, and the status is 2. Of what was printed something is said only for a writer whose contents
-/// are known. With `check` a checker runs inside the solver, and with `progress` it is told on `err`, after so many steps each
-/// and at the end, how far the search is. Where the text was decided the solver's memory is kept: this is for a program
-/// that ends then. The source and the target have to have counted fewer than 2^64-1 faults.
+/// memory, is told on `err`, and the status is 2; nothing is printed then, or, where the writer failed, a beginning of
+/// what was to be. Of what was printed something is said only for a writer whose contents are known. With `check` a
+/// checker runs inside the solver, and with `progress` it is told on `err`, after so many steps each and at the end,
+/// how far the search is. Where the text was decided the solver's memory is kept: this is for a program that ends then.
+/// The source and the target have to have counted fewer than 2^64-1 faults.
 pub fn solve_lines<A: Allocator + Copy, S: ByteSource, T: ProofTarget, W: Write, E: Write>(
     alloc: A,
     cnf: &mut S,
@@ -59,8 +63,8 @@ pub fn solve_lines<A: Allocator + Copy, S: ByteSource, T: ProofTarget, W: Write,
 ) -> u8
     requires faults { (S.stand cnf.old).faults < 2 ^ 64 - 1 }
     requires room { CanCountFault T.taken proof.old }
-    // Deciding fails; or the source gave a whole text, which was decided if the steps allowed it, with a proof in the target,
-    // and the outcome was printed, unless the writer failed.
+    // Deciding fails, and nothing is printed; or the source gave a whole text, which was decided if the steps allowed it, with
+    // a proof in the target, and the outcome was printed, or a beginning of it where the writer failed.
     ensures outcome { SolvesText T.taken options (S.stand cnf.old) (S.stand cnf.new) proof.old proof.new (W.contents out.old) (W.contents out.new) result }
     ensures truth { StatusIsTrue (S.stand cnf.old) (S.stand cnf.new) result }
 {
@@ -69,40 +73,40 @@ pub fn solve_lines<A: Allocator + Copy, S: ByteSource, T: ProofTarget, W: Write,
             Ok(status) => status,
             Err(error) => tell_fault(err, &error),
         },
-        Err(error) => tell_fault(err, &error),
+        Err(refusal) => tell_fault(err, &refusal),
     }
 }
 
-/// Writes what a text was found to be, and returns the status for it.
+/// Writes what a text was found to be, and returns the status for it. A writer that fails has a beginning of it.
 fn write_report<W: Write, A: Allocator + Copy>(out: &mut W, report: &Report<A>) -> io::Result<u8>
     ensures text { OnOk result (Appends (W.contents out.old) (W.contents out.new) (conclusion_text (concluded report.now))) }
+    ensures begun { OnErr result (AppendsPart (W.contents out.old) (W.contents out.new) (conclusion_text (concluded report.now))) }
     ensures status { IfOk result (λ status. status ≡ conclusion_status (concluded report.now)) }
 {
-    let status = match report {
+    match report {
         Report::Decided(Some(model)) => {
             write_model(out, model)?;
-            STATUS_SATISFIABLE
+            Ok(STATUS_SATISFIABLE)
         }
         Report::Decided(None) => {
-            out.write_all(b"s UNSATISFIABLE\n")?;
-            STATUS_UNSATISFIABLE
+            print_text(out, b"s UNSATISFIABLE\n")?;
+            Ok(STATUS_UNSATISFIABLE)
         }
         Report::Unknown => {
-            out.write_all(b"s UNKNOWN\n")?;
-            STATUS_DONE
+            print_text(out, b"s UNKNOWN\n")?;
+            Ok(STATUS_DONE)
         }
-    };
-    out.flush()?;
-    Ok(status)
+    }
 }
 
-/// Writes that a model was found, and the model.
+/// Writes that a model was found, and the model, and flushes the writer. One that fails has a beginning of it.
 fn write_model<W: Write>(out: &mut W, model: &[Lit]) -> io::Result<()>
-    ensures { OnOk result (Appends (W.contents out.old) (W.contents out.new) (model_text model.now)) }
+    ensures whole { OnOk result (Appends (W.contents out.old) (W.contents out.new) (model_text model.now)) }
+    ensures begun { OnErr result (AppendsPart (W.contents out.old) (W.contents out.new) (model_text model.now)) }
 {
-    out.write_all(b"s SATISFIABLE\nv")?;
+    write_text(out, b"s SATISFIABLE\nv")?;
     write_literals(out, model)?;
-    out.write_all(b"\n")?;
+    print_text(out, b"\n")?;
     Ok(())
 }
 

@@ -1,5 +1,5 @@
 -- A text whose clauses a proof is checked against.
-use Rattle.std.proofs.Common.{◌≡◌, ℕ, List, [], Bool, true, false, Option, Some, None, Result, Ok, Err, refl, sym, ap, subst, ◌∙◌, arith, ◌∷◌, ◌++◌, inl, ⊎_elim}
+use Rattle.std.proofs.Common.{◌≡◌, ℕ, List, [], Bool, true, false, Option, Some, None, Result, Ok, Err, refl, sym, ap, subst, ◌∙◌, arith, ◌∷◌, ◌++◌, inl, inr, ⊎_elim}
 use Rattle.varisat_theory.specs.Membership.{◌∈◌, SameSet}
 use Rattle.varisat_theory.specs.Literals.{Clause, IsSatisfiable}
 use Rattle.varisat_theory.proofs.Members.{∈-append_right, ∈-append_cases}
@@ -15,9 +15,12 @@ use Rattle.varisat_proof.specs.declared.checker.error.CheckVerdict.{CheckVerdict
 use Rattle.varisat_proof.specs.declared.checker.error.CheckVerdict.TheVariants.{Refutation, Derivation}
 use Rattle.varisat_proof.specs.declared.checker.error.CheckerError.{CheckerError}
 use Rattle.varisat_proof.specs.declared.checker.error.CheckerError.TheVariants.{CheckFailed, NoSuchClause, CoreNotAssumed, Parse, Io, OutOfMemory, Dimacs, Spent}
-use Rattle.varisat_proof.specs.Calls.{CheckerState, Checks, ChecksBytes, ChecksMarked, IsMarkedResult, core_lists, AddsText, Added, ClauseRanOut, Unread}
+use Rattle.varisat_proof.specs.Calls.{CheckerState, Checks, ChecksBytes, ChecksMarked, IsMarkedResult, core_lists, AddsText, Added, ClauseRanOut, Unread, AtEnd, InText, SourceFailed, RanOut, is_of_bytes, is_io}
 use Rattle.varisat_proof.specs.Marked.{MarkedTold, nothing_told, IsCheckOf, state_of}
-use Rattle.varisat_proof.specs.Verified.{AreGiven, IsMarkedCheck, IsMarkedVerdict, VerifiesMarked, VerifiesBy, GivesClauses, GivesUnsatisfiable, Sources, Verifies, verdict_of, verdict_status}
+use Rattle.varisat_proof.specs.Results.{IsResult, result_of}
+use Rattle.varisat_plain.specs.declared.checker.PlainVerdict.{PlainVerdict}
+use Rattle.varisat_plain.specs.declared.checker.PlainVerdict.TheVariants as plain
+use Rattle.varisat_proof.specs.Verified.{FailsToRead, FailsCheck, AsRead, AsChecked, AreGiven, IsMarkedCheck, IsMarkedVerdict, VerifiesMarked, VerifiesBy, GivesClauses, GivesUnsatisfiable, Sources, Verifies, verdict_of, verdict_status}
 use Rattle.varisat_proof.proofs.CheckResults.{checks_sound}
 use Rattle.varisat_proof.proofs.CheckedSources.{checks_ok, checks_err, checks_right}
 use Rattle.varisat_proof.proofs.MarkedReports.{refutation_sound}
@@ -138,3 +141,66 @@ pub status_is_true : (f : ProofFormat) (old new : Sources) (v : Bool) (n : ℕ) 
     GivesUnsatisfiable old.cnf new.cnf
 status_is_true f old new true n e w z = unsatisfiable_by f old new w
 status_is_true f old new false n e w z = absurd (omega arith)
+
+-- A check that comes to no verdict.
+
+pub fails_reading : (s t p : Stand) (start left : CheckerState) (e : CheckerError) → start ≡ record { clauses = []; spent = false } →
+    AddsText (record { checker = start; source = s }) (Err e) (record { checker = left; source = t }) →
+    FailsCheck (record { cnf = s; proof = p }) (record { cnf = t; proof = p }) e
+fails_reading s t p start left e b a =
+    AsRead left (subst (λ x. AddsText (record { checker = x; source = s }) (Err e) (record { checker = left; source = t })) b a) refl
+
+no_bytes : {V : Type 0} (is_right : List ℕ → Type 0) (old new : Stand) (e : CheckerError) → ((bytes : List ℕ) → is_right bytes → ⊥) →
+    ChecksBytes {V = V} is_right old (Err e) new → FailsToRead old e new
+no_bytes is_right old new e never (AtEnd text r h q i) = absurd (never text i)
+no_bytes is_right old new e never (InText text r q i) = absurd (never (text ++ []) (i []))
+no_bytes is_right old new e never (SourceFailed text r q x same is) = let y : e ≡ x = cc in (text, r, inl (ap is_io y ∙ is, q))
+no_bytes is_right old new e never (RanOut text r q same) = let y : e ≡ OutOfMemory = cc in (text, r, inr (y, q))
+
+has_verdict : (fault : Option ℕ) (v : PlainVerdict) → (b : Bool) × (verdict_of (result_of fault v) ≡ Some b)
+has_verdict None plain.Refutation = (true, refl)
+has_verdict None plain.Derivation = (false, refl)
+has_verdict (Some offset) plain.Refutation = (false, refl)
+has_verdict (Some offset) plain.Derivation = (false, refl)
+has_verdict None (plain.DoesNotFollow number) = (false, refl)
+has_verdict (Some offset) (plain.DoesNotFollow number) = (false, refl)
+has_verdict None (plain.DeletesNothing number) = (false, refl)
+has_verdict (Some offset) (plain.DeletesNothing number) = (false, refl)
+
+no_result : (f : ProofFormat) (P : List Clause) (bytes : List ℕ) (e : CheckerError) (Q : List Clause) → verdict_of (Err e) ≡ None →
+    IsResult f P bytes (Err e) Q → ⊥
+no_result f P bytes e Q n i =
+    let (b, told) = has_verdict i.fault i.verdict in
+    let z : Some b ≡ None = sym told ∙ ap verdict_of (sym i.result_is) ∙ n in
+    cc
+
+pub fails_checking : (f : ProofFormat) (s t p q : Stand) (start mid new : CheckerState) (r : Result CheckVerdict CheckerError) (e : CheckerError) →
+    start ≡ record { clauses = []; spent = false } →
+    AddsText (record { checker = start; source = s }) (Ok tt) (record { checker = mid; source = t }) →
+    (mid.spent ≡ false → Checks f (record { checker = mid; source = p }) r (record { checker = new; source = q })) →
+    r ≡ Err e → verdict_of r ≡ None → FailsCheck (record { cnf = s; proof = p }) (record { cnf = t; proof = q }) e
+fails_checking f s t p q start mid new r e b a c same none =
+    let w = took s t mid (subst (λ x. AddsText (record { checker = x; source = s }) (Ok tt) (record { checker = mid; source = t })) b a) in
+    AsChecked mid.clauses w.given
+    (no_bytes (λ bytes. IsResult f mid.clauses bytes (Err e) new.clauses) p q e
+    (λ bytes i. no_result f mid.clauses bytes e new.clauses (ap verdict_of (sym same) ∙ none) i)
+    (subst (λ x. Checks f (record { checker = mid; source = p }) x (record { checker = new; source = q })) same (c (ap (λ x. x.spent) w.now))))
+
+no_marked : (bytes : List ℕ) (e : CheckerError) (inputs Q : List Clause) → is_of_bytes e ≡ false → IsMarkedCheck bytes (Err e) inputs Q → ⊥
+no_marked bytes (CheckFailed n) inputs Q f i = let z : true ≡ false = f in cc
+no_marked bytes (NoSuchClause n) inputs Q f i = let z : true ≡ false = f in cc
+no_marked bytes (CoreNotAssumed n) inputs Q f i = let z : true ≡ false = f in cc
+no_marked bytes (Parse o) inputs Q f i = let z : true ≡ false = f in cc
+no_marked bytes (Io x) inputs Q f (told, i) = i.stops
+no_marked bytes OutOfMemory inputs Q f (told, i) = i.stops
+no_marked bytes (Dimacs x) inputs Q f (told, i) = i.stops
+no_marked bytes Spent inputs Q f (told, i) = i.stops
+
+pub fails_marked : (s t p q : Stand) (start mid : CheckerState) (e : CheckerError) (Q : List Clause) →
+    start ≡ record { clauses = []; spent = false } →
+    AddsText (record { checker = start; source = s }) (Ok tt) (record { checker = mid; source = t }) →
+    ChecksBytes {V = CheckVerdict} (λ bytes. IsMarkedCheck bytes (Err e) [] Q) p (Err e) q → is_of_bytes e ≡ false →
+    FailsCheck (record { cnf = s; proof = p }) (record { cnf = t; proof = q }) e
+fails_marked s t p q start mid e Q b a c f =
+    let w = took s t mid (subst (λ x. AddsText (record { checker = x; source = s }) (Ok tt) (record { checker = mid; source = t })) b a) in
+    AsChecked mid.clauses w.given (no_bytes (λ bytes. IsMarkedCheck bytes (Err e) [] Q) p q e (λ bytes i. no_marked bytes e [] Q f i) c)

@@ -1,6 +1,7 @@
 -- What the program's `check` finds out of a text and a proof, what it prints, and with which status it ends then.
-use Rattle.std.specs.Prelude.{◌≡◌, ◌⊎◌, ℕ, List, Bool, true, false, Option, Some, None, Result, Ok, Err, IsTrue, ◌↔◌, [], codes}
+use Rattle.std.specs.Prelude.{◌≡◌, ◌⊎◌, ◌+◌, ℕ, List, Bool, true, false, Option, Some, None, Result, Ok, Err, IsTrue, ◌↔◌, [], codes}
 use Rattle.std.specs.Io.KnownBytes.{Appends}
+use Rattle.varisat_formula.specs.Printed.{AppendsPart}
 use Rattle.varisat_theory.specs.Membership.{◌∈◌, SameSet}
 use Rattle.varisat_theory.specs.Literals.{Clause, IsSatisfiable}
 use Rattle.varisat_formula.specs.Dimacs.{dimacs}
@@ -13,7 +14,7 @@ use Rattle.varisat_proof.specs.declared.checker.error.CheckVerdict.{CheckVerdict
 use Rattle.varisat_proof.specs.declared.checker.error.CheckVerdict.TheVariants.{Refutation, Derivation}
 use Rattle.varisat_proof.specs.declared.checker.error.CheckerError.{CheckerError}
 use Rattle.varisat_proof.specs.declared.checker.error.CheckerError.TheVariants.{CheckFailed, NoSuchClause, CoreNotAssumed, Parse, Io, OutOfMemory, Dimacs, Spent}
-use Rattle.varisat_proof.specs.Calls.{CheckerState, standing_of, Checks, ChecksBytes, is_of_bytes}
+use Rattle.varisat_proof.specs.Calls.{CheckerState, standing_of, AddsText, Checks, ChecksBytes, is_of_bytes, is_io}
 use Rattle.varisat_proof.specs.Marked.{MarkedTold, nothing_told, state_of, IsCheckOf}
 
 -- the source gave a whole text without a fault, which has these clauses
@@ -87,6 +88,18 @@ VerifiesBy Drat old new verified = Verifies Drat old new verified
 VerifiesBy BinaryDrat old new verified = Verifies BinaryDrat old new verified
 VerifiesBy Marked old new verified = VerifiesMarked old new verified
 
+-- reading a proof fails: its source does, or memory runs out
+abbrev pub FailsToRead : Stand → CheckerError → Stand → Type 0
+FailsToRead old e new =
+    (text : List ℕ) × streams.Reads old text new
+    × (((is_io e ≡ true) × (new.faults ≡ old.faults + 1)) ⊎ ((e ≡ OutOfMemory) × (new.faults ≡ old.faults)))
+
+-- When a check comes to no verdict, but to the error: a new checker does not take the text; or it does, and reading the proof fails.
+pub data FailsCheck (old new : Sources) (e : CheckerError) : Type 0 where
+  AsRead : (left : CheckerState) → AddsText (standing_of (record { clauses = []; spent = false }) old.cnf) (Err e) (standing_of left new.cnf) →
+      new.proof ≡ old.proof → FailsCheck old new e
+  AsChecked : (clauses : List Clause) → GivesClauses old.cnf clauses new.cnf → FailsToRead old.proof e new.proof → FailsCheck old new e
+
 -- the source gave a whole text without a fault, whose clauses no assignment satisfies
 abbrev pub GivesUnsatisfiable : Stand → Stand → Type 0
 GivesUnsatisfiable old new = (clauses : List Clause) × GivesClauses old clauses new × (IsSatisfiable clauses → ⊥)
@@ -105,12 +118,18 @@ verdict_status false = 1
 abbrev pub fault_status : ℕ
 fault_status = 2
 
--- How the command ends, of which `before` and `after` are what its writer holds: it writes the verdict, and the status is the verdict's; or
--- it met a fault, and wrote nothing unless it had come to a verdict.
+-- A text is printed, and the status is `done`; or the writer fails, as it is written to or flushed, and has a beginning of the text, and
+-- the status tells a fault. That a writer failed as it was flushed no clause can tell: so none forbids this status behind a whole text.
+abbrev pub EndsPrinting : ℕ → List ℕ → ℕ → Option (List ℕ) → Option (List ℕ) → Type 0
+EndsPrinting done text status before after =
+    ((status ≡ done) × Appends before after text) ⊎ ((status ≡ fault_status) × AppendsPart before after text)
+
+-- How the command ends, of which `before` and `after` are what its writer holds: the check fails, nothing is written, and the status
+-- tells a fault; or it comes to a verdict, which is printed.
 abbrev pub EndsCheck : ProofFormat → Sources → Sources → ℕ → Option (List ℕ) → Option (List ℕ) → Type 0
 EndsCheck format old new status before after =
-    ((status ≡ fault_status) × ((after ≡ before) ⊎ ((verified : Bool) × VerifiesBy format old new verified)))
-    ⊎ ((verified : Bool) × VerifiesBy format old new verified × (status ≡ verdict_status verified) × Appends before after (verdict_text verified))
+    ((error : CheckerError) × FailsCheck old new error × (status ≡ fault_status) × (after ≡ before))
+    ⊎ ((verified : Bool) × VerifiesBy format old new verified × EndsPrinting (verdict_status verified) (verdict_text verified) status before after)
 
 -- the same, by the sources
 abbrev pub EndsBy : ProofFormat → Stand → Stand → Stand → Stand → ℕ → Option (List ℕ) → Option (List ℕ) → Type 0

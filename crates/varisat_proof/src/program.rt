@@ -1,9 +1,10 @@
 //! The program's command that checks proofs, over readers and writers.
-ghost use Rattle.std.specs.Prelude.{◌≡◌, ◌⊎◌, ◌-◌, ◌^◌, ◌<◌, [], Bool, true, false, Some, OnOk, IfOk, IsTrue, ◌↔◌};
+ghost use Rattle.std.specs.Prelude.{◌≡◌, ◌⊎◌, ◌-◌, ◌^◌, ◌<◌, [], Bool, true, false, Some, Err, None, OnOk, OnErr, IfOk, IfErr, IsTrue, ◌↔◌};
 ghost use Rattle.std.specs.Io.KnownBytes.{Appends};
+ghost use Rattle.varisat_formula.specs.Printed.{AppendsPart};
 ghost use Rattle.varisat_proof.specs.declared.checker.error.CheckVerdict.TheVariants.{Refutation};
 ghost use Rattle.varisat_proof.specs.Calls.{is_of_bytes};
-ghost use Rattle.varisat_proof.specs.Verified.{sources_of, Verifies, VerifiesMarked, VerifiesBy, AreGiven, EndsBy, GivesUnsatisfiable, verdict_of, verdict_text, verdict_status, fault_status};
+ghost use Rattle.varisat_proof.specs.Verified.{sources_of, Verifies, VerifiesMarked, VerifiesBy, FailsCheck, AreGiven, EndsBy, GivesUnsatisfiable, verdict_of, verdict_text, verdict_status, fault_status};
 
 use crate::checker::{CheckVerdict, Checker, CheckerError, MarkedReport};
 use crate::proof::ProofFormat;
@@ -11,7 +12,7 @@ use std::alloc::Allocator;
 use std::fmt::Display;
 use std::io::{self, Write};
 use varisat_formula::formula::CnfFormula;
-use varisat_formula::io::ByteSource;
+use varisat_formula::io::{ByteSource, print_text};
 
 /// The status of `check` for a proof that refutes the clauses.
 pub const STATUS_VERIFIED: u8 = 0;
@@ -24,10 +25,11 @@ pub const STATUS_FAULT: u8 = 2;
 
 /// Reads a DIMACS CNF text, and then checks a proof against its clauses. Prints `s VERIFIED`, status 0, where the proof
 /// refutes them, and `s NOT VERIFIED`, status 1, where it does not: no beginning of it conflicts, a line fails, or its
-/// bytes are no lines. A marked proof is checked from no clause, and is verified where it refutes and each clause of its
-/// `i` lines is equal as a set to one of the text. A fault of the text, the sources or the writer, and out of memory, is
-/// printed on `err`, and the status is 2; nothing is written to `out` then, unless it is `out` that failed. The status is
-/// 0 only where no assignment satisfies the text's clauses. Each source has to have counted fewer than 2^64-1 faults.
+/// bytes are no lines. A marked proof is checked from no clause, and is verified where it refutes and each clause of
+/// its `i` lines is equal as a set to one of the text. A fault of the text, the sources or the writer, and out of
+/// memory, is printed on `err`, and the status is 2; nothing is written to `out` then, unless it is `out` that failed,
+/// which has a beginning of what was to be printed. The status is 0 only where no assignment satisfies the text's
+/// clauses. Each source has to have counted fewer than 2^64-1 faults.
 pub fn check_lines<A: Allocator + Copy, S: ByteSource, P: ByteSource, W: Write, E: Write>(
     alloc: A,
     cnf: &mut S,
@@ -60,7 +62,8 @@ fn verify_by<A: Allocator + Copy, S: ByteSource, P: ByteSource>(
 ) -> Result<bool, CheckerError>
     requires cnf_faults { (S.stand cnf.old).faults < 2 ^ 64 - 1 }
     requires proof_faults { (P.stand proof.old).faults < 2 ^ 64 - 1 }
-    ensures { IfOk result (VerifiesBy format (sources_of (S.stand cnf.old) (P.stand proof.old)) (sources_of (S.stand cnf.new) (P.stand proof.new))) }
+    ensures verified { IfOk result (VerifiesBy format (sources_of (S.stand cnf.old) (P.stand proof.old)) (sources_of (S.stand cnf.new) (P.stand proof.new))) }
+    ensures fails { IfErr result (FailsCheck (sources_of (S.stand cnf.old) (P.stand proof.old)) (sources_of (S.stand cnf.new) (P.stand proof.new))) }
 {
     match format {
         ProofFormat::Drat => verify(alloc, cnf, proof, ProofFormat::Drat),
@@ -93,7 +96,8 @@ fn is_refuted_by<A: Allocator + Copy>(given: &Checker<A>, report: &MarkedReport<
 
 /// A wrong line, or bytes that are no lines: the proof is not verified. Any other fault is returned.
 fn is_of_bytes(error: CheckerError) -> Result<bool, CheckerError>
-    ensures { IfOk result (λ verified. (is_of_bytes error ≡ true) × (verified ≡ false)) }
+    ensures wrong { IfOk result (λ verified. (is_of_bytes error ≡ true) × (verified ≡ false)) }
+    ensures fault { IfErr result (λ e. (e ≡ error) × (is_of_bytes error ≡ false)) }
 {
     match error {
         CheckerError::CheckFailed { .. }
@@ -119,7 +123,8 @@ fn verify_marked_in<A: Allocator + Copy, S: ByteSource, P: ByteSource>(
     requires checker_new { checker.old ≡ record { clauses = []; spent = false } }
     requires cnf_faults { (S.stand cnf.old).faults < 2 ^ 64 - 1 }
     requires proof_faults { (P.stand proof.old).faults < 2 ^ 64 - 1 }
-    ensures { IfOk result (VerifiesMarked (sources_of (S.stand cnf.old) (P.stand proof.old)) (sources_of (S.stand cnf.new) (P.stand proof.new))) }
+    ensures verified { IfOk result (VerifiesMarked (sources_of (S.stand cnf.old) (P.stand proof.old)) (sources_of (S.stand cnf.new) (P.stand proof.new))) }
+    ensures fails { IfErr result (FailsCheck (sources_of (S.stand cnf.old) (P.stand proof.old)) (sources_of (S.stand cnf.new) (P.stand proof.new))) }
 {
     match given.add_dimacs_cnf(cnf) {
         Ok(()) => {}
@@ -143,7 +148,8 @@ fn verify_marked<A: Allocator + Copy, S: ByteSource, P: ByteSource>(
 ) -> Result<bool, CheckerError>
     requires cnf_faults { (S.stand cnf.old).faults < 2 ^ 64 - 1 }
     requires proof_faults { (P.stand proof.old).faults < 2 ^ 64 - 1 }
-    ensures { IfOk result (VerifiesMarked (sources_of (S.stand cnf.old) (P.stand proof.old)) (sources_of (S.stand cnf.new) (P.stand proof.new))) }
+    ensures verified { IfOk result (VerifiesMarked (sources_of (S.stand cnf.old) (P.stand proof.old)) (sources_of (S.stand cnf.new) (P.stand proof.new))) }
+    ensures fails { IfErr result (FailsCheck (sources_of (S.stand cnf.old) (P.stand proof.old)) (sources_of (S.stand cnf.new) (P.stand proof.new))) }
 {
     let mut given = Checker::new_in(alloc);
     let mut checker = Checker::new_in(alloc);
@@ -164,7 +170,8 @@ fn verify<A: Allocator + Copy, S: ByteSource, P: ByteSource>(
 ) -> Result<bool, CheckerError>
     requires cnf_faults { (S.stand cnf.old).faults < 2 ^ 64 - 1 }
     requires proof_faults { (P.stand proof.old).faults < 2 ^ 64 - 1 }
-    ensures { IfOk result (Verifies format (sources_of (S.stand cnf.old) (P.stand proof.old)) (sources_of (S.stand cnf.new) (P.stand proof.new))) }
+    ensures verified { IfOk result (Verifies format (sources_of (S.stand cnf.old) (P.stand proof.old)) (sources_of (S.stand cnf.new) (P.stand proof.new))) }
+    ensures fails { IfErr result (FailsCheck (sources_of (S.stand cnf.old) (P.stand proof.old)) (sources_of (S.stand cnf.new) (P.stand proof.new))) }
 {
     let mut checker = Checker::new_in(alloc);
     let verified = verify_in(&mut checker, cnf, proof, format);
@@ -174,7 +181,8 @@ fn verify<A: Allocator + Copy, S: ByteSource, P: ByteSource>(
 
 /// Whether the proof is verified that a check returned this for, or its fault.
 fn is_verified(checked: Result<CheckVerdict, CheckerError>) -> Result<bool, CheckerError>
-    ensures { IfOk result (λ verified. verdict_of checked ≡ Some verified) }
+    ensures verdict { IfOk result (λ verified. verdict_of checked ≡ Some verified) }
+    ensures fault { IfErr result (λ e. (checked ≡ Err e) × (verdict_of checked ≡ None)) }
 {
     match checked {
         Ok(CheckVerdict::Refutation) => Ok(true),
@@ -197,7 +205,8 @@ fn verify_in<A: Allocator + Copy, S: ByteSource, P: ByteSource>(
     requires new { checker.old ≡ record { clauses = []; spent = false } }
     requires cnf_faults { (S.stand cnf.old).faults < 2 ^ 64 - 1 }
     requires proof_faults { (P.stand proof.old).faults < 2 ^ 64 - 1 }
-    ensures { IfOk result (Verifies format (sources_of (S.stand cnf.old) (P.stand proof.old)) (sources_of (S.stand cnf.new) (P.stand proof.new))) }
+    ensures verified { IfOk result (Verifies format (sources_of (S.stand cnf.old) (P.stand proof.old)) (sources_of (S.stand cnf.new) (P.stand proof.new))) }
+    ensures fails { IfErr result (FailsCheck (sources_of (S.stand cnf.old) (P.stand proof.old)) (sources_of (S.stand cnf.new) (P.stand proof.new))) }
 {
     match checker.add_dimacs_cnf(cnf) {
         Ok(()) => {}
@@ -210,17 +219,16 @@ fn verify_in<A: Allocator + Copy, S: ByteSource, P: ByteSource>(
 /// Writes whether a proof was verified, and returns the status for it.
 fn write_verdict<W: Write>(out: &mut W, verified: bool) -> io::Result<u8>
     ensures text { OnOk result (Appends (W.contents out.old) (W.contents out.new) (verdict_text verified)) }
+    ensures begun { OnErr result (AppendsPart (W.contents out.old) (W.contents out.new) (verdict_text verified)) }
     ensures status { IfOk result (λ status. status ≡ verdict_status verified) }
 {
-    let status = if verified {
-        out.write_all(b"s VERIFIED\n")?;
-        STATUS_VERIFIED
+    if verified {
+        print_text(out, b"s VERIFIED\n")?;
+        Ok(STATUS_VERIFIED)
     } else {
-        out.write_all(b"s NOT VERIFIED\n")?;
-        STATUS_NOT_VERIFIED
-    };
-    out.flush()?;
-    Ok(status)
+        print_text(out, b"s NOT VERIFIED\n")?;
+        Ok(STATUS_NOT_VERIFIED)
+    }
 }
 
 /// Prints a fault, and returns the status for it.

@@ -1,5 +1,5 @@
 -- The status is that of the outcome, or tells a fault.
-use Rattle.std.proofs.Common.{inl}
+use Rattle.std.proofs.Common.{inl, refl}
 use Rattle.varisat.proofs.ProgramDecides.{outcome-is-true}
 use Rattle.varisat.proofs.program.solve_lines.Goals as goal
 
@@ -7,4 +7,4 @@ pub returns-in-Ok-write_report-clause-truth : goal.returns-in-Ok-write_report-cl
 returns-in-Ok-write_report-clause-truth g c = outcome-is-true _ _ _ _ _ c.in-Ok.ensures.decided.decides c.in-Ok-write_report.ensures.status
 
 pub returns-clause-outcome : goal.returns-clause-outcome
-returns-clause-outcome g c = inl (c.in-Err.error, c.tell_fault-in-Err.ensures, c.in-Err.ensures.fails)
+returns-clause-outcome g c = inl (c.in-Err.refusal, c.in-Err.ensures.fails, c.tell_fault-in-Err.ensures, refl)

@@ -1,6 +1,10 @@
+use Rattle.std.proofs.Common.{inl, refl}
 use Rattle.varisat_proof.proofs.VerifiedTexts.{status_is_true}
 use Rattle.varisat_proof.proofs.program.check_lines.Goals as goal
 
 pub returns-in-Ok-write_verdict-clause-truth : goal.returns-in-Ok-write_verdict-clause-truth
 returns-in-Ok-write_verdict-clause-truth g c = status_is_true c.args.format _ _ c.in-Ok.verified c.in-Ok-write_verdict.status
-    c.in-Ok-write_verdict.ensures.status c.in-Ok.ensures
+    c.in-Ok-write_verdict.ensures.status c.in-Ok.ensures.verified
+
+pub returns-in-Err-clause-outcome : goal.returns-in-Err-clause-outcome
+returns-in-Err-clause-outcome g c = inl (c.in-Err.error, c.in-Err.ensures.fails, c.tell_fault-in-Err.ensures, refl)

@@ -40,7 +40,7 @@ use Rattle.varisat.specs.Journals.{retold, TellsStaying}
 use Rattle.varisat.specs.Summaries.{Summary, spaces, spaces_of, StandsFor}
 use Rattle.varisat.specs.Accepting.{HasSolver, AreJoined}
 use Rattle.varisat.proofs.SpacesAgree.{give, take_solver, count, solver_literal, accept}
-use Rattle.varisat.proofs.VariableMoves.{given-most}
+use Rattle.varisat.proofs.VariableMoves.{given-near}
 use Rattle.varisat.proofs.NewNames.{given}
 use Rattle.varisat.proofs.ToldProofs.{AreToldAs}
 use Rattle.varisat.proofs.Counted.{counted, join-more, join-only, join-once}
@@ -72,7 +72,7 @@ given-spaces g s new u x (w, k) free n =
       global_from_user = n.users.forward.at_each;
       user_from_global = n.users.backward.at_each;
       watermark = n.users.forward.watermark;
-      globals = given-most g.tables new u x n;
+      globals = n.kept.count;
       solver_from_global = solver;
       global_from_solver = λ v. ap (λ m. at m.backward v) n.solvers;
       kept = n.kept.at_each;
@@ -82,7 +82,7 @@ given-spaces g s new u x (w, k) free n =
           y
           (λ m. ap (λ d. value_or d.unit f (at new.solvers.forward y)) (n.kept.at_each y ∙ updated-other (kept_at g.tables.kept) x fresh y m)
           ∙ ap (value_or (kept_at g.tables.kept y).unit f) (solver y));
-    }) refl (given w p s u x k free n.unused.0 n.unused.1) in
+    }) refl (given w p s u x k free n.unused.0 n.unused.1 (given-near g.tables new u x n)) in
     (variables, λ i b. updated-other s.variables made (Some x) i (λ e. absurd (omega (arith, b, e))), fits)
 
 pub next-spaces : (k : ℕ) (g : Summary) (s : State) (new : Tables) → SpacesFit (spaces g) s → AreNextGiven k g.tables new →

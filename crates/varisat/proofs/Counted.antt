@@ -105,6 +105,7 @@ counted w p s is k m b d = record {
   shown = k.shown;
   plain = k.plain;
   variables = k.variables;
+  numbered = k.numbered;
   told = told-counted s.told s.clauses s.assumptions s.counted is s.ever_hidden m k.told;
   checked = k.checked;
 }

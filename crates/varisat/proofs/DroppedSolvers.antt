@@ -367,6 +367,7 @@ module _ (w : Carrying) (p : Spaces) (s : State) (v x i : ℕ) (known : Option B
       shown = λ e y m. field-same (λ a. a.deleted) p.kept x d (ap (λ a. a.deleted) told) y ∙ k.shown e y m;
       plain = k.plain;
       variables = k.variables;
+      numbered = k.numbered;
       told = k.told;
       checked = k.checked;
     }

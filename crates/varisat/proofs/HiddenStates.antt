@@ -145,6 +145,7 @@ module _ (w : Carrying) (p : Spaces) (s : State) (u x : ℕ) (k : Links w p s) (
     shown = λ e. absurd cc;
     plain = λ e. absurd cc;
     variables = k.variables;
+    numbered = k.numbered;
     told = record {
       accepted = k.told.accepted;
       assumed = k.told.assumed;

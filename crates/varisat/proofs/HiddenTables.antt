@@ -110,6 +110,7 @@ module _ (w : Carrying) (p : Spaces) (s : State) (u x : ℕ) (k : Links w p s) (
         shown = λ e y h. field-same (λ a. a.deleted) p.kept x d refl y ∙ k.shown e y h;
         plain = k.plain;
         variables = k.variables;
+        numbered = k.numbered;
         told = k.told;
         checked = k.checked;
       }

@@ -63,6 +63,7 @@ past-journal v s g told within c =
       cores = j.cores;
       stays = j.stays;
       in_range = j.in_range;
+      readable = j.readable;
     }
 
 are-true : {W S A : Type 0} (seen : S → Stand) (taken : W → Taken) (calls : List (Call W S A)) (answers : List (Answer W S A)) (v : Findings)

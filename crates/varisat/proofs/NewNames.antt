@@ -66,7 +66,7 @@ uncounted : (P : List Clause) (A : List Literal) (C : List ℕ) (v : Verdict) (i
 uncounted P A C v i n r a e = (subst (IsRight P A C) e r).2 i n
 
 module _ (w : Carrying) (p : Spaces) (s : State) (u x : ℕ) (k : Links w p s) (free : p.global_from_user u ≡ None) (dead : (p.kept x).deleted ≡ true)
-    (lowest : (y : ℕ) → y < x → (p.kept y).deleted ≡ false) where
+    (lowest : (y : ℕ) → y < x → (p.kept y).deleted ≡ false) (near : x ≤ p.globals) where
   id' : ℕ → Option ℕ
   id' = updated w.identity x (Some s.naming.made)
 
@@ -264,7 +264,7 @@ module _ (w : Carrying) (p : Spaces) (s : State) (u x : ℕ) (k : Links w p s) (
       names = new-names;
       modes = new-modes;
       watermark = ap (λ n. max n (u + 1)) k.watermark;
-      globals = let b = k.globals in omega (arith, b);
+      globals = let b = k.globals in omega (arith, b, near);
       units = new-units;
       isolation = new-isolation;
       solvers = record { one_to_one = k.solvers.one_to_one; live = λ v y h. let r = k.solvers.live v y h in (r.0, stays y r.0 r.1, r.2) };
@@ -307,6 +307,8 @@ module _ (w : Carrying) (p : Spaces) (s : State) (u x : ℕ) (k : Links w p s) (
       plain = λ e. new-plain (k.plain e);
       variables = λ i y. updated-all (λ i o. o ≡ Some y → updated s.variables s.naming.made (Some x) i ≡ Some y) w.global s.naming.made (Some x)
           (λ e. updated-at s.variables s.naming.made (Some x) ∙ e) i (λ n e. updated-other s.variables s.naming.made (Some x) i n ∙ k.variables i y e);
+      numbered = λ i y. updated-all (λ i o. o ≡ Some y → y < max p.globals (x + 1)) s.variables s.naming.made (Some x)
+          (λ e. let q : x ≡ y = cc in omega (arith, q)) i (λ n e. let b = k.numbered i y e in omega (arith, b));
       told = record {
         accepted = k.told.accepted;
         assumed = k.told.assumed;

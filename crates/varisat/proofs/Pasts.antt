@@ -430,6 +430,7 @@ proof-known v s k has o e =
       apart = a.apart;
       plain = a.plain;
       in_range = a.in_range;
+      readable = a.readable;
       derives = a.derives;
       refutes = λ n c. a.refutes n (claimed v s k o.format c);
       marked = λ n. let m = a.marked n in

@@ -182,6 +182,7 @@ relinked w p q s t k l = record {
   shown = k.shown;
   plain = k.plain;
   variables = k.variables;
+  numbered = k.numbered;
   told = l.told;
   checked = l.checked;
 }
@@ -226,6 +227,7 @@ relinked-marks w p q s t k a isolation marks well l = record {
   shown = λ o y h. a.deleted y ∙ k.shown o y h;
   plain = k.plain;
   variables = k.variables;
+  numbered = k.numbered;
   told = l.told;
   checked = l.checked;
 }

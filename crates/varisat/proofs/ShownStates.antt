@@ -137,6 +137,7 @@ module _ (w : Carrying) (p : Spaces) (s : State) (u x i : ℕ) (k : Links w p s)
         (λ n h. ap (λ a. a.deleted) (updated-other p.kept x d y n) ∙ k.shown e y h);
     plain = k.plain;
     variables = k.variables;
+    numbered = k.numbered;
     told = k.told;
     checked = k.checked;
   }

@@ -452,7 +452,7 @@ pub record HaveSameMaps (p q : Spaces) : Type 0 where
   pub global_from_user : (u : ℕ) → q.global_from_user u ≡ p.global_from_user u
   pub user_from_global : (x : ℕ) → q.user_from_global x ≡ p.user_from_global x
   pub watermark : q.watermark ≡ p.watermark
-  pub globals : q.globals ≤ p.globals
+  pub globals : q.globals ≡ p.globals
   pub solver_from_global : (x : ℕ) → q.solver_from_global x ≡ p.solver_from_global x
   pub global_from_solver : (v : ℕ) → q.global_from_solver v ≡ p.global_from_solver v
   pub kept : (x : ℕ) → q.kept x ≡ p.kept x
@@ -477,7 +477,7 @@ maps-alike p q e kept model = record {
   global_from_user = λ u. ap (λ (y : Spaces). y.global_from_user u) e;
   user_from_global = λ x. ap (λ (y : Spaces). y.user_from_global x) e;
   watermark = ap (λ (y : Spaces). y.watermark) e;
-  globals = let g = ap (λ (y : Spaces). y.globals) e in omega (arith, g);
+  globals = ap (λ (y : Spaces). y.globals) e;
   solver_from_global = λ x. ap (λ (y : Spaces). y.solver_from_global x) e;
   global_from_solver = λ v. ap (λ (y : Spaces). y.global_from_solver v) e;
   kept = kept;
@@ -534,6 +534,7 @@ spaces-same p q s e (w, k) = (
     shown = λ h x n. ap (λ y. y.deleted) (e.maps.kept x) ∙ k.shown h x (sym (e.maps.user_from_global x) ∙ n);
     plain = k.plain;
     variables = k.variables;
+    numbered = λ i x h. let b = e.maps.globals in let c = k.numbered i x h in omega (arith, b, c);
     told = k.told;
     checked = λ n. subst (CheckerFits w.global s.told) (sym e.checker) (k.checked (λ z. n (ap without_core e.outcome ∙ z)));
   },

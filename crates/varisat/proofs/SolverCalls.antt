@@ -159,6 +159,7 @@ first-spaces s e n =
         shown = λ o x h. refl;
         plain = λ o. record { all = λ i h. absurd (omega (arith, h)); only = λ x i e. absurd (let z : None ≡ Some i = e in cc) };
         variables = λ i x e. absurd (let z : None ≡ Some x = e in cc);
+        numbered = λ i x e. absurd (let z : None ≡ Some x = e in cc);
         told = record {
           accepted = refl;
           assumed = refl;

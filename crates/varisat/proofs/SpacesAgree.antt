@@ -28,7 +28,7 @@ give u x p = record p {
   global_from_user = updated p.global_from_user u (Some x);
   user_from_global = updated p.user_from_global x (Some u);
   watermark = max p.watermark (u + 1);
-  globals = p.globals + 1;
+  globals = max p.globals (x + 1);
   kept = updated p.kept x fresh;
   model = updated p.model x false;
 }

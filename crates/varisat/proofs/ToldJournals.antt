@@ -1,5 +1,5 @@
 -- What was told as a whole.
-use Rattle.std.proofs.Common.{◌≡◌, ◌∙◌, ℕ, ◌^◌, ◌<◌, ◌≤◌, Bool, true, false, Option, Some, List, [], ◌∷◌, length, inl, inr, ⊎_elim, refl, sym, ap, subst, arith}
+use Rattle.std.proofs.Common.{◌≡◌, ◌∙◌, ℕ, ◌^◌, ◌<◌, ◌≤◌, Bool, true, false, Option, Some, None, map, List, [], ◌∷◌, length, inl, inr, ⊎_elim, refl, sym, ap, subst, arith}
 use Rattle.std.proofs.lemmas.Bool.{cases_lt}
 use Rattle.std.proofs.lemmas.List.{get_or_past}
 use Rattle.varisat_theory.specs.Membership.{◌∈◌, ◌⊆◌}
@@ -17,6 +17,7 @@ use Rattle.varisat_proof.proofs.MarkedJournals.{journal_taken}
 use Rattle.varisat_theory.specs.Outcomes.{Outcome}
 use Rattle.varisat_theory.specs.Outcomes as outcome
 use Rattle.varisat_theory.proofs.Held.{conflicts_same}
+use Rattle.varisat_theory.proofs.Renaming.{map-∈}
 use Rattle.varisat_theory.proofs.Lines.{derives_derivation}
 use Rattle.varisat_theory.proofs.Journals.{leads_derives, leads_refutes, leads_unique}
 use Rattle.varisat_literals.specs.Numbers.{variable_limit}
@@ -35,7 +36,7 @@ use Rattle.varisat.proofs.OpenProofs.{lines-renamed, plain-bytes, there-present,
 use Rattle.varisat.specs.ProofBytes.{IsMarkedDerivation}
 use Rattle.varisat.specs.ProofCalls.{IsProofIfOpen}
 use Rattle.varisat.specs.Calls.{IsRefuted, calling}
-use Rattle.varisat_tracer.specs.Carried.{carry}
+use Rattle.varisat_tracer.specs.Carried.{carry, variable_or_first}
 use Rattle.varisat.specs.Spaces.{Spaces, Carrying, Links, Translation, IsCounted, AllSpeakOf, HeldFits, VerdictFits, without_core}
 use Rattle.varisat.specs.Summaries.{Summary, spaces, StandsFor}
 use Rattle.varisat.proofs.ToldEntries.{all-wider, lines-speak, OnlyLeave, unspoken, only-leave}
@@ -85,6 +86,35 @@ module _ (made : ℕ) (counted : List ℕ) (few : made ≤ variable_limit) (belo
   told-in-range (Fails core ∷ es) (f, w) line l (inr h) i = told-in-range es w line l h i
   told-in-range (Leaves v ∷ es) (f, w) line l h i = told-in-range es w line l h i
 
+-- literals of identities whose variables are below the limit, as a proof writes them
+module _ (variables : ℕ → Option ℕ) (below : (i x : ℕ) → variables i ≡ Some x → x < variable_limit) where
+  carried-in-range : (l : Literal) → carry variables l < 2 ^ 29
+  carried-in-range l = go (variables (variable_of l)) refl
+    where
+      go : (o : Option ℕ) → variables (variable_of l) ≡ o → carry variables l < 2 ^ 29
+      go None e = let z = ap variable_or_first e in omega (arith, z)
+      go (Some x) e = let z = ap variable_or_first e in let b = below (variable_of l) x e in omega (arith, z, b)
+
+  line-over : (kind : LineKind) (c : Clause) (line : ProofLine) (l : Literal) → line ≡ line_of_kind kind (map (carry variables) c) → l ∈ line.clause →
+      l < 2 ^ 29
+  line-over kind c line l e i =
+      let (m, j, q) = map-∈ (carry variables) l c (subst (λ (x : ProofLine). l ∈ x.clause) e i) in
+      subst (λ n. n < 2 ^ 29) (sym q) (carried-in-range m)
+
+  told-over : (told : List Entry) → AreInRange (lines_told (Text true) (entries_over variables told))
+  told-over [] line l h i = absurd h
+  told-over (Accepts c ∷ es) line l (inl e) i = line-over _ c line l e i
+  told-over (Writes (Add c) ∷ es) line l (inl e) i = line-over _ c line l e i
+  told-over (Writes (Delete c) ∷ es) line l (inl e) i = line-over _ c line l e i
+  told-over (Assumes a ∷ es) line l (inl e) i = line-over _ a line l e i
+  told-over (Fails core ∷ es) line l (inl e) i = line-over _ core line l e i
+  told-over (Accepts c ∷ es) line l (inr h) i = told-over es line l h i
+  told-over (Writes (Add c) ∷ es) line l (inr h) i = told-over es line l h i
+  told-over (Writes (Delete c) ∷ es) line l (inr h) i = told-over es line l h i
+  told-over (Assumes a ∷ es) line l (inr h) i = told-over es line l h i
+  told-over (Fails core ∷ es) line l (inr h) i = told-over es line l h i
+  told-over (Leaves v ∷ es) line l h i = told-over es line l h i
+
 pub journal-of : (g : Summary) (s : State) → StandsFor g s → g.ledger.valid ≡ true → IsJournal s
 journal-of g s st v =
     let (w, k) = st.fits v in
@@ -100,6 +130,7 @@ journal-of g s st v =
       plain = written-plain w (spaces g) s k;
       stays = k.told.stays;
       in_range = λ h. told-in-range s.naming.made s.counted (few-made g s st v h) k.well_formed.counted s.told k.told.spoken;
+      readable = let few = (st.bounded v).globals in told-over s.variables (λ i x e. let b = k.numbered i x e in omega (arith, b, few)) s.told;
       derives = λ e.
           let (last, d, same) = leads_derives [] s.told held (k.told.stays e) led in
           subst (λ P. IsDerivation P (lines_of s.told)) k.told.accepted (derives_derivation _ (lines_of s.told) last d);
@@ -219,6 +250,7 @@ proof-of g s st v p e =
       apart = j.apart;
       plain = j.plain;
       in_range = j.in_range;
+      readable = j.readable;
       derives = j.derives;
       refutes = λ h a. j.refutes h (claims-refuted g s st v p e p.format refl a);
       marked = λ h. marked-of g s st v h (IsRefuted calling p.format s) (claims-refuted g s st v p e p.format refl);

@@ -20,10 +20,13 @@ use Rattle.varisat_names.specs.declared.variables.data.SamplingMode.TheVariants 
 -- How many global variables there are after a change.
 
 -- a live variable was made before
-pub kept-most : (old new : List VarData) (x : ℕ) (d : VarData) → (kept_at old x).deleted ≡ false → IsKeptAs old x d new → length new ≤ length old
+pub kept-most : (old new : List VarData) (x : ℕ) (d : VarData) → (kept_at old x).deleted ≡ false → IsKeptAs old x d new → length new ≡ length old
 kept-most old new x d live k = let b = live-inside old x live in let c = k.count in omega (arith, b, c)
 
 -- a name that comes into use needs one more at most
+pub given-near : (old new : Tables) (u x : ℕ) → IsGiven old new u x → x ≤ length old.kept
+given-near old new u x g = least-near old.kept x g.unused
+
 pub given-most : (old new : Tables) (u x : ℕ) → IsGiven old new u x → length new.kept ≤ length old.kept + 1
 given-most old new u x g = let b = least-near old.kept x g.unused in let c = g.kept.count in omega (arith, b, c)
 

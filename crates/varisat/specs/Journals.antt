@@ -65,8 +65,8 @@ pub record TellsLeaving (variables : ℕ → Option ℕ) (before after : List En
 
 -- What was told is right, entry by entry, and an open proof has all of it for which its format has lines, each identity as its
 -- variable: no two that have not left have the same. Its clauses are those accepted, in order, its last list is that of the
--- assumptions, and its cores are of what was assumed. Where nothing was ever hidden each entry is written as it is, in numbers that a
--- reader takes, no variable leaves, and its lines are a derivation from the clauses, and under Unsat they refute them.
+-- assumptions, and its cores are of what was assumed. It is written in numbers that a reader takes. Where nothing was ever hidden each
+-- entry is written as it is, no variable leaves, and its lines are a derivation from the clauses, and under Unsat they refute them.
 pub record IsJournal (s : State) : Type 0 where
   pub held : List Clause
   pub led : Leads [] s.told held
@@ -78,6 +78,7 @@ pub record IsJournal (s : State) : Type 0 where
   pub plain : s.ever_hidden ≡ false → entries_over s.variables s.told ≡ s.told
   pub stays : s.ever_hidden ≡ false → NoneLeaves s.told
   pub in_range : s.ever_hidden ≡ false → AreInRange (lines_told (Text true) s.told)
+  pub readable : AreInRange (lines_told (Text true) (entries_over s.variables s.told))
   pub derives : s.ever_hidden ≡ false → IsDerivation s.clauses (lines_of s.told)
   pub refutes : s.ever_hidden ≡ false → s.verdict ≡ Unsat → Refutes s.clauses (lines_of s.told)
 

@@ -10,6 +10,7 @@ use Rattle.varisat_proof.specs.Passing.{ToldConflict}
 use Rattle.varisat_proof.specs.Telling.{lines_told}
 use Rattle.varisat_proof.specs.Written.{AreInRange}
 use Rattle.varisat.specs.Names.{through_names}
+use Rattle.varisat.specs.OpenProofs.{entries_over}
 use Rattle.varisat.specs.States.{Known, first_known}
 use Rattle.varisat.specs.Journals.{IsToldWithin, AreDerived, EndWithCore}
 use Rattle.varisat.specs.Models.{IsCompletable, AreNamesInUse}
@@ -35,7 +36,8 @@ empty_past = first_known (record { has_model = false; has_core = false; lists = 
 -- What was told is right, entry by entry, and at most as many of the clauses that its lines add count as steps were made in all, and
 -- at least as many lines add a clause as steps were made by interrupted calls. The clauses that it accepts are those accepted, in
 -- order, its lists of assumptions are those given, in order, the last one is that of the assumptions, and its cores are of what was
--- assumed. Where nothing was ever hidden no variable left, and a reader takes the numbers of all lines.
+-- assumed. A reader takes the numbers of all lines that a proof of it has. Where nothing was ever hidden no variable left, and so it takes
+-- those of its own lines.
 pub record IsPastJournal (p : Past) : Type 0 where
   pub within : IsToldWithin p.ledger.steps p.told
   pub enough : p.verdict.interrupted_steps ≤ added (lines_of p.told)
@@ -45,6 +47,7 @@ pub record IsPastJournal (p : Past) : Type 0 where
   pub cores : CoresAreAssumed [] p.told
   pub stays : p.ever_hidden ≡ false → NoneLeaves p.told
   pub in_range : p.ever_hidden ≡ false → AreInRange (lines_told (Text true) p.told)
+  pub readable : AreInRange (lines_told (Text true) (entries_over p.variables p.told))
 
 -- What a call tells that returns false: nothing where a core was found last. Else propagation over what is held conflicts then, or it
 -- conflicts with a core that is told at last, and is one of the assumptions.

@@ -40,8 +40,8 @@ EnablesChecking s (Err _) t = ⊥
 
 module _ {V : Type 0} (by : Verdicts V) where
   -- The bytes of an open proof are those of all that was told for which its format has lines, each identity as its variable, which is
-  -- its own until it leaves. In DRAT these are the lines that add or delete a clause. As long as nothing was ever hidden each entry is
-  -- written as it is, in numbers that a reader takes, the lines that add or delete a clause are a derivation from the clauses, and they
+  -- its own until it leaves, in numbers that a reader takes. In DRAT these are the lines that add or delete a clause. As long as nothing
+  -- was ever hidden each entry is written as it is, the lines that add or delete a clause are a derivation from the clauses, and they
   -- refute them where these are known to be unsatisfiable; and a marked proof is one of the clauses and the assumptions.
   pub record IsProof (s : Known V) (p : OpenProof) : Type 0 where
     pub written : p.bytes ≡ bytes_told p.format (entries_over s.variables s.told)
@@ -49,6 +49,7 @@ module _ {V : Type 0} (by : Verdicts V) where
     pub apart : HaveOwnVariables s.variables s.naming.made s.told
     pub plain : s.ever_hidden ≡ false → entries_over s.variables s.told ≡ s.told
     pub in_range : s.ever_hidden ≡ false → AreInRange (lines_told (Text true) s.told)
+    pub readable : AreInRange (lines_told (Text true) (entries_over s.variables s.told))
     pub derives : s.ever_hidden ≡ false → IsDerivation s.clauses (lines_of s.told)
     pub refutes : s.ever_hidden ≡ false → IsRefuted by p.format s → Refutes s.clauses (lines_of s.told)
     pub marked : s.ever_hidden ≡ false → IsMarkedDerivation s.told s.clauses s.assumptions (IsRefuted by p.format s)

@@ -276,6 +276,8 @@ pub record Links (w : Carrying) (p : Spaces) (s : State) : Type 0 where
   pub plain : s.ever_hidden ≡ false → IsPlain w.identity s.naming.made
   -- a proof writes each live identity as its global variable
   pub variables : (i x : ℕ) → w.global i ≡ Some x → s.variables i ≡ Some x
+  -- and each that was made, also one that has left, as one of the global variables
+  pub numbered : (i x : ℕ) → s.variables i ≡ Some x → x < p.globals
   pub told : TellsWhole s.told s.clauses s.assumptions s.counted s.ever_hidden (IsGone w s)
   -- under Unsat the checker is told nothing more, and nothing is said of it
   pub checked : without_core p.outcome ≢ outcome.Unsat → CheckerFits w.global s.told p.checker

@@ -1,7 +1,7 @@
 //! A client of the solver for C programs: each call takes a handle, behind which a client stands.
 #![tactic(auto)]
 
-ghost use Rattle.std.specs.Prelude.{◌≡◌, Some, None, IsSome, IsTrue, IfSome};
+ghost use Rattle.std.specs.Prelude.{◌≡◌, ◌↔◌, Some, None, IsSome, IsTrue, IfSome};
 ghost use Rattle.varisat_client.specs.Pasts.{empty_past, AddsNumber, AssumesNumber, Begins, LimitsSteps, TellsValue, TellsFailed};
 ghost use Rattle.varisat_client.specs.Clients.{StandsForPast};
 ghost use Rattle.varisat_ipasir.specs.Codes.{SearchesBy, refusal_code};
@@ -20,7 +20,7 @@ use varisat_client::client::Client;
 #[unsafe(no_mangle)]
 pub extern "C" fn varisat_open(alloc: Global, handle: &mut Handle) -> bool
     requires { handle.old.held ≡ None }
-    ensures made { IsTrue result → IsSome handle.new.held }
+    ensures made { IsTrue result ↔ IsSome handle.new.held }
     ensures new { IfSome handle.new.held (λ g. StandsForPast g empty_past) }
 {
     match Box::new(alloc, Client::new_in(alloc)) {

@@ -179,7 +179,7 @@ raised g s t (w, k) none seen few =
         right = k.right;
         few = few;
         told = k.told;
-        checked = λ n. k.checked (λ e. n (ap without_core o ∙ e));
+        checked = k.checked;
       }),
     )
 

@@ -258,7 +258,7 @@ module _ (w : Carrying) (p : Spaces) (s : State) (d : Clause) (k : Links w p s) 
 
     stands : (told : List Entry) → TellsWhole told (s.clauses ++ c ∷ []) s.assumptions s.counted s.ever_hidden (IsGone w s) →
         (t : Search) (v : Outcome) (m : ℕ → Bool) (checker : Option CheckerState) (x : Verdict) →
-        (without_core v ≢ outcome.Unsat → CheckerFits w.global told checker) →
+        CheckerFits w.global told checker →
         SearchHolds (s.clauses ++ c ∷ []) (with_told told r) t (without_core v) → VerdictFits w.identity m v x →
         CoreFits s.naming.names p.core x → IsRight (s.clauses ++ c ∷ []) s.assumptions s.counted x →
         Links w (record p { kept = after; search = t; outcome = v; model = m; checker = checker }) (retold told (accept c x s))
@@ -344,7 +344,7 @@ module _ (w : Carrying) (p : Spaces) (s : State) (d : Clause) (k : Links w p s) 
         subst (λ es. CheckerFits w.global es checker) (sym (append_assoc s.told (Accepts (map (through_names s.naming) d) ∷ []) ls))
         (checker-on w.global s.told (Accepts (map (through_names s.naming) d) ∷ ls) p.checker checker (written_stays (map (rename_line to) lines))
         (subst (λ es. IsCheckedIf p.checker es checker) (sym all) checks)
-        (k.checked (λ q. let z : outcome.Unknown ≡ outcome.Unsat = sym (ap without_core o) ∙ q in cc)))
+        k.checked)
 
     pub loaded : (t : Search) (v : Outcome) (m : ℕ → Bool) (checker : Option CheckerState) (lines : List Line) →
         IsCheckedIf p.checker (told_as (carry p.global_from_solver) (Accepts (map (solver_literal p) d) ∷ written lines)) checker →
@@ -388,7 +388,7 @@ module _ (w : Carrying) (p : Spaces) (s : State) (d : Clause) (k : Links w p s) 
           Refuted refl none,
           tells',
           told-as,
-          stands told is-told t v m checker Unsat (λ _. follows)
+          stands told is-told t v m checker Unsat follows
               (subst (SearchHolds (s.clauses ++ map (through_names s.naming) d ∷ []) after' t) (u ∙ sym (ap without_core u)) more)
               (subst (λ y. VerdictFits w.identity m y Unsat) (sym u) tt) tt none,
         ))
@@ -399,7 +399,7 @@ module _ (w : Carrying) (p : Spaces) (s : State) (d : Clause) (k : Links w p s) 
           tells',
           told-as,
           stands told is-told t v m checker Unknown
-              (λ _. follows) (subst (SearchHolds (s.clauses ++ map (through_names s.naming) d ∷ []) after' t) (u ∙ sym (ap without_core u)) more)
+              follows (subst (SearchHolds (s.clauses ++ map (through_names s.naming) d ∷ []) after' t) (u ∙ sym (ap without_core u)) more)
               (subst (λ y. VerdictFits w.identity m y Unknown) (sym u) tt) tt tt,
         ))
         loads.verdict
@@ -457,5 +457,5 @@ module _ (w : Carrying) (p : Spaces) (s : State) (d : Clause) (k : Links w p s) 
               cases;
           few = k.few;
           told = told-assumed s.told s.clauses s.assumptions s.counted s.ever_hidden (map (through_names s.naming) d) counted-clause k.told;
-          checked = λ n. checker-still w.global s.told (map (through_names s.naming) d) p.checker (k.checked n);
+          checked = checker-still w.global s.told (map (through_names s.naming) d) p.checker k.checked;
         })

@@ -23,7 +23,6 @@ use Rattle.varisat_proof.specs.Present.{IsLeftAfter}
 use Rattle.varisat_proof.specs.Proving.{ProofParts, IsCheckedIf, MayBeHeld}
 use Rattle.varisat_search.specs.AssumptionParts.{AssumptionParts}
 use Rattle.varisat_search.specs.Seen.{search_of}
-use Rattle.varisat_search.specs.Steps.{assignment_of}
 use Rattle.varisat_search.specs.declared.state.SatState.{SatState}
 use Rattle.varisat_search.specs.declared.state.SatState.TheVariants as verdict
 use Rattle.varisat_trace.specs.Traces.{HoldsFor}
@@ -222,14 +221,14 @@ relied-by t p seen assumed sat w s k can fits shares checked =
 pub relied-open : (t : Tables) (p : ProofParts) (seen : View) (assumed : AssumptionParts) (sat : SatState) → sat ≢ verdict.Unsat → CanTell p →
     FitSome (spaces_of t p.checker seen assumed sat) → HoldsFor (Relies (record { tables = t; proof = p })) (search_of seen)
 relied-open t p seen assumed verdict.Unknown n can (s, (w, k)) =
-    relied-by t p seen assumed verdict.Unknown w s k can k.holds.holds k.holds.told (k.checked (λ e. let z : outcome.Unknown ≡ outcome.Unsat = e in cc))
+    relied-by t p seen assumed verdict.Unknown w s k can k.holds.holds k.holds.told k.checked
 relied-open t p seen assumed verdict.Sat n can (s, (w, k)) =
     relied-by t p seen assumed verdict.Sat w s k can k.holds.holds k.holds.told
-    (k.checked (λ e. let z : outcome.Sat (assignment_of seen) ≡ outcome.Unsat = e in cc))
+    k.checked
 relied-open t p seen assumed verdict.Unsat n can f = absurd (n refl)
 relied-open t p seen assumed verdict.UnsatUnderAssumptions n can (s, (w, k)) =
     relied-by t p seen assumed verdict.UnsatUnderAssumptions w s k can k.holds.holds k.holds.told
-    (k.checked (λ e. let z : outcome.Unknown ≡ outcome.Unsat = e in cc))
+    k.checked
 
 -- so it is as long as no verdict is known
 pub relied : (t : Tables) (p : ProofParts) (seen : View) (assumed : AssumptionParts) → CanTell p →

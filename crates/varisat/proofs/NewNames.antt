@@ -1,5 +1,5 @@
 -- A name gets a variable.
-use Rattle.std.proofs.Common.{◌≡◌, ◌↔◌, ℕ, ◌+◌, ◌<◌, ◌≤◌, max, true, false, Option, Some, None, List, ⊎_elim, sym, ap, ◌∙◌, subst, refl, arith}
+use Rattle.std.proofs.Common.{[], ◌≡◌, ◌↔◌, ℕ, ◌+◌, ◌<◌, ◌≤◌, max, true, false, Option, Some, None, List, ⊎_elim, sym, ap, ◌∙◌, subst, refl, arith}
 use Rattle.std.proofs.lemmas.Bool.{cases_lt}
 use Rattle.varisat_theory.specs.Membership.{◌∈◌}
 use Rattle.varisat_theory.specs.Literals.{Literal, Clause, Assignment, variable_of}
@@ -13,8 +13,9 @@ use Rattle.varisat.specs.States.{State, with_variables, Verdict, Sat, IsRight, I
 use Rattle.varisat.specs.Names.{Sample, bring}
 use Rattle.varisat.specs.Calls.{with_naming}
 use Rattle.varisat_tracer.specs.Carried.{carry}
-use Rattle.varisat.specs.Spaces.{Spaces, Carrying, ModeFits, IdentitiesFit, NamesFit, ModesFit, UnitsFit, IsolationCase, NotIsolated, Apart, Forced, IsolationFits, AssumptionsFit, MarksFit, without_core, translation, IsPlain, Links, SpacesFit}
-use Rattle.varisat.proofs.CheckedHeld.{all-live, checker-alike}
+use Rattle.varisat.specs.Spaces.{Spaces, Carrying, IsCounted, ModeFits, IdentitiesFit, NamesFit, ModesFit, UnitsFit, IsolationCase, NotIsolated, Apart, Forced, IsolationFits, AssumptionsFit, MarksFit, without_core, translation, IsPlain, Links, SpacesFit}
+use Rattle.varisat.proofs.CheckedHeld.{checker-alike}
+use Rattle.varisat.proofs.ToldEntries.{held-spoken}
 use Rattle.varisat.proofs.SpacesAgree.{give, carry-same, map-same, working-same, core-same, holds-same, told-same, verdict-moved}
 use Rattle.varisat_names.proofs.Maps.{updated-at, updated-other, updated-all, joined, chain-same, chain-some, chain-none, chain-through, is-some}
 
@@ -317,9 +318,9 @@ module _ (w : Carrying) (p : Spaces) (s : State) (u x : ℕ) (k : Links w p s) (
         left = new-gone;
         stays = k.told.stays;
       };
-      checked = λ n. checker-alike w.global (updated w.global s.naming.made (Some x)) s.told p.checker
-          (λ held led c l h i. let (y, e) = all-live w p s k n held led c l h i in
-          sym (updated-other w.global s.naming.made (Some x) (variable_of l) (λ q. let z : None ≡ Some y = sym unused ∙ ap w.global (sym q) ∙ e in cc)))
-          (k.checked n);
+      checked = checker-alike w.global (updated w.global s.naming.made (Some x)) s.told p.checker
+          (λ held led c l h i. sym (updated-other w.global s.naming.made (Some x) (variable_of l) (λ q.
+          let b = k.well_formed.counted (variable_of l) (held-spoken (IsCounted s.counted) [] s.told held (λ d m j. absurd j) led k.told.spoken c l h i) in
+          absurd (omega (arith, b, q))))) k.checked;
     },
   )

@@ -182,8 +182,8 @@ module _ (w : Carrying) (p : Spaces) (s : State) (x i : ℕ) (k : Links w p s) (
           plain = λ e. absurd (was-hidden e);
           variables = λ j y e. k.variables j y (updated-all (λ j o. o ≡ Some y → w.global j ≡ Some y) w.global i None (λ q. absurd cc) j (λ n q. q) e);
           numbered = k.numbered;
-          checked = λ n. checker-without w.global (updated w.global i None) s.told i x p.checker checker (same-left n)
-              (λ j o. sym (updated-other w.global i None j o)) gone (k.checked n);
+          checked = checker-without w.global (updated w.global i None) s.told i x p.checker checker (same-left undecided)
+              (λ j o. sym (updated-other w.global i None j o)) gone k.checked;
           told = told-left s.told s.clauses s.assumptions s.counted s.ever_hidden i was-hidden gone-too k.told;
         },
       )

@@ -157,7 +157,7 @@ pub record SearchLinks (w : Carrying) (p : Spaces) (s : State) : Type 0 where
   pub right : HasRightVerdict s
   pub few : p.var_count ≤ length s.counted
   pub told : TellsWhole s.told s.clauses s.assumptions s.counted s.ever_hidden (IsGone w s)
-  pub checked : without_core p.outcome ≢ outcome.Unsat → CheckerFits w.global s.told p.checker
+  pub checked : CheckerFits w.global s.told p.checker
 
 pub relinked : (w : Carrying) (p q : Spaces) (s t : State) → Links w p s → SearchLinks w (with_search_side q p) (told_as t s) →
     Links w (with_search_side q p) (told_as t s)

@@ -57,14 +57,10 @@ told-with w p s lines = s.told ++ told_lines (translation w p s.told) lines
 abbrev pub with_found : Search → Outcome → (ℕ → Bool) → List Literal → List Literal → Option CheckerState → Spaces → Spaces
 with_found t v m working core checker p = record p { search = t; outcome = v; model = m; working = working; core = core; checker = checker }
 
--- where none is known it is not Unsat
-known-unknown : (v : Outcome) → v ≡ outcome.Unknown → without_core v ≢ outcome.Unsat
-known-unknown v e q = let z : outcome.Unknown ≡ outcome.Unsat = sym (ap without_core e) ∙ q in cc
-
 -- another verdict of the state, which is right
 decided : (w : Carrying) (p : Spaces) (s : State) (told : List Entry) → TellsWhole told s.clauses s.assumptions s.counted s.ever_hidden (IsGone w s) →
     (t : Search) (v : Outcome) (m : ℕ → Bool) (ws core : List Literal) (checker : Option CheckerState) (x : Verdict) → Links w p s →
-    (without_core v ≢ outcome.Unsat → CheckerFits w.global told checker) → SearchHolds s.clauses (translation w p told) t (without_core v) →
+    CheckerFits w.global told checker → SearchHolds s.clauses (translation w p told) t (without_core v) →
     WorkingFits s.clauses (translation w p s.told).identity s.assumptions ws → VerdictFits w.identity m v x →
     CoreFits s.naming.names core x → IsRight s.clauses s.assumptions s.counted x →
     Links w (with_found t v m ws core checker p) (retold told (with_verdict x s))
@@ -88,17 +84,8 @@ decided w p s told is-told t v m ws core checker x k checks holds working fits n
 pub forgotten : (w : Carrying) (p : Spaces) (s : State) → Links w p s → s.verdict ≢ Unsat →
     Links w (with_found p.search outcome.Unknown p.model p.working p.core p.checker p) (with_verdict Unknown s)
 forgotten w p s k n = decided w p s s.told k.told p.search outcome.Unknown p.model p.working p.core p.checker Unknown k
-    (λ _. k.checked (not-refuted p.outcome s.verdict k.verdict n)) (go p.outcome s.verdict k.holds k.verdict n) k.working tt tt tt
+    k.checked (go p.outcome s.verdict k.holds k.verdict n) k.working tt tt tt
   where
-    not-refuted : (v : Outcome) (x : Verdict) → VerdictFits w.identity p.model v x → x ≢ Unsat → without_core v ≢ outcome.Unsat
-    not-refuted outcome.Unknown x f n e = let z : outcome.Unknown ≡ outcome.Unsat = e in cc
-    not-refuted (outcome.Sat found) x f n e = let z : outcome.Sat found ≡ outcome.Unsat = e in cc
-    not-refuted outcome.Unsat Unknown f n e = f
-    not-refuted outcome.Unsat (Sat a) f n e = f
-    not-refuted outcome.Unsat Unsat f n e = n refl
-    not-refuted outcome.Unsat (UnsatUnderAssumptions core) f n e = f
-    not-refuted (outcome.UnsatUnder core) x f n e = let z : outcome.Unknown ≡ outcome.Unsat = e in cc
-
     go : (v : Outcome) (x : Verdict) → SearchHolds s.clauses (translation w p s.told) p.search (without_core v) →
         VerdictFits w.identity p.model v x → x ≢ Unsat → SearchHolds s.clauses (translation w p s.told) p.search outcome.Unknown
     go outcome.Unknown x h f n = h
@@ -115,7 +102,7 @@ pub core-known : (w : Carrying) (p : Spaces) (s : State) (found core : List Lite
     Links w (record p { outcome = outcome.UnsatUnder found }) (with_verdict (UnsatUnderAssumptions core) s)
 core-known w p s found core k unknown told some right =
     decided w p s s.told k.told p.search (outcome.UnsatUnder found) p.model p.working p.core p.checker (UnsatUnderAssumptions core) k
-    (λ _. k.checked (known-unknown p.outcome unknown))
+    k.checked
     (subst (SearchHolds s.clauses (translation w p s.told) p.search) (ap without_core unknown) k.holds) k.working some told right
 
 -- without its core a verdict has none
@@ -243,7 +230,7 @@ module _ (w : Carrying) (p : Spaces) (s : State) (k : Links w p s) (unknown : p.
       checker-on w.global s.told (told_lines r lines) p.checker checker (written_stays (map (rename_line (carry r.identity)) lines))
       (subst (λ es. IsCheckedIf p.checker es checker)
       (sym (lines-carried w.global (λ i x e. e))) c)
-      (k.checked (known-unknown p.outcome unknown))
+      k.checked
 
   module _ (x y : AssumptionParts) (same : p.working ≡ x.working) (keeps : KeepsAssumptions p.search v x y) (checker : Option CheckerState) where
     pub left : WorkingFits s.clauses (translation w p s.told).identity s.assumptions y.working
@@ -255,15 +242,16 @@ module _ (w : Carrying) (p : Spaces) (s : State) (k : Links w p s) (unknown : p.
         (told_as (carry p.global_from_solver) (written lines)) checker → v ≡ outcome.Unknown →
         Links w (with_found t v m y.working core checker p) (retold (told-with w p s lines) (with_verdict Unknown s))
     went-on m core c e = decided w p s (told-with w p s lines) steps-are-told t v m y.working core checker Unknown k
-        (λ _. steps-checked checker c) steps-hold left (subst (λ y. VerdictFits w.identity m y Unknown) (sym e) tt) tt tt
+        (steps-checked checker c) steps-hold left (subst (λ y. VerdictFits w.identity m y Unknown) (sym e) tt) tt tt
 
-    pub unsat-found : (m : ℕ → Bool) (core : List Literal) → v ≡ outcome.Unsat →
+    pub unsat-found : (m : ℕ → Bool) (core : List Literal) → IsCheckedIf p.checker
+        (told_as (carry p.global_from_solver) (written lines)) checker → v ≡ outcome.Unsat →
         Links w (with_found t v m y.working core checker p) (retold (told-with w p s lines) (with_verdict Unsat s))
-    unsat-found m core e =
+    unsat-found m core c e =
         let none = refuted s.clauses (translation w p (told-with w p s lines)) t
         (subst (SearchHolds s.clauses (translation w p (told-with w p s lines)) t) (ap without_core e) steps-hold) in
         decided w p s (told-with w p s lines) steps-are-told t v m y.working core checker Unsat k
-        (λ n. absurd (n (ap without_core e))) steps-hold left (subst (λ y. VerdictFits w.identity m y Unsat) (sym e) tt) tt none
+        (steps-checked checker c) steps-hold left (subst (λ y. VerdictFits w.identity m y Unsat) (sym e) tt) tt none
 
     -- a core was found, which is told over names in use
     pub core-tells : (found told : List Literal) → v ≡ outcome.UnsatUnder found →
@@ -325,7 +313,7 @@ module _ (w : Carrying) (p : Spaces) (s : State) (k : Links w p s) (unknown : p.
         (checker-on w.global s.told (ls ++ Fails (map (carry s.naming.names) told) ∷ []) p.checker checker
         (stays_append ls (Fails (map (carry s.naming.names) told) ∷ []) (written_stays (map (rename_line to) lines)) tt)
         (subst (λ es. IsCheckedIf p.checker es checker) (sym all) c)
-        (k.checked (known-unknown p.outcome unknown)))
+        k.checked)
 
     pub core-found : (m : ℕ → Bool) (found told : List Literal) →
         IsCheckedIf p.checker (told_as (carry p.global_from_solver) (written lines ++ Fails found ∷ [])) checker →
@@ -352,7 +340,7 @@ module _ (w : Carrying) (p : Spaces) (s : State) (k : Links w p s) (unknown : p.
         (told-failed (told-with w p s lines) s.clauses s.assumptions s.counted s.ever_hidden (map (carry s.naming.names) told) part steps-are-told)
         t v m y.working
         told checker (UnsatUnderAssumptions (map (carry s.naming.names) told)) k
-        (λ _. core-checked found told c e same-core)
+        (core-checked found told c e same-core)
         (holds-same s.clauses (translation w p (told-with w p s lines)) (translation w p ((told-with w p s lines) ++ last ∷ [])) t (without_core v)
         (λ u. refl) (λ i. refl)
         (λ share q. told-quiet (translation w p (told-with w p s lines)) last
@@ -409,7 +397,7 @@ module _ (w : Carrying) (p : Spaces) (s : State) (k : Links w p s) (unknown : p.
       let fits = left w p s k unknown t (outcome.Sat f) n lines made long in-use x y same keeps checker in
       decided w p s (told-with w p s lines) (steps-are-told w p s k unknown t (outcome.Sat f) n lines made long in-use) t (outcome.Sat f)
       (λ x. value_or (p.kept x).unit f (p.solver_from_global x)) y.working core checker (Sat found) k
-      (λ _. steps-checked w p s k unknown t (outcome.Sat f) n lines made long in-use checker c)
+      (steps-checked w p s k unknown t (outcome.Sat f) n lines made long in-use checker c)
       (steps-hold w p s k unknown t (outcome.Sat f) n lines made long in-use)
       fits
       (λ x i e. ap (λ o. value_or o f (chain w.global p.solver_from_global i)) (k.units.unit x i e)
@@ -536,7 +524,7 @@ spaces-same p q s e (w, k) = (
     variables = k.variables;
     numbered = λ i x h. let b = e.maps.globals in let c = k.numbered i x h in omega (arith, b, c);
     told = k.told;
-    checked = λ n. subst (CheckerFits w.global s.told) (sym e.checker) (k.checked (λ z. n (ap without_core e.outcome ∙ z)));
+    checked = subst (CheckerFits w.global s.told) (sym e.checker) k.checked;
   },
 )
 

@@ -168,7 +168,7 @@ first-spaces s e n =
           left = λ i. (λ h. absurd h, λ (h, e). absurd (omega (arith, h)));
           stays = λ e. tt;
         };
-        checked = λ n held led. tt;
+        checked = λ held led. tt;
       },
     )
   where
@@ -362,7 +362,7 @@ comes-made p q search assumed s t y z verdict.Unsat n lines (w, k) one v takes =
     let long = view-long t v.well in
     let told = told-with w (spaces g) s lines in
     let links = unsat-found w (spaces g) s k refl (search_of t) outcome.Unsat n lines v.steps long v.in_use assumed y refl v.assumes q.proof.checker
-    (spaces (after_steps g q.proof.checker t z verdict.Unsat)).model z.user_core refl in
+    (spaces (after_steps g q.proof.checker t z verdict.Unsat)).model z.user_core (checked-lines p q (written lines) takes.told.checked) refl in
     record {
       verdict = Unsat;
       told = told;

@@ -4,7 +4,7 @@ use Rattle.std.proofs.lemmas.List.{append-nil}
 use Rattle.varisat_theory.specs.Membership.{◌∈◌, ◌⊆◌}
 use Rattle.varisat_theory.specs.Literals.{Literal, Clause, Assignment, variable_of, SatisfiesAll}
 use Rattle.varisat_theory.specs.Derivations.{Line, Add, Delete, SpeakOf}
-use Rattle.varisat_theory.specs.Journals.{Entry, Accepts, Writes, Assumes, Fails, Leaves, lines_of, written, NoneLeaves, Leads, accepted_of, GoesOn}
+use Rattle.varisat_theory.specs.Journals.{Entry, Accepts, Writes, Assumes, Fails, Leaves, Follow, lines_of, written, NoneLeaves, Leads, accepted_of, GoesOn}
 use Rattle.varisat_proof.specs.Assumed.{lists_of, assumed_behind, CoresAreAssumed}
 use Rattle.varisat.specs.Journals.{TellsMore, AreDerived, EndBy, TellsStaying, EndWithCore}
 use Rattle.varisat.specs.States.{Verdict, Unknown, Sat, Unsat, UnsatUnderAssumptions}
@@ -41,6 +41,29 @@ pub written-speak : (are : Literal → Type 0) (lines : List Line) → SpeakOf a
 written-speak are [] s = tt
 written-speak are (Add c ∷ lines) (s, rest) = (s, written-speak are lines rest)
 written-speak are (Delete c ∷ lines) (s, rest) = (s, written-speak are lines rest)
+
+-- so do the clauses that they lead to
+pub held-spoken : (are : Literal → Type 0) (P : List Clause) (es : List Entry) (Q : List Clause) →
+    ((c : Clause) (l : Literal) → c ∈ P → l ∈ c → are l) → Leads P es Q → AllSpeakOf are es → (c : Clause) (l : Literal) → c ∈ Q → l ∈ c → are l
+held-spoken are P [] Q first d s c l h i = first c l (subst (λ X. c ∈ X) (sym d) h) i
+held-spoken are P (e ∷ es) Q first (R, f, d) (s, rest) c l h i = held-spoken are R es Q (after e f s) d rest c l h i
+  where
+    more : (b : Clause) → R ≡ P ++ b ∷ [] → ((l : Literal) → l ∈ b → are l) → (c : Clause) (l : Literal) → c ∈ R → l ∈ c → are l
+    more b q t c l h i = ⊎_elim (λ a. first c l a i) (λ a. ⊎_elim (λ z. t l (subst (λ x. l ∈ x) z i)) (λ z. absurd z) a)
+        (∈-append_cases c P (b ∷ []) (subst (λ X. c ∈ X) q h))
+
+    less : ((c : Clause) → c ∈ R → c ∈ P) → (c : Clause) (l : Literal) → c ∈ R → l ∈ c → are l
+    less q c l h i = first c l (q c h) i
+
+    after : (e : Entry) → Follow P e R → SpeaksOf are e → (c : Clause) (l : Literal) → c ∈ R → l ∈ c → are l
+    after (Accepts b) q t = more b q t
+    after (Writes (Add b)) (k, q) t = more b q t
+    after (Writes (Delete b)) (front, x, back, i, o, q) t = less (λ c h. subst (λ X. c ∈ X) (sym i)
+        (⊎_elim (λ a. ∈-append_left c front (x ∷ back) a) (λ a. ∈-append_right c front (x ∷ back) (inr a))
+        (∈-append_cases c front back (subst (λ X. c ∈ X) q h))))
+    after (Assumes b) q t = less (λ c h. subst (λ X. c ∈ X) q h)
+    after (Fails core) (k, q) t = less (λ c h. subst (λ X. c ∈ X) q h)
+    after (Leaves v) q t = less (λ c h. without_less v P c (subst (λ X. c ∈ X) q h))
 
 -- so do their lines
 pub lines-speak : (are : Literal → Type 0) (es : List Entry) → AllSpeakOf are es → SpeakOf are (lines_of es)

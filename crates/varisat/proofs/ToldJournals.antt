@@ -184,7 +184,7 @@ checking-begins w p s k clauses counted =
       right = k.right;
       few = k.few;
       told = k.told;
-      checked = λ n held led. (
+      checked = λ held led. (
         subst (λ (X : List Clause). SameClauses (rename (carry w.global) X) [])
             (sym (held-none s.told held led (k.told.accepted ∙ clauses) lines)) refl,
         refl,

@@ -279,8 +279,7 @@ pub record Links (w : Carrying) (p : Spaces) (s : State) : Type 0 where
   -- and each that was made, also one that has left, as one of the global variables
   pub numbered : (i x : ℕ) → s.variables i ≡ Some x → x < p.globals
   pub told : TellsWhole s.told s.clauses s.assumptions s.counted s.ever_hidden (IsGone w s)
-  -- under Unsat the checker is told nothing more, and nothing is said of it
-  pub checked : without_core p.outcome ≢ outcome.Unsat → CheckerFits w.global s.told p.checker
+  pub checked : CheckerFits w.global s.told p.checker
 
 -- the spaces stand for the state
 abbrev pub SpacesFit : Spaces → State → Type 0

@@ -608,7 +608,7 @@ impl<W: ProofTarget, A: Allocator + Copy> Solver<W, A> {
         // The target is as after the steps, but that a search is noted to have run under the proof.
         ensures target { WritesOn (marked_searched self.old.opened) result (marked_searched self.new.opened) }
         ensures full { result ≡ Err SolverError.ClauseStoreFull → HasFullStore self.new }
-        // Variables leave in time: those whose values are fixed, unless they are assumed.
+        // Variables go on to leave in time: those whose values are fixed, unless they are assumed.
         ensures leaves { GoesOnLeaving self.old self.new }
     {
         let found = self.seek();
@@ -752,8 +752,8 @@ impl<W: ProofTarget, A: Allocator + Copy> Solver<W, A> {
     }
 
     /// Frees the name of the variable, which lives on in the clauses, hidden. The name may come back for another
-    /// variable. A free name comes into use first. A variable that no clause holds is gone for good, unless the clauses
-    /// are known to be unsatisfiable. Refused as `sample_var` is.
+    /// variable. A free name comes into use first. The variable may leave for good, as one does that no clause holds,
+    /// unless the clauses are known to be unsatisfiable; the clause permits it. Refused as `sample_var` is.
     pub fn hide_var(&mut self, var: Var) -> Result<(), SolverError>
         ensures { StandsOnce self.old (λ s t. HidesVar s var result t) self.new }
     {

@@ -1,4 +1,4 @@
--- What of a store's clauses, also of the deleted ones, stays where only the order of literals changes.
+-- What of a store's clauses stays where only the order of literals changes. Of deleted clauses no more is said than this.
 use Rattle.std.specs.Prelude.{◌≡◌, ℕ, List, length, map}
 use Rattle.varisat_clause.specs.Headers.{Header}
 use Rattle.varisat_clause.specs.Stored.{StoredClause}

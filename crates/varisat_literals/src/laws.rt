@@ -1,4 +1,5 @@
-//! Laws of variables and literals, each the contract of a function.
+//! Laws of variables and literals, each the contract of a function. Those of numbers say what their bodies come to; what each
+//! call of `from_dimacs` and `to_dimacs` returns is said there.
 ghost use Rattle.std.specs.Prelude.{◌≡◌, ◌↔◌, IsTrue, fold, pos, ◌≤ℤ◌};
 ghost use Rattle.std.specs.Ordering.{nat_cmp};
 ghost use Rattle.std.specs.Hash as fed;

@@ -205,8 +205,8 @@ pub(crate) fn write_entries<W: ProofTarget, A: Allocator + Copy>(
     }
 }
 
-/// Writes the lines of the step as text, each by one `put`. The buffer is room to put a line together. After an error a
-/// beginning of them stands in the target.
+/// Writes the lines of the step as text, each by one `put`, which the clause does not say. The buffer is room to put a line
+/// together. After an error a beginning of them stands in the target.
 pub fn write_step<W: ProofTarget, A: Allocator + Copy>(
     target: &mut W,
     buffer: &mut Vec<u8, A>,
@@ -218,8 +218,8 @@ pub fn write_step<W: ProofTarget, A: Allocator + Copy>(
     write_entries(target, buffer, Encoding::Text { marked: false }, step)
 }
 
-/// Writes the lines of the step in the binary format, each by one `put`. The buffer is room to put a line together.
-/// After an error a beginning of them stands in the target.
+/// Writes the lines of the step in the binary format, each by one `put`, which the clause does not say. The buffer is room to
+/// put a line together. After an error a beginning of them stands in the target.
 pub fn write_binary_step<W: ProofTarget, A: Allocator + Copy>(
     target: &mut W,
     buffer: &mut Vec<u8, A>,

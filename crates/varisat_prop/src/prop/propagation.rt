@@ -88,7 +88,7 @@ pub fn propagate<A: Allocator + Copy>(
     // isn't true, and each literal was propagated.
     ensures ends { IfOk result (EndsPropagation IsFullyPropagated (view_of alloc.new binary.now assignment.new trail.new graph.new)) }
     ensures last { OnOk result (assignment.new.last ≡ assignment.old.last) }
-    // Of the store of clauses only the order of literals changes, also where a clause is deleted.
+    // Each clause of the store, also a deleted one, keeps its place, its header and its number of literals.
     ensures store { OnOk result (KeepsShapes alloc.old alloc.new) }
 {
     enable_watchlists(watchlists, alloc)?;

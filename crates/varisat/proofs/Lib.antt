@@ -19,6 +19,7 @@ pub mod ForgottenCopies
 pub mod HiddenTables
 pub mod HiddenStates
 pub mod Histories
+pub mod StoryAnswers
 pub mod VariableMoves
 pub mod LineLemmas
 pub mod ModelsFit

@@ -49,24 +49,24 @@ capped-free : (u : ℕ) (o : Option ℕ) (m : Naming) → IsCapped m → IsCappe
 capped-free u None m f = capped-bring u m f
 capped-free u (Some i) m f = f
 
-capped-one : (u : ℕ) (m : Naming) → IsCapped m → IsCapped (name_one u m)
+pub capped-one : (u : ℕ) (m : Naming) → IsCapped m → IsCapped (name_one u m)
 capped-one u m f = go (nat_lt u m.watermark)
   where
     go : (b : Bool) → IsCapped (if b then bring_if_free u (m.names u) m else bring_next (suc u - m.watermark) m)
     go true = capped-free u (m.names u) m f
     go false = capped-next (suc u - m.watermark) m f
 
-capped-all : (d : List Literal) (m : Naming) → IsCapped m → IsCapped (name_all d m)
+pub capped-all : (d : List Literal) (m : Naming) → IsCapped m → IsCapped (name_all d m)
 capped-all [] m f = f
 capped-all (l ∷ d) m f = capped-all d (name_one (variable_of l) m) (capped-one (variable_of l) m f)
 
-capped-freed : (u : ℕ) (m : Naming) → IsCapped m → IsCapped (free_name u m)
+pub capped-freed : (u : ℕ) (m : Naming) → IsCapped m → IsCapped (free_name u m)
 capped-freed u m f v h = updated-all (λ v o. o ≡ None) m.names u None refl v (λ n. f v h)
 
 capped-given : (u i : ℕ) (m : Naming) → IsCapped m → IsCapped (give_name u i m)
 capped-given u i m f v h = updated-other m.names u (Some i) v (λ e. absurd (omega arith)) ∙ f v (omega arith)
 
-capped-shown : (us : List ℕ) (old new : Naming) → AreShown us old new → IsCapped old → IsCapped new
+pub capped-shown : (us : List ℕ) (old new : Naming) → AreShown us old new → IsCapped old → IsCapped new
 capped-shown [] old new e f = subst IsCapped (sym e) f
 capped-shown (u ∷ us) old new (least, (i, made, unnamed, rest)) f = capped-shown us (give_name u i old) new rest (capped-given u i old f)
 
@@ -463,14 +463,14 @@ enable-checking v s t (Err e) g a = absurd a
 
 -- 9. A model.
 
-model-sat : (m : Naming) (v : Verdict) (model : List Literal) → Some model ≡ model_of m v → (a : Assignment) × (v ≡ Sat a)
+pub model-sat : (m : Naming) (v : Verdict) (model : List Literal) → Some model ≡ model_of m v → (a : Assignment) × (v ≡ Sat a)
     × (model ≡ list_names m a 0 m.watermark)
 model-sat m Unknown model e = absurd cc
 model-sat m (Sat a) model e = (a, refl, cc)
 model-sat m Unsat model e = absurd cc
 model-sat m (UnsatUnderAssumptions core) model e = absurd cc
 
-no-model : (m : Naming) (v : Verdict) → None ≡ model_of m v → answer_of v ≡ Some true → ⊥
+pub no-model : (m : Naming) (v : Verdict) → None ≡ model_of m v → answer_of v ≡ Some true → ⊥
 no-model m Unknown e x = cc
 no-model m (Sat a) e x = cc
 no-model m Unsat e x = let z : false ≡ true = cc in cc

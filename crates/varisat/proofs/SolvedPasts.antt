@@ -90,7 +90,7 @@ counted v w s t r k (Searched u c) = Searched (undecided v s k u) c
 counted v w s t r k (Decided n e told) = Decided (known-by v s k n) e told
 
 -- some assignment satisfies the clauses and the assumptions where true is returned
-some-with : (s t : State) → TellsVerdict calling (once_searched s) true t → IsSatisfiableWith s.clauses s.assumptions
+pub some-with : (s t : State) → TellsVerdict calling (once_searched s) true t → IsSatisfiableWith s.clauses s.assumptions
 some-with s t r =
     let (a, e) = answer-sat t.verdict r.right.answer in
     let right = subst (IsRight t.clauses t.assumptions t.counted) e r.right.right in
@@ -113,7 +113,7 @@ conflict-told s t r n = go t.verdict refl
         absurd (r.right.core list e (none list (subst (λ A. list ⊆ A) ((same-assumptions r.rest) ∙ n) fails.0)))
 
 -- and none does where false is
-none-with : (s t : State) → TellsVerdict calling (once_searched s) false t → IsSatisfiableWith s.clauses s.assumptions → ⊥
+pub none-with : (s t : State) → TellsVerdict calling (once_searched s) false t → IsSatisfiableWith s.clauses s.assumptions → ⊥
 none-with s t r =
     subst (λ P. IsSatisfiableWith P s.assumptions → ⊥) (same-clauses r.rest)
     (subst (λ A. IsSatisfiableWith t.clauses A → ⊥) (same-assumptions r.rest)

@@ -17,6 +17,7 @@ pub mod Turns
 pub mod Moments
 pub mod Runs
 pub mod Histories
+pub mod Answers
 pub mod Laws
 pub mod Searches
 pub mod Accepted

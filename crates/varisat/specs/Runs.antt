@@ -1,9 +1,10 @@
 -- Runs: which answers a list of calls may get, and to which state it leads.
-use Rattle.std.specs.Prelude.{◌-◌, ◌^◌, ◌<◌, List, [], ◌∷◌}
+use Rattle.std.specs.Prelude.{◌-◌, ◌^◌, ◌<◌, Bool, true, false, Option, None, List, [], ◌∷◌}
 use Rattle.varisat_formula.specs.Streams.{Stand, Taken}
-use Rattle.varisat.specs.States.{State}
+use Rattle.varisat.specs.States.{State, Verdict}
 use Rattle.varisat.specs.Journals.{IsJournal, IsToldWithin}
-use Rattle.varisat.specs.Calls.{IsValid, calling}
+use Rattle.varisat.specs.Calls.{IsValid, calling, answer_of}
+use Rattle.varisat.specs.Answers.{Story}
 use Rattle.varisat.specs.Turns.{Makes, MakesInTurn}
 use Rattle.varisat.specs.declared.session.Call.{Call}
 use Rattle.varisat.specs.declared.session.Answer.{Answer}
@@ -16,6 +17,22 @@ MakesCall seen taken s c a t = Makes calling seen taken s c a t
 -- The calls in turn may get the answers in turn, one each, and lead from one state to the other.
 abbrev pub Run : {W S A : Type 0} → (S → Stand) → (W → Taken) → State → List (Call W S A) → List (Answer W S A) → State → Type 0
 Run seen taken s calls answers t = MakesInTurn calling seen taken s calls answers t
+
+-- what was found last, in a solver that is valid
+abbrev pub found_in : Bool → Verdict → Option Bool
+found_in true verdict = answer_of verdict
+found_in false verdict = None
+
+-- the story of which the state is the end
+abbrev pub story_now : State → Story
+story_now s = record {
+  naming = s.naming;
+  clauses = s.clauses;
+  assumptions = s.assumptions;
+  mentioned = s.counted;
+  found = found_in s.ledger.valid s.verdict;
+  valid = s.ledger.valid;
+}
 
 -- As long as it is valid what was told is right, and at most as many of the clauses that its lines add count as steps were made.
 abbrev pub HasToldRight : State → Type 0

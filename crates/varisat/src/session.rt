@@ -2,10 +2,11 @@
 ghost use Rattle.std.specs.Prelude.{◌≡◌, [], IfOk, OnErr};
 ghost use Rattle.varisat.specs.States.{State, empty_state};
 ghost use Rattle.varisat.specs.Summaries.{StandsFor, StandsOnce};
-ghost use Rattle.varisat.specs.Runs.{MakesCall, Run, HasToldRight, MayStillFail, AreReady};
+ghost use Rattle.varisat.specs.Runs.{MakesCall, Run, HasToldRight, MayStillFail, AreReady, story_now};
 ghost use Rattle.varisat.specs.Calls.{calling};
 ghost use Rattle.varisat.specs.Pasts.{empty_past, telling};
 ghost use Rattle.varisat.specs.Histories.{AreTrue};
+ghost use Rattle.varisat.specs.Answers.{AreAnswered, empty_story};
 ghost use Rattle.varisat.specs.Moments.{HasFewSteps, HasFewStepsAlong};
 
 use crate::solver::{Solver, SolverError};
@@ -101,16 +102,18 @@ pub fn make_call<W: ProofTarget, S: ByteSource, A: Allocator + Copy>(
     }
 }
 
-/// Makes the calls in turn, and returns their answers in this order. Behind each call what was told is right, as long as
-/// the solver is valid. At each moment fewer than (n+2)*2^(n+2) steps were made since the last change, where n variables
-/// are counted, and so fewer than 2^(2n+3). Err comes only before the first call, where the list of answers was refused.
-/// Of what the calls are given the same is asked as by `make_call`.
+/// Makes the calls in turn, and returns their answers in this order: they mean what `answers_of` says, over what the
+/// solver has before. Behind each call what was told is right, as long as the solver is valid. At each moment fewer than
+/// (n+2)*2^(n+2) steps were made since the last change, where n variables are counted, and so fewer than 2^(2n+3). Err
+/// comes only before the first call, where the list of answers was refused. Of what the calls are given the same is asked
+/// as by `make_call`.
 pub fn run<W: ProofTarget, S: ByteSource, A: Allocator + Copy>(
     solver: &mut Solver<W, A>,
     calls: Vec<Call<W, S, A>, A>,
 ) -> Result<Vec<Answer<W, S, A>, A>, AllocError>
     requires { AreReady S.stand W.taken calls.items }
     ensures run { IfOk result (λ answers. StandsOnce solver.old (λ s t. Run S.stand W.taken s calls.items answers.items t) solver.new) }
+    ensures answers { IfOk result (λ answers. (s : State) → StandsFor solver.old s → AreAnswered S.stand (story_now s) calls.items answers.items) }
     ensures few { IfOk result (λ answers. (s : State) → StandsFor solver.old s →
         HasFewStepsAlong calling S.stand W.taken s calls.items answers.items) }
     ensures err { OnErr result (solver.new ≡ solver.old) }
@@ -123,15 +126,17 @@ pub fn run<W: ProofTarget, S: ByteSource, A: Allocator + Copy>(
     Ok(answers)
 }
 
-/// The answers of a new solver to the calls. Each is true of what the calls and answers before it say: of the clauses
-/// that were accepted until then, those of formulas and texts among them, of the names in use, of what a proof would have
-/// been told, and of the steps since the last change, of which few were made at each moment. Of what the calls are given
-/// the same is asked as by `run`.
+/// The answers of a new solver to the calls. `answers` says what they mean, and is to be read first: true comes with a
+/// model and false with a failed core, of the clauses that were accepted until then, those of formulas and texts among
+/// them, and of the assumptions given last. `truth` says it too, and all else that the calls and answers before say: when
+/// a call is refused, what a proof would have been told, and how many steps were made since the last change, of which
+/// few were made at each moment. Of what the calls are given the same is asked as by `run`.
 pub fn answers_of<W: ProofTarget, S: ByteSource, A: Allocator + Copy>(
     calls: Vec<Call<W, S, A>, A>,
 ) -> Result<Vec<Answer<W, S, A>, A>, AllocError>
     requires { AreReady S.stand W.taken calls.items }
     ensures run { IfOk result (λ answers. (t : State) × Run S.stand W.taken empty_state calls.items answers.items t × HasToldRight t) }
+    ensures answers { IfOk result (λ answers. AreAnswered S.stand empty_story calls.items answers.items) }
     ensures truth { IfOk result (λ answers. AreTrue S.stand W.taken empty_past calls.items answers.items) }
     ensures few { IfOk result (λ answers. HasFewStepsAlong telling S.stand W.taken empty_past calls.items answers.items) }
 {

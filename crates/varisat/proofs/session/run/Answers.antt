@@ -6,6 +6,7 @@ use Rattle.varisat.specs.Runs.{Run, AreReady}
 use Rattle.varisat.proofs.ToldJournals.{journal-of}
 use Rattle.varisat.proofs.RunsTold.{run-push, ready-next}
 use Rattle.varisat.proofs.FewSteps.{run-stays-few}
+use Rattle.varisat.proofs.StoryAnswers.{run-is-answered}
 use Rattle.varisat.proofs.session.run.Goals as goal
 
 pub loop-call-init : goal.loop-call-init
@@ -49,6 +50,14 @@ returns-clause-run g c s st =
     let e = sym (append-nil c.loop-call.yielded) ∙ ap (λ xs. c.loop-call.yielded ++ xs) (sym none) ∙ c.loop-call.invariant.whole in
     let (t, r, q) = c.loop-call.invariant.so_far s st in
     (t, subst (λ cs. Run g.S.ByteSource.stand g.W.ProofTarget.taken s cs c.loop-call.answers.items t) e r, q)
+
+pub returns-clause-answers : goal.returns-clause-answers
+returns-clause-answers g c s st =
+    let none = nil_from_length (into_iter_items c.loop-call.call-iterator) (sym c.loop-call.invariant.left ∙ c.in-None.ensures.steps.0) in
+    let e = sym (append-nil c.loop-call.yielded) ∙ ap (λ xs. c.loop-call.yielded ++ xs) (sym none) ∙ c.loop-call.invariant.whole in
+    let (t, r, q) = c.loop-call.invariant.so_far s st in
+    run-is-answered g.S.ByteSource.stand g.W.ProofTarget.taken c.args.calls.items c.loop-call.answers.items _ s t st
+    (subst (λ cs. Run g.S.ByteSource.stand g.W.ProofTarget.taken s cs c.loop-call.answers.items t) e r)
 
 pub returns-clause-few : goal.returns-clause-few
 returns-clause-few g c s st =

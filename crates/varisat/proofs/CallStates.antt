@@ -214,12 +214,12 @@ abbrev pub broken : Option OpenProof → ℕ → State → State
 broken proof words s = record s { ledger = record s.ledger { valid = false }; proof = proof; words = words }
 
 pub broken-invalid : (faults : ℕ) (s : State) (proof : Option OpenProof) (words : ℕ) → s.ledger.valid ≡ true → GoesOnFailing faults s.proof proof →
-    IsWellFormed s → Invalidates faults s (broken proof words s)
-broken-invalid faults s proof words v o w = record { valid = v; ledger = refl; proof = o; well_formed = told-well s (broken proof words s) w }
+    Invalidates faults s (broken proof words s)
+broken-invalid faults s proof words v o = record { valid = v; ledger = refl; proof = o }
 
 -- so it is where memory ran out before the proof was told anything
-pub broken-untold : (s : State) (words : ℕ) → s.ledger.valid ≡ true → IsWellFormed s → Invalidates 0 s (broken s.proof words s)
-broken-untold s words v w = broken-invalid 0 s s.proof words v (goes-on-unfailed s.proof) w
+pub broken-untold : (s : State) (words : ℕ) → s.ledger.valid ≡ true → Invalidates 0 s (broken s.proof words s)
+broken-untold s words v = broken-invalid 0 s s.proof words v (goes-on-unfailed s.proof)
 
 -- a clause could not be kept
 pub adds-broken : (e : StepError) (s t : State) (d : Clause) → (step_faults e ≡ 1 → IsOpen s.proof) → MayAccept calling s → MayConstrain s.naming d →

@@ -15,7 +15,7 @@ use Rattle.varisat_names.specs.declared.config.SolverConfigUpdate.{SolverConfigU
 use Rattle.varisat_names.proofs.Maps.{updated-other, updated-all}
 use Rattle.varisat.specs.OpenProofs.{OpenProof, BarsAssumptions}
 use Rattle.varisat.specs.ProofCalls.{OpensProof, EnablesChecking, IsProofIfOpen, Closes}
-use Rattle.varisat.specs.States.{Known, State, Ledger, Verdict, Unknown, Sat, Unsat, UnsatUnderAssumptions, new_state, IsRight, HasRightVerdict, IsWellFormed}
+use Rattle.varisat.specs.States.{Known, State, Ledger, Verdict, Unknown, Sat, Unsat, UnsatUnderAssumptions, new_state, IsRight, HasRightVerdict}
 use Rattle.varisat.specs.Names.{Naming, Mode, bring, bring_next, bring_if_free, name_one, name_all, through_names, free_name, set_mode, give_name, AreShown}
 use Rattle.varisat.specs.Models.{list_names, model_of, IsCompletable}
 use Rattle.varisat.specs.Additions as additions
@@ -148,19 +148,7 @@ broken-past faults v s t b = record {
   valid = b.valid;
   ledger = b.ledger;
   proof = b.proof;
-  well_formed = record {
-    one_to_one = w.one_to_one;
-    free = w.free;
-    named = w.named;
-    accepted = w.accepted;
-    assumed = w.assumed;
-    counted = w.counted;
-    once = w.once;
-  };
 }
-  where
-    w : IsWellFormed t
-    w = b.well_formed
 
 pub no-way : {faults : ℕ} (s t : State) → Invalidates faults s t → IsValid t → ⊥
 no-way s t b c = let z : false ≡ true = sym (ap (λ (l : Ledger). l.valid) b.ledger) ∙ c in cc

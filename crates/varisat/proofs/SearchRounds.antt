@@ -6,13 +6,13 @@ use Rattle.std.proofs.lemmas.List.{append-nil, append_cancel_left}
 use Rattle.varisat_theory.specs.Journals.{Entry, GoesOn}
 use Rattle.varisat_proof.specs.Proving.{marked_searched}
 use Rattle.varisat.specs.OpenProofs.{OpenProof, opened_state, IsOpen, GoesOnWriting, GoesOnFailing, searched_under, lines_over}
-use Rattle.varisat.specs.States.{State, Ledger, IsWellFormed, Unknown, Unsat}
+use Rattle.varisat.specs.States.{State, Ledger, Unknown, Unsat}
 use Rattle.varisat.specs.ProofCalls.{with_proof}
 use Rattle.varisat.specs.Summaries.{Summary, StandsFor, EndsSearch, spaces}
 use Rattle.varisat.specs.Calls.{IsLike, IsValid, is_valid, Invalidates, CountsCall, CountsIf, Decided, Searched, HasVerdict, Searches, Solves, with_steps, once_searched, calling, TellsVerdict, IsSpent, FailsStep, IsStoreFull, with_max_steps, with_verdict}
 use Rattle.varisat.specs.declared.solver.SolverError.{SolverError}
 use Rattle.varisat.specs.declared.solver.SolverError.TheVariants.{Interrupted, ProofIoError, OutOfMemory, Invalid, ClauseStoreFull, WitnessVar, VariableLimit, AssumedVar, ClauseAfterSolve, ProofOpen, ProofTooLate, ConfigOutOfRange, Dimacs}
-use Rattle.varisat.proofs.CallStates.{same-ledger, stands-valid, proof-fits, flags-alike, told-well, broken, same-assumptions, same-by, same-clauses, same-counted, same-hidden, same-naming, same-verdict, ledger-is}
+use Rattle.varisat.proofs.CallStates.{same-ledger, stands-valid, proof-fits, flags-alike, broken, same-assumptions, same-by, same-clauses, same-counted, same-hidden, same-naming, same-verdict, ledger-is}
 use Rattle.varisat.proofs.AcceptClause.{proof-free}
 use Rattle.varisat.proofs.Targets.{flushed-open}
 use Rattle.varisat.proofs.OpenProofs.{goes-on-searched, goes-on-failing, open-before, open-there, searched-state, searched-written, fitted-before, flushed-on, barred-marked, barred-fitted, goes-on-none, goes-on-through}
@@ -106,37 +106,36 @@ counts-broken s t r cause now (Searched u k) = Searched u (counts-otherwise s t 
 counts-broken s t r cause now (Decided n e told) = Decided n e (λ v. absurd (let z : false ≡ true = v in cc))
 
 broken-after : (s t : State) (now : Option OpenProof) → IsValid s → t.ledger ≡ (with_steps t.ledger.steps s).ledger →
-    GoesOnWriting (searched_under s.proof) (searched_under t.proof) → GoesOnFailing 1 (searched_under t.proof) now → IsWellFormed t →
+    GoesOnWriting (searched_under s.proof) (searched_under t.proof) → GoesOnFailing 1 (searched_under t.proof) now →
     Invalidates 1 (with_steps t.ledger.steps (once_searched s)) (broken now t.words t)
-broken-after s t now v e more f w = record {
+broken-after s t now v e more f = record {
   valid = v;
   ledger = ap (λ (l : Ledger). record l { valid = false }) e;
   proof = goes-on-failing 1 (searched_under s.proof) (searched_under t.proof) now more f;
-  well_formed = told-well t (broken now t.words t) w;
 }
 
 -- the open proof could not be flushed
 pub ends-badly : (s t : State) (r : Result Bool SolverError) (cause : Error) (now : Option OpenProof) → Searches s r t → IsValid t → IsOpen t.proof →
-    IsWellFormed t → GoesOnFailing 1 (searched_under t.proof) now → Solves calling s (Err (ProofIoError cause)) (broken now t.words t)
-ends-badly s t (Ok b) cause now h v o w f = (
+    GoesOnFailing 1 (searched_under t.proof) now → Solves calling s (Err (ProofIoError cause)) (broken now t.words t)
+ends-badly s t (Ok b) cause now h v o f = (
   open-before s.proof t.proof h.rest.proof o,
   inr (
     counts-broken s t (Ok b) cause now h.steps,
-    broken-after s t now h.valid (same-ledger h.rest) (goes-on-searched s.proof t.proof h.rest.proof) f w,
+    broken-after s t now h.valid (same-ledger h.rest) (goes-on-searched s.proof t.proof h.rest.proof) f,
   ),
 )
-ends-badly s t (Err Interrupted) cause now h v o w f = (
+ends-badly s t (Err Interrupted) cause now h v o f = (
   open-before s.proof t.proof h.rest.proof o,
   inr (
     Searched h.unknown (counts-otherwise s t (Err Interrupted) cause h.steps),
-    broken-after s t now h.valid (same-ledger h.rest) (goes-on-searched s.proof t.proof h.rest.proof) f w,
+    broken-after s t now h.valid (same-ledger h.rest) (goes-on-searched s.proof t.proof h.rest.proof) f,
   ),
 )
-ends-badly s t (Err Invalid) cause now h v o w f = let z : false ≡ true = sym h.0 ∙ ap (λ (x : State). is_valid x) (sym h.1) ∙ v in absurd cc
-ends-badly s t (Err OutOfMemory) cause now h v o w f = absurd (invalid-valid _ _ t h.2 v)
-ends-badly s t (Err ClauseStoreFull) cause now (h, full) v o w f = absurd (invalid-valid _ _ t h.2 v)
-ends-badly s t (Err (ProofIoError first)) cause now (q, h) v o w f = absurd (invalid-valid _ _ t h.2 v)
-ends-badly s t (Err e) cause now h v o w f = absurd h
+ends-badly s t (Err Invalid) cause now h v o f = let z : false ≡ true = sym h.0 ∙ ap (λ (x : State). is_valid x) (sym h.1) ∙ v in absurd cc
+ends-badly s t (Err OutOfMemory) cause now h v o f = absurd (invalid-valid _ _ t h.2 v)
+ends-badly s t (Err ClauseStoreFull) cause now (h, full) v o f = absurd (invalid-valid _ _ t h.2 v)
+ends-badly s t (Err (ProofIoError first)) cause now (q, h) v o f = absurd (invalid-valid _ _ t h.2 v)
+ends-badly s t (Err e) cause now h v o f = absurd h
 
 -- 2. What stands for them.
 
@@ -198,7 +197,7 @@ solve-fails g h s t r (ProofIoError cause) k st v (o, e) =
       broken now t.words t,
       ends-badly s t r cause now k (stands-valid g t st v)
           (open-there g.opened t.variables t.told t.proof true (proof-fits st v) (sym (flushed-open g.opened h.opened cause o)) refl)
-          (st.fits v).1.well_formed f,
+          f,
       stands-broken g h t now e same st,
     )
 solve-fails g h s t r e k st v f = absurd f
@@ -373,20 +372,10 @@ invalid-on : (faults k n a : ℕ) (s m t : State) → WentOn a s m → m.ledger.
     Invalidates faults (with_steps t.ledger.steps (with_max_steps k m)) t →
     Invalidates faults (with_steps t.ledger.steps (with_max_steps n s)) (with_max_steps n t)
 invalid-on faults k n a s m t w low i =
-    let f = i.well_formed in
     record {
       valid = sym w.valid ∙ i.valid;
       ledger = ledger-on k n a s m t false w low i.ledger;
       proof = goes-on-failing faults s.proof m.proof t.proof w.proof i.proof;
-      well_formed = record {
-        one_to_one = f.one_to_one;
-        free = f.free;
-        named = f.named;
-        accepted = f.accepted;
-        assumed = f.assumed;
-        counted = f.counted;
-        once = f.once;
-      };
     }
 
 -- no step is taken back

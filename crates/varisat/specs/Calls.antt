@@ -17,7 +17,7 @@ use Rattle.varisat_proof.specs.declared.proof.format.ProofFormat.{ProofFormat}
 use Rattle.varisat_proof.specs.Lines.{has_marks}
 use Rattle.varisat.specs.Journals.{retold, TellsMore, BeginsAdding, AreDerived, EndBy, IsJournal}
 use Rattle.varisat.specs.OpenProofs.{IsOpen, BarsClauses, BarsAssumptions, searched_under, lines_over, GoesOnWriting, GoesOnFailing}
-use Rattle.varisat.specs.States.{Known, State, join_counted, Verdict, Unknown, Sat, Unsat, UnsatUnderAssumptions, HasRightVerdict, IsWellFormed}
+use Rattle.varisat.specs.States.{Known, State, join_counted, Verdict, Unknown, Sat, Unsat, UnsatUnderAssumptions, HasRightVerdict}
 use Rattle.varisat.specs.Names.{Naming, name_one, name_all, through_names, IsLeastFree, NameNoWitness, IsFirstWitness}
 use Rattle.varisat.specs.Models.{model_of, IsCoreToTell}
 use Rattle.varisat_names.specs.declared.config.SolverConfigUpdate.{SolverConfigUpdate}
@@ -52,14 +52,12 @@ pub record IsLikeButLeft {V : Type 0} (may_leave : Bool) (s t : Known V) : Type 
 abbrev pub IsLike : {V : Type 0} → Known V → Known V → Type 0
 IsLike s t = IsLikeButLeft false s t
 
--- An error from which there is no way back: from then on the state is invalid. Nothing else is told of it but that it is
--- well-formed, what the ledger tells, and that an open proof stays with its target, which has further bytes and failed just as
--- often as the error tells.
+-- An error from which there is no way back: from then on the state is invalid. Nothing else is told of it but the ledger, and that an
+-- open proof stays with its target, which has further bytes and failed just as often as the error tells.
 pub record Invalidates {V : Type 0} (faults : ℕ) (s t : Known V) : Type 0 where
   pub valid : IsValid s
   pub ledger : t.ledger ≡ record s.ledger { valid = false }
   pub proof : GoesOnFailing faults s.proof t.proof
-  pub well_formed : IsWellFormed t
 
 -- A clause of as many literals as identities were made, with the three words before its literals, would bring the clause store to
 -- 2^32 words or more.

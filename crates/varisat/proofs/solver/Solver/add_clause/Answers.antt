@@ -123,7 +123,7 @@ returns-in_err-end_change-clause-call g c s st =
           (λ f. broken-open old.tracer.proof new.tracer.proof s.variables s.told s.proof (proof-fits q ok)
           (subst (λ n. BreaksProof old.tracer.proof n new.tracer.proof) f fails)) bad
           (may-constrain _ s q ok c.args.clause.now c.in_ok-check_names.ensures.0 c.in_ok-check_names.ensures.1)
-          (broken-invalid (step_faults error) s now words (stands-valid _ s q ok) goes (q.fits ok).1.well_formed)
+          (broken-invalid (step_faults error) s now words (stands-valid _ s q ok) goes)
           (λ f. let room = full f in let few = size f s (q.fits ok) in omega (arith, room, few))),
       stands-broken (tracer_state old.tracer) (tracer_state new.tracer) old.started old.changed_at c.end_change.new.changed_at old.ctx new.ctx
           c.end_change.new.ctx s now q made count (ap (λ (x : Plan). x.steps) k.schedule) k.solver_config fails.2 same,

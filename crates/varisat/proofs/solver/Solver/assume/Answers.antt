@@ -109,7 +109,7 @@ returns-in_err-end_change-clause-call g c s st =
           (λ f. broken-open old.tracer.proof new.tracer.proof s.variables s.told s.proof (proof-fits q ok)
           (subst (λ n. BreaksProof old.tracer.proof n new.tracer.proof) f fails)) free
           (may-constrain _ s q ok c.args.lits.now c.in_ok-check_names.ensures.0 c.in_ok-check_names.ensures.1)
-          (broken-invalid (step_faults error) s now words (stands-valid _ s q ok) goes (q.fits ok).1.well_formed)),
+          (broken-invalid (step_faults error) s now words (stands-valid _ s q ok) goes)),
       stands-broken (tracer_state old.tracer) (tracer_state new.tracer) old.started old.changed_at c.end_change.new.changed_at old.ctx new.ctx
           c.end_change.new.ctx s now q made count (ap (λ (x : Plan). x.steps) k.schedule) k.solver_config fails.2 same,
     )

@@ -9,7 +9,7 @@ use Rattle.varisat.specs.States.{Ledger}
 use Rattle.varisat.specs.Summaries.{Summary, spaces_with, StandsForSome}
 use Rattle.varisat.specs.Calls.{count_anew}
 use Rattle.varisat.specs.ProofCalls.{with_proof, ClosesProof}
-use Rattle.varisat.proofs.CallStates.{stands-valid, told-well, broken, broken-invalid}
+use Rattle.varisat.proofs.CallStates.{stands-valid, broken, broken-invalid}
 use Rattle.varisat.proofs.ChangeEnds.{stands-broken}
 use Rattle.varisat.proofs.OpenProofs.{closed-back, closed-fails}
 use Rattle.varisat.proofs.SettingsCalls.{stands-with-proof}
@@ -71,7 +71,7 @@ returns-in-Err-clause-call g c s st =
         closed-fails g.W.ProofTarget.taken (opened_state s.proof) c.in-Err.cause
             (ProofIoError c.in-Err.cause) c.in-Err.target closed,
         proof-of _ s q ok,
-        broken-invalid 0 (with_proof None s) None words (stands-valid _ s q ok) (refl, refl) (told-well s (with_proof None s) (q.fits ok).1.well_formed),
+        broken-invalid 0 (with_proof None s) None words (stands-valid _ s q ok) (refl, refl),
       ),
       stands-broken (tracer_state inside.tracer) (record { tables = inside.tracer.tables; proof = c.close_proof.new.proof }) inside.started
           inside.changed_at inside.changed_at inside.ctx inside.ctx c.invalidate.new.ctx s None q c.invalidate.ensures.invalid refl refl refl

@@ -125,7 +125,7 @@ returns-in_err-user g c s st =
       broken s.proof words s,
       subst (λ r. MakesVar s r (broken s.proof words s)) (sym refused) (
         (c.next_unmapped_user-next.result, least, omega (arith, c.index.ensures.index, c.max_count.ensures, c.if-index-max_count.false)),
-        broken-untold s words (stands-valid _ s q (ap not c.in_ok-ensure_valid.ensures)) f.1.well_formed,
+        broken-untold s words (stands-valid _ s q (ap not c.in_ok-ensure_valid.ensures)),
       ),
       stands-broken (tracer_state inside.tracer) (record { tables = c.new_user_var-made.new.variables; proof = inside.tracer.proof })
           inside.started inside.changed_at c.end_change.new.changed_at inside.ctx inside.ctx c.end_change.new.ctx s s.proof q made count

@@ -74,7 +74,7 @@ returns-in_err-names g c s st =
     let words = length inside.ctx.clause_alloc.words in
     let refused = told-error c.from_residual-in_err-names.result c.in_err-names.field-0.0 c.from_residual-in_err-names.ensures ∙ ap Err told in (
       broken s.proof words s,
-      subst (λ r. Observes s (told_vars r) (broken s.proof words s)) (sym refused) (broken-untold s words k.valid k.fits.1.well_formed),
+      subst (λ r. Observes s (told_vars r) (broken s.proof words s)) (sym refused) (broken-untold s words k.valid),
       stands-broken (tracer_state inside.tracer) (record { tables = c.observe_internal_vars-shown.new.variables; proof = inside.tracer.proof })
           inside.started inside.changed_at c.end_change.new.changed_at inside.ctx inside.ctx c.end_change.new.ctx s s.proof q made count
           refl refl refl q.same,

@@ -24,7 +24,7 @@ use Rattle.varisat.specs.declared.solver.SolverError.{SolverError}
 use Rattle.varisat.specs.declared.solver.SolverError.TheVariants.{Interrupted, ClauseStoreFull, Invalid}
 use Rattle.varisat_search.specs.StepErrors.{step_faults}
 use Rattle.varisat.specs.Refusals.{step_refusal, told_faults}
-use Rattle.varisat.proofs.CallStates.{ledger-is, more-since, stands-valid, proof-fits, told-well, broken, broken-invalid, searches-broken}
+use Rattle.varisat.proofs.CallStates.{ledger-is, more-since, stands-valid, proof-fits, broken, broken-invalid, searches-broken}
 use Rattle.varisat.proofs.AcceptClause.{few-made}
 use Rattle.varisat.specs.Changes.{invalidated}
 use Rattle.varisat.proofs.SettingsCalls.{summary_of, stands-same}
@@ -307,8 +307,7 @@ returns-in-Err-clause-call g c s st =
           (searches-broken c.in-Err.error s (broken now words (with_steps n s))
           (λ f. broken-open c.self.inside.tracer.proof c.find_verdict.new.tracer.proof s.variables s.told s.proof (proof-fits q ok)
           (subst (λ k. BreaksProof c.self.inside.tracer.proof k c.find_verdict.new.tracer.proof) f c.in-Err.ensures.broken)) was counts
-          (broken-invalid (step_faults c.in-Err.error) (with_steps n s) now words (stands-valid _ s q ok) goes
-          (told-well s (with_steps n s) (q.fits ok).1.well_formed))
+          (broken-invalid (step_faults c.in-Err.error) (with_steps n s) now words (stands-valid _ s q ok) goes)
           (λ f. let room = c.in-Err.ensures.full f in let size = c.in-Err.ensures.size f in
           let few = few-made (q.fits ok).0 _ s (q.fits ok).1 in omega (arith, room, size, few))),
       stands-same (tracer_state c.find_verdict.new.tracer) c.self.inside.started c.self.inside.changed_at (invalidated c.find_verdict.new.ctx)

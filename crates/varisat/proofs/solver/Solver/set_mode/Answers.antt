@@ -99,7 +99,7 @@ returns-in_err-end_change g c s st =
       broken s.proof words s,
       subst (λ r. ChangesMode c.args.mode s c.args.var r (broken s.proof words s)) (sym refused)
           (mode-broken c.args.mode (broken s.proof words s) c.args.var k may.in_range (unassumed-state c.args.var k may.unassumed)
-          (rw is at c.change_mode-changed.ensures.free) (broken-untold s words k.valid k.fits.1.well_formed)),
+          (rw is at c.change_mode-changed.ensures.free) (broken-untold s words k.valid)),
       stands-broken (tracer_state old.tracer) (tracer_state new) old.started old.changed_at c.end_change.new.changed_at old.ctx old.ctx
           c.end_change.new.ctx s s.proof q made count refl refl (ap (λ (p : ProofParts). is_there p.checker) proof)
           (ap (λ (p : ProofParts). p.opened) proof ∙ k.proof.same),

@@ -30,7 +30,8 @@ use Rattle.varisat.specs.Names.{Naming, bring, bring_next, bring_if_free, name_o
 use Rattle.varisat.specs.Calls.{with_naming, VerdictAfter, Refuted, Reopened, append_clause, reopened_verdict, with_verdict}
 use Rattle.varisat_tracer.specs.Carried.{carry, told_as}
 use Rattle.varisat.specs.Carried.{value_or}
-use Rattle.varisat.specs.Spaces.{Spaces, Carrying, IsWide, translation, SearchHolds, CoreFits, without_core, VerdictFits, Links, SpacesFit, FitWithNew}
+use Rattle.varisat.specs.Spaces.{Spaces, Carrying, translation, SearchHolds, CoreFits, without_core, VerdictFits, Links, SpacesFit, FitWithNew}
+use Rattle.varisat.specs.Usage.{IsWide}
 use Rattle.varisat_theory.specs.Journals.{Entry, Accepts, written}
 use Rattle.varisat_proof.specs.Calls.{CheckerState}
 use Rattle.varisat_proof.specs.Proving.{IsCheckedIf}

@@ -25,7 +25,8 @@ use Rattle.varisat.specs.Names.{through_names}
 use Rattle.varisat.specs.Calls.{ContradictsUnit, VerdictAfter, Refuted, Reopened}
 use Rattle.varisat_tracer.specs.Carried.{carry, told_as}
 use Rattle.varisat.specs.Carried.{is_forced}
-use Rattle.varisat.specs.Spaces.{Spaces, Carrying, IsWide, IsApart, IsolationCase, NotIsolated, Apart, Forced, IsolationFits, Translation, translation, CheckerFits, SharesHeld, IsCounted, IsGone, TellsWhole, SearchHolds, CoreFits, without_core, VerdictFits, Links}
+use Rattle.varisat.specs.Spaces.{Spaces, Carrying, IsolationCase, NotIsolated, Apart, Forced, IsolationFits, Translation, translation, CheckerFits, SharesHeld, IsCounted, IsGone, TellsWhole, SearchHolds, CoreFits, without_core, VerdictFits, Links}
+use Rattle.varisat.specs.Usage.{IsWide, IsApart}
 use Rattle.varisat.proofs.SpacesAgree.{AreTaken, solver_literal, IsTouched, IsMarkedFor, accept, AreLong, AreInUse, map-map, holds-same, isolation-same, marks-same}
 use Rattle.varisat_names.proofs.Maps.{chain-some, chain-through}
 use Rattle.varisat.proofs.SearchLinks.{relinked-marks, answers-covers, fixed-on, refuted}

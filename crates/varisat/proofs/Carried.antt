@@ -11,7 +11,8 @@ use Rattle.varisat.specs.Names.{identity_of}
 use Rattle.varisat_tracer.specs.Carried.{carry}
 use Rattle.varisat_tracer.specs.RenamedEntries.{carry-opposites}
 use Rattle.varisat.specs.Carried.{AgreesAlong, is_value, is_forced}
-use Rattle.varisat.specs.Spaces.{IsWide}
+use Rattle.varisat.specs.Spaces.{}
+use Rattle.varisat.specs.Usage.{IsWide}
 
 pub map-empty : (f : Literal → Literal) (c : Clause) → map f c ≡ [] → c ≡ []
 map-empty f [] e = refl

@@ -10,7 +10,8 @@ use Rattle.varisat.specs.States.{State, IsWellFormed}
 use Rattle.varisat.specs.Names.{Witness, give_name, IsUnnamed}
 use Rattle.varisat.specs.Calls.{with_naming}
 use Rattle.varisat_tracer.specs.Carried.{carry}
-use Rattle.varisat.specs.Spaces.{Spaces, Carrying, IsApart, ModeFits, NamesFit, ModesFit, IsolationCase, NotIsolated, Apart, Forced, AssumptionsFit, MarksFit, Links}
+use Rattle.varisat.specs.Spaces.{Spaces, Carrying, ModeFits, NamesFit, ModesFit, IsolationCase, NotIsolated, Apart, Forced, AssumptionsFit, MarksFit, Links}
+use Rattle.varisat.specs.Usage.{IsApart}
 use Rattle.varisat.proofs.SpacesAgree.{identities-same, units-same, isolation-same, carry-same, map-same, core-same}
 use Rattle.varisat.proofs.VariableMoves.{in_mode, show}
 use Rattle.varisat.proofs.HiddenStates.{field-same}

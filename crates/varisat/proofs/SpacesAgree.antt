@@ -9,7 +9,8 @@ use Rattle.varisat_names.specs.VarData.{fresh}
 use Rattle.varisat_names.specs.declared.variables.data.VarData.{VarData}
 use Rattle.varisat.specs.States.{State, Verdict, Unknown, Sat, Unsat, UnsatUnderAssumptions}
 use Rattle.varisat_tracer.specs.Carried.{carry}
-use Rattle.varisat.specs.Spaces.{Spaces, IsWide, MarksFit, ModeFits, IdentitiesFit, NamesFit, ModesFit, UnitsFit, IsolationCase, NotIsolated, Apart, Forced, IsolationFits, SolversFit, Translation, IsKnownTrue, IsSettledBy, SharesHeld, HeldFits, SearchHolds, AssumptionsFit, WorkingFits, CoreFits, VerdictFits}
+use Rattle.varisat.specs.Spaces.{Spaces, MarksFit, ModeFits, IdentitiesFit, NamesFit, ModesFit, UnitsFit, IsolationCase, NotIsolated, Apart, Forced, IsolationFits, SolversFit, Translation, IsKnownTrue, IsSettledBy, SharesHeld, HeldFits, SearchHolds, AssumptionsFit, WorkingFits, CoreFits, VerdictFits}
+use Rattle.varisat.specs.Usage.{IsWide}
 use Rattle.varisat_theory.specs.Renaming.{rename}
 use Rattle.varisat_theory.specs.Held.{SameClauses}
 use Rattle.varisat_theory.specs.Journals.{Leads}

@@ -25,6 +25,7 @@ use Rattle.varisat.specs.Names.{Mode, Sample, Witness}
 use Rattle.varisat.specs.Models.{put_name}
 use Rattle.varisat_proof.specs.Passing.{ToldConflict}
 use Rattle.varisat_tracer.specs.Carried.{carry}
+use Rattle.varisat.specs.Usage.{IsApart}
 use Rattle.varisat.specs.Carried.{AgreesAlong, is_forced}
 
 -- The maps as functions; how many global variables were made, what is kept of each of them, and its value in the model found
@@ -53,14 +54,6 @@ pub record Carrying : Type 0 where
   pub identity : ℕ → Option ℕ
   pub global : ℕ → Option ℕ
   pub forced : ℕ → Option Bool
-
--- two or more different literals, and no literal with its opposite
-abbrev pub IsWide : Clause → Type 0
-IsWide c = ((l m : Literal) × (l ∈ c) × (m ∈ c) × (l ≢ m)) × (IsTautology c → ⊥)
-
--- no wide clause names the identity
-abbrev pub IsApart : List Clause → ℕ → Type 0
-IsApart P i = (c : Clause) (l : Literal) → c ∈ P → IsWide c → l ∈ c → variable_of l ≡ i → ⊥
 
 -- the mode in which a variable is kept is that of its identity; a hidden one has no name, and so no mode
 abbrev pub ModeFits : SamplingMode → Mode → Type 0

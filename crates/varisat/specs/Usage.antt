@@ -1,18 +1,26 @@
 -- How the calls move names that set the mode of a variable, hide it, and bring hidden ones back.
 --
 -- Refusals are looked for in this order: Invalid; VariableLimit; AssumedVar; OutOfMemory.
-use Rattle.std.specs.Prelude.{◌≡◌, ℕ, ◌<◌, ◌≤◌, Bool, true, false, None, Some, List, ◌⊎◌, Result, Ok, Err}
+use Rattle.std.specs.Prelude.{◌≡◌, ◌≢◌, ℕ, ◌<◌, ◌≤◌, Bool, true, false, None, Some, List, ◌⊎◌, Result, Ok, Err}
 use Rattle.varisat_theory.specs.Membership.{◌∈◌}
 use Rattle.varisat_theory.specs.Literals.{Literal, Clause, Assignment, variable_of, SatisfiesAll}
+use Rattle.varisat_theory.specs.Searches.{IsTautology}
 use Rattle.varisat_literals.specs.Numbers.{variable_limit}
 use Rattle.varisat_names.specs.declared.variables.data.SamplingMode.{SamplingMode}
 use Rattle.varisat_names.specs.declared.variables.data.SamplingMode.TheVariants as sampling
 use Rattle.varisat.specs.Names.{Mode, Sample, Witness, Naming, name_one, free_name, set_mode, IsUnnamed, AreShown}
 use Rattle.varisat.specs.States.{Known}
 use Rattle.varisat.specs.Calls.{IsCrowded, IsValid, IsRefusedInvalid, IsLikeButLeft, Invalidates, with_naming, count_anew}
-use Rattle.varisat.specs.Spaces.{IsApart}
 use Rattle.varisat.specs.declared.solver.SolverError.{SolverError}
 use Rattle.varisat.specs.declared.solver.SolverError.TheVariants.{OutOfMemory, Invalid, VariableLimit, AssumedVar}
+
+-- two or more different literals, and no literal with its opposite
+abbrev pub IsWide : Clause → Type 0
+IsWide c = ((l m : Literal) × (l ∈ c) × (m ∈ c) × (l ≢ m)) × (IsTautology c → ⊥)
+
+-- no wide clause names the identity
+abbrev pub IsApart : List Clause → ℕ → Type 0
+IsApart P i = (c : Clause) (l : Literal) → c ∈ P → IsWide c → l ∈ c → variable_of l ≡ i → ⊥
 
 -- Hidden variables came back under these names. Those that did not may stay hidden: no wide clause names them, or all assignments that
 -- satisfy the clauses agree on them.

@@ -20,6 +20,7 @@ pub mod HiddenTables
 pub mod HiddenStates
 pub mod Histories
 pub mod StoryAnswers
+pub mod WrongAnswers
 pub mod VariableMoves
 pub mod LineLemmas
 pub mod ModelsFit

@@ -18,6 +18,7 @@ pub mod Moments
 pub mod Runs
 pub mod Histories
 pub mod Answers
+pub mod WrongAnswers
 pub mod Laws
 pub mod Searches
 pub mod Accepted

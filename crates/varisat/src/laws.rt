@@ -1,6 +1,7 @@
 //! What holds of names as long as none is freed, and so for a user who hides nothing; of a core that is found; and of a
-//! check of a proof's bytes.
+//! check of a proof's bytes; and that `answers` of `answers_of` rules wrong answers out.
 ghost use Rattle.varisat.specs.Laws.{NamesStayInOrder, NamesAreIdentities, GivenIsAccepted, CrowdedIsPastLimit};
+ghost use Rattle.varisat.specs.WrongAnswers.{WrongAnswersFitNoStory};
 ghost use Rattle.varisat.specs.Laws.{CoresAreTold, CoresAreWritten, BytesAreAccepted, MarkedProofsPass};
 
 /// Names come into use in order.
@@ -43,4 +44,10 @@ pub fn marked_proofs_pass()
 /// that the program leaves, Refutation where they refute the clauses, and Derivation else.
 pub fn bytes_are_accepted()
     ensures { BytesAreAccepted }
+{}
+
+/// The clause `answers` of `answers_of` rules these wrong answers out: models and cores that lack a name or do not come,
+/// a verdict that forgets a clause or assumptions, answers to other calls, and those behind an error without a way back.
+pub fn wrong_answers_fit_no_story()
+    ensures { WrongAnswersFitNoStory }
 {}

@@ -5,6 +5,7 @@ pub mod Assigned
 pub mod Growth
 pub mod Implication
 pub mod Sound
+pub mod RatLines
 pub mod ConflictForms
 pub mod Saturated
 pub mod Learning

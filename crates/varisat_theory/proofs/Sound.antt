@@ -20,7 +20,7 @@ falsified : (a : Assignment) (c : Clause) → (Satisfies a c → ⊥) → MakesT
 falsified a c n x h =
     ⊎_elim (λ t. t) (λ t. absurd (n (opposite x, opposites-∈ x c h, t))) (true_or_opposite a x)
 
-satisfied_or_not : (a : Assignment) (c : Clause) → Satisfies a c ⊎ (Satisfies a c → ⊥)
+pub satisfied_or_not : (a : Assignment) (c : Clause) → Satisfies a c ⊎ (Satisfies a c → ⊥)
 satisfied_or_not a [] = inr (λ s. s.1)
 satisfied_or_not a (l ∷ c) =
     ⊎_elim

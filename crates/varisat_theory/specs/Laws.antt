@@ -4,6 +4,7 @@ use Rattle.varisat_theory.specs.Membership.{◌∈◌, ◌⊆◌, SameSet, IsDis
 use Rattle.varisat_theory.specs.Literals.{Literal, Clause, Assignment, opposite, opposites, Satisfies, SatisfiesAll, MakesTrue, IsSatisfiable, IsSatisfiableWith, Entails, IsUnit, IsFailedCore}
 use Rattle.varisat_theory.specs.Propagation.{IsFalse, HasFalse, PropagatesToConflict, Conflicts, Follows, IsCoveredBy, IsComplete, IsSaturated}
 use Rattle.varisat_theory.specs.Derivations.{Line, TakesOut, IsPresentAfter, IsDerivation, Refutes, Derives}
+use Rattle.varisat_theory.specs.Rat.{ResolventsFollow, DerivesByDrat}
 use Rattle.varisat_theory.specs.Held.{SameClauses, SameLines, without}
 use Rattle.varisat_theory.specs.Analysis.{Implied, IsTrail, HasEarlierReasons, EndsIn, MarksAreReasoned}
 use Rattle.varisat_theory.specs.Example.{small_clauses, small_conflict, small_reason, small_resolved, small_learned, small_assumption, small_core}
@@ -27,6 +28,16 @@ DerivationIsSound = (P : List Clause) (lines : List Line) (Q : List Clause) (a :
 -- what lines refute is not satisfiable
 abbrev pub RefutationIsSound : Type 0
 RefutationIsSound = (P : List Clause) (lines : List Line) → Refutes P lines → IsSatisfiable P → ⊥
+
+-- where a clause is RAT on one of its literals, what is satisfiable stays so with it
+abbrev pub RatIsSound : Type 0
+RatIsSound = (P : List Clause) (c : Clause) (l : Literal) → l ∈ c → ResolventsFollow P c l → IsSatisfiable P → IsSatisfiable (P ++ c ∷ [])
+
+-- lines of DRAT keep clauses satisfiable: where propagation conflicts behind them, those at first are not
+abbrev pub DratIsSound : Type 0
+DratIsSound =
+    ((P : List Clause) (lines : List Line) (Q : List Clause) → DerivesByDrat P lines Q → IsSatisfiable P → IsSatisfiable Q)
+    × ((P : List Clause) (lines : List Line) (Q : List Clause) → DerivesByDrat P lines Q → Conflicts Q [] → IsSatisfiable P → ⊥)
 
 -- an assignment to all literals under which no clause is false satisfies the clauses
 abbrev pub AssignedSatisfies : Type 0

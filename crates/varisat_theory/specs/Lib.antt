@@ -2,6 +2,7 @@ pub mod Membership
 pub mod Literals
 pub mod Propagation
 pub mod Derivations
+pub mod Rat
 pub mod Held
 pub mod Analysis
 pub mod Example

@@ -1,6 +1,6 @@
 //! What propagation and derivations say of satisfying assignments, and the forms that they have.
 
-ghost use Rattle.varisat_theory.specs.Laws.{AnswersExclude, AssignedSatisfies, ConflictIsPropagation, ConflictIsSound, DerivationIsLineByLine, DerivationIsSound, FollowsEntails, PresentIsDetermined, RefutationIsSound, SaturationHasNoConflict, SetsAreSatisfiedAlike};
+ghost use Rattle.varisat_theory.specs.Laws.{AnswersExclude, AssignedSatisfies, ConflictIsPropagation, ConflictIsSound, DerivationIsLineByLine, DerivationIsSound, DratIsSound, FollowsEntails, PresentIsDetermined, RatIsSound, RefutationIsSound, SaturationHasNoConflict, SetsAreSatisfiedAlike};
 
 /// Where propagation conflicts, nothing satisfies the clauses and the base.
 pub fn conflict_is_sound()
@@ -20,6 +20,16 @@ pub fn derivation_is_sound()
 /// What lines refute is not satisfiable.
 pub fn refutation_is_sound()
     ensures { RefutationIsSound }
+{}
+
+/// A RAT clause may join what is satisfiable.
+pub fn rat_is_sound()
+    ensures { RatIsSound }
+{}
+
+/// Lines of DRAT keep clauses satisfiable.
+pub fn drat_is_sound()
+    ensures { DratIsSound }
 {}
 
 /// An assignment to all literals under which no clause is false satisfies the clauses.

@@ -59,7 +59,7 @@ clash_more known i r e n f x h o =
 pub clash_none : (known : List Literal) (i : ℕ) → length known ≤ i → ((x : ℕ) → x ∈ take i known → opposite x ∈ known → ⊥) → HasClash known → ⊥
 clash_none known i l f h = f h.0 (∈-take_all h.0 known i l h.1) h.2
 
-opposites_append : (xs ys : List ℕ) → opposites (xs ++ ys) ≡ opposites xs ++ opposites ys
+pub opposites_append : (xs ys : List ℕ) → opposites (xs ++ ys) ≡ opposites xs ++ opposites ys
 opposites_append [] ys = refl
 opposites_append (x ∷ xs) ys = ap (λ l. opposite x ∷ l) (opposites_append xs ys)
 

@@ -11,7 +11,7 @@ use Rattle.varisat_theory.proofs.Saturated.{saturated_no_conflict, complete_fewe
 use Rattle.varisat_theory.proofs.Implication.{implied_known, implied_clash, implied_more, implied_alone}
 use Rattle.varisat_theory.proofs.Growth.{conflicts_known}
 use Rattle.varisat_plain.proofs.Scans.{answers_true, answers_false}
-use Rattle.varisat_present.specs.Knowing.{AreImplied, Keeps, Saturates, TakesBase, Asks, IsSpare}
+use Rattle.varisat_present.specs.Knowing.{AreImplied, Keeps, Finds, Saturates, TakesBase, Asks, Sees, IsSpare}
 use Rattle.varisat_present.proofs.KnownGrowth.{complete_both, grows_part, cut_back}
 
 -- 1. A clause joins.
@@ -120,6 +120,22 @@ asks_saturated P old base mid new found h a s = record {
   joined = s.finds.grows.joined ∙ ap (λ x. x ++ s.finds.grows.more) a.joined ∙ append_assoc old a.more s.finds.grows.more;
   right = asks_right P old base mid new found h a s;
 }
+
+pub sees_clash : (P : List Clause) (old base new : List Literal) → AreImplied P [] old → TakesBase old base true new → Sees P old base true new
+sees_clash P old base new h a = let w = asks_clash P old base new h a in record { more = w.more; joined = w.joined; right = w.right.0 }
+
+pub sees_found : (P : List Clause) (old base mid new : List Literal) (seen : Bool) → AreImplied P [] old → TakesBase old base false mid →
+    Finds P mid seen new → Sees P old base seen new
+sees_found P old base mid new seen h a f = record {
+  more = a.more ++ f.grows.more;
+  joined = f.grows.joined ∙ ap (λ x. x ++ f.grows.more) a.joined ∙ append_assoc old a.more f.grows.more;
+  right = λ t. implied_known P base new (f.grows.implied base (from_base P old base mid false h a)) (f.conflict t);
+}
+
+pub keeps_after : (b : Bool) (P : List Clause) (old base new : List Literal) (seen : Bool) (n : ℕ) → n ≡ length old → Keeps b P old →
+    Sees P old base seen new → Keeps b P (take n new)
+keeps_after b P old base new seen n e k a =
+    subst (λ (x : List Literal). Keeps b P x) (sym (ap (λ i. take i new) e ∙ cut_back old new a.more a.joined)) k
 
 pub keeps_cut : (b : Bool) (P : List Clause) (old base new : List Literal) (found : Bool) (n : ℕ) → n ≡ length old → Keeps b P old →
     Asks P old base found new → Keeps b P (take n new)

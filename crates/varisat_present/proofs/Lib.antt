@@ -6,4 +6,5 @@ pub mod FarPlaces
 pub mod PlacedClauses
 pub mod KnownGrowth
 pub mod KeptLiterals
+pub mod RatPlaces
 pub mod LookedWatches

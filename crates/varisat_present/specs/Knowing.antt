@@ -62,6 +62,12 @@ pub record Asks (P : List Clause) (old base : List Literal) (found : Bool) (new 
   pub joined : new ≡ old ++ more
   pub right : IsTrue found ↔ Conflicts P base
 
+-- The same, where a conflict may be overlooked.
+pub record Sees (P : List Clause) (old base : List Literal) (seen : Bool) (new : List Literal) : Type 0 where
+  pub more : List Literal
+  pub joined : new ≡ old ++ more
+  pub right : seen ≡ true → Conflicts P base
+
 -- a literal of a clause joined that was not known
 abbrev pub Joins : List Clause → List Literal → List Literal → Type 0
 Joins P old new = (c : Clause) × (l : Literal) × (c ∈ P) × (l ∈ c) × (l ∈ old → ⊥) × (l ∈ new)

@@ -1,3 +1,4 @@
 pub mod Places
 pub mod Knowing
 pub mod Visits
+pub mod Resolving

@@ -8,8 +8,9 @@ pub mod known;
 mod places;
 pub mod present;
 mod propagation;
+mod resolvents;
 pub mod sets;
 mod watches;
 
 pub use known::Known;
-pub use present::PresentClauses;
+pub use present::{Deletion, PresentClauses};

@@ -4,16 +4,19 @@ ghost use Rattle.varisat_plain.specs.Checking.{IsAbsent};
 ghost use Rattle.varisat_theory.specs.Derivations.{TakesOut};
 ghost use Rattle.varisat_theory.specs.Held.{without};
 ghost use Rattle.varisat_theory.specs.Literals.{Clause, opposites, IsUnit};
+ghost use Rattle.varisat_theory.specs.Rat.{IsRat, ResolventsFollow};
 ghost use Rattle.varisat_theory.specs.Membership.{◌∈◌, SameSet};
-ghost use Rattle.varisat_theory.specs.Propagation.{Conflicts, Follows, HasClash, IsComplete};
+ghost use Rattle.varisat_theory.specs.Propagation.{Conflicts, Follows, HasClash, IsComplete, LeavesOnly};
 ghost use Rattle.varisat_present.specs.Places.{present, present_at};
-ghost use Rattle.varisat_present.specs.Knowing.{IsSpare, Asks, AreImplied, Keeps};
+ghost use Rattle.varisat_present.specs.Knowing.{IsSpare, Asks, Sees, AreImplied, Keeps};
+ghost use Rattle.varisat_present.specs.Resolving.{AllConflict, IsForced, TellsDeletion, TellsResolvent};
 
-use crate::clause::{is_quiet, status_of};
+use crate::clause::{holds, is_quiet, status_of};
 use crate::index::{ClauseIndex, key_of};
 use crate::known::Known;
 use crate::places::{clause_at, drop_mentions, find_place, has_clause, is_equal_at};
 use crate::propagation::{assume, propagate, saturate};
+use crate::resolvents::{add_others, negated};
 use crate::watches::Watches;
 use std::alloc::{AllocError, Allocator};
 use std::marker::Model;
@@ -136,6 +139,27 @@ fn is_spare<A: Allocator + Copy>(
     }
 }
 
+/// Whether all literals of the clause but one are false.
+fn leaves_one<A: Allocator + Copy>(known: &Known<A>, clause: &[Lit]) -> bool
+    ensures { result ≡ true → (l : ℕ) × (l ∈ clause.now) × LeavesOnly known.now clause.now l }
+{
+    match status_of(known, clause) {
+        ClauseStatus::Leaves(_) => true,
+        ClauseStatus::False | ClauseStatus::Open => false,
+    }
+}
+
+/// What becomes of a deletion that may be passed over.
+#[derive(Clone, Copy)]
+pub enum Deletion {
+    /// One clause that is equal as a set was taken out.
+    Taken,
+    /// It stays, since all literals of it but one are implied to be false: it may be why the last one is implied.
+    Kept,
+    /// There is none.
+    Absent,
+}
+
 /// Whether propagation from the base conflicts, where literals that the clauses imply are known.
 fn ask<A: Allocator + Copy>(
     places: &[Option<Vec<Lit, A>>],
@@ -158,6 +182,79 @@ fn ask<A: Allocator + Copy>(
     }
     let found = saturate(places, known, watches)?;
     Ok(found)
+}
+
+/// The same, as far as watches lead: where it is seen to conflict it does.
+fn ask_watches<A: Allocator + Copy>(
+    places: &[Option<Vec<Lit, A>>],
+    known: &mut Known<A>,
+    watches: &mut Watches<A>,
+    base: &[Lit],
+) -> Result<bool, AllocError>
+    requires no_clash { HasClash known.old → ⊥ }
+    requires implied { AreImplied (present places.now) [] known.old }
+    ensures { IfOk result (λ seen. Sees (present places.now) known.old base.now seen known.new) }
+{
+    let count = known.len();
+    let clashes = assume(known, base)?;
+    if clashes {
+        return Ok(true);
+    }
+    let seen = propagate(places, known, watches, count)?;
+    Ok(seen)
+}
+
+/// Whether propagation conflicts from the base and the opposites of the other literals of the clause at the place, if
+/// that has the literal.
+fn resolvent_conflicts<A: Allocator + Copy>(
+    alloc: A,
+    places: &[Option<Vec<Lit, A>>],
+    place: usize,
+    known: &mut Known<A>,
+    watches: &mut Watches<A>,
+    base: &[Lit],
+    literal: Lit,
+) -> Result<bool, AllocError>
+    requires no_clash { HasClash known.old → ⊥ }
+    requires implied { AreImplied (present places.now) [] known.old }
+    ensures { IfOk result (λ found. TellsResolvent places.now place base.now literal known.old found known.new) }
+{
+    let clause = match clause_at(places, place) {
+        None => return Ok(true),
+        Some(clause) => clause,
+    };
+    if !holds(clause, literal) {
+        return Ok(true);
+    }
+    let mut both = Vec::from_slice(alloc, base)?;
+    add_others(&mut both, clause, literal)?;
+    let found = ask(places, known, watches, &both)?;
+    Ok(found)
+}
+
+/// Whether that is so for the clauses at all places.
+fn resolvents_conflict<A: Allocator + Copy>(
+    alloc: A,
+    places: &[Option<Vec<Lit, A>>],
+    known: &mut Known<A>,
+    watches: &mut Watches<A>,
+    base: &[Lit],
+    literal: Lit,
+) -> Result<bool, AllocError>
+    requires no_clash { HasClash known.old → ⊥ }
+    requires implied { AreImplied (present places.now) [] known.old }
+    ensures found { IfOk result (λ found. IsTrue found ↔ AllConflict (present places.now) (present places.now) base.now literal) }
+    ensures stays { OnOk result (known.new ≡ known.old) }
+{
+    let count = known.len();
+    for place in 0..places.len() {
+        let found = resolvent_conflicts(alloc, places, place, known, watches, base, literal)?;
+        known.cut(count);
+        if !found {
+            return Ok(false);
+        }
+    }
+    Ok(true)
 }
 
 impl<A: Allocator + Copy> PresentClauses<A> {
@@ -259,6 +356,29 @@ impl<A: Allocator + Copy> PresentClauses<A> {
         true
     }
 
+    /// Whether all literals of the clause but one are implied to be false.
+    fn is_forced(&self, clause: &[Lit]) -> bool
+        ensures { result ≡ true → IsForced self.now clause.now }
+    {
+        leaves_one(&self.known, clause)
+    }
+
+    /// Takes out one clause that is equal as a set, unless it may be why a literal is implied.
+    pub fn take_out_spare(&mut self, clause: &[Lit]) -> Deletion
+        ensures { TellsDeletion self.old clause.now result self.new }
+    {
+        if self.is_forced(clause) {
+            if self.has(clause) {
+                return Deletion::Kept;
+            }
+            return Deletion::Absent;
+        }
+        if self.take_out(clause) {
+            return Deletion::Taken;
+        }
+        Deletion::Absent
+    }
+
     /// Takes out the clauses with a literal of the variable. It looks at every clause.
     pub fn drop_mentions(&mut self, var: Var)
         ensures { self.new ≡ without var self.old }
@@ -319,11 +439,72 @@ impl<A: Allocator + Copy> PresentClauses<A> {
         ensures found { IfOk result (λ found. IsTrue found ↔ Follows self.old clause.now) }
         ensures stays { self.new ≡ self.old }
     {
-        let mut base = Vec::new(self.alloc);
-        for l in clause {
-            base.push(!*l)?;
-        }
+        let base = negated(self.alloc, clause)?;
         let found = self.conflicts(&base)?;
+        Ok(found)
+    }
+
+    /// Whether the clause is seen to follow, as far as watches lead. It looks at no other clauses.
+    pub fn is_seen_to_follow(&mut self, clause: &[Lit]) -> Result<bool, AllocError>
+        ensures seen { IfOk result (λ seen. seen ≡ true → Follows self.old clause.now) }
+        ensures stays { self.new ≡ self.old }
+    {
+        let is_refuted = self.is_refuted()?;
+        if is_refuted {
+            return Ok(true);
+        }
+        let base = negated(self.alloc, clause)?;
+        let count = self.known.len();
+        match ask_watches(&self.places, &mut self.known, &mut self.watches, &base) {
+            Ok(seen) => {
+                self.known.cut(count);
+                Ok(seen)
+            }
+            Err(error) => {
+                self.known.cut(0);
+                self.is_saturated = false;
+                Err(error)
+            }
+        }
+    }
+
+    /// Whether the clause is RAT on the literal: each clause with the opposite literal follows once the clause's
+    /// literals replace that. It looks at every clause.
+    fn is_rat_on(&mut self, clause: &[Lit], literal: Lit) -> Result<bool, AllocError>
+        ensures found { IfOk result (λ found. IsTrue found ↔ ResolventsFollow self.old clause.now literal) }
+        ensures stays { self.new ≡ self.old }
+    {
+        let is_refuted = self.is_refuted()?;
+        if is_refuted {
+            return Ok(true);
+        }
+        let base = negated(self.alloc, clause)?;
+        match resolvents_conflict(
+            self.alloc,
+            &self.places,
+            &mut self.known,
+            &mut self.watches,
+            &base,
+            !literal,
+        ) {
+            Ok(found) => Ok(found),
+            Err(error) => {
+                self.known.cut(0);
+                self.is_saturated = false;
+                Err(error)
+            }
+        }
+    }
+
+    /// Whether the clause is RAT on its first literal. It looks at every clause.
+    pub fn is_rat(&mut self, clause: &[Lit]) -> Result<bool, AllocError>
+        ensures found { IfOk result (λ found. IsTrue found ↔ IsRat self.old clause.now) }
+        ensures stays { self.new ≡ self.old }
+    {
+        if clause.is_empty() {
+            return Ok(false);
+        }
+        let found = self.is_rat_on(clause, clause[0])?;
         Ok(found)
     }
 }

@@ -1,19 +1,9 @@
-use Rattle.std.proofs.Common.{ap, refl, ◌∙◌}
-use Rattle.std.proofs.lemmas.List.{take_all}
-use Rattle.varisat_theory.specs.Literals.{opposite, opposites}
-use Rattle.varisat_plain.proofs.Scans.{opposites_more}
-use Rattle.std.proofs.lemmas.List.{get_or_read}
+use Rattle.std.proofs.Common.{refl, ◌∙◌}
+use Rattle.varisat_theory.specs.Literals.{opposites}
 use Rattle.varisat_present.proofs.KeptLiterals.{found_there}
 use Rattle.varisat_present.proofs.present.PresentClauses.follows.Goals as goal
-
-pub loop-l-preserved : goal.loop-l-preserved
-loop-l-preserved g c =
-    opposites_more c.args.clause.now c.loop-l.l-index c.loop-l.base.items c.push.new.self.items c.not.result c.loop-l-test.true c.loop-l.invariant
-    c.in_ok-push.ensures.items
-    (c.not.ensures ∙ ap opposite (get_or_read c.args.clause.now c.loop-l.l-index c.l-item.result c.loop-l-test.true c.l-item.is 0))
 
 pub returns-clause-found : goal.returns-clause-found
 returns-clause-found g c =
     found_there c.args.self.now c.args.self.now c.deref.result.now (opposites c.args.clause.now) _ refl
-    (c.deref.ensures.value ∙ c.loop-l.invariant ∙ ap opposites (take_all c.loop-l.l-index c.args.clause.now c.loop-l-test.false))
-    c.in_ok-found.ensures.found
+    (c.deref.ensures.value ∙ c.in_ok-base.ensures) c.in_ok-found.ensures.found

@@ -1,0 +1,38 @@
+-- What questions of RAT find, and what becomes of deletions that may be passed over.
+use Rattle.std.specs.Prelude.{◌≡◌, ◌⊎◌, ℕ, Bool, true, false, List, [], ◌++◌, Option, Some, Vec}
+use Rattle.varisat_theory.specs.Membership.{◌∈◌, SameSet}
+use Rattle.varisat_theory.specs.Literals.{Literal, Clause, opposite, opposites}
+use Rattle.varisat_theory.specs.Propagation.{Conflicts}
+use Rattle.varisat_theory.specs.Derivations.{TakesOut}
+use Rattle.varisat_theory.specs.Analysis.{Implied}
+use Rattle.varisat_theory.specs.Rat.{but_for}
+use Rattle.varisat_plain.specs.Checking.{IsAbsent}
+use Rattle.varisat_present.specs.declared.present.Deletion.{Deletion}
+use Rattle.varisat_present.specs.declared.present.Deletion.TheVariants.{Taken, Kept, Absent}
+use Rattle.varisat_present.specs.Places.{present, present_at}
+
+-- all literals of the clause but one are implied to be false
+abbrev pub IsForced : List Clause → Clause → Type 0
+IsForced P c = (l : Literal) × (l ∈ c) × ((m : Literal) → m ∈ c → (m ≡ l) ⊎ Implied P [] (opposite m))
+
+-- the clause was taken out; or it is there, and forced, and stays; or it is not there
+abbrev pub TellsDeletion : List Clause → Clause → Deletion → List Clause → Type 0
+TellsDeletion P c Taken Q = TakesOut P c Q
+TellsDeletion P c Kept Q = ((d : Clause) × (d ∈ P) × SameSet d c) × IsForced P c × (Q ≡ P)
+TellsDeletion P c Absent Q = IsAbsent P c × (Q ≡ P)
+
+-- propagation from the base conflicts, with the other literals of the clause taken as false
+abbrev pub ConflictsBut : List Clause → List Literal → Literal → Clause → Type 0
+ConflictsBut P base l d = Conflicts P (base ++ opposites (but_for l d))
+
+-- so it is for each of these clauses that has the literal
+abbrev pub AllConflict : List Clause → List Clause → List Literal → Literal → Type 0
+AllConflict P cs base l = (d : Clause) → d ∈ cs → l ∈ d → ConflictsBut P base l d
+
+-- so it is for the clause at the place, if that has the literal; the known literals from before are the first ones still
+pub record TellsResolvent {A : Type 0} (places : List (Option (Vec ℕ A))) (place : ℕ) (base : List Literal) (l : Literal)
+    (old : List Literal) (found : Bool) (new : List Literal) : Type 0 where
+  pub more : List Literal
+  pub joined : new ≡ old ++ more
+  pub yes : found ≡ true → (d : Clause) → present_at places place ≡ Some d → l ∈ d → ConflictsBut (present places) base l d
+  pub no : found ≡ false → (d : Clause) × (present_at places place ≡ Some d) × (l ∈ d) × (ConflictsBut (present places) base l d → ⊥)

@@ -13,6 +13,7 @@ pub mod MarkedOnce
 pub mod MarkedJournals
 pub mod PassingJournals
 pub mod CheckResults
+pub mod DratCheck
 pub mod RightResults
 pub mod CheckedSteps
 pub mod MappedSteps

@@ -204,3 +204,16 @@ pub fails_marked : (s t p q : Stand) (start mid : CheckerState) (e : CheckerErro
 fails_marked s t p q start mid e Q b a c f =
     let w = took s t mid (subst (λ x. AddsText (record { checker = x; source = s }) (Ok tt) (record { checker = mid; source = t })) b a) in
     AsChecked mid.clauses w.given (no_bytes (λ bytes. IsMarkedCheck bytes (Err e) [] Q) p q e (λ bytes i. no_marked bytes e [] Q f i) c)
+
+-- A check of a DRAT proof.
+
+pub drat_verified : (s t : Stand) (start mid : CheckerState) (r : Result CheckVerdict CheckerError) (v : Bool) → start ≡ record { clauses = []; spent = false } →
+    AddsText (record { checker = start; source = s }) (Ok tt) (record { checker = mid; source = t }) →
+    (r ≡ Ok Refutation → IsSatisfiable mid.clauses → ⊥) → verdict_of r ≡ Some v → v ≡ true → GivesUnsatisfiable s t
+drat_verified s t start mid r v e a h d b =
+    let w = took s t mid (subst (λ x. AddsText (record { checker = x; source = s }) (Ok tt) (record { checker = mid; source = t })) e a) in
+    (mid.clauses, w.given, h (is_refutation r (d ∙ ap Some b)))
+
+pub drat_status : (s t : Stand) (v : Bool) (n : ℕ) → n ≡ verdict_status v → (v ≡ true → GivesUnsatisfiable s t) → n ≡ 0 → GivesUnsatisfiable s t
+drat_status s t true n e h z = h refl
+drat_status s t false n e h z = absurd (omega arith)

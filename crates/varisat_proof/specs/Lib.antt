@@ -9,6 +9,7 @@ pub mod Marked
 pub mod Results
 pub mod Calls
 pub mod Checks
+pub mod DratChecks
 pub mod Mapping
 pub mod Verified
 pub mod Telling

@@ -134,3 +134,9 @@ EndsCheck format old new status before after =
 -- the same, by the sources
 abbrev pub EndsBy : ProofFormat → Stand → Stand → Stand → Stand → ℕ → Option (List ℕ) → Option (List ℕ) → Type 0
 EndsBy format cnf proof cnf' proof' status before after = EndsCheck format (sources_of cnf proof) (sources_of cnf' proof') status before after
+
+-- How a check of a DRAT proof ends: with a fault, and nothing is written; or it comes to a verdict, which is true and printed.
+abbrev pub EndsByDrat : Stand → Stand → ℕ → Option (List ℕ) → Option (List ℕ) → Type 0
+EndsByDrat old new status before after =
+    ((status ≡ fault_status) × (after ≡ before))
+    ⊎ ((verified : Bool) × (verified ≡ true → GivesUnsatisfiable old new) × EndsPrinting (verdict_status verified) (verdict_text verified) status before after)

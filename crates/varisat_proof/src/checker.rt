@@ -1,6 +1,7 @@
 //! A checker of proofs by unit propagation.
 
 pub mod check;
+pub mod drat;
 pub mod error;
 pub mod line;
 pub mod marked;
@@ -8,5 +9,6 @@ pub mod reader;
 pub mod token;
 
 pub use check::Checker;
+pub use drat::DratCounts;
 pub use error::{CheckVerdict, CheckerError};
 pub use marked::MarkedReport;

@@ -4,9 +4,9 @@ ghost use Rattle.std.specs.Io.KnownBytes.{Appends};
 ghost use Rattle.varisat_formula.specs.Printed.{AppendsPart};
 ghost use Rattle.varisat_proof.specs.declared.checker.error.CheckVerdict.TheVariants.{Refutation};
 ghost use Rattle.varisat_proof.specs.Calls.{is_of_bytes};
-ghost use Rattle.varisat_proof.specs.Verified.{sources_of, Verifies, VerifiesMarked, VerifiesBy, FailsCheck, AreGiven, EndsBy, GivesUnsatisfiable, verdict_of, verdict_text, verdict_status, fault_status};
+ghost use Rattle.varisat_proof.specs.Verified.{sources_of, Verifies, VerifiesMarked, VerifiesBy, FailsCheck, AreGiven, EndsBy, EndsByDrat, GivesUnsatisfiable, verdict_of, verdict_text, verdict_status, fault_status};
 
-use crate::checker::{CheckVerdict, Checker, CheckerError, MarkedReport};
+use crate::checker::{CheckVerdict, Checker, CheckerError, DratCounts, MarkedReport};
 use crate::proof::ProofFormat;
 use std::alloc::Allocator;
 use std::fmt::Display;
@@ -51,6 +51,103 @@ pub fn check_lines<A: Allocator + Copy, S: ByteSource, P: ByteSource, W: Write, 
         },
         Err(error) => tell_fault(err, &error),
     }
+}
+
+/// As `check_lines`, but for the lines that `Checker::check_drat` takes. Why a line fails, and how many lines a check of
+/// plain lines would have refused, is told on `err`. The status is 0 only where no assignment satisfies the text's
+/// clauses.
+pub fn check_drat_lines<A: Allocator + Copy, S: ByteSource, P: ByteSource, W: Write, E: Write>(
+    alloc: A,
+    cnf: &mut S,
+    proof: &mut P,
+    format: ProofFormat,
+    out: &mut W,
+    err: &mut E,
+) -> u8
+    requires cnf_faults { (S.stand cnf.old).faults < 2 ^ 64 - 1 }
+    requires proof_faults { (P.stand proof.old).faults < 2 ^ 64 - 1 }
+    ensures outcome { EndsByDrat (S.stand cnf.old) (S.stand cnf.new) result (W.contents out.old) (W.contents out.new) }
+    ensures truth { result ≡ 0 → GivesUnsatisfiable (S.stand cnf.old) (S.stand cnf.new) }
+{
+    match verify_drat(alloc, cnf, proof, format, err) {
+        Ok(verified) => match write_verdict(out, verified) {
+            Ok(status) => status,
+            Err(error) => tell_fault(err, &error),
+        },
+        Err(error) => tell_fault(err, &error),
+    }
+}
+
+/// Whether a DRAT proof refutes the clauses of the text.
+fn verify_drat<A: Allocator + Copy, S: ByteSource, P: ByteSource, E: Write>(
+    alloc: A,
+    cnf: &mut S,
+    proof: &mut P,
+    format: ProofFormat,
+    err: &mut E,
+) -> Result<bool, CheckerError>
+    requires cnf_faults { (S.stand cnf.old).faults < 2 ^ 64 - 1 }
+    requires proof_faults { (P.stand proof.old).faults < 2 ^ 64 - 1 }
+    ensures { IfOk result (λ verified. verified ≡ true → GivesUnsatisfiable (S.stand cnf.old) (S.stand cnf.new)) }
+{
+    let mut checker = Checker::new_in(alloc);
+    let verified = verify_drat_in(&mut checker, cnf, proof, format, err);
+    drop(checker);
+    verified
+}
+
+/// Whether a DRAT proof refutes the clauses of the text, with a new checker that is lent.
+fn verify_drat_in<A: Allocator + Copy, S: ByteSource, P: ByteSource, E: Write>(
+    checker: &mut Checker<A>,
+    cnf: &mut S,
+    proof: &mut P,
+    format: ProofFormat,
+    err: &mut E,
+) -> Result<bool, CheckerError>
+    requires new { checker.old ≡ record { clauses = []; spent = false } }
+    requires cnf_faults { (S.stand cnf.old).faults < 2 ^ 64 - 1 }
+    requires proof_faults { (P.stand proof.old).faults < 2 ^ 64 - 1 }
+    ensures { IfOk result (λ verified. verified ≡ true → GivesUnsatisfiable (S.stand cnf.old) (S.stand cnf.new)) }
+{
+    match checker.add_dimacs_cnf(cnf) {
+        Ok(()) => {}
+        Err(error) => return Err(error),
+    }
+    let mut counts = DratCounts::new();
+    let checked = checker.check_drat(proof, format, &mut counts);
+    tell_refusal(err, &checked);
+    let verified = is_verified(checked)?;
+    tell_counts(err, &counts);
+    Ok(verified)
+}
+
+/// Tells which line of a DRAT proof, or which byte, is wrong, if one is.
+fn tell_refusal<E: Write>(err: &mut E, checked: &Result<CheckVerdict, CheckerError>) {
+    // Where this writer fails nothing is left to tell of it.
+    match checked {
+        Err(CheckerError::CheckFailed { step }) => {
+            let _ = writeln!(
+                err,
+                "line {step} neither follows nor is RAT on its first literal"
+            );
+        }
+        Err(CheckerError::Parse { offset }) => {
+            let _ = writeln!(err, "no line at byte {offset}");
+        }
+        Ok(CheckVerdict::Derivation) => {
+            let _ = writeln!(err, "the lines refute nothing");
+        }
+        _ => {}
+    }
+}
+
+/// Tells how many lines of a DRAT proof were looked at, and of which kinds.
+fn tell_counts<E: Write>(err: &mut E, counts: &DratCounts) {
+    let (steps, rats, kept, absent) = (counts.steps, counts.rats, counts.kept, counts.absent);
+    let _ = writeln!(
+        err,
+        "lines {steps}, RAT {rats}, deletions passed over: forced {kept}, absent {absent}"
+    );
 }
 
 /// Whether the proof of the format is verified.

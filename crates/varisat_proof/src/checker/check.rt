@@ -14,9 +14,11 @@ ghost use Rattle.varisat_proof.specs.declared.checker.error.CheckerError.TheVari
 ghost use Rattle.varisat_proof.specs.Lines.{line_of_kind};
 ghost use Rattle.varisat_proof.specs.Marked.{state_of};
 ghost use Rattle.varisat_proof.specs.Results.{IsResult};
+ghost use Rattle.varisat_proof.specs.DratChecks.{HasDratVerdict, RefusesDrat};
 ghost use Rattle.varisat_proof.specs.Checks.{TellsStatus, TakesNext, position_of, ReadsNext, EndsBehind, ChecksFrom, result_at_end, ChecksLine, ChecksUnits, ChecksCore, RefusesText};
 ghost use Rattle.varisat_proof.specs.Calls.{with_clause, standing_of, BecomesOrRefuses, AddsText, IsStep, Checks, ChecksMarked, IsMarkedResult, IsTrueReport, IsRightFor, spends};
 
+use crate::checker::drat::{DratCounts, check_source};
 use crate::checker::error::{CheckVerdict, CheckerError};
 use crate::checker::line::LineStatus;
 use crate::checker::marked::{MarkedReport, ReportBuilder};
@@ -538,6 +540,42 @@ impl<A: Allocator + Copy> Checker<A> {
         }
         let mut builder = ReportBuilder::new_in(self.alloc);
         match self.run(&mut builder, source, format.plain_encoding()) {
+            Ok(verdict) => Ok(verdict),
+            Err(error) => {
+                self.end_with(&error);
+                Err(error)
+            }
+        }
+    }
+
+    /// Checks all of the source as one DRAT proof of a solver that simplifies, as `check_proof` but for three kinds of
+    /// lines: a clause that does not follow joins the present ones if it is RAT on its first literal; a deletion that
+    /// finds no clause is passed over; and so is one of a clause of which all literals but one are implied to be false.
+    /// The lines are counted. Refutation implies that no assignment satisfies the clauses that were present as the call
+    /// began; but those that are present later may be satisfied by other assignments than these.
+    pub fn check_drat<S: ByteSource>(
+        &mut self,
+        source: &mut S,
+        format: ProofFormat,
+        counts: &mut DratCounts,
+    ) -> Result<CheckVerdict, CheckerError>
+        requires few { (S.stand source.old).faults < 2 ^ 64 - 1 }
+        ensures derives { IfOk result (λ verdict. HasDratVerdict self.old.clauses self.new.clauses verdict) }
+        ensures why { IfErr result (λ e. RefusesDrat self.old.clauses self.new.clauses e) }
+        ensures refused { self.old.spent ≡ true → (result ≡ Err Spent) × (self.new ≡ self.old) × (source.new ≡ source.old) }
+        ensures spends { IfErr result (λ e. self.new.spent ≡ (self.old.spent || spends e)) }
+        ensures sound { result ≡ Ok Refutation → IsSatisfiable self.old.clauses → ⊥ }
+    {
+        if self.spent {
+            return Err(CheckerError::Spent);
+        }
+        match check_source(
+            self.alloc,
+            &mut self.clauses,
+            counts,
+            source,
+            format.plain_encoding(),
+        ) {
             Ok(verdict) => Ok(verdict),
             Err(error) => {
                 self.end_with(&error);

@@ -18,7 +18,7 @@ use varisat_formula::io::{
     ByteSource, MemoryTarget, ProofTarget, ReadSource, print_text, write_text,
 };
 use varisat_literals::Lit;
-pub use varisat_proof::program::{STATUS_FAULT, check_lines};
+pub use varisat_proof::program::{STATUS_FAULT, check_drat_lines, check_lines};
 
 /// The status of a command that came to its end.
 pub const STATUS_DONE: u8 = 0;

@@ -12,6 +12,7 @@ pub const HELP: &str = "varisat 0.2.2 (proved): a SAT solver
 
     varisat solve FILE [OPTION ..]                   decide a DIMACS CNF text
     varisat check CNF PROOF [--binary | --marked]    check a proof that such a text is unsatisfiable
+    varisat check --drat CNF PROOF [--binary]        the same, where lines may also be RAT
     varisat session                                  call a solver line by line
     varisat COMMAND --help                           tell more of a command
     varisat --help | -h | --version
@@ -71,6 +72,13 @@ unsatisfiable. Prints one of
 PROOF is DRAT, as text or with --binary in the binary format: each added clause has to follow by unit
 propagation. With --marked it is DRAT text in which lines i, q and f tell the clauses that a solver was
 given, its assumptions and its failed cores.
+
+varisat check --drat CNF PROOF [--binary]
+
+The same for proofs of solvers that simplify: an added clause has to follow or to be RAT on its first
+literal. A deletion of what is not there is passed over, and so is one of a clause of which all literals
+but one are implied to be false, as of a single literal. Standard error tells the first wrong line, and
+how many lines were of these kinds.
 ";
 
 /// The command `session`.

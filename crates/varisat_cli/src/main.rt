@@ -5,7 +5,7 @@ ghost use Rattle.std.specs.Prelude.{◌≡◌, ◌≢◌, ◌↔◌, ◌⊎◌, 
 ghost use Rattle.std.specs.Fs.{file_type, IsDir};
 ghost use Rattle.varisat.specs.Decided.{StatusIsTrue};
 ghost use Rattle.varisat.specs.Proven.{CanCountFault, DecidesWithStatus, taken_by_writer};
-ghost use Rattle.varisat_proof.specs.Verified.{GivesUnsatisfiable, EndsCheck, sources_of, fault_status};
+ghost use Rattle.varisat_proof.specs.Verified.{GivesUnsatisfiable, EndsByDrat, EndsCheck, sources_of, fault_status};
 
 mod help;
 
@@ -21,8 +21,8 @@ use std::{env, fs};
 use varisat::io::{IoTarget, ReadSource};
 use varisat::line::parse_number;
 use varisat::program::{
-    STATUS_DONE, STATUS_FAULT, SolveOptions, check_lines, session_lines, solve_lines, tell_fault,
-    tell_usage,
+    STATUS_DONE, STATUS_FAULT, SolveOptions, check_drat_lines, check_lines, session_lines,
+    solve_lines, tell_fault, tell_usage,
 };
 use varisat::proof::ProofFormat;
 use varisat::solver::SolverError;
@@ -81,10 +81,8 @@ fn run_words(rt: &HostRuntime, words: &[String]) -> Option<u8> {
             Some(solve(rt, cnf.as_str(), &found))
         }
         "check" => {
-            let (cnf, others) = operands.split_first()?;
-            let (proof, options) = others.split_first()?;
-            let format = check_format(options)?;
-            Some(check(rt, cnf.as_str(), proof.as_str(), format))
+            let found = check_words(operands)?;
+            Some(check(rt, &found))
         }
         _ => None,
     }
@@ -117,6 +115,35 @@ fn print(rt: &HostRuntime, text: &str) -> u8 {
         Ok(()) => STATUS_DONE,
         Err(error) => tell_fault(&mut err, &error),
     }
+}
+
+// What `check` is asked for: two files, how the proof is written, and whether its lines may be those of solvers that
+// simplify.
+#[derive(Clone, Copy)]
+struct CheckWords<'a> {
+    cnf: &'a str,
+    proof: &'a str,
+    format: ProofFormat,
+    is_drat: bool,
+}
+
+// Reads the words of `check`, of which `--drat` comes first.
+fn check_words(words: &[String]) -> Option<CheckWords<'_>> {
+    let (first, behind) = words.split_first()?;
+    let is_drat = first.as_str() == "--drat";
+    let operands = if is_drat { behind } else { words };
+    let (cnf, others) = operands.split_first()?;
+    let (proof, options) = others.split_first()?;
+    let format = check_format(options)?;
+    if is_drat && format == ProofFormat::Marked {
+        return None;
+    }
+    Some(CheckWords {
+        cnf: cnf.as_str(),
+        proof: proof.as_str(),
+        format,
+        is_drat,
+    })
 }
 
 // The format of the proof that `check` reads: text, binary with `--binary`, or marked text with `--marked`.
@@ -384,34 +411,53 @@ fn decide_text<R: Read + Drop, W: Write, E: Write>(
 }
 
 // Checks the proof in a file against the formula in another, or on standard input.
-fn check(rt: &HostRuntime, cnf_path: &str, proof_path: &str, format: ProofFormat) -> u8 {
-    if cnf_path == STANDARD_INPUT {
-        return check_from(rt, rt.reader(), proof_path, format);
+fn check(rt: &HostRuntime, words: &CheckWords<'_>) -> u8 {
+    if words.cnf == STANDARD_INPUT {
+        return check_from(rt, rt.reader(), words);
     }
     let mut err = rt.stderr();
-    match open_text(rt, cnf_path) {
-        Ok(cnf) => check_from(rt, cnf, proof_path, format),
-        Err(error) => tell_file(&mut err, cnf_path, &error),
+    match open_text(rt, words.cnf) {
+        Ok(cnf) => check_from(rt, cnf, words),
+        Err(error) => tell_file(&mut err, words.cnf, &error),
     }
 }
 
 // Checks the proof in a file against the formula that a reader gives.
-fn check_from<R: Read + Drop>(
-    rt: &HostRuntime,
-    cnf: R,
-    proof_path: &str,
-    format: ProofFormat,
-) -> u8 {
+fn check_from<R: Read + Drop>(rt: &HostRuntime, cnf: R, words: &CheckWords<'_>) -> u8 {
     let mut err = rt.stderr();
-    let proof = match open_text(rt, proof_path) {
+    let proof = match open_text(rt, words.proof) {
         Ok(proof) => proof,
-        Err(error) => return tell_file(&mut err, proof_path, &error),
+        Err(error) => return tell_file(&mut err, words.proof, &error),
     };
     let (mut cnf, mut proof) = (ReadSource::new(cnf), ReadSource::new(proof));
     match BufWriter::new(rt.alloc(), io::writer(rt)) {
-        Ok(mut out) => check_texts(rt, &mut cnf, &mut proof, format, &mut out, &mut err),
+        Ok(mut out) => {
+            if words.is_drat {
+                check_drat_texts(rt, &mut cnf, &mut proof, words.format, &mut out, &mut err)
+            } else {
+                check_texts(rt, &mut cnf, &mut proof, words.format, &mut out, &mut err)
+            }
+        }
         Err(error) => tell_fault(&mut err, &error),
     }
+}
+
+// Checks the proof that a file gives, whose lines may be those of solvers that simplify. The status is 0 only where no
+// assignment satisfies the clauses of the text that was read.
+fn check_drat_texts<R: Read + Drop, W: Write, E: Write>(
+    rt: &HostRuntime,
+    cnf: &mut ReadSource<R>,
+    proof: &mut ReadSource<File>,
+    format: ProofFormat,
+    out: &mut W,
+    err: &mut E,
+) -> u8
+    requires cnf_faults { cnf.old.faults < 2 ^ 64 - 1 }
+    requires proof_faults { proof.old.faults < 2 ^ 64 - 1 }
+    ensures outcome { EndsByDrat cnf.old cnf.new result (W.contents out.old) (W.contents out.new) }
+    ensures truth { result ≡ 0 → GivesUnsatisfiable cnf.old cnf.new }
+{
+    check_drat_lines(rt.alloc(), cnf, proof, format, out, err)
 }
 
 // Checks the proof that a file gives. The status is 0 only where no assignment satisfies the clauses of the text that

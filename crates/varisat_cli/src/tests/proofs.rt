@@ -104,6 +104,130 @@ fn proofs_are_verified(rt: HostRuntime) {
     }
 }
 
+// What a check of the bytes as a DRAT proof of a solver that simplifies prints.
+fn drat_prints(
+    alloc: Global,
+    text: &'static str,
+    proof: &[u8],
+    format: ProofFormat,
+    wanted: Printed,
+) -> bool {
+    let mut out = Vec::new(alloc);
+    let mut err = Vec::new(alloc);
+    let mut cnf = ReadSource::new(Cursor::new(text));
+    let mut lines = ReadSource::new(Cursor::new(proof));
+    let status = check_drat_lines(alloc, &mut cnf, &mut lines, format, &mut out, &mut err);
+    are_printed(&out, &err, status, wanted)
+}
+
+const CUBE: &str =
+    "1 2 3 0\n1 2 -3 0\n1 -2 3 0\n1 -2 -3 0\n-1 2 3 0\n-1 2 -3 0\n-1 -2 3 0\n-1 -2 -3 0\n";
+
+// A text, a proof, and what a check of it prints that takes RAT lines.
+const DRAT_PROOFS: [(&str, &str, Printed); 9] = [
+    // A new variable is defined: no clause has the opposite, and then one has.
+    (
+        CUBE,
+        "4 1 0\n-4 -1 0\n1 2 0\n1 0\n2 0\n",
+        (
+            "s VERIFIED\n",
+            "lines 5, RAT 2, deletions passed over: forced 0, absent 0\n",
+            0,
+        ),
+    ),
+    // The pivot is the first literal: with 1 first the clause is not RAT, with 3 first it is.
+    (
+        "1 2 0\n-1 4 0\n",
+        "1 3 0\n",
+        (
+            "s NOT VERIFIED\n",
+            "line 1 neither follows nor is RAT on its first literal\nlines 1, RAT 0, deletions passed over: forced 0, absent 0\n",
+            1,
+        ),
+    ),
+    (
+        "1 2 0\n-1 4 0\n",
+        "3 1 0\n",
+        (
+            "s NOT VERIFIED\n",
+            "the lines refute nothing\nlines 1, RAT 1, deletions passed over: forced 0, absent 0\n",
+            1,
+        ),
+    ),
+    // The clause that stood in the way is deleted.
+    (
+        "1 2 0\n-1 4 0\n",
+        "d 4 -1 0\n1 3 0\n",
+        (
+            "s NOT VERIFIED\n",
+            "the lines refute nothing\nlines 2, RAT 1, deletions passed over: forced 0, absent 0\n",
+            1,
+        ),
+    ),
+    // It is not, where it is what implies a literal.
+    (
+        "1 0\n-1 4 0\n",
+        "d -1 4 0\nd 1 0\nd 5 6 0\n-4 5 0\n",
+        (
+            "s NOT VERIFIED\n",
+            "line 4 neither follows nor is RAT on its first literal\nlines 4, RAT 0, deletions passed over: forced 2, absent 1\n",
+            1,
+        ),
+    ),
+    // The empty clause is RAT on nothing.
+    (
+        "1 2 0\n",
+        "0\n",
+        (
+            "s NOT VERIFIED\n",
+            "line 1 neither follows nor is RAT on its first literal\nlines 1, RAT 0, deletions passed over: forced 0, absent 0\n",
+            1,
+        ),
+    ),
+    (
+        SQUARE,
+        "2 0\nx\n",
+        (
+            "s NOT VERIFIED\n",
+            "no line at byte 4\nlines 1, RAT 0, deletions passed over: forced 0, absent 0\n",
+            1,
+        ),
+    ),
+    (
+        "1 0\n-1 0\n",
+        "7 0\n",
+        (
+            "s VERIFIED\n",
+            "lines 0, RAT 0, deletions passed over: forced 0, absent 0\n",
+            0,
+        ),
+    ),
+    (
+        "1 2 x\n",
+        "1 0\n",
+        (
+            "",
+            "error: Error in DIMACS input: line 1: UnexpectedInput\n",
+            2,
+        ),
+    ),
+];
+
+#[test]
+fn rat_lines_are_taken(rt: HostRuntime) {
+    let alloc = rt.alloc();
+    for (text, proof, wanted) in DRAT_PROOFS {
+        let bytes = proof.as_bytes();
+        assert!(rt;
+            drat_prints(alloc, text, bytes, ProofFormat::Drat, wanted),
+            "{proof}"
+        );
+    }
+    let binary = b"a\x08\x02\0a\x09\x03\0a\x02\x04\0a\x02\0a\x04\0";
+    let (_, _, wanted) = DRAT_PROOFS[0];
+    assert!(rt; drat_prints(alloc, CUBE, binary, ProofFormat::BinaryDrat, wanted));
+}
+
 // A writer that takes so many writes and so many flushes, and then fails.
 #[derive(Drop)]
 struct CutWriter {

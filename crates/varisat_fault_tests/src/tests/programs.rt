@@ -1,7 +1,7 @@
 //! Commands of the program of which a growth is refused, or a call of a source or of the target of a proof fails: they print
 //! nothing, tell the cause, and end with the status of a fault.
 use std::alloc::{Allocator, Global};
-use varisat::program::{SolveOptions, check_lines, solve_lines};
+use varisat::program::{SolveOptions, check_drat_lines, check_lines, solve_lines};
 use varisat::proof::ProofFormat;
 use varisat_formula::io::{CutSource, CutTarget};
 use varisat_test_heap::CutHeap;
@@ -66,11 +66,21 @@ const ROWS: [Row; 4] = [
     ),
 ];
 
-/// Which command is run, and on what.
+/// A proof with RAT lines, and with a deletion that finds no clause.
+const DRAT_ROW: Row = (
+    "1 2 3 0\n1 2 -3 0\n1 -2 3 0\n1 -2 -3 0\n-1 2 3 0\n-1 2 -3 0\n-1 -2 3 0\n-1 -2 -3 0\n",
+    b"4 1 0\n-4 -1 0\nd 7 8 0\n1 2 0\n1 0\n2 0\n",
+    ProofFormat::Drat,
+    UNSATISFIABLE,
+    VERIFIED,
+);
+
+/// Which command is run, and on what. A check that takes RAT lines tells how many there were.
 #[derive(Clone, Copy)]
 struct Command {
     row: Row,
     is_check: bool,
+    is_drat: bool,
     has_checker: bool,
 }
 
@@ -130,7 +140,11 @@ fn check<A: Allocator + Copy>(alloc: Global, heap: A, command: Command, failing:
     let mut proof = CutSource::new(bytes)
         .in_pieces(0, 1)
         .failing_at(failing.proof);
-    let status = check_lines(heap, &mut cnf, &mut proof, format, &mut out, &mut err);
+    let status = if command.is_drat {
+        check_drat_lines(heap, &mut cnf, &mut proof, format, &mut out, &mut err)
+    } else {
+        check_lines(heap, &mut cnf, &mut proof, format, &mut out, &mut err)
+    };
     let mut calls = NONE;
     calls.cnf = cnf.fills();
     calls.proof = proof.fills();
@@ -155,7 +169,7 @@ fn is_answered(outcome: &Outcome, command: Command) -> bool {
     let (_, _, _, decided, checked) = command.row;
     let (wanted, status) = if command.is_check { checked } else { decided };
     (outcome.out.as_slice() == wanted.as_bytes())
-        & outcome.err.is_empty()
+        & (outcome.err.is_empty() | command.is_drat)
         & (outcome.status == status)
 }
 
@@ -265,6 +279,7 @@ fn each_fault_of_a_command_is_told(rt: HostRuntime) {
             let command = Command {
                 row,
                 is_check,
+                is_drat: false,
                 has_checker,
             };
             let swept = sweep(rt.alloc(), command);
@@ -272,4 +287,17 @@ fn each_fault_of_a_command_is_told(rt: HostRuntime) {
             println!(rt; "{swept:?}").unwrap_or(());
         }
     }
+}
+
+#[test]
+fn each_fault_of_a_check_with_rat_lines_is_told(rt: HostRuntime) {
+    let command = Command {
+        row: DRAT_ROW,
+        is_check: true,
+        is_drat: true,
+        has_checker: false,
+    };
+    let swept = sweep(rt.alloc(), command);
+    assert!(rt; swept.is_some());
+    println!(rt; "{swept:?}").unwrap_or(());
 }

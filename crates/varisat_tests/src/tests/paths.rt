@@ -105,5 +105,7 @@ pub mod session {
 
 /// The commands.
 pub mod program {
-    pub use varisat::program::{SolveOptions, check_lines, session_lines, solve_lines};
+    pub use varisat::program::{
+        SolveOptions, check_drat_lines, check_lines, session_lines, solve_lines,
+    };
 }

@@ -27,6 +27,9 @@ keeps_added b now P c known k h = record {
 pub keeps_nothing : (b : Bool) (P : List Clause) → b ≡ false → Keeps b P []
 keeps_nothing b P f = record { no_clash = λ w. absurd w.1; implied = λ l m. absurd m; saturated = λ e. absurd cc }
 
+pub keeps_none : (b : Bool) (P : List Clause) (known : List Literal) → b ≡ false → known ≡ [] → Keeps b P known
+keeps_none b P known f e = subst (λ (x : List Literal). Keeps b P x) (sym e) (keeps_nothing b P f)
+
 -- 3. A clause leaves.
 implied_is_known : (P : List Clause) (known : List Literal) → IsSaturated P known → (l : Literal) → Implied P [] l → l ∈ known
 implied_is_known P known s l (Known m) = absurd m

@@ -7,4 +7,5 @@ pub mod PlacedClauses
 pub mod KnownGrowth
 pub mod KeptLiterals
 pub mod RatPlaces
+pub mod FirstPlaces
 pub mod LookedWatches

@@ -151,6 +151,14 @@ at_set [] (suc i) = refl
 at_set (o ∷ cs) zero = refl
 at_set (o ∷ cs) (suc i) = at_set cs i
 
+pub still_there : {A : Type 0} (places : List (Option (Vec ℕ A))) (k i : ℕ) (c : Clause) → present_at (set places k None) i ≡ Some c →
+    present_at places i ≡ Some c
+still_there [] k i c e = e
+still_there (x ∷ xs) zero zero c e = absurd cc
+still_there (x ∷ xs) zero (suc i) c e = e
+still_there (x ∷ xs) (suc k) zero c e = e
+still_there (x ∷ xs) (suc k) (suc i) c e = still_there xs k i c e
+
 unless_more : (t : Bool) (c : Clause) (P Q R : List Clause) → P ≡ Q ++ R → unless t c P ≡ unless t c Q ++ R
 unless_more true c P Q R e = e
 unless_more false c P Q R e = ap (λ x. c ∷ x) e
@@ -164,9 +172,10 @@ pub record Dropped {A : Type 0} (v i : ℕ) (old new : List (Option (Vec ℕ A))
   pub count : length new ≡ length old
   pub rest : drop i new ≡ drop i old
   pub dropped : present (take i new) ≡ without v (present (take i old))
+  pub stays : (j : ℕ) (c : Clause) → present_at new j ≡ Some c → present_at old j ≡ Some c
 
 pub dropped_start : {A : Type 0} (v : ℕ) (old : List (Option (Vec ℕ A))) → Dropped v 0 old old
-dropped_start v old = record { count = refl; rest = refl; dropped = refl }
+dropped_start v old = record { count = refl; rest = refl; dropped = refl; stays = λ j c e. e }
 
 same_at : {A : Type 0} (v i : ℕ) (old new : List (Option (Vec ℕ A))) → Dropped v i old new → present_at new i ≡ present_at old i
 same_at v i old new w = at_drop new i ∙ ap (λ cs. present_at cs 0) w.rest ∙ sym (at_drop old i)
@@ -179,6 +188,7 @@ dropped_none v i old new e w = record {
   count = w.count;
   rest = rest_more v i old new w;
   dropped = present_same new i e ∙ w.dropped ∙ ap (without v) (sym (present_same old i (sym (same_at v i old new w) ∙ e)));
+  stays = w.stays;
 }
 
 pub dropped_kept : {A : Type 0} (v i : ℕ) (old new : List (Option (Vec ℕ A))) (c : Clause) → present_at new i ≡ Some c → mentions v c ≡ false →
@@ -188,6 +198,7 @@ dropped_kept v i old new c e f w = record {
   rest = rest_more v i old new w;
   dropped = present_more new i c e ∙ ap (λ P. P ++ (c ∷ [])) w.dropped ∙ ap (λ t. without v (present (take i old)) ++ unless t c []) (sym f) ∙
       sym (without_more v (present (take i old)) c) ∙ ap (without v) (sym (present_more old i c (sym (same_at v i old new w) ∙ e)));
+  stays = w.stays;
 }
 
 pub dropped_same : {A : Type 0} (v i : ℕ) (old new : List (Option (Vec ℕ A))) → ((c : Clause) → present_at new i ≡ Some c → mentions v c ≡ false) →
@@ -206,6 +217,7 @@ dropped_out {A = A} v i old mid new (c, e, f) q w = subst (λ (x : List (Option 
   dropped = present_same (set mid i None) i (at_set mid i) ∙ ap present (take-set-le i mid i None (omega arith)) ∙ w.dropped ∙
       sym (append-nil (without v (present (take i old)))) ∙ ap (λ t. without v (present (take i old)) ++ unless t c []) (sym f) ∙
       sym (without_more v (present (take i old)) c) ∙ ap (without v) (sym (present_more old i c (sym (same_at v i old mid w) ∙ e)));
+  stays = λ j d g. w.stays j d (still_there mid i j d g);
 }
 
 pub dropped_all : {A : Type 0} (v i : ℕ) (old new : List (Option (Vec ℕ A))) → length old ≤ i → Dropped v i old new → present new ≡ without v (present old)

@@ -1,5 +1,5 @@
 -- What questions of RAT find, and what becomes of deletions that may be passed over.
-use Rattle.std.specs.Prelude.{◌≡◌, ◌⊎◌, ℕ, Bool, true, false, List, [], ◌++◌, Option, Some, Vec}
+use Rattle.std.specs.Prelude.{◌≡◌, ◌⊎◌, ℕ, Bool, true, false, List, [], ◌++◌, Option, Some, Vec, ◌<◌, ◌≤◌, slice_index_or}
 use Rattle.varisat_theory.specs.Membership.{◌∈◌, SameSet}
 use Rattle.varisat_theory.specs.Literals.{Literal, Clause, opposite, opposites}
 use Rattle.varisat_theory.specs.Propagation.{Conflicts}
@@ -9,7 +9,7 @@ use Rattle.varisat_theory.specs.Rat.{but_for}
 use Rattle.varisat_plain.specs.Checking.{IsAbsent}
 use Rattle.varisat_present.specs.declared.present.Deletion.{Deletion}
 use Rattle.varisat_present.specs.declared.present.Deletion.TheVariants.{Taken, Kept, Absent}
-use Rattle.varisat_present.specs.Places.{present, present_at}
+use Rattle.varisat_present.specs.Places.{present, present_at, place_limit}
 
 -- all literals of the clause but one are implied to be false
 abbrev pub IsForced : List Clause → Clause → Type 0
@@ -36,3 +36,19 @@ pub record TellsResolvent {A : Type 0} (places : List (Option (Vec ℕ A))) (pla
   pub joined : new ≡ old ++ more
   pub yes : found ≡ true → (d : Clause) → present_at places place ≡ Some d → l ∈ d → ConflictsBut (present places) base l d
   pub no : found ≡ false → (d : Clause) × (present_at places place ≡ Some d) × (l ∈ d) × (ConflictsBut (present places) base l d → ⊥)
+
+-- for a literal that no clause has
+abbrev pub unseen : ℕ
+unseen = 0xffff_ffff_ffff_ffff
+
+-- no clause before the place that the list has for a literal below the limit has that literal
+abbrev pub AreFirst : {A : Type 0} → List (Option (Vec ℕ A)) → List ℕ → Type 0
+AreFirst places firsts = (i : ℕ) (c : Clause) (l : Literal) → present_at places i ≡ Some c → l ∈ c → l < place_limit → slice_index_or firsts l unseen ≤ i
+
+-- places become less or stay
+abbrev pub AreLowered : List ℕ → List ℕ → Type 0
+AreLowered old new = (l : Literal) → slice_index_or new l unseen ≤ slice_index_or old l unseen
+
+-- each of these literals is noted at this place, or at an earlier one
+abbrev pub AreNoted : List Literal → ℕ → List ℕ → Type 0
+AreNoted literals place firsts = (l : Literal) → l ∈ literals → l < place_limit → slice_index_or firsts l unseen ≤ place

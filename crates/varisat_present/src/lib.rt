@@ -3,6 +3,7 @@
 #![tactic(auto)]
 
 pub mod clause;
+mod firsts;
 mod index;
 pub mod known;
 mod places;

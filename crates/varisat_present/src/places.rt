@@ -1,5 +1,5 @@
 //! Clauses at places. A place is empty once its clause is deleted, so that places stay as they are.
-ghost use Rattle.std.specs.Prelude.{◌≡◌, length, MatchOption, Some, None, true, false};
+ghost use Rattle.std.specs.Prelude.{◌≡◌, ℕ, length, MatchOption, Some, None, true, false};
 ghost use Rattle.varisat_plain.specs.Checking.{IsAbsent};
 ghost use Rattle.varisat_theory.specs.Held.{mentions, without};
 ghost use Rattle.varisat_theory.specs.Literals.{Clause};
@@ -83,7 +83,8 @@ pub fn find_place<A: Allocator + Copy>(
 
 /// Empties the places of the clauses with a literal of the variable.
 pub fn drop_mentions<A: Allocator + Copy>(places: &mut [Option<Vec<Lit, A>>], var: Var)
-    ensures { present places.new ≡ without var (present places.old) }
+    ensures dropped { present places.new ≡ without var (present places.old) }
+    ensures stays { (i : ℕ) (c : Clause) → present_at places.new i ≡ Some c → present_at places.old i ≡ Some c }
 {
     for place in 0..places.len() {
         if !mentions_at(places, place, var) {

@@ -1,5 +1,5 @@
 //! Present clauses, and what propagation over them came to.
-ghost use Rattle.std.specs.Prelude.{◌≡◌, ◌↔◌, ◌++◌, ◌∷◌, ◌<◌, ℕ, [], length, slice_index_or, IfOk, OnOk, OnErr, IsTrue, true, false, MatchOption, Some, None};
+ghost use Rattle.std.specs.Prelude.{◌≡◌, take, ◌↔◌, ◌++◌, ◌∷◌, ◌<◌, ℕ, [], length, slice_index_or, IfOk, OnOk, OnErr, IsTrue, true, false, MatchOption, Some, None};
 ghost use Rattle.varisat_plain.specs.Checking.{IsAbsent};
 ghost use Rattle.varisat_theory.specs.Derivations.{TakesOut};
 ghost use Rattle.varisat_theory.specs.Held.{without};
@@ -12,6 +12,7 @@ ghost use Rattle.varisat_present.specs.Knowing.{IsSpare, Asks, Sees, AreImplied,
 ghost use Rattle.varisat_present.specs.Resolving.{AllConflict, IsForced, TellsDeletion, TellsResolvent};
 
 use crate::clause::{holds, is_quiet, status_of};
+use crate::firsts::{first_of, note_all};
 use crate::index::{ClauseIndex, key_of};
 use crate::known::Known;
 use crate::places::{clause_at, drop_mentions, find_place, has_clause, is_equal_at};
@@ -36,6 +37,8 @@ pub struct PresentClauses<A: Allocator + Copy> {
     is_saturated: bool,
     watches: Watches<A>,
     index: ClauseIndex<A>,
+    /// By a literal's code, for those below `PLACE_LIMIT`, a place before which no clause has it.
+    firsts: Vec<usize, A>,
 }
 
 impl<A: Allocator + Copy> Model for PresentClauses<A> {
@@ -43,12 +46,13 @@ impl<A: Allocator + Copy> Model for PresentClauses<A> {
     ghost use Rattle.varisat_theory.specs.Literals.{Clause};
     ghost use Rattle.varisat_present.specs.Places.{present};
     ghost use Rattle.varisat_present.specs.Knowing.{Keeps};
+    ghost use Rattle.varisat_present.specs.Resolving.{AreFirst};
 
     ghost Value = { List Clause };
 
     ghost view = { λ p. present p.places.items };
 
-    ghost invariant = { λ p. Keeps p.is_saturated (present p.places.items) p.known };
+    ghost invariant = { λ p. Keeps p.is_saturated (present p.places.items) p.known × AreFirst p.places.items p.firsts.items };
 }
 
 /// The place of a clause that is equal as a set, if the index leads to one.
@@ -232,7 +236,7 @@ fn resolvent_conflicts<A: Allocator + Copy>(
     Ok(found)
 }
 
-/// Whether that is so for the clauses at all places.
+/// Whether that is so for the clauses at all places, of which those before the first one have not the literal.
 fn resolvents_conflict<A: Allocator + Copy>(
     alloc: A,
     places: &[Option<Vec<Lit, A>>],
@@ -240,14 +244,16 @@ fn resolvents_conflict<A: Allocator + Copy>(
     watches: &mut Watches<A>,
     base: &[Lit],
     literal: Lit,
+    first: usize,
 ) -> Result<bool, AllocError>
     requires no_clash { HasClash known.old → ⊥ }
     requires implied { AreImplied (present places.now) [] known.old }
+    requires none { AllConflict (present places.now) (present (take first places.now)) base.now literal }
     ensures found { IfOk result (λ found. IsTrue found ↔ AllConflict (present places.now) (present places.now) base.now literal) }
     ensures stays { OnOk result (known.new ≡ known.old) }
 {
     let count = known.len();
-    for place in 0..places.len() {
+    for place in first..places.len() {
         let found = resolvent_conflicts(alloc, places, place, known, watches, base, literal)?;
         known.cut(count);
         if !found {
@@ -269,6 +275,7 @@ impl<A: Allocator + Copy> PresentClauses<A> {
             is_saturated: false,
             watches: Watches::new_in(alloc),
             index: ClauseIndex::new_in(alloc),
+            firsts: Vec::new(alloc),
         }
     }
 
@@ -311,6 +318,7 @@ impl<A: Allocator + Copy> PresentClauses<A> {
         ensures err { OnErr result (self.new ≡ self.old) }
     {
         let copy = Vec::from_slice(self.alloc, clause)?;
+        note_all(&mut self.firsts, clause, self.places.len())?;
         let is_saturated = is_saturated_with(self.is_saturated, &self.known, clause);
         self.watches.add_clause(&self.known, clause)?;
         self.index.add(key_of(clause))?;
@@ -469,7 +477,7 @@ impl<A: Allocator + Copy> PresentClauses<A> {
     }
 
     /// Whether the clause is RAT on the literal: each clause with the opposite literal follows once the clause's
-    /// literals replace that. It looks at every clause.
+    /// literals replace that. It looks at every clause from the first one on that may have the opposite.
     fn is_rat_on(&mut self, clause: &[Lit], literal: Lit) -> Result<bool, AllocError>
         ensures found { IfOk result (λ found. IsTrue found ↔ ResolventsFollow self.old clause.now literal) }
         ensures stays { self.new ≡ self.old }
@@ -479,6 +487,7 @@ impl<A: Allocator + Copy> PresentClauses<A> {
             return Ok(true);
         }
         let base = negated(self.alloc, clause)?;
+        let first = first_of(&self.firsts, !literal);
         match resolvents_conflict(
             self.alloc,
             &self.places,
@@ -486,6 +495,7 @@ impl<A: Allocator + Copy> PresentClauses<A> {
             &mut self.watches,
             &base,
             !literal,
+            first,
         ) {
             Ok(found) => Ok(found),
             Err(error) => {
@@ -496,7 +506,7 @@ impl<A: Allocator + Copy> PresentClauses<A> {
         }
     }
 
-    /// Whether the clause is RAT on its first literal. It looks at every clause.
+    /// Whether the clause is RAT on its first literal.
     pub fn is_rat(&mut self, clause: &[Lit]) -> Result<bool, AllocError>
         ensures found { IfOk result (λ found. IsTrue found ↔ IsRat self.old clause.now) }
         ensures stays { self.new ≡ self.old }

@@ -13,5 +13,8 @@ pub loop-place-preserved : goal.loop-place-preserved
 loop-place-preserved g c = dropped_out c.args.var c.loop-place.place c.args.places.now c.loop-place.places _
     (c.mentions_at.ensures.yes c.if-not-mentions_at.false) refl c.loop-place.invariant
 
-pub returns : goal.returns
-returns g c = dropped_all c.args.var c.loop-place.place c.args.places.now c.loop-place.places (omega (arith, c.loop-place-test.false)) c.loop-place.invariant
+pub returns-clause-stays : goal.returns-clause-stays
+returns-clause-stays g c = c.loop-place.invariant.stays
+
+pub returns-clause-dropped : goal.returns-clause-dropped
+returns-clause-dropped g c = dropped_all c.args.var c.loop-place.place c.args.places.now c.loop-place.places (omega (arith, c.loop-place-test.false)) c.loop-place.invariant

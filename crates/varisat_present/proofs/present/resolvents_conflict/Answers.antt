@@ -7,7 +7,7 @@ use Rattle.varisat_present.proofs.RatPlaces.{conflict_on, conflict_all, one_does
 use Rattle.varisat_present.proofs.present.resolvents_conflict.Goals as goal
 
 pub loop-place-init : goal.loop-place-init
-loop-place-init g c = record { same = refl; so_far = λ d m i. absurd m }
+loop-place-init g c = record { same = refl; so_far = c.requires.none }
 
 pub resolvent_conflicts-requires : goal.resolvent_conflicts-requires
 resolvent_conflicts-requires g c = record {

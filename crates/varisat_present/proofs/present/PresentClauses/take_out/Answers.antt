@@ -5,7 +5,8 @@ use Rattle.varisat_theory.specs.Derivations.{TakesOut}
 use Rattle.varisat_present.specs.Places.{present}
 use Rattle.varisat_present.specs.Knowing.{IsSpare}
 use Rattle.varisat_present.proofs.PlacedClauses.{at_in_slice, at_within, takes_out}
-use Rattle.varisat_present.proofs.KeptLiterals.{keeps_without}
+use Rattle.varisat_present.proofs.FirstPlaces.{first_emptied}
+use Rattle.varisat_present.proofs.KeptLiterals.{keeps_without, keeps_none}
 use Rattle.varisat_present.proofs.present.PresentClauses.take_out.Goals as goal
 
 pub returns-in-None-clause-absent : goal.returns-in-None-clause-absent
@@ -19,14 +20,16 @@ index_mut-requires g c =
     omega (arith, h)
 
 pub invariant_of-self : goal.invariant_of-self
-invariant_of-self g c =
-    let e = at_in_slice c.deref.result.now c.self.inside.places.items c.in-Some.place c.in-Some.ensures.0 c.deref.ensures.value c.in-Some.ensures.1 in
-    let t = takes_out c.self.inside.places.items (set c.self.inside.places.items c.in-Some.place None) c.in-Some.place c.in-Some.ensures.0
-    c.args.clause.now e c.in-Some.ensures.2 refl in
-    let w = c.is_spare.ensures c.if-is_spare.true in
-    keeps_without c.self.inside.is_saturated (present c.self.inside.places.items)
-    (present (set c.self.inside.places.items c.in-Some.place None)) c.args.clause.now c.self.inside.known w.0 t
-    (subst (λ (P : List Clause). IsSpare P c.self.inside.known c.args.clause.now) (ap present c.deref-2.ensures.value) w.1) c.self.invariant
+invariant_of-self g c = (
+  let e = at_in_slice c.deref.result.now c.self.inside.places.items c.in-Some.place c.in-Some.ensures.0 c.deref.ensures.value c.in-Some.ensures.1 in
+      let t = takes_out c.self.inside.places.items (set c.self.inside.places.items c.in-Some.place None) c.in-Some.place c.in-Some.ensures.0
+      c.args.clause.now e c.in-Some.ensures.2 refl in
+      let w = c.is_spare.ensures c.if-is_spare.true in
+      keeps_without c.self.inside.is_saturated (present c.self.inside.places.items)
+      (present (set c.self.inside.places.items c.in-Some.place None)) c.args.clause.now c.self.inside.known w.0 t
+      (subst (λ (P : List Clause). IsSpare P c.self.inside.known c.args.clause.now) (ap present c.deref-2.ensures.value) w.1) c.self.invariant.0,
+  first_emptied c.self.inside.places.items c.in-Some.place c.self.inside.firsts.items c.self.invariant.1,
+)
 
 pub returns-then-is_spare-clause-taken : goal.returns-then-is_spare-clause-taken
 returns-then-is_spare-clause-taken g c =
@@ -41,3 +44,9 @@ returns-clause-taken g c =
     let t = takes_out c.self.inside.places.items (set c.self.inside.places.items c.in-Some.place None) c.in-Some.place c.in-Some.ensures.0
     c.args.clause.now e c.in-Some.ensures.2 refl in
     subst (λ (P : List Clause). TakesOut P c.args.clause.now (present (set c.self.inside.places.items c.in-Some.place None))) c.self.view_is t
+
+pub invariant_of-self-2 : goal.invariant_of-self-2
+invariant_of-self-2 g c = (
+  keeps_none _ _ _ refl c.cut.ensures,
+  first_emptied c.self.inside.places.items c.in-Some.place c.self.inside.firsts.items c.self.invariant.1,
+)

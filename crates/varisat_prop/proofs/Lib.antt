@@ -1,3 +1,4 @@
+pub mod ShortLists
 pub mod BinaryPropagated
 pub mod ClauseOrder
 mod CountedPairs

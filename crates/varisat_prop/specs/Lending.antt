@@ -5,9 +5,9 @@ use Rattle.std.specs.declared.vec.Vec.{Vec}
 use Rattle.std.specs.contracts.vec.Vec as vec
 use Rattle.std.specs.declared.alloc.Allocator.{Ghosts}
 use Rattle.varisat_theory.specs.Literals.{Literal}
-use Rattle.varisat_literals.specs.contracts.lit.Lit.{the_row as lit_row}
 use Rattle.varisat_prop.specs.contracts.binary.BinaryClauses.{the_row as binary_row}
 use Rattle.varisat_prop.specs.contracts.prop.watch.Watch.{the_row as watch_row}
+use Rattle.varisat_prop.specs.contracts.short.ShortList.{the_row as short_row}
 use Rattle.varisat_prop.specs.contracts.prop.watch.Watchlists.{the_row as watchlists_row}
 use Rattle.varisat_prop.specs.declared.prop.watch.Watch.{Watch}
 use Rattle.varisat_prop.specs.Watches.{Watches, with_watches}
@@ -19,5 +19,5 @@ module _ (A : RattleType) (alloc : Ghosts A.Denot) (s : MutBor Watches) where
 
 module _ (A : RattleType) (alloc : Ghosts A.Denot) (s : MutBor (List (List Literal))) where
   -- The lists of implied literals end with what was made of the one that was lent.
-  abbrev pub lends_implied : Literal → MutBor (Vec Literal A.Denot) → Fml
-  lends_implied x r = Lends (binary_row A alloc) (vec.the_row lit_row A alloc) s r (λ v. slice_set s.now x v.items)
+  abbrev pub lends_implied : Literal → MutBor (List Literal) → Fml
+  lends_implied x r = Lends (binary_row A alloc) (short_row A alloc) s r (λ v. slice_set s.now x v)

@@ -3,6 +3,7 @@ pub mod View
 pub mod Changes
 pub mod Looks
 pub mod Pairs
+pub mod ShortLists
 pub mod Simplified
 pub mod Watches
 pub mod Visits

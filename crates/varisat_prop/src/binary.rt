@@ -1,12 +1,11 @@
 //! The kept clauses of two literals, as what each literal implies by them.
 ghost use Rattle.std.specs.Prelude.{◌≡◌, ◌<◌, ◌≤◌, ◌*◌, ◌-◌, ◌++◌, ◌∷◌, [], length, replicate, OnOk, slice_set, slice_index_or};
-ghost use Rattle.std.specs.List.{filter};
 ghost use Rattle.varisat_theory.specs.Literals.{opposite};
 ghost use Rattle.varisat_literals.specs.Numbers.{variable_limit};
-ghost use Rattle.varisat_prop.specs.Simplified.{is_unassigned, are_unassigned, unassigned_implied, without_assigned};
+ghost use Rattle.varisat_prop.specs.Simplified.{unassigned_implied, without_assigned};
 
-use crate::lists::push_lists;
 use crate::prop::assignment::Assignment;
+use crate::short::{ShortList, has_no_value};
 use std::alloc::{AllocError, Allocator};
 use std::marker::Model;
 use varisat_literals::Lit;
@@ -14,15 +13,15 @@ use varisat_literals::Lit;
 /// For each literal those that it implies by a clause of two literals.
 #[derive(Drop)]
 pub struct BinaryClauses<A: Allocator + Copy> {
-    by_lit: Vec<Vec<Lit, A>, A>,
+    by_lit: Vec<ShortList<A>, A>,
 }
 
 impl<A: Allocator + Copy> Model for BinaryClauses<A> {
-    ghost use Rattle.std.specs.Prelude.{List, ℕ, map};
+    ghost use Rattle.std.specs.Prelude.{List, ℕ};
 
     ghost Value = { List (List ℕ) };
 
-    ghost view = { λ b. map (λ v. v.items) b.by_lit.items };
+    ghost view = { λ b. b.by_lit.items };
 }
 
 impl<A: Allocator + Copy> BinaryClauses<A> {
@@ -46,13 +45,27 @@ impl<A: Allocator + Copy> BinaryClauses<A> {
         self.by_lit.len()
     }
 
+    /// One more literal, which implies nothing.
+    fn push_list(&mut self) -> Result<(), AllocError>
+        ensures { OnOk result (self.new ≡ self.old ++ [] ∷ []) }
+    {
+        let alloc = *self.by_lit.allocator();
+        self.by_lit.push(ShortList::new_in(alloc))?;
+        Ok(())
+    }
+
     /// Raises the count of variables. The new ones imply nothing.
     pub fn set_var_count(&mut self, count: usize) -> Result<(), AllocError>
         requires raised { length self.old ≤ 2 * count }
         requires small { count ≤ variable_limit }
         ensures { OnOk result (self.new ≡ self.old ++ replicate (2 * count - length self.old) []) }
     {
-        push_lists(&mut self.by_lit, 2 * count)?;
+        let old_count = self.by_lit.len();
+        let mut added = 0;
+        'lists: while added < 2 * count - old_count {
+            self.push_list()?;
+            added += 1;
+        }
         Ok(())
     }
 
@@ -77,10 +90,10 @@ impl<A: Allocator + Copy> BinaryClauses<A> {
     }
 
     /// What the literal implies, to be added to.
-    fn implied_mut(&mut self, lit: Lit) -> &mut Vec<Lit, A>
+    fn implied_mut(&mut self, lit: Lit) -> &mut ShortList<A>
         requires { lit < length self.old }
         ensures* lends { sem 𝓛 (lends_implied A.row A.Allocator self.entry lit result) }
-        ensures value { result.now.items ≡ slice_index_or self.old lit [] }
+        ensures value { result.now ≡ slice_index_or self.old lit [] }
     {
         &mut self.by_lit[lit.code()]
     }
@@ -121,7 +134,7 @@ impl<A: Allocator + Copy> BinaryClauses<A> {
     {
         let implied = self.implied_mut(lit);
         if has_no_value(values, lit) {
-            keep_unassigned(implied, values);
+            implied.keep_unassigned(values);
         } else {
             implied.clear();
         }
@@ -137,33 +150,4 @@ impl<A: Allocator + Copy> BinaryClauses<A> {
             self.simplify_list(Lit::from_code(code), values);
         }
     }
-}
-
-/// Keeps the literals whose variables have no value.
-fn keep_unassigned<A: Allocator + Copy>(implied: &mut Vec<Lit, A>, values: &[Option<bool>])
-    ensures { implied.new.items ≡ filter (is_unassigned values.now) implied.old.items }
-{
-    // Most lists stay as they are, and are only read.
-    if !have_no_value(values, implied) {
-        implied.retain(|other| has_no_value(values, *other));
-    }
-}
-
-/// Whether the variables of all the literals have no value.
-fn have_no_value(values: &[Option<bool>], lits: &[Lit]) -> bool
-    ensures { result ≡ are_unassigned values.now lits.now }
-{
-    for lit in lits {
-        if !has_no_value(values, *lit) {
-            return false;
-        }
-    }
-    true
-}
-
-/// Whether the literal's variable has no value.
-fn has_no_value(values: &[Option<bool>], lit: Lit) -> bool
-    ensures { result ≡ is_unassigned values.now lit }
-{
-    !matches!(values.get(lit.index()), Some(Some(_)))
 }

@@ -6,3 +6,4 @@ pub mod binary;
 pub mod clause;
 mod lists;
 pub mod prop;
+pub mod short;

@@ -1,7 +1,7 @@
 use Rattle.std.proofs.Common.{◌≡◌, ℕ, true, take}
 use Rattle.varisat_theory.specs.Membership.{◌∈◌}
 use Rattle.varisat_prop.specs.Simplified.{is_unassigned}
-use Rattle.varisat_prop.proofs.binary.have_no_value.Given as goal
+use Rattle.varisat_prop.proofs.short.have_no_value.Given as goal
 
 abbrev pub invariant-loop-lit : goal.invariant-loop-lit
 invariant-loop-lit l = (m : ℕ) → m ∈ take l.lit-index l.lits → is_unassigned l.values m ≡ true

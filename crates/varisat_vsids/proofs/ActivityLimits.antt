@@ -100,3 +100,18 @@ one_more_limits activity i d l = record { below = below_longer activity l.below;
 
 pub same_limits : (a a' : List ℕ) (i i' d : ℕ) → AreWithinLimits a i d → a' ≡ a → i' ≡ i → AreWithinLimits a' i' d
 same_limits a a' i i' d l ea ei = rw (ea, ei) l
+
+-- a raised activity that stays below the limit
+pub raised_limits : (activity : List ℕ) (v i d x : ℕ) → AreWithinLimits activity i d → v < length activity → x < activity_limit →
+    AreWithinLimits (set activity v x) i d
+raised_limits activity v i d x l h e = record {
+  below = λ w.
+      elim (eqb_tells w v) [
+        | inl t ↦ rw (t.1, get_or-set_same activity v x 0 h) e
+        | inr t ↦ rw (get_or-set_other activity v w x 0 t.1) (l.below w)
+      ];
+  least = l.least;
+  small = l.small;
+  slow = l.slow;
+  fast = l.fast;
+}

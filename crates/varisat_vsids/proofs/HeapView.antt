@@ -1,10 +1,11 @@
 -- What a user sees of the heap.
-use Rattle.std.proofs.Common.{◌≡◌, ℕ, ◌<◌, ◌≤◌, List, length, get_or, set, Bool, true, false, refl, sym, ap, ◌∙◌, inl, inr, arith}
+use Rattle.std.proofs.Common.{◌≡◌, ◌⊎◌, ℕ, ◌<◌, ◌≤◌, List, length, get_or, set, Bool, true, false, refl, sym, ap, ◌∙◌, inl, inr, arith}
 use Rattle.std.proofs.lemmas.Bool.{ltb-true, lt-ltb, cases_lt}
 use Rattle.std.proofs.lemmas.List.{get_or_past, set-get_or, get_or-map, length-map}
 use Rattle.std.proofs.lemmas.Grind.{get_or_default_zero}
 use Rattle.std.specs.Prelude.{nat_lt}
 use Rattle.varisat_vsids.specs.Heaps.{IsLinked, IsHeap, availability, key}
+use Rattle.varisat_vsids.specs.Idle.{CanIdle, AreIdleOutside}
 use Rattle.varisat_vsids.specs.Activities.{Activities, IsGreatest}
 use Rattle.varisat_vsids.proofs.HeapOrder.{greatest}
 
@@ -29,22 +30,45 @@ not_true false h = refl
 pub none_available : (n : ℕ) (position : List ℕ) → n ≡ 0 → (v : ℕ) → get_or (availability n position) v false ≡ false
 none_available n position e v = not_true (get_or (availability n position) v false) (λ q. (let h = available_below n position v q in omega (arith, h.1)))
 
+either_is : (b : Bool) → (b ≡ true) ⊎ (b ≡ false)
+either_is true = inl refl
+either_is false = inr refl
+
+-- where none stands in the heap, those who are available are idle
+pub all_idle : (activity : List ℕ) (position : List ℕ) (available blocks : List Bool) (n cursor v : ℕ) →
+    AreIdleOutside activity (availability n position) available blocks cursor → n ≡ 0 → get_or available v false ≡ true → CanIdle activity blocks cursor v
+all_idle activity position available blocks n cursor v a e q = a.outside v q (none_available n position e v)
+
+pub idle_is_greatest : (activity position : List ℕ) (available blocks : List Bool) (n cursor v i d : ℕ) →
+    AreIdleOutside activity (availability n position) available blocks cursor → n ≡ 0 → v < length activity → get_or available v false ≡ true
+    → IsGreatest (activities_with activity available i d) v
+idle_is_greatest activity position available blocks n cursor v i d a e known q = record {
+  known = known;
+  available = q;
+  greatest = λ w r. let z = (all_idle activity position available blocks n cursor w a e r).zero in omega (arith, z);
+}
+
 -- the variable at the root
-pub root_is_greatest : (activity heap position : List ℕ) (n v i d : ℕ) → IsHeap activity heap position n → 0 < n → v ≡ get_or heap 0 0
-    → IsGreatest (activities_with activity (availability n position) i d) v
-root_is_greatest activity heap position n v i d h some e =
+pub root_is_greatest : (activity heap position : List ℕ) (available blocks : List Bool) (n cursor v i d : ℕ) → IsHeap activity heap position n →
+    AreIdleOutside activity (availability n position) available blocks cursor → 0 < n → v ≡ get_or heap 0 0
+    → IsGreatest (activities_with activity available i d) v
+root_is_greatest activity heap position available blocks n cursor v i d h a some e =
     let l = h.linked in
     let h0 : 0 < length heap = omega (arith, h.part) in
     let kv : v < length heap = rw e (l.known 0 h0) in
     let pv : get_or position v 0 ≡ 0 = rw e (l.placed 0 h0) in
     record {
       known = omega (arith, h.known);
-      available = get_or-map (λ p. nat_lt p n) position v 0 false (omega (arith, l.count)) ∙ rw pv (lt-ltb 0 n some);
+      available = a.inside v (get_or-map (λ p. nat_lt p n) position v 0 false (omega (arith, l.count)) ∙ rw pv (lt-ltb 0 n some));
       greatest = λ w q.
-          let b = available_below n position w q in
-          let s : get_or heap (get_or position w 0) 0 ≡ w = l.stands w (omega (arith, l.count, b.0)) in
-          let g : key activity heap (get_or position w 0) ≤ key activity heap 0 = greatest (key activity heap) n h.order (get_or position w 0) b.1 in
-          rw e (rw s at g);
+          elim (either_is (get_or (availability n position) w false)) [
+            | inl t ↦
+                let b = available_below n position w t in
+                let s : get_or heap (get_or position w 0) 0 ≡ w = l.stands w (omega (arith, l.count, b.0)) in
+                let g : key activity heap (get_or position w 0) ≤ key activity heap 0 = greatest (key activity heap) n h.order (get_or position w 0) b.1 in
+                rw e (rw s at g)
+            | inr t ↦ let z = (a.outside w q t).zero in omega (arith, z)
+          ];
     }
 
 -- nothing changes where the variable is or is not available as it should be

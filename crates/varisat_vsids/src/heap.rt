@@ -134,18 +134,33 @@ fn sink(activity: &[u64], heap: &mut [Var], position: &mut [u32], len: usize, at
     fill(heap, position, place, var);
 }
 
-/// Puts the heap in order after the activity of one variable has risen.
-pub fn reorder_risen(activity: &[u64], heap: &mut [Var], position: &mut [u32], len: usize, var: Var)
+/// Puts the heap in order after the activity of one variable has risen, which comes into it where that is asked. Returns
+/// how many variables the heap has then.
+pub fn enter_risen(
+    activity: &[u64],
+    heap: &mut [Var],
+    position: &mut [u32],
+    len: usize,
+    var: Var,
+    enters: bool,
+) -> usize
     requires known { var < length position.old }
     requires heap { IsHeapBut activity.now heap.old position.old len (slice_index position.old var) }
     requires children { IsNoChildGreater (key activity.now heap.old) len (slice_index position.old var) }
-    ensures heap { IsHeap activity.now heap.new position.new len }
-    ensures available { availability len position.new ≡ availability len position.old }
+    ensures heap { IsHeap activity.now heap.new position.new result }
+    ensures enters { enters ≡ true → availability result position.new ≡ slice_set (availability len position.old) var true }
+    ensures stays { enters ≡ false → availability result position.new ≡ availability len position.old }
 {
     let place = position[var.index()] as usize;
     if place < len {
         rise(activity, heap, position, len, place);
+        return len;
     }
+    if !enters {
+        return len;
+    }
+    put_in(activity, heap, position, len, place);
+    len + 1
 }
 
 /// Puts the heap in order after the activity of one variable has fallen.

@@ -2,6 +2,7 @@
 #![tactic(auto)]
 
 mod heap;
+mod idle;
 pub mod vsids;
 
 pub use vsids::Vsids;

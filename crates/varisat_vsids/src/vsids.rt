@@ -7,7 +7,8 @@ ghost use Rattle.std.specs.Prelude.{◌≡◌, ℕ, ◌+◌, ◌/◌, ◌<◌, �
 ghost use Rattle.varisat_literals.specs.Numbers.{variable_limit};
 ghost use Rattle.varisat_vsids.specs.Activities.{Activities, no_activities, activity_limit, least_increment, is_available, rescaled, bumped, decayed, with_available, raised_to, IsGreatest, TakesGreatest, available_count, AreWithinLimits};
 
-use crate::heap::{put_in, reorder_fallen, reorder_risen, take_out};
+use crate::heap::{enter_risen, put_in, reorder_fallen, take_out};
+use crate::idle::{first_available, note_block};
 use std::alloc::{AllocError, Allocator};
 use std::marker::Model;
 use varisat_literals::Var;
@@ -21,26 +22,34 @@ const ACTIVITY_LIMIT: u64 = 1 << 60;
 /// The variables by activity, of which some are available.
 ///
 /// As an iterator it takes out an available variable of greatest activity at each call. No call but `set_var_count`
-/// takes memory: all variables stand in `heap`, and only the first `len` are available.
+/// takes memory: all variables stand in `heap`, of which the first `len` are the heap. They are available. Other available
+/// variables are idle: their activity is 0, and they are taken out once the heap is empty, that of the least number first.
 #[derive(Drop)]
 pub struct Vsids<A: Allocator + Copy> {
     activity: Vec<u64, A>,
     heap: Vec<Var, A>,
     position: Vec<u32, A>,
     len: usize,
+    available: Vec<bool, A>,
+    // No variable of a lesser number is idle.
+    cursor: usize,
+    // Whether one of each 64 variables may be idle. The list is as long as the others.
+    blocks: Vec<bool, A>,
     increment: u64,
     decay: u64,
 }
 
 impl<A: Allocator + Copy> Model for Vsids<A> {
     ghost use Rattle.varisat_vsids.specs.Heaps.{IsHeap, availability};
+    ghost use Rattle.varisat_vsids.specs.Idle.{AreIdleOutside};
     ghost use Rattle.varisat_vsids.specs.Activities.{Activities, AreWithinLimits};
 
     ghost Value = { Activities };
 
-    ghost view = { λ s. record { activity = s.activity.items; available = availability s.len s.position.items; increment = s.increment; decay = s.decay } };
+    ghost view = { λ s. record { activity = s.activity.items; available = s.available.items; increment = s.increment; decay = s.decay } };
 
-    ghost invariant = { λ s. IsHeap s.activity.items s.heap.items s.position.items s.len × AreWithinLimits s.activity.items s.increment s.decay };
+    ghost invariant = { λ s. IsHeap s.activity.items s.heap.items s.position.items s.len × AreWithinLimits s.activity.items s.increment s.decay
+        × AreIdleOutside s.activity.items (availability s.len s.position.items) s.available.items s.blocks.items s.cursor };
 }
 
 /// Shifts all activities right by 40, and returns the increment shifted, but no less than the least.
@@ -64,6 +73,9 @@ impl<A: Allocator + Copy> Vsids<A> {
             heap: Vec::new(alloc),
             position: Vec::new(alloc),
             len: 0,
+            available: Vec::new(alloc),
+            cursor: 0,
+            blocks: Vec::new(alloc),
             increment: LEAST_INCREMENT,
             decay: 950,
         }
@@ -92,10 +104,14 @@ impl<A: Allocator + Copy> Vsids<A> {
         self.activity.reserve(more)?;
         self.heap.reserve(more)?;
         self.position.reserve(more)?;
+        self.available.reserve(more)?;
+        self.blocks.reserve(more)?;
         for index in self.heap.len()..count {
             self.activity.push_reserved(0);
             self.heap.push_reserved(Var::from_index(index));
             self.position.push_reserved(index as u32);
+            self.available.push_reserved(false);
+            self.blocks.push_reserved(false);
         }
         Ok(())
     }
@@ -118,12 +134,14 @@ impl<A: Allocator + Copy> Vsids<A> {
         let index = var.index();
         let value = self.activity[index] + self.increment;
         self.activity[index] = value;
-        reorder_risen(
+        let is_available = self.available[index];
+        self.len = enter_risen(
             &self.activity,
             &mut self.heap,
             &mut self.position,
             self.len,
             var,
+            is_available,
         );
         if value >= ACTIVITY_LIMIT {
             self.increment = rescale(&mut self.activity, self.increment);
@@ -162,7 +180,9 @@ impl<A: Allocator + Copy> Vsids<A> {
         requires { var < length self.old.activity }
         ensures { self.new ≡ with_available var false self.old }
     {
-        let place = self.position[var.index()] as usize;
+        let index = var.index();
+        self.available[index] = false;
+        let place = self.position[index] as usize;
         if place < self.len {
             take_out(
                 &self.activity,
@@ -180,28 +200,50 @@ impl<A: Allocator + Copy> Vsids<A> {
         requires { var < length self.old.activity }
         ensures { self.new ≡ with_available var true self.old }
     {
-        let place = self.position[var.index()] as usize;
-        if place >= self.len {
-            put_in(
-                &self.activity,
-                &mut self.heap,
-                &mut self.position,
-                self.len,
-                place,
-            );
-            self.len += 1;
+        self.release(var, false);
+    }
+
+    /// Makes the variable available. One of activity 0 may wait outside the heap, so that those that wait are taken in the
+    /// order of their numbers; else that which came last is taken first of equally active ones.
+    pub fn release(&mut self, var: Var, waits: bool)
+        requires { var < length self.old.activity }
+        ensures { self.new ≡ with_available var true self.old }
+    {
+        let index = var.index();
+        self.available[index] = true;
+        let place = self.position[index] as usize;
+        if place < self.len {
+            return;
         }
+        if waits && self.activity[index] == 0 {
+            note_block(&mut self.blocks, index);
+            self.cursor = self.cursor.min(index);
+            return;
+        }
+        put_in(
+            &self.activity,
+            &mut self.heap,
+            &mut self.position,
+            self.len,
+            place,
+        );
+        self.len += 1;
     }
 
     /// An available variable of greatest activity, if one is available.
-    fn greatest(&self) -> Option<Var>
-        ensures none { IfNone result ((v : ℕ) → is_available self.now v ≡ false) }
-        ensures greatest { IfSome result (IsGreatest self.now) }
+    fn greatest(&mut self) -> Option<Var>
+        ensures same { self.new ≡ self.old }
+        ensures none { IfNone result ((v : ℕ) → is_available self.old v ≡ false) }
+        ensures greatest { IfSome result (IsGreatest self.old) }
     {
-        if self.len == 0 {
+        if self.len > 0 {
+            return Some(self.heap[0]);
+        }
+        self.cursor = first_available(&self.available, &mut self.blocks, self.cursor);
+        if self.cursor == self.available.len() {
             return None;
         }
-        Some(self.heap[0])
+        Some(Var::from_index(self.cursor))
     }
 }
 

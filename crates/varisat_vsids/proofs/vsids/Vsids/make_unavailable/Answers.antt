@@ -1,29 +1,30 @@
-use Rattle.std.proofs.lemmas.Grind.{common_steps}
-use Rattle.std.proofs.Common.{◌-◌, ◌∙◌, ap, arith, refl, length, false, ◌<◌}
-use Rattle.std.proofs.lemmas.Bool.Decides.{nat_tests}
-use Rattle.std.proofs.lemmas.List.{with_items_is}
+use Rattle.std.proofs.Common.{◌≡◌, ℕ, ◌-◌, ◌<◌, ◌∙◌, ap, arith, length, set, refl, false}
+use Rattle.std.proofs.lemmas.List.{with_items_is, length-map}
 use Rattle.varisat_vsids.specs.Heaps.{availability}
-use Rattle.varisat_vsids.proofs.HeapView.{stays_as, of_variable, same_activities}
+use Rattle.varisat_vsids.proofs.HeapView.{of_variable, same_heap}
+use Rattle.varisat_vsids.proofs.IdleVariables.{idle_gone, same_idle}
 use Rattle.varisat_vsids.proofs.vsids.Vsids.make_unavailable.Goals as goal
 
-pub returns-then-place-self : goal.returns-then-place-self
-returns-then-place-self g c =
-    let s = c.self.inside in
-    let known : c.args.var < length s.heap.items = omega (arith, c.self.invariant.0.known, c.requires, ap (λ a. length a.activity) c.self.view_is) in
-    rw (← c.self.view_is) (same_activities s.activity.items s.activity.items _ _ s.increment s.increment s.decay refl
-    (ap (availability (s.len - 1)) (with_items_is s.position c.take_out.new.position
-    (omega (arith, c.take_out.auto.position, c.deref_mut-then-place-self.ensures.len)))
-    ∙ of_variable s.len (s.len - 1) s.heap.items s.position.items c.deref_mut.result.now c.deref_mut-then-place-self.result.now
-    c.take_out.new.position c.index-2.result.now c.index.result c.args.var false
-    c.self.invariant.0.linked c.deref_mut.ensures.value c.deref_mut-then-place-self.ensures.value known c.index.ensures.index c.index-2.ensures
-    c.take_out.ensures.available) refl)
-
-pub returns-else-place-self : goal.returns-else-place-self
-returns-else-place-self g c =
-    rw (← c.self.view_is) (stays_as _ c.self.inside.heap.items c.self.inside.position.items c.self.inside.len _ _ c.index.result c.args.var
-    c.index-2.result.now false c.self.invariant.0.linked
-    (omega (arith, c.self.invariant.0.known, c.requires, ap (λ a. length a.activity) c.self.view_is)) c.index.ensures.index
-    c.index-2.ensures (grind (arith, nat_tests)))
-
 pub invariant_of-self : goal.invariant_of-self
-invariant_of-self g c = grind (arith, common_steps)
+invariant_of-self g c =
+    let s = c.self.inside in
+    let i = c.self.invariant in
+    let known : c.args.var < length s.heap.items = omega (arith, i.0.known, c.requires, ap (λ a. length a.activity) c.self.view_is) in
+    let heaps = with_items_is s.heap c.take_out.new.heap (omega (arith, c.take_out.auto.heap, c.deref_mut.ensures.len)) in
+    let places = with_items_is s.position c.take_out.new.position
+    (omega (arith, c.take_out.auto.position, c.deref_mut-then-place-self.ensures.len)) in
+    let standing : availability (s.len - 1) c.take_out.new.position ≡ set (availability s.len s.position.items) c.args.var false =
+    of_variable s.len (s.len - 1) s.heap.items s.position.items c.deref_mut.result.now c.deref_mut-then-place-self.result.now
+    c.take_out.new.position c.index.result.now c.index-index.result c.args.var false
+    i.0.linked c.deref_mut.ensures.value c.deref_mut-then-place-self.ensures.value known c.index-index.ensures.index c.index.ensures
+    c.take_out.ensures.available in (
+      same_heap s.activity.items s.activity.items c.take_out.new.heap _ c.take_out.new.position _ (s.len - 1)
+          (rw c.deref.ensures.value at c.take_out.ensures.heap) refl heaps places,
+      i.1,
+      same_idle s.activity.items _ (set (availability s.len s.position.items) c.args.var false) _ (set s.available.items c.args.var false) _
+          s.blocks.items _ s.cursor
+          (idle_gone s.activity.items (availability s.len s.position.items) s.available.items s.blocks.items s.cursor c.args.var i.2
+          (rw length-map (omega (arith, known, i.0.linked.count))) (omega (arith, known, i.2.count, i.0.known)))
+          refl (ap (availability (s.len - 1)) places ∙ standing)
+          (ap (λ (v : ℕ). set s.available.items v false) c.index-index.ensures.index) refl,
+    )

@@ -9,9 +9,9 @@ use Rattle.varisat_search.specs.declared.context.Context.{Context}
 use Rattle.varisat_search.specs.Contexts.{view}
 use Rattle.varisat_search.proofs.Backtrack.{Cutting, cutting-step}
 use Rattle.varisat_search.proofs.BacktrackValues.{Saving, saving-step, Making, making-step}
-use Rattle.varisat_search.proofs.levels.backtrack.Given.{Over}
-use Rattle.varisat_search.proofs.levels.backtrack.Goals.{After-var-var}
-use Rattle.varisat_search.proofs.levels.backtrack.Goals as goal
+use Rattle.varisat_search.proofs.levels.undo.Given.{Over}
+use Rattle.varisat_search.proofs.levels.undo.Goals.{After-var-var}
+use Rattle.varisat_search.proofs.levels.undo.Goals as goal
 
 -- the variable that is read is that of the literal at the place
 pub record Reads (g : Over) (c : After-var-var g) : Type 0 where
@@ -39,9 +39,9 @@ release_var-requires g c =
     let m = c.loop-place.invariant.cutting.count in
     omega (arith, i, m)
 
-pub make_available-requires : goal.make_available-requires
-make_available-requires g c =
-    let i = (reads g (goal.at.make_available-requires g c).After-var-var).inside in
+pub release-requires : goal.release-requires
+release-requires g c =
+    let i = (reads g (goal.at.release-requires g c).After-var-var).inside in
     let n = c.requires.entries.activity in
     let m = ap (λ (x : Context g.row.A.Denot). length x.vsids.activity) c.loop-place.invariant.kept in
     let o = ap (λ (x : Activities). length x.activity) c.loop-place.invariant.making.rest in
@@ -65,10 +65,10 @@ loop-place-preserved g c =
       saving = subst (λ a. Saving s c.args.ctx.now.assignment.last a c.level_end-end.result (k + 1)) (sym b)
           (saving-step s t c.args.ctx.now.assignment.last c.loop-place.ctx.assignment.last c.level_end-end.result k c.index-trail-place.result
           c.requires.well c.loop-place.auto.place r.below r.lit c.release_var.ensures.count c.loop-place.invariant.cutting c.loop-place.invariant.saving);
-      making = subst (λ a. Making s c.args.ctx.now.vsids a c.level_end-end.result (k + 1)) (sym c.make_available.ensures)
+      making = subst (λ a. Making s c.args.ctx.now.vsids a c.level_end-end.result (k + 1)) (sym c.release.ensures)
           (making-step s c.args.ctx.now.vsids c.loop-place.ctx.vsids c.level_end-end.result k c.var-var.result c.requires.well
           c.requires.entries.available c.loop-place.auto.place r.below r.var c.loop-place.invariant.making);
-      kept = ap (λ (x : Context g.row.A.Denot). record x { assignment = c.release_var.new.self; vsids = c.make_available.new.self })
+      kept = ap (λ (x : Context g.row.A.Denot). record x { assignment = c.release_var.new.self; vsids = c.release.new.self })
           c.loop-place.invariant.kept;
     }
 

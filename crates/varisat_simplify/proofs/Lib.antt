@@ -1,0 +1,11 @@
+pub mod StateLemmas
+pub mod ExtendLemmas
+pub mod EliminateLemmas
+pub mod CutLemmas
+pub mod ResolveLemmas
+pub mod ListLemmas
+pub mod CompareLemmas
+pub mod FlowLemmas
+pub mod ProofLemmas
+pub mod UnloadLemmas
+pub mod EliminateSteps

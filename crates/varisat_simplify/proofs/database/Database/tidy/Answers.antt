@@ -1,0 +1,16 @@
+use Rattle.std.proofs.Common.{arith, List, Bool, ◌<◌, [], length, get_or, set, ap, ◌∙◌}
+use Rattle.std.specs.List.{filter}
+use Rattle.varisat_simplify.specs.Flags.{is_flagged}
+use Rattle.varisat_simplify.proofs.ListLemmas.{sound_kept}
+use Rattle.varisat_simplify.proofs.database.Database.tidy.Goals as goal
+
+pub invariant_of-self : goal.invariant_of-self
+invariant_of-self g c =
+    let lists = c.self.inside.occurrences in
+    let a = c.code.ensures.code in
+    let b = c.len.ensures in
+    let d = c.if-code-len.false in
+    let h : c.args.lit < length lists = omega (arith, a, b, d) in
+    sound_kept c.self.inside.var_count c.self.inside.clauses c.self.inside.live.items lists c.keep.new.self c.args.lit h
+    (c.keep.ensures ∙ ap (λ (flags : List Bool). set lists c.args.lit (filter (is_flagged flags) (get_or lists c.args.lit []))) c.deref.ensures.value)
+    c.self.invariant

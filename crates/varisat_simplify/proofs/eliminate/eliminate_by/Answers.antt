@@ -1,0 +1,41 @@
+use Rattle.std.proofs.Common.{sym, ap, ◌∙◌}
+use Rattle.varisat_simplify.specs.States.{State}
+use Rattle.varisat_simplify.proofs.StateLemmas.{becomes_then}
+use Rattle.varisat_simplify.proofs.FlowLemmas.{becomes_same}
+use Rattle.varisat_simplify.proofs.EliminateSteps.{saves_from, small_opposite, pure_opposite}
+use Rattle.varisat_simplify.proofs.eliminate.eliminate_by.Goals as goal
+
+pub save_all-requires-clause-saves : goal.save_all-requires-clause-saves
+save_all-requires-clause-saves g c =
+    saves_from c.tidy-2.new.self c.add_resolvents.new.db c.args.lit c.deref-3.result.now c.deref-4.result.now c.deref-5.result.now c.deref-6.result.now
+    (c.deref-5.ensures.value ∙ sym c.deref-3.ensures.value) (c.deref-6.ensures.value ∙ sym c.deref-4.ensures.value)
+    (c.in_ok-add_resolvents.ensures {u = tt}).adds
+
+pub save_literal-requires-clause-small : goal.save_literal-requires-clause-small
+save_literal-requires-clause-small g c =
+    small_opposite c.args.lit c.not-4.result c.var_count.result c.save_all.new.db.var_count c.index.result c.not-4.ensures c.index.ensures.index
+    c.if-index-var_count.false
+    (c.var_count.ensures.count ∙ sym (c.save_all.ensures.becomes.count ∙ c.add_resolvents.ensures.becomes.count
+    ∙ ap (λ (s : State). s.var_count) (c.tidy-2.ensures ∙ c.tidy.ensures)))
+
+pub save_literal-requires-clause-pure : goal.save_literal-requires-clause-pure
+save_literal-requires-clause-pure g c =
+    pure_opposite c.save_all.new.db c.args.lit c.not-4.result c.not-4.ensures (c.in_ok-save_all.ensures {u = tt}).pure
+
+pub returns-in_err-save_all : goal.returns-in_err-save_all
+returns-in_err-save_all g c =
+    becomes_then c.args.db.now c.add_resolvents.new.db c.save_all.new.db
+    (becomes_then c.args.db.now c.tidy-2.new.self c.add_resolvents.new.db (becomes_same c.args.db.now c.tidy-2.new.self (c.tidy-2.ensures ∙ c.tidy.ensures))
+    c.add_resolvents.ensures.becomes) c.save_all.ensures.becomes
+
+pub returns-in_err-save_literal : goal.returns-in_err-save_literal
+returns-in_err-save_literal g c =
+    becomes_then c.args.db.now c.save_all.new.db c.save_literal.new.db (becomes_then c.args.db.now c.add_resolvents.new.db c.save_all.new.db
+    (becomes_then c.args.db.now c.tidy-2.new.self c.add_resolvents.new.db (becomes_same c.args.db.now c.tidy-2.new.self (c.tidy-2.ensures ∙ c.tidy.ensures))
+    c.add_resolvents.ensures.becomes) c.save_all.ensures.becomes) c.save_literal.ensures
+
+pub returns : goal.returns
+returns g c =
+    becomes_then c.args.db.now c.save_all.new.db c.save_literal.new.db (becomes_then c.args.db.now c.add_resolvents.new.db c.save_all.new.db
+    (becomes_then c.args.db.now c.tidy-2.new.self c.add_resolvents.new.db (becomes_same c.args.db.now c.tidy-2.new.self (c.tidy-2.ensures ∙ c.tidy.ensures))
+    c.add_resolvents.ensures.becomes) c.save_all.ensures.becomes) c.save_literal.ensures

@@ -1,0 +1,5 @@
+use Rattle.varisat_simplify.specs.States.{Becomes}
+use Rattle.varisat_simplify.proofs.simplify.eliminate_all.Given as goal
+
+abbrev pub invariant-loop-key : goal.invariant-loop-key
+invariant-loop-key g l = Becomes l.fn.db l.db

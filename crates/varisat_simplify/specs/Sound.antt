@@ -1,0 +1,25 @@
+-- What is true of a database inside.
+use Rattle.std.specs.Prelude.{◌≡◌, ℕ, ◌<◌, ◌≤◌, ◌^◌, Bool, true, false, List, [], length, slice_index_or}
+use Rattle.varisat_theory.specs.Membership.{◌∈◌}
+use Rattle.varisat_theory.specs.Literals.{Literal, Clause}
+
+-- each live clause is listed for each of its literals
+pub record IsSound (n : ℕ) (cs : List Clause) (live : List Bool) (lists : List (List ℕ)) : Type 0 where
+  pub even : length live ≡ length cs
+  pub small : n ≤ 2 ^ 31
+  pub below : (k l : ℕ) → l ∈ slice_index_or cs k [] → l < length lists
+  pub listed : (k l : ℕ) → slice_index_or live k false ≡ true → l ∈ slice_index_or cs k [] → k ∈ slice_index_or lists l []
+
+-- as many lists, each with what it had
+pub record Grows (old new : List (List ℕ)) : Type 0 where
+  pub same : length new ≡ length old
+  pub more : (l k : ℕ) → k ∈ slice_index_or old l [] → k ∈ slice_index_or new l []
+
+-- the place is listed for each literal
+abbrev pub IsListed : List (List ℕ) → List Literal → ℕ → Type 0
+IsListed lists c k = (l : Literal) → l ∈ c → (l < length lists) × (k ∈ slice_index_or lists l [])
+
+-- what the lists keep of the live places
+pub record KeepsLive (old new : List (List ℕ)) (live : List Bool) : Type 0 where
+  pub same : length new ≡ length old
+  pub kept : (l k : ℕ) → slice_index_or live k false ≡ true → k ∈ slice_index_or old l [] → k ∈ slice_index_or new l []

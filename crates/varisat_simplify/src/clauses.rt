@@ -1,0 +1,77 @@
+//! Clauses one behind the other in one buffer, none of which ever changes or leaves.
+ghost use Rattle.std.specs.Prelude.{◌≡◌, ℕ, List, ◌+◌, ◌∷◌, ◌++◌, [], ◌<◌, ◌≤◌, length, OnOk, OnErr, slice_index_or};
+ghost use Rattle.varisat_simplify.specs.Cuts.{start_of};
+
+use std::alloc::{AllocError, Allocator};
+use std::marker::Model;
+use varisat_literals::Lit;
+
+/// A list of clauses.
+#[derive(Drop)]
+pub struct ClauseList<A: Allocator + Copy> {
+    ends: Vec<usize, A>,
+    literals: Vec<Lit, A>,
+}
+
+impl<A: Allocator + Copy> Model for ClauseList<A> {
+    ghost use Rattle.std.specs.Prelude.{List, ℕ, length};
+    ghost use Rattle.varisat_simplify.specs.Cuts.{cut_from, AreEnds};
+
+    ghost Value = { List (List ℕ) };
+
+    ghost view = { λ c. cut_from 0 c.ends.items c.literals.items };
+
+    ghost invariant = { λ c. AreEnds 0 c.ends.items (length c.literals.items) };
+}
+
+/// Where the clause at the index begins.
+fn start_of(ends: &[usize], index: usize) -> usize
+    requires { index < length ends.now }
+    ensures { result ≡ start_of 0 ends.now index }
+{
+    if index == 0 {
+        return 0;
+    }
+    ends[index - 1]
+}
+
+impl<A: Allocator + Copy> ClauseList<A> {
+    /// No clauses. It takes no memory.
+    pub fn new_in(alloc: A) -> ClauseList<A>
+        ensures { result ≡ [] }
+    {
+        ClauseList {
+            ends: Vec::new(alloc),
+            literals: Vec::new(alloc),
+        }
+    }
+
+    /// How many clauses there are.
+    pub fn len(&self) -> usize
+        ensures { result ≡ length self.now }
+    {
+        self.ends.len()
+    }
+
+    /// Adds a clause behind the others. A refused growth changes nothing.
+    pub fn push(&mut self, clause: &[Lit]) -> Result<(), AllocError>
+        ensures ok { OnOk result (self.new ≡ self.old ++ clause.now ∷ []) }
+        ensures err { OnErr result (self.new ≡ self.old) }
+    {
+        self.ends.reserve(1)?;
+        self.literals.extend_from_slice(clause)?;
+        let end = self.literals.len();
+        self.ends.push_reserved(end);
+        Ok(())
+    }
+
+    /// The clause at the index.
+    pub fn clause(&self, index: usize) -> &[Lit]
+        requires { index < length self.now }
+        ensures { result.now ≡ slice_index_or self.now index [] }
+    {
+        let start = start_of(&self.ends, index);
+        let end = self.ends[index];
+        &self.literals[start..end]
+    }
+}

@@ -1,0 +1,247 @@
+//! The clauses of a formula that is simplified: each is added once, and is live until it is removed.
+ghost use Rattle.std.specs.Prelude.{◌≡◌, ℕ, List, Bool, true, false, ◌+◌, ◌*◌, ◌∷◌, ◌++◌, [], ◌<◌, ◌≤◌, ◌^◌, length, IsTrue, OnOk, OnErr, IfOk, slice_index_or, slice_set};
+ghost use Rattle.varisat_theory.specs.Membership.{◌∈◌};
+ghost use Rattle.varisat_simplify.specs.States.{State, no_clauses, pushed, removed, saved, clause_at, IsLive};
+
+use crate::clauses::ClauseList;
+use crate::occurrences::Occurrences;
+use std::alloc::{AllocError, Allocator};
+use std::marker::Model;
+use varisat_literals::Lit;
+
+/// The clauses, which of them are live, and by what models are extended once they are gone.
+#[derive(Drop)]
+pub struct Database<A: Allocator + Copy> {
+    var_count: usize,
+    clauses: ClauseList<A>,
+    live: Vec<bool, A>,
+    stack: ClauseList<A>,
+    occurrences: Occurrences<A>,
+    signatures: Vec<u64, A>,
+    counts: Vec<u32, A>,
+    touched: Vec<u32, A>,
+    is_touched: Vec<bool, A>,
+}
+
+impl<A: Allocator + Copy> Model for Database<A> {
+    ghost use Rattle.varisat_simplify.specs.States.{State};
+    ghost use Rattle.varisat_simplify.specs.Sound.{IsSound};
+
+    ghost Value = { State };
+
+    ghost view = { λ d. record { var_count = d.var_count; clauses = d.clauses; live = d.live.items; stack = d.stack } };
+
+    ghost invariant = { λ d. IsSound d.var_count d.clauses d.live.items d.occurrences };
+}
+
+/// One bit for each variable of the clause, out of 64.
+fn signature_of(clause: &[Lit]) -> u64 {
+    let mut bits: u64 = 0;
+    for lit in clause {
+        bits |= 1u64 << (lit.index() % 64);
+    }
+    bits
+}
+
+/// Counts one clause more, or fewer, for each of the literals.
+fn recount(counts: &mut [u32], clause: &[Lit], is_added: bool) {
+    for lit in clause {
+        if let Some(count) = counts.get_mut(lit.code()) {
+            *count = if is_added {
+                count.saturating_add(1)
+            } else {
+                count.saturating_sub(1)
+            };
+        }
+    }
+}
+
+/// Notes that the clauses of the variable changed. It is forgotten where there is no memory.
+fn touch<A: Allocator + Copy>(touched: &mut Vec<u32, A>, flags: &mut [bool], var: usize) {
+    if var >= flags.len() || var >= 0xffff_ffff || flags[var] {
+        return;
+    }
+    if touched.push(var as u32).is_ok() {
+        flags[var] = true;
+    }
+}
+
+/// Notes it for each variable of the clause.
+fn touch_all<A: Allocator + Copy>(touched: &mut Vec<u32, A>, flags: &mut [bool], clause: &[Lit]) {
+    for lit in clause {
+        touch(touched, flags, lit.index());
+    }
+}
+
+/// So many times the same.
+fn filled<T: Copy, A: Allocator + Copy>(
+    alloc: A,
+    count: usize,
+    value: T,
+) -> Result<Vec<T, A>, AllocError> {
+    let mut list = Vec::new(alloc);
+    for _ in 0..count {
+        list.push(value)?;
+    }
+    Ok(list)
+}
+
+impl<A: Allocator + Copy> Database<A> {
+    /// No clauses, over so many variables.
+    pub fn new_in(alloc: A, var_count: usize) -> Result<Database<A>, AllocError>
+        requires { var_count ≤ 2 ^ 31 }
+        ensures { IfOk result (λ d. d ≡ no_clauses var_count) }
+    {
+        let counts = filled(alloc, 2 * var_count, 0u32)?;
+        let is_touched = filled(alloc, var_count, false)?;
+        let occurrences = Occurrences::new_in(alloc, 2 * var_count)?;
+        Ok(Database {
+            var_count,
+            clauses: ClauseList::new_in(alloc),
+            live: Vec::new(alloc),
+            stack: ClauseList::new_in(alloc),
+            occurrences,
+            signatures: Vec::new(alloc),
+            counts,
+            touched: Vec::new(alloc),
+            is_touched,
+        })
+    }
+
+    /// How many variables there are.
+    pub fn var_count(&self) -> usize
+        ensures count { result ≡ self.now.var_count }
+        ensures small { result ≤ 2 ^ 31 }
+    {
+        self.var_count
+    }
+
+    /// How many clauses were added.
+    pub fn len(&self) -> usize
+        ensures { result ≡ length self.now.clauses }
+    {
+        self.clauses.len()
+    }
+
+    /// Whether the clause at the place is there and live.
+    pub fn is_live(&self, place: usize) -> bool
+        ensures { result ≡ slice_index_or self.now.live place false }
+    {
+        match self.live.get(place) {
+            Some(flag) => *flag,
+            None => false,
+        }
+    }
+
+    /// The clause at the place.
+    pub fn clause(&self, place: usize) -> &[Lit]
+        ensures { result.now ≡ clause_at self.now place }
+    {
+        if place >= self.clauses.len() {
+            return &[];
+        }
+        self.clauses.clause(place)
+    }
+
+    /// The variables of the clause at the place, by bits.
+    pub fn signature(&self, place: usize) -> u64 {
+        match self.signatures.get(place) {
+            Some(bits) => *bits,
+            None => 0,
+        }
+    }
+
+    /// How many live clauses have the literal.
+    pub fn count(&self, lit: Lit) -> usize {
+        match self.counts.get(lit.code()) {
+            Some(count) => *count as usize,
+            None => 0,
+        }
+    }
+
+    /// Places among which each live clause with the literal is.
+    pub fn places(&self, lit: Lit) -> &[u32]
+        ensures even { length self.now.live ≡ length self.now.clauses }
+        ensures all { (k : ℕ) → IsLive self.now k → lit ∈ clause_at self.now k → k ∈ result.now }
+    {
+        if lit.code() >= self.occurrences.len() {
+            return &[];
+        }
+        self.occurrences.list(lit)
+    }
+
+    /// A variable whose clauses changed since it was last returned.
+    pub fn take_touched(&mut self) -> Option<usize>
+        ensures { self.new ≡ self.old }
+    {
+        let var = self.touched.pop()? as usize;
+        if let Some(flag) = self.is_touched.get_mut(var) {
+            *flag = false;
+        }
+        Some(var)
+    }
+
+    /// Adds a clause, which is live.
+    pub fn push(&mut self, clause: &[Lit]) -> Result<(), AllocError>
+        ensures ok { OnOk result (self.new ≡ pushed self.old clause.now) }
+        ensures err { OnErr result (self.new ≡ self.old) }
+    {
+        let place = self.clauses.len();
+        if place >= 0xffff_ffff {
+            return Err(AllocError);
+        }
+        self.occurrences.add_all(clause, place as u32)?;
+        self.live.reserve(1)?;
+        self.signatures.reserve(1)?;
+        self.clauses.push(clause)?;
+        self.live.push_reserved(true);
+        self.signatures.push_reserved(signature_of(clause));
+        recount(&mut self.counts, clause, true);
+        touch_all(&mut self.touched, &mut self.is_touched, clause);
+        Ok(())
+    }
+
+    /// Removes the clause at the place.
+    pub fn remove(&mut self, place: usize)
+        ensures { self.new ≡ removed self.old place }
+    {
+        if place >= self.clauses.len() {
+            return;
+        }
+        self.live[place] = false;
+        let clause = self.clauses.clause(place);
+        recount(&mut self.counts, clause, false);
+        touch_all(&mut self.touched, &mut self.is_touched, clause);
+    }
+
+    /// Forgets places of the literal where no clause is live, if there are many.
+    pub fn tidy(&mut self, lit: Lit)
+        ensures { self.new ≡ self.old }
+    {
+        if lit.code() >= self.occurrences.len() {
+            return;
+        }
+        let count = self.count(lit).saturating_mul(2).saturating_add(8);
+        if self.occurrences.list(lit).len() > count {
+            self.occurrences.keep(lit, &self.live);
+        }
+    }
+
+    /// Puts a clause on the stack.
+    pub fn save(&mut self, clause: &[Lit]) -> Result<(), AllocError>
+        ensures ok { OnOk result (self.new ≡ saved self.old clause.now) }
+        ensures err { OnErr result (self.new ≡ self.old) }
+    {
+        self.stack.push(clause)?;
+        Ok(())
+    }
+
+    /// The stack, and all clauses that were added.
+    pub fn into_parts(self) -> (ClauseList<A>, ClauseList<A>)
+        ensures stack { result.0 ≡ self.stack }
+        ensures clauses { result.1 ≡ self.clauses }
+    {
+        let Database { stack, clauses, .. } = self;
+        (stack, clauses)
+    }
+}

@@ -1,0 +1,233 @@
+//! Variables that are resolved away.
+ghost use Rattle.std.specs.Prelude.{◌≡◌, ℕ, ◌/◌, ◌<◌, ◌≤◌, true, ◌∷◌, length, OnOk, OnErr, IfOk, IsTrue};
+ghost use Rattle.varisat_theory.specs.Membership.{◌∈◌};
+ghost use Rattle.varisat_theory.specs.Literals.{opposite, variable_of};
+ghost use Rattle.varisat_simplify.specs.States.{IsLive, clause_at, removed, saved, Becomes, Collects, Adds, Saves};
+
+use crate::database::Database;
+use crate::resolve::{holds, resolve};
+use std::alloc::{AllocError, Allocator};
+use varisat_literals::{Lit, Var};
+
+/// A variable stays that has more clauses of both signs.
+const MOST_CLAUSES: usize = 30;
+
+/// A variable stays that has more pairs of clauses.
+const MOST_PAIRS: usize = 1000;
+
+/// A variable stays that has a longer resolvent.
+const MOST_LITERALS: usize = 20;
+
+/// The lists that an elimination uses.
+#[derive(Drop)]
+pub struct Scratch<A: Allocator + Copy> {
+    pub literals: Vec<Lit, A>,
+    pub with: Vec<u32, A>,
+    pub against: Vec<u32, A>,
+}
+
+/// Lists the live clauses that have the literal. False if one has its opposite too.
+fn collect<A: Allocator + Copy>(
+    db: &Database<A>,
+    lit: Lit,
+    out: &mut Vec<u32, A>,
+) -> Result<bool, AllocError>
+    ensures { IfOk result (λ b. IsTrue b → Collects db.now lit out.new.items) }
+{
+    out.clear();
+    for place in db.places(lit) {
+        if db.is_live(*place as usize) {
+            let clause = db.clause(*place as usize);
+            if holds(clause, lit) {
+                if holds(clause, !lit) {
+                    return Ok(false);
+                }
+                out.push(*place)?;
+            }
+        }
+    }
+    Ok(true)
+}
+
+/// Whether the resolvents are few and short enough.
+fn is_worth<A: Allocator + Copy>(
+    db: &Database<A>,
+    lit: Lit,
+    with: &[u32],
+    against: &[u32],
+    literals: &mut Vec<Lit, A>,
+) -> Result<bool, AllocError> {
+    let most = with.len().saturating_add(against.len());
+    let mut count: usize = 0;
+    for one in with {
+        for other in against {
+            if resolve(
+                db.clause(*one as usize),
+                db.clause(*other as usize),
+                lit,
+                literals,
+            )? {
+                count = count.saturating_add(1);
+                if count > most || literals.len() > MOST_LITERALS {
+                    return Ok(false);
+                }
+            }
+        }
+    }
+    Ok(true)
+}
+
+/// Adds the resolvents.
+fn add_resolvents<A: Allocator + Copy>(
+    db: &mut Database<A>,
+    lit: Lit,
+    with: &[u32],
+    against: &[u32],
+    literals: &mut Vec<Lit, A>,
+) -> Result<(), AllocError>
+    requires with { Collects db.old lit with.now }
+    requires against { Collects db.old (opposite lit) against.now }
+    ensures becomes { Becomes db.old db.new }
+    ensures adds { OnOk result (Adds db.old db.new lit with.now against.now (length with.now) 0) }
+{
+    'rows: for one in with {
+        'pairs: for other in against {
+            if resolve(
+                db.clause(*one as usize),
+                db.clause(*other as usize),
+                lit,
+                literals,
+            )? {
+                db.push(literals)?;
+            }
+        }
+    }
+    Ok(())
+}
+
+/// Saves a clause with the literal in front, and removes it.
+fn save_one<A: Allocator + Copy>(
+    db: &mut Database<A>,
+    lit: Lit,
+    place: usize,
+    literals: &mut Vec<Lit, A>,
+) -> Result<(), AllocError>
+    ensures ok { OnOk result (db.new ≡ removed (saved db.old (lit ∷ clause_at db.old place)) place) }
+    ensures err { OnErr result (db.new ≡ db.old) }
+{
+    literals.clear();
+    literals.push(lit)?;
+    literals.extend_from_slice(db.clause(place))?;
+    db.save(literals)?;
+    db.remove(place);
+    Ok(())
+}
+
+/// Saves and removes the clauses with the literal.
+fn save_all<A: Allocator + Copy>(
+    db: &mut Database<A>,
+    lit: Lit,
+    with: &[u32],
+    against: &[u32],
+    literals: &mut Vec<Lit, A>,
+) -> Result<(), AllocError>
+    requires small { variable_of lit < db.old.var_count }
+    requires saves { Saves db.old db.old lit with.now against.now 0 }
+    ensures becomes { Becomes db.old db.new }
+    ensures pure { OnOk result ((k : ℕ) → IsLive db.new k → lit ∈ clause_at db.new k → ⊥) }
+    ensures rest { OnOk result (Collects db.new (opposite lit) against.now) }
+{
+    for place in with {
+        save_one(db, lit, *place as usize, literals)?;
+    }
+    Ok(())
+}
+
+/// Removes the clauses with the literal, which is made true. Its opposite stands in none.
+fn save_literal<A: Allocator + Copy>(
+    db: &mut Database<A>,
+    lit: Lit,
+    places: &[u32],
+) -> Result<(), AllocError>
+    requires small { variable_of lit < db.old.var_count }
+    requires pure { (k : ℕ) → IsLive db.old k → opposite lit ∈ clause_at db.old k → ⊥ }
+    requires with { (k : ℕ) → k ∈ places.now → lit ∈ clause_at db.old k }
+    ensures { Becomes db.old db.new }
+{
+    db.save(&[lit])?;
+    for place in places {
+        db.remove(*place as usize);
+    }
+    Ok(())
+}
+
+/// Resolves the literal's variable away where that is worth it. The literal stands in no more clauses than its opposite.
+fn eliminate_by<A: Allocator + Copy>(
+    db: &mut Database<A>,
+    lit: Lit,
+    scratch: &mut Scratch<A>,
+) -> Result<bool, AllocError>
+    ensures { Becomes db.old db.new }
+{
+    if db.count(lit) > MOST_CLAUSES || db.count(lit).saturating_mul(db.count(!lit)) > MOST_PAIRS {
+        return Ok(false);
+    }
+    if lit.index() >= db.var_count() {
+        return Ok(false);
+    }
+    db.tidy(lit);
+    db.tidy(!lit);
+    if !collect(db, lit, &mut scratch.with)? {
+        return Ok(false);
+    }
+    if !collect(db, !lit, &mut scratch.against)? {
+        return Ok(false);
+    }
+    if scratch.with.is_empty() && scratch.against.is_empty() {
+        return Ok(false);
+    }
+    if !is_worth(
+        db,
+        lit,
+        &scratch.with,
+        &scratch.against,
+        &mut scratch.literals,
+    )? {
+        return Ok(false);
+    }
+    add_resolvents(
+        db,
+        lit,
+        &scratch.with,
+        &scratch.against,
+        &mut scratch.literals,
+    )?;
+    save_all(
+        db,
+        lit,
+        &scratch.with,
+        &scratch.against,
+        &mut scratch.literals,
+    )?;
+    save_literal(db, !lit, &scratch.against)?;
+    Ok(true)
+}
+
+/// Resolves the variable away where that is worth it.
+pub fn eliminate<A: Allocator + Copy>(
+    db: &mut Database<A>,
+    var: Var,
+    scratch: &mut Scratch<A>,
+) -> Result<bool, AllocError>
+    ensures { Becomes db.old db.new }
+{
+    let positive = var.positive();
+    let negative = var.negative();
+    let lit = if db.count(positive) <= db.count(negative) {
+        positive
+    } else {
+        negative
+    };
+    let done = eliminate_by(db, lit, scratch)?;
+    Ok(done)
+}

@@ -1,0 +1,142 @@
+//! What two clauses say of one another.
+ghost use Rattle.std.specs.Prelude.{◌≡◌, ◌↔◌, true, false, IsTrue, IfOk, OnOk, MatchBool};
+ghost use Rattle.varisat_theory.specs.Literals.{opposite};
+ghost use Rattle.varisat_theory.specs.Membership.{◌∈◌, SameSet};
+ghost use Rattle.varisat_simplify.specs.Resolving.{Stands, Relates, LeavesOut, Resolves, Clashes, IsTautology};
+
+use std::alloc::{AllocError, Allocator};
+use varisat_literals::Lit;
+
+/// How a literal stands in a clause.
+#[derive(Clone, Copy)]
+pub enum Standing {
+    /// Not known.
+    Absent,
+    /// The clause has it.
+    Same,
+    /// The clause has its opposite.
+    Opposite,
+}
+
+/// How the literal stands in the clause, by the first of its variable.
+pub fn standing_of(clause: &[Lit], lit: Lit) -> Standing
+    ensures { Stands clause.now lit result }
+{
+    for other in clause {
+        if other.index() == lit.index() {
+            if other.code() == lit.code() {
+                return Standing::Same;
+            }
+            return Standing::Opposite;
+        }
+    }
+    Standing::Absent
+}
+
+/// Whether the clause has the literal.
+pub fn holds(clause: &[Lit], lit: Lit) -> bool
+    ensures { IsTrue result ↔ (lit ∈ clause.now) }
+{
+    for other in clause {
+        if other.code() == lit.code() {
+            return true;
+        }
+    }
+    false
+}
+
+/// What one clause makes of another.
+#[derive(Clone, Copy)]
+pub enum Relation {
+    /// Nothing.
+    Nothing,
+    /// It is a part of it.
+    Subsumes,
+    /// By this literal it takes the opposite from it.
+    Strengthens(Lit),
+}
+
+/// What the first clause makes of the second.
+pub fn relation_of(clause: &[Lit], other: &[Lit]) -> Relation
+    ensures { Relates clause.now other.now result }
+{
+    let mut flipped: Option<Lit> = None;
+    for lit in clause {
+        match standing_of(other, *lit) {
+            Standing::Absent => return Relation::Nothing,
+            Standing::Same => {}
+            Standing::Opposite => {
+                if flipped.is_some() {
+                    return Relation::Nothing;
+                }
+                flipped = Some(*lit);
+            }
+        }
+    }
+    match flipped {
+        None => Relation::Subsumes,
+        Some(lit) => {
+            if holds(clause, !lit) {
+                return Relation::Nothing;
+            }
+            Relation::Strengthens(lit)
+        }
+    }
+}
+
+/// The literals of the clause but for one.
+pub fn without<A: Allocator + Copy>(
+    clause: &[Lit],
+    lit: Lit,
+    out: &mut Vec<Lit, A>,
+) -> Result<(), AllocError>
+    ensures { OnOk result (LeavesOut clause.now lit out.new.items) }
+{
+    out.clear();
+    for other in clause {
+        if other.code() != lit.code() {
+            out.push(*other)?;
+        }
+    }
+    Ok(())
+}
+
+/// The resolvent of a clause with the literal and one with its opposite, or false where it is a tautology.
+pub fn resolve<A: Allocator + Copy>(
+    clause: &[Lit],
+    other: &[Lit],
+    lit: Lit,
+    out: &mut Vec<Lit, A>,
+) -> Result<bool, AllocError>
+    ensures { IfOk result (λ b. MatchBool b (Resolves clause.now other.now lit out.new.items) (Clashes clause.now other.now lit)) }
+{
+    without(other, !lit, out)?;
+    for one in clause {
+        if one.code() != lit.code() {
+            match standing_of(other, *one) {
+                Standing::Same => {}
+                Standing::Opposite => return Ok(false),
+                Standing::Absent => out.push(*one)?,
+            }
+        }
+    }
+    Ok(true)
+}
+
+/// Each literal of the clause once, or false where it is a tautology.
+pub fn normalize<A: Allocator + Copy>(
+    clause: &[Lit],
+    out: &mut Vec<Lit, A>,
+) -> Result<bool, AllocError>
+    ensures { IfOk result (λ b. MatchBool b (SameSet clause.now out.new.items) (IsTautology clause.now)) }
+{
+    out.clear();
+    for lit in clause {
+        match standing_of(out, *lit) {
+            Standing::Same => {}
+            Standing::Opposite => return Ok(false),
+            Standing::Absent => out.push(*lit)?,
+        }
+    }
+    Ok(true)
+}

@@ -1,0 +1,155 @@
+//! Backward subsumption: what a clause makes of the others.
+ghost use Rattle.varisat_simplify.specs.States.{Becomes};
+ghost use Rattle.varisat_simplify.specs.Resolving.{Compares};
+
+use crate::database::Database;
+use crate::resolve::{Relation, relation_of, without};
+use std::alloc::{AllocError, Allocator};
+use varisat_literals::Lit;
+
+/// No literal in more clauses is looked through, but for a clause of one literal.
+const MOST_PLACES: usize = 1000;
+
+/// The literal of the clause whose variable stands in the fewest clauses.
+fn rarest<A: Allocator + Copy>(db: &Database<A>, clause: &[Lit]) -> Option<Lit> {
+    let mut best = *clause.first()?;
+    let mut least = usize::MAX;
+    for lit in clause {
+        let count = db.count(*lit).saturating_add(db.count(!*lit));
+        if count < least {
+            least = count;
+            best = *lit;
+        }
+    }
+    Some(best)
+}
+
+/// Whether the one clause may have all variables of the other.
+fn may_use<A: Allocator + Copy>(db: &Database<A>, place: usize, other: usize) -> bool {
+    (db.signature(place) & !db.signature(other)) == 0
+        && db.clause(place).len() <= db.clause(other).len()
+}
+
+/// What the clause at `place` makes of the one at `other`.
+fn compare<A: Allocator + Copy>(db: &Database<A>, place: usize, other: usize) -> Relation
+    ensures { Compares db.now place other result }
+{
+    if other == place {
+        return Relation::Nothing;
+    }
+    if !db.is_live(other) {
+        return Relation::Nothing;
+    }
+    if !db.is_live(place) {
+        return Relation::Nothing;
+    }
+    if !may_use(db, place, other) {
+        return Relation::Nothing;
+    }
+    relation_of(db.clause(place), db.clause(other))
+}
+
+/// Uses the clause at `place` on the one at `other`.
+fn use_on<A: Allocator + Copy>(
+    db: &mut Database<A>,
+    place: usize,
+    other: usize,
+    scratch: &mut Vec<Lit, A>,
+) -> Result<(), AllocError>
+    ensures { Becomes db.old db.new }
+{
+    match compare(db, place, other) {
+        Relation::Nothing => {}
+        Relation::Subsumes => db.remove(other),
+        Relation::Strengthens(lit) => {
+            without(db.clause(other), !lit, scratch)?;
+            db.push(scratch)?;
+            db.remove(other);
+        }
+    }
+    Ok(())
+}
+
+/// The place at the index of the literal's list, which may be out of date.
+fn place_at<A: Allocator + Copy>(db: &Database<A>, lit: Lit, index: usize) -> Option<usize> {
+    match db.places(lit).get(index) {
+        Some(place) => Some(*place as usize),
+        None => None,
+    }
+}
+
+/// Uses the clause at `place` on those with the literal. Each that is looked at is taken from the budget.
+fn use_along<A: Allocator + Copy>(
+    db: &mut Database<A>,
+    place: usize,
+    lit: Lit,
+    budget: &mut u64,
+    scratch: &mut Vec<Lit, A>,
+) -> Result<(), AllocError>
+    ensures { Becomes db.old db.new }
+{
+    db.tidy(lit);
+    let count = db.places(lit).len();
+    *budget = budget.saturating_sub(count as u64);
+    for index in 0..count {
+        let Some(other) = place_at(db, lit, index) else {
+            return Ok(());
+        };
+        use_on(db, place, other, scratch)?;
+    }
+    Ok(())
+}
+
+/// The literal by which the clause at the place is used, if it is live and there are not too many. Where the budget is
+/// spent only clauses of one literal are used.
+fn way_of<A: Allocator + Copy>(db: &Database<A>, place: usize, budget: u64) -> Option<Lit> {
+    if !db.is_live(place) {
+        return None;
+    }
+    let clause = db.clause(place);
+    let lit = rarest(db, clause)?;
+    if clause.len() > 1 && budget == 0 {
+        return None;
+    }
+    if clause.len() > 1 && db.count(lit).saturating_add(db.count(!lit)) > MOST_PLACES {
+        return None;
+    }
+    Some(lit)
+}
+
+/// Uses the clause at the place on all others, if it is live.
+fn subsume_with<A: Allocator + Copy>(
+    db: &mut Database<A>,
+    place: usize,
+    budget: &mut u64,
+    scratch: &mut Vec<Lit, A>,
+) -> Result<(), AllocError>
+    ensures { Becomes db.old db.new }
+{
+    let Some(lit) = way_of(db, place, *budget) else {
+        return Ok(());
+    };
+    use_along(db, place, lit, budget, scratch)?;
+    use_along(db, place, !lit, budget, scratch)?;
+    Ok(())
+}
+
+/// Uses each clause from the place on, those that are added meanwhile too, and returns the place behind the last.
+pub fn subsume_from<A: Allocator + Copy>(
+    db: &mut Database<A>,
+    first: usize,
+    budget: &mut u64,
+    scratch: &mut Vec<Lit, A>,
+) -> Result<usize, AllocError>
+    ensures { Becomes db.old db.new }
+{
+    let mut place = first;
+    for _ in 0..u64::MAX {
+        if place >= db.len() {
+            return Ok(place);
+        }
+        subsume_with(db, place, budget, scratch)?;
+        place += 1;
+    }
+    Ok(place)
+}

@@ -278,18 +278,6 @@ impl<A: Allocator + Copy> ClauseAlloc<A> {
         self.buffer.slice_mut(begin..begin + len)
     }
 
-    /// Exchanges two literals of the clause.
-    pub fn swap_lits(&mut self, cref: ClauseRef, first: usize, second: usize)
-        requires sound { IsSound self.old }
-        requires place { IsPlace (stored_clauses self.old) cref }
-        requires first { first < length (literals_at (stored_clauses self.old) cref) }
-        requires second { second < length (literals_at (stored_clauses self.old) cref) }
-        ensures { RewritesLiteralsAt self.old self.new cref (λ lits. swap lits first second) }
-    {
-        let lits = self.lits_mut(cref);
-        lits.swap(first, second);
-    }
-
     /// Replaces the header of the clause by one of the same length.
     pub fn set_header(&mut self, cref: ClauseRef, header: ClauseHeader)
         requires sound { IsSound self.old }

@@ -102,8 +102,7 @@ impl<A: Allocator + Copy> DimacsParser<A> {
 
     /// Reads a byte that is no line feed.
     fn add(&mut self, b: u8) -> Result<(), AllocError>
-        requires open { self.old.over ≡ false }
-        requires fine { self.old.reading.fault ≡ None }
+        requires reads_on { IsReading self.old }
         requires inside { is_line_feed b ≡ false }
         ensures ok { OnOk result (AdvancesBy self.old (b ∷ []) self.new) }
         ensures open { self.new.over ≡ false }
@@ -128,8 +127,7 @@ impl<A: Allocator + Copy> DimacsParser<A> {
 
     /// Reads a byte, unless memory runs out: then nothing changes.
     fn byte(&mut self, b: u8) -> Result<(), AllocError>
-        requires open { self.old.over ≡ false }
-        requires fine { self.old.reading.fault ≡ None }
+        requires reads_on { IsReading self.old }
         ensures ok { OnOk result (AdvancesBy self.old (b ∷ []) self.new) }
         ensures open { self.new.over ≡ false }
         ensures err { OnErr result (self.new ≡ self.old) }
@@ -332,8 +330,7 @@ impl<A: Allocator + Copy> DimacsParser<A> {
 
     /// What the end of the text ends.
     fn end_text(&mut self)
-        requires open { self.old.over ≡ false }
-        requires fine { self.old.reading.fault ≡ None }
+        requires reads_on { IsReading self.old }
         ensures reads { IsEnding self.old self.new }
         ensures stays { self.new ≡ record self.old { reading = self.new.reading } }
     {

@@ -5,19 +5,21 @@ ghost use Rattle.varisat_literals.specs.Numbers.{variable_limit};
 use std::alloc::{AllocError, Allocator};
 use varisat_literals::Lit;
 
-/// A list of literals. No call relies on what an earlier one left in it.
+/// Two lists of literals. No call relies on what an earlier one left in them.
 #[derive(Drop)]
 pub struct TmpData<A: Allocator + Copy> {
     pub lits: Vec<Lit, A>,
+    pub lits_2: Vec<Lit, A>,
 }
 
 impl<A: Allocator + Copy> TmpData<A> {
-    /// An empty list. It takes no memory.
+    /// Two empty lists. They take no memory.
     pub fn new_in(alloc: A) -> TmpData<A>
-        ensures { result.lits.items ≡ [] }
+        ensures { (result.lits.items ≡ []) × (result.lits_2.items ≡ []) }
     {
         TmpData {
             lits: Vec::new(alloc),
+            lits_2: Vec::new(alloc),
         }
     }
 }

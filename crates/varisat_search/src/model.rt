@@ -1,5 +1,5 @@
 //! A model over the global variables.
-ghost use Rattle.std.specs.Prelude.{◌≡◌, ◌<◌, ◌≤◌, ◌^◌, ◌↔◌, length, IfOk, IsTrue};
+ghost use Rattle.std.specs.Prelude.{◌≡◌, ◌<◌, ◌≤◌, ◌^◌, ◌↔◌, [], length, IfOk, IsTrue};
 ghost use Rattle.varisat_theory.specs.Literals.{variable_of};
 ghost use Rattle.varisat_prop.specs.Parts.{IsMadeTrue};
 ghost use Rattle.varisat_search.specs.GlobalModels as model;
@@ -24,6 +24,15 @@ impl<A: Allocator + Copy> marker::Model for Model<A> {
 }
 
 impl<A: Allocator + Copy> Model<A> {
+    /// The model of no variables. It takes no memory.
+    pub fn new_in(alloc: A) -> Model<A>
+        ensures { result ≡ [] }
+    {
+        Model {
+            assignment: Vec::new(alloc),
+        }
+    }
+
     /// For each global variable its value; None of one that is not live.
     pub fn assignment(&self) -> &[Option<bool>]
         ensures { result.now ≡ self.now }

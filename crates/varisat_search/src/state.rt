@@ -13,7 +13,10 @@ pub enum SatState {
 #[derive(Clone, Copy, Debug)]
 pub struct SolverState {
     pub sat_state: SatState,
+    /// Whether no clause was accepted yet. Kept for callers: the search does not read it.
     pub formula_is_empty: bool,
+    /// Whether a search was begun. Kept for callers: the search does not read it.
+    pub solver_invoked: bool,
     pub state_is_invalid: bool,
 }
 
@@ -40,6 +43,7 @@ impl Default for SolverState {
         SolverState {
             sat_state: SatState::default(),
             formula_is_empty: true,
+            solver_invoked: false,
             state_is_invalid: false,
         }
     }

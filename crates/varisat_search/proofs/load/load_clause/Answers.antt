@@ -161,7 +161,9 @@ trace_satisfied-requires g c =
 
 -- the context once the literals were ordered
 abbrev ordered : (g : Over) (c : In_ok-trace_satisfied g) → Context g.row.A.Denot
-ordered g c = record c.collect_distinct.new.ctx { tmp_data = record { lits = with_items c.collect_distinct.new.ctx.tmp_data.lits c.trace_satisfied.new.lits } }
+ordered g c =
+    let x = c.collect_distinct.new.ctx in
+    record x { tmp_data = record x.tmp_data { lits = with_items x.tmp_data.lits c.trace_satisfied.new.lits } }
 
 -- whether there is a line or none
 satisfied : (g : Over) (c : In_ok-trace_satisfied g) → Loading c.args.ctx.now

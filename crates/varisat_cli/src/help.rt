@@ -4,11 +4,11 @@ ghost use Rattle.std.specs.Io.KnownBytes.{Appends};
 
 use std::io::{self, Write};
 
-/// The version of the crate that this program is written after, and that it is proved.
-pub const VERSION: &str = "varisat 0.2.2 (proved)\n";
+/// The version of this program, and the crate that has the same calls. No program can know whether it was proved.
+pub const VERSION: &str = "varisat 1.0.0, with the calls of the Rust crate varisat 0.2.2\n";
 
 /// The commands with their options, the formats and the exit codes.
-pub const HELP: &str = "varisat 0.2.2 (proved): a SAT solver
+pub const HELP: &str = "varisat 1.0.0: a SAT solver
 
     varisat solve FILE [OPTION ..]                   decide a DIMACS CNF text
     varisat check CNF PROOF [--binary | --marked]    check a proof that such a text is unsatisfiable
@@ -26,7 +26,8 @@ options of solve, in any order, each at most once:
     --heap BYTES     give the search so many bytes of memory
     --progress       show on standard error how far the search is
 
-FILE and CNF are DIMACS CNF, and - stands for standard input. PROOF is DRAT.
+FILE and CNF are DIMACS CNF, and - stands for standard input. PROOF is DRAT. ./varisat and the installed
+varisat decompress what they read from files named .gz, .bz2, .xz or .zst.
 
 exit codes:
     10    solve: satisfiable        0    solve: unknown, check: verified, session: done

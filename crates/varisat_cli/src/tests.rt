@@ -47,11 +47,12 @@ fn a_formula_is_not_written_over(rt: HostRuntime) {
 fn texts_are_printed(rt: HostRuntime) -> Result<(), Fail> {
     let mut out = Vec::new(rt.alloc());
     assert!(rt; print_text(&mut out, VERSION).is_ok());
-    assert_eq!(rt; out.as_slice(), b"varisat 0.2.2 (proved)\n".as_slice());
+    let version = "varisat 1.0.0, with the calls of the Rust crate varisat 0.2.2\n";
+    assert_eq!(rt; out.as_slice(), version.as_bytes());
     let rows: [(&str, Option<&str>); 12] = [
-        ("--help", Some("varisat 0.2.2 (proved): a SAT solver\n")),
-        ("-h", Some("varisat 0.2.2 (proved): a SAT solver\n")),
-        ("--version", Some("varisat 0.2.2 (proved)\n")),
+        ("--help", Some("varisat 1.0.0: a SAT solver\n")),
+        ("-h", Some("varisat 1.0.0: a SAT solver\n")),
+        ("--version", Some(version)),
         ("solve --help", Some("varisat solve FILE [OPTION ..]\n")),
         ("solve -h", Some("varisat solve FILE [OPTION ..]\n")),
         (

@@ -1,0 +1,63 @@
+# A part of ./varisat and of the installed command: starts the program, and decompresses the files that it is to read first.
+
+fail() {
+  echo "error: $1" >&2
+  exit 2
+}
+
+# The command that decompresses files of such a name, or nothing.
+decompressor_of() {
+  case $1 in
+    *.gz) echo gzip ;;
+    *.bz2) echo bzip2 ;;
+    *.xz) echo xz ;;
+    *.zst) echo zstd ;;
+  esac
+}
+
+# Writes the text of the compressed file $1 to a file that has no name and is open as number $2. It is there to its end before the
+# program starts: what a cut archive has of a text may be a text too.
+decompress() {
+  tool=$(decompressor_of "$1")
+  command -v "$tool" >/dev/null || fail "'$1': the command $tool is not there"
+  text=$(mktemp) || fail "'$1': no place to decompress it"
+  eval "exec $2<>\"\$text\""
+  rm "$text"
+  # Of no bytes some of these commands make an empty text.
+  if ! [ -s "$1" ] || ! "$tool" -dc <"$1" >"/dev/fd/$2"; then
+    fail "'$1': cannot be decompressed"
+  fi
+}
+
+# Stops where a proof would be written over its formula, or under a name that belongs to another format.
+refuse_proof() { # FORMULA PROOF
+  if [ "$1" -ef "$2" ]; then
+    fail "'$2': the formula is in this file, which a proof would overwrite"
+  elif [ -n "$(decompressor_of "$2")" ]; then
+    fail "'$2': a proof is written as it is: compress it when it is done"
+  fi
+}
+
+# Runs the program $1 with the other words as its arguments. It reads the first word behind `solve`, or two behind `check` and its
+# option, as files.
+start() {
+  program=$1 command=${2-} place=0 before='' formula=''
+  shift
+  for word; do
+    shift
+    [ "$command:$word" = check:--drat ] || place=$((place + 1))
+    case $command$place in
+      solve2 | check2 | check3)
+        if [ -n "$(decompressor_of "$word")" ] && [ -f "$word" ] && [ -r "$word" ]; then
+          formula=$word
+          decompress "$word" $((place + 6))
+          word=/dev/fd/$((place + 6))
+        fi
+        ;;
+      solve*) [ "$before" != --proof ] || refuse_proof "$formula" "$word" ;;
+    esac
+    before=$word
+    set -- "$@" "$word"
+  done
+  exec "$program" "$@"
+}

@@ -75,8 +75,8 @@ def check_tools(*tools):
 
 def build_ours():
     """Proves and builds our program where that is due."""
-    if subprocess.run([f"{ROOT}/varisat", "session"], stdin=subprocess.DEVNULL).returncode:
-        stop("./varisat was not built")
+    if subprocess.run([f"{ROOT}/varisat", "--prove"], stdin=subprocess.DEVNULL).returncode:
+        stop("the program was not built")
 
 
 def ours():

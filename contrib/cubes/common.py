@@ -20,7 +20,7 @@ def program():
     for path in [os.environ["VARISAT"]] if "VARISAT" in os.environ else [HERE / "varisat", built]:
         if os.path.isfile(path) and os.access(path, os.X_OK):
             return os.path.abspath(path)
-    stop(f"the program varisat is not there: no {path}; `./varisat --version` at the top builds it, or VARISAT names it")
+    stop(f"the program varisat is not there: no {path}; `./varisat --prove` at the top builds it, or VARISAT names it")
 
 
 def varisat(*words, **options):

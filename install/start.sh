@@ -1,8 +1,8 @@
 # A part of ./varisat and of the installed command: starts the program, and decompresses the files that it is to read first.
 
-# Tells a fault, and ends with the status of one, also where standard error is closed or full.
+# Tells a fault, and ends with the status of one, also where standard error is closed, full or not read.
 fail() {
-  (trap '' PIPE && echo "error: $1" >&2) || :
+  (echo "error: $1" >&2) || :
   exit 2
 }
 

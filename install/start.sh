@@ -24,10 +24,7 @@ decompress() {
   text=$(mktemp) || fail "'$1': no place to decompress it"
   eval "exec $2<>\"\$text\""
   rm "$text"
-  # Of no bytes some of these commands make an empty text.
-  if ! [ -s "$1" ] || ! "$tool" -dc <"$1" >"/dev/fd/$2"; then
-    fail "'$1': cannot be decompressed"
-  fi
+  "$tool" -dc <"$1" >"/dev/fd/$2" || fail "'$1': cannot be decompressed"
 }
 
 # Stops where a proof would be written over its formula, or under a name that belongs to another format.

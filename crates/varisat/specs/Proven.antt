@@ -114,14 +114,14 @@ DecidesWithStatus taken o old new target back status =
 abbrev pub FailsBy : {W : Type 0} → (W → Taken) → SolveOptions → Option W → Stand → Stand → SolverError → Type 0
 FailsBy taken o target old new e = Fails taken (prepared taken o.format o.check o.max_steps target) old new e
 
--- the conclusion is printed with its status, or a beginning of it where the writer fails
-abbrev pub Prints : Conclusion → ℕ → Option (List ℕ) → Option (List ℕ) → Type 0
+-- the conclusion is printed with its status, or a beginning of it where a call of the target fails
+abbrev pub Prints : Conclusion → ℕ → Taken → Taken → Type 0
 Prints conclusion status before printed = EndsPrinting (conclusion_status conclusion) (conclusion_text conclusion) status before printed
 
 -- What the program's `solve` comes to: deciding fails, nothing is printed, and the status tells a fault; or the text is decided, and
 -- the conclusion is printed.
 abbrev pub SolvesText : {W : Type 0} → (W → Taken) → SolveOptions → Stand → Stand → Option W → Option W →
-    Option (List ℕ) → Option (List ℕ) → ℕ → Type 0
+    Taken → Taken → ℕ → Type 0
 SolvesText taken o old new target back before printed status =
     ((error : SolverError) × FailsBy taken o target old new error × (status ≡ fault_status) × (printed ≡ before))
     ⊎ ((conclusion : Conclusion) × DecidesBy taken o old new target back conclusion × Prints conclusion status before printed)

@@ -1,8 +1,7 @@
 //! The lines of a session: reading a line's command as a call, and writing the answer.
-ghost use Rattle.std.specs.Prelude.{◌≡◌, ◌≢◌, ◌==◌, ℕ, ◌+◌, ◌<◌, ◌≤◌, ◌^◌, List, [], ◌∷◌, ◌++◌, map, IfOk, IfSome, IfNone, OnOk, OnErr, decimal, length, codes};
+ghost use Rattle.std.specs.Prelude.{◌≡◌, ◌≢◌, ◌==◌, ℕ, ◌+◌, ◌<◌, ◌≤◌, ◌^◌, List, [], ◌∷◌, ◌++◌, map, IfOk, IfSome, IfNone, OnOk, decimal, length, codes};
 ghost use Rattle.std.specs.List.{All, join_with_byte};
 ghost use Rattle.std.specs.Io.KnownBytes.{Appends};
-ghost use Rattle.varisat_formula.specs.Printed.{AppendsPart};
 ghost use Rattle.varisat_theory.specs.Literals.{Literal};
 ghost use Rattle.varisat_literals.specs.Numbers.{literal_text, variable_text};
 ghost use Rattle.varisat.specs.Lines.{Command, Add, Assume, Config, words, MeansCommand, BeginsList, MeansUpdate, MeansOneCommand, AsksFor, SetsUsage, Opens, words_of, literals_text, variables_text, names_text, refusal_text, done_text, list_text, made_text, solved_text, truth_text, count_text, hex_digit, hex_text, bytes_text, opened_text, closed_text, answer_text};
@@ -14,7 +13,7 @@ use itoa::Buffer;
 use std::alloc::{AllocError, Allocator};
 use std::io::{self, Write};
 use std::str;
-use varisat_formula::io::{ByteSource, MemoryTarget, write_text};
+use varisat_formula::io::{ByteSource, MemoryTarget};
 use varisat_literals::{Lit, Var};
 use varisat_names::config::{ConfigField, SolverConfigUpdate};
 use varisat_proof::proof::ProofFormat;
@@ -417,25 +416,17 @@ fn write_refusal<W: Write>(out: &mut W, error: &SolverError) -> io::Result<()>
     out.write_all(Buffer::new().format(error.number()).as_bytes())
 }
 
-/// Writes the literal's DIMACS number after a space, or a beginning of that where the writer fails.
-fn write_literal<W: Write>(out: &mut W, buffer: &mut Buffer, literal: Lit) -> io::Result<()>
-    ensures whole { OnOk result (Appends (W.contents out.old) (W.contents out.new) (32 ∷ literal_text literal)) }
-    ensures begun { OnErr result (AppendsPart (W.contents out.old) (W.contents out.new) (32 ∷ literal_text literal)) }
-{
-    write_text(out, b" ")?;
-    write_text(out, buffer.format(literal.to_dimacs()).as_bytes())
-}
-
-/// Writes the literals' DIMACS numbers, each after a space, and then ` 0`, or a beginning of that where the writer fails.
-pub fn write_literals<W: Write>(out: &mut W, literals: &[Lit]) -> io::Result<()>
-    ensures whole { OnOk result (Appends (W.contents out.old) (W.contents out.new) (literals_text literals.now)) }
-    ensures begun { OnErr result (AppendsPart (W.contents out.old) (W.contents out.new) (literals_text literals.now)) }
+/// Writes the literals' DIMACS numbers, each after a space, and then ` 0`. Of errors the same holds as of
+/// `write_answer`.
+fn write_literals<W: Write>(out: &mut W, literals: &[Lit]) -> io::Result<()>
+    ensures { OnOk result (Appends (W.contents out.old) (W.contents out.new) (literals_text literals.now)) }
 {
     let mut buffer = Buffer::new();
     for literal in literals {
-        write_literal(out, &mut buffer, *literal)?;
+        out.write_all(b" ")?;
+        out.write_all(buffer.format(literal.to_dimacs()).as_bytes())?;
     }
-    write_text(out, b" 0")
+    out.write_all(b" 0")
 }
 
 /// Writes the variables' DIMACS numbers, each after a space, and then ` 0`. Of errors the same holds as of

@@ -1,23 +1,24 @@
 //! The commands of the program, over readers and writers.
-ghost use Rattle.std.specs.Prelude.{◌≡◌, ◌-◌, ◌^◌, ◌<◌, OnOk, OnErr, IfOk};
-ghost use Rattle.std.specs.Io.KnownBytes.{Appends};
-ghost use Rattle.varisat_formula.specs.Printed.{AppendsPart};
+ghost use Rattle.std.specs.Prelude.{◌≡◌, ◌-◌, ◌^◌, ◌<◌, ◌∷◌};
+ghost use Rattle.varisat_literals.specs.Numbers.{literal_text};
+ghost use Rattle.varisat_formula.specs.Written.{Puts};
+ghost use Rattle.varisat.specs.Lines.{literals_text};
 ghost use Rattle.varisat.specs.Decided.{concluded, StatusIsTrue, model_text, conclusion_text, conclusion_status};
 ghost use Rattle.varisat.specs.Proven.{CanCountFault, SolvesText};
 ghost use Rattle.varisat_proof.specs.Verified.{fault_status};
 
 use crate::deciding::decide_text;
 pub use crate::deciding::{Report, SolveOptions};
-use crate::line::{parse_line, write_answer, write_literals};
+use crate::line::{parse_line, write_answer};
 use crate::session::make_call;
 use crate::solver::{Solver, SolverError};
+use itoa::Buffer;
 use std::alloc::Allocator;
 use std::fmt::Display;
 use std::io::{self, BufRead, BufReader, Empty, Read, Write};
-use varisat_formula::io::{
-    ByteSource, MemoryTarget, ProofTarget, ReadSource, print_text, write_text,
-};
+use varisat_formula::io::{ByteSource, MemoryTarget, ProofTarget, ReadSource};
 use varisat_literals::Lit;
+use varisat_proof::program::print_text;
 pub use varisat_proof::program::{STATUS_FAULT, check_drat_lines, check_lines};
 
 /// The status of a command that came to its end.
@@ -47,67 +48,91 @@ pub fn session_lines<A: Allocator + Copy, R: Read + Drop, W: Write, E: Write>(
 /// Reads a DIMACS CNF text and decides it. Prints `s SATISFIABLE` and a `v` line with the model, status 10, or `s
 /// UNSATISFIABLE`, status 20; or `s UNKNOWN`, status 0, where the steps are spent before that is known. A target takes
 /// the lines of the search as a proof, which is opened before a clause is accepted and closed before anything is
-/// printed; then the target is there again. A fault of the text, its source, the target or the writer, and out of
-/// memory, is told on `err`, and the status is 2; nothing is printed then, or, where the writer failed, a beginning of
-/// what was to be. Of what was printed something is said only for a writer whose contents are known. With `check` a
+/// printed; then the target is there again. A fault of the text, its source, a target or memory is told on `err`, and
+/// the status is 2; nothing is printed then, or, where `out` failed, a beginning of what was to be. With `check` a
 /// checker runs inside the solver, and with `progress` it is told on `err`, after so many steps each and at the end,
 /// how far the search is. Where the text was decided the solver's memory is kept: this is for a program that ends then.
-/// The source and the target have to have counted fewer than 2^64-1 faults.
-pub fn solve_lines<A: Allocator + Copy, S: ByteSource, T: ProofTarget, W: Write, E: Write>(
+/// The source and the targets have to have counted fewer than 2^64-1 faults.
+pub fn solve_lines<A: Allocator + Copy, S: ByteSource, P: ProofTarget, T: ProofTarget, E: Write>(
     alloc: A,
     cnf: &mut S,
-    proof: &mut Option<T>,
+    proof: &mut Option<P>,
     options: SolveOptions,
-    out: &mut W,
+    out: &mut T,
     err: &mut E,
 ) -> u8
     requires faults { (S.stand cnf.old).faults < 2 ^ 64 - 1 }
-    requires room { CanCountFault T.taken proof.old }
+    requires room { CanCountFault P.taken proof.old }
+    requires out_faults { (T.taken out.old).faults < 2 ^ 64 - 1 }
     // Deciding fails, and nothing is printed; or the source gave a whole text, which was decided if the steps allowed it, with
-    // a proof in the target, and the outcome was printed, or a beginning of it where the writer failed.
-    ensures outcome { SolvesText T.taken options (S.stand cnf.old) (S.stand cnf.new) proof.old proof.new (W.contents out.old) (W.contents out.new) result }
+    // a proof in the target, and the outcome was printed, or a beginning of it where a call of `out` failed.
+    ensures outcome { SolvesText P.taken options (S.stand cnf.old) (S.stand cnf.new) proof.old proof.new (T.taken out.old) (T.taken out.new) result }
     ensures truth { StatusIsTrue (S.stand cnf.old) (S.stand cnf.new) result }
 {
     match decide_text(alloc, cnf, proof, options, err) {
-        Ok(report) => match write_report(out, &report) {
-            Ok(status) => status,
+        Ok(report) => match print_report(out, &report) {
+            Ok(()) => status_of(&report),
             Err(error) => tell_fault(err, &error),
         },
         Err(refusal) => tell_fault(err, &refusal),
     }
 }
 
-/// Writes what a text was found to be, and returns the status for it. A writer that fails has a beginning of it.
-fn write_report<W: Write, A: Allocator + Copy>(out: &mut W, report: &Report<A>) -> io::Result<u8>
-    ensures text { OnOk result (Appends (W.contents out.old) (W.contents out.new) (conclusion_text (concluded report.now))) }
-    ensures begun { OnErr result (AppendsPart (W.contents out.old) (W.contents out.new) (conclusion_text (concluded report.now))) }
-    ensures status { IfOk result (λ status. status ≡ conclusion_status (concluded report.now)) }
+/// Prints what a text was found to be.
+fn print_report<T: ProofTarget, A: Allocator + Copy>(
+    out: &mut T,
+    report: &Report<A>,
+) -> io::Result<()>
+    requires { (T.taken out.old).faults < 2 ^ 64 - 1 }
+    ensures { Puts (T.taken out.old) result (conclusion_text (concluded report.now)) (T.taken out.new) }
 {
     match report {
-        Report::Decided(Some(model)) => {
-            write_model(out, model)?;
-            Ok(STATUS_SATISFIABLE)
-        }
-        Report::Decided(None) => {
-            print_text(out, b"s UNSATISFIABLE\n")?;
-            Ok(STATUS_UNSATISFIABLE)
-        }
-        Report::Unknown => {
-            print_text(out, b"s UNKNOWN\n")?;
-            Ok(STATUS_DONE)
-        }
+        Report::Decided(Some(model)) => print_model(out, model),
+        Report::Decided(None) => print_text(out, b"s UNSATISFIABLE\n"),
+        Report::Unknown => print_text(out, b"s UNKNOWN\n"),
     }
 }
 
-/// Writes that a model was found, and the model, and flushes the writer. One that fails has a beginning of it.
-fn write_model<W: Write>(out: &mut W, model: &[Lit]) -> io::Result<()>
-    ensures whole { OnOk result (Appends (W.contents out.old) (W.contents out.new) (model_text model.now)) }
-    ensures begun { OnErr result (AppendsPart (W.contents out.old) (W.contents out.new) (model_text model.now)) }
+/// The status for it.
+fn status_of<A: Allocator + Copy>(report: &Report<A>) -> u8
+    ensures { result ≡ conclusion_status (concluded report.now) }
 {
-    write_text(out, b"s SATISFIABLE\nv")?;
-    write_literals(out, model)?;
-    print_text(out, b"\n")?;
-    Ok(())
+    match report {
+        Report::Decided(Some(_)) => STATUS_SATISFIABLE,
+        Report::Decided(None) => STATUS_UNSATISFIABLE,
+        Report::Unknown => STATUS_DONE,
+    }
+}
+
+/// Prints that a model was found, and the model.
+fn print_model<T: ProofTarget>(out: &mut T, model: &[Lit]) -> io::Result<()>
+    requires { (T.taken out.old).faults < 2 ^ 64 - 1 }
+    ensures { Puts (T.taken out.old) result (model_text model.now) (T.taken out.new) }
+{
+    out.put(b"s SATISFIABLE\nv")?;
+    put_literals(out, model)?;
+    print_text(out, b"\n")
+}
+
+/// Puts the literals' DIMACS numbers, each after a space, and then ` 0`.
+fn put_literals<T: ProofTarget>(out: &mut T, literals: &[Lit]) -> io::Result<()>
+    requires { (T.taken out.old).faults < 2 ^ 64 - 1 }
+    ensures { Puts (T.taken out.old) result (literals_text literals.now) (T.taken out.new) }
+{
+    let mut buffer = Buffer::new();
+    for literal in literals {
+        put_literal(out, &mut buffer, *literal)?;
+    }
+    out.put(b" 0")
+}
+
+/// Puts a space and the literal's DIMACS number.
+fn put_literal<T: ProofTarget>(out: &mut T, buffer: &mut Buffer, literal: Lit) -> io::Result<()>
+    requires { (T.taken out.old).faults < 2 ^ 64 - 1 }
+    ensures { Puts (T.taken out.old) result (32 ∷ literal_text literal) (T.taken out.new) }
+{
+    out.put(b" ")?;
+    out.put(buffer.format(literal.to_dimacs()).as_bytes())
 }
 
 /// Tells a fault, and returns the status for it.

@@ -18,7 +18,7 @@ use std::os::fd::{AsRawFd, RawFd};
 use std::os::unix::fs::{FileTypeExt, MetadataExt};
 use std::process::ExitCode;
 use std::{env, fs};
-use varisat::io::{IoTarget, ReadSource};
+use varisat::io::{IoTarget, ProofTarget, ReadSource};
 use varisat::line::parse_number;
 use varisat::program::{
     STATUS_DONE, STATUS_FAULT, SolveOptions, check_drat_lines, check_lines, session_lines,
@@ -327,13 +327,13 @@ fn decide_from<R: Read + Drop>(
 {
     let mut err = rt.stderr();
     match BufWriter::new(rt.alloc(), io::writer(rt)) {
-        Ok(mut out) => decide_text(
+        Ok(out) => decide_text(
             rt,
             words.heap,
             &mut ReadSource::new(cnf),
             proof,
             words.options(),
-            &mut out,
+            &mut IoTarget::new(out),
             &mut err,
         ),
         Err(error) => tell_fault(&mut err, &error),
@@ -387,17 +387,18 @@ fn refuse_stream(number: RawFd) -> io::Result<()> {
 // Decides the text that a reader gives, with a proof if there is a target for it. All that the solver has is a heap of the
 // size that is given, if one is. Nobody knows a file's bytes beforehand, but the status and the proof are right for those
 // that were read.
-fn decide_text<R: Read + Drop, W: Write, E: Write>(
+fn decide_text<R: Read + Drop, T: ProofTarget, E: Write>(
     rt: &HostRuntime,
     heap: Option<usize>,
     cnf: &mut ReadSource<R>,
     proof: &mut Option<FileTarget>,
     options: SolveOptions,
-    out: &mut W,
+    out: &mut T,
     err: &mut E,
 ) -> u8
     requires faults { cnf.old.faults < 2 ^ 64 - 1 }
     requires room { CanCountFault taken_by_writer proof.old }
+    requires out_faults { (T.taken out.old).faults < 2 ^ 64 - 1 }
     ensures truth { StatusIsTrue cnf.old cnf.new result }
     ensures outcome { (result ≡ fault_status) ⊎ DecidesWithStatus taken_by_writer options cnf.old cnf.new proof.old proof.new result }
 {
@@ -431,7 +432,8 @@ fn check_from<R: Read + Drop>(rt: &HostRuntime, cnf: R, words: &CheckWords<'_>) 
     };
     let (mut cnf, mut proof) = (ReadSource::new(cnf), ReadSource::new(proof));
     match BufWriter::new(rt.alloc(), io::writer(rt)) {
-        Ok(mut out) => {
+        Ok(out) => {
+            let mut out = IoTarget::new(out);
             if words.is_drat {
                 check_drat_texts(rt, &mut cnf, &mut proof, words.format, &mut out, &mut err)
             } else {
@@ -444,17 +446,18 @@ fn check_from<R: Read + Drop>(rt: &HostRuntime, cnf: R, words: &CheckWords<'_>) 
 
 // Checks the proof that a file gives, whose lines may be those of solvers that simplify. The status is 0 only where no
 // assignment satisfies the clauses of the text that was read.
-fn check_drat_texts<R: Read + Drop, W: Write, E: Write>(
+fn check_drat_texts<R: Read + Drop, T: ProofTarget, E: Write>(
     rt: &HostRuntime,
     cnf: &mut ReadSource<R>,
     proof: &mut ReadSource<File>,
     format: ProofFormat,
-    out: &mut W,
+    out: &mut T,
     err: &mut E,
 ) -> u8
     requires cnf_faults { cnf.old.faults < 2 ^ 64 - 1 }
     requires proof_faults { proof.old.faults < 2 ^ 64 - 1 }
-    ensures outcome { EndsByDrat cnf.old cnf.new result (W.contents out.old) (W.contents out.new) }
+    requires out_faults { (T.taken out.old).faults < 2 ^ 64 - 1 }
+    ensures outcome { EndsByDrat cnf.old cnf.new result (T.taken out.old) (T.taken out.new) }
     ensures truth { result ≡ 0 → GivesUnsatisfiable cnf.old cnf.new }
 {
     check_drat_lines(rt.alloc(), cnf, proof, format, out, err)
@@ -462,18 +465,19 @@ fn check_drat_texts<R: Read + Drop, W: Write, E: Write>(
 
 // Checks the proof that a file gives. The status is 0 only where no assignment satisfies the clauses of the text that
 // was read.
-fn check_texts<R: Read + Drop, W: Write, E: Write>(
+fn check_texts<R: Read + Drop, T: ProofTarget, E: Write>(
     rt: &HostRuntime,
     cnf: &mut ReadSource<R>,
     proof: &mut ReadSource<File>,
     format: ProofFormat,
-    out: &mut W,
+    out: &mut T,
     err: &mut E,
 ) -> u8
     requires cnf_faults { cnf.old.faults < 2 ^ 64 - 1 }
     requires proof_faults { proof.old.faults < 2 ^ 64 - 1 }
+    requires out_faults { (T.taken out.old).faults < 2 ^ 64 - 1 }
     ensures outcome { EndsCheck format (sources_of cnf.old proof.old) (sources_of cnf.new proof.new)
-        result (W.contents out.old) (W.contents out.new) }
+        result (T.taken out.old) (T.taken out.new) }
     ensures truth { result ≡ 0 → GivesUnsatisfiable cnf.old cnf.new }
 {
     check_lines(rt.alloc(), cnf, proof, format, out, err)

@@ -19,5 +19,6 @@ pub mod CheckedSteps
 pub mod MappedSteps
 pub mod AddedTexts
 pub mod VerifiedTexts
+pub mod PrintedTexts
 pub mod StepLines
 pub mod ToldSteps

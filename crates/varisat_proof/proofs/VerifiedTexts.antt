@@ -4,7 +4,7 @@ use Rattle.varisat_theory.specs.Membership.{◌∈◌, SameSet}
 use Rattle.varisat_theory.specs.Literals.{Clause, IsSatisfiable}
 use Rattle.varisat_theory.proofs.Members.{∈-append_right, ∈-append_cases}
 use Rattle.varisat_formula.specs.Dimacs.{Reading}
-use Rattle.varisat_formula.specs.Streams.{Stand}
+use Rattle.varisat_formula.specs.Streams.{Stand, Taken}
 use Rattle.varisat_formula.specs.Parsed.{GivesReading}
 use Rattle.varisat_formula.proofs.ParsedSources.{gives_whole}
 use Rattle.varisat_proof.specs.declared.proof.format.ProofFormat.{ProofFormat}
@@ -20,7 +20,7 @@ use Rattle.varisat_proof.specs.Marked.{MarkedTold, nothing_told, IsCheckOf, stat
 use Rattle.varisat_proof.specs.Results.{IsResult, result_of}
 use Rattle.varisat_plain.specs.declared.checker.PlainVerdict.{PlainVerdict}
 use Rattle.varisat_plain.specs.declared.checker.PlainVerdict.TheVariants as plain
-use Rattle.varisat_proof.specs.Verified.{FailsToRead, FailsCheck, AsRead, AsChecked, AreGiven, IsMarkedCheck, IsMarkedVerdict, VerifiesMarked, VerifiesBy, GivesClauses, GivesUnsatisfiable, Sources, Verifies, verdict_of, verdict_status}
+use Rattle.varisat_proof.specs.Verified.{FailsToRead, FailsCheck, AsRead, AsChecked, AreGiven, IsMarkedCheck, IsMarkedVerdict, VerifiesMarked, VerifiesBy, EndsPrinting, GivesClauses, GivesUnsatisfiable, Sources, Verifies, verdict_of, verdict_status}
 use Rattle.varisat_proof.proofs.CheckResults.{checks_sound}
 use Rattle.varisat_proof.proofs.CheckedSources.{checks_ok, checks_err, checks_right}
 use Rattle.varisat_proof.proofs.MarkedReports.{refutation_sound}
@@ -137,10 +137,16 @@ unsatisfiable_by Drat old new w = verified_unsatisfiable Drat old new true refl 
 unsatisfiable_by BinaryDrat old new w = verified_unsatisfiable BinaryDrat old new true refl w
 unsatisfiable_by Marked old new w = (w.clauses, w.given, marked_refutes w.clauses w.inputs w.left w.result_is old.proof new.proof w.checks w.verdict)
 
-pub status_is_true : (f : ProofFormat) (old new : Sources) (v : Bool) (n : ℕ) → n ≡ verdict_status v → VerifiesBy f old new v → n ≡ 0 →
-    GivesUnsatisfiable old.cnf new.cnf
-status_is_true f old new true n e w z = unsatisfiable_by f old new w
-status_is_true f old new false n e w z = absurd (omega arith)
+-- the status 0 comes only of the verdict true
+only_verified : (v : Bool) (n : ℕ) (text : List ℕ) (before after : Taken) → EndsPrinting (verdict_status v) text n before after → n ≡ 0 → v ≡ true
+only_verified v n text before after (inr (e, p, f)) z = absurd (omega (arith, e, z))
+only_verified true n text before after (inl p) z = refl
+only_verified false n text before after (inl (e, b, f)) z = absurd (omega (arith, e, z))
+
+pub status_is_true : (f : ProofFormat) (old new : Sources) (v : Bool) (n : ℕ) (text : List ℕ) (before after : Taken) →
+    EndsPrinting (verdict_status v) text n before after → VerifiesBy f old new v → n ≡ 0 → GivesUnsatisfiable old.cnf new.cnf
+status_is_true f old new v n text before after e w z =
+    unsatisfiable_by f old new (subst (VerifiesBy f old new) (only_verified v n text before after e z) w)
 
 -- A check that comes to no verdict.
 
@@ -214,6 +220,6 @@ drat_verified s t start mid r v e a h d b =
     let w = took s t mid (subst (λ x. AddsText (record { checker = x; source = s }) (Ok tt) (record { checker = mid; source = t })) e a) in
     (mid.clauses, w.given, h (is_refutation r (d ∙ ap Some b)))
 
-pub drat_status : (s t : Stand) (v : Bool) (n : ℕ) → n ≡ verdict_status v → (v ≡ true → GivesUnsatisfiable s t) → n ≡ 0 → GivesUnsatisfiable s t
-drat_status s t true n e h z = h refl
-drat_status s t false n e h z = absurd (omega arith)
+pub drat_status : (s t : Stand) (v : Bool) (n : ℕ) (text : List ℕ) (before after : Taken) → EndsPrinting (verdict_status v) text n before after →
+    (v ≡ true → GivesUnsatisfiable s t) → n ≡ 0 → GivesUnsatisfiable s t
+drat_status s t v n text before after e h z = h (only_verified v n text before after e z)

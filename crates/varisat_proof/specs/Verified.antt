@@ -1,12 +1,10 @@
 -- What the program's `check` finds out of a text and a proof, what it prints, and with which status it ends then.
-use Rattle.std.specs.Prelude.{◌≡◌, ◌⊎◌, ◌+◌, ℕ, List, Bool, true, false, Option, Some, None, Result, Ok, Err, IsTrue, ◌↔◌, [], codes}
-use Rattle.std.specs.Io.KnownBytes.{Appends}
-use Rattle.varisat_formula.specs.Printed.{AppendsPart}
+use Rattle.std.specs.Prelude.{◌≡◌, ◌⊎◌, ◌+◌, ℕ, List, ◌++◌, take, Bool, true, false, Option, Some, None, Result, Ok, Err, IsTrue, ◌↔◌, [], codes}
 use Rattle.varisat_theory.specs.Membership.{◌∈◌, SameSet}
 use Rattle.varisat_theory.specs.Literals.{Clause, IsSatisfiable}
 use Rattle.varisat_formula.specs.Dimacs.{dimacs}
 use Rattle.varisat_formula.specs.Streams as streams
-use Rattle.varisat_formula.specs.Streams.{Stand, HasEnded}
+use Rattle.varisat_formula.specs.Streams.{Stand, HasEnded, Taken}
 use Rattle.varisat_proof.specs.declared.proof.format.ProofFormat.{ProofFormat}
 use Rattle.varisat_proof.specs.declared.proof.format.ProofFormat.TheVariants.{Drat, BinaryDrat, Marked}
 use Rattle.varisat_proof.specs.declared.proof.format.Encoding.TheVariants.{Text}
@@ -118,25 +116,30 @@ verdict_status false = 1
 abbrev pub fault_status : ℕ
 fault_status = 2
 
--- A text is printed, and the status is `done`; or the writer fails, as it is written to or flushed, and has a beginning of the text, and
--- the status tells a fault. That a writer failed as it was flushed no clause can tell: so none forbids this status behind a whole text.
-abbrev pub EndsPrinting : ℕ → List ℕ → ℕ → Option (List ℕ) → Option (List ℕ) → Type 0
+-- A target took the text, no call of it failed, and the status is `done`; or a call failed, the target took a beginning of the text,
+-- and the status tells a fault.
+abbrev pub EndsPrinting : ℕ → List ℕ → ℕ → Taken → Taken → Type 0
 EndsPrinting done text status before after =
-    ((status ≡ done) × Appends before after text) ⊎ ((status ≡ fault_status) × AppendsPart before after text)
+    ((status ≡ done) × (after.bytes ≡ before.bytes ++ text) × (after.faults ≡ before.faults))
+    ⊎ ((status ≡ fault_status) × ((n : ℕ) × (after.bytes ≡ before.bytes ++ take n text)) × (after.faults ≡ before.faults + 1))
 
--- How the command ends, of which `before` and `after` are what its writer holds: the check fails, nothing is written, and the status
+-- the verdict is printed with its status, or a beginning of its text where a call of the target fails
+abbrev pub PrintsVerdict : Bool → ℕ → Taken → Taken → Type 0
+PrintsVerdict verified status before after = EndsPrinting (verdict_status verified) (verdict_text verified) status before after
+
+-- How the command ends, of which `before` and `after` are what its target took: the check fails, nothing is printed, and the status
 -- tells a fault; or it comes to a verdict, which is printed.
-abbrev pub EndsCheck : ProofFormat → Sources → Sources → ℕ → Option (List ℕ) → Option (List ℕ) → Type 0
+abbrev pub EndsCheck : ProofFormat → Sources → Sources → ℕ → Taken → Taken → Type 0
 EndsCheck format old new status before after =
     ((error : CheckerError) × FailsCheck old new error × (status ≡ fault_status) × (after ≡ before))
-    ⊎ ((verified : Bool) × VerifiesBy format old new verified × EndsPrinting (verdict_status verified) (verdict_text verified) status before after)
+    ⊎ ((verified : Bool) × VerifiesBy format old new verified × PrintsVerdict verified status before after)
 
 -- the same, by the sources
-abbrev pub EndsBy : ProofFormat → Stand → Stand → Stand → Stand → ℕ → Option (List ℕ) → Option (List ℕ) → Type 0
+abbrev pub EndsBy : ProofFormat → Stand → Stand → Stand → Stand → ℕ → Taken → Taken → Type 0
 EndsBy format cnf proof cnf' proof' status before after = EndsCheck format (sources_of cnf proof) (sources_of cnf' proof') status before after
 
--- How a check of a DRAT proof ends: with a fault, and nothing is written; or it comes to a verdict, which is true and printed.
-abbrev pub EndsByDrat : Stand → Stand → ℕ → Option (List ℕ) → Option (List ℕ) → Type 0
+-- How a check of a DRAT proof ends: with a fault, and nothing is printed; or it comes to a verdict, which is true and printed.
+abbrev pub EndsByDrat : Stand → Stand → ℕ → Taken → Taken → Type 0
 EndsByDrat old new status before after =
     ((status ≡ fault_status) × (after ≡ before))
-    ⊎ ((verified : Bool) × (verified ≡ true → GivesUnsatisfiable old new) × EndsPrinting (verdict_status verified) (verdict_text verified) status before after)
+    ⊎ ((verified : Bool) × (verified ≡ true → GivesUnsatisfiable old new) × PrintsVerdict verified status before after)

@@ -1,10 +1,9 @@
 //! The program's command that checks proofs, over readers and writers.
-ghost use Rattle.std.specs.Prelude.{◌≡◌, ◌⊎◌, ◌-◌, ◌^◌, ◌<◌, [], Bool, true, false, Some, Err, None, OnOk, OnErr, IfOk, IfErr, IsTrue, ◌↔◌};
-ghost use Rattle.std.specs.Io.KnownBytes.{Appends};
-ghost use Rattle.varisat_formula.specs.Printed.{AppendsPart};
+ghost use Rattle.std.specs.Prelude.{◌≡◌, ◌⊎◌, ◌-◌, ◌^◌, ◌<◌, [], Bool, true, false, Some, Err, None, IfOk, IfErr, IsTrue, ◌↔◌};
+ghost use Rattle.varisat_formula.specs.Written.{Puts};
 ghost use Rattle.varisat_proof.specs.declared.checker.error.CheckVerdict.TheVariants.{Refutation};
 ghost use Rattle.varisat_proof.specs.Calls.{is_of_bytes};
-ghost use Rattle.varisat_proof.specs.Verified.{sources_of, Verifies, VerifiesMarked, VerifiesBy, FailsCheck, AreGiven, EndsBy, EndsByDrat, GivesUnsatisfiable, verdict_of, verdict_text, verdict_status, fault_status};
+ghost use Rattle.varisat_proof.specs.Verified.{sources_of, Verifies, VerifiesMarked, VerifiesBy, FailsCheck, AreGiven, EndsBy, EndsByDrat, PrintsVerdict, GivesUnsatisfiable, verdict_of, verdict_text, verdict_status, fault_status};
 
 use crate::checker::{CheckVerdict, Checker, CheckerError, DratCounts, MarkedReport};
 use crate::proof::ProofFormat;
@@ -12,7 +11,7 @@ use std::alloc::Allocator;
 use std::fmt::Display;
 use std::io::{self, Write};
 use varisat_formula::formula::CnfFormula;
-use varisat_formula::io::{ByteSource, print_text};
+use varisat_formula::io::{ByteSource, ProofTarget};
 
 /// The status of `check` for a proof that refutes the clauses.
 pub const STATUS_VERIFIED: u8 = 0;
@@ -26,29 +25,27 @@ pub const STATUS_FAULT: u8 = 2;
 /// Reads a DIMACS CNF text, and then checks a proof against its clauses. Prints `s VERIFIED`, status 0, where the proof
 /// refutes them, and `s NOT VERIFIED`, status 1, where it does not: no beginning of it conflicts, a line fails, or its
 /// bytes are no lines. A marked proof is checked from no clause, and is verified where it refutes and each clause of
-/// its `i` lines is equal as a set to one of the text. A fault of the text, the sources or the writer, and out of
-/// memory, is printed on `err`, and the status is 2; nothing is written to `out` then, unless it is `out` that failed,
-/// which has a beginning of what was to be printed. The status is 0 only where no assignment satisfies the text's
-/// clauses. Each source has to have counted fewer than 2^64-1 faults.
-pub fn check_lines<A: Allocator + Copy, S: ByteSource, P: ByteSource, W: Write, E: Write>(
+/// its `i` lines is equal as a set to one of the text. A fault of the text, the sources or `out`, and out of memory, is
+/// told on `err`, and the status is 2; `out` takes nothing then, unless it is `out` that failed, which has a beginning
+/// of what was to be printed. The status is 0 only where no assignment satisfies the text's clauses. Each source and
+/// `out` have to have counted fewer than 2^64-1 faults.
+pub fn check_lines<A: Allocator + Copy, S: ByteSource, P: ByteSource, T: ProofTarget, E: Write>(
     alloc: A,
     cnf: &mut S,
     proof: &mut P,
     format: ProofFormat,
-    out: &mut W,
+    out: &mut T,
     err: &mut E,
 ) -> u8
     requires cnf_faults { (S.stand cnf.old).faults < 2 ^ 64 - 1 }
     requires proof_faults { (P.stand proof.old).faults < 2 ^ 64 - 1 }
+    requires out_faults { (T.taken out.old).faults < 2 ^ 64 - 1 }
     ensures outcome { EndsBy format (S.stand cnf.old) (P.stand proof.old) (S.stand cnf.new) (P.stand proof.new)
-        result (W.contents out.old) (W.contents out.new) }
+        result (T.taken out.old) (T.taken out.new) }
     ensures truth { result ≡ 0 → GivesUnsatisfiable (S.stand cnf.old) (S.stand cnf.new) }
 {
     match verify_by(alloc, cnf, proof, format) {
-        Ok(verified) => match write_verdict(out, verified) {
-            Ok(status) => status,
-            Err(error) => tell_fault(err, &error),
-        },
+        Ok(verified) => tell_verdict(out, err, verified),
         Err(error) => tell_fault(err, &error),
     }
 }
@@ -56,24 +53,21 @@ pub fn check_lines<A: Allocator + Copy, S: ByteSource, P: ByteSource, W: Write, 
 /// As `check_lines`, but for the lines that `Checker::check_drat` takes. Why a line fails, and how many lines a check of
 /// plain lines would have refused, is told on `err`. The status is 0 only where no assignment satisfies the text's
 /// clauses.
-pub fn check_drat_lines<A: Allocator + Copy, S: ByteSource, P: ByteSource, W: Write, E: Write>(
-    alloc: A,
-    cnf: &mut S,
-    proof: &mut P,
-    format: ProofFormat,
-    out: &mut W,
-    err: &mut E,
-) -> u8
+pub fn check_drat_lines<
+    A: Allocator + Copy,
+    S: ByteSource,
+    P: ByteSource,
+    T: ProofTarget,
+    E: Write,
+>(alloc: A, cnf: &mut S, proof: &mut P, format: ProofFormat, out: &mut T, err: &mut E) -> u8
     requires cnf_faults { (S.stand cnf.old).faults < 2 ^ 64 - 1 }
     requires proof_faults { (P.stand proof.old).faults < 2 ^ 64 - 1 }
-    ensures outcome { EndsByDrat (S.stand cnf.old) (S.stand cnf.new) result (W.contents out.old) (W.contents out.new) }
+    requires out_faults { (T.taken out.old).faults < 2 ^ 64 - 1 }
+    ensures outcome { EndsByDrat (S.stand cnf.old) (S.stand cnf.new) result (T.taken out.old) (T.taken out.new) }
     ensures truth { result ≡ 0 → GivesUnsatisfiable (S.stand cnf.old) (S.stand cnf.new) }
 {
     match verify_drat(alloc, cnf, proof, format, err) {
-        Ok(verified) => match write_verdict(out, verified) {
-            Ok(status) => status,
-            Err(error) => tell_fault(err, &error),
-        },
+        Ok(verified) => tell_verdict(out, err, verified),
         Err(error) => tell_fault(err, &error),
     }
 }
@@ -313,19 +307,46 @@ fn verify_in<A: Allocator + Copy, S: ByteSource, P: ByteSource>(
     Ok(verified)
 }
 
-/// Writes whether a proof was verified, and returns the status for it.
-fn write_verdict<W: Write>(out: &mut W, verified: bool) -> io::Result<u8>
-    ensures text { OnOk result (Appends (W.contents out.old) (W.contents out.new) (verdict_text verified)) }
-    ensures begun { OnErr result (AppendsPart (W.contents out.old) (W.contents out.new) (verdict_text verified)) }
-    ensures status { IfOk result (λ status. status ≡ verdict_status verified) }
+/// Prints whether a proof was verified, and returns the status for it, or for a fault of `out`.
+fn tell_verdict<T: ProofTarget, E: Write>(out: &mut T, err: &mut E, verified: bool) -> u8
+    requires { (T.taken out.old).faults < 2 ^ 64 - 1 }
+    ensures { PrintsVerdict verified result (T.taken out.old) (T.taken out.new) }
+{
+    match print_text(out, text_of(verified)) {
+        Ok(()) => status_of(verified),
+        Err(error) => tell_fault(err, &error),
+    }
+}
+
+/// What is printed.
+fn text_of(verified: bool) -> &'static [u8]
+    ensures { result.now ≡ verdict_text verified }
 {
     if verified {
-        print_text(out, b"s VERIFIED\n")?;
-        Ok(STATUS_VERIFIED)
+        b"s VERIFIED\n"
     } else {
-        print_text(out, b"s NOT VERIFIED\n")?;
-        Ok(STATUS_NOT_VERIFIED)
+        b"s NOT VERIFIED\n"
     }
+}
+
+/// The status for it.
+fn status_of(verified: bool) -> u8
+    ensures { result ≡ verdict_status verified }
+{
+    if verified {
+        STATUS_VERIFIED
+    } else {
+        STATUS_NOT_VERIFIED
+    }
+}
+
+/// Puts the text into a target, and flushes it. One that fails has a beginning of the text.
+pub fn print_text<T: ProofTarget>(target: &mut T, text: &[u8]) -> io::Result<()>
+    requires { (T.taken target.old).faults < 2 ^ 64 - 1 }
+    ensures { Puts (T.taken target.old) result text.now (T.taken target.new) }
+{
+    target.put(text)?;
+    target.flush()
 }
 
 /// Prints a fault, and returns the status for it.

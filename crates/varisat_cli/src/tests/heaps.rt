@@ -3,6 +3,7 @@ use super::*;
 use std::alloc::Global;
 use std::io::Cursor;
 use std::test::Fail;
+use varisat::io::MemoryTarget;
 
 // Words behind `solve`, and the heap that they ask for; none where they are no options.
 const HEAPS: [(&str, Option<Option<usize>>); 8] = [
@@ -21,7 +22,7 @@ const HEAPS: [(&str, Option<Option<usize>>); 8] = [
 
 // What is printed of the text, what is told of a fault, and the status, in a heap of that size.
 fn decides(rt: &HostRuntime, heap: Option<usize>, text: &[u8], wanted: (&[u8], &[u8], u8)) -> bool {
-    let mut out = Vec::new(rt.alloc());
+    let mut out = MemoryTarget::new_in(rt.alloc());
     let mut err = Vec::new(rt.alloc());
     let options = SolveOptions {
         check: false,
@@ -31,7 +32,7 @@ fn decides(rt: &HostRuntime, heap: Option<usize>, text: &[u8], wanted: (&[u8], &
     };
     let mut cnf = ReadSource::new(Cursor::new(text));
     let status = decide_text(rt, heap, &mut cnf, &mut None, options, &mut out, &mut err);
-    (out.as_slice() == wanted.0) & (err.as_slice() == wanted.1) & (status == wanted.2)
+    (out.bytes() == wanted.0) & (err.as_slice() == wanted.1) & (status == wanted.2)
 }
 
 // 2,000 different clauses of three literals over 100 variables.

@@ -25,11 +25,11 @@ fn solve_prints<T: ProofTarget>(
 ) -> bool
     requires { CanCountFault T.taken proof.old }
 {
-    let mut out = Vec::new(alloc);
+    let mut out = MemoryTarget::new_in(alloc);
     let mut err = Vec::new(alloc);
     let mut cnf = ReadSource::new(Cursor::new(text));
     let status = solve_lines(alloc, &mut cnf, proof, options, &mut out, &mut err);
-    are_printed(&out, &err, status, wanted)
+    are_printed(out.bytes(), &err, status, wanted)
 }
 
 // What a check of the bytes as a proof of the text prints.
@@ -40,12 +40,12 @@ fn check_prints(
     format: ProofFormat,
     wanted: Printed,
 ) -> bool {
-    let mut out = Vec::new(alloc);
+    let mut out = MemoryTarget::new_in(alloc);
     let mut err = Vec::new(alloc);
     let mut cnf = ReadSource::new(Cursor::new(text));
     let mut lines = ReadSource::new(Cursor::new(proof));
     let status = check_lines(alloc, &mut cnf, &mut lines, format, &mut out, &mut err);
-    are_printed(&out, &err, status, wanted)
+    are_printed(out.bytes(), &err, status, wanted)
 }
 
 const SQUARE: &str = "p cnf 2 4\n1 2 0\n-1 2 0\n1 -2 0\n-1 -2 0\n";
@@ -112,12 +112,12 @@ fn drat_prints(
     format: ProofFormat,
     wanted: Printed,
 ) -> bool {
-    let mut out = Vec::new(alloc);
+    let mut out = MemoryTarget::new_in(alloc);
     let mut err = Vec::new(alloc);
     let mut cnf = ReadSource::new(Cursor::new(text));
     let mut lines = ReadSource::new(Cursor::new(proof));
     let status = check_drat_lines(alloc, &mut cnf, &mut lines, format, &mut out, &mut err);
-    are_printed(&out, &err, status, wanted)
+    are_printed(out.bytes(), &err, status, wanted)
 }
 
 const CUBE: &str =
@@ -337,8 +337,13 @@ const PROGRESS: [(Option<u64>, u64, &str, u8, &str, &str); 6] = [
 fn solve_square(
     alloc: Global,
     options: SolveOptions,
-) -> (u8, Vec<u8>, Vec<u8>, Option<MemoryTarget<Global>>) {
-    let (mut out, mut err) = (Vec::new(alloc), Vec::new(alloc));
+) -> (
+    u8,
+    MemoryTarget<Global>,
+    Vec<u8>,
+    Option<MemoryTarget<Global>>,
+) {
+    let (mut out, mut err) = (MemoryTarget::new_in(alloc), Vec::new(alloc));
     let mut proof = Some(MemoryTarget::new_in(alloc));
     let mut cnf = ReadSource::new(Cursor::new(SQUARE));
     let status = solve_lines(alloc, &mut cnf, &mut proof, options, &mut out, &mut err);
@@ -359,7 +364,7 @@ fn progress_is_told(rt: HostRuntime) -> Result<(), Fail> {
         assert!(rt; silent.is_empty());
         options.progress = Some(interval);
         let (status, out, err, proof) = solve_square(alloc, options);
-        assert!(rt; (status == wanted) & (out.as_slice() == printed.as_bytes()));
+        assert!(rt; (status == wanted) & (out.bytes() == printed.as_bytes()));
         // The proof has the same bytes as without.
         match (&plain, &proof) {
             (Some(plain), Some(proof)) => assert!(rt; plain.bytes() == proof.bytes()),

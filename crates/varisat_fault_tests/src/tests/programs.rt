@@ -3,7 +3,7 @@
 use std::alloc::{Allocator, Global};
 use varisat::program::{SolveOptions, check_drat_lines, check_lines, solve_lines};
 use varisat::proof::ProofFormat;
-use varisat_formula::io::{CutSource, CutTarget};
+use varisat_formula::io::{CutSource, CutTarget, MemoryTarget};
 use varisat_test_heap::CutHeap;
 
 /// The calls that fail, 0 where none does: of the sources of the formula and the proof, which come byte by byte, and of `put`
@@ -87,7 +87,7 @@ struct Command {
 /// What came of a command: what it printed and told, its status, and how many calls there were.
 #[derive(Drop)]
 struct Outcome {
-    out: Vec<u8>,
+    out: MemoryTarget<Global>,
     err: Vec<u8>,
     status: u8,
     calls: Calls,
@@ -100,7 +100,7 @@ fn decide<A: Allocator + Copy>(
     command: Command,
     failing: Calls,
 ) -> Outcome {
-    let (mut out, mut err) = (Vec::new(alloc), Vec::new(alloc));
+    let (mut out, mut err) = (MemoryTarget::new_in(alloc), Vec::new(alloc));
     let (text, _, format, _, _) = command.row;
     let options = SolveOptions {
         check: command.has_checker,
@@ -132,7 +132,7 @@ fn decide<A: Allocator + Copy>(
 
 // What comes of checking a proof.
 fn check<A: Allocator + Copy>(alloc: Global, heap: A, command: Command, failing: Calls) -> Outcome {
-    let (mut out, mut err) = (Vec::new(alloc), Vec::new(alloc));
+    let (mut out, mut err) = (MemoryTarget::new_in(alloc), Vec::new(alloc));
     let (text, bytes, format, _, _) = command.row;
     let mut cnf = CutSource::new(text.as_bytes())
         .in_pieces(0, 1)
@@ -168,14 +168,14 @@ fn run<A: Allocator + Copy>(alloc: Global, heap: A, command: Command, failing: C
 fn is_answered(outcome: &Outcome, command: Command) -> bool {
     let (_, _, _, decided, checked) = command.row;
     let (wanted, status) = if command.is_check { checked } else { decided };
-    (outcome.out.as_slice() == wanted.as_bytes())
+    (outcome.out.bytes() == wanted.as_bytes())
         & (outcome.err.is_empty() | command.is_drat)
         & (outcome.status == status)
 }
 
 // Whether the command failed and told this cause, by its beginning and end.
 fn has_failed(outcome: &Outcome, cause: (&str, &str)) -> bool {
-    outcome.out.is_empty()
+    outcome.out.bytes().is_empty()
         & (outcome.status == 2)
         & outcome.err.starts_with(cause.0.as_bytes())
         & outcome.err.ends_with(cause.1.as_bytes())

@@ -57,7 +57,7 @@ fn solve_prints<S: ByteSource>(
 ) -> bool
     requires { (S.stand cnf.old).faults < 2 ^ 64 - 1 }
 {
-    let mut out = Vec::new(alloc);
+    let mut out = MemoryTarget::new_in(alloc);
     let mut err = Vec::new(alloc);
     let options = SolveOptions {
         check,
@@ -67,7 +67,7 @@ fn solve_prints<S: ByteSource>(
     };
     let mut no_proof: Option<MemoryTarget<Global>> = None;
     let status = solve_lines(alloc, cnf, &mut no_proof, options, &mut out, &mut err);
-    are_printed(&out, &err, status, wanted)
+    are_printed(out.bytes(), &err, status, wanted)
 }
 
 // Each of seven pigeons is in one of six holes, and no two are in the same one. Where learned clauses are reduced at each
@@ -178,7 +178,7 @@ fn status_with(alloc: Global, room: u16, check: bool) -> Result<u8, AllocError> 
 }
 
 fn status_in(alloc: Global, heap: &LocalHeap, check: bool) -> u8 {
-    let mut out = Vec::new(alloc);
+    let mut out = MemoryTarget::new_in(alloc);
     let mut err = Vec::new(alloc);
     let mut source = ReadSource::new(Cursor::new("1 2 0 -1 2 0 1 -2 0 -1 -2 0\n"));
     let options = SolveOptions {

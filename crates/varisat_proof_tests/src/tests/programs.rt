@@ -2,7 +2,7 @@
 
 use super::checks::pieces;
 use std::alloc::Global;
-use varisat_formula::io::ReadSource;
+use varisat_formula::io::{MemoryTarget, ReadSource};
 use varisat_proof::program::check_lines;
 use varisat_proof::proof::ProofFormat;
 use varisat_proof::proof::ProofFormat::{BinaryDrat, Drat, Marked};
@@ -53,24 +53,22 @@ const ROWS: [Row; 17] = [
 ];
 
 fn prints(alloc: Global, row: &Row) -> bool {
-    let mut out = Vec::new(alloc);
+    let mut out = MemoryTarget::new_in(alloc);
     let mut err = Vec::new(alloc);
     let (mut cnf, mut proof) = (ReadSource::new(row.0), ReadSource::new(row.2));
     let status = check_lines(alloc, &mut cnf, &mut proof, row.1, &mut out, &mut err);
     let (printed, told, wanted) = row.3;
-    (out.as_slice() == printed.as_bytes())
-        & (err.as_slice() == told.as_bytes())
-        & (status == wanted)
+    (out.bytes() == printed.as_bytes()) & (err.as_slice() == told.as_bytes()) & (status == wanted)
 }
 
 /// Whether nothing is printed where the text's source or the proof's fails.
 fn tells_fault(alloc: Global, cnf_fails: bool) -> bool {
-    let mut out = Vec::new(alloc);
+    let mut out = MemoryTarget::new_in(alloc);
     let mut err = Vec::new(alloc);
     let mut cnf = pieces(b"1 0", 0, 5, cnf_fails);
     let mut proof = pieces(b"1 0", 0, 5, !cnf_fails);
     let status = check_lines(alloc, &mut cnf, &mut proof, Drat, &mut out, &mut err);
-    out.is_empty() & !err.is_empty() & (status == 2)
+    out.bytes().is_empty() & !err.is_empty() & (status == 2)
 }
 
 #[test]

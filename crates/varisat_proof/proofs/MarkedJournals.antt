@@ -2,13 +2,13 @@
 -- after the other.
 use Rattle.std.proofs.Common.{◌≡◌, suc, true, List, [], ◌∷◌, ◌++◌, refl, sym, ap, ◌∙◌, append_assoc}
 use Rattle.std.proofs.lemmas.List.{append-nil}
-use Rattle.varisat_theory.specs.Literals.{Literal, Clause}
+use Rattle.varisat_theory.specs.Literals.{Clause}
 use Rattle.varisat_theory.specs.Derivations.{Add, Delete}
 use Rattle.varisat_theory.specs.Journals.{Entry, Accepts, Writes, Assumes, Fails, Leaves, Leads, NoneLeaves, accepted_of}
 use Rattle.varisat_formula.specs.Formulas.{with_one_more}
 use Rattle.varisat_proof.specs.declared.proof.format.Encoding.TheVariants.{Text}
 use Rattle.varisat_proof.specs.Assumed.{assumed_behind, CoresAreAssumed, cores_of}
-use Rattle.varisat_proof.specs.Marked.{MarkedTold, ProofState, state_of, TakesAll}
+use Rattle.varisat_proof.specs.Marked.{MarkedTold, state_of, TakesAll}
 use Rattle.varisat_proof.specs.Telling.{lines_told}
 use Rattle.std.specs.Prelude.{length}
 

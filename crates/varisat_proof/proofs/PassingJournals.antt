@@ -1,5 +1,5 @@
 -- A check of the marked proof of a right journal.
-use Rattle.std.proofs.Common.{◌≡◌, ℕ, suc, true, List, [], ◌∷◌, ◌++◌, map, Result, Ok, Err, None, length, refl, sym, ap, ◌∙◌, subst, append_assoc}
+use Rattle.std.proofs.Common.{◌≡◌, true, List, [], ◌∷◌, ◌++◌, map, Result, Ok, Err, length, refl, sym, ap, ◌∙◌, subst, append_assoc}
 use Rattle.std.proofs.lemmas.List.{append-nil, map-append}
 use Rattle.varisat_theory.specs.Literals.{Clause}
 use Rattle.varisat_theory.specs.Propagation.{Conflicts}
@@ -16,7 +16,7 @@ use Rattle.varisat_proof.specs.declared.checker.error.CheckVerdict.TheVariants.{
 use Rattle.varisat_proof.specs.declared.checker.error.CheckerError.{CheckerError}
 use Rattle.varisat_proof.specs.Assumed.{cores_of}
 use Rattle.varisat_proof.specs.Lines.{ProofLine, line_of_kind, plain_line, has_kind, HasKinds}
-use Rattle.varisat_proof.specs.Marked.{MarkedTold, nothing_told, ProofState, state_of, Takes, Goes, GoesThrough}
+use Rattle.varisat_proof.specs.Marked.{MarkedTold, nothing_told, ProofState, state_of, Goes, GoesThrough}
 use Rattle.varisat_proof.specs.declared.proof.format.ProofFormat.TheVariants.{Marked}
 use Rattle.varisat_proof.specs.Grammar.{Accepted}
 use Rattle.varisat_proof.specs.Telling.{lines_told, bytes_told}

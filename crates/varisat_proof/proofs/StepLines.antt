@@ -1,5 +1,5 @@
 -- The lines of a solver's steps, as entries and as lines of a proof.
-use Rattle.std.proofs.Common.{◌≡◌, ℕ, ◌+◌, true, false, List, [], ◌∷◌, ◌++◌, refl, sym, ap, ◌∙◌, subst, map, flat_map, Result, Ok, Err}
+use Rattle.std.proofs.Common.{◌≡◌, true, false, List, [], ◌∷◌, ◌++◌, refl, sym, ap, subst, Result}
 use Rattle.varisat_theory.specs.Literals.{Literal}
 use Rattle.varisat_theory.specs.StepLaws.{unit_lines}
 use Rattle.varisat_theory.specs.Derivations.{Add}

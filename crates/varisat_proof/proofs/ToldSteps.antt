@@ -1,15 +1,14 @@
 -- What a checker that runs inside a solver makes of a step that is right, and how the written lines and the checker go together.
-use Rattle.std.proofs.Common.{◌≡◌, ℕ, ◌+◌, Bool, false, List, [], ◌∷◌, ◌++◌, length, refl, sym, ap, ◌∙◌, subst, Option, None, Some, Result, Ok, Err, OnOk, IfErr, inr}
+use Rattle.std.proofs.Common.{◌≡◌, ℕ, Bool, false, List, [], ◌∷◌, ◌++◌, refl, sym, ap, ◌∙◌, subst, Option, None, Some, Result, Ok, Err, OnOk, IfErr, inr}
 use Rattle.varisat_theory.specs.Literals.{Literal, Clause}
 use Rattle.varisat_theory.specs.Propagation.{Conflicts}
 use Rattle.varisat_theory.specs.Derivations.{Line, Add, Delete, Derives, IsPresentAfter}
-use Rattle.varisat_theory.specs.Held.{SameClauses, without}
+use Rattle.varisat_theory.specs.Held.{SameClauses}
 use Rattle.varisat_plain.specs.Checking.{IsWrong}
 use Rattle.varisat_theory.specs.StepLaws.{unit_lines}
-use Rattle.varisat_theory.proofs.Members.{∈-append_right}
-use Rattle.varisat_theory.proofs.Held.{same_set-self, same_set-through, same_clauses-self, same_clauses_find, same_clauses-back, takes_from, follows_same, conflicts_same}
+use Rattle.varisat_theory.proofs.Held.{same_set-self, same_set-through, same_clauses-self, same_clauses_find, takes_from, follows_same, conflicts_same}
 use Rattle.varisat_theory.proofs.Lines.{derives_cut, derives_present, derives_same, same_lines-self, present_unique}
-use Rattle.varisat_theory.specs.Journals.{Entry, Writes, written}
+use Rattle.varisat_theory.specs.Journals.{Entry, written}
 use Rattle.varisat_trace.specs.Traces.{CanTake, CanFail, CanTakeStep, entries_of}
 use Rattle.varisat_trace.specs.declared.step.ProofStep.{ProofStep}
 use Rattle.varisat_trace.specs.declared.step.ProofStep.TheVariants.{AtClause, UnitClauses, DeleteClause, DeleteVar, FailedAssumptions}
@@ -19,7 +18,7 @@ use Rattle.varisat_proof.specs.declared.proof.format.Encoding.{Encoding}
 use Rattle.varisat_proof.specs.declared.checker.error.CheckerError.{CheckerError}
 use Rattle.varisat_proof.specs.declared.checker.error.CheckerError.TheVariants.{CheckFailed, NoSuchClause, CoreNotAssumed, Parse, Io, OutOfMemory, Dimacs, Spent}
 use Rattle.varisat_proof.specs.Lines.{ProofLine, encoding_of}
-use Rattle.varisat_proof.specs.Steps.{step_lines, lines_written}
+use Rattle.varisat_proof.specs.Steps.{step_lines}
 use Rattle.varisat_proof.specs.Calls.{CheckerState, IsStepTaken, FailsAt, DoesNotFollow, IsStep}
 use Rattle.varisat_proof.specs.Present.{IsLeftAfter}
 use Rattle.varisat_proof.specs.Proving.{OpenState, ProofParts, IsWritten, IsWrittenIf, IsCheckedIf, IsTold, Tells, told, MayBeHeld, IsUsable, IsSpent, RunsOutTelling}

@@ -2,7 +2,7 @@
 use Rattle.std.specs.Prelude.{ℕ, suc, List, [], ◌∷◌}
 use Rattle.varisat_theory.specs.Membership.{◌⊆◌}
 use Rattle.varisat_theory.specs.Literals.{Literal}
-use Rattle.varisat_theory.specs.Journals.{Entry, Accepts, Writes, Assumes, Fails, Leaves}
+use Rattle.varisat_theory.specs.Journals.{Entry, Accepts, Assumes, Fails}
 
 -- the lists of assumptions that were told to be accepted, in order
 abbrev pub lists_of : List Entry → List (List Literal)

@@ -2,7 +2,7 @@
 use Rattle.std.specs.Prelude.{◌≡◌, List, [], ◌∷◌, ◌++◌}
 use Rattle.varisat_theory.specs.Literals.{Clause}
 use Rattle.varisat_theory.specs.Held.{without}
-use Rattle.varisat_theory.specs.Derivations.{Line, Add, Delete, TakesOut}
+use Rattle.varisat_theory.specs.Derivations.{Add, Delete, TakesOut}
 use Rattle.varisat_theory.specs.Journals.{Entry, Accepts, Writes, Assumes, Fails, Leaves}
 
 -- Where P is present before the entries, Q is present after them.

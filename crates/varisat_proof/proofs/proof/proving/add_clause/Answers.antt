@@ -1,6 +1,5 @@
 use Rattle.std.proofs.Common.{[], ◌∷◌}
 use Rattle.varisat_theory.specs.Journals.{Accepts}
-use Rattle.varisat_trace.specs.Traces.{entries_of}
 use Rattle.std.proofs.lemmas.List.{append-nil}
 use Rattle.std.proofs.Common.{sym}
 use Rattle.varisat_proof.specs.declared.proof.format.LineKind.TheVariants as kinds

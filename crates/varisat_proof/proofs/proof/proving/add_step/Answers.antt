@@ -1,5 +1,3 @@
-use Rattle.std.proofs.Common.{[], ◌∷◌}
-use Rattle.varisat_theory.specs.Journals.{Accepts}
 use Rattle.varisat_trace.specs.Traces.{entries_of}
 use Rattle.varisat_proof.specs.Proving.{ProofParts}
 use Rattle.varisat_proof.proofs.ToldSteps.{tells-ok, tells-spent}

@@ -16,6 +16,7 @@ ROOT = os.path.dirname(os.path.dirname(os.path.abspath(__file__)))
 PROGRAM = f"{ROOT}/crates/varisat_cli/out/varisat_cli"
 # What cargo builds in bench/crate.
 CRATE = f"{ROOT}/bench/crate/target/release/varisat-in-rust"
+CRATE_SESSION = f"{CRATE}-session"
 # Each tool that is not ours, and the Debian package that has it.
 PACKAGES = {"minisat": "minisat", "cadical": "cadical", "/usr/bin/time": "time", "gcc": "gcc", "g++": "g++"}
 # The one that draws.

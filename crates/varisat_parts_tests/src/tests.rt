@@ -4,6 +4,7 @@ mod checker;
 mod clause;
 mod filters;
 mod heap;
+mod lent;
 mod names;
 mod pairs;
 mod parts;

@@ -1,4 +1,4 @@
-//! Tests of what no contract says, over proofs, their bytes and their checker: worked rows, printed texts, each growth
+//! Tests of what no contract says, over proofs, their bytes and their checker: worked examples, printed texts, each growth
 //! refused, sources that fail.
 #![tactic(auto)]
 

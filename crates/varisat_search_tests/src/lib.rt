@@ -1,4 +1,4 @@
-//! Tests of what no contract says, over the calls of a search: worked rows, each growth refused.
+//! Tests of what no contract says, over the calls of a search: worked examples, each growth refused.
 #![tactic(auto)]
 
 #[cfg(test)]

@@ -35,7 +35,7 @@ const UNSATISFIABLE: Printed = ("s UNSATISFIABLE\n", 20);
 
 const VERIFIED: Printed = ("s VERIFIED\n", 0);
 
-const ROWS: [Row; 4] = [
+const ROWS: [Row; 5] = [
     (
         SQUARE,
         b"2 0\n0\n",
@@ -62,6 +62,14 @@ const ROWS: [Row; 4] = [
         b"d 3 2 1 0\n",
         ProofFormat::Drat,
         ("s SATISFIABLE\nv -1 -2 3 0\n", 10),
+        ("s NOT VERIFIED\n", 1),
+    ),
+    // A header names no variable.
+    (
+        "p cnf 5 2\n1 2 0\n-1 0\n",
+        b"2 0\n",
+        ProofFormat::Drat,
+        ("s SATISFIABLE\nv -1 2 0\n", 10),
         ("s NOT VERIFIED\n", 1),
     ),
 ];

@@ -16,6 +16,7 @@ use varisat_search::context::Context;
 use varisat_search::error::StepError;
 use varisat_search::model::{Model, reconstruct_global_model};
 use varisat_search::solver_variables::remove_solver_var;
+use varisat_search::state::SolverState;
 
 /// Whether the global variable is live.
 fn is_live<A: Allocator + Copy>(variables: &LinkedVariables<A>, global: Var) -> bool
@@ -265,4 +266,18 @@ fn names_and_variables_change(rt: HostRuntime) -> Result<(), StepError> {
 pub fn are_right_with(alloc: Global, size: usize) -> Result<bool, StepError> {
     let heap = LocalHeap::new(alloc, size)?;
     Ok(are_right(&heap)? == [true; 3])
+}
+
+/// Whether the model of no variables has no values.
+fn is_empty_in(alloc: Global) -> bool {
+    let model = Model::new_in(alloc);
+    let is_empty = model.assignment().is_empty();
+    drop(model);
+    is_empty
+}
+
+#[test]
+fn parts_begin_empty(rt: HostRuntime) {
+    assert!(rt; is_empty_in(rt.alloc()));
+    assert!(rt; !SolverState::default().solver_invoked);
 }

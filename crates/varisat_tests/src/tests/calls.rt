@@ -5,7 +5,7 @@ ghost use Rattle.varisat.specs.Runs.{AreReady};
 use crate::readers::in_pieces;
 use crate::settings::rare_and_frequent;
 use std::alloc::{AllocError, Global};
-use std::io::{self, Write};
+use std::io::{self, ErrorKind, Write};
 use varisat::line::write_answer;
 use varisat::session::{Answer, Call, answers_of, run};
 use varisat::solver::{Solver, SolverError};
@@ -229,4 +229,19 @@ fn refusals_have_their_texts(rt: HostRuntime) {
             "{text}"
         );
     }
+}
+
+// Whether the solver goes on behind the refusal just where its number is none of 2 to 5.
+fn tells_validity(error: &SolverError) -> bool {
+    error.is_recoverable() != (2..=5).contains(&error.number())
+}
+
+#[test]
+fn refusals_tell_whether_a_solver_goes_on(rt: HostRuntime) {
+    for (error, text) in &refusals() {
+        assert!(rt; tells_validity(error), "{text}");
+    }
+    let cause = io::Error::from(ErrorKind::Other);
+    let error = SolverError::ProofIoError { cause };
+    assert!(rt; tells_validity(&error) & (error.number() == 2));
 }

@@ -17,6 +17,16 @@ fn has(solver: &TestSolver, count: usize, clause: &[Lit]) -> bool {
     }
 }
 
+// Whether it has two clauses, each of one literal.
+fn has_two_units(solver: &TestSolver) -> bool {
+    match solver.checker() {
+        Some(checker) if checker.len() == 2 => {
+            (checker.clause(0).len() == 1) & (checker.clause(1).len() == 1)
+        }
+        _ => false,
+    }
+}
+
 // A clause that is satisfied as it is loaded is deleted at once.
 fn is_satisfied_deleted(solver: &mut TestSolver) -> Result<bool, SolverError> {
     solver.enable_self_checking()?;
@@ -33,7 +43,7 @@ fn is_hidden_gone(solver: &mut TestSolver) -> Result<bool, SolverError> {
     solver.add_clause(&[lit!(-1)])?;
     solver.add_clause(&[lit!(-2)])?;
     let is_satisfiable = solver.solve()?;
-    Ok(is_satisfiable & has(solver, 2, &[lit!(-2)]))
+    Ok(is_satisfiable & has(solver, 2, &[lit!(-2)]) & has_two_units(solver))
 }
 
 // A clause may be accepted twice.

@@ -611,12 +611,20 @@ impl<W: ProofTarget, A: Allocator + Copy> Solver<W, A> {
         // Variables go on to leave in time: those whose values are fixed, unless they are assumed.
         ensures leaves { GoesOnLeaving self.old self.new }
     {
+        self.begin_search();
         let found = self.seek();
         if self.ctx.solver_state.state_is_invalid {
             return found;
         }
         self.end_search()?;
         found
+    }
+
+    /// Notes that a search was begun, which no call tells.
+    fn begin_search(&mut self)
+        ensures { self.new ≡ self.old }
+    {
+        self.ctx.solver_state.solver_invoked = true;
     }
 
     /// Marks an open proof as one under which `solve` was called, and flushes it. Where that fails the solver is

@@ -1,6 +1,6 @@
 -- The proof is marked and flushed behind the steps, or can't be flushed.
 use Rattle.std.proofs.Common.{◌≡◌, ◌∙◌, true, not, sym, ap, subst}
-use Rattle.varisat.specs.Dropping.{LeavesInTime}
+use Rattle.varisat.specs.Dropping.{LeavesInTime, GoesOnLeaving}
 use Rattle.varisat.specs.declared.solver.SolverError.TheVariants.{ClauseStoreFull}
 use Rattle.varisat.proofs.Targets.{writes-marked, ends-writing, fails-writing, ends-not-full, still-full, same-error, ends-badly-invalid}
 use Rattle.varisat.specs.Calls.{Solves, calling}
@@ -12,7 +12,7 @@ use Rattle.varisat.proofs.solver.Solver.solve.Goals as goal
 
 pub returns-in_err-end_search-clause-call : goal.returns-in_err-end_search-clause-call
 returns-in_err-end_search-clause-call g c s st =
-    let (t, k, w) = c.seek-found.ensures.call s st in
+    let (t, k, w) = c.seek-found.ensures.call s (subst (λ (x : Summary). StandsFor x s) (sym c.begin_search.ensures) st) in
     let valid = subst (λ (x : Summary). x.ledger.valid ≡ true) c.self.view_is (ap not c.if-self.false) in
     let (u, f, z) =
     solve-fails c.seek-found.new.self c.end_search.new.self s t c.seek-found.result c.in_err-end_search.field-0.0 k w valid c.in_err-end_search.ensures
@@ -20,7 +20,7 @@ returns-in_err-end_search-clause-call g c s st =
 
 pub returns-clause-call : goal.returns-clause-call
 returns-clause-call g c s st =
-    let (t, k, w) = c.seek-found.ensures.call s st in
+    let (t, k, w) = c.seek-found.ensures.call s (subst (λ (x : Summary). StandsFor x s) (sym c.begin_search.ensures) st) in
     let valid = subst (λ (x : Summary). x.ledger.valid ≡ true) c.self.view_is (ap not c.if-self.false) in
     solve-ends c.seek-found.new.self c.end_search.new.self s t c.seek-found.result k w valid c.in_ok-end_search.ensures
 
@@ -37,7 +37,9 @@ returns-clause-core g c e s st =
     c.seek-found.ensures.core e (with_proof proof s) q
 
 pub returns-then-self-clause-target : goal.returns-then-self-clause-target
-returns-then-self-clause-target g c = writes-marked c.args.self.now.opened c.seek-found.new.self.opened c.seek-found.result c.seek-found.ensures.target
+returns-then-self-clause-target g c =
+    writes-marked c.args.self.now.opened c.seek-found.new.self.opened c.seek-found.result
+    (rw c.begin_search.ensures at c.seek-found.ensures.target)
 
 pub returns-in_err-end_search-clause-target : goal.returns-in_err-end_search-clause-target
 returns-in_err-end_search-clause-target g c =
@@ -45,11 +47,12 @@ returns-in_err-end_search-clause-target g c =
     let valid = subst (λ (x : Summary). x.ledger.valid ≡ true) c.self.view_is (ap not c.if-self.false) in
     let refused = told-error c.from_residual.result e c.from_residual.ensures in
     rw refused (fails-writing c.args.self.now.opened c.seek-found.new.self c.end_search.new.self e
-    (c.seek-found.ensures.whole valid) c.in_err-end_search.ensures)
+    (rw c.begin_search.ensures at (c.seek-found.ensures.whole valid)) c.in_err-end_search.ensures)
 
 pub returns-clause-target : goal.returns-clause-target
 returns-clause-target g c =
-    ends-writing c.args.self.now.opened c.seek-found.new.self c.end_search.new.self c.seek-found.result c.seek-found.ensures.target c.in_ok-end_search.ensures
+    ends-writing c.args.self.now.opened c.seek-found.new.self c.end_search.new.self c.seek-found.result
+    (rw c.begin_search.ensures at c.seek-found.ensures.target) c.in_ok-end_search.ensures
 
 pub returns-in_err-end_search-clause-full : goal.returns-in_err-end_search-clause-full
 returns-in_err-end_search-clause-full g c f =
@@ -68,4 +71,5 @@ pub returns-clause-leaves : goal.returns-clause-leaves
 returns-clause-leaves g c h v n =
     let valid = subst (λ (x : Summary). x.ledger.valid ≡ true) c.self.view_is (ap not c.if-self.false) in
     let e = c.in_ok-end_search.ensures in
-    subst (λ (x : Summary). LeavesInTime x.tables x.search) (sym e) (c.seek-found.ensures.leaves h valid (λ u. n (ap (λ (x : Summary). x.sat_state) e ∙ u)))
+    let leaves = subst (λ (x : Summary). GoesOnLeaving x c.seek-found.new.self) c.begin_search.ensures c.seek-found.ensures.leaves in
+    subst (λ (x : Summary). LeavesInTime x.tables x.search) (sym e) (leaves h valid (λ u. n (ap (λ (x : Summary). x.sat_state) e ∙ u)))

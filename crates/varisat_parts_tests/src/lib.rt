@@ -1,4 +1,4 @@
-//! Tests of what no contract says, over the parts that a search and a solver are made of: worked rows, printed texts,
+//! Tests of what no contract says, over the parts that a search and a solver are made of: worked examples, printed texts,
 //! each growth refused.
 #![tactic(auto)]
 

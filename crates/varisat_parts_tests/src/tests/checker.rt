@@ -1,4 +1,4 @@
-//! Worked rows. Literals are written as signed variable numbers from 1.
+//! Worked examples. Literals are written as signed variable numbers from 1.
 use std::alloc::{AllocError, Global};
 use varisat_plain::checker::{PlainLine, PlainVerdict, check_lines};
 use varisat_plain::propagation::{conflicts, follows};

@@ -1,4 +1,4 @@
-//! The clause store: the bits of a header, worked rows, reductions, and memory that is refused.
+//! The clause store: the bits of a header, worked examples, reductions, and memory that is refused.
 ghost use Rattle.std.specs.Prelude.{◌≡◌, ◌≤◌, ◌<◌, false};
 ghost use Rattle.varisat_clause.specs.Databases.{Tracks};
 ghost use Rattle.varisat_clause.specs.Stores.{IsSound};

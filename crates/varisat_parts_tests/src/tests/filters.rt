@@ -1,4 +1,4 @@
-//! Filters over a clause store, and the list of a tier brought up to date: worked rows, and memory that is refused.
+//! Filters over a clause store, and the list of a tier brought up to date: worked examples, and memory that is refused.
 ghost use Rattle.std.specs.Prelude.{◌≡◌, ◌<◌, false, nat_lt};
 ghost use Rattle.varisat_clause.specs.Databases.{Tracks};
 ghost use Rattle.varisat_clause.specs.Stores.{stored_clauses, IsSound};

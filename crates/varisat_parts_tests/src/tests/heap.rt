@@ -1,4 +1,4 @@
-//! The variables by activity: worked rows, each call, a shift of all activities, and memory that is refused.
+//! The variables by activity: worked examples, each call, a shift of all activities, and memory that is refused.
 ghost use Rattle.std.specs.Prelude.{◌≡◌, ◌≤◌, ◌<◌, length, IfOk};
 
 use linked_list_allocator::LocalHeap;

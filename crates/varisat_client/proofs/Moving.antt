@@ -9,7 +9,8 @@ use Rattle.varisat_names.specs.Settings.{update_of, first_bad}
 use Rattle.varisat_names.proofs.Maps.{is_none-none}
 use Rattle.varisat_names.specs.declared.config.SolverConfigUpdate.{SolverConfigUpdate}
 use Rattle.varisat_names.specs.declared.config.ConfigField.TheVariants.{MaxSteps}
-use Rattle.varisat.specs.States.{State, empty_state}
+use Rattle.varisat.specs.States.{State}
+use Rattle.varisat.specs.Proven.{configured}
 use Rattle.varisat.proofs.NameLaws.{none-in-order}
 use Rattle.varisat.specs.Calls.{AddsClause, Assumes, Solves, Configures, calling}
 use Rattle.varisat.specs.declared.solver.SolverError.{SolverError}
@@ -35,10 +36,10 @@ stands-free : (g : Client) (p : Past) → g.refusal ≡ p.refusal → p.refusal 
 stands-free g p e free k = record { refusal = e; full = λ f. absurd (let z : None ≡ Some ClauseStoreFull = sym free ∙ f in cc); holds = λ _. k }
 
 -- nothing was given yet
-pub is-new : (g : Client) → g.refusal ≡ None → StandsFor g.solver empty_state → g.clause ≡ [] → g.assumptions ≡ [] → IsSetOf [] g.model → IsSetOf [] g.core →
+pub is-new : (g : Client) → g.refusal ≡ None → StandsFor g.solver (configured false None) → g.clause ≡ [] → g.assumptions ≡ [] → IsSetOf [] g.model → IsSetOf [] g.core →
     StandsForPast g empty_past
 is-new g r s c a m k = stands-free g empty_past r refl (record {
-  state = empty_state;
+  state = configured false None;
   stands = s;
   fits = record {
     valid = refl;

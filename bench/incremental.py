@@ -44,14 +44,14 @@ def must_run(command, folder=None):
     return done.stdout
 
 
-def build(folder):
-    """The program that makes the calls, linked to each solver that is there."""
+def build(folder, client="calls"):
+    """Links the client to each solver that is there, and gives the names of these."""
     # What stands there is taken: behind the gate contrib/ipasir/test leaves it, where rt lib would prove all once more.
     if not os.path.exists(f"{CRATE}/out/libvarisat_ipasir.a"):
         must_run(["rt", "lib"], CRATE)
     kit = os.path.dirname(must_run(["rt", "doc"]).strip())
-    calls = f"{folder}/calls.o"
-    must_run(["gcc", "-std=c11", "-D_POSIX_C_SOURCE=200809L", "-O2", "-c", f"{SOURCES}/calls.c", "-o", calls])
+    calls = f"{folder}/{client}.o"
+    must_run(["gcc", "-std=c11", "-D_POSIX_C_SOURCE=200809L", "-O2", "-c", f"{SOURCES}/{client}.c", "-o", calls])
     linked = {"varisat": ["gcc", calls, f"{IPASIR}/ipasir.c", f"{CRATE}/out/libvarisat_ipasir.a", f"{kit}/c/liblibc_c.a"]}
     if os.path.exists(MINISAT):
         linked["minisat"] = ["g++", "-w", "-D__STDC_LIMIT_MACROS", "-D__STDC_FORMAT_MACROS", calls, f"{SOURCES}/minisat.cc", MINISAT]
@@ -76,12 +76,17 @@ def print_solver(name, runs, calls, ours):
     return all_calls
 
 
-def run(arguments):
+def begin(repetitions):
+    """Sees that the tools are there, and prints where and how it is measured."""
     programs.check_tools("gcc", "g++")
     if not shutil.which("rt"):
         programs.stop("the command rt of the Rattle kit is not there")
     print(f"{datetime.date.today()}, {programs.machine()}")
-    print(f"the median of {arguments.repetitions} turns; times are the processor's\n")
+    print(f"the median of {repetitions} turns; times are the processor's\n")
+
+
+def run(arguments):
+    begin(arguments.repetitions)
     print(HEADS)
     with tempfile.TemporaryDirectory() as folder:
         names = build(folder)

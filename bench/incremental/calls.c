@@ -1,12 +1,9 @@
 /* Incremental calls over 100,000 variables, through IPASIR, so that any solver that has it can be linked. It prints the
  * processor's milliseconds of giving the clauses, of the first search, and of all further calls with their searches; the largest
  * resident size in KiB; how many searches were satisfiable; and a checksum of all answers, which is the same for each solver. */
-#include "../../contrib/ipasir/ipasir.h"
+#include "client.h"
 
-#include <stdio.h>
-#include <stdlib.h>
 #include <sys/resource.h>
-#include <time.h>
 
 enum {
     VARIABLES = 100000,
@@ -17,33 +14,14 @@ enum {
     VALUES = 1000,
 };
 
-static unsigned long long seed = 88172645463325252ULL;
-
-static int draw(int below) {
-    seed ^= seed << 13, seed ^= seed >> 7, seed ^= seed << 17;
-    return (int)((seed >> 33) % (unsigned)below);
-}
-
 static int draw_literal(void) {
-    int variable = 1 + draw(VARIABLES);
-    return draw(2) ? variable : -variable;
+    return draw_sign(1 + draw(VARIABLES));
 }
 
 static void add_random_clause(void *solver, int length) {
     for (int i = 0; i < length; i++)
         ipasir_add(solver, draw_literal());
     ipasir_add(solver, 0);
-}
-
-static double milliseconds(void) {
-    struct timespec now;
-    clock_gettime(CLOCK_PROCESS_CPUTIME_ID, &now);
-    return (double)now.tv_sec * 1e3 + (double)now.tv_nsec / 1e6;
-}
-
-static void stop(const char *why) {
-    fprintf(stderr, "%s: %s\n", ipasir_signature(), why);
-    exit(2);
 }
 
 /* Reads values of variables that were given, as a program does that looks at a model. */

@@ -1,0 +1,68 @@
+"""Whether a call takes no more after 10,000 calls whose clauses were retired than after 1,000, beside the libraries of minisat and CaDiCaL."""
+import statistics
+import tempfile
+from dataclasses import dataclass
+
+import incremental
+import learning
+
+SUMMARY = "times calls whose clauses are retired, and tells whether they and the memory stay what they were"
+# What a call of ours may take at the end, and the memory, divided by what they took at first.
+LIMIT = 1.2
+HEADS = f"{'solver':10} {'calls':>8} {'a call, ms':>12} {'MiB':>8} {'calls':>8} {'a call, ms':>12} {'MiB':>8} {'ms / first':>12} {'MiB / first':>12}"
+
+
+@dataclass
+class Told:
+    """How many calls were made; the milliseconds of the processor of one of the last 500, and the resident size in KiB; how many were
+    satisfiable, and a checksum of the answers."""
+
+    calls: int
+    taken: float
+    memory: int
+    satisfiable: int
+    checksum: int
+
+
+def add_arguments(command):
+    command.add_argument("--repetitions", type=learning.positive, default=3, help="turns of all solvers (3)")
+    command.add_argument("--thousands", type=learning.positive, default=10, help="thousands of calls (10)")
+
+
+def told(line):
+    calls, taken, *rest = line.split()
+    return Told(int(calls), float(taken), *map(int, rest))
+
+
+def answer(folder, name, thousands):
+    """What is told after the first thousand of calls and after the last."""
+    lines = incremental.must_run([f"{folder}/{name}", str(1000 * thousands)]).splitlines()
+    return told(lines[0]), told(lines[-1])
+
+
+def median(tellings):
+    return statistics.median(one.taken for one in tellings), statistics.median(one.memory for one in tellings)
+
+
+def print_solver(name, turns):
+    """Prints the row of a solver, and gives how its time and its memory have grown."""
+    firsts, lasts = zip(*turns)
+    (taken, memory), (last_taken, last_memory) = median(firsts), median(lasts)
+    grown = last_taken / taken, last_memory / memory
+    first_told = f"{firsts[0].calls:8,} {taken:12.3f} {memory / 1024:8.1f}"
+    last_told = f"{lasts[0].calls:8,} {last_taken:12.3f} {last_memory / 1024:8.1f}"
+    print(f"{name:10} {first_told} {last_told} {grown[0]:12.2f} {grown[1]:12.2f}", flush=True)
+    return grown
+
+
+def run(arguments):
+    incremental.begin(arguments.repetitions)
+    print(HEADS)
+    with tempfile.TemporaryDirectory() as folder:
+        names = incremental.build(folder, "retiring")
+        turns = [[answer(folder, name, arguments.thousands) for name in names] for _ in range(arguments.repetitions)]
+    grown = [print_solver(name, one) for name, one in zip(names, zip(*turns))]
+    if len({last.checksum for turn in turns for _, last in turn}) > 1:
+        print("\nthe answers differ", flush=True)
+        return 1
+    return 1 if max(grown[0]) > LIMIT else 0

@@ -76,10 +76,11 @@ given, its assumptions and its failed cores.
 
 varisat check --drat CNF PROOF [--binary]
 
-The same for proofs of solvers that simplify: an added clause has to follow or to be RAT on its first
-literal. A deletion of what is not there is passed over, and so is one of a clause of which all literals
-but one are implied to be false, as of a single literal. Standard error tells the first wrong line, and
-how many lines were of these kinds.
+The same for proofs of solvers that simplify: an added clause has to follow or to be RAT on one of its
+literals. A deletion of what is not there is passed over, and so is one of a clause of which all literals
+but one are implied to be false, as of a single literal. Standard error tells the first wrong line, with
+its bytes and a clause for which it is not RAT, and how many lines were of these kinds. Without --binary
+the first twelve bytes of PROOF tell text from the binary format.
 ";
 
 /// The command `session`.

@@ -5,7 +5,7 @@ ghost use Rattle.std.specs.Prelude.{◌≡◌, ◌≢◌, ◌↔◌, ◌⊎◌, 
 ghost use Rattle.std.specs.Fs.{file_type, IsDir};
 ghost use Rattle.varisat.specs.Decided.{StatusIsTrue};
 ghost use Rattle.varisat.specs.Proven.{CanCountFault, DecidesWithStatus, taken_by_writer};
-ghost use Rattle.varisat_proof.specs.Verified.{GivesUnsatisfiable, EndsByDrat, EndsCheck, sources_of, fault_status};
+ghost use Rattle.varisat_proof.specs.Verified.{GivesUnsatisfiable, EndsDrat, EndsCheck, sources_of, fault_status};
 
 mod help;
 
@@ -430,18 +430,52 @@ fn check_from<R: Read + Drop>(rt: &HostRuntime, cnf: R, words: &CheckWords<'_>) 
         Ok(proof) => proof,
         Err(error) => return tell_file(&mut err, words.proof, &error),
     };
+    let format = match found_format(rt, words) {
+        Ok(format) => format,
+        Err(error) => return tell_file(&mut err, words.proof, &error),
+    };
     let (mut cnf, mut proof) = (ReadSource::new(cnf), ReadSource::new(proof));
     match BufWriter::new(rt.alloc(), io::writer(rt)) {
         Ok(out) => {
             let mut out = IoTarget::new(out);
             if words.is_drat {
-                check_drat_texts(rt, &mut cnf, &mut proof, words.format, &mut out, &mut err)
+                check_drat_texts(rt, &mut cnf, &mut proof, format, &mut out, &mut err)
             } else {
                 check_texts(rt, &mut cnf, &mut proof, words.format, &mut out, &mut err)
             }
         }
         Err(error) => tell_fault(&mut err, &error),
     }
+}
+
+// How many bytes at the head of a proof tell text from the binary format, as `drat-trim` tells them apart.
+const HEAD: usize = 12;
+
+// Whether a byte may stand in a DRAT proof that is text.
+fn is_text_byte(byte: u8) -> bool {
+    matches!(
+        byte,
+        b'\n' | b'\r' | b' ' | b'-' | b'0'..=b'9' | b'c' | b'd'
+    )
+}
+
+// The format of the proof. With `--drat` and without `--binary` it goes by the first bytes, if the file can be read twice.
+fn found_format(rt: &HostRuntime, words: &CheckWords<'_>) -> io::Result<ProofFormat> {
+    if !words.is_drat || words.format != ProofFormat::Drat {
+        return Ok(words.format);
+    }
+    let mut file = open_text(rt, words.proof)?;
+    if !file.metadata()?.is_file() {
+        return Ok(ProofFormat::Drat);
+    }
+    let mut head = [0; HEAD];
+    let size = file.read(&mut head)?;
+    for byte in &head[..size] {
+        if !is_text_byte(*byte) {
+            return Ok(ProofFormat::BinaryDrat);
+        }
+    }
+    Ok(ProofFormat::Drat)
 }
 
 // Checks the proof that a file gives, whose lines may be those of solvers that simplify. The status is 0 only where no
@@ -457,7 +491,8 @@ fn check_drat_texts<R: Read + Drop, T: ProofTarget, E: Write>(
     requires cnf_faults { cnf.old.faults < 2 ^ 64 - 1 }
     requires proof_faults { proof.old.faults < 2 ^ 64 - 1 }
     requires out_faults { (T.taken out.old).faults < 2 ^ 64 - 1 }
-    ensures outcome { EndsByDrat cnf.old cnf.new result (T.taken out.old) (T.taken out.new) }
+    ensures outcome { EndsDrat format (sources_of cnf.old proof.old) (sources_of cnf.new proof.new)
+        result (T.taken out.old) (T.taken out.new) }
     ensures truth { result ≡ 0 → GivesUnsatisfiable cnf.old cnf.new }
 {
     check_drat_lines(rt.alloc(), cnf, proof, format, out, err)

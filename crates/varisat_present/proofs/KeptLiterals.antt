@@ -11,7 +11,7 @@ use Rattle.varisat_theory.proofs.Saturated.{saturated_no_conflict, complete_fewe
 use Rattle.varisat_theory.proofs.Implication.{implied_known, implied_clash, implied_more, implied_alone}
 use Rattle.varisat_theory.proofs.Growth.{conflicts_known}
 use Rattle.varisat_plain.proofs.Scans.{answers_true, answers_false}
-use Rattle.varisat_present.specs.Knowing.{AreImplied, Keeps, Finds, Saturates, TakesBase, Asks, Sees, IsSpare}
+use Rattle.varisat_present.specs.Knowing.{AreImplied, Keeps, Settles, Finds, Saturates, TakesBase, Asks, Sees, IsSpare}
 use Rattle.varisat_present.proofs.KnownGrowth.{complete_both, grows_part, cut_back}
 
 -- 1. A clause joins.
@@ -31,7 +31,7 @@ pub keeps_none : (b : Bool) (P : List Clause) (known : List Literal) → b ≡ f
 keeps_none b P known f e = subst (λ (x : List Literal). Keeps b P x) (sym e) (keeps_nothing b P f)
 
 -- 3. A clause leaves.
-implied_is_known : (P : List Clause) (known : List Literal) → IsSaturated P known → (l : Literal) → Implied P [] l → l ∈ known
+pub implied_is_known : (P : List Clause) (known : List Literal) → IsSaturated P known → (l : Literal) → Implied P [] l → l ∈ known
 implied_is_known P known s l (Known m) = absurd m
 implied_is_known P known s l (ByReason c i j h) =
     s.complete.closed c l i j (λ m k. ⊎_elim inl (λ n. inr (implied_is_known P known s (opposite m) (h m k n))) (equal_or_not m l))
@@ -161,3 +161,16 @@ pub found_there : (P Q : List Clause) (base other : List Literal) (found : Bool)
     IsTrue found ↔ Conflicts Q other
 found_there P Q base other found e f h = subst (λ (x : List Clause). IsTrue found ↔ Conflicts x other) e
     (subst (λ (b : List Literal). IsTrue found ↔ Conflicts P b) f h)
+
+-- 7. Propagation to the end.
+pub settles_found : (b : Bool) (P : List Clause) (old new : List Literal) (found : Bool) → Keeps b P old → Saturates P old found new → Settles P found new
+settles_found b P old new found k s = record {
+  keeps = keeps_found b P old new found (not found) k s (not_true found);
+  right = refuted_is b P old new found k s;
+}
+
+pub settles_already : (b : Bool) (P : List Clause) (known : List Literal) → b ≡ true → Keeps b P known → Settles P false known
+settles_already b P known e k = record {
+  keeps = subst (λ (x : Bool). Keeps x P known) e k;
+  right = saturated_is b P known e k;
+}

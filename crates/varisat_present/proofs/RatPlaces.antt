@@ -1,17 +1,23 @@
 -- Resolvents with the clauses at places.
-use Rattle.std.proofs.Common.{◌≡◌, ℕ, ◌+◌, ◌<◌, ◌≤◌, List, [], ◌∷◌, ◌++◌, ◌↔◌, IsTrue, Bool, true, false, Option, Some, None, Vec, nat_eq, ◌==◌, take, length, get_or, refl, sym, ap, ◌∙◌, subst, inl, inr, ⊎_elim, arith, eq-eqb, ne_eqb, eqb-true}
+use Rattle.std.proofs.Common.{◌≡◌, ℕ, ◌+◌, ◌<◌, ◌≤◌, List, [], ◌∷◌, ◌++◌, ◌⊎◌, ◌↔◌, IsTrue, Bool, true, false, Option, Some, None, Vec, nat_eq, take, length, get_or, refl, sym, ap, ◌∙◌, subst, inl, inr, ⊎_elim, eq-eqb, ne_eqb}
 use Rattle.std.proofs.lemmas.List.{append_assoc, append-nil, take_more}
 use Rattle.varisat_theory.specs.Membership.{◌∈◌}
 use Rattle.varisat_theory.specs.Literals.{Literal, Clause, opposite, opposites}
-use Rattle.varisat_theory.specs.Propagation.{Conflicts, Follows, LeavesOnly}
-use Rattle.varisat_theory.specs.Rat.{put_unless, but_for, ResolventsFollow, IsRat}
-use Rattle.varisat_theory.proofs.Members.{∈-append_cases}
+use Rattle.varisat_theory.specs.Propagation.{Conflicts, Follows, IsFalse, IsSaturated, LeavesOnly}
+use Rattle.varisat_theory.specs.Rat.{put_unless, but_for, ResolventsFollow}
+use Rattle.varisat_theory.specs.Derivations.{TakesOut}
+use Rattle.varisat_theory.proofs.Members.{∈-append_cases, ∈-append_right}
+use Rattle.varisat_theory.proofs.Places.{∈-take_more, ∈-take_all}
+use Rattle.varisat_plain.specs.Checking.{IsAbsent, IsClauseStatus}
+use Rattle.varisat_plain.specs.declared.propagation.ClauseStatus.TheVariants.{Open}
 use Rattle.varisat_theory.proofs.Growth.{conflicts_known}
 use Rattle.varisat_plain.proofs.Scans.{opposites_append, answers_true, answers_false}
 use Rattle.varisat_present.specs.Places.{present, present_at}
-use Rattle.varisat_present.specs.Knowing.{AreImplied, Asks}
-use Rattle.varisat_present.specs.Resolving.{IsForced, ConflictsBut, AllConflict, TellsResolvent}
+use Rattle.varisat_present.specs.Knowing.{AreImplied, Asks, Settles}
+use Rattle.varisat_present.specs.Resolving.{IsForced, IsRatOnSome, TellsDeletion, ConflictsBut, AllConflict, TellsResolvent}
+use Rattle.varisat_present.specs.declared.present.Deletion.TheVariants.{Taken}
 use Rattle.varisat_present.proofs.KnownGrowth.{cut_back}
+use Rattle.varisat_present.proofs.KeptLiterals.{implied_is_known}
 use Rattle.varisat_present.proofs.PlacedClauses.{present_more, present_same, present_all, at_in}
 
 -- 1. The other literals of a clause.
@@ -125,20 +131,47 @@ rat_found P Q c base l m found e f g h =
 pub refuted_rat : (P : List Clause) (c : Clause) (l : Literal) → Conflicts P [] → IsTrue true ↔ ResolventsFollow P c l
 refuted_rat P c l k = answers_true _ (λ d i o. conflicts_known P [] (opposites (c ++ but_for (opposite l) d)) (λ x m. absurd m) k)
 
-pub rat_first : (P : List Clause) (c : Clause) (l : Literal) (found is_empty : Bool) → is_empty ≡ (length c == 0) → is_empty ≡ false → l ≡ get_or c 0 l →
-    IsTrue found ↔ ResolventsFollow P c l → IsTrue found ↔ IsRat P c
-rat_first P [] l found is_empty e f q h = absurd (let n : false ≡ true = sym f ∙ e in cc)
-rat_first P (x ∷ c) l found is_empty e f q h = subst (λ (y : Literal). IsTrue found ↔ ResolventsFollow P (x ∷ c) y) q h
+-- the clause is RAT on none of these literals
+abbrev pub HasNoPivot : List Clause → Clause → List Literal → Type 0
+HasNoPivot P c ls = (l : Literal) → l ∈ ls → ResolventsFollow P c l → ⊥
 
-pub rat_none : (P : List Clause) (c : Clause) (is_empty : Bool) → is_empty ≡ (length c == 0) → is_empty ≡ true → IsTrue false ↔ IsRat P c
-rat_none P [] is_empty e f = answers_false _ (λ r. r)
-rat_none P (x ∷ c) is_empty e f = let n = eqb-true (length (x ∷ c)) 0 (sym e ∙ f) in absurd (omega (arith, n))
+pub no_pivot_more : (P Q : List Clause) (c : Clause) (i l : ℕ) → P ≡ Q → l ≡ get_or c i 0 → (ResolventsFollow P c l → ⊥) → HasNoPivot Q c (take i c) →
+    HasNoPivot Q c (take (i + 1) c)
+no_pivot_more P Q c i l e f n w = λ m j r.
+    ⊎_elim (λ a. w m a r)
+    (λ a. n (subst (λ (x : List Clause). ResolventsFollow x c l) (sym e) (subst (ResolventsFollow Q c) (a ∙ sym f) r)))
+    (∈-take_more m c i 0 j)
+
+pub no_pivot_all : (P : List Clause) (c : Clause) (i : ℕ) → length c ≤ i → HasNoPivot P c (take i c) → IsRatOnSome P c → ⊥
+no_pivot_all P c i h w (l, j, r) = w l (∈-take_all l c i h j) r
+
+pub pivot_found : (P Q : List Clause) (c : Clause) (l : Literal) → P ≡ Q → l ∈ c → ResolventsFollow P c l → IsRatOnSome Q c
+pivot_found P Q c l e i r = (l, i, subst (λ (x : List Clause). ResolventsFollow x c l) e r)
 
 -- 5. Deletions.
 pub forced : (P Q : List Clause) (known : List Literal) (c : Clause) → P ≡ Q → AreImplied P [] known →
     ((l : Literal) × (l ∈ c) × LeavesOnly known c l) → IsForced Q c
 forced P Q known c e h (l, i, u) =
     subst (λ (x : List Clause). IsForced x c) e (l, i, λ m j. ⊎_elim inl (λ o. inr (h (opposite m) o)) (u m j))
+
+not_forced : (P : List Clause) (known : List Literal) (c : Clause) → IsSaturated P known → IsFalse known c ⊎ IsClauseStatus known c Open →
+    IsForced P c → IsAbsent P c
+not_forced P known c s (inl f) h = λ d m e. absurd (s.complete.no_false (d, m, λ x j. f x (e.0 x j)))
+not_forced P known c s (inr (m, n, i, j, d, o, p)) (l, k, h) = λ x y z. absurd
+    (⊎_elim
+    (λ a. ⊎_elim (λ b. d (a ∙ sym b)) (λ b. p (implied_is_known P known s (opposite n) b)) (h n j))
+    (λ a. o (implied_is_known P known s (opposite m) a)) (h m i))
+
+pub unforced : (P Q : List Clause) (known : List Literal) (c : Clause) (found : Bool) → P ≡ Q → Settles P found known →
+    IsFalse known c ⊎ IsClauseStatus known c Open → (Conflicts Q [] → ⊥) → IsForced Q c → IsAbsent Q c
+unforced P Q known c true e s f n h = absurd (n (subst (λ (x : List Clause). Conflicts x []) e (s.right.0 refl)))
+unforced P Q known c false e s f n h = subst (λ (x : List Clause). IsAbsent x c) e
+    (not_forced P known c (s.keeps.saturated refl) f (subst (λ (x : List Clause). IsForced x c) (sym e) h))
+
+pub taken_told : (P R Q : List Clause) (c : Clause) → P ≡ R → TakesOut P c Q → (IsForced R c → IsAbsent R c) → TellsDeletion R c Taken Q
+taken_told P R Q c e t h =
+    let u : TakesOut R c Q = subst (λ (x : List Clause). TakesOut x c Q) e t in
+    (u, λ f. h f u.1 (subst (λ (x : List Clause). u.1 ∈ x) (sym u.3) (∈-append_right u.1 u.0 (u.1 ∷ u.2) (inl refl))) u.4)
 
 -- 6. A clause that is seen to follow.
 pub refuted_follows : (P : List Clause) (c : Clause) → Conflicts P [] → Follows P c

@@ -1,5 +1,5 @@
 -- What propagation makes of the known literals.
-use Rattle.std.specs.Prelude.{◌≡◌, ◌≢◌, List, [], ◌∷◌, ◌++◌, ◌⊎◌, Bool, true, false, IsTrue, ◌↔◌}
+use Rattle.std.specs.Prelude.{◌≡◌, ◌≢◌, List, [], ◌∷◌, ◌++◌, ◌⊎◌, Bool, true, false, not, IsTrue, ◌↔◌}
 use Rattle.varisat_theory.specs.Membership.{◌∈◌, ◌⊆◌}
 use Rattle.varisat_theory.specs.Literals.{Literal, Clause, opposite, IsUnit}
 use Rattle.varisat_theory.specs.Propagation.{Conflicts, IsFalse, LeavesOnly, HasClash, IsComplete, IsSaturated}
@@ -31,6 +31,11 @@ pub record Finds (P : List Clause) (old : List Literal) (found : Bool) (new : Li
 pub record Saturates (P : List Clause) (old : List Literal) (found : Bool) (new : List Literal) : Type 0 where
   pub finds : Finds P old found new
   pub saturated : found ≡ false → IsSaturated P new
+
+-- propagation has come to its end, or else conflicts
+pub record Settles (P : List Clause) (found : Bool) (known : List Literal) : Type 0 where
+  pub keeps : Keeps (not found) P known
+  pub right : IsTrue found ↔ Conflicts P []
 
 -- what is found of the clause under the known literals: it is false, or it leaves a literal that is neither known nor false
 pub record LeavesNew (P : List Clause) (known : List Literal) (l : Literal) : Type 0 where

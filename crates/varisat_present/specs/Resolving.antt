@@ -5,7 +5,7 @@ use Rattle.varisat_theory.specs.Literals.{Literal, Clause, opposite, opposites}
 use Rattle.varisat_theory.specs.Propagation.{Conflicts}
 use Rattle.varisat_theory.specs.Derivations.{TakesOut}
 use Rattle.varisat_theory.specs.Analysis.{Implied}
-use Rattle.varisat_theory.specs.Rat.{but_for}
+use Rattle.varisat_theory.specs.Rat.{but_for, ResolventsFollow}
 use Rattle.varisat_plain.specs.Checking.{IsAbsent}
 use Rattle.varisat_present.specs.declared.present.Deletion.{Deletion}
 use Rattle.varisat_present.specs.declared.present.Deletion.TheVariants.{Taken, Kept, Absent}
@@ -15,11 +15,15 @@ use Rattle.varisat_present.specs.Places.{present, present_at, place_limit}
 abbrev pub IsForced : List Clause → Clause → Type 0
 IsForced P c = (l : Literal) × (l ∈ c) × ((m : Literal) → m ∈ c → (m ≡ l) ⊎ Implied P [] (opposite m))
 
--- the clause was taken out; or it is there, and forced, and stays; or it is not there
+-- the clause was taken out, and is not forced; or it is there, and forced, and stays; or it is not there
 abbrev pub TellsDeletion : List Clause → Clause → Deletion → List Clause → Type 0
-TellsDeletion P c Taken Q = TakesOut P c Q
+TellsDeletion P c Taken Q = TakesOut P c Q × (IsForced P c → ⊥)
 TellsDeletion P c Kept Q = ((d : Clause) × (d ∈ P) × SameSet d c) × IsForced P c × (Q ≡ P)
 TellsDeletion P c Absent Q = IsAbsent P c × (Q ≡ P)
+
+-- RAT on one of its literals
+abbrev pub IsRatOnSome : List Clause → Clause → Type 0
+IsRatOnSome P c = (l : Literal) × (l ∈ c) × ResolventsFollow P c l
 
 -- propagation from the base conflicts, with the other literals of the clause taken as false
 abbrev pub ConflictsBut : List Clause → List Literal → Literal → Clause → Type 0

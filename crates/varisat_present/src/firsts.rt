@@ -8,7 +8,7 @@ use std::alloc::{AllocError, Allocator};
 use varisat_literals::Lit;
 
 /// For a literal that no clause has.
-const UNSEEN: usize = 0xffff_ffff_ffff_ffff;
+pub const UNSEEN: usize = 0xffff_ffff_ffff_ffff;
 
 /// Makes the list so long that it has a place for the code.
 fn reach<A: Allocator + Copy>(firsts: &mut Vec<usize, A>, code: usize) -> Result<(), AllocError>

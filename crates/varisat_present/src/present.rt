@@ -1,18 +1,19 @@
 //! Present clauses, and what propagation over them came to.
-ghost use Rattle.std.specs.Prelude.{◌≡◌, take, ◌↔◌, ◌++◌, ◌∷◌, ◌<◌, ℕ, [], length, slice_index_or, IfOk, OnOk, OnErr, IsTrue, true, false, MatchOption, Some, None};
-ghost use Rattle.varisat_plain.specs.Checking.{IsAbsent};
+ghost use Rattle.std.specs.Prelude.{◌≡◌, ◌⊎◌, take, ◌↔◌, ◌++◌, ◌∷◌, ◌<◌, ℕ, [], length, slice_index_or, IfOk, OnOk, OnErr, IsTrue, true, false, MatchOption, Some, None};
+ghost use Rattle.varisat_plain.specs.Checking.{IsAbsent, IsClauseStatus};
+ghost use Rattle.varisat_plain.specs.declared.propagation.ClauseStatus.TheVariants.{Open};
 ghost use Rattle.varisat_theory.specs.Derivations.{TakesOut};
 ghost use Rattle.varisat_theory.specs.Held.{without};
 ghost use Rattle.varisat_theory.specs.Literals.{Clause, opposites, IsUnit};
-ghost use Rattle.varisat_theory.specs.Rat.{IsRat, ResolventsFollow};
+ghost use Rattle.varisat_theory.specs.Rat.{ResolventsFollow};
 ghost use Rattle.varisat_theory.specs.Membership.{◌∈◌, SameSet};
-ghost use Rattle.varisat_theory.specs.Propagation.{Conflicts, Follows, HasClash, IsComplete, LeavesOnly};
+ghost use Rattle.varisat_theory.specs.Propagation.{Conflicts, Follows, HasClash, IsComplete, IsFalse, LeavesOnly};
 ghost use Rattle.varisat_present.specs.Places.{present, present_at};
-ghost use Rattle.varisat_present.specs.Knowing.{IsSpare, Asks, Sees, AreImplied, Keeps};
-ghost use Rattle.varisat_present.specs.Resolving.{AllConflict, IsForced, TellsDeletion, TellsResolvent};
+ghost use Rattle.varisat_present.specs.Knowing.{IsSpare, Asks, Sees, AreImplied, Keeps, Settles};
+ghost use Rattle.varisat_present.specs.Resolving.{AllConflict, IsForced, IsRatOnSome, TellsDeletion, TellsResolvent};
 
 use crate::clause::{holds, is_quiet, status_of};
-use crate::firsts::{first_of, note_all};
+use crate::firsts::{UNSEEN, first_of, note_all};
 use crate::index::{ClauseIndex, key_of};
 use crate::known::Known;
 use crate::places::{clause_at, drop_mentions, find_place, has_clause, is_equal_at};
@@ -39,6 +40,8 @@ pub struct PresentClauses<A: Allocator + Copy> {
     index: ClauseIndex<A>,
     /// By a literal's code, for those below `PLACE_LIMIT`, a place before which no clause has it.
     firsts: Vec<usize, A>,
+    /// The place of the clause for which a clause was not RAT on its first literal, when that was asked last.
+    stopper: usize,
 }
 
 impl<A: Allocator + Copy> Model for PresentClauses<A> {
@@ -145,11 +148,13 @@ fn is_spare<A: Allocator + Copy>(
 
 /// Whether all literals of the clause but one are false.
 fn leaves_one<A: Allocator + Copy>(known: &Known<A>, clause: &[Lit]) -> bool
-    ensures { result ≡ true → (l : ℕ) × (l ∈ clause.now) × LeavesOnly known.now clause.now l }
+    ensures yes { result ≡ true → (l : ℕ) × (l ∈ clause.now) × LeavesOnly known.now clause.now l }
+    ensures no { result ≡ false → IsFalse known.now clause.now ⊎ IsClauseStatus known.now clause.now Open }
 {
     match status_of(known, clause) {
         ClauseStatus::Leaves(_) => true,
-        ClauseStatus::False | ClauseStatus::Open => false,
+        ClauseStatus::False => false,
+        ClauseStatus::Open => false,
     }
 }
 
@@ -162,6 +167,23 @@ pub enum Deletion {
     Kept,
     /// There is none.
     Absent,
+}
+
+/// Propagates to the end, unless that was done. Returns whether the clauses conflict.
+fn settle<A: Allocator + Copy>(
+    places: &[Option<Vec<Lit, A>>],
+    known: &mut Known<A>,
+    watches: &mut Watches<A>,
+    is_saturated: bool,
+) -> Result<bool, AllocError>
+    requires { Keeps is_saturated (present places.now) known.old }
+    ensures { IfOk result (λ found. Settles (present places.now) found known.new) }
+{
+    if is_saturated {
+        return Ok(false);
+    }
+    let found = saturate(places, known, watches)?;
+    Ok(found)
 }
 
 /// Whether propagation from the base conflicts, where literals that the clauses imply are known.
@@ -236,6 +258,13 @@ fn resolvent_conflicts<A: Allocator + Copy>(
     Ok(found)
 }
 
+/// Notes where the first clause is for which it is not so.
+fn note_stopper(stopper: &mut usize, place: usize) {
+    if *stopper == UNSEEN {
+        *stopper = place;
+    }
+}
+
 /// Whether that is so for the clauses at all places, of which those before the first one have not the literal.
 fn resolvents_conflict<A: Allocator + Copy>(
     alloc: A,
@@ -245,6 +274,7 @@ fn resolvents_conflict<A: Allocator + Copy>(
     base: &[Lit],
     literal: Lit,
     first: usize,
+    stopper: &mut usize,
 ) -> Result<bool, AllocError>
     requires no_clash { HasClash known.old → ⊥ }
     requires implied { AreImplied (present places.now) [] known.old }
@@ -257,6 +287,7 @@ fn resolvents_conflict<A: Allocator + Copy>(
         let found = resolvent_conflicts(alloc, places, place, known, watches, base, literal)?;
         known.cut(count);
         if !found {
+            note_stopper(stopper, place);
             return Ok(false);
         }
     }
@@ -276,6 +307,7 @@ impl<A: Allocator + Copy> PresentClauses<A> {
             watches: Watches::new_in(alloc),
             index: ClauseIndex::new_in(alloc),
             firsts: Vec::new(alloc),
+            stopper: UNSEEN,
         }
     }
 
@@ -364,27 +396,47 @@ impl<A: Allocator + Copy> PresentClauses<A> {
         true
     }
 
-    /// Whether all literals of the clause but one are implied to be false.
-    fn is_forced(&self, clause: &[Lit]) -> bool
-        ensures { result ≡ true → IsForced self.now clause.now }
+    /// Whether all literals of the clause but one are implied to be false, if the clause is present.
+    fn is_forced(&mut self, clause: &[Lit]) -> Result<bool, AllocError>
+        ensures yes { IfOk result (λ found. found ≡ true → IsForced self.old clause.now) }
+        ensures no { IfOk result (λ found. found ≡ false → (Conflicts self.old [] → ⊥) → IsForced self.old clause.now → IsAbsent self.old clause.now) }
+        ensures stays { self.new ≡ self.old }
     {
-        leaves_one(&self.known, clause)
+        match settle(
+            &self.places,
+            &mut self.known,
+            &mut self.watches,
+            self.is_saturated,
+        ) {
+            Ok(found) => {
+                self.is_saturated = !found;
+                Ok(leaves_one(&self.known, clause))
+            }
+            Err(error) => {
+                self.known.cut(0);
+                self.is_saturated = false;
+                Err(error)
+            }
+        }
     }
 
-    /// Takes out one clause that is equal as a set, unless it may be why a literal is implied.
-    pub fn take_out_spare(&mut self, clause: &[Lit]) -> Deletion
-        ensures { TellsDeletion self.old clause.now result self.new }
+    /// Takes out one clause that is equal as a set, unless it may be why a literal is implied. Where propagation over
+    /// the clauses conflicts any of them may be taken out.
+    pub fn take_out_spare(&mut self, clause: &[Lit]) -> Result<Deletion, AllocError>
+        ensures told { IfOk result (λ deletion. (Conflicts self.old [] → ⊥) → TellsDeletion self.old clause.now deletion self.new) }
+        ensures err { OnErr result (self.new ≡ self.old) }
     {
-        if self.is_forced(clause) {
+        let is_forced = self.is_forced(clause)?;
+        if is_forced {
             if self.has(clause) {
-                return Deletion::Kept;
+                return Ok(Deletion::Kept);
             }
-            return Deletion::Absent;
+            return Ok(Deletion::Absent);
         }
         if self.take_out(clause) {
-            return Deletion::Taken;
+            return Ok(Deletion::Taken);
         }
-        Deletion::Absent
+        Ok(Deletion::Absent)
     }
 
     /// Takes out the clauses with a literal of the variable. It looks at every clause.
@@ -401,16 +453,19 @@ impl<A: Allocator + Copy> PresentClauses<A> {
         ensures found { IfOk result (λ found. IsTrue found ↔ Conflicts self.old []) }
         ensures stays { self.new ≡ self.old }
     {
-        if self.is_saturated {
-            return Ok(false);
-        }
-        match saturate(&self.places, &mut self.known, &mut self.watches) {
+        match settle(
+            &self.places,
+            &mut self.known,
+            &mut self.watches,
+            self.is_saturated,
+        ) {
             Ok(found) => {
                 self.is_saturated = !found;
                 Ok(found)
             }
             Err(error) => {
                 self.known.cut(0);
+                self.is_saturated = false;
                 Err(error)
             }
         }
@@ -496,6 +551,7 @@ impl<A: Allocator + Copy> PresentClauses<A> {
             &base,
             !literal,
             first,
+            &mut self.stopper,
         ) {
             Ok(found) => Ok(found),
             Err(error) => {
@@ -506,15 +562,29 @@ impl<A: Allocator + Copy> PresentClauses<A> {
         }
     }
 
-    /// Whether the clause is RAT on its first literal.
-    pub fn is_rat(&mut self, clause: &[Lit]) -> Result<bool, AllocError>
-        ensures found { IfOk result (λ found. IsTrue found ↔ IsRat self.old clause.now) }
+    /// The place of the first literal of the clause on which it is RAT, if there is one.
+    pub fn find_pivot(&mut self, clause: &[Lit]) -> Result<Option<usize>, AllocError>
+        ensures found { IfOk result (λ found. MatchOption found (IsRatOnSome self.old clause.now → ⊥) (λ i. IsRatOnSome self.old clause.now)) }
         ensures stays { self.new ≡ self.old }
     {
-        if clause.is_empty() {
-            return Ok(false);
+        self.stopper = UNSEEN;
+        for i in 0..clause.len() {
+            let is_rat = self.is_rat_on(clause, clause[i])?;
+            if is_rat {
+                return Ok(Some(i));
+            }
         }
-        let found = self.is_rat_on(clause, clause[0])?;
-        Ok(found)
+        Ok(None)
+    }
+
+    /// The clause for which a clause was not RAT on its first literal, when `find_pivot` last found none, as long as it
+    /// is present.
+    pub fn stopper(&self) -> Option<&[Lit]>
+        ensures { MatchOption result (Unit {0}) (λ clause. clause.now ∈ self.now) }
+    {
+        match clause_at(&self.places, self.stopper) {
+            None => None,
+            Some(clause) => Some(clause),
+        }
     }
 }

@@ -9,7 +9,7 @@ use std::alloc::{AllocError, Allocator};
 use varisat_literals::Lit;
 
 /// Lists of fewer literals are compared without marks, which take memory.
-const FEW: usize = 64;
+const FEW: usize = 256;
 
 /// Whether all of the literals are marked.
 pub fn are_marked<A: Allocator + Copy>(marks: &Known<A>, literals: &[Lit]) -> bool

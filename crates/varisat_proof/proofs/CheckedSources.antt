@@ -12,35 +12,10 @@ use Rattle.varisat_proof.specs.declared.checker.error.CheckerError.TheVariants.{
 use Rattle.varisat_proof.specs.declared.checker.check.Count.{Count}
 use Rattle.varisat_proof.specs.Lines.{ProofLine}
 use Rattle.varisat_proof.specs.Machine.{ReaderState, begin}
-use Rattle.varisat_proof.specs.Marked.{ProofState, IsCheckOf}
+use Rattle.varisat_proof.specs.Marked.{ProofState, Rules, IsCheckBy}
 use Rattle.varisat_proof.specs.Checks.{StandsBy, StandsAfterLines, HasRead, CheckBreaksOff, EndsWith}
 use Rattle.varisat_proof.specs.Calls.{ChecksBytes, AtEnd, InText, SourceFailed, RanOut, IsOfBytes, is_of_bytes, is_io}
 use Rattle.varisat_proof.proofs.CheckedLines.{SoFar, reads_start}
-
--- what was read of a source so far
-pub record Underway (f : Encoding) (s t : ProofState) (old now : Stand) (count : Count) (p : ReaderState) : Type 0 where
-  pub text : List ℕ
-  pub reads : streams.Reads old text now
-  pub quiet : now.faults ≡ old.faults
-  pub so : SoFar f s text t count p
-
-starts_by : (b : Bool) (s : ProofState) → IsTrue b ↔ Conflicts s.present [] → StandsBy b s [] s 0
-starts_by true s h = record { front = []; back = []; splits = refl; goes = refl; conflict = h.0 refl }
-starts_by false s h = (refl, (λ x. let y = h.1 x in absurd cc), refl)
-
-pub underway_start : (f : Encoding) (s t : ProofState) (source : Stand) (count : Count) (p : ReaderState) → t ≡ s → p ≡ begin f → count.steps ≡ 0 →
-    IsTrue count.refuted ↔ Conflicts s.present [] → Underway f s t source source count p
-underway_start f s t source count p e g z h = record {
-  text = [];
-  reads = reads_none source;
-  quiet = refl;
-  so = (
-    [],
-    subst (λ x. HasRead f [] [] x) (sym g) (reads_start f),
-    subst (λ (x : ProofState). StandsBy count.refuted s [] x count.steps) (sym e)
-        (subst (λ n. StandsBy count.refuted s [] s n) (sym z) (starts_by count.refuted s h)),
-  );
-}
 
 -- a source gave a piece more
 pub record Gave (s : Stand) (piece : List ℕ) (t : Stand) : Type 0 where
@@ -62,70 +37,6 @@ ended_here before n [] e h = absurd (omega arith)
 ended_here before n (b ∷ bs) e h =
     let some : nat_lt 0 (suc (length bs)) ≡ true = search (rules, h) in
     ap (λ (m : ℕ). streams.ended_after {E = Unit {0}} before (Ok m) (b ∷ bs)) e ∙ ap (λ t. if t then true else before) some
-
--- what a check returns for some bytes
-abbrev pub Right : Encoding → ProofState → ProofState → Result CheckVerdict CheckerError → List ℕ → Type 0
-Right f s t r bytes = IsCheckOf f s bytes r t
-
-pub underway_more : (f : Encoding) (s t t' : ProofState) (old mid new : Stand) (count count' : Count) (p q : ReaderState) (piece : List ℕ) →
-    Underway f s t old mid count p → Gave mid piece new →
-    ((f : Encoding) (P : ProofState) (text : List ℕ) (lines : List ProofLine) → HasRead f text lines p → StandsAfterLines P lines t count →
-    SoFar f P (text ++ piece) t' count' q) → Underway f s t' old new count' q
-underway_more f s t t' old mid new count count' p q piece w g h = record {
-  text = w.text ++ piece;
-  reads = reads_more old mid new w.text piece w.reads g.reads;
-  quiet = g.quiet ∙ w.quiet;
-  so = h f s w.text w.so.0 w.so.1 w.so.2;
-}
-
--- a check that breaks off inside the text
-inside : (f : Encoding) (s t : ProofState) (old new : Stand) (text : List ℕ) (e : CheckerError) → streams.Reads old text new → new.faults ≡ old.faults →
-    CheckBreaksOff f s text e t → ChecksBytes {V = CheckVerdict} (Right f s t (Err e)) old (Err e) new
-inside f s t old new text (CheckFailed n) r q b = InText text r q b
-inside f s t old new text (NoSuchClause n) r q b = InText text r q b
-inside f s t old new text (CoreNotAssumed n) r q b = InText text r q b
-inside f s t old new text (Parse o) r q b = InText text r q b
-inside f s t old new text (Io x) r q b = InText text r q b
-inside f s t old new text OutOfMemory r q b = RanOut text r q refl
-inside f s t old new text (Dimacs x) r q b = InText text r q b
-inside f s t old new text Spent r q b = InText text r q b
-
-pub breaks_inside : (f : Encoding) (s t t' : ProofState) (old mid new : Stand) (count : Count) (p : ReaderState) (piece : List ℕ) (e : CheckerError) →
-    Underway f s t old mid count p → Gave mid piece new →
-    ((f : Encoding) (P : ProofState) (text : List ℕ) (lines : List ProofLine) → HasRead f text lines p → StandsAfterLines P lines t count →
-    CheckBreaksOff f P (text ++ piece) e t') → ChecksBytes {V = CheckVerdict} (Right f s t' (Err e)) old (Err e) new
-breaks_inside f s t t' old mid new count p piece e w g h =
-    inside f s t' old new (w.text ++ piece) e (reads_more old mid new w.text piece w.reads g.reads) (g.quiet ∙ w.quiet) (h f s w.text w.so.0 w.so.1 w.so.2)
-
-pub source_fails : (f : Encoding) (s t : ProofState) (old mid new : Stand) (count : Count) (p : ReaderState) (e : CheckerError) →
-    Underway f s t old mid count p → streams.Reads mid [] new → new.faults ≡ mid.faults + 1 → is_io e ≡ true →
-    ChecksBytes {V = CheckVerdict} (Right f s t (Err e)) old (Err e) new
-source_fails f s t old mid new count p e w r n i =
-    SourceFailed (w.text ++ []) (reads_more old mid new w.text [] w.reads r) (n ∙ ap (λ x. x + 1) w.quiet) e refl i
-
-ends : (f : Encoding) (s t : ProofState) (old new : Stand) (text : List ℕ) (r : Result CheckVerdict CheckerError) → streams.Reads old text new →
-    new.faults ≡ old.faults → HasEnded new → EndsWith f s text r t → ChecksBytes {V = CheckVerdict} (Right f s t r) old r new
-ends f s t old new text (Ok v) r q a b = AtEnd text r a q b
-ends f s t old new text (Err (CheckFailed n)) r q a b = AtEnd text r a q b
-ends f s t old new text (Err (NoSuchClause n)) r q a b = AtEnd text r a q b
-ends f s t old new text (Err (CoreNotAssumed n)) r q a b = AtEnd text r a q b
-ends f s t old new text (Err (Parse o)) r q a b = AtEnd text r a q b
-ends f s t old new text (Err (Io x)) r q a b = AtEnd text r a q b
-ends f s t old new text (Err OutOfMemory) r q a b = RanOut text r q refl
-ends f s t old new text (Err (Dimacs x)) r q a b = AtEnd text r a q b
-ends f s t old new text (Err Spent) r q a b = AtEnd text r a q b
-
-pub ends_check : (f : Encoding) (s t t' : ProofState) (old mid new : Stand) (count : Count) (p : ReaderState) (r : Result CheckVerdict CheckerError) →
-    Underway f s t old mid count p → Gave mid [] new → HasEnded new →
-    ((f : Encoding) (P : ProofState) (text : List ℕ) (lines : List ProofLine) → HasRead f text lines p → StandsAfterLines P lines t count →
-    EndsWith f P text r t') → ChecksBytes {V = CheckVerdict} (Right f s t' r) old r new
-ends_check f s t t' old mid new count p r w g a h =
-    let reads = reads_more old mid new w.text [] w.reads g.reads in
-    ends f s t' old new w.text r (subst (λ x. streams.Reads old x new) (append-nil w.text) reads) (g.quiet ∙ w.quiet) a (h f s w.text w.so.0 w.so.1 w.so.2)
-
-pub no_memory : (f : Encoding) (s t : ProofState) (source : Stand) →
-    ChecksBytes {V = CheckVerdict} (Right f s t (Err OutOfMemory)) source (Err OutOfMemory) source
-no_memory f s t source = RanOut [] (reads_none source) refl refl
 
 -- what is right for the one result is right for the other
 pub checks_ok : {V W : Type 0} (is_right is : List ℕ → Type 0) (old new : Stand) (v : V) (w : W) → ((bytes : List ℕ) → is_right bytes → is bytes) →
@@ -171,3 +82,93 @@ checks_right is_right old new v (AtEnd text a b c k) = (text, k)
 checks_right is_right old new v (InText text a b k) = (text ++ [], k [])
 checks_right is_right old new v (SourceFailed text a b e g i) = absurd cc
 checks_right is_right old new v (RanOut text a b g) = absurd cc
+
+module _ (R : Rules) where
+  -- what was read of a source so far
+  pub record Underway (f : Encoding) (s t : ProofState) (old now : Stand) (count : Count) (p : ReaderState) : Type 0 where
+    pub text : List ℕ
+    pub reads : streams.Reads old text now
+    pub quiet : now.faults ≡ old.faults
+    pub so : SoFar R f s text t count p
+
+  starts_by : (b : Bool) (s : ProofState) → IsTrue b ↔ Conflicts s.present [] → StandsBy R b s [] s 0
+  starts_by true s h = record { front = []; back = []; splits = refl; goes = refl; conflict = h.0 refl }
+  starts_by false s h = (refl, (λ x. let y = h.1 x in absurd cc), refl)
+
+  pub underway_start : (f : Encoding) (s t : ProofState) (source : Stand) (count : Count) (p : ReaderState) → t ≡ s → p ≡ begin f → count.steps ≡ 0 →
+      IsTrue count.refuted ↔ Conflicts s.present [] → Underway f s t source source count p
+  underway_start f s t source count p e g z h = record {
+    text = [];
+    reads = reads_none source;
+    quiet = refl;
+    so = (
+      [],
+      subst (λ x. HasRead f [] [] x) (sym g) (reads_start R f),
+      subst (λ (x : ProofState). StandsBy R count.refuted s [] x count.steps) (sym e)
+          (subst (λ n. StandsBy R count.refuted s [] s n) (sym z) (starts_by count.refuted s h)),
+    );
+  }
+
+  -- what a check returns for some bytes
+  abbrev pub Right : Encoding → ProofState → ProofState → Result CheckVerdict CheckerError → List ℕ → Type 0
+  Right f s t r bytes = IsCheckBy R f s bytes r t
+
+  pub underway_more : (f : Encoding) (s t t' : ProofState) (old mid new : Stand) (count count' : Count) (p q : ReaderState) (piece : List ℕ) →
+      Underway f s t old mid count p → Gave mid piece new →
+      ((f : Encoding) (P : ProofState) (text : List ℕ) (lines : List ProofLine) → HasRead f text lines p → StandsAfterLines R P lines t count →
+      SoFar R f P (text ++ piece) t' count' q) → Underway f s t' old new count' q
+  underway_more f s t t' old mid new count count' p q piece w g h = record {
+    text = w.text ++ piece;
+    reads = reads_more old mid new w.text piece w.reads g.reads;
+    quiet = g.quiet ∙ w.quiet;
+    so = h f s w.text w.so.0 w.so.1 w.so.2;
+  }
+
+  -- a check that breaks off inside the text
+  inside : (f : Encoding) (s t : ProofState) (old new : Stand) (text : List ℕ) (e : CheckerError) → streams.Reads old text new → new.faults ≡ old.faults →
+      CheckBreaksOff R f s text e t → ChecksBytes {V = CheckVerdict} (Right f s t (Err e)) old (Err e) new
+  inside f s t old new text (CheckFailed n) r q b = InText text r q b
+  inside f s t old new text (NoSuchClause n) r q b = InText text r q b
+  inside f s t old new text (CoreNotAssumed n) r q b = InText text r q b
+  inside f s t old new text (Parse o) r q b = InText text r q b
+  inside f s t old new text (Io x) r q b = InText text r q b
+  inside f s t old new text OutOfMemory r q b = RanOut text r q refl
+  inside f s t old new text (Dimacs x) r q b = InText text r q b
+  inside f s t old new text Spent r q b = InText text r q b
+
+  pub breaks_inside : (f : Encoding) (s t t' : ProofState) (old mid new : Stand) (count : Count) (p : ReaderState) (piece : List ℕ) (e : CheckerError) →
+      Underway f s t old mid count p → Gave mid piece new →
+      ((f : Encoding) (P : ProofState) (text : List ℕ) (lines : List ProofLine) → HasRead f text lines p → StandsAfterLines R P lines t count →
+      CheckBreaksOff R f P (text ++ piece) e t') → ChecksBytes {V = CheckVerdict} (Right f s t' (Err e)) old (Err e) new
+  breaks_inside f s t t' old mid new count p piece e w g h =
+      inside f s t' old new (w.text ++ piece) e (reads_more old mid new w.text piece w.reads g.reads) (g.quiet ∙ w.quiet) (h f s w.text w.so.0 w.so.1 w.so.2)
+
+  pub source_fails : (f : Encoding) (s t : ProofState) (old mid new : Stand) (count : Count) (p : ReaderState) (e : CheckerError) →
+      Underway f s t old mid count p → streams.Reads mid [] new → new.faults ≡ mid.faults + 1 → is_io e ≡ true →
+      ChecksBytes {V = CheckVerdict} (Right f s t (Err e)) old (Err e) new
+  source_fails f s t old mid new count p e w r n i =
+      SourceFailed (w.text ++ []) (reads_more old mid new w.text [] w.reads r) (n ∙ ap (λ x. x + 1) w.quiet) e refl i
+
+  ends : (f : Encoding) (s t : ProofState) (old new : Stand) (text : List ℕ) (r : Result CheckVerdict CheckerError) → streams.Reads old text new →
+      new.faults ≡ old.faults → HasEnded new → EndsWith R f s text r t → ChecksBytes {V = CheckVerdict} (Right f s t r) old r new
+  ends f s t old new text (Ok v) r q a b = AtEnd text r a q b
+  ends f s t old new text (Err (CheckFailed n)) r q a b = AtEnd text r a q b
+  ends f s t old new text (Err (NoSuchClause n)) r q a b = AtEnd text r a q b
+  ends f s t old new text (Err (CoreNotAssumed n)) r q a b = AtEnd text r a q b
+  ends f s t old new text (Err (Parse o)) r q a b = AtEnd text r a q b
+  ends f s t old new text (Err (Io x)) r q a b = AtEnd text r a q b
+  ends f s t old new text (Err OutOfMemory) r q a b = RanOut text r q refl
+  ends f s t old new text (Err (Dimacs x)) r q a b = AtEnd text r a q b
+  ends f s t old new text (Err Spent) r q a b = AtEnd text r a q b
+
+  pub ends_check : (f : Encoding) (s t t' : ProofState) (old mid new : Stand) (count : Count) (p : ReaderState) (r : Result CheckVerdict CheckerError) →
+      Underway f s t old mid count p → Gave mid [] new → HasEnded new →
+      ((f : Encoding) (P : ProofState) (text : List ℕ) (lines : List ProofLine) → HasRead f text lines p → StandsAfterLines R P lines t count →
+      EndsWith R f P text r t') → ChecksBytes {V = CheckVerdict} (Right f s t' r) old r new
+  ends_check f s t t' old mid new count p r w g a h =
+      let reads = reads_more old mid new w.text [] w.reads g.reads in
+      ends f s t' old new w.text r (subst (λ x. streams.Reads old x new) (append-nil w.text) reads) (g.quiet ∙ w.quiet) a (h f s w.text w.so.0 w.so.1 w.so.2)
+
+  pub no_memory : (f : Encoding) (s t : ProofState) (source : Stand) →
+      ChecksBytes {V = CheckVerdict} (Right f s t (Err OutOfMemory)) source (Err OutOfMemory) source
+  no_memory f s t source = RanOut [] (reads_none source) refl refl

@@ -1,93 +1,115 @@
--- A check of a DRAT proof, a line at a time.
-use Rattle.std.proofs.Common.{◌≡◌, ℕ, Bool, true, false, IsTrue, ◌↔◌, List, [], ◌∷◌, ◌++◌, inl, inr, refl, sym, subst}
+-- A check of DRAT lines.
+use Rattle.std.proofs.Common.{◌≡◌, ℕ, List, [], ◌∷◌, ◌++◌, inl, inr, refl, sym, ap, ◌∙◌, subst, Result, Ok, Err}
 use Rattle.varisat_theory.specs.Literals.{Clause, IsSatisfiable}
-use Rattle.varisat_theory.specs.Propagation.{Conflicts}
-use Rattle.varisat_theory.specs.Derivations.{Line, Add, Delete}
-use Rattle.varisat_theory.specs.Rat.{IsDratLine}
-use Rattle.varisat_theory.proofs.RatLines.{drat_join, drat_refutes}
+use Rattle.varisat_theory.specs.Derivations.{Add, Delete}
+use Rattle.varisat_theory.proofs.RatLines.{rat_sound, drat_line_sound, drat_refutes}
+use Rattle.varisat_formula.specs.Streams.{Stand}
 use Rattle.varisat_present.specs.declared.present.Deletion.{Deletion}
-use Rattle.varisat_present.specs.declared.present.Deletion.TheVariants.{Taken, Kept, Absent}
+use Rattle.varisat_present.specs.declared.present.Deletion.TheVariants as deletion
 use Rattle.varisat_present.specs.Resolving.{TellsDeletion}
+use Rattle.varisat_proof.specs.declared.proof.format.Encoding.{Encoding}
+use Rattle.varisat_proof.specs.declared.proof.format.LineKind.{LineKind}
+use Rattle.varisat_proof.specs.declared.proof.format.LineKind.TheVariants.{Adds, Deletes, Accepts, Assumes, Fails}
+use Rattle.varisat_proof.specs.declared.proof.format.ProofFormat.{ProofFormat}
+use Rattle.varisat_proof.specs.declared.checker.drat.Redundancy.{Redundancy}
+use Rattle.varisat_proof.specs.declared.checker.drat.Redundancy.TheVariants as why
+use Rattle.varisat_proof.specs.declared.checker.line.LineStatus.{LineStatus}
+use Rattle.varisat_proof.specs.declared.checker.line.LineStatus.TheVariants.{Taken, Unproved, Absent, Unassumed}
 use Rattle.varisat_proof.specs.declared.checker.error.CheckVerdict.{CheckVerdict}
 use Rattle.varisat_proof.specs.declared.checker.error.CheckVerdict.TheVariants.{Refutation}
 use Rattle.varisat_proof.specs.declared.checker.error.CheckerError.{CheckerError}
-use Rattle.varisat_proof.specs.declared.checker.error.CheckerError.TheVariants.{CheckFailed, NoSuchClause, CoreNotAssumed, Parse, Io, OutOfMemory, Dimacs, Spent}
-use Rattle.varisat_proof.specs.declared.checker.drat.Redundancy.{Redundancy}
-use Rattle.varisat_proof.specs.declared.checker.drat.Redundancy.TheVariants as why
-use Rattle.varisat_proof.specs.DratChecks.{IsNeither, TellsRedundancy, IsAdded, TellsTaken, ComesBy, Stands, StandsOn, EndsDrat, HasDratVerdict, RefusesDrat}
+use Rattle.varisat_proof.specs.Lines.{ProofLine, line_of_kind, plain_encoding}
+use Rattle.varisat_proof.specs.Marked.{MarkedTold, ProofState, nothing_told, state_of, GoesBy, IsCheckBy}
+use Rattle.varisat_proof.specs.Checks.{IsLineStatus}
+use Rattle.varisat_proof.specs.Calls.{ChecksBytes}
+use Rattle.varisat_proof.specs.DratChecks.{TakesDratKind, TellsRedundancy, TellsDratLine, drat_rules, IsDratResult}
+use Rattle.varisat_proof.proofs.CheckedSources.{checks_ok, checks_err, checks_right}
 
-pub comes_here : (P : List Clause) → ComesBy P P
-comes_here P = ([], refl)
-
-pub comes_by_line : (P : List Clause) (line : Line) (Q : List Clause) → IsDratLine P line Q → ComesBy P Q
-comes_by_line P line Q h = (line ∷ [], (Q, h, refl))
-
-pub comes_on : (P Q R : List Clause) → ComesBy P Q → ComesBy Q R → ComesBy P R
-comes_on P Q R g h = (g.0 ++ h.0, drat_join P g.0 Q h.0 R g.1 h.1)
-
-pub follows_added : (P Q : List Clause) (c : Clause) (r : Redundancy) → r ≡ why.Follows → TellsRedundancy P c r → Q ≡ P ++ (c ∷ []) → IsAdded P c true Q
+-- 1. One line.
+pub follows_added : (P Q : List Clause) (c : Clause) (r : Redundancy) → r ≡ why.Follows → TellsRedundancy P c r → Q ≡ P ++ (c ∷ []) →
+    TakesDratKind P Adds c Q
 follows_added P Q c r e h q = (inl (subst (TellsRedundancy P c) e h), q)
 
-pub rat_added : (P Q : List Clause) (c : Clause) (r : Redundancy) → r ≡ why.Rat → TellsRedundancy P c r → Q ≡ P ++ (c ∷ []) → IsAdded P c true Q
-rat_added P Q c r e h q = (inr (subst (TellsRedundancy P c) e h), q)
+pub rat_added : (P Q : List Clause) (c : Clause) (r : Redundancy) (place : ℕ) → r ≡ why.Rat place → TellsRedundancy P c r → Q ≡ P ++ (c ∷ []) →
+    TakesDratKind P Adds c Q
+rat_added P Q c r place e h q = (inr (subst (TellsRedundancy P c) e h), q)
 
-pub neither_added : (P Q : List Clause) (c : Clause) (r : Redundancy) → r ≡ why.Neither → TellsRedundancy P c r → Q ≡ P → IsAdded P c false Q
+pub neither_added : (P Q : List Clause) (c : Clause) (r : Redundancy) → r ≡ why.Neither → TellsRedundancy P c r → Q ≡ P →
+    TellsDratLine P Adds c Unproved Q
 neither_added P Q c r e h q = (subst (TellsRedundancy P c) e h, q)
 
-pub deletion_line : (P Q : List Clause) (c : Clause) (d : Deletion) → TellsDeletion P c d Q → IsDratLine P (Delete c) Q
-deletion_line P Q c Taken h = inl h
-deletion_line P Q c Kept h = inr h.2
-deletion_line P Q c Absent h = inr h.1
+pub deletion_line : (P Q : List Clause) (c : Clause) (d : Deletion) → TellsDeletion P c d Q → TakesDratKind P Deletes c Q
+deletion_line P Q c deletion.Taken h = inr h
+deletion_line P Q c deletion.Kept h = inl (inr h.1, h.2)
+deletion_line P Q c deletion.Absent h = inl (inl h.0, h.1)
 
-pub added_taken : (P Q : List Clause) (c : Clause) (taken : Bool) → IsAdded P c taken Q → TellsTaken P taken Q
-added_taken P Q c true h = comes_by_line P (Add c) Q h
-added_taken P Q c false h = ((c, h.0), h.1)
+pub drat_status : (P Q : List Clause) (told : MarkedTold) (kind : LineKind) (c : Clause) (status : LineStatus) → TellsDratLine P kind c status Q →
+    IsLineStatus drat_rules (state_of P told) (line_of_kind kind c) status (state_of Q told)
+drat_status P Q told kind c Taken h = (h, refl)
+drat_status P Q told kind c Unproved h = (h.0, ap (λ x. let s : ProofState = state_of x told in s) h.1)
+drat_status P Q told kind c Absent h = (h.0, ap (λ x. let s : ProofState = state_of x told in s) h.1)
+drat_status P Q told kind c Unassumed h = (h.0, ap (λ x. let s : ProofState = state_of x told in s) h.1)
 
-pub stands_here : (P : List Clause) (refuted : Bool) → StandsOn P refuted P refuted
-stands_here P refuted = record { comes = comes_here P; conflict = λ h. h }
+-- 2. Lines keep clauses satisfiable.
+line_sound : (P Q : List Clause) (kind : LineKind) (c : Clause) → TakesDratKind P kind c Q → IsSatisfiable P → IsSatisfiable Q
+line_sound P Q Adds c (inl f, q) s = drat_line_sound P (Add c) Q (inl f, q) s
+line_sound P Q Adds c (inr r, q) s = subst IsSatisfiable (sym q) (rat_sound P c r.0 r.1 r.2 s)
+line_sound P Q Deletes c (inl (p, q)) s = subst IsSatisfiable (sym q) s
+line_sound P Q Deletes c (inr (t, n)) s = drat_line_sound P (Delete c) Q (inl t) s
+line_sound P Q Accepts c q s = subst IsSatisfiable (sym q) s
+line_sound P Q Assumes c q s = subst IsSatisfiable (sym q) s
+line_sound P Q Fails c q s = subst IsSatisfiable (sym q) s
 
-pub stands_refuted : (P : List Clause) (before after : Bool) → before ≡ true → StandsOn P before P after
-stands_refuted P before after b = record { comes = comes_here P; conflict = λ h t. h b }
+goes_sound : (lines : List ProofLine) (s t : ProofState) → GoesBy drat_rules s lines t → IsSatisfiable s.present → IsSatisfiable t.present
+goes_sound [] s t g h = subst (λ (x : ProofState). IsSatisfiable x.present) g h
+goes_sound (line ∷ lines) s t g h = goes_sound lines g.1 t g.3 (line_sound s.present g.1.present line.kind line.clause g.2.0 h)
 
-pub stands_by_line : (P Q R : List Clause) (before taken after : Bool) → taken ≡ true → TellsTaken P taken Q → R ≡ Q → IsTrue after ↔ Conflicts Q [] →
-    StandsOn P before R after
-stands_by_line P Q R before taken after e g q f = subst (λ (x : List Clause). StandsOn P before x after) (sym q) record {
-  comes = subst (λ b. TellsTaken P b Q) e g;
-  conflict = λ h t. f.0 t;
-}
+-- 3. Results.
+goes_told : (lines : List ProofLine) (s t : ProofState) → GoesBy drat_rules s lines t → t.told ≡ s.told
+goes_told [] s t g = sym (ap (λ x. x.told) g)
+goes_told (line ∷ lines) s t g = goes_told lines g.1 t g.3 ∙ g.2.1
 
-pub refuses_line : (P Q : List Clause) (taken : Bool) (step : ℕ) → taken ≡ false → TellsTaken P taken Q → RefusesDrat P Q (CheckFailed step)
-refuses_line P Q taken step e h =
-    let w : TellsTaken P false Q = subst (λ b. TellsTaken P b Q) e h in (
-      subst (λ (x : List Clause). ComesBy P x) (sym w.1) (comes_here P),
-      w.0.0,
-      subst (λ (x : List Clause). IsNeither x w.0.0) (sym w.1) w.0.1,
-    )
+drat_bytes : (format : ProofFormat) (e : Encoding) (P : List Clause) (told : MarkedTold) (t : ProofState) (r : Result CheckVerdict CheckerError)
+    (Q : List Clause) (bytes : List ℕ) → e ≡ plain_encoding format → told ≡ nothing_told → Q ≡ t.present →
+    IsCheckBy drat_rules e (state_of P told) bytes r t → IsDratResult format P bytes r Q
+drat_bytes format e P told t r Q bytes g n q k =
+    let from : MarkedTold → ProofState = λ x. state_of P x in
+    let h : t.told ≡ nothing_told = goes_told k.front (from told) t k.goes ∙ n in
+    let same : t ≡ state_of Q nothing_told =
+    ap (λ x. let s : ProofState = state_of x t.told in s) (sym q) ∙ ap (λ x. let s : ProofState = state_of Q x in s) h in
+    subst (λ (x : ProofState). IsCheckBy drat_rules (plain_encoding format) (from nothing_told) bytes r x) same
+    (subst (λ x. IsCheckBy drat_rules (plain_encoding format) (from x) bytes r t) n
+    (subst (λ x. IsCheckBy drat_rules x (from told) bytes r t) g k))
 
-pub stands_next : (P Q R : List Clause) (a b c : Bool) → StandsOn P a Q b → StandsOn Q b R c → StandsOn P a R c
-stands_next P Q R a b c g h = record { comes = comes_on P Q R g.comes h.comes; conflict = λ k. h.conflict (g.conflict k) }
+pub drat_ok : (format : ProofFormat) (e : Encoding) (P : List Clause) (told : MarkedTold) (t : ProofState) (v : CheckVerdict) (Q : List Clause)
+    (old new : Stand) → e ≡ plain_encoding format → told ≡ nothing_told → Q ≡ t.present →
+    ChecksBytes (λ bytes. IsCheckBy drat_rules e (state_of P told) bytes (Ok v) t) old (Ok v) new →
+    ChecksBytes (λ bytes. IsDratResult format P bytes (Ok v) Q) old (Ok v) new
+drat_ok format e P told t v Q old new g n q k =
+    let s : ProofState = state_of P told in
+    checks_ok (λ bytes. IsCheckBy drat_rules e s bytes (Ok v) t) (λ bytes. IsDratResult format P bytes (Ok v) Q) old new v v
+    (λ bytes h. drat_bytes format e P told t (Ok v) Q bytes g n q h) k
 
-pub refuses_after : (P Q R : List Clause) (e : CheckerError) → ComesBy P Q → RefusesDrat Q R e → RefusesDrat P R e
-refuses_after P Q R (CheckFailed step) g h = (comes_on P Q R g h.0, h.1, h.2)
-refuses_after P Q R (NoSuchClause step) g h = tt
-refuses_after P Q R (CoreNotAssumed step) g h = tt
-refuses_after P Q R (Parse offset) g h = tt
-refuses_after P Q R (Io cause) g h = tt
-refuses_after P Q R OutOfMemory g h = tt
-refuses_after P Q R (Dimacs cause) g h = tt
-refuses_after P Q R Spent g h = tt
+pub drat_err : (format : ProofFormat) (e : Encoding) (P : List Clause) (told : MarkedTold) (t : ProofState) (x : CheckerError) (Q : List Clause)
+    (old new : Stand) → e ≡ plain_encoding format → told ≡ nothing_told → Q ≡ t.present →
+    ChecksBytes {V = CheckVerdict} (λ bytes. IsCheckBy drat_rules e (state_of P told) bytes (Err x) t) old (Err x) new →
+    ChecksBytes {V = CheckVerdict} (λ bytes. IsDratResult format P bytes (Err x) Q) old (Err x) new
+drat_err format e P told t x Q old new g n q k =
+    let s : ProofState = state_of P told in
+    checks_err (λ bytes. IsCheckBy drat_rules e s bytes (Err x) t) (λ bytes. IsDratResult format P bytes (Err x) Q) old new x
+    (λ bytes h. drat_bytes format e P told t (Err x) Q bytes g n q h) k
 
-pub ends_by : (P Q : List Clause) (before after : Bool) (v : CheckVerdict) → StandsOn P before Q after → (v ≡ Refutation → after ≡ true) → EndsDrat P before Q v
-ends_by P Q before after v g f = (g.comes, λ h e. g.conflict h (f e))
+-- 4. A refutation is one of the clauses at entry.
+refuted_sound : (format : ProofFormat) (P Q : List Clause) (bytes : List ℕ) → IsDratResult format P bytes (Ok Refutation) Q → IsSatisfiable P → ⊥
+refuted_sound format P Q bytes k s = drat_refutes Q [] Q refl k.stops.1 (goes_sound k.front (state_of P nothing_told) (state_of Q nothing_told) k.goes s)
 
-pub verdict_sound : (P Q : List Clause) (v : CheckVerdict) → v ≡ Refutation → HasDratVerdict P Q v → IsSatisfiable P → ⊥
-verdict_sound P Q v e h = drat_refutes P h.0.0 Q h.0.1 (h.1 e)
+pub drat_check_sound : (format : ProofFormat) (P Q : List Clause) (v : CheckVerdict) (old new : Stand) → v ≡ Refutation →
+    ChecksBytes (λ bytes. IsDratResult format P bytes (Ok v) Q) old (Ok v) new → IsSatisfiable P → ⊥
+drat_check_sound format P Q v old new e k =
+    let w = checks_right (λ bytes. IsDratResult format P bytes (Ok v) Q) old new v k in
+    refuted_sound format P Q w.0 (subst (λ (x : CheckVerdict). IsDratResult format P w.0 (Ok x) Q) e w.1)
 
-pub stands_first : (P Q : List Clause) (refuted : Bool) → Q ≡ P → IsTrue refuted ↔ Conflicts P [] → Stands P Q refuted
-stands_first P Q refuted e f = subst (λ (x : List Clause). Stands P x refuted) (sym e) record { comes = comes_here P; conflict = λ t. f.0 t }
-
-pub stands_then : (P Q R : List Clause) (b c : Bool) → Stands P Q b → StandsOn Q b R c → Stands P R c
-stands_then P Q R b c s h = record { comes = comes_on P Q R s.comes h.comes; conflict = h.conflict s.conflict }
-
-pub ends_then : (P Q R : List Clause) (b : Bool) (v : CheckVerdict) → Stands P Q b → EndsDrat Q b R v → HasDratVerdict P R v
-ends_then P Q R b v s f = (comes_on P Q R s.comes f.0, f.1 s.conflict)
+pub drat_checks_sound : (format : ProofFormat) (P Q : List Clause) (r : Result CheckVerdict CheckerError) (old new : Stand) → r ≡ Ok Refutation →
+    ChecksBytes (λ bytes. IsDratResult format P bytes r Q) old r new → IsSatisfiable P → ⊥
+drat_checks_sound format P Q (Ok v) old new e k = let h : v ≡ Refutation = cc in drat_check_sound format P Q v old new h k
+drat_checks_sound format P Q (Err x) old new e k = absurd cc

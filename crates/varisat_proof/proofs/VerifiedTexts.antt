@@ -20,8 +20,10 @@ use Rattle.varisat_proof.specs.Marked.{MarkedTold, nothing_told, IsCheckOf, stat
 use Rattle.varisat_proof.specs.Results.{IsResult, result_of}
 use Rattle.varisat_plain.specs.declared.checker.PlainVerdict.{PlainVerdict}
 use Rattle.varisat_plain.specs.declared.checker.PlainVerdict.TheVariants as plain
-use Rattle.varisat_proof.specs.Verified.{FailsToRead, FailsCheck, AsRead, AsChecked, AreGiven, IsMarkedCheck, IsMarkedVerdict, VerifiesMarked, VerifiesBy, EndsPrinting, GivesClauses, GivesUnsatisfiable, Sources, Verifies, verdict_of, verdict_status}
+use Rattle.varisat_proof.specs.Verified.{FailsToRead, FailsCheck, AsRead, AsChecked, AreGiven, IsMarkedCheck, IsMarkedVerdict, VerifiesMarked, VerifiesBy, EndsPrinting, GivesClauses, GivesUnsatisfiable, Sources, Verifies, VerifiesDrat, verdict_of, verdict_status}
+use Rattle.varisat_proof.specs.DratChecks.{ChecksDrat, IsDratResult}
 use Rattle.varisat_proof.proofs.CheckResults.{checks_sound}
+use Rattle.varisat_proof.proofs.DratCheck.{drat_checks_sound}
 use Rattle.varisat_proof.proofs.CheckedSources.{checks_ok, checks_err, checks_right}
 use Rattle.varisat_proof.proofs.MarkedReports.{refutation_sound}
 
@@ -213,12 +215,48 @@ fails_marked s t p q start mid e Q b a c f =
 
 -- A check of a DRAT proof.
 
-pub drat_verified : (s t : Stand) (start mid : CheckerState) (r : Result CheckVerdict CheckerError) (v : Bool) → start ≡ record { clauses = []; spent = false } →
+pub verifies_drat : (f : ProofFormat) (s t p q : Stand) (start mid new : CheckerState) (r : Result CheckVerdict CheckerError) (v : Bool) →
+    start ≡ record { clauses = []; spent = false } →
     AddsText (record { checker = start; source = s }) (Ok tt) (record { checker = mid; source = t }) →
-    (r ≡ Ok Refutation → IsSatisfiable mid.clauses → ⊥) → verdict_of r ≡ Some v → v ≡ true → GivesUnsatisfiable s t
-drat_verified s t start mid r v e a h d b =
+    (mid.spent ≡ false → ChecksDrat f (record { checker = mid; source = p }) r (record { checker = new; source = q })) →
+    verdict_of r ≡ Some v → VerifiesDrat f (record { cnf = s; proof = p }) (record { cnf = t; proof = q }) v
+verifies_drat f s t p q start mid new r v e a c d =
     let w = took s t mid (subst (λ x. AddsText (record { checker = x; source = s }) (Ok tt) (record { checker = mid; source = t })) e a) in
-    (mid.clauses, w.given, h (is_refutation r (d ∙ ap Some b)))
+    record {
+      clauses = mid.clauses;
+      given = w.given;
+      left = new;
+      result_is = r;
+      checks = subst (λ x. ChecksDrat f (record { checker = x; source = p }) r (record { checker = new; source = q })) w.now (c (ap (λ x. x.spent) w.now));
+      verdict = d;
+    }
+
+no_drat : (f : ProofFormat) (P : List Clause) (bytes : List ℕ) (e : CheckerError) (Q : List Clause) → verdict_of (Err e) ≡ None →
+    IsDratResult f P bytes (Err e) Q → ⊥
+no_drat f P bytes (CheckFailed n) Q z i = cc
+no_drat f P bytes (NoSuchClause n) Q z i = cc
+no_drat f P bytes (CoreNotAssumed n) Q z i = cc
+no_drat f P bytes (Parse o) Q z i = cc
+no_drat f P bytes (Io x) Q z i = i.stops
+no_drat f P bytes OutOfMemory Q z i = i.stops
+no_drat f P bytes (Dimacs x) Q z i = i.stops
+no_drat f P bytes Spent Q z i = i.stops
+
+pub fails_drat : (f : ProofFormat) (s t p q : Stand) (start mid new : CheckerState) (r : Result CheckVerdict CheckerError) (e : CheckerError) →
+    start ≡ record { clauses = []; spent = false } →
+    AddsText (record { checker = start; source = s }) (Ok tt) (record { checker = mid; source = t }) →
+    (mid.spent ≡ false → ChecksDrat f (record { checker = mid; source = p }) r (record { checker = new; source = q })) →
+    r ≡ Err e → verdict_of r ≡ None → FailsCheck (record { cnf = s; proof = p }) (record { cnf = t; proof = q }) e
+fails_drat f s t p q start mid new r e b a c same none =
+    let w = took s t mid (subst (λ x. AddsText (record { checker = x; source = s }) (Ok tt) (record { checker = mid; source = t })) b a) in
+    AsChecked mid.clauses w.given
+    (no_bytes (λ bytes. IsDratResult f mid.clauses bytes (Err e) new.clauses) p q e
+    (λ bytes i. no_drat f mid.clauses bytes e new.clauses (ap verdict_of (sym same) ∙ none) i)
+    (subst (λ x. ChecksDrat f (record { checker = mid; source = p }) x (record { checker = new; source = q })) same (c (ap (λ x. x.spent) w.now))))
+
+pub drat_unsatisfiable : (f : ProofFormat) (old new : Sources) (v : Bool) → VerifiesDrat f old new v → v ≡ true → GivesUnsatisfiable old.cnf new.cnf
+drat_unsatisfiable f old new v w e =
+    (w.clauses, w.given, drat_checks_sound f w.clauses w.left.clauses w.result_is old.proof new.proof (is_refutation w.result_is (w.verdict ∙ ap Some e)) w.checks)
 
 pub drat_status : (s t : Stand) (v : Bool) (n : ℕ) (text : List ℕ) (before after : Taken) → EndsPrinting (verdict_status v) text n before after →
     (v ≡ true → GivesUnsatisfiable s t) → n ≡ 0 → GivesUnsatisfiable s t

@@ -17,66 +17,66 @@ use Rattle.varisat_proof.specs.declared.checker.error.CheckerError.TheVariants.{
 use Rattle.varisat_proof.specs.declared.checker.check.Count.{Count}
 use Rattle.varisat_proof.specs.Lines.{ProofLine, line_of_kind, step_number}
 use Rattle.varisat_proof.specs.Machine.{Parsed, ReaderState, parsed, parsed_from}
-use Rattle.varisat_proof.specs.Marked.{ProofState, MarkedTold, state_of, Takes, IsWrongBy, Goes, IsCheckOf}
+use Rattle.varisat_proof.specs.Marked.{ProofState, MarkedTold, Rules, state_of, GoesBy, IsCheckBy}
 use Rattle.varisat_theory.specs.StepLaws.{unit_lines}
 use Rattle.varisat_proof.specs.Calls.{CheckerState, CheckerStanding, ChecksBytes, FailsAt}
 
--- 1. Lines.
+-- 1. Lines, by some rules.
 -- what becomes of a line: it is taken, or it is wrong and nothing changes
-abbrev pub IsLineStatus : ProofState → ProofLine → LineStatus → ProofState → Type 0
-IsLineStatus s line Taken t = Takes s line t
-IsLineStatus s line status t = IsWrongBy s line status × (t ≡ s)
+abbrev pub IsLineStatus : Rules → ProofState → ProofLine → LineStatus → ProofState → Type 0
+IsLineStatus R s line Taken t = R.takes s line t
+IsLineStatus R s line status t = R.wrong s line status × (t ≡ s)
 
 -- the status tells it, unless memory ran out
-abbrev pub TellsStatus : {E : Type 0} → ProofState → ProofLine → Result LineStatus E → ProofState → Type 0
-TellsStatus s line (Ok status) t = IsLineStatus s line status t
-TellsStatus s line (Err e) t = Unit {0}
+abbrev pub TellsStatus : {E : Type 0} → Rules → ProofState → ProofLine → Result LineStatus E → ProofState → Type 0
+TellsStatus R s line (Ok status) t = IsLineStatus R s line status t
+TellsStatus R s line (Err e) t = Unit {0}
 
 -- t is there behind a beginning of the lines, where propagation conflicts
-pub record HasRefuted (s : ProofState) (lines : List ProofLine) (t : ProofState) : Type 0 where
+pub record HasRefuted (R : Rules) (s : ProofState) (lines : List ProofLine) (t : ProofState) : Type 0 where
   pub front : List ProofLine
   pub back : List ProofLine
   pub splits : lines ≡ front ++ back
-  pub goes : Goes s front t
+  pub goes : GoesBy R s front t
   pub conflict : Conflicts t.present []
 
 -- t is there behind lines that have refuted, or behind all of them, which have not
-abbrev pub StandsBy : Bool → ProofState → List ProofLine → ProofState → ℕ → Type 0
-StandsBy true s lines t steps = HasRefuted s lines t
-StandsBy false s lines t steps = Goes s lines t × (Conflicts t.present [] → ⊥) × (steps ≡ step_number (length lines))
+abbrev pub StandsBy : Rules → Bool → ProofState → List ProofLine → ProofState → ℕ → Type 0
+StandsBy R true s lines t steps = HasRefuted R s lines t
+StandsBy R false s lines t steps = GoesBy R s lines t × (Conflicts t.present [] → ⊥) × (steps ≡ step_number (length lines))
 
 -- The lines were taken, or, once propagation conflicted, only read; and they were counted.
-abbrev pub StandsAfterLines : ProofState → List ProofLine → ProofState → Count → Type 0
-StandsAfterLines s lines t count = StandsBy count.refuted s lines t count.steps
+abbrev pub StandsAfterLines : Rules → ProofState → List ProofLine → ProofState → Count → Type 0
+StandsAfterLines R s lines t count = StandsBy R count.refuted s lines t count.steps
 
 -- the last line is the first wrong one, and t is there before it
-pub record LastIsWrong (s : ProofState) (lines : List ProofLine) (status : LineStatus) (step : ℕ) (t : ProofState) : Type 0 where
+pub record LastIsWrong (R : Rules) (s : ProofState) (lines : List ProofLine) (status : LineStatus) (step : ℕ) (t : ProofState) : Type 0 where
   pub front : List ProofLine
   pub line : ProofLine
   pub splits : lines ≡ front ++ line ∷ []
-  pub goes : Goes s front t
+  pub goes : GoesBy R s front t
   pub no_conflict : Conflicts t.present [] → ⊥
-  pub wrong : IsWrongBy t line status
+  pub wrong : R.wrong t line status
   pub numbered : step ≡ step_number (suc (length front))
 
 -- The error tells what is wrong with the last line; where memory ran out nothing is told of it.
-abbrev pub IsWrongLast : ProofState → List ProofLine → CheckerError → ProofState → Type 0
-IsWrongLast s lines (CheckFailed step) t = LastIsWrong s lines Unproved step t
-IsWrongLast s lines (NoSuchClause step) t = LastIsWrong s lines Absent step t
-IsWrongLast s lines (CoreNotAssumed step) t = LastIsWrong s lines Unassumed step t
-IsWrongLast s lines OutOfMemory t = Unit {0}
-IsWrongLast s lines error t = ⊥
+abbrev pub IsWrongLast : Rules → ProofState → List ProofLine → CheckerError → ProofState → Type 0
+IsWrongLast R s lines (CheckFailed step) t = LastIsWrong R s lines Unproved step t
+IsWrongLast R s lines (NoSuchClause step) t = LastIsWrong R s lines Absent step t
+IsWrongLast R s lines (CoreNotAssumed step) t = LastIsWrong R s lines Unassumed step t
+IsWrongLast R s lines OutOfMemory t = Unit {0}
+IsWrongLast R s lines error t = ⊥
 
 -- a line more
-abbrev pub TakesLine : ProofState → List ProofLine → Result (Unit {0}) CheckerError → ProofState → Count → Type 0
-TakesLine s lines (Ok u) t count = StandsAfterLines s lines t count
-TakesLine s lines (Err e) t count = IsWrongLast s lines e t
+abbrev pub TakesLine : Rules → ProofState → List ProofLine → Result (Unit {0}) CheckerError → ProofState → Count → Type 0
+TakesLine R s lines (Ok u) t count = StandsAfterLines R s lines t count
+TakesLine R s lines (Err e) t count = IsWrongLast R s lines e t
 
 -- whichever lines were looked at before
-abbrev pub TakesNext : ProofState → Count → LineKind → Clause → Result (Unit {0}) CheckerError → ProofState → Count → Type 0
-TakesNext old before kind clause result new after =
+abbrev pub TakesNext : Rules → ProofState → Count → LineKind → Clause → Result (Unit {0}) CheckerError → ProofState → Count → Type 0
+TakesNext R old before kind clause result new after =
     (s : ProofState) (lines : List ProofLine)
-    → StandsAfterLines s lines old before → TakesLine s (lines ++ line_of_kind kind clause ∷ []) result new after
+    → StandsAfterLines R s lines old before → TakesLine R s (lines ++ line_of_kind kind clause ∷ []) result new after
 
 -- 2. Bytes.
 abbrev pub with_lines : List ProofLine → Parsed → Parsed
@@ -97,40 +97,40 @@ abbrev pub position_of : CheckerState → MarkedTold → Count → ReaderState �
 position_of checker told count progress = record { state = state_of checker.clauses told; count = count; progress = progress }
 
 -- a check breaks off in the text, whatever comes behind it
-abbrev pub CheckBreaksOff : Encoding → ProofState → List ℕ → CheckerError → ProofState → Type 0
-CheckBreaksOff encoding s text OutOfMemory t = Unit {0}
-CheckBreaksOff encoding s text e t = (rest : List ℕ) → IsCheckOf encoding s (text ++ rest) (Err e) t
+abbrev pub CheckBreaksOff : Rules → Encoding → ProofState → List ℕ → CheckerError → ProofState → Type 0
+CheckBreaksOff R encoding s text OutOfMemory t = Unit {0}
+CheckBreaksOff R encoding s text e t = (rest : List ℕ) → IsCheckBy R encoding s (text ++ rest) (Err e) t
 
 -- a piece more of the text was read
-abbrev pub ReadsPiece : Encoding → ProofState → List ℕ → Result (Unit {0}) CheckerError → Position → Type 0
-ReadsPiece encoding s text (Ok u) at = (lines : List ProofLine) × HasRead encoding text lines at.progress × StandsAfterLines s lines at.state at.count
-ReadsPiece encoding s text (Err e) at = CheckBreaksOff encoding s text e at.state
+abbrev pub ReadsPiece : Rules → Encoding → ProofState → List ℕ → Result (Unit {0}) CheckerError → Position → Type 0
+ReadsPiece R encoding s text (Ok u) at = (lines : List ProofLine) × HasRead encoding text lines at.progress × StandsAfterLines R s lines at.state at.count
+ReadsPiece R encoding s text (Err e) at = CheckBreaksOff R encoding s text e at.state
 
 -- whatever was read before
-abbrev pub ReadsNext : List ℕ → Position → Result (Unit {0}) CheckerError → Position → Type 0
-ReadsNext piece old result new =
+abbrev pub ReadsNext : Rules → List ℕ → Position → Result (Unit {0}) CheckerError → Position → Type 0
+ReadsNext R piece old result new =
     (e : Encoding) (s : ProofState) (text : List ℕ) (lines : List ProofLine)
-    → HasRead e text lines old.progress → StandsAfterLines s lines old.state old.count → ReadsPiece e s (text ++ piece) result new
+    → HasRead e text lines old.progress → StandsAfterLines R s lines old.state old.count → ReadsPiece R e s (text ++ piece) result new
 
 -- what a check returns where the bytes end, of which all lines were checked
 abbrev pub result_at_end : ReaderState → Count → Result CheckVerdict CheckerError
 result_at_end p count = if p.place.inside then Err (Parse p.at) else Ok (if count.refuted then Refutation else Derivation)
 
 -- the text is the whole proof
-abbrev pub EndsWith : Encoding → ProofState → List ℕ → Result CheckVerdict CheckerError → ProofState → Type 0
-EndsWith encoding s text (Err OutOfMemory) t = Unit {0}
-EndsWith encoding s text result t = IsCheckOf encoding s text result t
+abbrev pub EndsWith : Rules → Encoding → ProofState → List ℕ → Result CheckVerdict CheckerError → ProofState → Type 0
+EndsWith R encoding s text (Err OutOfMemory) t = Unit {0}
+EndsWith R encoding s text result t = IsCheckBy R encoding s text result t
 
 -- whatever was read before
-abbrev pub EndsBehind : Position → Result CheckVerdict CheckerError → ProofState → Type 0
-EndsBehind old result t =
+abbrev pub EndsBehind : Rules → Position → Result CheckVerdict CheckerError → ProofState → Type 0
+EndsBehind R old result t =
     (e : Encoding) (s : ProofState) (text : List ℕ) (lines : List ProofLine)
-    → HasRead e text lines old.progress → StandsAfterLines s lines old.state old.count → EndsWith e s text result t
+    → HasRead e text lines old.progress → StandsAfterLines R s lines old.state old.count → EndsWith R e s text result t
 
 -- a source is read as one proof
-abbrev pub ChecksFrom : Encoding → CheckerStanding → MarkedTold → Result CheckVerdict CheckerError → CheckerStanding → MarkedTold → Type 0
-ChecksFrom encoding old before result new after =
-    ChecksBytes (λ bytes. IsCheckOf encoding (state_of old.checker.clauses before) bytes result (state_of new.checker.clauses after))
+abbrev pub ChecksFrom : Rules → Encoding → CheckerStanding → MarkedTold → Result CheckVerdict CheckerError → CheckerStanding → MarkedTold → Type 0
+ChecksFrom R encoding old before result new after =
+    ChecksBytes (λ bytes. IsCheckBy R encoding (state_of old.checker.clauses before) bytes result (state_of new.checker.clauses after))
     old.source result new.source
 
 -- 3. Steps.

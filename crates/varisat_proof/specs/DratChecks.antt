@@ -1,59 +1,70 @@
--- What a check of a DRAT proof comes to.
-use Rattle.std.specs.Prelude.{◌≡◌, Bool, true, false, List, []}
+-- The lines of DRAT, and what a check of them comes to.
+use Rattle.std.specs.Prelude.{◌≡◌, ℕ, List, [], ◌∷◌, ◌++◌, ◌⊎◌, Result}
 use Rattle.varisat_theory.specs.Literals.{Clause}
-use Rattle.varisat_theory.specs.Propagation.{Conflicts, Follows}
-use Rattle.varisat_theory.specs.Derivations.{Line, Add}
-use Rattle.varisat_theory.specs.Rat.{IsRat, IsDratLine, DerivesByDrat}
+use Rattle.varisat_theory.specs.Propagation.{Follows}
+use Rattle.varisat_theory.specs.Derivations.{TakesOut}
+use Rattle.varisat_plain.specs.Checking.{IsAbsent}
+use Rattle.varisat_present.specs.Resolving.{IsForced, IsRatOnSome}
+use Rattle.varisat_proof.specs.declared.proof.format.LineKind.{LineKind}
+use Rattle.varisat_proof.specs.declared.proof.format.LineKind.TheVariants.{Adds, Deletes}
+use Rattle.varisat_proof.specs.declared.proof.format.ProofFormat.{ProofFormat}
 use Rattle.varisat_proof.specs.declared.checker.drat.Redundancy.{Redundancy}
 use Rattle.varisat_proof.specs.declared.checker.drat.Redundancy.TheVariants as why
+use Rattle.varisat_proof.specs.declared.checker.line.LineRules.{LineRules}
+use Rattle.varisat_proof.specs.declared.checker.line.LineRules.TheVariants as mode
+use Rattle.varisat_proof.specs.declared.checker.line.LineStatus.{LineStatus}
+use Rattle.varisat_proof.specs.declared.checker.line.LineStatus.TheVariants.{Taken, Unproved}
 use Rattle.varisat_proof.specs.declared.checker.error.CheckVerdict.{CheckVerdict}
-use Rattle.varisat_proof.specs.declared.checker.error.CheckVerdict.TheVariants.{Refutation}
 use Rattle.varisat_proof.specs.declared.checker.error.CheckerError.{CheckerError}
-use Rattle.varisat_proof.specs.declared.checker.error.CheckerError.TheVariants.{CheckFailed}
+use Rattle.varisat_proof.specs.Lines.{plain_encoding}
+use Rattle.varisat_proof.specs.Marked.{Rules, strict_rules, state_of, nothing_told, IsCheckBy}
+use Rattle.varisat_proof.specs.Calls.{CheckerStanding, ChecksBytes}
 
 -- the clause neither follows nor is RAT
 abbrev pub IsNeither : List Clause → Clause → Type 0
-IsNeither P c = (Follows P c → ⊥) × (IsRat P c → ⊥)
+IsNeither P c = (Follows P c → ⊥) × (IsRatOnSome P c → ⊥)
+
+-- A line is taken where P is present, and then Q is: an added clause follows or is RAT; a deletion that finds no clause, or a forced one,
+-- is passed over, and any other takes a clause out. There are no lines of other kinds.
+abbrev pub TakesDratKind : List Clause → LineKind → Clause → List Clause → Type 0
+TakesDratKind P Adds c Q = (Follows P c ⊎ IsRatOnSome P c) × (Q ≡ P ++ c ∷ [])
+TakesDratKind P Deletes c Q = ((IsAbsent P c ⊎ IsForced P c) × (Q ≡ P)) ⊎ (TakesOut P c Q × (IsForced P c → ⊥))
+TakesDratKind P kind c Q = Q ≡ P
+
+-- a line is wrong: it adds a clause that neither follows nor is RAT
+abbrev pub IsWrongDratKind : List Clause → LineKind → Clause → LineStatus → Type 0
+IsWrongDratKind P Adds c Unproved = IsNeither P c
+IsWrongDratKind P kind c status = ⊥
+
+-- the rules of these lines
+abbrev pub drat_rules : Rules
+drat_rules = record {
+  takes = λ s line t. TakesDratKind s.present line.kind line.clause t.present × (t.told ≡ s.told);
+  wrong = λ s line status. IsWrongDratKind s.present line.kind line.clause status;
+}
+
+-- The one right result of a check of DRAT lines, over all bytes of a proof, and what is present where it stops.
+abbrev pub IsDratResult : ProofFormat → List Clause → List ℕ → Result CheckVerdict CheckerError → List Clause → Type 0
+IsDratResult format P bytes result Q =
+    IsCheckBy drat_rules (plain_encoding format) (state_of P nothing_told) bytes result (state_of Q nothing_told)
+
+-- what a check of DRAT lines returns
+abbrev pub ChecksDrat : ProofFormat → CheckerStanding → Result CheckVerdict CheckerError → CheckerStanding → Type 0
+ChecksDrat format old result new =
+    ChecksBytes (λ bytes. IsDratResult format old.checker.clauses bytes result new.checker.clauses) old.source result new.source
+
+-- the rules by their name
+abbrev pub rules_of : LineRules → Rules
+rules_of mode.Strict = strict_rules
+rules_of mode.Drat = drat_rules
 
 -- why a clause may be added, or that it may not
 abbrev pub TellsRedundancy : List Clause → Clause → Redundancy → Type 0
 TellsRedundancy P c why.Follows = Follows P c
-TellsRedundancy P c why.Rat = IsRat P c
+TellsRedundancy P c (why.Rat place) = IsRatOnSome P c
 TellsRedundancy P c why.Neither = IsNeither P c
 
--- lines of DRAT lead from P to Q
-abbrev pub ComesBy : List Clause → List Clause → Type 0
-ComesBy P Q = (lines : List Line) × DerivesByDrat P lines Q
-
--- so they do, and where Q is called refuted propagation over it conflicts
-pub record Stands (P Q : List Clause) (refuted : Bool) : Type 0 where
-  pub comes : ComesBy P Q
-  pub conflict : refuted ≡ true → Conflicts Q []
-
--- the same, where that holds of Q if it does of P
-pub record StandsOn (P : List Clause) (before : Bool) (Q : List Clause) (after : Bool) : Type 0 where
-  pub comes : ComesBy P Q
-  pub conflict : (before ≡ true → Conflicts P []) → after ≡ true → Conflicts Q []
-
--- lines of DRAT lead from P to Q, and where the proof is called a refutation propagation over Q conflicts
-abbrev pub HasDratVerdict : List Clause → List Clause → CheckVerdict → Type 0
-HasDratVerdict P Q verdict = ComesBy P Q × (verdict ≡ Refutation → Conflicts Q [])
-
--- the same, where P may be called refuted before
-abbrev pub EndsDrat : List Clause → Bool → List Clause → CheckVerdict → Type 0
-EndsDrat P before Q verdict = ComesBy P Q × ((before ≡ true → Conflicts P []) → verdict ≡ Refutation → Conflicts Q [])
-
--- a clause is added, or it may not be, and nothing changes
-abbrev pub IsAdded : List Clause → Clause → Bool → List Clause → Type 0
-IsAdded P c true Q = IsDratLine P (Add c) Q
-IsAdded P c false Q = IsNeither P c × (Q ≡ P)
-
--- a line is taken, or it adds a clause that may not be added, and nothing changes
-abbrev pub TellsTaken : List Clause → Bool → List Clause → Type 0
-TellsTaken P true Q = ComesBy P Q
-TellsTaken P false Q = ((c : Clause) × IsNeither P c) × (Q ≡ P)
-
--- where a check fails at a line, lines of DRAT lead from P to Q, and the line adds a clause that neither follows from Q nor is RAT
-abbrev pub RefusesDrat : List Clause → List Clause → CheckerError → Type 0
-RefusesDrat P Q (CheckFailed step) = ComesBy P Q × (c : Clause) × IsNeither Q c
-RefusesDrat P Q error = Unit {0}
+-- a line is taken, or it is wrong and nothing changes
+abbrev pub TellsDratLine : List Clause → LineKind → Clause → LineStatus → List Clause → Type 0
+TellsDratLine P kind c Taken Q = TakesDratKind P kind c Q
+TellsDratLine P kind c status Q = IsWrongDratKind P kind c status × (Q ≡ P)

@@ -66,10 +66,23 @@ abbrev pub IsWrongBy : ProofState → ProofLine → LineStatus → Type 0
 IsWrongBy s line status = IsWrongKind s line.kind line.clause status
 
 -- 2. Lines.
--- The lines are taken one after the other, and before none of them propagation conflicts.
+-- Which lines are taken, and what is there then; and which are wrong, and how.
+pub record Rules : Type 1 where
+  pub takes : ProofState → ProofLine → ProofState → Type 0
+  pub wrong : ProofState → ProofLine → LineStatus → Type 0
+
+-- these ones
+abbrev pub strict_rules : Rules
+strict_rules = record { takes = Takes; wrong = IsWrongBy }
+
+-- By these rules the lines are taken one after the other, and before none of them propagation conflicts.
+abbrev pub GoesBy : Rules → ProofState → List ProofLine → ProofState → Type 0
+GoesBy rules s [] t = s ≡ t
+GoesBy rules s (line ∷ lines) t = (Conflicts s.present [] → ⊥) × (r : ProofState) × rules.takes s line r × GoesBy rules r lines t
+
+-- so they are by the strict rules
 abbrev pub Goes : ProofState → List ProofLine → ProofState → Type 0
-Goes s [] t = s ≡ t
-Goes s (line ∷ lines) t = (Conflicts s.present [] → ⊥) × (r : ProofState) × Takes s line r × Goes r lines t
+Goes s lines t = GoesBy strict_rules s lines t
 
 -- The lines are taken one after the other, also those before which propagation conflicts.
 abbrev pub TakesAll : ProofState → List ProofLine → ProofState → Type 0
@@ -77,33 +90,46 @@ TakesAll s [] t = s ≡ t
 TakesAll s (line ∷ lines) t = (r : ProofState) × Takes s line r × TakesAll r lines t
 
 -- behind so many lines the next one is looked at, is wrong, and has this number
-abbrev pub StopsBefore : LineStatus → ℕ → ProofState → List ProofLine → ℕ → Type 0
-StopsBefore status before t [] step = ⊥
-StopsBefore status before t (line ∷ lines) step = (Conflicts t.present [] → ⊥) × IsWrongBy t line status × (step ≡ step_number (suc before))
+abbrev pub StopsBeforeBy : Rules → LineStatus → ℕ → ProofState → List ProofLine → ℕ → Type 0
+StopsBeforeBy rules status before t [] step = ⊥
+StopsBeforeBy rules status before t (line ∷ lines) step =
+    (Conflicts t.present [] → ⊥) × rules.wrong t line status × (step ≡ step_number (suc before))
 
 -- Where a check stops that was handed lines up to a fault of the bytes, has taken so many of them, and has these before it: as soon as
 -- propagation conflicts it only reads on.
+abbrev pub StopsCheckBy : Rules → Option ℕ → ℕ → ProofState → List ProofLine → Result CheckVerdict CheckerError → Type 0
+StopsCheckBy rules fault before t back (Ok Refutation) = (fault ≡ None) × Conflicts t.present []
+StopsCheckBy rules fault before t back (Ok Derivation) = (fault ≡ None) × (back ≡ []) × (Conflicts t.present [] → ⊥)
+StopsCheckBy rules fault before t back (Err (CheckFailed step)) = StopsBeforeBy rules Unproved before t back step
+StopsCheckBy rules fault before t back (Err (NoSuchClause step)) = StopsBeforeBy rules Absent before t back step
+StopsCheckBy rules fault before t back (Err (CoreNotAssumed step)) = StopsBeforeBy rules Unassumed before t back step
+StopsCheckBy rules fault before t back (Err (Parse offset)) = (fault ≡ Some offset) × (Conflicts t.present [] ⊎ ((back ≡ []) × (Conflicts t.present [] → ⊥)))
+StopsCheckBy rules fault before t back (Err error) = ⊥
+
+-- both by the strict rules
+abbrev pub StopsBefore : LineStatus → ℕ → ProofState → List ProofLine → ℕ → Type 0
+StopsBefore status before t back step = StopsBeforeBy strict_rules status before t back step
+
 abbrev pub StopsCheck : Option ℕ → ℕ → ProofState → List ProofLine → Result CheckVerdict CheckerError → Type 0
-StopsCheck fault before t back (Ok Refutation) = (fault ≡ None) × Conflicts t.present []
-StopsCheck fault before t back (Ok Derivation) = (fault ≡ None) × (back ≡ []) × (Conflicts t.present [] → ⊥)
-StopsCheck fault before t back (Err (CheckFailed step)) = StopsBefore Unproved before t back step
-StopsCheck fault before t back (Err (NoSuchClause step)) = StopsBefore Absent before t back step
-StopsCheck fault before t back (Err (CoreNotAssumed step)) = StopsBefore Unassumed before t back step
-StopsCheck fault before t back (Err (Parse offset)) = (fault ≡ Some offset) × (Conflicts t.present [] ⊎ ((back ≡ []) × (Conflicts t.present [] → ⊥)))
-StopsCheck fault before t back (Err error) = ⊥
+StopsCheck fault before t back result = StopsCheckBy strict_rules fault before t back result
 
 -- 3. Bytes.
 -- The lines in front of the bytes' first fault, that fault, and how many of the lines are taken from s on to t; and what the check
 -- returns there.
-pub record IsCheckOf (encoding : Encoding) (s : ProofState) (bytes : List ℕ) (result : Result CheckVerdict CheckerError) (t : ProofState) : Type 0 where
+pub record IsCheckBy (rules : Rules) (encoding : Encoding) (s : ProofState) (bytes : List ℕ) (result : Result CheckVerdict CheckerError) (t : ProofState)
+    : Type 0 where
   pub lines : List ProofLine
   pub fault : Option ℕ
   pub means : BytesMean encoding bytes lines fault
   pub front : List ProofLine
   pub back : List ProofLine
   pub splits : lines ≡ front ++ back
-  pub goes : Goes s front t
-  pub stops : StopsCheck fault (length front) t back result
+  pub goes : GoesBy rules s front t
+  pub stops : StopsCheckBy rules fault (length front) t back result
+
+-- the same by the strict rules
+abbrev pub IsCheckOf : Encoding → ProofState → List ℕ → Result CheckVerdict CheckerError → ProofState → Type 0
+IsCheckOf encoding s bytes result t = IsCheckBy strict_rules encoding s bytes result t
 
 -- all bytes have one result from a state on, and what was told then is one thing too
 abbrev pub CheckOnce : Encoding → Type 0

@@ -14,6 +14,7 @@ use Rattle.varisat_proof.specs.declared.checker.error.CheckerError.{CheckerError
 use Rattle.varisat_proof.specs.declared.checker.error.CheckerError.TheVariants.{CheckFailed, NoSuchClause, CoreNotAssumed, Parse, Io, OutOfMemory, Dimacs, Spent}
 use Rattle.varisat_proof.specs.Calls.{CheckerState, standing_of, AddsText, Checks, ChecksBytes, is_of_bytes, is_io}
 use Rattle.varisat_proof.specs.Marked.{MarkedTold, nothing_told, state_of, IsCheckOf}
+use Rattle.varisat_proof.specs.DratChecks.{ChecksDrat}
 
 -- the source gave a whole text without a fault, which has these clauses
 pub record GivesClauses (old : Stand) (clauses : List Clause) (new : Stand) : Type 0 where
@@ -138,8 +139,21 @@ EndsCheck format old new status before after =
 abbrev pub EndsBy : ProofFormat → Stand → Stand → Stand → Stand → ℕ → Taken → Taken → Type 0
 EndsBy format cnf proof cnf' proof' status before after = EndsCheck format (sources_of cnf proof) (sources_of cnf' proof') status before after
 
--- How a check of a DRAT proof ends: with a fault, and nothing is printed; or it comes to a verdict, which is true and printed.
-abbrev pub EndsByDrat : Stand → Stand → ℕ → Taken → Taken → Type 0
-EndsByDrat old new status before after =
-    ((status ≡ fault_status) × (after ≡ before))
-    ⊎ ((verified : Bool) × (verified ≡ true → GivesUnsatisfiable old new) × PrintsVerdict verified status before after)
+-- The text has clauses, and a check of the proof's DRAT lines from these on gave the verdict.
+pub record VerifiesDrat (format : ProofFormat) (old new : Sources) (verified : Bool) : Type 0 where
+  pub clauses : List Clause
+  pub given : GivesClauses old.cnf clauses new.cnf
+  pub left : CheckerState
+  pub result_is : Result CheckVerdict CheckerError
+  pub checks : ChecksDrat format (standing_of (record { clauses = clauses; spent = false }) old.proof) result_is (standing_of left new.proof)
+  pub verdict : verdict_of result_is ≡ Some verified
+
+-- how such a check ends
+abbrev pub EndsDrat : ProofFormat → Sources → Sources → ℕ → Taken → Taken → Type 0
+EndsDrat format old new status before after =
+    ((error : CheckerError) × FailsCheck old new error × (status ≡ fault_status) × (after ≡ before))
+    ⊎ ((verified : Bool) × VerifiesDrat format old new verified × PrintsVerdict verified status before after)
+
+-- the same, by the sources
+abbrev pub EndsByDrat : ProofFormat → Stand → Stand → Stand → Stand → ℕ → Taken → Taken → Type 0
+EndsByDrat format cnf proof cnf' proof' status before after = EndsDrat format (sources_of cnf proof) (sources_of cnf' proof') status before after

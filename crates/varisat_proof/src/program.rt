@@ -3,7 +3,7 @@ ghost use Rattle.std.specs.Prelude.{◌≡◌, ◌⊎◌, ◌-◌, ◌^◌, ◌<
 ghost use Rattle.varisat_formula.specs.Written.{Puts};
 ghost use Rattle.varisat_proof.specs.declared.checker.error.CheckVerdict.TheVariants.{Refutation};
 ghost use Rattle.varisat_proof.specs.Calls.{is_of_bytes};
-ghost use Rattle.varisat_proof.specs.Verified.{sources_of, Verifies, VerifiesMarked, VerifiesBy, FailsCheck, AreGiven, EndsBy, EndsByDrat, PrintsVerdict, GivesUnsatisfiable, verdict_of, verdict_text, verdict_status, fault_status};
+ghost use Rattle.varisat_proof.specs.Verified.{sources_of, Verifies, VerifiesMarked, VerifiesBy, FailsCheck, VerifiesDrat, AreGiven, EndsBy, EndsByDrat, PrintsVerdict, GivesUnsatisfiable, verdict_of, verdict_text, verdict_status, fault_status};
 
 use crate::checker::{CheckVerdict, Checker, CheckerError, DratCounts, MarkedReport};
 use crate::proof::ProofFormat;
@@ -12,6 +12,7 @@ use std::fmt::Display;
 use std::io::{self, Write};
 use varisat_formula::formula::CnfFormula;
 use varisat_formula::io::{ByteSource, ProofTarget};
+use varisat_literals::Lit;
 
 /// The status of `check` for a proof that refutes the clauses.
 pub const STATUS_VERIFIED: u8 = 0;
@@ -63,7 +64,8 @@ pub fn check_drat_lines<
     requires cnf_faults { (S.stand cnf.old).faults < 2 ^ 64 - 1 }
     requires proof_faults { (P.stand proof.old).faults < 2 ^ 64 - 1 }
     requires out_faults { (T.taken out.old).faults < 2 ^ 64 - 1 }
-    ensures outcome { EndsByDrat (S.stand cnf.old) (S.stand cnf.new) result (T.taken out.old) (T.taken out.new) }
+    ensures outcome { EndsByDrat format (S.stand cnf.old) (P.stand proof.old) (S.stand cnf.new) (P.stand proof.new)
+        result (T.taken out.old) (T.taken out.new) }
     ensures truth { result ≡ 0 → GivesUnsatisfiable (S.stand cnf.old) (S.stand cnf.new) }
 {
     match verify_drat(alloc, cnf, proof, format, err) {
@@ -82,7 +84,8 @@ fn verify_drat<A: Allocator + Copy, S: ByteSource, P: ByteSource, E: Write>(
 ) -> Result<bool, CheckerError>
     requires cnf_faults { (S.stand cnf.old).faults < 2 ^ 64 - 1 }
     requires proof_faults { (P.stand proof.old).faults < 2 ^ 64 - 1 }
-    ensures { IfOk result (λ verified. verified ≡ true → GivesUnsatisfiable (S.stand cnf.old) (S.stand cnf.new)) }
+    ensures verified { IfOk result (VerifiesDrat format (sources_of (S.stand cnf.old) (P.stand proof.old)) (sources_of (S.stand cnf.new) (P.stand proof.new))) }
+    ensures fails { IfErr result (FailsCheck (sources_of (S.stand cnf.old) (P.stand proof.old)) (sources_of (S.stand cnf.new) (P.stand proof.new))) }
 {
     let mut checker = Checker::new_in(alloc);
     let verified = verify_drat_in(&mut checker, cnf, proof, format, err);
@@ -101,7 +104,8 @@ fn verify_drat_in<A: Allocator + Copy, S: ByteSource, P: ByteSource, E: Write>(
     requires new { checker.old ≡ record { clauses = []; spent = false } }
     requires cnf_faults { (S.stand cnf.old).faults < 2 ^ 64 - 1 }
     requires proof_faults { (P.stand proof.old).faults < 2 ^ 64 - 1 }
-    ensures { IfOk result (λ verified. verified ≡ true → GivesUnsatisfiable (S.stand cnf.old) (S.stand cnf.new)) }
+    ensures verified { IfOk result (VerifiesDrat format (sources_of (S.stand cnf.old) (P.stand proof.old)) (sources_of (S.stand cnf.new) (P.stand proof.new))) }
+    ensures fails { IfErr result (FailsCheck (sources_of (S.stand cnf.old) (P.stand proof.old)) (sources_of (S.stand cnf.new) (P.stand proof.new))) }
 {
     match checker.add_dimacs_cnf(cnf) {
         Ok(()) => {}
@@ -109,22 +113,40 @@ fn verify_drat_in<A: Allocator + Copy, S: ByteSource, P: ByteSource, E: Write>(
     }
     let mut counts = DratCounts::new();
     let checked = checker.check_drat(proof, format, &mut counts);
-    tell_refusal(err, &checked);
+    tell_refusal(err, &checked, &counts, checker.stopper());
     let verified = is_verified(checked)?;
     tell_counts(err, &counts);
     Ok(verified)
 }
 
-/// Tells which line of a DRAT proof, or which byte, is wrong, if one is.
-fn tell_refusal<E: Write>(err: &mut E, checked: &Result<CheckVerdict, CheckerError>) {
+/// Tells which line of a DRAT proof is wrong, which bytes it has, and for which clause it is not RAT on its first literal.
+fn tell_line<E: Write>(err: &mut E, step: u64, counts: &DratCounts, stopper: Option<&[Lit]>) {
+    let (begin, end) = (counts.begin, counts.end);
     // Where this writer fails nothing is left to tell of it.
-    match checked {
-        Err(CheckerError::CheckFailed { step }) => {
-            let _ = writeln!(
-                err,
-                "line {step} neither follows nor is RAT on its first literal"
-            );
+    let _ = write!(
+        err,
+        "line {step}, from byte {begin} up to {end}: neither follows nor is RAT"
+    );
+    if let Some(clause) = stopper {
+        let _ = write!(err, "; not on its first literal, for the clause");
+        for l in clause {
+            let number = l.to_dimacs();
+            let _ = write!(err, " {number}");
         }
+        let _ = write!(err, " 0");
+    }
+    let _ = writeln!(err);
+}
+
+/// Tells which line of a DRAT proof, or which byte, is wrong, if one is.
+fn tell_refusal<E: Write>(
+    err: &mut E,
+    checked: &Result<CheckVerdict, CheckerError>,
+    counts: &DratCounts,
+    stopper: Option<&[Lit]>,
+) {
+    match checked {
+        Err(CheckerError::CheckFailed { step }) => tell_line(err, *step, counts, stopper),
         Err(CheckerError::Parse { offset }) => {
             let _ = writeln!(err, "no line at byte {offset}");
         }
@@ -137,10 +159,15 @@ fn tell_refusal<E: Write>(err: &mut E, checked: &Result<CheckVerdict, CheckerErr
 
 /// Tells how many lines of a DRAT proof were looked at, and of which kinds.
 fn tell_counts<E: Write>(err: &mut E, counts: &DratCounts) {
-    let (steps, rats, kept, absent) = (counts.steps, counts.rats, counts.kept, counts.absent);
+    let (steps, rats, others) = (counts.steps, counts.rats, counts.others);
+    let (kept, absent) = (counts.kept, counts.absent);
+    let _ = write!(
+        err,
+        "lines {steps}, RAT on the first literal {rats}, on another {others}"
+    );
     let _ = writeln!(
         err,
-        "lines {steps}, RAT {rats}, deletions passed over: forced {kept}, absent {absent}"
+        ", deletions passed over: forced {kept}, absent {absent}"
     );
 }
 

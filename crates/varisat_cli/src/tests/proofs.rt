@@ -124,24 +124,34 @@ const CUBE: &str =
     "1 2 3 0\n1 2 -3 0\n1 -2 3 0\n1 -2 -3 0\n-1 2 3 0\n-1 2 -3 0\n-1 -2 3 0\n-1 -2 -3 0\n";
 
 // A text, a proof, and what a check of it prints that takes RAT lines.
-const DRAT_PROOFS: [(&str, &str, Printed); 9] = [
+const DRAT_PROOFS: [(&str, &str, Printed); 10] = [
     // A new variable is defined: no clause has the opposite, and then one has.
     (
         CUBE,
         "4 1 0\n-4 -1 0\n1 2 0\n1 0\n2 0\n",
         (
             "s VERIFIED\n",
-            "lines 5, RAT 2, deletions passed over: forced 0, absent 0\n",
+            "lines 5, RAT on the first literal 2, on another 0, deletions passed over: forced 0, absent 0\n",
             0,
         ),
     ),
-    // The pivot is the first literal: with 1 first the clause is not RAT, with 3 first it is.
+    // The clause is RAT on 3, and not on 1.
     (
         "1 2 0\n-1 4 0\n",
         "1 3 0\n",
         (
             "s NOT VERIFIED\n",
-            "line 1 neither follows nor is RAT on its first literal\nlines 1, RAT 0, deletions passed over: forced 0, absent 0\n",
+            "the lines refute nothing\nlines 1, RAT on the first literal 0, on another 1, deletions passed over: forced 0, absent 0\n",
+            1,
+        ),
+    ),
+    // It is on neither where a clause has the opposite of 3 too.
+    (
+        "1 2 0\n-1 4 0\n-3 4 0\n",
+        "7 0\n1 3 0\n",
+        (
+            "s NOT VERIFIED\n",
+            "line 2, from byte 4 up to 10: neither follows nor is RAT; not on its first literal, for the clause -1 4 0\nlines 2, RAT on the first literal 1, on another 0, deletions passed over: forced 0, absent 0\n",
             1,
         ),
     ),
@@ -150,7 +160,7 @@ const DRAT_PROOFS: [(&str, &str, Printed); 9] = [
         "3 1 0\n",
         (
             "s NOT VERIFIED\n",
-            "the lines refute nothing\nlines 1, RAT 1, deletions passed over: forced 0, absent 0\n",
+            "the lines refute nothing\nlines 1, RAT on the first literal 1, on another 0, deletions passed over: forced 0, absent 0\n",
             1,
         ),
     ),
@@ -160,17 +170,17 @@ const DRAT_PROOFS: [(&str, &str, Printed); 9] = [
         "d 4 -1 0\n1 3 0\n",
         (
             "s NOT VERIFIED\n",
-            "the lines refute nothing\nlines 2, RAT 1, deletions passed over: forced 0, absent 0\n",
+            "the lines refute nothing\nlines 2, RAT on the first literal 1, on another 0, deletions passed over: forced 0, absent 0\n",
             1,
         ),
     ),
     // It is not, where it is what implies a literal.
     (
-        "1 0\n-1 4 0\n",
+        "1 0\n-1 4 0\n-5 7 0\n",
         "d -1 4 0\nd 1 0\nd 5 6 0\n-4 5 0\n",
         (
             "s NOT VERIFIED\n",
-            "line 4 neither follows nor is RAT on its first literal\nlines 4, RAT 0, deletions passed over: forced 2, absent 1\n",
+            "line 4, from byte 23 up to 30: neither follows nor is RAT; not on its first literal, for the clause -1 4 0\nlines 4, RAT on the first literal 0, on another 0, deletions passed over: forced 2, absent 1\n",
             1,
         ),
     ),
@@ -180,7 +190,7 @@ const DRAT_PROOFS: [(&str, &str, Printed); 9] = [
         "0\n",
         (
             "s NOT VERIFIED\n",
-            "line 1 neither follows nor is RAT on its first literal\nlines 1, RAT 0, deletions passed over: forced 0, absent 0\n",
+            "line 1, from byte 0 up to 2: neither follows nor is RAT\nlines 1, RAT on the first literal 0, on another 0, deletions passed over: forced 0, absent 0\n",
             1,
         ),
     ),
@@ -189,7 +199,7 @@ const DRAT_PROOFS: [(&str, &str, Printed); 9] = [
         "2 0\nx\n",
         (
             "s NOT VERIFIED\n",
-            "no line at byte 4\nlines 1, RAT 0, deletions passed over: forced 0, absent 0\n",
+            "no line at byte 4\nlines 1, RAT on the first literal 0, on another 0, deletions passed over: forced 0, absent 0\n",
             1,
         ),
     ),
@@ -198,7 +208,7 @@ const DRAT_PROOFS: [(&str, &str, Printed); 9] = [
         "7 0\n",
         (
             "s VERIFIED\n",
-            "lines 0, RAT 0, deletions passed over: forced 0, absent 0\n",
+            "lines 0, RAT on the first literal 0, on another 0, deletions passed over: forced 0, absent 0\n",
             0,
         ),
     ),

@@ -1,5 +1,5 @@
 //! The checker. It keeps the present clauses, and propagates over them for each line.
-ghost use Rattle.std.specs.Prelude.{◌≡◌, ◌≢◌, [], ◌∷◌, ◌++◌, ◌-◌, ◌<◌, ◌^◌, ◌↔◌, length, true, false, Ok, Err, OnOk, OnErr, IfOk, IfErr, IsTrue, ◌||◌, slice_index_or};
+ghost use Rattle.std.specs.Prelude.{◌≡◌, ◌≢◌, [], ◌∷◌, ◌++◌, ◌-◌, ◌<◌, ◌^◌, ◌↔◌, length, true, false, MatchOption, Ok, Err, OnOk, OnErr, IfOk, IfErr, IsTrue, ◌||◌, slice_index_or};
 ghost use Rattle.varisat_theory.specs.Membership.{◌∈◌, SameSet};
 ghost use Rattle.varisat_theory.specs.Literals.{Clause, IsSatisfiable};
 ghost use Rattle.varisat_theory.specs.Derivations.{Line, Add, Delete, TakesOut};
@@ -12,15 +12,15 @@ ghost use Rattle.varisat_proof.specs.declared.checker.line.LineStatus.TheVariant
 ghost use Rattle.varisat_proof.specs.declared.checker.error.CheckVerdict.TheVariants.{Refutation};
 ghost use Rattle.varisat_proof.specs.declared.checker.error.CheckerError.TheVariants.{OutOfMemory, Spent};
 ghost use Rattle.varisat_proof.specs.Lines.{line_of_kind};
-ghost use Rattle.varisat_proof.specs.Marked.{state_of};
+ghost use Rattle.varisat_proof.specs.Marked.{state_of, strict_rules};
 ghost use Rattle.varisat_proof.specs.Results.{IsResult};
-ghost use Rattle.varisat_proof.specs.DratChecks.{HasDratVerdict, RefusesDrat};
+ghost use Rattle.varisat_proof.specs.DratChecks.{rules_of, TellsDratLine, IsDratResult, ChecksDrat};
 ghost use Rattle.varisat_proof.specs.Checks.{TellsStatus, TakesNext, position_of, ReadsNext, EndsBehind, ChecksFrom, result_at_end, ChecksLine, ChecksUnits, ChecksCore, RefusesText};
 ghost use Rattle.varisat_proof.specs.Calls.{with_clause, standing_of, BecomesOrRefuses, AddsText, IsStep, Checks, ChecksMarked, IsMarkedResult, IsTrueReport, IsRightFor, spends};
 
-use crate::checker::drat::{DratCounts, check_source};
+use crate::checker::drat::{DratCounts, take_drat_line};
 use crate::checker::error::{CheckVerdict, CheckerError};
-use crate::checker::line::LineStatus;
+use crate::checker::line::{LineRules, LineStatus};
 use crate::checker::marked::{MarkedReport, ReportBuilder};
 use crate::checker::reader::ProofReader;
 use crate::checker::token::Event;
@@ -245,7 +245,7 @@ impl<A: Allocator + Copy> Checker<A> {
         builder: &mut ReportBuilder<A>,
         core: &[Lit],
     ) -> Result<LineStatus, AllocError>
-        ensures status { TellsStatus (state_of self.old.clauses builder.old) (line_of_kind Fails core.now) result (state_of self.new.clauses builder.new) }
+        ensures status { TellsStatus strict_rules (state_of self.old.clauses builder.old) (line_of_kind Fails core.now) result (state_of self.new.clauses builder.new) }
         ensures spent { self.new.spent ≡ self.old.spent }
     {
         if !builder.assumes(core) {
@@ -259,14 +259,14 @@ impl<A: Allocator + Copy> Checker<A> {
         Ok(LineStatus::Taken)
     }
 
-    /// Takes a line, unless it is wrong.
-    fn take_line(
+    /// Takes a line by the strict rules, unless it is wrong.
+    fn take_strict_line(
         &mut self,
         builder: &mut ReportBuilder<A>,
         kind: LineKind,
         clause: &[Lit],
     ) -> Result<LineStatus, AllocError>
-        ensures status { TellsStatus (state_of self.old.clauses builder.old) (line_of_kind kind clause.now) result (state_of self.new.clauses builder.new) }
+        ensures status { TellsStatus strict_rules (state_of self.old.clauses builder.old) (line_of_kind kind clause.now) result (state_of self.new.clauses builder.new) }
         ensures spent { self.new.spent ≡ self.old.spent }
     {
         match kind {
@@ -298,15 +298,55 @@ impl<A: Allocator + Copy> Checker<A> {
         }
     }
 
+    /// Takes a line of DRAT, unless it is wrong.
+    fn take_drat(
+        &mut self,
+        counts: &mut DratCounts,
+        kind: LineKind,
+        clause: &[Lit],
+    ) -> Result<LineStatus, AllocError>
+        ensures status { IfOk result (λ status. (Conflicts self.old.clauses [] → ⊥) → TellsDratLine self.old.clauses kind clause.now status self.new.clauses) }
+        ensures spent { self.new.spent ≡ self.old.spent }
+    {
+        let status = take_drat_line(&mut self.clauses, counts, kind, clause)?;
+        Ok(status)
+    }
+
+    /// Takes a line, unless it is wrong.
+    fn take_line(
+        &mut self,
+        rules: LineRules,
+        builder: &mut ReportBuilder<A>,
+        counts: &mut DratCounts,
+        kind: LineKind,
+        clause: &[Lit],
+    ) -> Result<LineStatus, AllocError>
+        ensures status { (Conflicts self.old.clauses [] → ⊥) → TellsStatus (rules_of rules) (state_of self.old.clauses builder.old) (line_of_kind kind clause.now) result (state_of self.new.clauses builder.new) }
+        ensures spent { self.new.spent ≡ self.old.spent }
+    {
+        match rules {
+            LineRules::Strict => {
+                let status = self.take_strict_line(builder, kind, clause)?;
+                Ok(status)
+            }
+            LineRules::Drat => {
+                let status = self.take_drat(counts, kind, clause)?;
+                Ok(status)
+            }
+        }
+    }
+
     /// The next line of a proof. Once the present clauses conflict, lines are not looked at.
     fn next_line(
         &mut self,
+        rules: LineRules,
         builder: &mut ReportBuilder<A>,
+        counts: &mut DratCounts,
         count: &mut Count,
         kind: LineKind,
         clause: &[Lit],
     ) -> Result<(), CheckerError>
-        ensures takes { TakesNext (state_of self.old.clauses builder.old) count.old kind clause.now result
+        ensures takes { TakesNext (rules_of rules) (state_of self.old.clauses builder.old) count.old kind clause.now result
             (state_of self.new.clauses builder.new) count.new }
         ensures spent { self.new.spent ≡ self.old.spent }
     {
@@ -314,7 +354,7 @@ impl<A: Allocator + Copy> Checker<A> {
             return Ok(());
         }
         let step = count.steps.saturating_add(1);
-        let status = match self.take_line(builder, kind, clause) {
+        let status = match self.take_line(rules, builder, counts, kind, clause) {
             Ok(status) => status,
             Err(_) => return Err(CheckerError::OutOfMemory),
         };
@@ -338,12 +378,14 @@ impl<A: Allocator + Copy> Checker<A> {
     /// The next piece of a proof.
     fn read_piece(
         &mut self,
+        rules: LineRules,
         builder: &mut ReportBuilder<A>,
+        counts: &mut DratCounts,
         reader: &mut ProofReader<A>,
         count: &mut Count,
         piece: &[u8],
     ) -> Result<(), CheckerError>
-        ensures reads { ReadsNext piece.now (position_of self.old builder.old count.old reader.old) result
+        ensures reads { ReadsNext (rules_of rules) piece.now (position_of self.old builder.old count.old reader.old) result
             (position_of self.new builder.new count.new reader.new) }
         ensures spent { self.new.spent ≡ self.old.spent }
     {
@@ -356,15 +398,20 @@ impl<A: Allocator + Copy> Checker<A> {
             match event {
                 Event::More => {}
                 Event::Fault => return Err(CheckerError::Parse { offset: start }),
-                Event::Ended => match self.next_line(
-                    builder,
-                    count,
-                    reader.kind(),
-                    reader.clause(),
-                ) {
-                    Ok(()) => {}
-                    Err(error) => return Err(error),
-                },
+                Event::Ended => {
+                    counts.end_line(reader.offset());
+                    match self.next_line(
+                        rules,
+                        builder,
+                        counts,
+                        count,
+                        reader.kind(),
+                        reader.clause(),
+                    ) {
+                        Ok(()) => {}
+                        Err(error) => return Err(error),
+                    }
+                }
             }
         }
         Ok(())
@@ -373,11 +420,13 @@ impl<A: Allocator + Copy> Checker<A> {
     /// The end of a proof.
     fn end_proof(
         &mut self,
+        rules: LineRules,
         builder: &mut ReportBuilder<A>,
+        counts: &mut DratCounts,
         reader: &mut ProofReader<A>,
         count: &mut Count,
     ) -> Result<CheckVerdict, CheckerError>
-        ensures ends { EndsBehind (position_of self.old builder.old count.old reader.old) result (state_of self.new.clauses builder.new) }
+        ensures ends { EndsBehind (rules_of rules) (position_of self.old builder.old count.old reader.old) result (state_of self.new.clauses builder.new) }
         ensures spent { self.new.spent ≡ self.old.spent }
     {
         let last = reader.last_fault();
@@ -388,10 +437,20 @@ impl<A: Allocator + Copy> Checker<A> {
         match event {
             Event::More => {}
             Event::Fault => return Err(CheckerError::Parse { offset: last }),
-            Event::Ended => match self.next_line(builder, count, reader.kind(), reader.clause()) {
-                Ok(()) => {}
-                Err(error) => return Err(error),
-            },
+            Event::Ended => {
+                counts.end_line(reader.offset());
+                match self.next_line(
+                    rules,
+                    builder,
+                    counts,
+                    count,
+                    reader.kind(),
+                    reader.clause(),
+                ) {
+                    Ok(()) => {}
+                    Err(error) => return Err(error),
+                }
+            }
         }
         verdict_at_end(reader, count)
     }
@@ -399,12 +458,14 @@ impl<A: Allocator + Copy> Checker<A> {
     /// Reads all of the source as one proof.
     fn run<S: ByteSource>(
         &mut self,
+        rules: LineRules,
         builder: &mut ReportBuilder<A>,
+        counts: &mut DratCounts,
         source: &mut S,
         encoding: Encoding,
     ) -> Result<CheckVerdict, CheckerError>
         requires few { (S.stand source.old).faults < 2 ^ 64 - 1 }
-        ensures checks { ChecksFrom encoding (standing_of self.old (S.stand source.old)) builder.old result
+        ensures checks { ChecksFrom (rules_of rules) encoding (standing_of self.old (S.stand source.old)) builder.old result
             (standing_of self.new (S.stand source.new)) builder.new }
         ensures spent { self.new.spent ≡ self.old.spent }
     {
@@ -423,12 +484,19 @@ impl<A: Allocator + Copy> Checker<A> {
             if size == 0 {
                 break;
             }
-            match self.read_piece(builder, &mut reader, &mut count, &buffer[..size]) {
+            match self.read_piece(
+                rules,
+                builder,
+                counts,
+                &mut reader,
+                &mut count,
+                &buffer[..size],
+            ) {
                 Ok(()) => {}
                 Err(error) => return Err(error),
             }
         }
-        match self.end_proof(builder, &mut reader, &mut count) {
+        match self.end_proof(rules, builder, counts, &mut reader, &mut count) {
             Ok(verdict) => Ok(verdict),
             Err(error) => Err(error),
         }
@@ -539,7 +607,14 @@ impl<A: Allocator + Copy> Checker<A> {
             return Err(CheckerError::Spent);
         }
         let mut builder = ReportBuilder::new_in(self.alloc);
-        match self.run(&mut builder, source, format.plain_encoding()) {
+        let mut counts = DratCounts::new();
+        match self.run(
+            LineRules::Strict,
+            &mut builder,
+            &mut counts,
+            source,
+            format.plain_encoding(),
+        ) {
             Ok(verdict) => Ok(verdict),
             Err(error) => {
                 self.end_with(&error);
@@ -549,10 +624,11 @@ impl<A: Allocator + Copy> Checker<A> {
     }
 
     /// Checks all of the source as one DRAT proof of a solver that simplifies, as `check_proof` but for three kinds of
-    /// lines: a clause that does not follow joins the present ones if it is RAT on its first literal; a deletion that
+    /// lines: a clause that does not follow joins the present ones if it is RAT on one of its literals; a deletion that
     /// finds no clause is passed over; and so is one of a clause of which all literals but one are implied to be false.
-    /// The lines are counted. Refutation implies that no assignment satisfies the clauses that were present as the call
-    /// began; but those that are present later may be satisfied by other assignments than these.
+    /// `NoSuchClause` does not come. The lines are counted. Refutation implies that no assignment satisfies the clauses
+    /// that were present as the call began; but those that are present later may be satisfied by other assignments than
+    /// these.
     pub fn check_drat<S: ByteSource>(
         &mut self,
         source: &mut S,
@@ -560,18 +636,21 @@ impl<A: Allocator + Copy> Checker<A> {
         counts: &mut DratCounts,
     ) -> Result<CheckVerdict, CheckerError>
         requires few { (S.stand source.old).faults < 2 ^ 64 - 1 }
-        ensures derives { IfOk result (λ verdict. HasDratVerdict self.old.clauses self.new.clauses verdict) }
-        ensures why { IfErr result (λ e. RefusesDrat self.old.clauses self.new.clauses e) }
+        ensures checks { self.old.spent ≡ false → ChecksDrat format (standing_of self.old (S.stand source.old)) result (standing_of self.new (S.stand source.new)) }
         ensures refused { self.old.spent ≡ true → (result ≡ Err Spent) × (self.new ≡ self.old) × (source.new ≡ source.old) }
+        ensures usable { OnOk result (self.new.spent ≡ self.old.spent) }
         ensures spends { IfErr result (λ e. self.new.spent ≡ (self.old.spent || spends e)) }
+        ensures exact { IsRightFor (standing_of self.old (S.stand source.old)) result
+            (λ bytes. IsDratResult format self.old.clauses bytes result self.new.clauses) }
         ensures sound { result ≡ Ok Refutation → IsSatisfiable self.old.clauses → ⊥ }
     {
         if self.spent {
             return Err(CheckerError::Spent);
         }
-        match check_source(
-            self.alloc,
-            &mut self.clauses,
+        let mut builder = ReportBuilder::new_in(self.alloc);
+        match self.run(
+            LineRules::Drat,
+            &mut builder,
             counts,
             source,
             format.plain_encoding(),
@@ -582,6 +661,13 @@ impl<A: Allocator + Copy> Checker<A> {
                 Err(error)
             }
         }
+    }
+
+    /// The clause for which the line that `check_drat` refused is not RAT on its first literal, if there is one.
+    pub fn stopper(&self) -> Option<&[Lit]>
+        ensures { MatchOption result (Unit {0}) (λ clause. clause.now ∈ self.now.clauses) }
+    {
+        self.clauses.stopper()
     }
 
     /// Checks all of the source as one marked proof, as `check_proof` checks a proof of the format `Drat`. A clause of
@@ -608,7 +694,14 @@ impl<A: Allocator + Copy> Checker<A> {
             return Err(CheckerError::Spent);
         }
         let mut builder = ReportBuilder::new_in(self.alloc);
-        match self.run(&mut builder, source, Encoding::Text { marked: true }) {
+        let mut counts = DratCounts::new();
+        match self.run(
+            LineRules::Strict,
+            &mut builder,
+            &mut counts,
+            source,
+            Encoding::Text { marked: true },
+        ) {
             Ok(verdict) => Ok(builder.report(verdict)),
             Err(error) => {
                 self.end_with(&error);

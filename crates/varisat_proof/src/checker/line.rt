@@ -1,4 +1,13 @@
-//! What becomes of a line.
+//! Which lines a check takes, and what becomes of a line.
+
+/// Which lines a check takes.
+#[derive(Clone, Copy)]
+pub enum LineRules {
+    /// Those that add what follows and delete what is present, and those of marks.
+    Strict,
+    /// Those of DRAT.
+    Drat,
+}
 
 /// What becomes of a line.
 #[derive(Clone, Copy)]

@@ -1,6 +1,6 @@
 use Rattle.std.proofs.Common.{subst}
 use Rattle.varisat_theory.specs.Membership.{◌∈◌}
-use Rattle.varisat_plain.proofs.Scans.{refused, granted}
+use Rattle.varisat_plain.proofs.Scans.{granted}
 use Rattle.std.proofs.lemmas.List.{get_or_read}
 use Rattle.varisat_present.proofs.Elements.{element_in}
 use Rattle.varisat_present.proofs.MarkedLists.{none_marked, marked_before, marked_now, all_marked}

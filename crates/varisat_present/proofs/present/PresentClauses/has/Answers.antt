@@ -1,4 +1,4 @@
-use Rattle.std.proofs.Common.{◌≡◌, List, subst, sym, ap, ◌∙◌}
+use Rattle.std.proofs.Common.{List, subst, sym, ap, ◌∙◌}
 use Rattle.varisat_theory.specs.Literals.{Clause}
 use Rattle.varisat_theory.specs.Membership.{◌∈◌, SameSet}
 use Rattle.varisat_present.specs.Places.{present}

@@ -1,23 +1,28 @@
 -- A state of the solver goes on fitting what was given, call by call.
-use Rattle.std.proofs.Common.{◌≡◌, ◌⊎◌, ℕ, ◌+◌, ◌-◌, ◌^◌, ◌<◌, ◌≤◌, Bool, true, List, [], ◌∷◌, ◌++◌, inl, inr, ⊎_elim, sym, ap, ◌∙◌, subst, refl, Ok, Err, Option, Some, unwrap_or, map, arith}
+use Rattle.std.proofs.Common.{◌≡◌, ◌⊎◌, ℕ, ◌+◌, ◌-◌, ◌*◌, ◌^◌, ◌<◌, ◌≤◌, Bool, true, length, Result, List, [], ◌∷◌, ◌++◌, inl, inr, ⊎_elim, sym, ap, ◌∙◌, subst, refl, Ok, Err, Option, Some, unwrap_or, map, arith}
 use Rattle.std.proofs.lemmas.Bool.{cases_lt}
-use Rattle.varisat_theory.specs.Membership.{◌∈◌}
+use Rattle.std.proofs.Math.Pow.{pow_mono}
+use Rattle.varisat_theory.specs.Membership.{◌∈◌, ◌⊆◌, IsDistinct}
 use Rattle.varisat_theory.specs.Literals.{Literal, Clause, Assignment, variable_of, opposite, value, SatisfiesAll, MakesTrue, IsSatisfiable, IsFailedCore}
+use Rattle.varisat_theory.proofs.Count.{length-distinct}
 use Rattle.varisat_theory.proofs.Members.{∈-append_left, ∈-append_right, ∈-append_cases}
 use Rattle.varisat_theory.proofs.Values.{parity, not_both, true_or_opposite}
 use Rattle.varisat_literals.specs.Numbers.{variable_limit}
-use Rattle.varisat.specs.States.{State, Verdict, Unsat, IsRight}
+use Rattle.varisat.specs.States.{State, join_counted, Verdict, Unsat, IsRight}
 use Rattle.varisat.specs.Names.{Naming, name_all, through_names, AreInOrder}
 use Rattle.varisat.specs.Models.{IsCompletable, AreNamesInUse}
 use Rattle.varisat.specs.Counts.{count_with}
-use Rattle.varisat.specs.Calls.{IsPastLimit, IsCrowded, AddsClause, Ignored, Accepted, VerdictAfter, Refuted, Reopened, Assumes, Solves, Configures, calling}
+use Rattle.varisat.specs.Calls.{IsPastLimit, IsCrowded, AddsClause, Ignored, Accepted, VerdictAfter, Refuted, Reopened, Assumes, Solves, Configures, CountsIf, Decided, Searched, once_searched, calling}
 use Rattle.varisat_names.specs.declared.config.SolverConfigUpdate.{SolverConfigUpdate}
 use Rattle.varisat.specs.declared.solver.SolverError.TheVariants.{Interrupted}
-use Rattle.varisat.proofs.CallStates.{same-assumptions, same-clauses, same-ledger, same-naming, same-verdict}
+use Rattle.varisat.specs.Budgets.{CountsSteps}
+use Rattle.varisat.specs.declared.solver.SolverError.{SolverError}
+use Rattle.varisat.proofs.CallStates.{same-assumptions, same-clauses, same-counted, same-ledger, same-naming, same-verdict}
 use Rattle.varisat.proofs.NameLaws.{stay-in-order, count-above, count-within, names-are-identities, crowded-is-past-limit}
+use Rattle.varisat.proofs.Counted.{join-more, join-has, join-only, join-once}
 use Rattle.varisat.proofs.SearchVerdicts.{reopened-not-unsat, assumed-unsat}
 use Rattle.varisat_client.specs.Pasts.{IsFoundModel}
-use Rattle.varisat_client.specs.Clients.{WasGiven}
+use Rattle.varisat_client.specs.Clients.{WasGiven, CountsAmong}
 
 -- 1. Names are in range.
 
@@ -179,7 +184,67 @@ all-spent s t P A n most r f =
     inr
     (k.spent refl)
 
--- 5. Models and cores.
+-- 5. The variables that are counted, and the steps for so many.
+
+-- the same variables are counted
+pub counts-same : (s t : State) (known : List ℕ) → t.counted ≡ s.counted → CountsAmong s known → CountsAmong t known
+counts-same s t known e k = record { within = subst (λ xs. xs ⊆ known) (sym e) k.within; once = subst IsDistinct (sym e) k.once }
+
+-- those of a list are, too
+counts-more : (s t : State) (known is : List ℕ) → t.counted ≡ join_counted s.counted is → CountsAmong s known → CountsAmong t (join_counted known is)
+counts-more s t known is e k = record {
+  within = subst (λ xs. xs ⊆ join_counted known is) (sym e)
+      (λ i m. ⊎_elim (λ h. join-more is known i (k.within i h)) (join-has is known i) (join-only is s.counted i m));
+  once = subst IsDistinct (sym e) (join-once is s.counted k.once);
+}
+
+counts-taken : (s t : State) (P : List Clause) (A : List Literal) (n most : ℕ) (known : List ℕ) (d : Clause) → AddsClause s d (Ok tt) t →
+    WasGiven s P A n most → CountsAmong s known → CountsAmong t (join_counted known (map variable_of d))
+counts-taken s t P A n most known d (v, Ignored u e) f k =
+    let same : t.counted ≡ s.counted = ap (λ (x : State). x.counted) e in
+    let r = counts-same s t known same k in record { within = λ i h. join-more (map variable_of d) known i (r.within i h); once = r.once }
+counts-taken s t P A n most known d (v, Accepted ext may (w, after, like)) f k =
+    let (order, own) = stay-in-order f.count s.naming d f.order in
+    counts-more s t known (map variable_of d) (same-counted like ∙ ap (λ (x : Clause). join_counted s.counted (map variable_of x)) own) k
+
+pub counts-added : (s t : State) (P : List Clause) (A : List Literal) (n most : ℕ) (known : List ℕ) (d c : Clause) → AddsClause s d (Ok tt) t → d ≡ c →
+    WasGiven s P A n most → CountsAmong s known → CountsAmong t (join_counted known (map variable_of c))
+counts-added s t P A n most known d c call e f k =
+    subst (λ (x : Clause). CountsAmong t (join_counted known (map variable_of x))) e (counts-taken s t P A n most known d call f k)
+
+pub counts-begun : (s t : State) (P : List Clause) (A : List Literal) (n most : ℕ) (known : List ℕ) (d B : List Literal) → Assumes s d (Ok tt) t →
+    d ≡ B → WasGiven s P A n most → CountsAmong s known → CountsAmong t (join_counted known (map variable_of B))
+counts-begun s t P A n most known d B (v, none, may, like) e f k =
+    let (order, own) = stay-in-order f.count s.naming d f.order in
+    subst (λ (x : List Literal). CountsAmong t (join_counted known (map variable_of x))) e
+    (counts-more s t known (map variable_of d) (same-counted like ∙ ap (λ (x : List Literal). join_counted s.counted (map variable_of x)) own) k)
+
+pub counts-limited : (s t : State) (known : List ℕ) (u : SolverConfigUpdate) → Configures s u (Ok tt) t → CountsAmong s known → CountsAmong t known
+counts-limited s t known u (v, good, e) k = counts-same s t known (ap (λ (x : State). x.counted) e) k
+
+counts-few : (s : State) (known : List ℕ) (own since before after : ℕ) (answer : Result Bool SolverError) → CountsAmong s known →
+    CountsSteps (length s.counted) own since before after answer → after < before + 2 ^ (2 * length known + 3)
+counts-few s known own since before after answer k c =
+    let fewer = length-distinct s.counted known k.once k.within in
+    let power : 2 ^ (2 * length s.counted + 3) ≤ 2 ^ (2 * length known + 3) = pow_mono (omega (arith, fewer)) in
+    omega (arith, c.bounded.1, c.count, power)
+
+-- a search that came to an answer, or made none since it is known
+pub decided-few : (s t : State) (b : Bool) (known : List ℕ) (n : ℕ) → Solves calling s (Ok b) t → CountsAmong s known → s.ledger.steps ≡ n →
+    t.ledger.steps < n + 2 ^ (2 * length known + 3)
+decided-few s t b known n r k e = go r.steps
+  where
+    go : CountsIf calling (once_searched s) (Ok b) t → t.ledger.steps < n + 2 ^ (2 * length known + 3)
+    go (Decided h same told) =
+        let any : 0 ≤ 2 * length known + 3 = omega arith in
+        let some : 2 ^ 0 ≤ 2 ^ (2 * length known + 3) = pow_mono any in omega (arith, same, e, some)
+    go (Searched u c) = let few = counts-few s known _ _ _ _ _ k c in omega (arith, few, e)
+
+pub spent-few : (s t : State) (known : List ℕ) (n : ℕ) → Solves calling s (Err Interrupted) t → CountsAmong s known → s.ledger.steps ≡ n →
+    t.ledger.steps < n + 2 ^ (2 * length known + 3)
+spent-few s t known n r k e = let few = counts-few s known _ _ _ _ _ k r.steps in omega (arith, few, e)
+
+-- 6. Models and cores.
 
 either : (k l : Literal) → variable_of k ≡ variable_of l → (k ≡ l) ⊎ (k ≡ opposite l)
 unfolding opposite

@@ -2,7 +2,7 @@
 use Rattle.std.proofs.Common.{◌≡◌, ◌≢◌, ℕ, zero, suc, ℤ, pos, negsuc, Bool, true, false, Some, None, List, [], ◌∷◌, ◌++◌, if◌then◌else◌, refl, sym, ap, ◌∙◌, subst}
 use Rattle.varisat_theory.specs.Literals.{Literal, IsSatisfiableWith}
 use Rattle.varisat_literals.specs.Numbers.{literal_numbered}
-use Rattle.varisat_client.specs.Pasts.{Past, refuse, Refuses, AddsNumber, AssumesNumber, Begins, LimitsSteps, IsSearchEnd}
+use Rattle.varisat_client.specs.Pasts.{Past, refuse, count, Refuses, AddsNumber, AssumesNumber, Begins, LimitsSteps, IsSearchEnd}
 use Rattle.varisat_client.specs.Pasts as past
 use Rattle.varisat_client.specs.Runs.{Makes, MakeInTurn}
 use Rattle.varisat_client.specs.Given.{Given, is_zero, give, IsRightAnswer, AreDecided}
@@ -62,7 +62,7 @@ add-agrees : (n : ℤ) (p q : Past) (g : Given) → AddsNumber n p q → Agrees 
 add-agrees n p q g (past.PutRefused z r) a = refused-agrees [] false p q (give (call.Add n) g) r
 add-agrees n p q g (past.EndRefused z r) a = refused-agrees p.clause true p q (give (call.Add n) g) r
 add-agrees n p q g (past.Ended z r e) a =
-    agree-by q (record p { clauses = p.clauses ++ p.clause ∷ []; clause = [] }) (give (call.Add n) g) (end_clause g) e (ap end_clause (a r))
+    agree-by q (record (count p.clause p) { clauses = p.clauses ++ p.clause ∷ []; clause = [] }) (give (call.Add n) g) (end_clause g) e (ap end_clause (a r))
     (sym (ap (λ b. if b then end_clause g else put_literal n g) (zero-is n z)))
 add-agrees n p q g (past.Put z r e) a =
     agree-by q (record p { clause = p.clause ++ literal_numbered n ∷ [] }) (give (call.Add n) g) (put_literal n g) e (ap (put_literal n) (a r))
@@ -79,7 +79,7 @@ assume-agrees n p q g (past.Put z r e) a =
 begin-agrees : (p q : Past) (g : Given) → Begins p q → Agrees p g → Agrees q (give call.Begin g)
 begin-agrees p q g (past.Refused r) a = refused-agrees p.assumptions false p q (give call.Begin g) r
 begin-agrees p q g (past.Begun r e) a =
-    agree-by q (record p { assumed = p.assumptions; assumptions = [] }) (give call.Begin g) (give call.Begin g) e
+    agree-by q (record (count p.assumptions p) { assumed = p.assumptions; assumptions = [] }) (give call.Begin g) (give call.Begin g) e
     (ap (λ (x : Given). record x { assumed = x.assumptions; assumptions = [] }) (a r)) refl
 
 limit-agrees : (n : ℕ) (p q : Past) (g : Given) → LimitsSteps n p q → Agrees p g → Agrees q g
@@ -88,9 +88,9 @@ limit-agrees n p q g (past.Limited r e) a = agree-by q (record p { limit = n }) 
 
 search-agrees : (end : SearchEnd) (p q : Past) (g : Given) → IsSearchEnd end p q → Agrees p g → Agrees q g
 search-agrees end p q g (past.Refused o r) a = refused-agrees [] true p q g r
-search-agrees end p q g (past.Satisfiable o r m e) a = agree-by q (record p { model = q.model; steps = q.steps }) g g e (a r) refl
-search-agrees end p q g (past.Unsatisfiable o r m e) a = agree-by q (record p { core = q.core; steps = q.steps }) g g e (a r) refl
-search-agrees end p q g (past.Interrupted o r m e) a = agree-by q (record p { steps = q.steps }) g g e (a r) refl
+search-agrees end p q g (past.Satisfiable o r m few e) a = agree-by q (record p { model = q.model; steps = q.steps }) g g e (a r) refl
+search-agrees end p q g (past.Unsatisfiable o r m few e) a = agree-by q (record p { core = q.core; steps = q.steps }) g g e (a r) refl
+search-agrees end p q g (past.Interrupted o r m few e) a = agree-by q (record p { steps = q.steps }) g g e (a r) refl
 
 same-agrees : (p q : Past) (g : Given) → q ≡ p → Agrees p g → Agrees q g
 same-agrees p q g e a = subst (λ x. Agrees x g) (sym e) a
@@ -141,14 +141,14 @@ moves-alike p q g call.Refusal (answer.Refusal r) m h = same-agrees p q g m.1 h
 -- a search ends as it may
 search-decides : (r : SearchEnd) (p q : Past) (g : Given) → IsSearchEnd r p q → Agrees p g → IsRightAnswer g call.Search (answer.Search r)
 search-decides r p q g (past.Refused o e) a = subst (λ x. IsRightAnswer g call.Search (answer.Search x)) (sym o) tt
-search-decides r p q g (past.Satisfiable o f m e) a =
+search-decides r p q g (past.Satisfiable o f m few e) a =
     let (s, makes, all, assumed) = m.satisfied in
     subst (λ x. IsRightAnswer g call.Search (answer.Search x)) (sym o) (subst (λ (x : Given). IsSatisfiableWith x.clauses x.assumed) (a f) (s, all, assumed))
-search-decides r p q g (past.Unsatisfiable o f m e) a =
+search-decides r p q g (past.Unsatisfiable o f m few e) a =
     subst (λ x. IsRightAnswer g call.Search (answer.Search x)) (sym o)
     (λ h. let (s, all, assumed) = subst (λ (x : Given). IsSatisfiableWith x.clauses x.assumed) (sym (a f)) h in
     m.1 (s, all, (λ l i. assumed l (m.0 l i))))
-search-decides r p q g (past.Interrupted o f m e) a = subst (λ x. IsRightAnswer g call.Search (answer.Search x)) (sym o) tt
+search-decides r p q g (past.Interrupted o f m few e) a = subst (λ x. IsRightAnswer g call.Search (answer.Search x)) (sym o) tt
 
 decides : (p q : Past) (g : Given) (c : Call) (a : Answer) → Makes p c a q → Agrees p g → IsRightAnswer g c a
 decides p q g (call.Add n) a m h = tt

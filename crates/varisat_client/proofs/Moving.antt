@@ -9,7 +9,8 @@ use Rattle.varisat_names.specs.Settings.{update_of, first_bad}
 use Rattle.varisat_names.proofs.Maps.{is_none-none}
 use Rattle.varisat_names.specs.declared.config.SolverConfigUpdate.{SolverConfigUpdate}
 use Rattle.varisat_names.specs.declared.config.ConfigField.TheVariants.{MaxSteps}
-use Rattle.varisat.specs.States.{State}
+use Rattle.varisat.specs.States.{State, empty_state}
+use Rattle.varisat.proofs.CallStates.{same-counted}
 use Rattle.varisat.specs.Proven.{configured}
 use Rattle.varisat.proofs.NameLaws.{none-in-order}
 use Rattle.varisat.specs.Calls.{AddsClause, Assumes, Solves, Configures, calling}
@@ -22,7 +23,7 @@ use Rattle.varisat_client.specs.declared.refusal.Refusal.{Refusal}
 use Rattle.varisat_client.specs.declared.refusal.Refusal.TheVariants.{OutOfMemory, ClauseStoreFull}
 use Rattle.varisat_client.specs.Refusals.{refusal_for}
 use Rattle.varisat_client.specs.LiteralSets.{Has, IsSetOf}
-use Rattle.varisat_client.specs.Pasts.{Past, empty_past, refuse, Again, Memory, AddsNumber, AssumesNumber, Begins, LimitsSteps, IsSearchEnd, TellsFailed}
+use Rattle.varisat_client.specs.Pasts.{Past, empty_past, refuse, count, Again, Memory, AddsNumber, AssumesNumber, Begins, LimitsSteps, IsSearchEnd, TellsFailed}
 use Rattle.varisat_client.specs.Pasts as past
 use Rattle.varisat_client.specs.Clients.{Client, HoldsPast, StandsForPast, Moves, KeepsModel, KeepsCore}
 use Rattle.varisat_client.specs.Clients as client
@@ -55,6 +56,7 @@ is-new g r s c a m k = stands-free g empty_past r refl (record {
     steps = refl;
     limit = refl;
   };
+  counted = record { within = λ i m. m; once = tt };
   clause = c;
   assumptions = a;
   model = m;
@@ -156,6 +158,7 @@ put-literal n g h z e put q p st =
         state = k.state;
         stands = subst (λ (x : Client). StandsFor x.solver k.state) (sym q) k.stands;
         fits = k.fits;
+        counted = k.counted;
         clause = put ∙ ap (λ (ls : List Literal). ls ++ literal_numbered n ∷ []) k.clause;
         assumptions = ap (λ (x : Client). x.assumptions) q ∙ k.assumptions;
         model = subst (λ (x : Client). IsSetOf p.model x.model) (sym q) k.model;
@@ -176,6 +179,7 @@ put-assumption n g h z e put q p st =
         state = k.state;
         stands = subst (λ (x : Client). StandsFor x.solver k.state) (sym q) k.stands;
         fits = k.fits;
+        counted = k.counted;
         clause = ap (λ (x : Client). x.clause) q ∙ k.clause;
         assumptions = put ∙ ap (λ (ls : List Literal). ls ++ literal_numbered n ∷ []) k.assumptions;
         model = subst (λ (x : Client). IsSetOf p.model x.model) (sym q) k.model;
@@ -197,13 +201,14 @@ ends-clause n g h d z e own call none q p st =
     let r = not-refused g p st e in
     let k = st.holds r in
     let (t, adds, stands) = call k.state k.stands in
-    let to : Past = record p { clauses = p.clauses ++ p.clause ∷ []; clause = [] } in (
+    let to : Past = record (count p.clause p) { clauses = p.clauses ++ p.clause ∷ []; clause = [] } in (
       to,
       past.Ended z r refl,
       stands-free h to (ap (λ (x : Client). x.refusal) q ∙ st.refusal) r (record {
         state = t;
         stands = stands;
         fits = fitting.added k.state t p.clauses p.assumed p.steps p.limit d p.clause adds (own ∙ k.clause) k.fits;
+        counted = fitting.counts-added k.state t p.clauses p.assumed p.steps p.limit p.counted d p.clause adds (own ∙ k.clause) k.fits k.counted;
         clause = none;
         assumptions = ap (λ (x : Client). x.assumptions) q ∙ k.assumptions;
         model = subst (λ (x : Client). IsSetOf p.model x.model) (sym q) k.model;
@@ -219,13 +224,14 @@ begins-search g h d e own call none q p st =
     let r = not-refused g p st e in
     let k = st.holds r in
     let (t, assumes, stands) = call k.state k.stands in
-    let to : Past = record p { assumed = p.assumptions; assumptions = [] } in (
+    let to : Past = record (count p.assumptions p) { assumed = p.assumptions; assumptions = [] } in (
       to,
       past.Begun r refl,
       stands-free h to (ap (λ (x : Client). x.refusal) q ∙ st.refusal) r (record {
         state = t;
         stands = stands;
         fits = fitting.begun k.state t p.clauses p.assumed p.steps p.limit d p.assumptions assumes (own ∙ k.assumptions) k.fits;
+        counted = fitting.counts-begun k.state t p.clauses p.assumed p.steps p.limit p.counted d p.assumptions assumes (own ∙ k.assumptions) k.fits k.counted;
         clause = ap (λ (x : Client). x.clause) q ∙ k.clause;
         assumptions = none;
         model = subst (λ (x : Client). IsSetOf p.model x.model) (sym q) k.model;
@@ -248,6 +254,7 @@ limits-steps steps u g h e given call q p st =
         state = t;
         stands = stands;
         fits = fitting.limited k.state t p.clauses p.assumed p.steps p.limit steps u configures (ap (λ (v : SolverConfigUpdate). v.max_steps) given) k.fits;
+        counted = fitting.counts-limited k.state t p.counted u configures k.counted;
         clause = ap (λ (x : Client). x.clause) q ∙ k.clause;
         assumptions = ap (λ (x : Client). x.assumptions) q ∙ k.assumptions;
         model = subst (λ (x : Client). IsSetOf p.model x.model) (sym q) k.model;
@@ -264,7 +271,7 @@ limit-refused steps u g h after e free given call p st =
     let (t, configures, stands) = call k.state k.stands in
     absurd (never-refused e k.state t u configures k.fits.valid (ap first_bad given))
 
--- 5. IsSearchEnd.
+-- 5. Searches.
 
 -- a search that found a model
 pub finds-model : (r : SearchEnd) (g m h : Client) → is_some g.refusal ≡ false → m ≡ record g { solver = m.solver } →
@@ -277,11 +284,13 @@ finds-model r g m h e q call (client.Kept list found tells set o) = λ p st.
     let fits = fitting.decided k.state t true p.clauses p.assumed p.steps p.limit solves k.fits in
     let to : Past = record p { model = list; steps = t.ledger.steps } in (
       to,
-      past.Satisfiable found free (fitting.is-model t p.clauses p.assumed t.ledger.steps p.limit list fits (tells t stands)) refl,
+      past.Satisfiable found free (fitting.is-model t p.clauses p.assumed t.ledger.steps p.limit list fits (tells t stands))
+          (fitting.decided-few k.state t true p.counted p.steps solves k.counted k.fits.steps) refl,
       stands-free h to (ap (λ (x : Client). x.refusal) o ∙ ap (λ (x : Client). x.refusal) q ∙ st.refusal) free (record {
         state = t;
         stands = subst (λ (x : Client). StandsFor x.solver t) (sym o) stands;
         fits = fits;
+        counted = fitting.counts-same k.state t p.counted (same-counted solves.rest) k.counted;
         clause = ap (λ (x : Client). x.clause) o ∙ ap (λ (x : Client). x.clause) q ∙ k.clause;
         assumptions = ap (λ (x : Client). x.assumptions) o ∙ ap (λ (x : Client). x.assumptions) q ∙ k.assumptions;
         model = set;
@@ -301,11 +310,13 @@ finds-core r g m h e q call (client.Kept core found tells set o) = λ p st.
     let (named, fails) = tells t stands in
     let to : Past = record p { core = core; steps = t.ledger.steps } in (
       to,
-      past.Unsatisfiable found free (fitting.is-core t p.clauses p.assumed t.ledger.steps p.limit core fits named fails) refl,
+      past.Unsatisfiable found free (fitting.is-core t p.clauses p.assumed t.ledger.steps p.limit core fits named fails)
+          (fitting.decided-few k.state t false p.counted p.steps solves k.counted k.fits.steps) refl,
       stands-free h to (ap (λ (x : Client). x.refusal) o ∙ ap (λ (x : Client). x.refusal) q ∙ st.refusal) free (record {
         state = t;
         stands = subst (λ (x : Client). StandsFor x.solver t) (sym o) stands;
         fits = fits;
+        counted = fitting.counts-same k.state t p.counted (same-counted solves.rest) k.counted;
         clause = ap (λ (x : Client). x.clause) o ∙ ap (λ (x : Client). x.clause) q ∙ k.clause;
         assumptions = ap (λ (x : Client). x.assumptions) o ∙ ap (λ (x : Client). x.assumptions) q ∙ k.assumptions;
         model = subst (λ (x : Client). IsSetOf p.model x.model) (sym (o ∙ ap (λ (x : Client). record x { core = h.core }) q)) k.model;
@@ -323,11 +334,13 @@ spends-steps g h e q call p st =
     let (t, solves, stands) = call k.state k.stands in
     let to : Past = record p { steps = t.ledger.steps } in (
       to,
-      past.Interrupted refl free (fitting.all-spent k.state t p.clauses p.assumed p.steps p.limit solves k.fits) refl,
+      past.Interrupted refl free (fitting.all-spent k.state t p.clauses p.assumed p.steps p.limit solves k.fits)
+          (fitting.spent-few k.state t p.counted p.steps solves k.counted k.fits.steps) refl,
       stands-free h to (ap (λ (x : Client). x.refusal) q ∙ st.refusal) free (record {
         state = t;
         stands = stands;
         fits = fitting.interrupted k.state t p.clauses p.assumed p.steps p.limit solves k.fits;
+        counted = fitting.counts-same k.state t p.counted (same-counted solves.rest) k.counted;
         clause = ap (λ (x : Client). x.clause) q ∙ k.clause;
         assumptions = ap (λ (x : Client). x.assumptions) q ∙ k.assumptions;
         model = subst (λ (x : Client). IsSetOf p.model x.model) (sym q) k.model;

@@ -1,6 +1,6 @@
 -- What a client holds, and what of the calls and answers so far it stands for.
 use Rattle.std.specs.Prelude.{◌≡◌, ℕ, ◌<◌, ◌≤◌, Bool, true, Option, Some, None, List, map}
-use Rattle.varisat_theory.specs.Membership.{◌∈◌, ◌⊆◌}
+use Rattle.varisat_theory.specs.Membership.{◌∈◌, ◌⊆◌, IsDistinct}
 use Rattle.varisat_theory.specs.Literals.{Literal, Clause, variable_of, IsSatisfiable, IsFailedCore}
 use Rattle.varisat_literals.specs.Numbers.{variable_limit}
 use Rattle.varisat.specs.States.{State, Unsat}
@@ -41,11 +41,17 @@ pub record WasGiven (s : State) (P : List Clause) (A : List Literal) (made most 
   pub steps : s.ledger.steps ≡ made
   pub limit : s.ledger.settings.max_steps ≡ most
 
+-- The state counts these variables alone, or some of them, each once.
+pub record CountsAmong (s : State) (known : List ℕ) : Type 0 where
+  pub within : s.counted ⊆ known
+  pub once : IsDistinct s.counted
+
 -- What is held stands for the past, where no call was refused.
 pub record HoldsPast (g : Client) (p : Past) : Type 0 where
   pub state : State
   pub stands : StandsFor g.solver state
   pub fits : WasGiven state p.clauses p.assumed p.steps p.limit
+  pub counted : CountsAmong state p.counted
   pub clause : g.clause ≡ p.clause
   pub assumptions : g.assumptions ≡ p.assumptions
   pub model : IsSetOf p.model g.model

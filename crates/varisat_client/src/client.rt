@@ -170,7 +170,7 @@ impl<A: Allocator + Copy> Client<A> {
         }
     }
 
-    /// IsSearchEnd until it is known whether some assignment satisfies the clauses and makes the assumptions true, or the
+    /// Searches until it is known whether some assignment satisfies the clauses and makes the assumptions true, or the
     /// steps of one call are spent.
     pub fn search(&mut self) -> SearchEnd
         ensures { Moves (IsSearchEnd result) self.old self.new }

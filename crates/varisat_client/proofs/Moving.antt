@@ -9,7 +9,7 @@ use Rattle.varisat_names.specs.Settings.{update_of, first_bad}
 use Rattle.varisat_names.proofs.Maps.{is_none-none}
 use Rattle.varisat_names.specs.declared.config.SolverConfigUpdate.{SolverConfigUpdate}
 use Rattle.varisat_names.specs.declared.config.ConfigField.TheVariants.{MaxSteps}
-use Rattle.varisat.specs.States.{State, empty_state}
+use Rattle.varisat.specs.States.{State}
 use Rattle.varisat.proofs.CallStates.{same-counted}
 use Rattle.varisat.specs.Proven.{configured}
 use Rattle.varisat.proofs.NameLaws.{none-in-order}

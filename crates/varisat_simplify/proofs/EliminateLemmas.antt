@@ -1,12 +1,15 @@
 -- Why a variable may be resolved away.
-use Rattle.std.proofs.Common.{◌≡◌, ℕ, zero, suc, ◌+◌, ◌/◌, ◌<◌, ◌≤◌, Bool, true, false, List, [], ◌∷◌, ◌⊎◌, inl, inr, ⊎_elim, sym, ap, ◌∙◌, subst, refl, length, get_or, set, take, arith}
+use Rattle.std.proofs.Common.{◌≡◌, ℕ, zero, suc, ◌+◌, ◌/◌, ◌<◌, ◌≤◌, Bool, true, false, List, [], ◌∷◌, ◌++◌, ◌⊎◌, inl, inr, ⊎_elim, sym, ap, ◌∙◌, subst, refl, length, get_or, set, take, arith}
 use Rattle.varisat_theory.specs.Membership.{◌∈◌}
 use Rattle.varisat_theory.specs.Literals.{Literal, Clause, Assignment, opposite, value, Satisfies, SatisfiesAll}
 use Rattle.varisat_theory.proofs.Members.{equal_or_not, ∈-or_not}
 use Rattle.varisat_theory.proofs.Places.{∈-get_or, ∈-take_more, ∈-take_all, place_in}
 use Rattle.varisat_theory.proofs.Values.{opposite_twice, true_or_opposite}
-use Rattle.varisat_simplify.specs.Stacks.{assignment_of, with_true, amended, extended}
-use Rattle.varisat_simplify.specs.States.{State, pushed, removed, saved, clause_at, IsLive, Models, IsDerived, Reduces, Becomes, ModelsRest, SatisfiesBut, Collects, IsResolved, Adds, Saves, Drops}
+use Rattle.varisat_simplify.specs.Stacks.{assignment_of, with_true, amended, extended, avoids}
+use Rattle.varisat_simplify.specs.Leading.{LeadsTo, IsNamedBy, AreNamedBy}
+use Rattle.varisat_simplify.proofs.LeadingLemmas.{leads_removed, told_removed, named_at}
+use Rattle.varisat_simplify.proofs.ExtendLemmas.{thawed_more}
+use Rattle.varisat_simplify.specs.States.{State, pushed, removed, saved, clause_at, IsLive, IsThawed, live_clauses, Models, Reduces, Becomes, ModelsRest, SatisfiesBut, Collects, IsResolved, Adds, Saves, Drops}
 use Rattle.varisat_simplify.proofs.StateLemmas.{becomes_self, becomes_then, pushed_live, pushed_keeps, pushed_new, removed_live, removed_keeps, removed_even, pushed_even, satisfies_same, push_resolvent}
 use Rattle.varisat_simplify.proofs.ExtendLemmas.{extended_more, made_true, stays_true, amended_cases, amended_length}
 
@@ -98,7 +101,8 @@ pub adds_push : (s t : State) (l : Literal) (w g : List ℕ) (x y : ℕ) (e : Cl
     ((m : Literal) → m ∈ clause_at t (get_or g y 0) → (m ≡ opposite l) ⊎ (m ∈ e)) →
     Adds s t l w g x y → Adds s (pushed t e) l w g x (y + 1)
 adds_push s t l w g x y e hx hy from left right r = record {
-  becomes = becomes_then s t (pushed t e) r.becomes (push_resolvent t i j l e li lj (r.ones.with i iw) left right);
+  becomes = becomes_then s t (pushed t e) r.becomes
+      (push_resolvent t i j l e li lj (r.ones.with i iw) left right (λ m h. ⊎_elim (λ p. inl p.0) (λ p. inr p.0) (from m h)));
   ones = collects_pushed t e l w no_l r.ones;
   others = collects_pushed t e (opposite l) g no_o r.others;
   done = λ p q h k. resolved_pushed t e l p q even (r.ones.live p (taken p w x h)) (r.others.live q k) (r.done p q h k);
@@ -174,13 +178,16 @@ saves_first s t l w g x h r = record {
 -- A clause with the literal is saved and removed.
 pub save_reduces : (P : List Clause) (s : State) (l : Literal) (e : Clause) (i : ℕ) (g : List ℕ) → l / 2 < s.var_count → l ∈ clause_at s i →
     ((m : Literal) → m ∈ e → m ∈ clause_at s i) → ((m : Literal) → m ∈ clause_at s i → (m ≡ l) ⊎ (m ∈ e)) → Collects s (opposite l) g →
-    ((j : ℕ) → j ∈ g → IsResolved s l i j) → Reduces P s → Reduces P (removed (saved s (l ∷ e)) i)
-save_reduces P s l e i g small hl part whole others pairs r = record {
+    ((j : ℕ) → j ∈ g → IsResolved s l i j) → IsThawed s l → Reduces P s → Reduces P (removed (saved s (l ∷ e)) i)
+save_reduces P s l e i g small hl part whole others pairs thaw r = record {
   even = removed_even s i r.even;
   keeps = λ a h k live. r.keeps a h k (removed_live s i k live).0;
   extends = λ vs n m. subst (λ (v : List Bool). SatisfiesAll (assignment_of v) P) (sym (extended_more s.stack (l ∷ e) vs))
       (r.extends (amended (l ∷ e) vs) (let q = amended_length (l ∷ e) vs in omega (arith, q, n)) (holds vs n m));
-  derives = r.derives;
+  leads = leads_removed P s.lines s.live s.clauses i r.even r.leads;
+  named = r.named;
+  told = told_removed P s.lines (get_or s.live i false) (clause_at s i) (named_at P s.clauses i r.named) r.told;
+  thawed = thawed_more s.frozen s.stack l e thaw r.thawed;
 }
   where
     holds : (vs : List Bool) → s.var_count ≤ length vs → Models (assignment_of vs) (removed (saved s (l ∷ e)) i) → Models (assignment_of (amended (l ∷ e) vs)) s
@@ -227,13 +234,14 @@ collects_removed s e l g i n c = record {
   without = c.without;
 }
 
-pub saves_next : (s t : State) (l : Literal) (w g : List ℕ) (x : ℕ) (e : Clause) → x < length w → l / 2 < t.var_count →
+pub saves_next : (s t : State) (l : Literal) (w g : List ℕ) (x : ℕ) (e : Clause) → x < length w → l / 2 < t.var_count → IsThawed t l →
     ((m : Literal) → m ∈ e → m ∈ clause_at t (get_or w x 0)) → ((m : Literal) → m ∈ clause_at t (get_or w x 0) → (m ≡ l) ⊎ (m ∈ e)) →
     Saves s t l w g x → Saves s (removed (saved t (l ∷ e)) (get_or w x 0)) l w g (x + 1)
-saves_next s t l w g x e h small part whole r = record {
+saves_next s t l w g x e h small thaw part whole r = record {
   becomes = becomes_then s t (removed (saved t (l ∷ e)) i) r.becomes (record {
     count = refl;
-    reduces = λ P q. save_reduces P t l e i g small (r.each i iw) part whole r.others (λ j k. r.pairs i j iw k) q;
+    frozen = refl;
+    reduces = λ P q. save_reduces P t l e i g small (r.each i iw) part whole r.others (λ j k. r.pairs i j iw k) thaw q;
   });
   others = collects_removed t (l ∷ e) (opposite l) g i (λ k. r.apart i iw (r.others.with i k)) r.others;
   ones = λ k live c.
@@ -258,16 +266,31 @@ pub saves_end : (s t : State) (l : Literal) (w g : List ℕ) (x : ℕ) → lengt
 saves_end s t l w g x h r k live c = let p = r.ones k live c in let a = p.1 in let b = p.2 in omega (arith, a, b, h)
 
 pub drops_first : (s : State) (m : Literal) → Drops s (saved s (m ∷ [])) m
-drops_first s m = record { count = refl; same = refl; stack = refl; even = refl; fewer = λ k h. h; kept = λ k h n. h }
+drops_first s m = record {
+  count = refl;
+  frozen = refl;
+  same = refl;
+  stack = refl;
+  even = refl;
+  fewer = λ k h. h;
+  kept = λ k h n. h;
+  tells = λ P q. (q.leads, q.told);
+}
 
 pub drops_next : (s t : State) (m : Literal) (i : ℕ) → m ∈ clause_at s i → Drops s t m → Drops s (removed t i) m
 drops_next s t m i h r = record {
   count = r.count;
+  frozen = r.frozen;
   same = r.same;
   stack = r.stack;
   even = length-set t.live i false ∙ r.even;
   fewer = λ k live. r.fewer k (removed_live t i k live).0;
   kept = λ k live n. removed_keeps t i k (r.kept k live n) (λ q. n (subst (λ x. m ∈ clause_at s x) (sym q) h));
+  tells = λ P q. (
+    leads_removed P t.lines t.live t.clauses i (r.even ∙ q.even ∙ ap length (sym r.same)) (r.tells P q).0,
+    told_removed P t.lines (get_or t.live i false) (clause_at t i)
+        (λ l a. named_at P s.clauses i q.named l (subst (λ (cs : List Clause). l ∈ get_or cs i []) r.same a)) (r.tells P q).1,
+  );
 }
   where
     length-set : {X : Type 0} (xs : List X) (i : ℕ) (x : X) → length (set xs i x) ≡ length xs
@@ -275,8 +298,8 @@ drops_next s t m i h r = record {
     length-set (y ∷ xs) zero x = refl
     length-set (y ∷ xs) (suc i) x = ap suc (length-set xs i x)
 
-pub drops_end : (s t : State) (m : Literal) → m / 2 < s.var_count → ((k : ℕ) → IsLive s k → opposite m ∈ clause_at s k → ⊥) → Drops s t m → Becomes s t
-drops_end s t m small pure r = record { count = r.count; reduces = λ P q. reduces P q }
+pub drops_end : (s t : State) (m : Literal) → m / 2 < s.var_count → IsThawed s m → ((k : ℕ) → IsLive s k → opposite m ∈ clause_at s k → ⊥) → Drops s t m → Becomes s t
+drops_end s t m small thaw pure r = record { count = r.count; frozen = r.frozen; reduces = λ P q. reduces P q }
   where
     at : (k : ℕ) → clause_at t k ≡ clause_at s k
     at k = ap (λ (cs : List Clause). get_or cs k []) r.same
@@ -288,7 +311,12 @@ drops_end s t m small pure r = record { count = r.count; reduces = λ P q. reduc
       extends = λ vs n h. subst (λ (v : List Bool). SatisfiesAll (assignment_of v) P)
           (sym (ap (λ (st : List Clause). extended st vs) r.stack ∙ extended_more s.stack (m ∷ []) vs))
           (q.extends (amended (m ∷ []) vs) (let e = amended_length (m ∷ []) vs in let c = r.count in omega (arith, e, n, c)) (holds vs n h));
-      derives = subst (λ (cs : List Clause). IsDerived P cs) (sym r.same) q.derives;
+      leads = (r.tells P q).0;
+      named = subst (λ (cs : List Clause). AreNamedBy P cs) (sym r.same) q.named;
+      told = (r.tells P q).1;
+      thawed = subst (λ (st : List Clause). (c : Clause) → c ∈ st → avoids t.frozen c ≡ true) (sym r.stack)
+          (subst (λ (f : List Bool). (c : Clause) → c ∈ (s.stack ++ (m ∷ []) ∷ []) → avoids f c ≡ true) (sym r.frozen)
+          (thawed_more s.frozen s.stack m [] thaw q.thawed));
     }
       where
         holds : (vs : List Bool) → t.var_count ≤ length vs → Models (assignment_of vs) t → Models (assignment_of (amended (m ∷ []) vs)) s

@@ -5,7 +5,7 @@ use Rattle.varisat_theory.specs.Membership.{◌∈◌}
 use Rattle.varisat_theory.specs.Literals.{Literal, Clause, opposite}
 use Rattle.varisat_theory.proofs.Places.{∈-get_or}
 use Rattle.varisat_theory.proofs.Values.{opposite_twice}
-use Rattle.varisat_simplify.specs.States.{State, pushed, removed, saved, clause_at, IsLive, Adds, Saves, Drops}
+use Rattle.varisat_simplify.specs.States.{State, pushed, removed, saved, clause_at, IsLive, IsThawed, Adds, Saves, Drops}
 use Rattle.varisat_simplify.specs.Resolving.{Resolves, Clashes}
 use Rattle.varisat_simplify.proofs.EliminateLemmas.{adds_skip, adds_push, saves_first, saves_next, drops_first, drops_next}
 
@@ -38,10 +38,11 @@ adds_by_skip s t u l w g x y p q c d ep eq ec ed k eu a =
     (subst (λ (z : Clause). k.0 ∈ z) (ec ∙ ap (clause_at t) ep) k.1) k.2 (subst (λ (z : Clause). opposite k.0 ∈ z) (ed ∙ ap (clause_at t) eq) k.3) a)
 
 pub saves_by : (s t u : State) (l : Literal) (w g : List ℕ) (x p : ℕ) → p ≡ get_or w x 0 → u ≡ removed (saved t (l ∷ clause_at t p)) p → x < length w →
-    l / 2 < s.var_count → Saves s t l w g x → Saves s u l w g (x + 1)
-saves_by s t u l w g x p ep eu hx small a =
+    l / 2 < s.var_count → IsThawed s l → Saves s t l w g x → Saves s u l w g (x + 1)
+saves_by s t u l w g x p ep eu hx small thaw a =
     subst (λ (v : State). Saves s v l w g (x + 1)) (sym (eu ∙ ap (λ i. removed (saved t (l ∷ clause_at t i)) i) ep))
-    (saves_next s t l w g x (clause_at t (get_or w x 0)) hx (let n = a.becomes.count in omega (arith, small, n)) (λ m h. h) (λ m h. inr h) a)
+    (saves_next s t l w g x (clause_at t (get_or w x 0)) hx (let n = a.becomes.count in omega (arith, small, n))
+    (ap (λ (f : List Bool). get_or f (l / 2) false) a.becomes.frozen ∙ thaw) (λ m h. h) (λ m h. inr h) a)
 
 pub drops_begun : (s t : State) (m : Literal) (c : Clause) → c ≡ m ∷ [] → t ≡ saved s c → Drops s t m
 drops_begun s t m c e q = subst (λ (u : State). Drops s u m) (sym (q ∙ ap (λ (x : Clause). saved s x) e)) (drops_first s m)
@@ -73,3 +74,9 @@ opposite_var l = omega arith
 
 pub small_opposite : (l m v n i : ℕ) → m ≡ opposite l → i ≡ l / 2 → i < v → v ≡ n → m / 2 < n
 small_opposite l m v n i e q h f = let a : m / 2 ≡ l / 2 = ap (λ x. x / 2) e ∙ opposite_var l in omega (arith, a, q, h, f)
+
+-- the other literal of a variable that may be resolved away
+pub thawed_opposite : (l m : Literal) (f g : List Bool) (b : Bool) → m ≡ opposite l → f ≡ g → b ≡ get_or g (l / 2) false → b ≡ false →
+    get_or f (m / 2) false ≡ false
+thawed_opposite l m f g b e q h n =
+    ap (λ k. get_or f k false) (ap (λ x. x / 2) e ∙ opposite_var l) ∙ ap (λ (x : List Bool). get_or x (l / 2) false) q ∙ sym h ∙ n

@@ -3,7 +3,7 @@ use Rattle.std.proofs.Common.{◌≡◌, ℕ, zero, suc, ◌+◌, ◌/◌, ◌%�
 use Rattle.std.specs.List.{list_any}
 use Rattle.varisat_theory.specs.Membership.{◌∈◌}
 use Rattle.varisat_theory.specs.Literals.{Literal, Clause, Assignment, opposite, value, Satisfies}
-use Rattle.varisat_theory.proofs.Members.{equal_or_not}
+use Rattle.varisat_theory.proofs.Members.{equal_or_not, ∈-append_cases}
 use Rattle.varisat_theory.proofs.Values.{parity}
 use Rattle.varisat_simplify.specs.Stacks.{assignment_of, is_satisfied, with_true, amended, extended, avoids, KeepsFrozen}
 
@@ -113,21 +113,15 @@ amended_frozen frozen (l ∷ c) vs v a f = ⊎_elim
     apart false a f = let x = f in cc
 
 -- values of frozen variables stay where each clause avoids them
-pub keeps_frozen : (frozen : List Bool) (stack : List Clause) → ((k : ℕ) → k < length stack → avoids frozen (get_or stack k []) ≡ true) → KeepsFrozen frozen stack
+pub keeps_frozen : (frozen : List Bool) (stack : List Clause) → ((c : Clause) → c ∈ stack → avoids frozen c ≡ true) → KeepsFrozen frozen stack
 keeps_frozen frozen [] h = λ vs v f. refl
 keeps_frozen frozen (c ∷ stack) h =
-    let rest = keeps_frozen frozen stack (λ k b. h (suc k) (omega (arith, b))) in
-    λ vs v f. amended_frozen frozen c (extended stack vs) v (h 0 (omega arith)) f ∙ rest vs v f
+    let rest = keeps_frozen frozen stack (λ d b. h d (inr b)) in
+    λ vs v f. amended_frozen frozen c (extended stack vs) v (h c (inl refl)) f ∙ rest vs v f
 
-pub avoided_more : (frozen : List Bool) (stack : List Clause) (i : ℕ) (b : Bool) (c : Clause) → b ≡ avoids frozen c → b ≡ true → c ≡ get_or stack i [] →
-    ((k : ℕ) → k < i → avoids frozen (get_or stack k []) ≡ true) → (k : ℕ) → k < i + 1 → avoids frozen (get_or stack k []) ≡ true
-avoided_more frozen stack i b c e t q h k l = ⊎_elim
-    (λ p. ap (λ (x : Clause). avoids frozen x) (ap (λ j. get_or stack j []) p ∙ sym q) ∙ sym e ∙ t)
-    (λ d. h k (below k l d))
-    (equal_or_not k i)
-  where
-    below : (k : ℕ) → k < i + 1 → (k ≡ i → ⊥) → k < i
-    below k l d = ⊎_elim (λ p. p) (λ p. absurd (d p)) (cases k l)
-      where
-        cases : (k : ℕ) → k < i + 1 → (k < i) ⊎ (k ≡ i)
-        cases k l = grind (arith, l)
+pub thawed_more : (frozen : List Bool) (stack : List Clause) (l : Literal) (e : Clause) → get_or frozen (l / 2) false ≡ false →
+    ((c : Clause) → c ∈ stack → avoids frozen c ≡ true) → (c : Clause) → c ∈ (stack ++ (l ∷ e) ∷ []) → avoids frozen c ≡ true
+thawed_more frozen stack l e t h c m = ⊎_elim
+    (h c)
+    (λ k. ⊎_elim (λ q. ap (avoids frozen) q ∙ ap not t) (λ z. absurd z) k)
+    (∈-append_cases c stack ((l ∷ e) ∷ []) m)

@@ -1,18 +1,19 @@
 -- What the steps of a simplification make of a state.
-use Rattle.std.proofs.Common.{◌≡◌, ℕ, ◌+◌, ◌<◌, ◌≤◌, List, [], ◌∷◌, ◌++◌, ◌⊎◌, inl, inr, ⊎_elim, sym, ap, ◌∙◌, subst, refl, length, get_or, take, append_assoc, append-nil, arith}
-use Rattle.std.proofs.lemmas.List.{length-append}
+use Rattle.std.proofs.Common.{◌≡◌, ℕ, ◌+◌, ◌<◌, ◌≤◌, Bool, true, false, set, List, [], ◌∷◌, ◌++◌, ◌⊎◌, inl, inr, ⊎_elim, sym, ap, ◌∙◌, subst, refl, length, get_or, take, append_assoc, append-nil, arith}
 use Rattle.varisat_theory.specs.Held.{SameClauses}
-use Rattle.varisat_theory.proofs.Held.{same_set-self, same_set-back, same_clauses-through, same_add}
-use Rattle.varisat_simplify.proofs.ProofLemmas.{middle_last}
+use Rattle.varisat_theory.proofs.Held.{same_set-self, same_clauses-self}
+use Rattle.varisat_theory.specs.Derivations.{Line, Add, Delete, SpeakOf}
+use Rattle.varisat_simplify.specs.Leading.{LeadsTo, IsNamedBy, AreNamedBy}
+use Rattle.varisat_simplify.proofs.LeadingLemmas.{leads_self, leads_delete, leads_as, told_removed, named_more}
 use Rattle.varisat_theory.specs.Membership.{◌∈◌, ◌⊆◌, SameSet}
-use Rattle.varisat_theory.specs.Literals.{Literal, Clause, Assignment, opposite, SatisfiesAll}
+use Rattle.varisat_theory.specs.Literals.{Literal, Clause, Assignment, opposite, Satisfies, SatisfiesAll}
 use Rattle.varisat_theory.proofs.Members.{equal_or_not, ∈-append_left, ∈-append_right, ∈-append_cases}
-use Rattle.varisat_theory.proofs.Places.{∈-get_or, ∈-take_more, ∈-take_all, place_in}
+use Rattle.varisat_theory.proofs.Places.{∈-take_more, ∈-take_all}
 use Rattle.varisat_theory.proofs.Values.{true_or_opposite}
 use Rattle.varisat_simplify.specs.Stacks.{assignment_of, extended}
-use Rattle.varisat_simplify.specs.States.{State, no_clauses, pushed, removed, clause_at, IsLive, IsLoaded, Becomes, Collects}
+use Rattle.varisat_simplify.specs.States.{State, no_clauses, given, pushed, removed, clause_at, IsLive, live_clauses, flagged, deletion, Models, Reduces, Becomes, Collects}
 use Rattle.varisat_simplify.specs.Resolving.{LeavesOut, IsTautology}
-use Rattle.varisat_simplify.proofs.StateLemmas.{becomes_self, live_below, pushed_keeps, pushed_even, pushed_new, remove_reduces, satisfies_more, satisfies_same, strengthened}
+use Rattle.varisat_simplify.proofs.StateLemmas.{becomes_self, live_below, live_pushed, pushed_keeps, pushed_live, pushed_even, pushed_new, removed_even, removed_keeps, removed_live, remove_reduces, satisfies_more, satisfies_same, strengthened}
 
 pub becomes_same : (s t : State) → t ≡ s → Becomes s t
 becomes_same s t e = subst (λ (u : State). Becomes s u) (sym e) (becomes_self s)
@@ -21,7 +22,7 @@ pub becomes_next : (s t u : State) → Becomes s t → u ≡ t → Becomes s u
 becomes_next s t u b e = subst (λ (v : State). Becomes s v) (sym e) b
 
 pub subsumed_becomes : (s t : State) (j i : ℕ) → t ≡ removed s i → IsLive s j → (j ≡ i → ⊥) → clause_at s j ⊆ clause_at s i → Becomes s t
-subsumed_becomes s t j i e live n part = becomes_next s (removed s i) t (record { count = refl; reduces = λ P r. remove_reduces P s i j live n part r }) e
+subsumed_becomes s t j i e live n part = becomes_next s (removed s i) t (record { count = refl; frozen = refl; reduces = λ P r. remove_reduces P s i j live n part r }) e
 
 pub strengthened_becomes : (s t u : State) (j i : ℕ) (l n : Literal) (c d e : Clause) → c ≡ clause_at s i → n ≡ opposite l → d ≡ e → t ≡ pushed s d → u ≡ removed t i →
     IsLive s j → IsLive s i → l ∈ clause_at s j → ((m : Literal) → m ∈ clause_at s j → (m ≡ l) ⊎ ((m ∈ clause_at s i) × (m ≡ opposite l → ⊥))) →
@@ -94,30 +95,32 @@ collecting_end s l items out i h even all r = record {
 }
 
 -- The clauses are loaded, but for the rest.
-pub record Loads (P rest : List Clause) (n : ℕ) (s : State) : Type 0 where
+pub record Loads (P rest : List Clause) (n : ℕ) (frozen : List Bool) (s : State) : Type 0 where
   pub front : List Clause
   pub whole : front ++ rest ≡ P
   pub even : length s.live ≡ length s.clauses
-  pub live : (k : ℕ) → k < length s.clauses → IsLive s k
-  pub keeps : (a : Assignment) → SatisfiesAll a P → SatisfiesAll a s.clauses
-  pub backs : (a : Assignment) → SatisfiesAll a s.clauses → SatisfiesAll a front
-  pub dead : List Clause
-  pub parts : SameClauses (s.clauses ++ dead) front
+  pub keeps : (a : Assignment) → SatisfiesAll a P → Models a s
+  pub backs : (a : Assignment) → Models a s → SatisfiesAll a front
+  pub leads : LeadsTo P s.lines (live_clauses s ++ rest)
+  pub named : AreNamedBy P s.clauses
+  pub told : SpeakOf (IsNamedBy P) s.lines
   pub empty : s.stack ≡ []
   pub count : s.var_count ≡ n
+  pub flags : s.frozen ≡ frozen
 
-pub loads_first : (P rest : List Clause) (n : ℕ) (s : State) → s ≡ no_clauses n → rest ≡ P → Loads P rest n s
-loads_first P rest n s e q = subst (λ (t : State). Loads P rest n t) (sym e) (record {
+pub loads_first : (P rest : List Clause) (n : ℕ) (frozen : List Bool) (s : State) → s ≡ no_clauses n frozen → rest ≡ P → Loads P rest n frozen s
+loads_first P rest n frozen s e q = subst (λ (t : State). Loads P rest n frozen t) (sym e) (record {
   front = [];
   whole = q;
   even = refl;
-  live = λ k h. absurd (omega (arith, h));
-  keeps = λ a h c m. absurd m;
+  keeps = λ a h k live. absurd (let x = live in cc);
   backs = λ a m c h. absurd h;
-  dead = [];
-  parts = refl;
+  leads = subst (λ (l : List Clause). LeadsTo P [] l) (sym q) (leads_self P);
+  named = λ c l h m. absurd h;
+  told = tt;
   empty = refl;
   count = refl;
+  flags = refl;
 })
 
 -- the rest begins with a clause
@@ -128,72 +131,111 @@ in_whole : (P front rest tail : List Clause) (c : Clause) → front ++ rest ≡ 
 in_whole P front rest tail c w e =
     subst (λ (x : List Clause). c ∈ x) w (∈-append_right c front rest (subst (λ (x : List Clause). c ∈ x) (sym e) (inl refl)))
 
-pub loads_skip : (P rest tail : List Clause) (n : ℕ) (s t : State) (c : Clause) → rest ≡ c ∷ tail → IsTautology c → t ≡ s → Loads P rest n s → Loads P tail n t
-loads_skip P rest tail n s t c e x q r = subst (λ (u : State). Loads P tail n u) (sym q) (record {
-  front = r.front ++ c ∷ [];
-  whole = moved P r.front rest tail c r.whole e;
-  even = r.even;
-  live = r.live;
-  keeps = r.keeps;
-  backs = λ a m d h. ⊎_elim
-      (r.backs a m d)
-      (λ p. ⊎_elim (λ y. satisfies_same a d c y (⊎_elim (λ v. (x.0, x.1, v)) (λ v. (opposite x.0, x.2, v)) (true_or_opposite a x.0))) (λ z. absurd z) p)
-      (∈-append_cases d r.front (c ∷ []) h);
-  dead = r.dead ++ c ∷ [];
-  parts = subst (λ (l : List Clause). SameClauses l (r.front ++ c ∷ [])) (append_assoc s.clauses r.dead (c ∷ []))
-      (same_add (s.clauses ++ r.dead) r.front c c r.parts (same_set-self c));
-  empty = r.empty;
-  count = r.count;
-})
+satisfied_tautology : (a : Assignment) (c : Clause) → IsTautology c → Satisfies a c
+satisfied_tautology a c x = ⊎_elim (λ v. (x.0, x.1, v)) (λ v. (opposite x.0, x.2, v)) (true_or_opposite a x.0)
 
-pub loads_push : (P rest tail : List Clause) (n : ℕ) (s t : State) (c e d : Clause) → rest ≡ c ∷ tail → SameSet c e → d ≡ e → t ≡ pushed s d → Loads P rest n s → Loads P tail n t
-loads_push P rest tail n s t c e d q same eq qt r = subst (λ (u : State). Loads P tail n u) (sym (qt ∙ ap (λ (x : Clause). pushed s x) eq)) (record {
+-- the clause behind the live ones is the next of the rest
+same_moved : (L tail : List Clause) (c e : Clause) → SameSet c e → SameClauses ((L ++ e ∷ []) ++ tail) (L ++ c ∷ tail)
+same_moved [] tail c e s = (tail, ([], c, tail, refl, s, refl), same_clauses-self tail)
+same_moved (d ∷ L) tail c e s = (L ++ c ∷ tail, ([], d, L ++ c ∷ tail, refl, same_set-self d, refl), same_moved L tail c e s)
+
+-- a tautology was loaded, and is gone
+pub loads_skip : (P rest tail : List Clause) (n : ℕ) (frozen : List Bool) (s t u : State) (c d : Clause) (i : ℕ) → rest ≡ c ∷ tail → IsTautology c → d ≡ c →
+    i ≡ length s.clauses → t ≡ given s d → u ≡ removed t i → Loads P rest n frozen s → Loads P tail n frozen u
+loads_skip P rest tail n frozen s t u c d i e x k q et eu r =
+    let v : u ≡ removed (given s c) (length s.clauses) =
+    eu ∙ ap (λ j. removed t j) q ∙ ap (λ (y : State). removed y (length s.clauses)) (et ∙ ap (λ (y : Clause). given s y) k) in
+    subst (λ (y : State). Loads P tail n frozen y) (sym v) (record {
+      front = r.front ++ c ∷ [];
+      whole = moved P r.front rest tail c r.whole e;
+      even = removed_even (given s c) (length s.clauses) (pushed_even s c r.even);
+      keeps = λ a h m live. ⊎_elim
+          (λ g. satisfies_same a (clause_at (given s c) m) (clause_at s m) g.1 (r.keeps a h m g.0))
+          (λ g. satisfies_same a (clause_at (given s c) m) c g.1 (satisfied_tautology a c x))
+          (pushed_live s c m r.even (removed_live (given s c) (length s.clauses) m live).0);
+      backs = λ a m f h. ⊎_elim
+          (r.backs a (λ j live. before a m j live) f)
+          (λ p. ⊎_elim (λ y. satisfies_same a f c y (satisfied_tautology a c x)) (λ z. absurd z) p)
+          (∈-append_cases f r.front (c ∷ []) h);
+      leads = gone;
+      named = named_more P s.clauses c own r.named;
+      told = told_removed P s.lines (get_or (given s c).live (length s.clauses) false) (clause_at (given s c) (length s.clauses))
+          (λ l h. own l (subst (λ (y : Clause). l ∈ y) (pushed_new s c r.even).1 h)) r.told;
+      empty = r.empty;
+      count = r.count;
+      flags = r.flags;
+    })
+  where
+    own : (l : Literal) → l ∈ c → IsNamedBy P l
+    own l h = (c, in_whole P r.front rest tail c r.whole e, h)
+
+    before : (a : Assignment) → Models a (removed (given s c) (length s.clauses)) → (j : ℕ) → IsLive s j → Satisfies a (clause_at s j)
+    before a m j live =
+        let g = pushed_keeps s c j r.even live in
+        let b = live_below s j live in
+        let o = r.even in
+        satisfies_same a (clause_at s j) (clause_at (given s c) j) (sym g.1)
+        (m j (removed_keeps (given s c) (length s.clauses) j g.0 (λ p. omega (arith, b, o, p))))
+
+    last : (bs : List Bool) (cs : List Clause) → length bs ≡ length cs → flagged (set (bs ++ true ∷ []) (length cs) false) (cs ++ c ∷ []) ≡ flagged bs cs
+    last [] [] h = refl
+    last [] (y ∷ cs) h = absurd (omega (arith, h))
+    last (b ∷ bs) [] h = absurd (omega (arith, h))
+    last (true ∷ bs) (y ∷ cs) h = ap (λ (l : List Clause). y ∷ l) (last bs cs (omega (arith, h)))
+    last (false ∷ bs) (y ∷ cs) h = last bs cs (omega (arith, h))
+
+    gone : LeadsTo P (removed (given s c) (length s.clauses)).lines (live_clauses (removed (given s c) (length s.clauses)) ++ tail)
+    gone = subst (λ (b : Bool). LeadsTo P (s.lines ++ deletion b (clause_at (given s c) (length s.clauses))) (live_clauses (removed (given s c) (length s.clauses)) ++ tail))
+        (sym (pushed_new s c r.even).0)
+        (subst (λ (y : Clause). LeadsTo P (s.lines ++ Delete y ∷ []) (live_clauses (removed (given s c) (length s.clauses)) ++ tail)) (sym (pushed_new s c r.even).1)
+        (subst (λ (l : List Clause). LeadsTo P (s.lines ++ Delete c ∷ []) (l ++ tail)) (sym (last s.live s.clauses r.even))
+        (leads_delete P s.lines (live_clauses s ++ rest) c (live_clauses s ++ tail)
+        (live_clauses s, c, tail, ap (λ (l : List Clause). live_clauses s ++ l) e, same_set-self c, refl) r.leads)))
+
+pub loads_give : (P rest tail : List Clause) (n : ℕ) (frozen : List Bool) (s t : State) (c e d : Clause) → rest ≡ c ∷ tail → SameSet c e → d ≡ e → t ≡ given s d →
+    Loads P rest n frozen s → Loads P tail n frozen t
+loads_give P rest tail n frozen s t c e d q same eq qt r = subst (λ (u : State). Loads P tail n frozen u) (sym (qt ∙ ap (λ (x : Clause). given s x) eq)) (record {
   front = r.front ++ c ∷ [];
   whole = moved P r.front rest tail c r.whole q;
   even = pushed_even s e r.even;
-  live = λ k h. ⊎_elim
-      (λ p. subst (λ j. IsLive (pushed s e) j) (sym p) (pushed_new s e r.even).0)
-      (λ d. (pushed_keeps s e k r.even (r.live k (below k h d))).0)
-      (equal_or_not k (length s.clauses));
-  keeps = λ a h x m. ⊎_elim
-      (r.keeps a h x)
-      (λ p. ⊎_elim (λ y. satisfies_same a x e y (satisfies_more a c e same.0 (h c (in_whole P r.front rest tail c r.whole q)))) (λ z. absurd z) p)
-      (∈-append_cases x s.clauses (e ∷ []) m);
+  keeps = λ a h k live. ⊎_elim
+      (λ g. satisfies_same a (clause_at (given s e) k) (clause_at s k) g.1 (r.keeps a h k g.0))
+      (λ g. satisfies_same a (clause_at (given s e) k) e g.1 (satisfies_more a c e same.0 (h c (in_whole P r.front rest tail c r.whole q))))
+      (pushed_live s e k r.even live);
   backs = λ a m x h. ⊎_elim
-      (r.backs a (λ y w. m y (∈-append_left y s.clauses (e ∷ []) w)) x)
-      (λ p. ⊎_elim (λ y. satisfies_same a x c y (satisfies_more a e c same.1 (m e (∈-append_right e s.clauses (e ∷ []) (inl refl))))) (λ z. absurd z) p)
+      (r.backs a (λ j live. let g = pushed_keeps s e j r.even live in satisfies_same a (clause_at s j) (clause_at (given s e) j) (sym g.1) (m j g.0)) x)
+      (λ p. ⊎_elim
+      (λ y. satisfies_same a x c y (satisfies_more a e c same.1
+      (let g = pushed_new s e r.even in satisfies_same a e (clause_at (given s e) (length s.clauses)) (sym g.1) (m (length s.clauses) g.0))))
+      (λ z. absurd z) p)
       (∈-append_cases x r.front (c ∷ []) h);
-  dead = r.dead;
-  parts = subst (λ (l : List Clause). SameClauses l (r.front ++ c ∷ [])) (sym (append_assoc s.clauses (e ∷ []) r.dead))
-      (same_clauses-through (s.clauses ++ e ∷ r.dead) ((s.clauses ++ r.dead) ++ e ∷ []) (r.front ++ c ∷ [])
-      (middle_last s.clauses e r.dead) (same_add (s.clauses ++ r.dead) r.front e c r.parts (same_set-back c e same)));
+  leads = leads_as P s.lines (live_clauses s ++ rest) (live_clauses (given s e) ++ tail)
+      (subst (λ (l : List Clause). SameClauses (l ++ tail) (live_clauses s ++ rest)) (sym (live_pushed s e r.even))
+      (subst (λ (l : List Clause). SameClauses ((live_clauses s ++ e ∷ []) ++ tail) (live_clauses s ++ l)) (sym q) (same_moved (live_clauses s) tail c e same))) r.leads;
+  named = named_more P s.clauses e (λ l h. (c, in_whole P r.front rest tail c r.whole q, same.1 l h)) r.named;
+  told = r.told;
   empty = r.empty;
   count = r.count;
+  flags = r.flags;
 })
-  where
-    below : (k : ℕ) → k < length (s.clauses ++ e ∷ []) → (k ≡ length s.clauses → ⊥) → k < length s.clauses
-    below k h d = ⊎_elim (λ p. p) (λ p. absurd (d p)) (cases k (let x = length-append s.clauses (e ∷ []) in omega (arith, h, x)))
-      where
-        cases : (k : ℕ) → k < length s.clauses + 1 → (k < length s.clauses) ⊎ (k ≡ length s.clauses)
-        cases k h = grind (arith, h)
 
-pub loads_end : (P rest : List Clause) (n : ℕ) (s : State) → rest ≡ [] → Loads P rest n s → IsLoaded P s × (s.var_count ≡ n)
-loads_end P rest n s e r = (
-  record {
-    reduces = record {
-      even = r.even;
-      keeps = λ a h k live. h (clause_at s k) (∈-get_or s.clauses k [] (let b = live_below s k live in let q = r.even in omega (arith, b, q)));
-      extends = λ vs h m. subst (λ (st : List Clause). SatisfiesAll (assignment_of (extended st vs)) s.clauses) (sym r.empty)
-          (λ c i. let p = place_in c s.clauses [] i in satisfies_same (assignment_of vs) c (clause_at s p.0) (sym p.2) (m p.0 (r.live p.0 p.1)));
-      derives = record { later = []; all = sym (append-nil s.clauses); steps = sym (append-nil s.clauses) };
-    };
-    keeps = r.keeps;
-    backs = λ a h. subst (λ (Q : List Clause). SatisfiesAll a Q) all (r.backs a h);
-    dead = r.dead;
-    parts = subst (λ (Q : List Clause). SameClauses (s.clauses ++ r.dead) Q) all r.parts;
-  },
-  r.count,
-)
+pub loads_end : (P rest : List Clause) (n : ℕ) (frozen : List Bool) (s : State) → rest ≡ [] → Loads P rest n frozen s → Reduces P s
+loads_end P rest n frozen s e r = record {
+  even = r.even;
+  keeps = r.keeps;
+  extends = λ vs h m. subst (λ (st : List Clause). SatisfiesAll (assignment_of (extended st vs)) P) (sym r.empty)
+      (subst (λ (Q : List Clause). SatisfiesAll (assignment_of vs) Q) all (r.backs (assignment_of vs) m));
+  leads = subst (λ (l : List Clause). LeadsTo P s.lines l) (ap (λ (l : List Clause). live_clauses s ++ l) e ∙ append-nil (live_clauses s)) r.leads;
+  named = r.named;
+  told = r.told;
+  thawed = λ c m. absurd (subst (λ (st : List Clause). c ∈ st) r.empty m);
+}
   where
     all : r.front ≡ P
     all = sym (append-nil r.front) ∙ ap (λ (x : List Clause). r.front ++ x) (sym e) ∙ r.whole
+
+pub loads_count : (P rest : List Clause) (n : ℕ) (frozen : List Bool) (s : State) → Loads P rest n frozen s → s.var_count ≡ n
+loads_count P rest n frozen s r = r.count
+
+pub loads_flags : (P rest : List Clause) (n : ℕ) (frozen : List Bool) (s : State) → Loads P rest n frozen s → s.frozen ≡ frozen
+loads_flags P rest n frozen s r = r.flags

@@ -6,6 +6,7 @@ pub mod ResolveLemmas
 pub mod ListLemmas
 pub mod CompareLemmas
 pub mod FlowLemmas
-pub mod ProofLemmas
+pub mod LeadingLemmas
 pub mod UnloadLemmas
 pub mod EliminateSteps
+pub mod WrittenLemmas

@@ -4,19 +4,19 @@ use Rattle.std.proofs.lemmas.List.{get_or_append_left, map-append, length-append
 use Rattle.varisat_theory.specs.Membership.{◌∈◌, ◌⊆◌}
 use Rattle.varisat_theory.specs.Literals.{Literal, Clause, Assignment, opposite, value, Satisfies}
 use Rattle.varisat_theory.specs.Propagation.{FalseClause, Propagate, Follows}
-use Rattle.varisat_theory.specs.Derivations.{Add, Derives}
+use Rattle.varisat_theory.specs.Derivations.{Add}
 use Rattle.varisat_theory.proofs.Members.{equal_or_not}
-use Rattle.varisat_theory.proofs.Places.{∈-get_or}
 use Rattle.varisat_theory.proofs.Values.{∈-opposites, opposite_twice, not_both}
-use Rattle.varisat_theory.proofs.Lines.{derives_add}
 use Rattle.varisat_simplify.specs.Stacks.{assignment_of}
-use Rattle.varisat_simplify.specs.States.{State, pushed, removed, clause_at, IsLive, Models, Reduces, Becomes}
+use Rattle.varisat_simplify.specs.States.{State, pushed, removed, clause_at, IsLive, live_clauses, Models, Reduces, Becomes}
+use Rattle.varisat_simplify.specs.Leading.{LeadsTo, IsNamedBy}
+use Rattle.varisat_simplify.proofs.LeadingLemmas.{flagged_pushed, flagged_has, leads_add, leads_removed, told_add, told_removed, named_more, named_at}
 
 pub becomes_self : (s : State) → Becomes s s
-becomes_self s = record { count = refl; reduces = λ P r. r }
+becomes_self s = record { count = refl; frozen = refl; reduces = λ P r. r }
 
 pub becomes_then : (s t u : State) → Becomes s t → Becomes t u → Becomes s u
-becomes_then s t u b d = record { count = d.count ∙ b.count; reduces = λ P r. d.reduces P (b.reduces P r) }
+becomes_then s t u b d = record { count = d.count ∙ b.count; frozen = d.frozen ∙ b.frozen; reduces = λ P r. d.reduces P (b.reduces P r) }
 
 -- what is read from a list with one more at its end
 get_or-pushed : {X : Type 0} (xs : List X) (x d : X) (k : ℕ) → ((k < length xs) × (get_or (xs ++ x ∷ []) k d ≡ get_or xs k d))
@@ -119,10 +119,14 @@ satisfies_more a c d h s = (s.0, h s.0 s.1, s.2)
 pub satisfies_same : (a : Assignment) (c d : Clause) → c ≡ d → Satisfies a d → Satisfies a c
 satisfies_same a c d e s = subst (λ x. Satisfies a x) (sym e) s
 
--- one more clause, which follows from what was added and from what is live
+-- one more live clause
+pub live_pushed : (s : State) (c : Clause) → length s.live ≡ length s.clauses → live_clauses (pushed s c) ≡ live_clauses s ++ c ∷ []
+live_pushed s c e = flagged_pushed s.live s.clauses true c e
+
+-- one more clause, which follows from what is live
 pub push_reduces : (P : List Clause) (s : State) (c : Clause) → ((a : Assignment) → Models a s → Satisfies a c) →
-    Follows s.clauses c → Reduces P s → Reduces P (pushed s c)
-push_reduces P s c entails f r = record {
+    Follows (live_clauses s) c → ((l : Literal) → l ∈ c → IsNamedBy P l) → Reduces P s → Reduces P (pushed s c)
+push_reduces P s c entails f named r = record {
   even = pushed_even s c r.even;
   keeps = λ a h k e. ⊎_elim
       (λ g. satisfies_same a (clause_at (pushed s c) k) (clause_at s k) g.1 (r.keeps a h k g.0))
@@ -131,16 +135,10 @@ push_reduces P s c entails f r = record {
   extends = λ vs n m. r.extends vs n (λ k e.
       let g = pushed_keeps s c k r.even e in
       satisfies_same (assignment_of vs) (clause_at s k) (clause_at (pushed s c) k) (sym g.1) (m k g.0));
-  derives =
-      let later = r.derives.later in
-      let all = r.derives.all in
-      record {
-        later = later ++ c ∷ [];
-        all = ap (λ (cs : List Clause). cs ++ c ∷ []) all ∙ append_assoc P later (c ∷ []);
-        steps = subst (λ l. Derives P l (P ++ (later ++ c ∷ []))) (sym (map-append Add later (c ∷ [])))
-            (subst (λ Q. Derives P (map Add later ++ Add c ∷ []) Q) (append_assoc P later (c ∷ []))
-            (derives_add P (map Add later) (P ++ later) c r.derives.steps (subst (λ (Q : List Clause). Follows Q c) all f)));
-      };
+  leads = subst (λ (Q : List Clause). LeadsTo P (s.lines ++ Add c ∷ []) Q) (sym (live_pushed s c r.even)) (leads_add P s.lines (live_clauses s) c f r.leads);
+  named = named_more P s.clauses c named r.named;
+  told = told_add P s.lines c named r.told;
+  thawed = r.thawed;
 }
 
 -- a live clause goes of which another live one is a part
@@ -153,7 +151,10 @@ remove_reduces P s i j live n part r = record {
       (λ q. satisfies_more (assignment_of vs) (clause_at s j) (clause_at s k) (λ l h. subst (λ x. l ∈ clause_at s x) (sym q) (part l h)) (m j (removed_keeps s i j live n)))
       (λ d. m k (removed_keeps s i k e d))
       (equal_or_not k i));
-  derives = r.derives;
+  leads = leads_removed P s.lines s.live s.clauses i r.even r.leads;
+  named = r.named;
+  told = told_removed P s.lines (get_or s.live i false) (clause_at s i) (named_at P s.clauses i r.named) r.told;
+  thawed = r.thawed;
 }
 
 -- The resolvent of two clauses follows from them.
@@ -175,18 +176,21 @@ resolvent_satisfied a c d e l left right sc sd =
     (λ k. (sc.0, k, sc.2))
     (left sc.0 sc.1)
 
--- the clause at a live place is among those that were added
-pub clause_held : (s : State) (k : ℕ) → length s.live ≡ length s.clauses → IsLive s k → clause_at s k ∈ s.clauses
-clause_held s k even e = ∈-get_or s.clauses k [] (let h = live_below s k e in omega (arith, h, even))
+-- the clause at a live place is one of those that are live
+pub clause_held : (s : State) (k : ℕ) → length s.live ≡ length s.clauses → IsLive s k → clause_at s k ∈ live_clauses s
+clause_held s k even e = flagged_has s.live s.clauses k even e
 
 -- The resolvent of two live clauses is added.
 pub push_resolvent : (s : State) (i j : ℕ) (l : Literal) (e : Clause) → IsLive s i → IsLive s j → l ∈ clause_at s i →
-    ((m : Literal) → m ∈ clause_at s i → (m ≡ l) ⊎ (m ∈ e)) → ((m : Literal) → m ∈ clause_at s j → (m ≡ opposite l) ⊎ (m ∈ e)) → Becomes s (pushed s e)
-push_resolvent s i j l e li lj hl left right = record {
+    ((m : Literal) → m ∈ clause_at s i → (m ≡ l) ⊎ (m ∈ e)) → ((m : Literal) → m ∈ clause_at s j → (m ≡ opposite l) ⊎ (m ∈ e)) →
+    ((m : Literal) → m ∈ e → (m ∈ clause_at s i) ⊎ (m ∈ clause_at s j)) → Becomes s (pushed s e)
+push_resolvent s i j l e li lj hl left right from = record {
   count = refl;
+  frozen = refl;
   reduces = λ P r. push_reduces P s e
       (λ a m. resolvent_satisfied a (clause_at s i) (clause_at s j) e l left right (m i li) (m j lj))
-      (resolvent_follows s.clauses (clause_at s i) (clause_at s j) e l (clause_held s i r.even li) (clause_held s j r.even lj) hl left right)
+      (resolvent_follows (live_clauses s) (clause_at s i) (clause_at s j) e l (clause_held s i r.even li) (clause_held s j r.even lj) hl left right)
+      (λ m h. ⊎_elim (named_at P s.clauses i r.named m) (named_at P s.clauses j r.named m) (from m h))
       r;
 }
 
@@ -196,6 +200,7 @@ pub strengthened : (s : State) (j i : ℕ) (l : Literal) (e : Clause) → IsLive
     Becomes s (removed (pushed s e) i)
 strengthened s j i l e lj li hl left right part = record {
   count = refl;
+  frozen = refl;
   reduces = λ P r.
       let new = pushed_new s e r.even in
       let old = pushed_keeps s e i r.even li in
@@ -203,5 +208,5 @@ strengthened s j i l e lj li hl left right part = record {
       let even = r.even in
       remove_reduces P (pushed s e) i (length s.clauses) new.0 (λ q. omega (arith, below, even, q))
       (λ m h. subst (λ c. m ∈ c) (sym old.1) (part m (subst (λ c. m ∈ c) new.1 h)))
-      ((push_resolvent s j i l e lj li hl left right).reduces P r);
+      ((push_resolvent s j i l e lj li hl left right (λ m h. inr (part m h))).reduces P r);
 }

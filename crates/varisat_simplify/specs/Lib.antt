@@ -1,8 +1,10 @@
 pub mod Cuts
+pub mod Flags
+pub mod Leading
 pub mod Lending
+pub mod Resolving
+pub mod Simplified
+pub mod Sound
 pub mod Stacks
 pub mod States
-pub mod Resolving
-pub mod Flags
-pub mod Sound
-pub mod Simplified
+pub mod Written

@@ -1,33 +1,42 @@
 -- What a database of clauses holds, and what it has to do with the clauses that it was made of.
-use Rattle.std.specs.Prelude.{◌≡◌, ℕ, ◌<◌, ◌≤◌, Bool, true, false, List, [], ◌∷◌, ◌++◌, ◌⊎◌, length, map, take, slice_index_or, slice_set}
+use Rattle.std.specs.Prelude.{◌≡◌, ℕ, ◌/◌, ◌<◌, ◌≤◌, Bool, true, false, List, [], ◌∷◌, ◌++◌, ◌⊎◌, length, map, take, slice_index_or, slice_set}
 use Rattle.varisat_theory.specs.Membership.{◌∈◌}
 use Rattle.varisat_theory.specs.Literals.{Literal, Clause, Assignment, opposite, value, Satisfies, SatisfiesAll}
-use Rattle.varisat_theory.specs.Derivations.{Add, Derives}
-use Rattle.varisat_theory.specs.Held.{SameClauses}
-use Rattle.varisat_simplify.specs.Stacks.{assignment_of, extended}
+use Rattle.varisat_theory.specs.Derivations.{Line, Add, Delete, SpeakOf}
+use Rattle.varisat_simplify.specs.Stacks.{assignment_of, extended, avoids}
+use Rattle.varisat_simplify.specs.Leading.{LeadsTo, IsNamedBy, AreNamedBy}
 
--- The clauses that were ever added, in order, whether each is still live, and the stack by which models are extended.
+-- The clauses that there ever were, in order, whether each is still live, the lines of a proof that added and deleted them, and the
+-- stack by which models are extended. No variable that is flagged in `frozen` is resolved away.
 pub record State : Type 0 where
   pub var_count : ℕ
+  pub frozen : List Bool
   pub clauses : List Clause
   pub live : List Bool
+  pub lines : List Line
   pub stack : List Clause
 
 -- no clauses
-abbrev pub no_clauses : ℕ → State
-no_clauses n = record { var_count = n; clauses = []; live = []; stack = [] }
+abbrev pub no_clauses : ℕ → List Bool → State
+no_clauses n frozen = record { var_count = n; frozen = frozen; clauses = []; live = []; lines = []; stack = [] }
 
--- one more clause, which is live
+-- one more clause, which is live, and which a checker has already
+abbrev pub given : State → Clause → State
+given s c = record s { clauses = s.clauses ++ c ∷ []; live = s.live ++ true ∷ [] }
+
+-- one more clause, which is live, and which a line adds
 abbrev pub pushed : State → Clause → State
-pushed s c = record s { clauses = s.clauses ++ c ∷ []; live = s.live ++ true ∷ [] }
+pushed s c = record s { clauses = s.clauses ++ c ∷ []; live = s.live ++ true ∷ []; lines = s.lines ++ Add c ∷ [] }
 
--- the clause at the place is no longer live
-abbrev pub removed : State → ℕ → State
-removed s k = record s { live = slice_set s.live k false }
+-- the one or the other
+abbrev pub joined : Bool → State → Clause → State
+joined true s c = given s c
+joined false s c = pushed s c
 
--- one more clause on the stack
-abbrev pub saved : State → Clause → State
-saved s c = record s { stack = s.stack ++ c ∷ [] }
+-- a line that deletes the clause, if it is live
+abbrev pub deletion : Bool → Clause → List Line
+deletion true c = Delete c ∷ []
+deletion false c = []
 
 -- the clause at the place
 abbrev pub clause_at : State → ℕ → Clause
@@ -37,17 +46,34 @@ clause_at s k = slice_index_or s.clauses k []
 abbrev pub IsLive : State → ℕ → Type 0
 IsLive s k = slice_index_or s.live k false ≡ true
 
+-- the clause at the place is live no longer, and a line deletes it if it was
+abbrev pub removed : State → ℕ → State
+removed s k = record s { live = slice_set s.live k false; lines = s.lines ++ deletion (slice_index_or s.live k false) (clause_at s k) }
+
+-- one more clause on the stack
+abbrev pub saved : State → Clause → State
+saved s c = record s { stack = s.stack ++ c ∷ [] }
+
+-- the literal's variable may be resolved away
+abbrev pub IsThawed : State → Literal → Type 0
+IsThawed s l = slice_index_or s.frozen (l / 2) false ≡ false
+
+-- the clauses that are flagged, in order
+abbrev pub flagged : List Bool → List Clause → List Clause
+flagged [] cs = []
+flagged (b ∷ bs) [] = []
+flagged (true ∷ bs) (c ∷ cs) = c ∷ flagged bs cs
+flagged (false ∷ bs) (c ∷ cs) = flagged bs cs
+
+-- the live clauses
+abbrev pub live_clauses : State → List Clause
+live_clauses s = flagged s.live s.clauses
+
 -- each live clause has a true literal
 abbrev pub Models : Assignment → State → Type 0
 Models a s = (k : ℕ) → IsLive s k → Satisfies a (clause_at s k)
 
--- The clauses begin with P, and the others derive from these, as the lines of a proof that adds them.
-pub record IsDerived (P cs : List Clause) : Type 0 where
-  pub later : List Clause
-  pub all : cs ≡ P ++ later
-  pub steps : Derives P (map Add later) (P ++ later)
-
--- What the state says of the clauses that it was made of.
+-- What the state says of the clauses P that it was made of.
 pub record Reduces (P : List Clause) (s : State) : Type 0 where
   -- each clause is live or not
   pub even : length s.live ≡ length s.clauses
@@ -55,20 +81,18 @@ pub record Reduces (P : List Clause) (s : State) : Type 0 where
   pub keeps : (a : Assignment) → SatisfiesAll a P → Models a s
   -- values that satisfy what is live are extended to ones that satisfy them
   pub extends : (vs : List Bool) → s.var_count ≤ length vs → Models (assignment_of vs) s → SatisfiesAll (assignment_of (extended s.stack vs)) P
-  -- what was added behind them derives from them
-  pub derives : IsDerived P s.clauses
-
--- The state has just the clauses of P, but for tautologies, each as a list of its literals.
-pub record IsLoaded (P : List Clause) (s : State) : Type 0 where
-  pub reduces : Reduces s.clauses s
-  pub keeps : (a : Assignment) → SatisfiesAll a P → SatisfiesAll a s.clauses
-  pub backs : (a : Assignment) → SatisfiesAll a s.clauses → SatisfiesAll a P
-  pub dead : List Clause
-  pub parts : SameClauses (s.clauses ++ dead) P
+  -- the lines lead from them to what is live
+  pub leads : LeadsTo P s.lines (live_clauses s)
+  -- no literal is new
+  pub named : AreNamedBy P s.clauses
+  pub told : SpeakOf (IsNamedBy P) s.lines
+  -- the stack changes no frozen variable
+  pub thawed : (c : Clause) → c ∈ s.stack → avoids s.frozen c ≡ true
 
 -- What a state becomes says what it said.
 pub record Becomes (s t : State) : Type 0 where
   pub count : t.var_count ≡ s.var_count
+  pub frozen : t.frozen ≡ s.frozen
   pub reduces : (P : List Clause) → Reduces P s → Reduces P t
 
 -- the assignment satisfies the live clauses without the literal and its opposite
@@ -113,8 +137,10 @@ pub record Saves (s t : State) (l : Literal) (w g : List ℕ) (x : ℕ) : Type 0
 -- The literal was saved, and of the live clauses only such with it were removed.
 pub record Drops (s t : State) (m : Literal) : Type 0 where
   pub count : t.var_count ≡ s.var_count
+  pub frozen : t.frozen ≡ s.frozen
   pub same : t.clauses ≡ s.clauses
   pub stack : t.stack ≡ s.stack ++ (m ∷ []) ∷ []
   pub even : length t.live ≡ length s.live
   pub fewer : (k : ℕ) → IsLive t k → IsLive s k
   pub kept : (k : ℕ) → IsLive s k → (m ∈ clause_at s k → ⊥) → IsLive t k
+  pub tells : (P : List Clause) → Reduces P s → LeadsTo P t.lines (live_clauses t) × SpeakOf (IsNamedBy P) t.lines

@@ -1,9 +1,10 @@
 //! The clauses of a formula that is simplified: each is added once, and is live until it is removed.
-ghost use Rattle.std.specs.Prelude.{◌≡◌, ℕ, List, Bool, true, false, ◌+◌, ◌*◌, ◌∷◌, ◌++◌, [], ◌<◌, ◌≤◌, ◌^◌, length, IsTrue, OnOk, OnErr, IfOk, slice_index_or, slice_set};
+ghost use Rattle.std.specs.Prelude.{◌≡◌, ℕ, List, Bool, true, false, ◌+◌, ◌*◌, ◌/◌, ◌∷◌, ◌++◌, [], ◌<◌, ◌≤◌, ◌^◌, length, IsTrue, OnOk, OnErr, IfOk, slice_index_or, slice_set};
 ghost use Rattle.varisat_theory.specs.Membership.{◌∈◌};
-ghost use Rattle.varisat_simplify.specs.States.{State, no_clauses, pushed, removed, saved, clause_at, IsLive};
+ghost use Rattle.varisat_simplify.specs.States.{State, no_clauses, given, pushed, joined, removed, saved, clause_at, IsLive};
 
 use crate::clauses::ClauseList;
+use crate::history::History;
 use crate::occurrences::Occurrences;
 use std::alloc::{AllocError, Allocator};
 use std::marker::Model;
@@ -13,7 +14,8 @@ use varisat_literals::Lit;
 #[derive(Drop)]
 pub struct Database<A: Allocator + Copy> {
     var_count: usize,
-    clauses: ClauseList<A>,
+    frozen: Vec<bool, A>,
+    history: History<A>,
     live: Vec<bool, A>,
     stack: ClauseList<A>,
     occurrences: Occurrences<A>,
@@ -29,9 +31,9 @@ impl<A: Allocator + Copy> Model for Database<A> {
 
     ghost Value = { State };
 
-    ghost view = { λ d. record { var_count = d.var_count; clauses = d.clauses; live = d.live.items; stack = d.stack } };
+    ghost view = { λ d. record { var_count = d.var_count; frozen = d.frozen.items; clauses = d.history.clauses; live = d.live.items; lines = d.history.lines; stack = d.stack } };
 
-    ghost invariant = { λ d. IsSound d.var_count d.clauses d.live.items d.occurrences };
+    ghost invariant = { λ d. IsSound d.var_count d.history.clauses d.live.items d.occurrences };
 }
 
 /// One bit for each variable of the clause, out of 64.
@@ -87,17 +89,20 @@ fn filled<T: Copy, A: Allocator + Copy>(
 }
 
 impl<A: Allocator + Copy> Database<A> {
-    /// No clauses, over so many variables.
-    pub fn new_in(alloc: A, var_count: usize) -> Result<Database<A>, AllocError>
+    /// No clauses, over so many variables, of which the flagged ones are frozen.
+    pub fn new_in(alloc: A, var_count: usize, frozen: &[bool]) -> Result<Database<A>, AllocError>
         requires { var_count ≤ 2 ^ 31 }
-        ensures { IfOk result (λ d. d ≡ no_clauses var_count) }
+        ensures { IfOk result (λ d. d ≡ no_clauses var_count frozen.now) }
     {
+        let mut flags = Vec::new(alloc);
+        flags.extend_from_slice(frozen)?;
         let counts = filled(alloc, 2 * var_count, 0u32)?;
         let is_touched = filled(alloc, var_count, false)?;
         let occurrences = Occurrences::new_in(alloc, 2 * var_count)?;
         Ok(Database {
             var_count,
-            clauses: ClauseList::new_in(alloc),
+            frozen: flags,
+            history: History::new_in(alloc),
             live: Vec::new(alloc),
             stack: ClauseList::new_in(alloc),
             occurrences,
@@ -116,11 +121,22 @@ impl<A: Allocator + Copy> Database<A> {
         self.var_count
     }
 
-    /// How many clauses were added.
+    /// How many clauses there were.
     pub fn len(&self) -> usize
-        ensures { result ≡ length self.now.clauses }
+        ensures count { result ≡ length self.now.clauses }
+        ensures even { length self.now.live ≡ length self.now.clauses }
     {
-        self.clauses.len()
+        self.history.len()
+    }
+
+    /// Whether the literal's variable may not be resolved away.
+    pub fn is_frozen(&self, lit: Lit) -> bool
+        ensures { result ≡ slice_index_or self.now.frozen (lit / 2) false }
+    {
+        match self.frozen.get(lit.index()) {
+            Some(flag) => *flag,
+            None => false,
+        }
     }
 
     /// Whether the clause at the place is there and live.
@@ -137,10 +153,10 @@ impl<A: Allocator + Copy> Database<A> {
     pub fn clause(&self, place: usize) -> &[Lit]
         ensures { result.now ≡ clause_at self.now place }
     {
-        if place >= self.clauses.len() {
+        if place >= self.history.len() {
             return &[];
         }
-        self.clauses.clause(place)
+        self.history.clause(place)
     }
 
     /// The variables of the clause at the place, by bits.
@@ -181,19 +197,33 @@ impl<A: Allocator + Copy> Database<A> {
         Some(var)
     }
 
-    /// Adds a clause, which is live.
+    /// Adds a clause, which is live, and which a checker has already.
+    pub fn give(&mut self, clause: &[Lit]) -> Result<(), AllocError>
+        ensures { OnOk result (self.new ≡ given self.old clause.now) }
+    {
+        self.join(clause, true)?;
+        Ok(())
+    }
+
+    /// Adds a clause, which is live, and a line that adds it. A refused growth changes nothing.
     pub fn push(&mut self, clause: &[Lit]) -> Result<(), AllocError>
         ensures ok { OnOk result (self.new ≡ pushed self.old clause.now) }
         ensures err { OnErr result (self.new ≡ self.old) }
     {
-        let place = self.clauses.len();
-        if place >= 0xffff_ffff {
-            return Err(AllocError);
-        }
+        self.join(clause, false)?;
+        Ok(())
+    }
+
+    /// Adds a clause, which is live.
+    fn join(&mut self, clause: &[Lit], is_given: bool) -> Result<(), AllocError>
+        ensures ok { OnOk result (self.new ≡ joined is_given self.old clause.now) }
+        ensures err { OnErr result (self.new ≡ self.old) }
+    {
+        let place = self.history.len();
         self.occurrences.add_all(clause, place as u32)?;
         self.live.reserve(1)?;
         self.signatures.reserve(1)?;
-        self.clauses.push(clause)?;
+        self.history.push(clause, is_given)?;
         self.live.push_reserved(true);
         self.signatures.push_reserved(signature_of(clause));
         recount(&mut self.counts, clause, true);
@@ -201,17 +231,19 @@ impl<A: Allocator + Copy> Database<A> {
         Ok(())
     }
 
-    /// Removes the clause at the place.
-    pub fn remove(&mut self, place: usize)
-        ensures { self.new ≡ removed self.old place }
+    /// Removes the clause at the place, with a line that deletes it, if it is live. A refused growth changes nothing.
+    pub fn remove(&mut self, place: usize) -> Result<(), AllocError>
+        ensures { OnOk result (self.new ≡ removed self.old place) }
     {
-        if place >= self.clauses.len() {
-            return;
+        if !self.is_live(place) || place >= self.history.len() {
+            return Ok(());
         }
+        self.history.delete(place)?;
         self.live[place] = false;
-        let clause = self.clauses.clause(place);
+        let clause = self.history.clause(place);
         recount(&mut self.counts, clause, false);
         touch_all(&mut self.touched, &mut self.is_touched, clause);
+        Ok(())
     }
 
     /// Forgets places of the literal where no clause is live, if there are many.
@@ -236,12 +268,12 @@ impl<A: Allocator + Copy> Database<A> {
         Ok(())
     }
 
-    /// The stack, and all clauses that were added.
-    pub fn into_parts(self) -> (ClauseList<A>, ClauseList<A>)
+    /// The stack, and the clauses and lines that there were.
+    pub fn into_parts(self) -> (ClauseList<A>, History<A>)
         ensures stack { result.0 ≡ self.stack }
-        ensures clauses { result.1 ≡ self.clauses }
+        ensures lines { result.1.lines ≡ self.lines }
     {
-        let Database { stack, clauses, .. } = self;
-        (stack, clauses)
+        let Database { stack, history, .. } = self;
+        (stack, history)
     }
 }

@@ -2,7 +2,7 @@
 ghost use Rattle.std.specs.Prelude.{◌≡◌, ℕ, ◌/◌, ◌<◌, ◌≤◌, true, ◌∷◌, length, OnOk, OnErr, IfOk, IsTrue};
 ghost use Rattle.varisat_theory.specs.Membership.{◌∈◌};
 ghost use Rattle.varisat_theory.specs.Literals.{opposite, variable_of};
-ghost use Rattle.varisat_simplify.specs.States.{IsLive, clause_at, removed, saved, Becomes, Collects, Adds, Saves};
+ghost use Rattle.varisat_simplify.specs.States.{IsLive, IsThawed, clause_at, removed, saved, Becomes, Collects, Adds, Saves};
 
 use crate::database::Database;
 use crate::resolve::{holds, resolve};
@@ -112,14 +112,13 @@ fn save_one<A: Allocator + Copy>(
     place: usize,
     literals: &mut Vec<Lit, A>,
 ) -> Result<(), AllocError>
-    ensures ok { OnOk result (db.new ≡ removed (saved db.old (lit ∷ clause_at db.old place)) place) }
-    ensures err { OnErr result (db.new ≡ db.old) }
+    ensures { OnOk result (db.new ≡ removed (saved db.old (lit ∷ clause_at db.old place)) place) }
 {
     literals.clear();
     literals.push(lit)?;
     literals.extend_from_slice(db.clause(place))?;
     db.save(literals)?;
-    db.remove(place);
+    db.remove(place)?;
     Ok(())
 }
 
@@ -132,8 +131,9 @@ fn save_all<A: Allocator + Copy>(
     literals: &mut Vec<Lit, A>,
 ) -> Result<(), AllocError>
     requires small { variable_of lit < db.old.var_count }
+    requires thawed { IsThawed db.old lit }
     requires saves { Saves db.old db.old lit with.now against.now 0 }
-    ensures becomes { Becomes db.old db.new }
+    ensures becomes { OnOk result (Becomes db.old db.new) }
     ensures pure { OnOk result ((k : ℕ) → IsLive db.new k → lit ∈ clause_at db.new k → ⊥) }
     ensures rest { OnOk result (Collects db.new (opposite lit) against.now) }
 {
@@ -150,13 +150,14 @@ fn save_literal<A: Allocator + Copy>(
     places: &[u32],
 ) -> Result<(), AllocError>
     requires small { variable_of lit < db.old.var_count }
+    requires thawed { IsThawed db.old lit }
     requires pure { (k : ℕ) → IsLive db.old k → opposite lit ∈ clause_at db.old k → ⊥ }
     requires with { (k : ℕ) → k ∈ places.now → lit ∈ clause_at db.old k }
-    ensures { Becomes db.old db.new }
+    ensures { OnOk result (Becomes db.old db.new) }
 {
     db.save(&[lit])?;
     for place in places {
-        db.remove(*place as usize);
+        db.remove(*place as usize)?;
     }
     Ok(())
 }
@@ -167,12 +168,12 @@ fn eliminate_by<A: Allocator + Copy>(
     lit: Lit,
     scratch: &mut Scratch<A>,
 ) -> Result<bool, AllocError>
-    ensures { Becomes db.old db.new }
+    ensures { OnOk result (Becomes db.old db.new) }
 {
     if db.count(lit) > MOST_CLAUSES || db.count(lit).saturating_mul(db.count(!lit)) > MOST_PAIRS {
         return Ok(false);
     }
-    if lit.index() >= db.var_count() {
+    if lit.index() >= db.var_count() || db.is_frozen(lit) {
         return Ok(false);
     }
     db.tidy(lit);
@@ -219,7 +220,7 @@ pub fn eliminate<A: Allocator + Copy>(
     var: Var,
     scratch: &mut Scratch<A>,
 ) -> Result<bool, AllocError>
-    ensures { Becomes db.old db.new }
+    ensures { OnOk result (Becomes db.old db.new) }
 {
     let positive = var.positive();
     let negative = var.negative();

@@ -4,6 +4,7 @@
 pub mod clauses;
 pub mod database;
 pub mod eliminate;
+pub mod history;
 pub mod laws;
 pub mod lists;
 pub mod occurrences;

@@ -1,15 +1,16 @@
 //! The simplification of a formula.
-ghost use Rattle.std.specs.Prelude.{◌≡◌, ℕ, ◌≤◌, ◌^◌, true, drop, length, [], OnOk, IfOk, IfErr};
+ghost use Rattle.std.specs.Prelude.{◌≡◌, OnOk, IfOk, IfErr};
 ghost use Rattle.varisat_formula.specs.declared.formula.cnf.FormulaError.TheVariants.{Memory};
-ghost use Rattle.varisat_simplify.specs.States.{no_clauses, IsLoaded, Becomes};
+ghost use Rattle.varisat_simplify.specs.States.{no_clauses, Reduces, Becomes};
 ghost use Rattle.varisat_simplify.specs.Stacks.{extended, KeepsFrozen};
 ghost use Rattle.varisat_simplify.specs.Simplified.{Lists, IsMadeOf};
 
 use crate::clauses::ClauseList;
 use crate::database::Database;
 use crate::eliminate::{Scratch, eliminate};
+use crate::history::History;
 use crate::resolve::normalize;
-use crate::stack::{extend, leaves_frozen};
+use crate::stack::extend;
 use crate::subsume::subsume_from;
 use std::alloc::{AllocError, Allocator};
 use varisat_formula::formula::cnf::{CnfFormula, FormulaError};
@@ -28,10 +29,8 @@ pub struct Simplified<A: Allocator + Copy> {
     pub formula: CnfFormula<A>,
     /// By which its models are extended.
     pub stack: ClauseList<A>,
-    /// The clauses that were loaded and those that were added, in order: no longer needed where no proof is wanted.
-    pub clauses: ClauseList<A>,
-    /// How many of them were loaded. The others are the lines of a proof.
-    pub given: usize,
+    /// The lines of a proof that leads to the formula: no longer needed where none is wanted.
+    pub history: History<A>,
 }
 
 impl<A: Allocator + Copy> Simplified<A> {
@@ -43,18 +42,24 @@ impl<A: Allocator + Copy> Simplified<A> {
     }
 }
 
-/// Loads the clauses of a formula, but for tautologies.
+/// Loads the clauses of a formula, and removes tautologies.
 fn load<A: Allocator + Copy>(
     db: &mut Database<A>,
     formula: &CnfFormula<A>,
     literals: &mut Vec<Lit, A>,
 ) -> Result<(), AllocError>
-    requires { db.old ≡ no_clauses formula.now.var_count }
-    ensures { OnOk result (IsLoaded formula.now.clauses db.new × (db.new.var_count ≡ formula.now.var_count)) }
+    requires { db.old ≡ no_clauses formula.now.var_count db.old.frozen }
+    ensures reduces { OnOk result (Reduces formula.now.clauses db.new) }
+    ensures count { OnOk result (db.new.var_count ≡ formula.now.var_count) }
+    ensures frozen { OnOk result (db.new.frozen ≡ db.old.frozen) }
 {
     for clause in formula.iter() {
         if normalize(clause, literals)? {
-            db.push(literals)?;
+            db.give(literals)?;
+        } else {
+            let place = db.len();
+            db.give(clause)?;
+            db.remove(place)?;
         }
     }
     Ok(())
@@ -69,10 +74,9 @@ fn key_of<A: Allocator + Copy>(db: &Database<A>, var: Var) -> u64 {
     (cost as u64) * 0x1_0000_0000 + (var.index() as u64)
 }
 
-/// The variables whose clauses changed and that are not frozen, by their costs.
+/// The variables whose clauses changed, by their costs.
 fn candidates<A: Allocator + Copy>(
     db: &mut Database<A>,
-    frozen: &[bool],
     out: &mut Vec<u64, A>,
 ) -> Result<(), AllocError>
     ensures { db.new ≡ db.old }
@@ -83,7 +87,7 @@ fn candidates<A: Allocator + Copy>(
         let Some(var) = db.take_touched() else {
             break;
         };
-        if var < most && !matches!(frozen.get(var), Some(true)) {
+        if var < most {
             out.push(key_of(db, Var::from_index(var)))?;
         }
     }
@@ -99,7 +103,7 @@ fn eliminate_all<A: Allocator + Copy>(
     budget: &mut u64,
     scratch: &mut Scratch<A>,
 ) -> Result<usize, AllocError>
-    ensures { Becomes db.old db.new }
+    ensures { OnOk result (Becomes db.old db.new) }
 {
     let mut place = first;
     for key in order {
@@ -114,16 +118,15 @@ fn eliminate_all<A: Allocator + Copy>(
 /// Simplifies until nothing changes, or for so many rounds.
 fn run<A: Allocator + Copy>(
     db: &mut Database<A>,
-    frozen: &[bool],
     order: &mut Vec<u64, A>,
     scratch: &mut Scratch<A>,
 ) -> Result<(), AllocError>
-    ensures { Becomes db.old db.new }
+    ensures { OnOk result (Becomes db.old db.new) }
 {
     let mut budget = MOST_COMPARISONS;
     let mut place = subsume_from(db, 0, &mut budget, &mut scratch.literals)?;
     for _ in 0..MOST_ROUNDS {
-        candidates(db, frozen, order)?;
+        candidates(db, order)?;
         if order.is_empty() {
             return Ok(());
         }
@@ -152,19 +155,18 @@ fn simplify_in<A: Allocator + Copy>(
     alloc: A,
     db: &mut Database<A>,
     formula: &CnfFormula<A>,
-    frozen: &[bool],
     order: &mut Vec<u64, A>,
     scratch: &mut Scratch<A>,
-) -> Result<(CnfFormula<A>, usize), FormulaError>
-    requires { db.old ≡ no_clauses formula.now.var_count }
-    ensures made { IfOk result (λ r. IsMadeOf formula.now r.0 db.new.stack (drop r.1 db.new.clauses)) }
+) -> Result<CnfFormula<A>, FormulaError>
+    requires { db.old ≡ no_clauses formula.now.var_count db.old.frozen }
+    ensures made { IfOk result (λ g. IsMadeOf formula.now g db.new.stack db.new.lines) }
+    ensures frozen { IfOk result (λ _. KeepsFrozen db.old.frozen db.new.stack) }
     ensures memory { IfErr result (λ e. e ≡ Memory) }
 {
     load(db, formula, &mut scratch.literals)?;
-    let given = db.len();
-    run(db, frozen, order, scratch)?;
+    run(db, order, scratch)?;
     let made = unload(db, alloc)?;
-    Ok((made, given))
+    Ok(made)
 }
 
 /// Makes a formula that has a model just where the given one has, and whose models are extended to ones of it. Variables
@@ -174,27 +176,22 @@ pub fn simplify<A: Allocator + Copy>(
     formula: &CnfFormula<A>,
     frozen: &[bool],
 ) -> Result<Simplified<A>, FormulaError>
-    ensures made { IfOk result (λ s. IsMadeOf formula.now s.formula s.stack (drop s.given s.clauses)) }
+    ensures made { IfOk result (λ s. IsMadeOf formula.now s.formula s.stack s.history.lines) }
     ensures frozen { IfOk result (λ s. KeepsFrozen frozen.now s.stack) }
     ensures memory { IfErr result (λ e. e ≡ Memory) }
 {
-    let mut db = Database::new_in(alloc, formula.var_count())?;
+    let mut db = Database::new_in(alloc, formula.var_count(), frozen)?;
     let mut scratch = Scratch {
         literals: Vec::new(alloc),
         with: Vec::new(alloc),
         against: Vec::new(alloc),
     };
     let mut order = Vec::new(alloc);
-    let (made, given) = simplify_in(alloc, &mut db, formula, frozen, &mut order, &mut scratch)?;
-    let (stack, clauses) = db.into_parts();
-    // This never is so, and is tested in place of a proof.
-    if !leaves_frozen(&stack, frozen) {
-        return Err(FormulaError::Memory);
-    }
+    let made = simplify_in(alloc, &mut db, formula, &mut order, &mut scratch)?;
+    let (stack, history) = db.into_parts();
     Ok(Simplified {
         formula: made,
         stack,
-        clauses,
-        given,
+        history,
     })
 }

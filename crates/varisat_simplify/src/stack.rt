@@ -1,7 +1,7 @@
 //! How a model of what is left is extended.
-ghost use Rattle.std.specs.Prelude.{◌≡◌, IsTrue};
+ghost use Rattle.std.specs.Prelude.{◌≡◌};
 ghost use Rattle.varisat_theory.specs.Literals.{value};
-ghost use Rattle.varisat_simplify.specs.Stacks.{assignment_of, is_satisfied, amended, extended, avoids, KeepsFrozen};
+ghost use Rattle.varisat_simplify.specs.Stacks.{assignment_of, is_satisfied, amended, extended};
 
 use crate::clauses::ClauseList;
 use std::alloc::Allocator;
@@ -52,29 +52,4 @@ pub fn extend<A: Allocator + Copy>(stack: &ClauseList<A>, values: &mut [bool])
         k -= 1;
         amend(values, stack.clause(k));
     }
-}
-
-/// Whether the clause's first literal is not of a frozen variable.
-fn avoids(frozen: &[bool], clause: &[Lit]) -> bool
-    ensures { result ≡ avoids frozen.now clause.now }
-{
-    let Some(lit) = clause.first() else {
-        return true;
-    };
-    match frozen.get(lit.index()) {
-        Some(flag) => !*flag,
-        None => true,
-    }
-}
-
-/// Whether no first literal is of a frozen variable.
-pub fn leaves_frozen<A: Allocator + Copy>(stack: &ClauseList<A>, frozen: &[bool]) -> bool
-    ensures { IsTrue result → KeepsFrozen frozen.now stack.now }
-{
-    for k in 0..stack.len() {
-        if !avoids(frozen, stack.clause(k)) {
-            return false;
-        }
-    }
-    true
 }

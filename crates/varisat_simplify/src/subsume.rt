@@ -1,4 +1,5 @@
 //! Backward subsumption: what a clause makes of the others.
+ghost use Rattle.std.specs.Prelude.{OnOk};
 ghost use Rattle.varisat_simplify.specs.States.{Becomes};
 ghost use Rattle.varisat_simplify.specs.Resolving.{Compares};
 
@@ -56,15 +57,15 @@ fn use_on<A: Allocator + Copy>(
     other: usize,
     scratch: &mut Vec<Lit, A>,
 ) -> Result<(), AllocError>
-    ensures { Becomes db.old db.new }
+    ensures { OnOk result (Becomes db.old db.new) }
 {
     match compare(db, place, other) {
         Relation::Nothing => {}
-        Relation::Subsumes => db.remove(other),
+        Relation::Subsumes => db.remove(other)?,
         Relation::Strengthens(lit) => {
             without(db.clause(other), !lit, scratch)?;
             db.push(scratch)?;
-            db.remove(other);
+            db.remove(other)?;
         }
     }
     Ok(())
@@ -86,7 +87,7 @@ fn use_along<A: Allocator + Copy>(
     budget: &mut u64,
     scratch: &mut Vec<Lit, A>,
 ) -> Result<(), AllocError>
-    ensures { Becomes db.old db.new }
+    ensures { OnOk result (Becomes db.old db.new) }
 {
     db.tidy(lit);
     let count = db.places(lit).len();
@@ -124,7 +125,7 @@ fn subsume_with<A: Allocator + Copy>(
     budget: &mut u64,
     scratch: &mut Vec<Lit, A>,
 ) -> Result<(), AllocError>
-    ensures { Becomes db.old db.new }
+    ensures { OnOk result (Becomes db.old db.new) }
 {
     let Some(lit) = way_of(db, place, *budget) else {
         return Ok(());
@@ -141,7 +142,7 @@ pub fn subsume_from<A: Allocator + Copy>(
     budget: &mut u64,
     scratch: &mut Vec<Lit, A>,
 ) -> Result<usize, AllocError>
-    ensures { Becomes db.old db.new }
+    ensures { OnOk result (Becomes db.old db.new) }
 {
     let mut place = first;
     for _ in 0..u64::MAX {

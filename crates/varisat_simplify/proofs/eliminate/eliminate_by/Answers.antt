@@ -2,7 +2,7 @@ use Rattle.std.proofs.Common.{sym, ap, ◌∙◌}
 use Rattle.varisat_simplify.specs.States.{State}
 use Rattle.varisat_simplify.proofs.StateLemmas.{becomes_then}
 use Rattle.varisat_simplify.proofs.FlowLemmas.{becomes_same}
-use Rattle.varisat_simplify.proofs.EliminateSteps.{saves_from, small_opposite, pure_opposite}
+use Rattle.varisat_simplify.proofs.EliminateSteps.{saves_from, small_opposite, pure_opposite, thawed_opposite}
 use Rattle.varisat_simplify.proofs.eliminate.eliminate_by.Goals as goal
 
 pub save_all-requires-clause-saves : goal.save_all-requires-clause-saves
@@ -15,27 +15,21 @@ pub save_literal-requires-clause-small : goal.save_literal-requires-clause-small
 save_literal-requires-clause-small g c =
     small_opposite c.args.lit c.not-4.result c.var_count.result c.save_all.new.db.var_count c.index.result c.not-4.ensures c.index.ensures.index
     c.if-index-var_count.false
-    (c.var_count.ensures.count ∙ sym (c.save_all.ensures.becomes.count ∙ c.add_resolvents.ensures.becomes.count
+    (c.var_count.ensures.count ∙ sym ((c.in_ok-save_all.ensures {u = tt}).becomes.count ∙ c.add_resolvents.ensures.becomes.count
     ∙ ap (λ (s : State). s.var_count) (c.tidy-2.ensures ∙ c.tidy.ensures)))
+
+pub save_literal-requires-clause-thawed : goal.save_literal-requires-clause-thawed
+save_literal-requires-clause-thawed g c =
+    thawed_opposite c.args.lit c.not-4.result c.save_all.new.db.frozen c.args.db.now.frozen c.is_frozen.result c.not-4.ensures
+    ((c.in_ok-save_all.ensures {u = tt}).becomes.frozen ∙ c.add_resolvents.ensures.becomes.frozen
+    ∙ ap (λ (s : State). s.frozen) (c.tidy-2.ensures ∙ c.tidy.ensures)) c.is_frozen.ensures c.if-is_frozen.false
 
 pub save_literal-requires-clause-pure : goal.save_literal-requires-clause-pure
 save_literal-requires-clause-pure g c =
     pure_opposite c.save_all.new.db c.args.lit c.not-4.result c.not-4.ensures (c.in_ok-save_all.ensures {u = tt}).pure
 
-pub returns-in_err-save_all : goal.returns-in_err-save_all
-returns-in_err-save_all g c =
-    becomes_then c.args.db.now c.add_resolvents.new.db c.save_all.new.db
-    (becomes_then c.args.db.now c.tidy-2.new.self c.add_resolvents.new.db (becomes_same c.args.db.now c.tidy-2.new.self (c.tidy-2.ensures ∙ c.tidy.ensures))
-    c.add_resolvents.ensures.becomes) c.save_all.ensures.becomes
-
-pub returns-in_err-save_literal : goal.returns-in_err-save_literal
-returns-in_err-save_literal g c =
-    becomes_then c.args.db.now c.save_all.new.db c.save_literal.new.db (becomes_then c.args.db.now c.add_resolvents.new.db c.save_all.new.db
-    (becomes_then c.args.db.now c.tidy-2.new.self c.add_resolvents.new.db (becomes_same c.args.db.now c.tidy-2.new.self (c.tidy-2.ensures ∙ c.tidy.ensures))
-    c.add_resolvents.ensures.becomes) c.save_all.ensures.becomes) c.save_literal.ensures
-
 pub returns : goal.returns
 returns g c =
     becomes_then c.args.db.now c.save_all.new.db c.save_literal.new.db (becomes_then c.args.db.now c.add_resolvents.new.db c.save_all.new.db
     (becomes_then c.args.db.now c.tidy-2.new.self c.add_resolvents.new.db (becomes_same c.args.db.now c.tidy-2.new.self (c.tidy-2.ensures ∙ c.tidy.ensures))
-    c.add_resolvents.ensures.becomes) c.save_all.ensures.becomes) c.save_literal.ensures
+    c.add_resolvents.ensures.becomes) (c.in_ok-save_all.ensures {u = tt}).becomes) (c.in_ok-save_literal.ensures {u = tt})

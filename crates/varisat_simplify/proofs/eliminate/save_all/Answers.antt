@@ -1,7 +1,6 @@
 use Rattle.std.proofs.Common.{get_or, refl}
 use Rattle.varisat_simplify.proofs.EliminateLemmas.{saves_end}
 use Rattle.varisat_simplify.proofs.EliminateSteps.{saves_by}
-use Rattle.varisat_simplify.proofs.FlowLemmas.{becomes_next}
 use Rattle.varisat_simplify.proofs.eliminate.save_all.Goals as goal
 
 pub loop-place-init : goal.loop-place-init
@@ -10,12 +9,8 @@ loop-place-init g c = c.requires.saves
 pub loop-place-preserved : goal.loop-place-preserved
 loop-place-preserved g c =
     saves_by c.args.db.now c.loop-place.db c.save_one.new.db c.args.lit c.args.with.now c.args.against.now c.loop-place.place-index
-    (get_or c.args.with.now c.loop-place.place-index 0) refl (c.in_ok-save_one.ensures {u = tt}).ok
-    c.loop-place-test.true c.requires.small c.loop-place.invariant
-
-pub returns-in_err-save_one-clause-becomes : goal.returns-in_err-save_one-clause-becomes
-returns-in_err-save_one-clause-becomes g c =
-    becomes_next c.args.db.now c.loop-place.db c.save_one.new.db c.loop-place.invariant.becomes (c.in_err-save_one.ensures {u = tt}).err
+    (get_or c.args.with.now c.loop-place.place-index 0) refl (c.in_ok-save_one.ensures {u = tt})
+    c.loop-place-test.true c.requires.small c.requires.thawed c.loop-place.invariant
 
 pub returns-clause-becomes : goal.returns-clause-becomes
 returns-clause-becomes g c = c.loop-place.invariant.becomes

@@ -2,12 +2,7 @@ use Rattle.varisat_simplify.proofs.StateLemmas.{becomes_then}
 use Rattle.varisat_simplify.proofs.FlowLemmas.{becomes_next}
 use Rattle.varisat_simplify.proofs.simplify.run.Goals as goal
 
-pub returns-in_err-place-2 : goal.returns-in_err-place-2
-returns-in_err-place-2 g c =
-    becomes_then c.args.db.now c.candidates.new.db c.eliminate_all.new.db
-    (becomes_next c.args.db.now c.loop.db c.candidates.new.db c.loop.invariant c.candidates.ensures) c.eliminate_all.ensures
-
 pub loop-preserved : goal.loop-preserved
 loop-preserved g c =
     becomes_then c.args.db.now c.candidates.new.db c.eliminate_all.new.db
-    (becomes_next c.args.db.now c.loop.db c.candidates.new.db c.loop.invariant c.candidates.ensures) c.eliminate_all.ensures
+    (becomes_next c.args.db.now c.loop.db c.candidates.new.db c.loop.invariant c.candidates.ensures) (c.in_ok-place-2.ensures {u = tt})

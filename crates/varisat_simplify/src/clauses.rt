@@ -46,11 +46,25 @@ impl<A: Allocator + Copy> ClauseList<A> {
         }
     }
 
+    /// Makes room for so many clauses with so many literals in all.
+    pub fn reserve(&mut self, clauses: usize, literals: usize) -> Result<(), AllocError>
+        ensures { self.new ≡ self.old }
+    {
+        self.ends.reserve_exact(clauses)?;
+        self.literals.reserve_exact(literals)?;
+        Ok(())
+    }
+
     /// How many clauses there are.
     pub fn len(&self) -> usize
         ensures { result ≡ length self.now }
     {
         self.ends.len()
+    }
+
+    /// How many literals they have in all.
+    pub fn literal_count(&self) -> usize {
+        self.literals.len()
     }
 
     /// Adds a clause behind the others. A refused growth changes nothing.

@@ -5,9 +5,10 @@ ghost use Rattle.varisat_simplify.specs.States.{State, no_clauses, given, pushed
 
 use crate::clauses::ClauseList;
 use crate::history::History;
-use crate::occurrences::Occurrences;
+use crate::occurrences::{Occurrences, count_at};
 use std::alloc::{AllocError, Allocator};
 use std::marker::Model;
+use varisat_formula::formula::cnf::CnfFormula;
 use varisat_literals::Lit;
 
 /// The clauses, which of them are live, and by what models are extended once they are gone.
@@ -19,7 +20,7 @@ pub struct Database<A: Allocator + Copy> {
     live: Vec<bool, A>,
     stack: ClauseList<A>,
     occurrences: Occurrences<A>,
-    signatures: Vec<u64, A>,
+    signatures: Vec<u32, A>,
     counts: Vec<u32, A>,
     touched: Vec<u32, A>,
     is_touched: Vec<bool, A>,
@@ -36,11 +37,11 @@ impl<A: Allocator + Copy> Model for Database<A> {
     ghost invariant = { λ d. IsSound d.var_count d.history.clauses d.live.items d.occurrences };
 }
 
-/// One bit for each variable of the clause, out of 64.
-fn signature_of(clause: &[Lit]) -> u64 {
-    let mut bits: u64 = 0;
+/// One bit for each variable of the clause, out of 32.
+fn signature_of(clause: &[Lit]) -> u32 {
+    let mut bits: u32 = 0;
     for lit in clause {
-        bits |= 1u64 << (lit.index() % 64);
+        bits |= 1u32 << (lit.index() % 32);
     }
     bits
 }
@@ -88,6 +89,16 @@ fn filled<T: Copy, A: Allocator + Copy>(
     Ok(list)
 }
 
+/// Counts the formula's literals one by one, and returns how many there are.
+fn count_all<A: Allocator + Copy>(counts: &mut [u32], formula: &CnfFormula<A>) -> usize {
+    let mut literals: usize = 0;
+    for clause in formula.iter() {
+        recount(counts, clause, true);
+        literals = literals.saturating_add(clause.len());
+    }
+    literals
+}
+
 impl<A: Allocator + Copy> Database<A> {
     /// No clauses, over so many variables, of which the flagged ones are frozen.
     pub fn new_in(alloc: A, var_count: usize, frozen: &[bool]) -> Result<Database<A>, AllocError>
@@ -111,6 +122,20 @@ impl<A: Allocator + Copy> Database<A> {
             touched: Vec::new(alloc),
             is_touched,
         })
+    }
+
+    /// Makes room for the clauses of a formula, which are not there yet.
+    pub fn reserve_for(&mut self, formula: &CnfFormula<A>) -> Result<(), AllocError>
+        ensures { self.new ≡ self.old }
+    {
+        let alloc = *self.live.allocator();
+        let mut counts = filled(alloc, self.counts.len(), 0u32)?;
+        let literals = count_all(&mut counts, formula);
+        self.history.reserve(formula.len(), literals)?;
+        self.live.reserve_exact(formula.len())?;
+        self.signatures.reserve_exact(formula.len())?;
+        self.occurrences.reserve_lists(self.var_count, &counts)?;
+        Ok(())
     }
 
     /// How many variables there are.
@@ -139,6 +164,11 @@ impl<A: Allocator + Copy> Database<A> {
         }
     }
 
+    /// How many literals all clauses have that there were.
+    pub fn literal_count(&self) -> usize {
+        self.history.literal_count()
+    }
+
     /// Whether the clause at the place is there and live.
     pub fn is_live(&self, place: usize) -> bool
         ensures { result ≡ slice_index_or self.now.live place false }
@@ -160,7 +190,7 @@ impl<A: Allocator + Copy> Database<A> {
     }
 
     /// The variables of the clause at the place, by bits.
-    pub fn signature(&self, place: usize) -> u64 {
+    pub fn signature(&self, place: usize) -> u32 {
         match self.signatures.get(place) {
             Some(bits) => *bits,
             None => 0,
@@ -169,10 +199,7 @@ impl<A: Allocator + Copy> Database<A> {
 
     /// How many live clauses have the literal.
     pub fn count(&self, lit: Lit) -> usize {
-        match self.counts.get(lit.code()) {
-            Some(count) => *count as usize,
-            None => 0,
-        }
+        count_at(&self.counts, lit)
     }
 
     /// Places among which each live clause with the literal is.

@@ -166,6 +166,7 @@ fn save_literal<A: Allocator + Copy>(
 fn eliminate_by<A: Allocator + Copy>(
     db: &mut Database<A>,
     lit: Lit,
+    most: &mut u64,
     scratch: &mut Scratch<A>,
 ) -> Result<bool, AllocError>
     ensures { OnOk result (Becomes db.old db.new) }
@@ -187,6 +188,11 @@ fn eliminate_by<A: Allocator + Copy>(
     if scratch.with.is_empty() && scratch.against.is_empty() {
         return Ok(false);
     }
+    let pairs = (scratch.with.len() as u64).saturating_mul(scratch.against.len() as u64);
+    if pairs > *most {
+        return Ok(false);
+    }
+    *most -= pairs;
     if !is_worth(
         db,
         lit,
@@ -218,6 +224,7 @@ fn eliminate_by<A: Allocator + Copy>(
 pub fn eliminate<A: Allocator + Copy>(
     db: &mut Database<A>,
     var: Var,
+    most: &mut u64,
     scratch: &mut Scratch<A>,
 ) -> Result<bool, AllocError>
     ensures { OnOk result (Becomes db.old db.new) }
@@ -229,6 +236,6 @@ pub fn eliminate<A: Allocator + Copy>(
     } else {
         negative
     };
-    let done = eliminate_by(db, lit, scratch)?;
+    let done = eliminate_by(db, lit, most, scratch)?;
     Ok(done)
 }

@@ -40,12 +40,25 @@ impl<A: Allocator + Copy> History<A> {
         }
     }
 
+    /// Makes room for so many clauses with so many literals in all.
+    pub fn reserve(&mut self, clauses: usize, literals: usize) -> Result<(), AllocError>
+        ensures { self.new ≡ self.old }
+    {
+        self.clauses.reserve(clauses, literals)?;
+        Ok(())
+    }
+
     /// How many clauses there were.
     pub fn len(&self) -> usize
         ensures count { result ≡ length self.now.clauses }
         ensures small { result ≤ 2 ^ 31 }
     {
         self.clauses.len()
+    }
+
+    /// How many literals the clauses have.
+    pub fn literal_count(&self) -> usize {
+        self.clauses.literal_count()
     }
 
     /// The clause at the place.

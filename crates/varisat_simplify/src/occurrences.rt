@@ -1,5 +1,5 @@
 //! For each literal the places of clauses that have it, and of some that are gone.
-ghost use Rattle.std.specs.Prelude.{◌≡◌, ◌<◌, ◌≤◌, ◌*◌, ◌-◌, ◌++◌, ◌∷◌, [], length, replicate, true, OnOk, OnErr, IfOk, slice_set, slice_index_or};
+ghost use Rattle.std.specs.Prelude.{◌≡◌, ◌<◌, ◌≤◌, ◌*◌, ◌^◌, ◌-◌, ◌++◌, ◌∷◌, [], length, replicate, true, OnOk, OnErr, IfOk, slice_set, slice_index_or};
 ghost use Rattle.std.specs.List.{filter};
 ghost use Rattle.varisat_simplify.specs.Sound.{Grows, IsListed, KeepsLive};
 ghost use Rattle.varisat_simplify.specs.Flags.{is_flagged};
@@ -60,6 +60,30 @@ impl<A: Allocator + Copy> Occurrences<A> {
         &mut self.by_lit[lit.code()]
     }
 
+    /// Makes room for so many more places of the literal, if it has a list.
+    pub fn reserve(&mut self, lit: Lit, count: usize) -> Result<(), AllocError>
+        ensures { self.new ≡ self.old }
+    {
+        if lit.code() >= self.len() {
+            return Ok(());
+        }
+        self.list_mut(lit).reserve_exact(count)?;
+        Ok(())
+    }
+
+    /// Makes room for so many more places of each literal of the first variables.
+    pub fn reserve_lists(&mut self, var_count: usize, counts: &[u32]) -> Result<(), AllocError>
+        requires { var_count ≤ 2 ^ 31 }
+        ensures { self.new ≡ self.old }
+    {
+        for index in 0..var_count {
+            let lit = Lit::from_index(index, true);
+            self.reserve(lit, count_at(counts, lit))?;
+            self.reserve(!lit, count_at(counts, !lit))?;
+        }
+        Ok(())
+    }
+
     /// One more place for the literal.
     pub fn add(&mut self, lit: Lit, place: u32) -> Result<(), AllocError>
         requires { lit < length self.old }
@@ -108,5 +132,13 @@ fn is_flagged(flags: &[bool], place: u32) -> bool
     match flags.get(place as usize) {
         Some(flag) => *flag,
         None => false,
+    }
+}
+
+/// The count for the literal.
+pub fn count_at(counts: &[u32], lit: Lit) -> usize {
+    match counts.get(lit.code()) {
+        Some(count) => *count as usize,
+        None => 0,
     }
 }

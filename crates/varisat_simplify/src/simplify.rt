@@ -19,8 +19,11 @@ use varisat_literals::{Lit, Var};
 /// How often the variables are gone through at most.
 const MOST_ROUNDS: usize = 20;
 
-/// How many pairs of clauses are compared at most.
-const MOST_COMPARISONS: u64 = 20_000_000;
+/// How many pairs of clauses are compared at most for each literal of the formula.
+const MOST_COMPARISONS: u64 = 4;
+
+/// How many pairs of clauses are resolved at most for each literal of the formula.
+const MOST_RESOLVENTS: u64 = 4;
 
 /// A simplified formula, with what extends its models.
 #[derive(Drop)]
@@ -53,6 +56,7 @@ fn load<A: Allocator + Copy>(
     ensures count { OnOk result (db.new.var_count ≡ formula.now.var_count) }
     ensures frozen { OnOk result (db.new.frozen ≡ db.old.frozen) }
 {
+    db.reserve_for(formula)?;
     for clause in formula.iter() {
         if normalize(clause, literals)? {
             db.give(literals)?;
@@ -100,7 +104,8 @@ fn eliminate_all<A: Allocator + Copy>(
     db: &mut Database<A>,
     order: &[u64],
     first: usize,
-    budget: &mut u64,
+    comparisons: &mut u64,
+    resolvents: &mut u64,
     scratch: &mut Scratch<A>,
 ) -> Result<usize, AllocError>
     ensures { OnOk result (Becomes db.old db.new) }
@@ -108,29 +113,31 @@ fn eliminate_all<A: Allocator + Copy>(
     let mut place = first;
     for key in order {
         let var = Var::from_index((*key % 0x8000_0000) as usize);
-        if eliminate(db, var, scratch)? {
-            place = subsume_from(db, place, budget, &mut scratch.literals)?;
+        if eliminate(db, var, resolvents, scratch)? {
+            place = subsume_from(db, place, comparisons, &mut scratch.literals)?;
         }
     }
     Ok(place)
 }
 
-/// Simplifies until nothing changes, or for so many rounds.
+/// Simplifies until nothing changes, or for so many rounds, or until the work is spent that `size` literals allow.
 fn run<A: Allocator + Copy>(
     db: &mut Database<A>,
+    size: u64,
     order: &mut Vec<u64, A>,
     scratch: &mut Scratch<A>,
 ) -> Result<(), AllocError>
     ensures { OnOk result (Becomes db.old db.new) }
 {
-    let mut budget = MOST_COMPARISONS;
-    let mut place = subsume_from(db, 0, &mut budget, &mut scratch.literals)?;
+    let mut comparisons = size.saturating_mul(MOST_COMPARISONS);
+    let mut resolvents = size.saturating_mul(MOST_RESOLVENTS);
+    let mut place = subsume_from(db, 0, &mut comparisons, &mut scratch.literals)?;
     for _ in 0..MOST_ROUNDS {
         candidates(db, order)?;
         if order.is_empty() {
             return Ok(());
         }
-        place = eliminate_all(db, order, place, &mut budget, scratch)?;
+        place = eliminate_all(db, order, place, &mut comparisons, &mut resolvents, scratch)?;
     }
     Ok(())
 }
@@ -154,29 +161,32 @@ fn unload<A: Allocator + Copy>(db: &Database<A>, alloc: A) -> Result<CnfFormula<
 fn simplify_in<A: Allocator + Copy>(
     alloc: A,
     db: &mut Database<A>,
-    formula: &CnfFormula<A>,
+    formula: CnfFormula<A>,
     order: &mut Vec<u64, A>,
     scratch: &mut Scratch<A>,
 ) -> Result<CnfFormula<A>, FormulaError>
-    requires { db.old ≡ no_clauses formula.now.var_count db.old.frozen }
-    ensures made { IfOk result (λ g. IsMadeOf formula.now g db.new.stack db.new.lines) }
+    requires { db.old ≡ no_clauses formula.var_count db.old.frozen }
+    ensures made { IfOk result (λ g. IsMadeOf formula g db.new.stack db.new.lines) }
     ensures frozen { IfOk result (λ _. KeepsFrozen db.old.frozen db.new.stack) }
     ensures memory { IfErr result (λ e. e ≡ Memory) }
 {
-    load(db, formula, &mut scratch.literals)?;
-    run(db, order, scratch)?;
+    load(db, &formula, &mut scratch.literals)?;
+    drop(formula);
+    let size = db.literal_count() as u64;
+    run(db, size, order, scratch)?;
     let made = unload(db, alloc)?;
     Ok(made)
 }
 
 /// Makes a formula that has a model just where the given one has, and whose models are extended to ones of it. Variables
-/// that are flagged in `frozen` are not resolved away, and no extension changes their values. The only error is out of memory.
+/// that are flagged in `frozen` are not resolved away, and no extension changes their values. The given formula's memory
+/// is given back early. The only error is out of memory.
 pub fn simplify<A: Allocator + Copy>(
     alloc: A,
-    formula: &CnfFormula<A>,
+    formula: CnfFormula<A>,
     frozen: &[bool],
 ) -> Result<Simplified<A>, FormulaError>
-    ensures made { IfOk result (λ s. IsMadeOf formula.now s.formula s.stack s.history.lines) }
+    ensures made { IfOk result (λ s. IsMadeOf formula s.formula s.stack s.history.lines) }
     ensures frozen { IfOk result (λ s. KeepsFrozen frozen.now s.stack) }
     ensures memory { IfErr result (λ e. e ≡ Memory) }
 {

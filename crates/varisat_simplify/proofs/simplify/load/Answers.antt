@@ -5,7 +5,7 @@ use Rattle.varisat_simplify.proofs.simplify.load.Goals as goal
 
 pub loop-clause-init : goal.loop-clause-init
 loop-clause-init g c =
-    loads_first c.args.formula.now.clauses c.into_iter-clause-iterator.result c.args.formula.now.var_count c.args.db.now.frozen c.args.db.now c.requires
+    loads_first c.args.formula.now.clauses c.into_iter-clause-iterator.result c.args.formula.now.var_count c.args.db.now.frozen c.reserve_for.new.self (c.reserve_for.ensures ∙ c.requires)
     (c.into_iter-clause-iterator.ensures.into_iter_gives ∙ c.iter-clause-items.ensures)
 
 pub returns-clause-reduces : goal.returns-clause-reduces
@@ -21,8 +21,8 @@ pub returns-clause-frozen : goal.returns-clause-frozen
 returns-clause-frozen g c =
     loads_flags c.args.formula.now.clauses c.loop-clause.clause-iterator c.args.formula.now.var_count c.args.db.now.frozen c.loop-clause.db c.loop-clause.invariant
 
-pub loop-clause-preserved-in-Continue-branch-2 : goal.loop-clause-preserved-in-Continue-branch-2
-loop-clause-preserved-in-Continue-branch-2 g c =
+pub loop-clause-preserved-in-Continue-branch-3 : goal.loop-clause-preserved-in-Continue-branch-3
+loop-clause-preserved-in-Continue-branch-3 g c =
     loads_give c.args.formula.now.clauses c.loop-clause.clause-iterator c.next.new.self c.args.formula.now.var_count c.args.db.now.frozen
     c.loop-clause.db c.give.new.self c.in-Some.clause.now c.normalize.new.out.items c.deref.result.now c.in-Some.ensures.steps
     (matched_true _ _ c.in_ok-normalize.field-0 c.if-branch.true (c.in_ok-normalize.ensures {u = tt})) c.deref.ensures.value

@@ -5,9 +5,9 @@ use Rattle.varisat_simplify.proofs.simplify.simplify_in.Goals as goal
 pub returns-clause-made : goal.returns-clause-made
 returns-clause-made g c =
     let r = c.in_ok-load.ensures {u = tt} in
-    made c.args.formula.now c.in_ok-made.made c.load.new.db c.run.new.db r.reduces r.count (c.in_ok-run.ensures {u = tt}) (c.in_ok-made.ensures {u = tt}).lists
+    made c.args.formula c.in_ok-made.made c.load.new.db c.run.new.db r.reduces r.count (c.in_ok-run.ensures {u = tt}) (c.in_ok-made.ensures {u = tt}).lists
 
 pub returns-clause-frozen : goal.returns-clause-frozen
 returns-clause-frozen g c =
     let r = c.in_ok-load.ensures {u = tt} in
-    stays_frozen c.args.formula.now.clauses c.load.new.db c.run.new.db c.args.db.now.frozen r.reduces r.frozen (c.in_ok-run.ensures {u = tt})
+    stays_frozen c.args.formula.clauses c.load.new.db c.run.new.db c.args.db.now.frozen r.reduces r.frozen (c.in_ok-run.ensures {u = tt})

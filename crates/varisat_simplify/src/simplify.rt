@@ -19,11 +19,11 @@ use varisat_literals::{Lit, Var};
 /// How often the variables are gone through at most.
 const MOST_ROUNDS: usize = 20;
 
-/// How many pairs of clauses are compared at most for each literal of the formula.
-const MOST_COMPARISONS: u64 = 4;
+/// How many pairs of clauses are compared at most, and one more for each literal of the formula.
+const MOST_COMPARISONS: u64 = 5_000_000;
 
-/// How many pairs of clauses are resolved at most for each literal of the formula.
-const MOST_RESOLVENTS: u64 = 4;
+/// How many pairs of clauses are resolved at most, and four more for each literal of the formula.
+const MOST_RESOLVENTS: u64 = 1_000_000;
 
 /// A simplified formula, with what extends its models.
 #[derive(Drop)]
@@ -129,8 +129,8 @@ fn run<A: Allocator + Copy>(
 ) -> Result<(), AllocError>
     ensures { OnOk result (Becomes db.old db.new) }
 {
-    let mut comparisons = size.saturating_mul(MOST_COMPARISONS);
-    let mut resolvents = size.saturating_mul(MOST_RESOLVENTS);
+    let mut comparisons = size.saturating_add(MOST_COMPARISONS);
+    let mut resolvents = size.saturating_mul(4).saturating_add(MOST_RESOLVENTS);
     let mut place = subsume_from(db, 0, &mut comparisons, &mut scratch.literals)?;
     for _ in 0..MOST_ROUNDS {
         candidates(db, order)?;

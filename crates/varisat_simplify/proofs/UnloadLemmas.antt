@@ -69,7 +69,7 @@ listing_end s f i e r = record {
 }
 
 -- what the live clauses of a state make that began with those of a formula
-pub made : (f g : Formula) (s t : State) → Reduces f.clauses s → s.var_count ≡ f.var_count → Becomes s t → Lists t g → IsMadeOf f g t.stack t.lines
+pub made : (f g : Formula) (s t : State) → Reduces f.clauses s → s.var_count ≤ f.var_count → Becomes s t → Lists t g → IsMadeOf f g t.stack t.lines
 made f g s t o c b e =
     let r = b.reduces f.clauses o in
     record {

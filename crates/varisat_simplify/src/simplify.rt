@@ -1,5 +1,5 @@
 //! The simplification of a formula.
-ghost use Rattle.std.specs.Prelude.{◌≡◌, OnOk, IfOk, IfErr};
+ghost use Rattle.std.specs.Prelude.{◌≡◌, ◌≤◌, ◌^◌, OnOk, IfOk, IfErr};
 ghost use Rattle.varisat_formula.specs.declared.formula.cnf.FormulaError.TheVariants.{Memory};
 ghost use Rattle.varisat_simplify.specs.States.{no_clauses, Reduces, Becomes};
 ghost use Rattle.varisat_simplify.specs.Stacks.{extended, KeepsFrozen};
@@ -45,15 +45,30 @@ impl<A: Allocator + Copy> Simplified<A> {
     }
 }
 
+/// How many variables there are up to the highest that the clauses name. A text's head may tell many more.
+fn named_count<A: Allocator + Copy>(formula: &CnfFormula<A>) -> usize
+    ensures small { result ≤ 2 ^ 31 }
+    ensures below { result ≤ formula.now.var_count }
+{
+    let mut count: usize = 0;
+    for clause in formula.iter() {
+        for lit in clause {
+            count = count.max(lit.index() + 1);
+        }
+    }
+    // It is never more than there are.
+    count.min(formula.var_count())
+}
+
 /// Loads the clauses of a formula, and removes tautologies.
 fn load<A: Allocator + Copy>(
     db: &mut Database<A>,
     formula: &CnfFormula<A>,
     literals: &mut Vec<Lit, A>,
 ) -> Result<(), AllocError>
-    requires { db.old ≡ no_clauses formula.now.var_count db.old.frozen }
+    requires { db.old ≡ no_clauses db.old.var_count db.old.frozen }
     ensures reduces { OnOk result (Reduces formula.now.clauses db.new) }
-    ensures count { OnOk result (db.new.var_count ≡ formula.now.var_count) }
+    ensures count { OnOk result (db.new.var_count ≡ db.old.var_count) }
     ensures frozen { OnOk result (db.new.frozen ≡ db.old.frozen) }
 {
     db.reserve_for(formula)?;
@@ -165,7 +180,8 @@ fn simplify_in<A: Allocator + Copy>(
     order: &mut Vec<u64, A>,
     scratch: &mut Scratch<A>,
 ) -> Result<CnfFormula<A>, FormulaError>
-    requires { db.old ≡ no_clauses formula.var_count db.old.frozen }
+    requires empty { db.old ≡ no_clauses db.old.var_count db.old.frozen }
+    requires small { db.old.var_count ≤ formula.var_count }
     ensures made { IfOk result (λ g. IsMadeOf formula g db.new.stack db.new.lines) }
     ensures frozen { IfOk result (λ _. KeepsFrozen db.old.frozen db.new.stack) }
     ensures memory { IfErr result (λ e. e ≡ Memory) }
@@ -190,7 +206,7 @@ pub fn simplify<A: Allocator + Copy>(
     ensures frozen { IfOk result (λ s. KeepsFrozen frozen.now s.stack) }
     ensures memory { IfErr result (λ e. e ≡ Memory) }
 {
-    let mut db = Database::new_in(alloc, formula.var_count(), frozen)?;
+    let mut db = Database::new_in(alloc, named_count(&formula), frozen)?;
     let mut scratch = Scratch {
         literals: Vec::new(alloc),
         with: Vec::new(alloc),

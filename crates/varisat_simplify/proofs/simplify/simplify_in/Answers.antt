@@ -1,11 +1,12 @@
-use Rattle.std.proofs.Common.{sym, ◌∙◌}
+use Rattle.std.proofs.Common.{arith}
 use Rattle.varisat_simplify.proofs.UnloadLemmas.{made, stays_frozen}
 use Rattle.varisat_simplify.proofs.simplify.simplify_in.Goals as goal
 
 pub returns-clause-made : goal.returns-clause-made
 returns-clause-made g c =
     let r = c.in_ok-load.ensures {u = tt} in
-    made c.args.formula c.in_ok-made.made c.load.new.db c.run.new.db r.reduces r.count (c.in_ok-run.ensures {u = tt}) (c.in_ok-made.ensures {u = tt}).lists
+    made c.args.formula c.in_ok-made.made c.load.new.db c.run.new.db r.reduces
+    (let n = r.count in let m = c.requires.small in omega (arith, n, m)) (c.in_ok-run.ensures {u = tt}) (c.in_ok-made.ensures {u = tt}).lists
 
 pub returns-clause-frozen : goal.returns-clause-frozen
 returns-clause-frozen g c =

@@ -1,8 +1,8 @@
 -- The live clauses as a formula.
-use Rattle.std.proofs.Common.{◌≡◌, ℕ, zero, suc, ◌+◌, ◌<◌, ◌≤◌, Bool, true, false, List, [], ◌∷◌, ◌++◌, sym, ap, ◌∙◌, subst, refl, length, get_or, take, take_all, append-nil, add-one, arith}
+use Rattle.std.proofs.Common.{◌≡◌, ℕ, zero, suc, ◌+◌, ◌/◌, ◌<◌, ◌≤◌, Bool, true, false, List, [], ◌∷◌, ◌++◌, sym, ap, ◌∙◌, subst, refl, length, get_or, take, take_all, append-nil, add-one, arith}
 use Rattle.varisat_theory.specs.Membership.{◌∈◌}
 use Rattle.varisat_theory.specs.Literals.{Clause, Assignment, SatisfiesAll}
-use Rattle.varisat_formula.specs.Formulas.{Formula, with_one_more}
+use Rattle.varisat_formula.specs.Formulas.{Formula, AllBelow, AreBelow, with_one_more}
 use Rattle.varisat_simplify.specs.Leading.{LeadsTo, IsNamedBy}
 use Rattle.varisat_simplify.specs.Stacks.{assignment_of, extended, KeepsFrozen}
 use Rattle.varisat_simplify.specs.States.{State, flagged, clause_at, live_clauses, Models, Reduces, Becomes}
@@ -69,14 +69,14 @@ listing_end s f i e r = record {
 }
 
 -- what the live clauses of a state make that began with those of a formula
-pub made : (f g : Formula) (s t : State) → Reduces f.clauses s → s.var_count ≤ f.var_count → Becomes s t → Lists t g → IsMadeOf f g t.stack t.lines
+pub made : (f g : Formula) (s t : State) → Reduces f.clauses s → ((n : ℕ) → AreBelow n f.clauses → s.var_count ≤ n) → Becomes s t → Lists t g → IsMadeOf f g t.stack t.lines
 made f g s t o c b e =
     let r = b.reduces f.clauses o in
     record {
       keeps = λ a h x m.
           let k = flagged_from t.live t.clauses x (subst (λ (l : List Clause). x ∈ l) e.same m) in
           satisfies_same a x (clause_at t k.0) (sym k.2) (r.keeps a h k.0 k.1);
-      extends = λ vs h m. r.extends vs (let d = b.count in omega (arith, h, c, d))
+      extends = λ vs h m. r.extends vs (let d = b.count in let x = c (length vs) h in omega (arith, x, d))
           (λ k live. m (clause_at t k) (subst (λ (l : List Clause). clause_at t k ∈ l) (sym e.same) (clause_held t k r.even live)));
       leads = subst (λ (l : List Clause). LeadsTo f.clauses t.lines l) (sym e.same) r.leads;
       named = λ x l m h.
@@ -94,3 +94,16 @@ derives_made f g stack lines more m d = derives_behind f.clauses lines g.clauses
 
 pub refutes_made : RefutesBehind
 refutes_made f g stack lines more m r = refutes_behind f.clauses lines g.clauses more m.leads r
+
+-- a literal of those that are below the count
+pub below_at : (n : ℕ) (ls : List ℕ) (i x : ℕ) → AllBelow n ls → i < length ls → x ≡ get_or ls i x → x / 2 < n
+below_at n ls i x b h e = subst (λ y. y / 2 < n) (sym e) (go ls i b h)
+  where
+    go : (ls : List ℕ) (i : ℕ) → AllBelow n ls → i < length ls → get_or ls i x / 2 < n
+    go [] i b h = absurd (omega (arith, h))
+    go (l ∷ ls) zero b h = b.0
+    go (l ∷ ls) (suc i) b h = go ls i b.1 (omega (arith, h))
+
+-- a clause and the others of those that are below the count
+pub below_next : (n : ℕ) (P tail : List Clause) (c : Clause) → P ≡ c ∷ tail → AreBelow n P → AllBelow n c × AreBelow n tail
+below_next n P tail c e b = subst (λ (Q : List Clause). AreBelow n Q) e b

@@ -2,7 +2,7 @@
 use Rattle.std.specs.Prelude.{◌≡◌, ℕ, ◌≤◌, Bool, List, ◌++◌, length}
 use Rattle.varisat_theory.specs.Literals.{Clause, Assignment, SatisfiesAll}
 use Rattle.varisat_theory.specs.Derivations.{Line, IsDerivation, Refutes, SpeakOf}
-use Rattle.varisat_formula.specs.Formulas.{Formula}
+use Rattle.varisat_formula.specs.Formulas.{Formula, AreBelow}
 use Rattle.varisat_simplify.specs.Leading.{LeadsTo, IsNamedBy, AreNamedBy}
 use Rattle.varisat_simplify.specs.Stacks.{assignment_of, extended}
 use Rattle.varisat_simplify.specs.States.{State, live_clauses}
@@ -16,8 +16,8 @@ pub record Lists (s : State) (f : Formula) : Type 0 where
 pub record IsMadeOf (f g : Formula) (stack : List Clause) (lines : List Line) : Type 0 where
   -- what satisfies f satisfies g
   pub keeps : (a : Assignment) → SatisfiesAll a f.clauses → SatisfiesAll a g.clauses
-  -- values for all variables that satisfy g are extended to ones that satisfy f
-  pub extends : (vs : List Bool) → f.var_count ≤ length vs → SatisfiesAll (assignment_of vs) g.clauses → SatisfiesAll (assignment_of (extended stack vs)) f.clauses
+  -- values for all variables that f names that satisfy g are extended to ones that satisfy f
+  pub extends : (vs : List Bool) → AreBelow (length vs) f.clauses → SatisfiesAll (assignment_of vs) g.clauses → SatisfiesAll (assignment_of (extended stack vs)) f.clauses
   -- The lines are a derivation from the clauses of f: each added clause follows where its line stands, each deletion names a clause
   -- that is present, and in the end just the clauses of g are present.
   pub leads : LeadsTo f.clauses lines g.clauses

@@ -1,6 +1,7 @@
 //! The simplification of a formula.
-ghost use Rattle.std.specs.Prelude.{◌≡◌, ◌≤◌, ◌^◌, OnOk, IfOk, IfErr};
+ghost use Rattle.std.specs.Prelude.{◌≡◌, ℕ, ◌/◌, ◌<◌, ◌≤◌, ◌^◌, OnOk, IfOk, IfErr};
 ghost use Rattle.varisat_formula.specs.declared.formula.cnf.FormulaError.TheVariants.{Memory};
+ghost use Rattle.varisat_formula.specs.Formulas.{AllBelow, AreBelow};
 ghost use Rattle.varisat_simplify.specs.States.{no_clauses, Reduces, Becomes};
 ghost use Rattle.varisat_simplify.specs.Stacks.{extended, KeepsFrozen};
 ghost use Rattle.varisat_simplify.specs.Simplified.{Lists, IsMadeOf};
@@ -45,19 +46,42 @@ impl<A: Allocator + Copy> Simplified<A> {
     }
 }
 
+/// The count, or one that has the literal's variable too.
+fn raised_by(count: usize, lit: Lit) -> usize
+    requires { count ≤ 2 ^ 31 }
+    ensures least { (n : ℕ) → lit / 2 < n → count ≤ n → result ≤ n }
+    ensures small { result ≤ 2 ^ 31 }
+{
+    if lit.index() >= count {
+        lit.index() + 1
+    } else {
+        count
+    }
+}
+
+/// The same of each literal of a clause.
+fn raised(count: usize, clause: &[Lit]) -> usize
+    requires { count ≤ 2 ^ 31 }
+    ensures least { (n : ℕ) → AllBelow n clause.now → count ≤ n → result ≤ n }
+    ensures small { result ≤ 2 ^ 31 }
+{
+    let mut most = count;
+    for lit in clause {
+        most = raised_by(most, *lit);
+    }
+    most
+}
+
 /// How many variables there are up to the highest that the clauses name. A text's head may tell many more.
 fn named_count<A: Allocator + Copy>(formula: &CnfFormula<A>) -> usize
+    ensures least { (n : ℕ) → AreBelow n formula.now.clauses → result ≤ n }
     ensures small { result ≤ 2 ^ 31 }
-    ensures below { result ≤ formula.now.var_count }
 {
-    let mut count: usize = 0;
+    let mut most: usize = 0;
     for clause in formula.iter() {
-        for lit in clause {
-            count = count.max(lit.index() + 1);
-        }
+        most = raised(most, clause);
     }
-    // It is never more than there are.
-    count.min(formula.var_count())
+    most
 }
 
 /// Loads the clauses of a formula, and removes tautologies.
@@ -181,7 +205,7 @@ fn simplify_in<A: Allocator + Copy>(
     scratch: &mut Scratch<A>,
 ) -> Result<CnfFormula<A>, FormulaError>
     requires empty { db.old ≡ no_clauses db.old.var_count db.old.frozen }
-    requires small { db.old.var_count ≤ formula.var_count }
+    requires least { (n : ℕ) → AreBelow n formula.clauses → db.old.var_count ≤ n }
     ensures made { IfOk result (λ g. IsMadeOf formula g db.new.stack db.new.lines) }
     ensures frozen { IfOk result (λ _. KeepsFrozen db.old.frozen db.new.stack) }
     ensures memory { IfErr result (λ e. e ≡ Memory) }

@@ -6,7 +6,7 @@ pub returns-clause-made : goal.returns-clause-made
 returns-clause-made g c =
     let r = c.in_ok-load.ensures {u = tt} in
     made c.args.formula c.in_ok-made.made c.load.new.db c.run.new.db r.reduces
-    (let n = r.count in let m = c.requires.small in omega (arith, n, m)) (c.in_ok-run.ensures {u = tt}) (c.in_ok-made.ensures {u = tt}).lists
+    (λ n b. let e = r.count in let m = c.requires.least n b in omega (arith, e, m)) (c.in_ok-run.ensures {u = tt}) (c.in_ok-made.ensures {u = tt}).lists
 
 pub returns-clause-frozen : goal.returns-clause-frozen
 returns-clause-frozen g c =

@@ -1,0 +1,22 @@
+use Rattle.std.proofs.Common.{ℕ, List, ◌∙◌, sym, subst, arith}
+use Rattle.varisat_theory.specs.Literals.{Clause}
+use Rattle.varisat_formula.specs.Formulas.{AreBelow}
+use Rattle.varisat_simplify.proofs.UnloadLemmas.{below_next}
+use Rattle.varisat_simplify.proofs.simplify.named_count.Goals as goal
+
+pub loop-clause-init : goal.loop-clause-init
+loop-clause-init g c = record {
+  rest = λ n b. subst (λ (Q : List Clause). AreBelow n Q)
+      (sym (c.into_iter-clause-iterator.ensures.into_iter_gives ∙ c.iter-clause-items.ensures)) b;
+  least = λ n b. omega arith;
+  small = omega arith;
+}
+
+pub loop-clause-preserved : goal.loop-clause-preserved
+loop-clause-preserved g c = record {
+  rest = λ n b. (below_next n c.loop-clause.clause-iterator c.next.new.self c.in-Some.clause.now c.in-Some.ensures.steps (c.loop-clause.invariant.rest n b)).1;
+  least = λ n b. c.raised-most.ensures.least n
+      (below_next n c.loop-clause.clause-iterator c.next.new.self c.in-Some.clause.now c.in-Some.ensures.steps (c.loop-clause.invariant.rest n b)).0
+      (c.loop-clause.invariant.least n b);
+  small = c.raised-most.ensures.small;
+}

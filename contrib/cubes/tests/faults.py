@@ -88,7 +88,7 @@ def try_faults(folder):
     faults = [
         ((missing, "batch 4.marked is not there"), lambda proof: proof.unlink()),
         ((missing, "batch 4.marked does not refute it"), lambda proof: proof.write_bytes(b"")),
-        ((refused, missing), lambda proof: os.truncate(proof, proof.stat().st_size // 2)),
+        ((refused, missing), lambda proof: os.truncate(proof, proof.read_bytes().index(b" ", proof.stat().st_size // 2) + 1)),
         ((missing,), lambda proof: change(proof, rb"^f 12 4 0\n[^\0]*", b"")),
         ((missing, "cube -1 -2 -3 4 12 0"), lambda proof: change(proof, rb"^f 12 4 0\n", b"")),
         ((refused, missing), lambda proof: change(proof, rb"^f -11 3 0\n", b"f 3 0\n")),

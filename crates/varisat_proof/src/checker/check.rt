@@ -245,7 +245,8 @@ impl<A: Allocator + Copy> Checker<A> {
         builder: &mut ReportBuilder<A>,
         core: &[Lit],
     ) -> Result<LineStatus, AllocError>
-        ensures status { TellsStatus strict_rules (state_of self.old.clauses builder.old) (line_of_kind Fails core.now) result (state_of self.new.clauses builder.new) }
+        ensures status { TellsStatus strict_rules (state_of self.old.clauses builder.old) (line_of_kind Fails core.now) result
+            (state_of self.new.clauses builder.new) }
         ensures spent { self.new.spent ≡ self.old.spent }
     {
         if !builder.assumes(core) {
@@ -266,7 +267,8 @@ impl<A: Allocator + Copy> Checker<A> {
         kind: LineKind,
         clause: &[Lit],
     ) -> Result<LineStatus, AllocError>
-        ensures status { TellsStatus strict_rules (state_of self.old.clauses builder.old) (line_of_kind kind clause.now) result (state_of self.new.clauses builder.new) }
+        ensures status { TellsStatus strict_rules (state_of self.old.clauses builder.old) (line_of_kind kind clause.now) result
+            (state_of self.new.clauses builder.new) }
         ensures spent { self.new.spent ≡ self.old.spent }
     {
         match kind {
@@ -321,7 +323,9 @@ impl<A: Allocator + Copy> Checker<A> {
         kind: LineKind,
         clause: &[Lit],
     ) -> Result<LineStatus, AllocError>
-        ensures status { (Conflicts self.old.clauses [] → ⊥) → TellsStatus (rules_of rules) (state_of self.old.clauses builder.old) (line_of_kind kind clause.now) result (state_of self.new.clauses builder.new) }
+        ensures status { (Conflicts self.old.clauses [] → ⊥) →
+            TellsStatus (rules_of rules) (state_of self.old.clauses builder.old) (line_of_kind kind clause.now) result
+            (state_of self.new.clauses builder.new) }
         ensures spent { self.new.spent ≡ self.old.spent }
     {
         match rules {
@@ -636,7 +640,8 @@ impl<A: Allocator + Copy> Checker<A> {
         counts: &mut DratCounts,
     ) -> Result<CheckVerdict, CheckerError>
         requires few { (S.stand source.old).faults < 2 ^ 64 - 1 }
-        ensures checks { self.old.spent ≡ false → ChecksDrat format (standing_of self.old (S.stand source.old)) result (standing_of self.new (S.stand source.new)) }
+        ensures checks { self.old.spent ≡ false → ChecksDrat format (standing_of self.old (S.stand source.old)) result
+            (standing_of self.new (S.stand source.new)) }
         ensures refused { self.old.spent ≡ true → (result ≡ Err Spent) × (self.new ≡ self.old) × (source.new ≡ source.old) }
         ensures usable { OnOk result (self.new.spent ≡ self.old.spent) }
         ensures spends { IfErr result (λ e. self.new.spent ≡ (self.old.spent || spends e)) }

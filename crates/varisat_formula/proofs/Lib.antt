@@ -9,7 +9,6 @@ pub mod ParserMemory
 pub mod ParserProgress
 pub mod ParserTakes
 pub mod PieceReaders
-pub mod PrintedTexts
 pub mod SmallTexts
 pub mod TakenTexts
 pub mod TargetParts

@@ -3,7 +3,6 @@ pub mod Equality
 pub mod Formulas
 pub mod Machine
 pub mod Parsed
-pub mod Printed
 pub mod Rest
 pub mod Streams
 pub mod TakenTexts

@@ -8,7 +8,7 @@ pub mod output;
 pub mod source;
 
 pub use cut::{CutSource, CutTarget};
-pub use output::{IoTarget, print_text, write_text};
+pub use output::IoTarget;
 pub use source::{ByteSource, PIECE, ReadSource};
 use std::alloc::Allocator;
 use std::io;

@@ -1,7 +1,6 @@
 //! A target over a writer.
 ghost use Rattle.std.specs.Prelude.{◌≡◌, ℕ, List, Option, None, Some, [], ◌++◌, ◌+◌, ◌-◌, ◌<◌, ◌≤◌, ◌^◌, length, take, OnOk, OnErr};
 ghost use Rattle.std.specs.Io.KnownBytes.{Appends, Keeps};
-ghost use Rattle.varisat_formula.specs.Printed.{AppendsPart};
 
 use crate::io::ProofTarget;
 use crate::io::history::{History, Part};
@@ -47,25 +46,6 @@ fn write_bytes<W: Write>(writer: &mut W, bytes: &[u8]) -> (usize, io::Result<()>
         }
     }
     (done, Err(io::Error::from(ErrorKind::TimedOut)))
-}
-
-/// Writes the text, or a beginning of it where the writer fails.
-pub fn write_text<W: Write>(writer: &mut W, text: &[u8]) -> io::Result<()>
-    ensures whole { OnOk result (Appends (W.contents writer.old) (W.contents writer.new) text.now) }
-    ensures begun { OnErr result (AppendsPart (W.contents writer.old) (W.contents writer.new) text.now) }
-{
-    let (_done, outcome) = write_bytes(writer, text);
-    outcome
-}
-
-/// Writes the text and flushes the writer. Where this fails it has a beginning of the text.
-pub fn print_text<W: Write>(writer: &mut W, text: &[u8]) -> io::Result<()>
-    ensures whole { OnOk result (Appends (W.contents writer.old) (W.contents writer.new) text.now) }
-    ensures begun { OnErr result (AppendsPart (W.contents writer.old) (W.contents writer.new) text.now) }
-{
-    write_text(writer, text)?;
-    writer.flush()?;
-    Ok(())
 }
 
 impl<W: Write + Drop> IoTarget<W> {

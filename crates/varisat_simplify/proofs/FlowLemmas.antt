@@ -12,7 +12,8 @@ use Rattle.varisat_theory.proofs.Places.{∈-take_more, ∈-take_all}
 use Rattle.varisat_theory.proofs.Values.{true_or_opposite}
 use Rattle.varisat_simplify.specs.Stacks.{assignment_of, extended}
 use Rattle.varisat_simplify.specs.States.{State, no_clauses, given, pushed, removed, clause_at, IsLive, live_clauses, flagged, deletion, Models, Reduces, Becomes, Collects}
-use Rattle.varisat_simplify.specs.Resolving.{LeavesOut, IsTautology}
+use Rattle.varisat_simplify.specs.Resolving.{LeavesOut}
+use Rattle.varisat_theory.specs.Searches.{IsTautology}
 use Rattle.varisat_simplify.proofs.StateLemmas.{becomes_self, live_below, live_pushed, pushed_keeps, pushed_live, pushed_even, pushed_new, removed_even, removed_keeps, removed_live, remove_reduces, satisfies_more, satisfies_same, strengthened}
 
 pub becomes_same : (s t : State) → t ≡ s → Becomes s t

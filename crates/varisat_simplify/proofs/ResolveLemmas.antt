@@ -7,7 +7,8 @@ use Rattle.varisat_theory.specs.Literals.{Literal, Clause, opposite}
 use Rattle.varisat_theory.proofs.Members.{∈-append_left, ∈-append_right, ∈-append_cases}
 use Rattle.varisat_theory.proofs.Places.{∈-get_or, ∈-take_more, ∈-take_all}
 use Rattle.varisat_theory.proofs.Values.{parity}
-use Rattle.varisat_simplify.specs.Resolving.{LeavesOut, Resolves, Clashes, IsTautology}
+use Rattle.varisat_simplify.specs.Resolving.{LeavesOut, Resolves, Clashes}
+use Rattle.varisat_theory.specs.Searches.{IsTautology}
 use Rattle.varisat_simplify.specs.Stacks.{amended, extended}
 
 -- no element is among the first none

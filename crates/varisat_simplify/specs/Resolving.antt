@@ -43,7 +43,3 @@ pub record Resolves (c d : Clause) (l : Literal) (e : Clause) : Type 0 where
 -- the clauses have another literal and its opposite
 abbrev pub Clashes : Clause → Clause → Literal → Type 0
 Clashes c d l = (m : Literal) × (m ∈ c) × (m ≡ l → ⊥) × (opposite m ∈ d)
-
--- a literal and its opposite are in the clause
-abbrev pub IsTautology : Clause → Type 0
-IsTautology c = (m : Literal) × (m ∈ c) × (opposite m ∈ c)

@@ -17,7 +17,8 @@ pub record IsMadeOf (f g : Formula) (stack : List Clause) (lines : List Line) : 
   -- what satisfies f satisfies g
   pub keeps : (a : Assignment) → SatisfiesAll a f.clauses → SatisfiesAll a g.clauses
   -- values for all variables that f names that satisfy g are extended to ones that satisfy f
-  pub extends : (vs : List Bool) → AreBelow (length vs) f.clauses → SatisfiesAll (assignment_of vs) g.clauses → SatisfiesAll (assignment_of (extended stack vs)) f.clauses
+  pub extends : (vs : List Bool) → AreBelow (length vs) f.clauses → SatisfiesAll (assignment_of vs) g.clauses →
+      SatisfiesAll (assignment_of (extended stack vs)) f.clauses
   -- The lines are a derivation from the clauses of f: each added clause follows where its line stands, each deletion names a clause
   -- that is present, and in the end just the clauses of g are present.
   pub leads : LeadsTo f.clauses lines g.clauses

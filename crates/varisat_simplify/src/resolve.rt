@@ -2,7 +2,8 @@
 ghost use Rattle.std.specs.Prelude.{◌≡◌, ◌↔◌, true, false, IsTrue, IfOk, OnOk, MatchBool};
 ghost use Rattle.varisat_theory.specs.Literals.{opposite};
 ghost use Rattle.varisat_theory.specs.Membership.{◌∈◌, SameSet};
-ghost use Rattle.varisat_simplify.specs.Resolving.{Stands, Relates, LeavesOut, Resolves, Clashes, IsTautology};
+ghost use Rattle.varisat_simplify.specs.Resolving.{Stands, Relates, LeavesOut, Resolves, Clashes};
+ghost use Rattle.varisat_theory.specs.Searches.{IsTautology};
 
 use std::alloc::{AllocError, Allocator};
 use varisat_literals::Lit;

@@ -8,27 +8,28 @@ use std::marker::Model;
 use varisat_literals::Lit;
 
 /// How many literals stand in place.
-const FEW: usize = 5;
+const FEW: usize = 3;
 
-/// A list of literals. Up to five stand in place, so that who has looked at the list has them too, and needs not wait for
+/// A list of literals. Up to three stand in place, so that who has looked at the list has them too, and needs not wait for
 /// memory once more.
 #[derive(Drop)]
 pub struct ShortList<A: Allocator + Copy> {
-    few: [Lit; 5],
+    few: [Lit; 3],
+    // How many stand in place; where it is more than three all literals stand in `many`. It is next to them, so that one look at
+    // memory is enough for most lists.
     count: u32,
-    // Where it is not empty all literals stand in it, and none in place.
     many: Vec<Lit, A>,
 }
 
 impl<A: Allocator + Copy> Model for ShortList<A> {
-    ghost use Rattle.std.specs.Prelude.{◌≡◌, ◌≤◌, ◌<◌, List, ℕ, length};
+    ghost use Rattle.std.specs.Prelude.{◌≡◌, ◌≤◌, List, ℕ, []};
     ghost use Rattle.varisat_prop.specs.ShortLists.{short_list};
 
     ghost Value = { List ℕ };
 
     ghost view = { λ s. short_list s.few s.count s.many.items };
 
-    ghost invariant = { λ s. (s.count ≤ 5) × (0 < length s.many.items → s.count ≡ 0) };
+    ghost invariant = { λ s. (s.count ≤ 4) × (s.count ≤ 3 → s.many.items ≡ []) };
 }
 
 impl<A: Allocator + Copy> ShortList<A> {
@@ -38,7 +39,7 @@ impl<A: Allocator + Copy> ShortList<A> {
     {
         let none = Lit::from_code(0);
         ShortList {
-            few: [none, none, none, none, none],
+            few: [none, none, none],
             count: 0,
             many: Vec::new(alloc),
         }
@@ -48,8 +49,9 @@ impl<A: Allocator + Copy> ShortList<A> {
     pub fn as_slice(&self) -> &[Lit]
         ensures { result.now ≡ self.now }
     {
-        if self.many.is_empty() {
-            return &self.few[..self.count as usize];
+        let count = self.count as usize;
+        if count <= FEW {
+            return &self.few[..count];
         }
         self.many.as_slice()
     }
@@ -58,18 +60,18 @@ impl<A: Allocator + Copy> ShortList<A> {
     pub fn push(&mut self, lit: Lit) -> Result<(), AllocError>
         ensures { OnOk result (self.new ≡ self.old ++ lit ∷ []) }
     {
-        if !self.many.is_empty() {
-            self.many.push(lit)?;
-            return Ok(());
-        }
         let count = self.count as usize;
         if count < FEW {
             self.few[count] = lit;
             self.count += 1;
             return Ok(());
         }
+        if count > FEW {
+            self.many.push(lit)?;
+            return Ok(());
+        }
         self.many.extend_from_slice(&self.few)?;
-        self.count = 0;
+        self.count += 1;
         self.many.push(lit)?;
         Ok(())
     }
@@ -90,9 +92,9 @@ impl<A: Allocator + Copy> ShortList<A> {
         if have_no_value(values, self.as_slice()) {
             return;
         }
-        if self.many.is_empty() {
+        let count = self.count as usize;
+        if count <= FEW {
             let lits = self.few;
-            let count = self.count as usize;
             self.count = compact(&mut self.few, &lits[..count], values) as u32;
             return;
         }

@@ -3,23 +3,23 @@ use Rattle.std.proofs.lemmas.Grind.{common_steps}
 use Rattle.varisat_prop.proofs.ShortLists.{short_pushed, short_put, short_moved}
 use Rattle.varisat_prop.proofs.short.ShortList.push.Goals as goal
 
-pub returns-then-not-is_empty : goal.returns-then-not-is_empty
-returns-then-not-is_empty g c =
-    let s = c.self.inside in
-    let h : 0 < length s.many.items = grind (arith, common_steps) in
-    rw (← c.self.view_is) (short_pushed s.few s.many.items c.push.new.self.items s.count c.args.lit h c.in_ok-push.ensures.items)
-
 pub returns-then-count-lt-FEW : goal.returns-then-count-lt-FEW
 returns-then-count-lt-FEW g c =
     let s = c.self.inside in
-    let e : length s.many.items ≡ 0 = grind (arith, common_steps) in
+    let f : s.count < 3 = grind (arith, common_steps) in
     let h : s.count < length s.few = grind (arith, common_steps) in
-    rw (← c.self.view_is) (short_put s.few s.many.items s.count c.args.lit e h)
+    rw (← c.self.view_is) (short_put s.few s.many.items s.count c.args.lit f h)
+
+pub returns-then-count-gt-FEW : goal.returns-then-count-gt-FEW
+returns-then-count-gt-FEW g c =
+    let s = c.self.inside in
+    let h : 3 < s.count = grind (arith, common_steps) in
+    rw (← c.self.view_is) (short_pushed s.few s.many.items c.push.new.self.items s.count c.args.lit h c.in_ok-push.ensures.items)
 
 pub returns : goal.returns
 returns g c =
     let s = c.self.inside in
-    let e : length s.many.items ≡ 0 = grind (arith, common_steps) in
+    let t : s.count ≡ 3 = grind (arith, common_steps) in
     let h : length s.few ≤ s.count = grind (arith, common_steps) in
     let n : c.push-2.new.self.items ≡ s.few ++ c.args.lit ∷ [] = grind (arith, common_steps) in
-    rw (← c.self.view_is) (short_moved s.few s.many.items c.push-2.new.self.items s.count c.args.lit e h n)
+    rw (← c.self.view_is) (short_moved s.few s.many.items c.push-2.new.self.items s.count c.args.lit t h n)

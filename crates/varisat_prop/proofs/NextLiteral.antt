@@ -53,10 +53,11 @@ module _ {W : Watches} {s : View} {l : Literal} (n : IsNext W s l) where
     pub taken-inside : l < length V.lists
     taken-inside = let h = next-list in let a = ap (λ (X : Watches). length X.lists) out in let b = length-set W.lists l [] in omega (arith, h, a, b)
 
+    pub taken-back : with_watches V l ws ≡ W
+    taken-back = ap (λ xs. with_watches V l xs) is ∙ ap (λ (X : Watches). with_watches X l (watches_of W l)) out ∙ put-back W l
+
     pub taken-next : IsNext (with_watches V l ws) s l
-    taken-next =
-        let e : with_watches V l ws ≡ W = ap (λ xs. with_watches V l xs) is ∙ ap (λ (X : Watches). with_watches X l (watches_of W l)) out ∙ put-back W l in
-        subst (λ X. IsNext X s l) (sym e) n
+    taken-next = subst (λ X. IsNext X s l) (sym taken-back) n
 
 -- and is put back
 pub goes-put : {p q : SearchParts} {V X : Watches} → GoesOnWith p q V → X ≡ V → GoesOnWith p q X

@@ -178,7 +178,7 @@ fn close_gap<A: Allocator + Copy>(list: &mut Vec<Watch, A>, start: usize, end: u
 }
 
 /// Visits the watches of a literal, which became true. Those that stay are moved to the front as it goes.
-fn visit_watches<A: Allocator + Copy>(
+pub(crate) fn visit_watches<A: Allocator + Copy>(
     assignment: &mut Assignment<A>,
     alloc: &mut ClauseAlloc<A>,
     graph: &mut ImplGraph<A>,

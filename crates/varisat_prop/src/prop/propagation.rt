@@ -15,7 +15,7 @@ use crate::clause::ClauseAlloc;
 use crate::prop::assignment::Assignment;
 use crate::prop::binary::propagate_binary;
 use crate::prop::graph::{Conflict, ImplGraph};
-use crate::prop::long::propagate_long;
+use crate::prop::long::visit_watches;
 use crate::prop::trail::Trail;
 use crate::prop::watch::Watchlists;
 use std::alloc::{AllocError, Allocator};
@@ -60,10 +60,18 @@ fn propagate_lit<A: Allocator + Copy>(
     ensures goes { OnOk result (PartsGoOn alloc.old alloc.new binary.now assignment.old assignment.new trail.old trail.new graph.old graph.new watchlists.new) }
     ensures ends { IfOk result (EndsPropagation IsNextPropagated (view_of alloc.new binary.now assignment.new trail.new graph.new)) }
 {
+    // Both lists are asked for before either is gone through, so that they are waited for together.
+    let mut list = watchlists.take_list(lit);
     match propagate_binary(assignment, alloc, graph, trail, binary, lit)? {
-        Err(conflict) => Ok(Err(conflict)),
+        Err(conflict) => {
+            watchlists.put_list(lit, list);
+            Ok(Err(conflict))
+        }
         Ok(()) => {
-            let end = propagate_long(assignment, alloc, graph, trail, binary, watchlists, lit)?;
+            let end = visit_watches(
+                assignment, alloc, graph, trail, binary, watchlists, &mut list, lit,
+            )?;
+            watchlists.put_list(lit, list);
             Ok(end)
         }
     }

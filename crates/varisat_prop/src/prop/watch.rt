@@ -39,21 +39,6 @@ impl<A: Allocator + Copy> Model for Watchlists<A> {
     ghost view = { λ s. record { lists = map (λ v. v.items) s.watches.items; enabled = s.enabled } };
 }
 
-/// For how many watches a list has room at first. Most lists come to more than the four of any first growth, and as many
-/// growths as there are literals take a good part of the time in which a formula is read.
-const FIRST_ROOM: usize = 8;
-
-/// One more watch on the list.
-fn push_watch<A: Allocator + Copy>(list: &mut Vec<Watch, A>, watch: Watch) -> Result<(), AllocError>
-    ensures { OnOk result (list.new.items ≡ list.old.items ++ watch ∷ []) }
-{
-    if list.is_empty() {
-        list.reserve(FIRST_ROOM)?;
-    }
-    list.push(watch)?;
-    Ok(())
-}
-
 impl<A: Allocator + Copy> Watchlists<A> {
     ghost use Rattle.std.specs.Borrow.{sem};
     ghost use Rattle.varisat_prop.specs.Lending.{lends_list};
@@ -152,7 +137,7 @@ impl<A: Allocator + Copy> Watchlists<A> {
         requires { lit < length self.old.lists }
         ensures { OnOk result (self.new ≡ with_watches self.old lit (watches_of self.old lit ++ watch ∷ [])) }
     {
-        push_watch(self.watched_by_mut(lit), watch)?;
+        self.watched_by_mut(lit).push(watch)?;
         Ok(())
     }
 

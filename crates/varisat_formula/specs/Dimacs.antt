@@ -1,4 +1,5 @@
 -- What a whole DIMACS CNF text means, by its lines and tokens.
+-- The format is that of the DIMACS challenge of 1993.
 use Rattle.std.specs.Prelude.{ℕ, zero, suc, ◌+◌, ◌-◌, ◌*◌, ◌/◌, ◌^◌, ◌≤◌, min, max, Bool, true, false, ◌&&◌, ◌||◌, not, is_some, if◌then◌else◌, nat_lt, nat_le, ◌==◌, List, [], ◌∷◌, ◌++◌, map, Option, Some, None, codes, bytes_eq}
 use Rattle.varisat_theory.specs.Literals.{literal_of}
 use Rattle.varisat_literals.specs.Numbers.{variable_limit}

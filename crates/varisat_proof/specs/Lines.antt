@@ -1,4 +1,5 @@
 -- The lines of a proof, and the formats that have them.
+-- DRAT is the format of Wetzler, Heule and Hunt (2014).
 use Rattle.std.specs.Prelude.{◌≡◌, ℕ, min, ◌-◌, ◌^◌, ◌==◌, Bool, true, false, if◌then◌else◌, List, [], ◌∷◌, map, Option, Some, None}
 use Rattle.varisat_theory.specs.Literals.{Clause}
 use Rattle.varisat_theory.specs.Derivations.{Line, Add, Delete}

@@ -1,8 +1,7 @@
 -- What the solver's calls do to the states that it stands for.
 use Rattle.std.proofs.Common.{Result, Ok, Err, Vec, ◌≡◌, ◌≢◌, ◌↔◌, if◌then◌else◌, ℕ, zero, suc, ◌+◌, ◌-◌, ◌<◌, ◌≤◌, Bool, true, false, not, Option, Some, None, List, [], ◌∷◌, ◌++◌, ◌⊎◌, inl, inr, ⊎_elim, length, map, get_or, sym, ap, ◌∙◌, subst, refl, arith}
 use Rattle.varisat_theory.specs.Membership.{◌∈◌}
-use Rattle.varisat_theory.specs.Literals.{Literal, Clause, Assignment, variable_of, literal_of, IsSatisfiableWith, IsFailedCore}
-use Rattle.varisat_literals.specs.Numbers.{polarity_of}
+use Rattle.varisat_theory.specs.Literals.{Literal, Clause, Assignment, variable_of, IsSatisfiableWith, IsFailedCore}
 use Rattle.varisat_theory.specs.Derivations.{Line}
 use Rattle.varisat_theory.specs.CallBounds.{AreFew}
 use Rattle.varisat_theory.specs.Searches.{IsLiteralOf}
@@ -11,7 +10,7 @@ use Rattle.varisat_theory.specs.Outcomes as outcome
 use Rattle.varisat_theory.proofs.Renaming.{map-∈}
 use Rattle.varisat_prop.proofs.LiteralValues.{same-literal}
 use Rattle.varisat_theory.proofs.StepStands.{first_stands}
-use Rattle.varisat_prop.specs.Parts.{IsMadeTrue, is_true_value}
+use Rattle.varisat_prop.specs.Parts.{is_true_value}
 use Rattle.varisat_prop.specs.View.{View, WellFormed}
 use Rattle.varisat_search.specs.declared.state.SatState.{SatState}
 use Rattle.varisat_search.specs.declared.state.SatState.TheVariants as verdict
@@ -21,8 +20,6 @@ use Rattle.varisat_search.specs.Contexts.{view, IsReady}
 use Rattle.varisat_search.specs.Decisions.{IsDecidable}
 use Rattle.varisat_search.specs.Seen.{search_of, outcome_of, first_search}
 use Rattle.varisat_search.specs.Steps.{assignment_of}
-use Rattle.varisat_search.specs.GlobalModels.{value_or_unit, IsGlobalModel}
-use Rattle.varisat_search.proofs.StepOutcome.{variable-literal, polarity-literal}
 use Rattle.varisat_names.specs.Maps.{chain}
 use Rattle.varisat_names.specs.VarMap.{at, IsLeastUnmapped}
 use Rattle.varisat_names.specs.VarData.{kept_at}
@@ -458,31 +455,6 @@ tables-push t vs m e (suc k) u =
     ap (put_name u (at t.users.forward u) f) (tables-push t vs m e k (suc u))
     ∙ put-append u (at t.users.forward u) f (list_tables t vs (suc u) k) (put_name (suc u + k) (at t.users.forward (suc u + k)) m [])
     ∙ ap (λ n. list_tables t vs u (suc k) ++ put_name n (at t.users.forward n) m []) z
-
--- a test that is passed just where the value is true
-true-just : (b : Bool) (o : Option Bool) → (b ≡ true) ↔ (o ≡ Some true) → b ≡ is_true_value o
-true-just true o f = ap is_true_value (sym (f.0 refl))
-true-just false None f = refl
-true-just false (Some false) f = refl
-true-just false (Some true) f = f.1 refl
-
-value-listed : (vs : List (Option Bool)) (unit : Option Bool) (o : Option ℕ) →
-    is_true_value (value_or_unit vs unit o) ≡ value_or unit (λ v. is_true_value (get_or vs v None)) o
-value-listed vs unit None = refl
-value-listed vs unit (Some v) = refl
-
--- whether the literal of a live variable is true in the model of the global variables
-pub literal-listed : (t : Tables) (vs model : List (Option Bool)) (x : ℕ) (l : Literal) (b : Bool) → IsGlobalModel t vs model →
-    (kept_at t.kept x).deleted ≡ false → l ≡ literal_of x true → (b ≡ true) ↔ IsMadeTrue model l →
-    b ≡ value_or (kept_at t.kept x).unit (λ v. is_true_value (get_or vs v None)) (at t.solvers.forward x)
-literal-listed t vs model x l b m live e f =
-    let o = at t.solvers.forward x in
-    let unit = (kept_at t.kept x).unit in
-    let here : get_or model (variable_of l) None ≡ get_or model x None = ap (λ k. get_or model (variable_of k) None) e
-    ∙ ap (λ v. get_or model v None) (variable-literal x true) in
-    let sign : polarity_of l ≡ true = ap polarity_of e ∙ polarity-literal x true in
-    let just : (b ≡ true) ↔ (get_or model x None ≡ Some true) = (λ q. sym here ∙ f.0 q ∙ ap Some sign, λ q. f.1 (here ∙ q ∙ ap Some (sym sign))) in
-    true-just b (get_or model x None) just ∙ ap is_true_value (m.each x ∙ ap (λ d. if d then None else value_or_unit vs unit o) live) ∙ value-listed vs unit o
 
 -- 5. What a verdict says.
 

@@ -77,12 +77,15 @@ undecided_spaces t checker x = spaces_of t checker (view x) x.assumptions verdic
 abbrev pub spaces : Summary → Spaces
 spaces g = spaces_of g.tables g.checker g.search g.assumed g.sat_state
 
+-- the value of a global variable in the model: that of its solver variable, without one that of the unit that is kept, and else
+-- false
+abbrev pub model_value : Tables → List (Option Bool) → ℕ → Bool
+model_value t values x = value_or (kept_at t.kept x).unit (λ v. is_true_value (slice_index_or values v None)) (at t.solvers.forward x)
+
 -- the model as it is listed: the names in use among the k names from u on
 abbrev pub list_tables : Tables → List (Option Bool) → ℕ → ℕ → List Literal
 list_tables t values u zero = []
-list_tables t values u (suc k) =
-    put_name u (at t.users.forward u) (λ x. value_or (kept_at t.kept x).unit
-    (λ v. is_true_value (slice_index_or values v None)) (at t.solvers.forward x)) (list_tables t values (suc u) k)
+list_tables t values u (suc k) = put_name u (at t.users.forward u) (model_value t values) (list_tables t values (suc u) k)
 
 -- what a valid solver keeps of its names, its variables and its search
 pub record IsKept {A : Type 0} (tables : Tables) (search : Context A) : Type 0 where

@@ -1,8 +1,8 @@
 //! The solver, and the calls that a user makes.
-ghost use Rattle.std.specs.Prelude.{◌≡◌, length, IfOk};
+ghost use Rattle.std.specs.Prelude.{◌≡◌, ◌<◌, length, IfOk};
 ghost use Rattle.varisat.specs.Accepting.{AreBounded};
 ghost use Rattle.varisat.specs.Changes.{RefusesInvalid, invalidated, EndsChange};
-ghost use Rattle.varisat.specs.Summaries.{list_tables};
+ghost use Rattle.varisat.specs.Summaries.{model_value, list_tables};
 
 use crate::accept::{accept_user_clause, assume_list};
 use crate::name_checks::check_names;
@@ -29,7 +29,6 @@ use varisat_schedule::counters::Counters;
 use varisat_search::assumptions::copied;
 use varisat_search::context::Context;
 use varisat_search::error::StepError;
-use varisat_search::model::reconstruct_global_model;
 use varisat_search::state::SatState;
 use varisat_tracer::SolverTracer;
 
@@ -176,6 +175,21 @@ fn end_change<T, E: Into<SolverError>, A: Allocator + Copy>(
     }
 }
 
+/// Whether the global variable is true in the model of the solver variables.
+fn is_true_in_model<A: Allocator + Copy>(
+    variables: &LinkedVariables<A>,
+    values: &[Option<bool>],
+    global: Var,
+) -> bool
+    requires { global < length variables.now.kept }
+    ensures { result ≡ model_value variables.now values.now global }
+{
+    match variables.solver_from_global().get(global) {
+        Some(solver) => matches!(values.get(solver.index()), Some(Some(true))),
+        None => matches!(variables.var_data_global(global).unit, Some(true)),
+    }
+}
+
 /// The names in use in increasing order, with the values of their variables in the model.
 fn list_model<A: Allocator + Copy>(
     alloc: A,
@@ -185,13 +199,12 @@ fn list_model<A: Allocator + Copy>(
     requires { AreBounded variables.now }
     ensures { IfOk result (λ list. list.items ≡ list_tables variables.now values.now 0 (length variables.now.users.forward)) }
 {
-    let model = reconstruct_global_model(alloc, variables, values)?;
     variables.prove_linked();
     let mut list = Vec::new(alloc);
     for index in 0..variables.user_watermark() {
         let user = Var::from_index(index);
         if let Some(global) = variables.global_from_user().get(user) {
-            list.push(user.lit(model.lit_is_true(global.positive())))?;
+            list.push(user.lit(is_true_in_model(variables, values, global)))?;
         }
     }
     Ok(list)

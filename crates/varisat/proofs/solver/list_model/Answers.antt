@@ -1,35 +1,28 @@
-use Rattle.std.proofs.Common.{◌≡◌, ◌+◌, ◌++◌, ◌∷◌, [], suc, Some, None, true, sym, ap, ap₂, ◌∙◌, refl, get_or, arith, rules}
+use Rattle.std.proofs.Common.{◌≡◌, ◌+◌, ◌++◌, ◌∷◌, [], suc, Some, None, sym, ap, ap₂, ◌∙◌, refl, arith, rules}
 use Rattle.std.proofs.lemmas.List.{append-nil}
-use Rattle.varisat_theory.specs.Literals.{Assignment, literal_of, variable_of}
-use Rattle.varisat_prop.specs.Parts.{is_true_value}
+use Rattle.varisat_theory.specs.Literals.{Assignment, literal_of}
 use Rattle.varisat_names.specs.VarMap.{at}
-use Rattle.varisat_names.specs.VarData.{kept_at}
 use Rattle.varisat_names.proofs.Tables.{named-inside}
-use Rattle.varisat_search.proofs.StepOutcome.{variable-literal}
 use Rattle.varisat.specs.Models.{put_name}
-use Rattle.varisat.specs.Carried.{value_or}
-use Rattle.varisat.specs.Summaries.{list_tables}
-use Rattle.varisat.proofs.SolverCalls.{literal-listed, tables-push}
+use Rattle.varisat.specs.Summaries.{model_value, list_tables}
+use Rattle.varisat.proofs.SolverCalls.{tables-push}
 use Rattle.varisat.proofs.solver.list_model.Goals.{in-Some+in_ok-push, in_default}
 use Rattle.varisat.proofs.solver.list_model.Goals as goal
 
-pub lit_is_true-requires : goal.lit_is_true-requires
-lit_is_true-requires g c =
+pub is_true_in_model-requires : goal.is_true_in_model-requires
+is_true_in_model-requires g c =
     let t = c.args.variables.now in
     let x = c.in-Some.global in
     let at-user : at t.users.forward c.from_index-user.result ≡ Some x =
     sym (c.in-Some.ensures ∙ ap (λ xs. at xs c.from_index-user.result) c.global_from_user.ensures) in
-    let inside = named-inside t c.from_index-user.result x c.prove_linked.ensures at-user in
-    let count = c.in_ok-model.ensures.count in
-    let same : variable_of c.positive.result ≡ x = ap variable_of c.positive.ensures ∙ variable-literal x true in
-    omega (arith, inside, count, same)
+    named-inside t c.from_index-user.result x c.prove_linked.ensures at-user
 
 pub loop-index-preserved : goal.loop-index-preserved
 loop-index-preserved g c =
     let t = c.args.variables.now in
     let vs = c.args.values.now in
     let i = c.loop-index.index in
-    let m : Assignment = λ x. value_or (kept_at t.kept x).unit (λ v. is_true_value (get_or vs v None)) (at t.solvers.forward x) in
+    let m : Assignment = model_value t vs in
     let one : i + 1 ≡ suc i = omega arith in
     let zero : 0 + i ≡ i = omega arith in
     let next = ap (list_tables t vs 0) one ∙ tables-push t vs m refl i 0 ∙ ap (λ n. list_tables t vs 0 i ++ put_name n (at t.users.forward n) m []) zero in
@@ -39,11 +32,8 @@ loop-index-preserved g c =
       | in-Some+in_ok-push w ↦
           let x = w.in-Some.global in
           let at-i : at t.users.forward i ≡ Some x = sym got ∙ w.in-Some.is in
-          let l = c.prove_linked.ensures in
-          let v : w.lit_is_true.result ≡ m x = literal-listed t vs c.in_ok-model.model x w.positive.result w.lit_is_true.result
-          c.in_ok-model.ensures (l.named x i (l.users.there i x at-i)) w.positive.ensures w.lit_is_true.ensures in
           ap (λ l. l.items) w.list-is ∙ w.in_ok-push.ensures.items ∙ ap₂ (λ xs y. xs ++ y ∷ []) c.loop-index.invariant
-          (w.lit.ensures ∙ ap₂ literal_of c.from_index-user.ensures v) ∙ ap (λ o. list_tables t vs 0 i ++ put_name i o m []) (sym at-i) ∙ sym next
+          (w.lit.ensures ∙ ap₂ literal_of c.from_index-user.ensures w.is_true_in_model.ensures) ∙ ap (λ o. list_tables t vs 0 i ++ put_name i o m []) (sym at-i) ∙ sym next
       | in_default w ↦
           let n : at t.users.forward i ≡ None = sym got ∙ w.in_default.is in
           ap (λ l. l.items) w.list-is ∙ c.loop-index.invariant ∙ sym (append-nil (list_tables t vs 0 i))

@@ -182,6 +182,9 @@ impl<A: Allocator + Copy> Vsids<A> {
     {
         let index = var.index();
         self.available[index] = false;
+        if self.len == 0 {
+            return;
+        }
         let place = self.position[index] as usize;
         if place < self.len {
             take_out(
@@ -211,13 +214,14 @@ impl<A: Allocator + Copy> Vsids<A> {
     {
         let index = var.index();
         self.available[index] = true;
-        let place = self.position[index] as usize;
-        if place < self.len {
-            return;
-        }
+        // Where it stands in the heap it is not idle, but may be noted as such: so its position need not be read.
         if waits && self.activity[index] == 0 {
             note_block(&mut self.blocks, index);
             self.cursor = self.cursor.min(index);
+            return;
+        }
+        let place = self.position[index] as usize;
+        if place < self.len {
             return;
         }
         put_in(

@@ -14,8 +14,8 @@ invariant_of-self-2 g c =
     let places = with_items_is s.position c.put_in.new.position (omega (arith, c.put_in.auto.position, c.deref_mut-3.ensures.len)) in
     let standing : availability (s.len + 1) c.put_in.new.position ≡ set (availability s.len s.position.items) c.args.var true =
     of_variable s.len (s.len + 1) s.heap.items s.position.items c.deref_mut-2.result.now c.deref_mut-3.result.now
-    c.put_in.new.position c.index.result.now c.index-index.result c.args.var true
-    i.0.linked c.deref_mut-2.ensures.value c.deref_mut-3.ensures.value known c.index-index.ensures.index c.index.ensures
+    c.put_in.new.position c.index-2.result.now c.index-index.result c.args.var true
+    i.0.linked c.deref_mut-2.ensures.value c.deref_mut-3.ensures.value known c.index-index.ensures.index c.index-2.ensures
     c.put_in.ensures.available in (
       same_heap s.activity.items s.activity.items c.put_in.new.heap _ c.put_in.new.position _ (s.len + 1)
           (rw c.deref.ensures.value at c.put_in.ensures.heap) refl heaps places,

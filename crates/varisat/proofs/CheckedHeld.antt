@@ -28,7 +28,7 @@ use Rattle.varisat_search.specs.declared.state.SatState.TheVariants as verdict
 use Rattle.varisat_trace.specs.Traces.{HoldsFor}
 use Rattle.varisat_tracer.specs.Carried.{carry, told_as}
 use Rattle.varisat_tracer.specs.Tracing.{Relies, CanTell}
-use Rattle.varisat.specs.Searches.{ComesOn}
+use Rattle.varisat.specs.Searches.{ComesOn, Turn}
 use Rattle.varisat.specs.Spaces.{Spaces, Carrying, translation, without_core, AreLive, SharesHeld, CheckerFits, Links, FitSome}
 use Rattle.varisat.specs.States.{State}
 use Rattle.varisat.specs.Summaries.{spaces_of}
@@ -236,5 +236,5 @@ pub relied : (t : Tables) (p : ProofParts) (seen : View) (assumed : AssumptionPa
 relied t p seen assumed can f = relied-open t p seen assumed verdict.Unknown (λ e. let z : verdict.Unknown ≡ verdict.Unsat = e in cc) can f
 
 -- What was some state's is some state's after what came of it.
-pub some-on : (n : ℕ) (before after : Spaces) (p q : ProofParts) → ComesOn n before after p q → FitSome before → FitSome after
-some-on n before after p q comes (s, fits) = let c = comes s fits in (_, c.fits)
+pub some-on : (at : Turn) (n : ℕ) (before after : Spaces) (p q : ProofParts) → ComesOn at n before after p q → FitSome before → FitSome after
+some-on at n before after p q comes (s, fits) = let c = comes s fits in (_, c.fits)

@@ -19,6 +19,8 @@ pub mod ForgottenCopies
 pub mod HiddenTables
 pub mod HiddenStates
 pub mod Histories
+pub mod StepEntries
+pub mod SettledParts
 pub mod StoryAnswers
 pub mod WrongAnswers
 pub mod VariableMoves

@@ -20,6 +20,7 @@ use Rattle.varisat.specs.Usage.{name_var, with_mode, hide_name, IsAssumed, Chang
 use Rattle.varisat.specs.VariableChanges.{ChecksChange, StaysKept, SetsNamedMode, ChangesNamed}
 use Rattle.varisat.specs.declared.solver.SolverError.{SolverError}
 use Rattle.varisat.specs.declared.solver.SolverError.TheVariants.{OutOfMemory, Invalid}
+use Rattle.varisat.proofs.StepEntries.{leaving-derived}
 use Rattle.varisat.proofs.AcceptClause.{with_tables}
 use Rattle.varisat.proofs.CallStates.{Begins, like-told, like-retold}
 use Rattle.varisat.proofs.HiddenTables.{with_checker}
@@ -121,7 +122,7 @@ module _ (g : Summary) (s : State) (u : ℕ) (p : ProofParts) (q : TracerState) 
         more = more;
         fits = fits;
         leads = λ proof alike grows v i n.
-            (v, i, n, like-retold (hide_name u (name_var u s)) told variables proof more.more more.derived alike grows);
+            (v, i, n, like-retold (hide_name u (name_var u s)) told variables proof more.more (leaving-derived more.more.entries more.leaving) alike grows);
       }
 
 -- 3. The call is refused, or runs out of memory.

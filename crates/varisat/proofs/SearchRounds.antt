@@ -17,12 +17,12 @@ use Rattle.varisat.proofs.AcceptClause.{proof-free}
 use Rattle.varisat.proofs.Targets.{flushed-open}
 use Rattle.varisat.proofs.OpenProofs.{goes-on-searched, goes-on-failing, open-before, open-there, searched-state, searched-written, fitted-before, flushed-on, barred-marked, barred-fitted, goes-on-none, goes-on-through}
 use Rattle.varisat_theory.specs.CallBounds.{AreFew}
-use Rattle.varisat_theory.specs.NewClauses.{GoesOnAdding}
 use Rattle.varisat_theory.proofs.Journals.{goes_on_further}
-use Rattle.varisat_theory.proofs.NewClauses.{goes_adding_none, goes_adding_further}
+use Rattle.varisat.specs.StepEntries.{GoesOnInSteps}
+use Rattle.varisat.proofs.StepEntries.{no-steps, steps-further}
 use Rattle.varisat_names.specs.Settings.{Settings}
 use Rattle.varisat.specs.Budgets.{CountsSteps}
-use Rattle.varisat.specs.Journals.{retold, TellsMore, BeginsAdding, AreDerived}
+use Rattle.varisat.specs.Journals.{retold, TellsMore, BeginsInSteps, AreDerived}
 use Rattle.varisat.proofs.BegunSteps.{begins-further}
 use Rattle.varisat.specs.Names.{Naming}
 use Rattle.varisat.proofs.ToldEntries.{tells-nothing, nothing-derived, stays-nothing, derived-through, ends-through}
@@ -228,7 +228,7 @@ pub record WentOn (limit : ℕ) (s m : State) : Type 0 where
   pub budget : made ≤ limit
   pub spent : (made ≡ limit) ⊎ (m.ledger.steps ≡ 2 ^ 64 - 1)
   pub told : TellsMore made s.told m.told
-  pub adds : GoesOnAdding made s.told told.entries
+  pub adds : GoesOnInSteps s.ledger.settings.reduce_locals_interval s.ledger.steps made s.told told.entries
   pub derived : AreDerived told.entries
   pub proof : GoesOnWriting s.proof m.proof
   -- where no step was made nothing changed, and where the verdict was known or the solver invalid no search was interrupted
@@ -239,7 +239,6 @@ pub record WentOn (limit : ℕ) (s m : State) : Type 0 where
 -- there was none
 pub went-nowhere : (s : State) → WentOn 0 s s
 went-nowhere s =
-    let nothing = tells-nothing s.told in
     record {
       naming = refl;
       ever_hidden = refl;
@@ -257,9 +256,9 @@ went-nowhere s =
       count = omega arith;
       budget = omega arith;
       spent = inl refl;
-      told = nothing;
-      adds = goes_adding_none 0 s.told nothing.entries nothing.goes;
-      derived = nothing-derived s.told;
+      told = record { entries = []; joined = sym (append-nil s.told); goes = λ held d. (held, refl) };
+      adds = no-steps s.ledger.settings.reduce_locals_interval s.ledger.steps s.told;
+      derived = tt;
       proof = goes-on-none s.proof;
       still = λ e. refl;
       known = λ n. refl;
@@ -298,13 +297,19 @@ counts-on k a limit s m after r w c least all small =
           w.spent;
     }
 
--- A search that told nothing adds no new clauses to those that the searches before it added.
-adds-further : (k m : ℕ) (told es fs : List Entry) → (m ≡ 0 → fs ≡ []) → GoesOnAdding k told es → GoesOnAdding m (told ++ es) fs →
-    GoesOnAdding (k + m) told (es ++ fs)
-adds-further k zero told es fs z g h =
-    subst (λ (xs : List Entry). GoesOnAdding (k + 0) told xs) (sym (ap (λ (x : List Entry). es ++ x) (z refl) ∙ append-nil es))
-    (subst (λ j. GoesOnAdding j told es) (let e : k ≡ k + 0 = omega arith in e) g)
-adds-further k (suc m) told es fs z g h = goes_adding_further k (suc m) told es fs (λ e. let x : suc m ≡ 0 = e in absurd cc) g h
+-- The steps of a search are numbered on from those before it, and learned clauses may be deleted as often.
+same-interval : (a : ℕ) (s m : State) → WentOn a s m → m.ledger.settings.reduce_locals_interval ≡ s.ledger.settings.reduce_locals_interval
+same-interval a s m w = ap (λ (c : Settings). c.reduce_locals_interval) w.settings
+
+adds-on : (a k : ℕ) (s m : State) (w : WentOn a s m) (es : List Entry) →
+    GoesOnInSteps m.ledger.settings.reduce_locals_interval m.ledger.steps k m.told es →
+    GoesOnInSteps s.ledger.settings.reduce_locals_interval s.ledger.steps (w.made + k) s.told (w.told.entries ++ es)
+adds-on a k s m w es h =
+    let interval = s.ledger.settings.reduce_locals_interval in
+    steps-further interval s.ledger.steps w.made k s.told w.told.entries es w.adds
+    (subst (λ x. GoesOnInSteps interval (s.ledger.steps + w.made) k x es) w.told.joined
+    (subst (λ j. GoesOnInSteps interval j k m.told es) w.count
+    (subst (λ i. GoesOnInSteps i m.ledger.steps k m.told es) (same-interval a s m w) h)))
 
 -- One more was interrupted.
 pub goes-on : (k a : ℕ) (s m t : State) → WentOn a s m → IsSpent calling (with_max_steps k m) t → t.ledger.steps < 2 ^ 64 → WentOn (a + k) s t
@@ -339,11 +344,8 @@ goes-on k a s m t w e small =
         goes = goes_on_further w.made c.made s.told w.told.entries e.told.entries w.told.goes
             (subst (λ x. GoesOn c.made x e.told.entries) w.told.joined (subst (λ j. GoesOn j m.told e.told.entries) same e.told.goes));
       };
-      adds = adds-further w.made c.made s.told w.told.entries e.told.entries
-          (λ z. append_cancel_left m.told e.told.entries [] (sym e.told.joined ∙ ap (λ (x : State). x.told) (e.still (omega (arith, count, z)))
-          ∙ sym (append-nil m.told)))
-          w.adds
-          (subst (λ x. GoesOnAdding c.made x e.told.entries) w.told.joined (subst (λ j. GoesOnAdding j m.told e.told.entries) same e.adds));
+      adds = adds-on a c.made s m w e.told.entries
+          (subst (λ j. GoesOnInSteps m.ledger.settings.reduce_locals_interval m.ledger.steps j m.told e.told.entries) same e.adds);
       derived = derived-through w.told.entries e.told.entries w.derived e.derived;
       proof = goes-on-through s.proof m.proof t.proof w.proof e.rest.proof;
       still = λ z. ap (λ (x : State). with_max_steps 0 x) (e.still (omega (arith, count, z))) ∙ w.still (omega (arith, z));
@@ -407,7 +409,7 @@ all-interrupted n s t w valid unknown counts =
       };
       variables = w.variables;
       told = record { entries = w.told.entries; joined = w.told.joined; goes = subst (λ j. GoesOn j s.told w.told.entries) same w.told.goes };
-      adds = subst (λ j. GoesOnAdding j s.told w.told.entries) same w.adds;
+      adds = subst (λ j. GoesOnInSteps s.ledger.settings.reduce_locals_interval s.ledger.steps j s.told w.told.entries) same w.adds;
       derived = w.derived;
       still = λ e. ap (λ (x : State). with_max_steps n x) (w.still (omega (arith, count, e)));
     }
@@ -475,9 +477,14 @@ verdict-on k n a s m t b w least small v =
             (goes_on_further w.made (t.ledger.steps - m.ledger.steps) s.told w.told.entries v.told.entries w.told.goes
             (subst (λ x. GoesOn (t.ledger.steps - m.ledger.steps) x v.told.entries) w.told.joined v.told.goes));
       };
-      adds = subst (λ j. BeginsAdding (j - 1) s.told (w.told.entries ++ v.told.entries)) (let x = w.count in omega (arith, x, low))
-          (begins-further w.made (t.ledger.steps - m.ledger.steps) s.told w.told.entries v.told.entries (made-before k a s m t b w v.steps) w.adds
-          (subst (λ x. BeginsAdding (t.ledger.steps - m.ledger.steps - 1) x v.told.entries) w.told.joined v.adds));
+      adds =
+          let interval = s.ledger.settings.reduce_locals_interval in
+          let more = t.ledger.steps - m.ledger.steps in
+          subst (λ j. BeginsInSteps interval s.ledger.steps (j - 1) s.told (w.told.entries ++ v.told.entries)) (let x = w.count in omega (arith, x, low))
+          (begins-further interval s.ledger.steps w.made more s.told w.told.entries v.told.entries (made-before k a s m t b w v.steps) w.adds
+          (subst (λ x. BeginsInSteps interval (s.ledger.steps + w.made) (more - 1) x v.told.entries) w.told.joined
+          (subst (λ j. BeginsInSteps interval j (more - 1) m.told v.told.entries) w.count
+          (subst (λ i. BeginsInSteps i m.ledger.steps (more - 1) m.told v.told.entries) (same-interval a s m w) v.adds))));
     }
 
 -- a step fails

@@ -23,7 +23,7 @@ use Rattle.varisat_search.specs.Contexts.{view, IsReady}
 use Rattle.varisat_search.specs.Decisions.{SameDecidable}
 use Rattle.varisat_search.specs.Progress.{outcome_at, RaisesRank, MakesStep}
 use Rattle.varisat_search.specs.Seen.{search_of, outcome_of}
-use Rattle.varisat_search.specs.SettledUnits.{FixesByLearning}
+use Rattle.varisat_search.specs.SettledUnits.{FixesByLearning, LearnsAlone}
 use Rattle.varisat_search.proofs.ReadyAfter.{ready-with}
 use Rattle.varisat_tracer.specs.Carried.{carry}
 use Rattle.varisat.specs.Searches.{MakesNamedStep}
@@ -165,11 +165,11 @@ pub ready-counted : {A : Type 0} (c : Context A) (plan : Plan) → IsReady c →
 ready-counted c plan r = ready-with c (record c { schedule = plan }) r refl refl refl r.propagated r.decidable r.assumed r.assumable
 
 module _ {A : Type 0} (p q : TracerState) (x y : Context A) {are : List Line → Type 0}
-    (m : MakesStep (λ lines. are lines × TakesStep TakesGlobally p lines (outcome_at y) q) x y) (fixes : FixesByLearning x y) where
+    (m : MakesStep (λ lines. are lines × LearnsAlone lines x y × TakesStep TakesGlobally p lines (outcome_at y) q) x y) (fixes : FixesByLearning x y) where
   -- where no core was found the step says it all
   pub named-plainly : (y.solver_state.sat_state ≡ verdict.UnsatUnderAssumptions → ⊥) → MakesNamedStep p q x y
   named-plainly plain =
-      let (lines, steps, (i, takes)) = m.goes.steps in
+      let (lines, steps, (i, learns, takes)) = m.goes.steps in
       record {
         ready = m.goes.ready;
         count = m.goes.keeps.count;
@@ -179,7 +179,7 @@ module _ {A : Type 0} (p q : TracerState) (x y : Context A) {are : List Line →
         fixes = fixes;
         tables = takes.tables;
         parts = y.assumptions;
-        steps = (lines, steps, takes);
+        steps = (lines, steps, learns, takes);
         assumes = m.assumes;
         rest = refl;
         core = λ e. absurd (plain e);
@@ -190,7 +190,7 @@ module _ {A : Type 0} (p q : TracerState) (x y : Context A) {are : List Line →
       z.assumptions.user_core ≡ map (carry (chain (at q.tables.solvers.backward) (at q.tables.users.backward))) y.assumptions.failed_core →
       MakesNamedStep p q x z
   named-also z same named =
-      let (lines, steps, (i, takes)) = m.goes.steps in
+      let (lines, steps, (i, learns, takes)) = m.goes.steps in
       record {
         ready = subst (λ (c : Context A). IsReady c) (sym same) (ready-named y z.assumptions.user_core m.goes.ready);
         count = ap (λ (c : Context A). length c.assignment.current) same ∙ m.goes.keeps.count;
@@ -202,8 +202,9 @@ module _ {A : Type 0} (p q : TracerState) (x y : Context A) {are : List Line →
         tables = takes.tables;
         parts = y.assumptions;
         steps = subst (λ (c : Context A). (ls : List Line) × Steps (search_of (view x)) (search_of (view c))
-            (outcome_of (view c) y.assumptions.failed_core c.solver_state.sat_state) ls
-            × TakesStep TakesGlobally p ls (outcome_of (view c) y.assumptions.failed_core c.solver_state.sat_state) q) (sym same) (lines, steps, takes);
+            (outcome_of (view c) y.assumptions.failed_core c.solver_state.sat_state) ls × LearnsAlone ls x c
+            × TakesStep TakesGlobally p ls (outcome_of (view c) y.assumptions.failed_core c.solver_state.sat_state) q) (sym same)
+            (lines, steps, learns, takes);
         assumes = subst (λ (c : Context A). KeepsAssumptions (search_of (view x))
             (outcome_of (view c) y.assumptions.failed_core c.solver_state.sat_state) x.assumptions y.assumptions) (sym same) m.assumes;
         rest = ap (λ (c : Context A). c.assumptions) same;

@@ -1,22 +1,26 @@
 -- A search that finds a verdict, and spaces that agree.
-use Rattle.std.proofs.Common.{◌≡◌, ◌≢◌, ℕ, ◌≤◌, Bool, true, Option, Some, List, [], ◌∷◌, ◌++◌, inl, inr, ⊎_elim, sym, ap, ◌∙◌, subst, refl, map, append_assoc, length, arith}
+use Rattle.std.proofs.Common.{◌≡◌, ◌≢◌, ℕ, zero, suc, ◌≤◌, ◌%◌, Bool, true, Option, Some, None, List, [], ◌∷◌, ◌++◌, inl, inr, ⊎_elim, sym, ap, ◌∙◌, subst, refl, map, append_assoc, length, arith}
 use Rattle.varisat_theory.specs.Membership.{◌∈◌, ◌⊆◌}
 use Rattle.varisat_theory.specs.Literals.{Literal, Clause, Assignment, variable_of, literal_of, value, SatisfiesAll, MakesTrue, IsSatisfiableWith, IsFailedCore}
-use Rattle.varisat_theory.specs.Derivations.{Line}
+use Rattle.varisat_theory.specs.Derivations.{Line, Add, Delete, SpeakOf, IsPresentAfter}
 use Rattle.varisat_theory.specs.Propagation.{Conflicts}
 use Rattle.varisat_theory.specs.Renaming.{rename, rename_line}
-use Rattle.varisat_theory.specs.Journals.{Entry, Fails, Leads, written}
-use Rattle.varisat_theory.specs.NewClauses.{GoesOnAdding}
-use Rattle.varisat_theory.proofs.Journals.{leads_unique, written_stays, stays_append}
-use Rattle.varisat_theory.proofs.NewClauses.{adding_same, goes_adding, fits_more, lines_add_new}
+use Rattle.varisat_theory.specs.Journals.{Entry, Writes, Fails, Leaves, Leads, written}
+use Rattle.varisat_theory.specs.NewClauses.{LeadsAdding}
+use Rattle.varisat_theory.proofs.Journals.{leads_append, leads_unique, written_stays, stays_append}
+use Rattle.varisat_theory.proofs.NewClauses.{adding_same, fits_more, lines_add_new}
+use Rattle.varisat_theory.proofs.Lines.{derives_present}
+use Rattle.varisat_search.specs.Progress.{AddOne}
+use Rattle.varisat.specs.StepEntries.{LeadsInSteps, GoesOnInSteps, KeepsParts, GoesOnKeeping, TellsInSteps, HasStayed, SpeakOfAdded}
+use Rattle.varisat.proofs.StepEntries.{goes-in-steps, one-line-step}
 use Rattle.varisat_theory.proofs.Spoken.{spoken_wider}
-use Rattle.varisat_theory.proofs.Members.{∈-append_right}
+use Rattle.varisat_theory.proofs.Members.{∈-append_left, ∈-append_right, ∈-append_cases}
 use Rattle.varisat_theory.proofs.Growth.{conflicts_more, covered_by_more}
-use Rattle.varisat_theory.proofs.Held.{same_clauses-back, conflicts_same}
-use Rattle.varisat_theory.specs.Searches.{Search, IsLiteralOf}
+use Rattle.varisat_theory.proofs.Held.{same_clauses-back, same_clauses_find, conflicts_same}
+use Rattle.varisat_theory.specs.Searches.{Search, Fits, IsLiteralOf}
 use Rattle.varisat_theory.specs.Outcomes.{Outcome, Holds, MakesSteps}
 use Rattle.varisat_theory.specs.Outcomes as outcome
-use Rattle.varisat_theory.proofs.Renaming.{∈-map, map-∈, conflicts_renamed}
+use Rattle.varisat_theory.proofs.Renaming.{∈-map, map-∈, map-⊆, conflicts_renamed}
 use Rattle.varisat_theory.proofs.Sound.{conflicts_sound, derives_sound}
 use Rattle.varisat_theory.proofs.StepCounts.{by_derives}
 use Rattle.varisat_theory.proofs.StepsMade.{names_satisfied}
@@ -42,10 +46,10 @@ use Rattle.varisat_proof.specs.Proving.{IsCheckedIf}
 use Rattle.varisat_tracer.specs.Told.{told_as-append}
 use Rattle.varisat.proofs.AcceptSolverVariables.{one-literal}
 use Rattle.varisat.proofs.ForgottenCopies.{there-back, back-there, copies}
-use Rattle.varisat.proofs.ReachedHeld.{told_lines, IsInUse, lines-lead, told-quiet, counted-literal}
+use Rattle.varisat.proofs.ReachedHeld.{told_lines, IsInUse, lines-lead, told-quiet, counted-literal, in-use-lives}
 use Rattle.varisat.proofs.ToldEntries.{tells-also, also-ends, written-derived, told-written, told-failed, spoken-renamed}
 use Rattle.varisat_names.proofs.Maps.{chain-some, is-some}
-use Rattle.varisat.proofs.Carried.{map-empty, value-true, true-value, value-carry, forced-value}
+use Rattle.varisat.proofs.Carried.{carry-at, map-empty, value-true, true-value, value-carry, forced-value}
 use Rattle.varisat_tracer.specs.RenamedEntries.{carry-opposites}
 use Rattle.varisat.proofs.SearchLinks.{relinked, answers-covers, agrees-through, held-on, without-model, refuted}
 
@@ -139,6 +143,32 @@ working-on P r s v as' x y h k f = record {
       (k.implied h.held h.holds b (h.implied a b m (agrees-through r.identity a)) (carried-true r.identity a y.working t)));
 }
 
+-- what is forgotten stays, and of what the search holds a part is kept
+kept-here : (P Q : List Clause) → KeepsParts [] P Q → (f : Literal → Literal) (F : List Clause) (c : Clause) → c ∈ (F ++ rename f P) →
+    (d : Clause) × (d ∈ (F ++ rename f Q)) × (d ⊆ c)
+kept-here P Q keeps f F c h =
+    ⊎_elim
+    (λ i. (c, ∈-append_left c F (rename f Q) i, λ l o. o))
+    (λ i.
+    let (x, j, e) = map-∈ (map f) c P i in
+    ⊎_elim
+    (λ (y, k, w). (map f y, ∈-append_right (map f y) F (rename f Q) (∈-map (map f) y Q k), subst (λ z. map f y ⊆ z) (sym e) (map-⊆ f y x w)))
+    (λ (l, k, z). absurd z)
+    (keeps x j))
+    (∈-append_cases c F (rename f P) h)
+
+written-added : (are : Literal → Type 0) (lines : List Line) → SpeakOf are lines → SpeakOfAdded are (written lines)
+written-added are [] s = tt
+written-added are (Add c ∷ lines) (f, s) = (f, written-added are lines s)
+written-added are (Delete c ∷ lines) (f, s) = written-added are lines s
+
+-- How lines are those of a step that adds one clause, or of a part of one, which keeps parts of all clauses unless learned ones may be
+-- deleted in it.
+abbrev pub LinesInSteps : ℕ → ℕ → ℕ → List Line → Search → Type 0
+LinesInSteps interval number zero lines t =
+    number % interval ≢ 0 → (held after : List Clause) → IsPresentAfter held lines after → Fits after t → KeepsParts [] held after
+LinesInSteps interval number (suc k) lines t = (k ≡ 0) × AddOne lines
+
 -- Steps were made, and left some of the assumptions.
 module _ (w : Carrying) (p : Spaces) (s : State) (k : Links w p s) (unknown : p.outcome ≡ outcome.Unknown) (t : Search) (v : Outcome) (n : ℕ)
     (lines : List Line) (made : MakesSteps n p.search t v lines) (long : AreLong t) (in-use : AreInUse p t) where
@@ -169,9 +199,8 @@ module _ (w : Carrying) (p : Spaces) (s : State) (k : Links w p s) (unknown : p.
   steps-derived = written-derived (map (rename_line (carry (translation w p s.told).identity)) lines)
 
   -- where the search goes on, each step added a new clause that stays: no clause that was held is a part of it, a forgotten one neither
-  pub steps-add : v ≡ outcome.Unknown → GoesOnAdding n s.told steps-tell.entries
-  unfolding steps-tell
-  steps-add e =
+  steps-adding : v ≡ outcome.Unknown → (last : List Clause) × LeadsAdding n before.told.held (told_lines (translation w p s.told) lines) last
+  steps-adding e =
       let r = translation w p s.told in
       let f = carry r.identity in
       let q = before.told in
@@ -183,7 +212,58 @@ module _ (w : Carrying) (p : Spaces) (s : State) (k : Links w p s) (unknown : p.
       (one-literal w p s k) q.forgotten c.list c.copied n n before.held lines after q.inside speaks d many in
       let (last, a, same) = adding_same n (q.forgotten ++ rename f before.held) q.held (told_lines r lines) (q.forgotten ++ rename f after)
       (same_clauses-back q.held (q.forgotten ++ rename f before.held) q.same) adding in
-      goes_adding n s.told (told_lines r lines) q.held last q.led a
+      (last, a)
+
+  -- one that adds a clause by its only line
+  pub steps-one : v ≡ outcome.Unknown → n ≡ 1 → AddOne lines → (interval number : ℕ) → GoesOnInSteps interval number 1 s.told steps-tell.entries
+  unfolding steps-tell
+  steps-one e one (c, alone) interval number =
+      let r = translation w p s.told in
+      let d = map (carry r.identity) c in
+      let q = before.told in
+      let (last, a) = steps-adding e in
+      let are : told_lines r lines ≡ Writes (Add d) ∷ [] = ap (told_lines r) alone in
+      let b = subst (λ xs. LeadsAdding 1 q.held xs last) are (subst (λ j. LeadsAdding j q.held (told_lines r lines) last) one a) in
+      goes-in-steps interval number 1 s.told (told_lines r lines) q.held last q.led
+      (subst (λ xs. LeadsInSteps interval number 1 q.held xs last) (sym are) (one-line-step interval number q.held d last b))
+
+  -- parts of all clauses are kept where they are in the search
+  pub steps-keep : v ≡ outcome.Unknown →
+      ((held after : List Clause) → IsPresentAfter held lines after → Fits after t → KeepsParts [] held after) →
+      GoesOnKeeping s.told steps-tell.entries
+  unfolding steps-tell
+  steps-keep e keeps held last d l c h =
+      let r = translation w p s.told in
+      let f = carry r.identity in
+      let q = before.told in
+      let (after, by, o) = made.holds before.held before.holds in
+      let on = lines-lead n r before.held lines after q by in
+      let old = q.forgotten ++ rename f before.held in
+      let new = q.forgotten ++ rename f after in
+      let first = leads_unique [] [] s.told held q.held refl d q.led in
+      let second = leads_unique [] [] (s.told ++ told_lines r lines) on.held last refl on.led
+      (leads_append [] s.told held (told_lines r lines) last d l) in
+      let (x, i, u) = same_clauses_find held q.held first c h in
+      let (y, j, z) = same_clauses_find q.held old q.same x i in
+      let (a, b, m) = kept-here before.held after (keeps before.held after (derives_present before.held lines after (by_derives n before.held lines after by))
+      (subst (Holds after t) e o)) f q.forgotten y j in
+      let (x', i', u') = same_clauses_find new on.held (same_clauses-back on.held new on.same) a b in
+      let (y', j', z') = same_clauses_find on.held last second x' i' in
+      inl (y', j', λ l o. u.0 l (z.0 l (m l (u'.0 l (z'.0 l o)))))
+
+  -- the clauses that are added name no variable that left
+  pub steps-stayed : SpeakOfAdded (HasStayed s.told) steps-tell.entries
+  unfolding steps-tell
+  steps-stayed =
+      let to = (translation w p s.told).identity in
+      written-added (HasStayed s.told) (map (rename_line (carry to)) lines)
+      (spoken-renamed (IsLiteralOf p.search) (HasStayed s.told) (carry to) lines
+      (λ l h left.
+      let (i, e) = k.holds.within l h in
+      let (x, g) = in-use-lives w p s k (variable_of l) i e in
+      let gone = (k.told.left i).0 (subst (λ j. Leaves j ∈ s.told) (carry-at to l i e) left) in
+      let z : Some x ≡ None = sym g ∙ gone.1 in cc)
+      made.speaks)
 
   pub steps-are-told : TellsWhole (told-with w p s lines) s.clauses s.assumptions s.counted s.ever_hidden (IsGone w s)
   steps-are-told =
@@ -346,6 +426,18 @@ module _ (w : Carrying) (p : Spaces) (s : State) (k : Links w p s) (unknown : p.
         (λ share q. told-quiet (translation w p (told-with w p s lines)) last
         (λ held d. (subst (Conflicts held) (sym same-core) (core-conflicts found e held d), refl)) t.fixed share (without_core v) q) steps-hold)
         left (subst (λ y. VerdictFits w.identity m y (UnsatUnderAssumptions (map (carry s.naming.names) told))) (sym e) some) (named, refl) (part, none)
+
+-- what is told is told in steps, then
+pub steps-in-turn : (w : Carrying) (p : Spaces) (s : State) (k : Links w p s) (unknown : p.outcome ≡ outcome.Unknown) (t : Search) (v : Outcome) (n : ℕ)
+    (lines : List Line) (made : MakesSteps n p.search t v lines) (long : AreLong t) (in-use : AreInUse p t) (interval number : ℕ) →
+    v ≡ outcome.Unknown → LinesInSteps interval number n lines t →
+    TellsInSteps interval number n s.told (steps-tell w p s k unknown t v n lines made long in-use).entries
+steps-in-turn w p s k unknown t v zero lines made long in-use interval number e keeps =
+    λ due. steps-keep w p s k unknown t v zero lines made long in-use e (keeps due)
+steps-in-turn w p s k unknown t v (suc n) lines made long in-use interval number e (one, adds) =
+    let same : suc n ≡ 1 = ap suc one in
+    subst (λ j. GoesOnInSteps interval number j s.told (steps-tell w p s k unknown t v (suc n) lines made long in-use).entries) (sym same)
+    (steps-one w p s k unknown t v (suc n) lines made long in-use e same adds interval number)
 
 module _ (w : Carrying) (p : Spaces) (s : State) (k : Links w p s) (unknown : p.outcome ≡ outcome.Unknown) (t : Search) (f : Assignment) (n : ℕ)
     (lines : List Line) (made : MakesSteps n p.search t (outcome.Sat f) lines) (long : AreLong t) (in-use : AreInUse p t) where

@@ -12,6 +12,7 @@ use Rattle.varisat.specs.Pasts as past
 use Rattle.varisat.specs.Pasts.{Findings, IsAnswer, TellsFalse, telling}
 use Rattle.varisat.specs.declared.solver.SolverError.{SolverError}
 use Rattle.varisat.specs.declared.solver.SolverError.TheVariants.{Interrupted, ProofIoError, OutOfMemory, Invalid, ClauseStoreFull}
+use Rattle.varisat.proofs.StepEntries.{goes-adding}
 use Rattle.varisat.proofs.CallStates.{same-assumptions, same-clauses, same-counted, same-ledger, same-naming, same-verdict}
 use Rattle.varisat.proofs.SearchVerdicts.{is-unknown-or-not, answer-sat, right-false}
 use Rattle.varisat.proofs.PastJournals.{told-more, told-interrupted, nothing-said}
@@ -170,7 +171,8 @@ interrupted v s t k r =
       failed = λ x. ap answer_of (same-verdict e) ∙ k.failed x;
       core = λ l h. k.core l (sym (same-verdict e) ∙ h);
       some = λ l h. k.some l (sym (same-verdict e) ∙ h);
-      told = told-interrupted (t.ledger.steps - s.ledger.steps) (t.ledger.steps - s.ledger.steps) s.told t.told v.interrupted_steps k.told r.told r.adds;
+      told = told-interrupted (t.ledger.steps - s.ledger.steps) (t.ledger.steps - s.ledger.steps) s.told t.told v.interrupted_steps k.told r.told
+          (goes-adding s.ledger.settings.reduce_locals_interval s.ledger.steps (t.ledger.steps - s.ledger.steps) s.told r.told.entries r.adds);
       right = right-like t s.clauses s.assumptions s.counted s.verdict (same-clauses e) (same-assumptions e) (same-counted e) (same-verdict e) k.right;
     }
 

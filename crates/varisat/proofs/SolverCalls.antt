@@ -41,7 +41,7 @@ use Rattle.varisat.specs.Accepting.{HasUser}
 use Rattle.varisat_proof.specs.Calls.{CheckerState}
 use Rattle.varisat_proof.specs.Proving.{IsCheckedIf}
 use Rattle.varisat_tracer.specs.Tracing.{TracerState, global_literal, TakesGlobally}
-use Rattle.varisat.specs.Searches.{answer_at, ComesTo}
+use Rattle.varisat.specs.Searches.{answer_at, Turn, ComesTo}
 use Rattle.varisat.proofs.BegunSteps.{begins-nothing}
 use Rattle.std.proofs.lemmas.List.{append-nil}
 use Rattle.varisat_theory.specs.Journals.{Entry, Fails, written}
@@ -56,7 +56,7 @@ use Rattle.varisat.proofs.SpacesAgree.{map-map, AreInUse}
 use Rattle.varisat.proofs.CallStates.{like-still}
 use Rattle.varisat.proofs.SearchVerdicts.{right-false, right-core}
 use Rattle.varisat.proofs.Carried.{carry-at, carry-sign}
-use Rattle.varisat.proofs.SolveVerdict.{told-with, steps-tell, steps-derived, steps-add, core-ends, steps-told-as, core-tells, core-told-as, maps-alike, recount, spaces-same, sat-found, unsat-found, core-found, found, went-on}
+use Rattle.varisat.proofs.SolveVerdict.{told-with, LinesInSteps, steps-tell, steps-derived, steps-in-turn, steps-stayed, core-ends, steps-told-as, core-tells, core-told-as, maps-alike, recount, spaces-same, sat-found, unsat-found, core-found, found, went-on}
 use Rattle.varisat.proofs.ModelsFit.{told, is-sat, is-unsat, is-core, is-unknown}
 use Rattle.varisat.proofs.AcceptClause.{with_tables, name-below, name-above, given-spaces}
 use Rattle.varisat.proofs.SearchLinks.{view-long}
@@ -315,11 +315,13 @@ checked-lines : (p q : TracerState) (es : List Entry) → IsCheckedIf p.proof.ch
 checked-lines p q es c = subst (λ xs. IsCheckedIf p.proof.checker (told_as (global_literal p.tables) xs) q.proof.checker) (append-nil es) c
 
 -- what the state is then
-pub comes-made : (p q : TracerState) (search : View) (assumed : AssumptionParts) (s : State) (t : View) (y z : AssumptionParts) (after : SatState)
+pub comes-made : (at : Turn) (p q : TracerState) (search : View) (assumed : AssumptionParts) (s : State) (t : View) (y z : AssumptionParts) (after : SatState)
     (n : ℕ) (lines : List Line) → SpacesFit (spaces_of p.tables p.proof.checker search assumed verdict.Unknown) s → n ≤ 1 →
-    StepsMade (searching p search assumed s) t y z after n lines → TakesStep TakesGlobally p lines (outcome_of t y.failed_core after) q →
-    ComesTo n s p.proof q.proof (spaces_of p.tables q.proof.checker t z after)
-comes-made p q search assumed s t y z verdict.Unknown n lines (w, k) one v takes =
+    StepsMade (searching p search assumed s) t y z after n lines →
+    (after ≡ verdict.Unknown → LinesInSteps at.interval at.number n lines (search_of t)) →
+    TakesStep TakesGlobally p lines (outcome_of t y.failed_core after) q →
+    ComesTo at n s p.proof q.proof (spaces_of p.tables q.proof.checker t z after)
+comes-made at p q search assumed s t y z verdict.Unknown n lines (w, k) one v how takes =
     let g = searching p search assumed s in
     let long = view-long t v.well in
     let told = told-with w (spaces g) s lines in
@@ -329,14 +331,15 @@ comes-made p q search assumed s t y z verdict.Unknown n lines (w, k) one v takes
       verdict = Unknown;
       told = told;
       more = steps-tell w (spaces g) s k refl (search_of t) outcome.Unknown n lines v.steps long v.in_use;
-      begins = begins-nothing (n - 1) s.told _ (omega (arith, one));
-      adds = λ e. steps-add w (spaces g) s k refl (search_of t) outcome.Unknown n lines v.steps long v.in_use refl;
+      begins = begins-nothing at.interval at.number (n - 1) s.told _ (omega (arith, one));
+      adds = λ e. steps-in-turn w (spaces g) s k refl (search_of t) outcome.Unknown n lines v.steps long v.in_use at.interval at.number refl (how refl);
+      stayed = λ e. steps-stayed w (spaces g) s k refl (search_of t) outcome.Unknown n lines v.steps long v.in_use;
       ends = steps-derived w (spaces g) s k refl (search_of t) outcome.Unknown n lines v.steps long v.in_use;
       proof = proof-told p q (written lines ++ []) s.variables s.told told takes
           (steps-told-as w (spaces g) s k refl (search_of t) outcome.Unknown n lines v.steps long v.in_use);
       fits = left-spaces g q.proof.checker (retold told (with_verdict Unknown s)) t y z verdict.Unknown v (w, links);
     }
-comes-made p q search assumed s t y z verdict.Sat n lines (w, k) one v takes =
+comes-made at p q search assumed s t y z verdict.Sat n lines (w, k) one v how takes =
     let g = searching p search assumed s in
     let long = view-long t v.well in
     let told = told-with w (spaces g) s lines in
@@ -348,13 +351,14 @@ comes-made p q search assumed s t y z verdict.Sat n lines (w, k) one v takes =
       told = told;
       more = steps-tell w (spaces g) s k refl (search_of t) (outcome.Sat (assignment_of t)) n lines v.steps long v.in_use;
       adds = λ e. absurd (let z : Sat a ≡ Unknown = e in cc);
-      begins = begins-nothing (n - 1) s.told _ (omega (arith, one));
+      stayed = λ e. absurd (let z : Sat a ≡ Unknown = e in cc);
+      begins = begins-nothing at.interval at.number (n - 1) s.told _ (omega (arith, one));
       ends = steps-derived w (spaces g) s k refl (search_of t) (outcome.Sat (assignment_of t)) n lines v.steps long v.in_use;
       proof = proof-told p q (written lines ++ []) s.variables s.told told takes
           (steps-told-as w (spaces g) s k refl (search_of t) (outcome.Sat (assignment_of t)) n lines v.steps long v.in_use);
       fits = left-spaces g q.proof.checker (retold told (with_verdict (Sat a) s)) t y z verdict.Sat v (w, links);
     }
-comes-made p q search assumed s t y z verdict.Unsat n lines (w, k) one v takes =
+comes-made at p q search assumed s t y z verdict.Unsat n lines (w, k) one v how takes =
     let g = searching p search assumed s in
     let long = view-long t v.well in
     let told = told-with w (spaces g) s lines in
@@ -365,13 +369,14 @@ comes-made p q search assumed s t y z verdict.Unsat n lines (w, k) one v takes =
       told = told;
       more = steps-tell w (spaces g) s k refl (search_of t) outcome.Unsat n lines v.steps long v.in_use;
       adds = λ e. absurd (let z : Unsat ≡ Unknown = e in cc);
-      begins = begins-nothing (n - 1) s.told _ (omega (arith, one));
+      stayed = λ e. absurd (let z : Unsat ≡ Unknown = e in cc);
+      begins = begins-nothing at.interval at.number (n - 1) s.told _ (omega (arith, one));
       ends = steps-derived w (spaces g) s k refl (search_of t) outcome.Unsat n lines v.steps long v.in_use;
       proof = proof-told p q (written lines ++ []) s.variables s.told told takes
           (steps-told-as w (spaces g) s k refl (search_of t) outcome.Unsat n lines v.steps long v.in_use);
       fits = left-spaces g q.proof.checker (retold told (with_verdict Unsat s)) t y z verdict.Unsat v (w, links);
     }
-comes-made p q search assumed s t y z verdict.UnsatUnderAssumptions n lines (w, k) one v takes =
+comes-made at p q search assumed s t y z verdict.UnsatUnderAssumptions n lines (w, k) one v how takes =
     let g = searching p search assumed s in
     let long = view-long t v.well in
     let (named, same) = names-carried g s w k v.working y.failed_core z.user_core (v.assumes.core y.failed_core refl).0 (v.named refl) in
@@ -386,7 +391,8 @@ comes-made p q search assumed s t y z verdict.UnsatUnderAssumptions n lines (w, 
       more = core-tells w (spaces g) s k refl (search_of t) (outcome.UnsatUnder y.failed_core) n lines v.steps long v.in_use assumed y refl
           v.assumes q.proof.checker y.failed_core z.user_core refl same;
       adds = λ e. absurd (let z : UnsatUnderAssumptions core ≡ Unknown = e in cc);
-      begins = begins-nothing (n - 1) s.told _ (omega (arith, one));
+      stayed = λ e. absurd (let z : UnsatUnderAssumptions core ≡ Unknown = e in cc);
+      begins = begins-nothing at.interval at.number (n - 1) s.told _ (omega (arith, one));
       ends = core-ends w (spaces g) s k refl (search_of t) (outcome.UnsatUnder y.failed_core) n lines v.steps long v.in_use assumed y refl
           v.assumes q.proof.checker y.failed_core z.user_core refl same;
       proof = proof-told p q (written lines ++ Fails y.failed_core ∷ []) s.variables s.told told takes
@@ -548,7 +554,7 @@ known-told g s b st v e =
       valid = ap (λ (l : Ledger). l.valid) st.ledger ∙ v;
       steps = Decided (inl (λ u. let z : None ≡ Some b = ap answer_of (sym u) ∙ a in cc)) refl (λ _. refl);
       told = let z : 0 ≡ s.ledger.steps - s.ledger.steps = omega arith in subst (λ n. TellsMore n s.told s.told) z (tells-nothing s.told);
-      adds = begins-nothing (s.ledger.steps - s.ledger.steps - 1) s.told _ (omega arith);
+      adds = begins-nothing s.ledger.settings.reduce_locals_interval s.ledger.steps (s.ledger.steps - s.ledger.steps - 1) s.told _ (omega arith);
       right = record {
         known = λ n. refl;
         answer = a;

@@ -1,12 +1,13 @@
 -- What parts of a step and steps in turn come to, from the states for which a solver stands.
-use Rattle.std.proofs.Common.{◌≡◌, ℕ, ◌+◌, ◌-◌, Bool, false, Option, Some, List, [], ◌++◌, Ok, Err, length, sym, ap, ◌∙◌, subst, refl, arith, append_assoc}
+use Rattle.std.proofs.Common.{◌≡◌, ◌≢◌, ℕ, zero, suc, ◌+◌, ◌-◌, ◌%◌, Bool, false, Option, Some, List, [], ◌++◌, Ok, Err, length, inl, inr, ⊎_elim, sym, ap, ap₂, ◌∙◌, subst, refl, arith, append_assoc}
 use Rattle.varisat_theory.specs.Literals.{variable_of, IsSatisfiableWith}
-use Rattle.varisat_theory.specs.Derivations.{Line}
+use Rattle.varisat_theory.specs.Derivations.{Line, IsPresentAfter}
 use Rattle.varisat_theory.specs.Outcomes.{Proves}
-use Rattle.varisat_theory.specs.Journals.{Entry, GoesOn}
-use Rattle.varisat_theory.specs.NewClauses.{GoesOnAdding}
+use Rattle.varisat_theory.specs.Journals.{Entry, Leaves, GoesOn}
 use Rattle.varisat_theory.proofs.Journals.{goes_on_further}
-use Rattle.varisat_theory.proofs.NewClauses.{goes_adding_none, goes_adding_further}
+use Rattle.varisat_theory.proofs.Members.{∈-append_left}
+use Rattle.std.proofs.lemmas.List.{append-nil}
+use Rattle.varisat_theory.specs.Membership.{◌∈◌}
 use Rattle.varisat_theory.proofs.StepsMade.{none_made, one_more_made, part_made}
 use Rattle.varisat_theory.proofs.StepParts.{parts_join}
 use Rattle.varisat_trace.specs.Traces.{TakesLines}
@@ -17,6 +18,7 @@ use Rattle.varisat_tracer.specs.Told.{told-none, told-more}
 use Rattle.varisat_tracer.specs.Tracing.{TracerState, TakesGlobally, CanTell}
 use Rattle.varisat_tracer.proofs.Telling.{tells-on}
 use Rattle.varisat_names.specs.Variables.{Tables}
+use Rattle.varisat_names.specs.Settings.{Settings}
 use Rattle.varisat_search.specs.declared.context.Context.{Context}
 use Rattle.varisat_search.specs.declared.state.SatState.TheVariants as verdict
 use Rattle.varisat_search.specs.AssumptionParts.{AssumptionParts}
@@ -34,9 +36,13 @@ use Rattle.varisat.specs.Budgets.{CountsSteps}
 use Rattle.varisat.specs.Calls.{calling, IsValid, Searched, TellsVerdict, IsSpent, CountsCall, answer_of, with_verdict, with_steps}
 use Rattle.varisat.specs.declared.solver.SolverError.TheVariants.{Interrupted}
 use Rattle.varisat_proof.specs.Passing.{ToldConflict}
-use Rattle.varisat.specs.Journals.{retold, TellsLeaving}
+use Rattle.varisat.specs.Journals.{retold, TellsMore, TellsLeaving, BeginsInSteps}
 use Rattle.varisat.specs.OpenProofs.{OpenProof, GoesOnWriting}
-use Rattle.varisat.specs.Searches.{answer_at, TellsSome, ComesTo, ComesOn, MakesNamedStep}
+use Rattle.varisat.specs.Searches.{answer_at, TellsSome, Turn, turn_of, ComesTo, ComesOn, MakesNamedStep}
+use Rattle.varisat.specs.Dropping.{IsCalm}
+use Rattle.varisat.specs.StepEntries.{GoesOnInSteps, KeepsParts, GoesOnKeeping, TellsInSteps, HasStayed, SpeakOfAdded}
+use Rattle.varisat.proofs.StepEntries.{keeps-all, keeping-nothing, keeping-through, keeping-leaving, no-steps, one-more-step, added-append, added-wider, leaving-added, leaving-derived}
+use Rattle.varisat.proofs.SolveVerdict.{LinesInSteps}
 use Rattle.varisat.specs.Spaces.{Spaces, translation, VerdictFits, SpacesFit}
 use Rattle.varisat.specs.States.{State, Verdict, Unknown, Unsat, HasRightVerdict, IsRight, FlagsFit}
 use Rattle.varisat.specs.Summaries.{IsKept, spaces_of, spaces_with, undecided_spaces}
@@ -47,75 +53,122 @@ use Rattle.varisat.proofs.OpenProofs.{barred-before}
 use Rattle.varisat.proofs.TableMarks.{assumed-named}
 use Rattle.varisat.proofs.ToldProofs.{proof-quiet, proof-through}
 use Rattle.varisat.proofs.SearchVerdicts.{kept-on, right-false}
-use Rattle.varisat.proofs.BegunSteps.{begins-nothing, begins-further}
-use Rattle.varisat.specs.Journals.{BeginsAdding}
+use Rattle.varisat.proofs.BegunSteps.{begins-nothing, begins-one-more}
 use Rattle.varisat.proofs.SolverCalls.{comes-made, answers-fit, unsat-told, core-not-empty}
-use Rattle.varisat.proofs.ToldEntries.{tells-nothing, nothing-derived, stays-nothing, tells-none, none-derived, ends-through, ends-derived, derived-ends}
+use Rattle.varisat.proofs.ToldEntries.{stays-nothing, ends-through, ends-derived, derived-ends}
 use Rattle.varisat_proof.specs.Assumed.{lists_of}
 use Rattle.varisat.proofs.VariableMoves.{same-in-use}
 
 -- 1. In turn.
+
+further-told : (n m k : ℕ) (a b c : List Entry) → n + m ≡ k → TellsMore n a b → TellsMore m b c → TellsMore k a c
+further-told n m k a b c sum s t = record {
+  entries = s.entries ++ t.entries;
+  joined = t.joined ∙ ap (λ xs. xs ++ t.entries) s.joined ∙ append_assoc a s.entries t.entries;
+  goes = subst (λ j. GoesOn j a (s.entries ++ t.entries)) sum
+      (goes_on_further n m a s.entries t.entries s.goes (subst (λ xs. GoesOn m xs t.entries) s.joined t.goes));
+}
+
+added-through : (a b es fs : List Entry) → b ≡ a ++ es → SpeakOfAdded (HasStayed a) es → SpeakOfAdded (HasStayed b) fs → SpeakOfAdded (HasStayed a) (es ++ fs)
+added-through a b es fs e s t =
+    added-append (HasStayed a) es fs s
+    (added-wider (HasStayed b) (HasStayed a) fs
+    (λ l f i. f (subst (λ xs. Leaves (variable_of l) ∈ xs) (sym e) (∈-append_left (Leaves (variable_of l)) a es i))) t)
 
 -- as long as no verdict is known the state has none
 pub unknown-undecided : {A : Type 0} (m : Tables) (checker : Option CheckerState) (x : Context A) (t : State) →
     SpacesFit (undecided_spaces m checker x) t → t.verdict ≡ Unknown
 unknown-undecided m checker x t (w, k) = is-unknown w.identity (undecided_spaces m checker x).model t.verdict k.verdict
 
--- nothing happened
-pub comes-nowhere : (n : ℕ) (s : State) (p : ProofParts) (after : Spaces) → n ≡ 0 → s.verdict ≡ Unknown → SpacesFit after s → ComesTo n s p p after
-comes-nowhere n s p after e u f =
-    let more = tells-none n s.told e in
-    record {
-      verdict = s.verdict;
-      told = s.told;
-      more = more;
-      adds = λ u. subst (λ m. GoesOnAdding m s.told more.entries) (sym e) (goes_adding_none n s.told more.entries more.goes);
-      begins = begins-nothing (n - 1) s.told more.entries (omega (arith, e));
-      ends = derived-ends more.entries s.verdict u (none-derived n s.told e);
-      proof = proof-quiet s.variables s.told p;
-      fits = f;
-    }
+-- n steps later
+abbrev pub later : ℕ → Turn → Turn
+later n at = record { interval = at.interval; number = at.number + n }
 
--- More is told, and then what comes of that: a step, or a part of one where none was made before.
-pub comes-through : (n m k : ℕ) (p q r : ProofParts) (before mid last : Spaces) → n + m ≡ k → (m ≡ 0 → n ≡ 0) →
-    ((t : State) → SpacesFit mid t → t.verdict ≡ Unknown) → ComesOn n before mid p q → ComesOn m mid last q r → ComesOn k before last p r
-comes-through n m k p q r before mid last sum steps unknown first second s fit =
+abbrev turn-at : ℕ → ℕ → Turn
+turn-at interval number = record { interval = interval; number = number }
+
+pub later-turn : {A : Type 0} (x y : Context A) (n : ℕ) → y.solver_config ≡ x.solver_config → y.schedule.steps ≡ x.schedule.steps + n →
+    turn_of y ≡ later n (turn_of x)
+later-turn x y n config steps = ap₂ turn-at (ap (λ (c : Settings). c.reduce_locals_interval) config) steps
+
+-- nothing happened
+pub comes-nowhere : (at : Turn) (n : ℕ) (s : State) (p : ProofParts) (after : Spaces) → n ≡ 0 → s.verdict ≡ Unknown → SpacesFit after s →
+    ComesTo at n s p p after
+comes-nowhere at n s p after e u f = record {
+  verdict = s.verdict;
+  told = s.told;
+  more = record { entries = []; joined = sym (append-nil s.told); goes = subst (λ j. GoesOn j s.told []) (sym e) (λ held d. (held, refl)) };
+  adds = λ _. subst (λ j. TellsInSteps at.interval at.number j s.told []) (sym e) (λ due. keeping-nothing s.told);
+  stayed = λ _. tt;
+  begins = begins-nothing at.interval at.number (n - 1) s.told [] (omega (arith, e));
+  ends = derived-ends [] s.verdict u tt;
+  proof = proof-quiet s.variables s.told p;
+  fits = f;
+}
+
+-- More is told, and then what comes of that: one part of a step after another.
+pub comes-through : (at : Turn) (p q r : ProofParts) (before mid last : Spaces) → ((t : State) → SpacesFit mid t → t.verdict ≡ Unknown) →
+    ComesOn at 0 before mid p q → ComesOn at 0 mid last q r → ComesOn at 0 before last p r
+unfolding further-told
+comes-through at p q r before mid last unknown first second s fit =
     let a = first s fit in
     let t = retold a.told (with_verdict a.verdict s) in
     let b = second t a.fits in
     let es = a.more.entries in
     let more = b.more.entries in
+    let was = unknown t a.fits in
     record {
       verdict = b.verdict;
       told = b.told;
-      more = record {
-        entries = es ++ more;
-        joined = b.more.joined ∙ ap (λ xs. xs ++ more) a.more.joined ∙ append_assoc s.told es more;
-        goes = subst (λ j. GoesOn j s.told (es ++ more)) sum
-            (goes_on_further n m s.told es more a.more.goes (subst (λ xs. GoesOn m xs more) a.more.joined b.more.goes));
-      };
-      adds = λ e. subst (λ j. GoesOnAdding j s.told (es ++ more)) sum
-          (goes_adding_further n m s.told es more steps (a.adds (unknown t a.fits)) (subst (λ xs. GoesOnAdding m xs more) a.more.joined (b.adds e)));
-      begins = subst (λ j. BeginsAdding (j - 1) s.told (es ++ more)) sum
-          (begins-further n m s.told es more steps (a.adds (unknown t a.fits)) (subst (λ xs. BeginsAdding (m - 1) xs more) a.more.joined b.begins));
-      ends = ends-through es more b.verdict (ends-derived es a.verdict (unknown t a.fits) a.ends) b.ends;
+      more = further-told 0 0 0 s.told a.told b.told refl a.more b.more;
+      adds = λ e due. keeping-through s.told es more (a.adds was due) (subst (λ xs. GoesOnKeeping xs more) a.more.joined (b.adds e due));
+      stayed = λ e. added-through s.told a.told es more a.more.joined (a.stayed was) (b.stayed e);
+      begins = begins-nothing at.interval at.number (0 - 1) s.told (es ++ more) (omega arith);
+      ends = ends-through es more b.verdict (ends-derived es a.verdict was a.ends) b.ends;
+      proof = proof-through s.variables s.told a.told b.told p q r a.proof b.proof;
+      fits = b.fits;
+    }
+
+-- Steps are made, or a part of one where none was made before, and then one more.
+pub comes-one-more : (at : Turn) (n k : ℕ) (p q r : ProofParts) (before mid last : Spaces) → n + 1 ≡ k →
+    ((t : State) → SpacesFit mid t → t.verdict ≡ Unknown) → ComesOn at n before mid p q → ComesOn (later n at) 1 mid last q r →
+    ComesOn at k before last p r
+unfolding further-told
+comes-one-more at n k p q r before mid last sum unknown first second s fit =
+    let a = first s fit in
+    let t = retold a.told (with_verdict a.verdict s) in
+    let b = second t a.fits in
+    let es = a.more.entries in
+    let more = b.more.entries in
+    let was = unknown t a.fits in
+    record {
+      verdict = b.verdict;
+      told = b.told;
+      more = further-told n 1 k s.told a.told b.told sum a.more b.more;
+      adds = λ e. one-more-step at.interval at.number n k s.told es more sum a.more.goes (a.adds was)
+          (subst (λ xs. SpeakOfAdded (HasStayed xs) more) a.more.joined (b.stayed e))
+          (subst (λ xs. TellsInSteps at.interval (at.number + n) 1 xs more) a.more.joined (b.adds e));
+      stayed = λ e. added-through s.told a.told es more a.more.joined (a.stayed was) (b.stayed e);
+      begins = begins-one-more at.interval at.number n k s.told es more sum (a.adds was);
+      ends = ends-through es more b.verdict (ends-derived es a.verdict was a.ends) b.ends;
       proof = proof-through s.variables s.told a.told b.told p q r a.proof b.proof;
       fits = b.fits;
     }
 
 -- variables leave, and what is gone is told
-pub leaving-comes : (p q : ProofParts) (before after : Spaces) → ((s : State) → SpacesFit before s → s.verdict ≡ Unknown) →
+pub leaving-comes : (at : Turn) (p q : ProofParts) (before after : Spaces) → ((s : State) → SpacesFit before s → s.verdict ≡ Unknown) →
     ((s : State) → SpacesFit before s → (told : List Entry) × TellsLeaving s.variables s.told told p q × SpacesFit after (retold told s)) →
-    ComesOn 0 before after p q
-leaving-comes p q before after unknown leave s fit =
+    ComesOn at 0 before after p q
+leaving-comes at p q before after unknown leave s fit =
     let (told, t, f) = leave s fit in
     record {
       verdict = s.verdict;
       told = told;
       more = t.more;
-      adds = λ e. goes_adding_none 0 s.told t.more.entries t.more.goes;
-      begins = begins-nothing (0 - 1) s.told t.more.entries (omega arith);
-      ends = derived-ends t.more.entries s.verdict (unknown s fit) t.derived;
+      adds = λ e due. keeping-leaving s.told t.more.entries t.leaving;
+      stayed = λ e. leaving-added (HasStayed s.told) t.more.entries t.leaving;
+      begins = begins-nothing at.interval at.number (0 - 1) s.told t.more.entries (omega arith);
+      ends = derived-ends t.more.entries s.verdict (unknown s fit) (leaving-derived t.more.entries t.leaving);
       proof = t.proof;
       fits = f;
     }
@@ -130,17 +183,17 @@ some-through p q r (first, h) (second, k) = (first ++ second, told-more p q r fi
 -- 2. Parts of a step.
 
 -- a part of a step by lines
-pub part-comes : {A : Type 0} (p q : TracerState) (x y : Context A) (lines : List Line) → IsKept p.tables x →
-    Proves 0 (search_of (view x)) (search_of (view y)) lines → TakesLines TakesGlobally p lines q → IsReady y →
+pub part-comes : {A : Type 0} (at : Turn) (p q : TracerState) (x y : Context A) (lines : List Line) → IsKept p.tables x →
+    LinesInSteps at.interval at.number 0 lines (search_of (view y)) → Proves 0 (search_of (view x)) (search_of (view y)) lines → TakesLines TakesGlobally p lines q → IsReady y →
     length y.assignment.current ≡ length x.assignment.current → SameDecidable (view x) x.vsids (view y) y.vsids →
-    y.assumptions ≡ x.assumptions → ComesOn 0 (undecided_spaces p.tables p.proof.checker x)
+    y.assumptions ≡ x.assumptions → ComesOn at 0 (undecided_spaces p.tables p.proof.checker x)
     (undecided_spaces q.tables q.proof.checker y) p.proof q.proof
-part-comes p q x y lines kept proves takes ready count decidable same s fit =
+part-comes at p q x y lines kept how proves takes ready count decidable same s fit =
     let used = in-use-all p.tables (view y) y.vsids (same-in-use p.tables (view x) x.vsids (view y) y.vsids kept.decidable decidable)
     ready.decidable ready.well in
-    subst (λ (m : Tables). ComesTo 0 s p.proof q.proof (undecided_spaces m q.proof.checker y)) (sym takes.tables)
-    (subst (λ (a : AssumptionParts). ComesTo 0 s p.proof q.proof (spaces_of p.tables q.proof.checker (view y) a verdict.Unknown)) (sym same)
-    (comes-made p q (view x) x.assumptions s (view y) x.assumptions x.assumptions verdict.Unknown 0 lines fit (omega arith)
+    subst (λ (m : Tables). ComesTo at 0 s p.proof q.proof (undecided_spaces m q.proof.checker y)) (sym takes.tables)
+    (subst (λ (a : AssumptionParts). ComesTo at 0 s p.proof q.proof (spaces_of p.tables q.proof.checker (view y) a verdict.Unknown)) (sym same)
+    (comes-made at p q (view x) x.assumptions s (view y) x.assumptions x.assumptions verdict.Unknown 0 lines fit (omega arith)
     (record {
       unknown = refl;
       working = λ l h. assumed-named p.tables (variable_of l) (kept.working l h);
@@ -152,6 +205,7 @@ part-comes p q x y lines kept proves takes ready count decidable same s fit =
       rest = refl;
       named = λ e. absurd (let z : verdict.Unknown ≡ verdict.UnsatUnderAssumptions = e in cc);
     })
+    (λ e. how)
     (step-lines TakesGlobally p q lines (outcome_of (view y) x.assumptions.failed_core verdict.Unknown) refl takes)))
 
 -- A step begins.
@@ -172,9 +226,18 @@ module _ {A : Type 0} {are : List Line → Type 0} (x z : Context A) (b : Begins
     pub begin-kept : (t : Tables) → IsKept t x → IsKept t z
     begin-kept t k = kept-on t x z k b.reduces.ready begin-count begin-decidable begin-same
 
-    begin-proves : (lines : List Line) × Proves 0 (search_of (view x)) (search_of (view z)) lines × are lines
-    begin-proves = let (lines, p, (r, i)) = b.reduces.proves in
-        (lines, parts_join 0 0 (search_of (view x)) (search_of (view b.begun)) (search_of (view z)) [] lines begin-view.proves p, i)
+    -- where no learned clause may be deleted there is no line
+    begin-proves : z.schedule.steps ≡ x.schedule.steps → (lines : List Line) × Proves 0 (search_of (view x)) (search_of (view z)) lines
+        × ((x.schedule.steps % x.solver_config.reduce_locals_interval ≢ 0 → lines ≡ []) × are lines)
+    begin-proves same = let (lines, p, (r, i)) = b.reduces.proves in (
+      lines,
+      parts_join 0 0 (search_of (view x)) (search_of (view b.begun)) (search_of (view z)) [] lines begin-view.proves p,
+      ((λ due. (r.locals.stays (λ e. due (sym turn ∙ e))).1), i),
+    )
+      where
+        turn : b.begun.schedule.steps % b.begun.solver_config.reduce_locals_interval ≡ x.schedule.steps % x.solver_config.reduce_locals_interval
+        turn = ap₂ (λ (m n : ℕ). m % n) (sym (ap (λ (y : Context A). y.schedule.steps) b.rest) ∙ same)
+            (ap (λ (y : Context A). y.solver_config.reduce_locals_interval) b.begins)
 
 -- whatever its lines are
 pub begins-any : {A : Type 0} {are : List Line → Type 0} (x z : Context A) → BeginsStep are x z → BeginsStep (λ lines. Unit {0}) x z
@@ -199,21 +262,23 @@ pub begin-tells : {A : Type 0} (p q : TracerState) (x z : Context A) → BeginsS
     CanTell p.proof → CanTell q.proof
 begin-tells p q x z b t = let (lines, k, (r, takes)) = b.reduces.proves in tells-on p q _ takes t
 
-pub begin-comes : {A : Type 0} (p q : TracerState) (x z : Context A) → IsKept p.tables x →
+pub begin-comes : {A : Type 0} (p q : TracerState) (x z : Context A) → IsKept p.tables x → z.schedule.steps ≡ x.schedule.steps →
     BeginsStep (λ lines. TakesLines TakesGlobally p lines q) x z →
-    ComesOn 0 (undecided_spaces p.tables p.proof.checker x) (undecided_spaces q.tables q.proof.checker z) p.proof q.proof
-begin-comes p q x z kept b =
-    let (lines, proves, takes) = begin-proves x z b kept.ready in
-    part-comes p q x z lines kept proves takes b.reduces.ready (begin-count x z b kept.ready) (begin-decidable x z b) (begin-same x z b)
+    ComesOn (turn_of x) 0 (undecided_spaces p.tables p.proof.checker x) (undecided_spaces q.tables q.proof.checker z) p.proof q.proof
+begin-comes p q x z kept same b =
+    let (lines, proves, (quiet, takes)) = begin-proves x z b kept.ready same in
+    part-comes (turn_of x) p q x z lines kept
+    (λ due held after d f. subst (KeepsParts [] held) (subst (λ ls. IsPresentAfter held ls after) (quiet due) d) (keeps-all held)) proves takes b.reduces.ready (begin-count x z b kept.ready) (begin-decidable x z b) (begin-same x z b)
 
 -- a conflict step, whose core is kept over names
 pub named-comes : {A : Type 0} (p q : TracerState) (x y : Context A) → IsKept p.tables x → MakesNamedStep p q x y →
-    ComesOn 1 (undecided_spaces p.tables p.proof.checker x) (spaces_with q.tables q.proof.checker y) p.proof q.proof
-named-comes p q x y kept f s fit =
-    let (lines, steps, takes) = f.steps in
+    IsCalm (view x) → (at : Turn) →
+    ComesOn at 1 (undecided_spaces p.tables p.proof.checker x) (spaces_with q.tables q.proof.checker y) p.proof q.proof
+named-comes p q x y kept f calm at s fit =
+    let (lines, steps, learns, takes) = f.steps in
     let v = outcome_of (view y) f.parts.failed_core y.solver_state.sat_state in
-    subst (λ (m : Tables). ComesTo 1 s p.proof q.proof (spaces_with m q.proof.checker y)) (sym f.tables)
-    (comes-made p q (view x) x.assumptions s (view y) f.parts y.assumptions y.solver_state.sat_state 1 lines fit (omega arith)
+    subst (λ (m : Tables). ComesTo at 1 s p.proof q.proof (spaces_with m q.proof.checker y)) (sym f.tables)
+    (comes-made at p q (view x) x.assumptions s (view y) f.parts y.assumptions y.solver_state.sat_state 1 lines fit (omega arith)
     (record {
       unknown = refl;
       working = λ l h. assumed-named p.tables (variable_of l) (kept.working l h);
@@ -226,20 +291,29 @@ named-comes p q x y kept f s fit =
       rest = f.rest;
       named = f.core;
     })
+    (λ u. (
+      refl,
+      ⊎_elim
+          (λ c. learns c u)
+          (λ (none, (conflict, c)). absurd (let z : verdict.Unknown ≡ verdict.Unsat = sym u ∙ f.fixes.refutes none conflict c in cc))
+          calm,
+    ))
     takes)
 
 -- without a verdict it goes on from there
-pub comes-undecided : {A : Type 0} (n : ℕ) (before : Spaces) (m : Tables) (y : Context A) (p q : ProofParts) →
-    y.solver_state.sat_state ≡ verdict.Unknown → ComesOn n before (spaces_with m q.checker y) p q → ComesOn n before (undecided_spaces m q.checker y) p q
-comes-undecided n before m y p q e on s fit = subst (λ b. ComesTo n s p q (spaces_of m q.checker (view y) y.assumptions b)) e (on s fit)
+pub comes-undecided : {A : Type 0} (at : Turn) (n : ℕ) (before : Spaces) (m : Tables) (y : Context A) (p q : ProofParts) →
+    y.solver_state.sat_state ≡ verdict.Unknown → ComesOn at n before (spaces_with m q.checker y) p q →
+    ComesOn at n before (undecided_spaces m q.checker y) p q
+comes-undecided at n before m y p q e on s fit = subst (λ b. ComesTo at n s p q (spaces_of m q.checker (view y) y.assumptions b)) e (on s fit)
 
-pub comes-decided : {A : Type 0} (n : ℕ) (before : Spaces) (m : Tables) (y : Context A) (p q : ProofParts) →
-    y.solver_state.sat_state ≡ verdict.Unknown → ComesOn n before (undecided_spaces m q.checker y) p q → ComesOn n before (spaces_with m q.checker y) p q
-comes-decided n before m y p q e on s fit = subst (λ b. ComesTo n s p q (spaces_of m q.checker (view y) y.assumptions b)) (sym e) (on s fit)
+pub comes-decided : {A : Type 0} (at : Turn) (n : ℕ) (before : Spaces) (m : Tables) (y : Context A) (p q : ProofParts) →
+    y.solver_state.sat_state ≡ verdict.Unknown → ComesOn at n before (undecided_spaces m q.checker y) p q →
+    ComesOn at n before (spaces_with m q.checker y) p q
+comes-decided at n before m y p q e on s fit = subst (λ b. ComesTo at n s p q (spaces_of m q.checker (view y) y.assumptions b)) (sym e) (on s fit)
 
 -- 3. What `solve` leads to.
 
-module _ {A : Type 0} {n : ℕ} {s : State} {p q : ProofParts} (m : Tables) (y : Context A) (c : ComesTo n s p q (spaces_with m q.checker y)) where
+module _ {A : Type 0} {at : Turn} {n : ℕ} {s : State} {p q : ProofParts} (m : Tables) (y : Context A) (c : ComesTo at n s p q (spaces_with m q.checker y)) where
   pub comes-answer : answer_of c.verdict ≡ answer_at y.solver_state.sat_state
   comes-answer = let (w, k) = c.fits in answers-fit w.identity (spaces_with m q.checker y).model
       (view y) y.assumptions.failed_core y.solver_state.sat_state c.verdict k.verdict
@@ -263,6 +337,11 @@ module _ {A : Type 0} {n : ℕ} {s : State} {p q : ProofParts} (m : Tables) (y :
   pub comes-unsatisfiable : answer_at y.solver_state.sat_state ≡ Some false → IsSatisfiableWith s.clauses s.assumptions → ⊥
   comes-unsatisfiable e = right-false s.clauses s.assumptions s.counted c.verdict (comes-answer ∙ e) comes-right
 
+-- where steps were made, what is told is told in steps
+moved-steps : (interval number k : ℕ) (told es : List Entry) → (k ≡ 0 → ⊥) → TellsInSteps interval number k told es → GoesOnInSteps interval number k told es
+moved-steps interval number zero told es n a = absurd (n refl)
+moved-steps interval number (suc k) told es n a = a
+
 -- the state once a verdict was found or none, more was told, an open proof has more bytes and the clause store another size
 abbrev pub after-solve : List Entry → Verdict → ℕ → Option OpenProof → ℕ → State → State
 after-solve told v n proof words s = record s
@@ -279,8 +358,8 @@ flags-after s told v n now words f m g = record {
   unassumed = λ o. f.unassumed (barred-before s.proof now g o);
 }
 
-module _ {A : Type 0} {k : ℕ} {s : State} {p q : ProofParts} (m : Tables) (y : Context A) (c : ComesTo k s p q (spaces_with m q.checker y)) (n : ℕ)
-    (now : Option OpenProof) (words : ℕ) where
+module _ {A : Type 0} {at : Turn} {k : ℕ} {s : State} {p q : ProofParts} (m : Tables) (y : Context A) (c : ComesTo at k s p q (spaces_with m q.checker y))
+    (n : ℕ) (now : Option OpenProof) (words : ℕ) where
   pub comes-fits : SpacesFit (spaces_with m q.checker y) (after-solve c.told c.verdict n now words s)
   comes-fits =
       let (w, l) = c.fits in
@@ -291,15 +370,21 @@ module _ {A : Type 0} {k : ℕ} {s : State} {p q : ProofParts} (m : Tables) (y :
             (proof-free w (spaces_with m q.checker y) (retold c.told (with_verdict c.verdict s)) now l)),
       )
 
-  pub comes-verdict : (b : Bool) → IsValid s → s.verdict ≡ Unknown →
+  -- the steps are numbered as the state counts them
+  abbrev IsTurnOf : Type 0
+  IsTurnOf = (at.interval ≡ s.ledger.settings.reduce_locals_interval) × (at.number ≡ s.ledger.steps)
+
+  pub comes-verdict : (b : Bool) → IsValid s → s.verdict ≡ Unknown → IsTurnOf →
       CountsSteps (length s.counted) s.ledger.settings.max_steps s.ledger.since s.ledger.steps n (Ok b) →
       answer_at y.solver_state.sat_state ≡ Some b → k ≡ n - s.ledger.steps → GoesOnWriting s.proof now →
       TellsVerdict calling s b (after-solve c.told c.verdict n now words s)
-  comes-verdict b valid was counts answer made grows = record {
+  comes-verdict b valid was turn counts answer made grows = record {
     valid = valid;
     steps = Searched was counts;
     told = record { entries = c.more.entries; joined = c.more.joined; goes = subst (λ j. GoesOn j s.told c.more.entries) made c.more.goes };
-    adds = subst (λ j. BeginsAdding (j - 1) s.told c.more.entries) made c.begins;
+    adds = subst (λ i. BeginsInSteps i s.ledger.steps (n - s.ledger.steps - 1) s.told c.more.entries) turn.0
+        (subst (λ j. BeginsInSteps at.interval j (n - s.ledger.steps - 1) s.told c.more.entries) turn.1
+        (subst (λ j. BeginsInSteps at.interval at.number (j - 1) s.told c.more.entries) made c.begins));
     right = record {
       known = λ z. absurd (z was);
       answer = comes-answer m y c ∙ answer;
@@ -312,10 +397,10 @@ module _ {A : Type 0} {k : ℕ} {s : State} {p q : ProofParts} (m : Tables) (y :
     rest = like-grown (after-solve c.told c.verdict n s.proof s.words s) now words grows;
   }
 
-  pub comes-interrupted : IsValid s → s.verdict ≡ Unknown → CountsSteps
+  pub comes-interrupted : IsValid s → s.verdict ≡ Unknown → IsTurnOf → CountsSteps
       (length s.counted) s.ledger.settings.max_steps s.ledger.since s.ledger.steps n (Err Interrupted) → c.verdict ≡ Unknown →
       k ≡ n - s.ledger.steps → (n ≡ s.ledger.steps → ⊥) → GoesOnWriting s.proof now → IsSpent calling s (after-solve c.told c.verdict n now words s)
-  comes-interrupted valid was counts unknown made moved grows = record {
+  comes-interrupted valid was turn counts unknown made moved grows = record {
     valid = valid;
     unknown = was;
     steps = counts;
@@ -334,7 +419,11 @@ module _ {A : Type 0} {k : ℕ} {s : State} {p q : ProofParts} (m : Tables) (y :
       joined = c.more.joined;
       goes = subst (λ j. GoesOn j s.told c.more.entries) made c.more.goes;
     };
-    adds = subst (λ j. GoesOnAdding j s.told c.more.entries) made (c.adds unknown);
+    adds = subst (λ i. GoesOnInSteps i s.ledger.steps (n - s.ledger.steps) s.told c.more.entries) turn.0
+        (subst (λ j. GoesOnInSteps at.interval j (n - s.ledger.steps) s.told c.more.entries) turn.1
+        (moved-steps at.interval at.number (n - s.ledger.steps) s.told c.more.entries
+        (λ z. absurd (moved (let low = counts.count in omega (arith, z, low))))
+        (subst (λ j. TellsInSteps at.interval at.number j s.told c.more.entries) made (c.adds unknown))));
     derived = ends-derived c.more.entries c.verdict unknown c.ends;
     still = λ e. absurd (moved e);
   }
@@ -343,19 +432,15 @@ module _ {A : Type 0} {k : ℕ} {s : State} {p q : ProofParts} (m : Tables) (y :
 pub interrupted-still : (s : State) → IsValid s → s.verdict ≡ Unknown → CountsCall s (Err Interrupted) s → IsSpent calling s s
 interrupted-still s valid was counts =
     let none : 0 ≡ s.ledger.steps - s.ledger.steps = omega arith in
-    let nothing = tells-nothing s.told in
     record {
       valid = valid;
       unknown = was;
       steps = counts;
       rest = like-still s;
       variables = refl;
-      told = record {
-        entries = nothing.entries;
-        joined = nothing.joined;
-        goes = subst (λ j. GoesOn j s.told nothing.entries) none nothing.goes;
-      };
-      adds = subst (λ j. GoesOnAdding j s.told nothing.entries) none (goes_adding_none 0 s.told nothing.entries nothing.goes);
-      derived = nothing-derived s.told;
+      told = record { entries = []; joined = sym (append-nil s.told); goes = subst (λ j. GoesOn j s.told []) none (λ held d. (held, refl)) };
+      adds = subst (λ j. GoesOnInSteps s.ledger.settings.reduce_locals_interval s.ledger.steps j s.told []) none
+          (no-steps s.ledger.settings.reduce_locals_interval s.ledger.steps s.told);
+      derived = tt;
       still = λ e. refl;
     }

@@ -2,11 +2,13 @@
 use Rattle.std.proofs.Common.{◌≡◌, ℕ, ◌*◌, ◌/◌, Option, Some, List, [], ◌∷◌, ◌++◌, map, refl, sym, ap, ◌∙◌, subst, arith, append_assoc}
 use Rattle.std.proofs.lemmas.List.{append-nil, map-append}
 use Rattle.varisat_theory.specs.Literals.{Literal}
-use Rattle.varisat_theory.specs.Journals.{Entry, Accepts, Writes, Assumes, Fails, Leaves, NoneLeaves, rename_entry}
+use Rattle.varisat_theory.specs.Journals.{Entry, Accepts, Writes, Assumes, Fails, Leaves, NoneLeaves, rename_entry, GoesOn}
 use Rattle.varisat_proof.specs.Proving.{ProofParts, IsTold}
 use Rattle.varisat_tracer.specs.Carried.{carry, told_as}
 use Rattle.varisat_tracer.specs.Told.{told-none, told-more}
 use Rattle.varisat_tracer.specs.Tracing.{TracerState, global_literal, TakesGlobally}
+use Rattle.varisat_theory.proofs.Journals.{goes_on_further}
+use Rattle.varisat.proofs.StepEntries.{leaving-append}
 use Rattle.varisat.specs.Journals.{TellsProof, TellsLeaving}
 use Rattle.varisat.proofs.Carried.{carry-at}
 use Rattle.varisat.proofs.ToldEntries.{tells-nothing, nothing-derived, tells, one-derived, through-derived, tells-through, leaves-goes}
@@ -57,20 +59,24 @@ proof-through variables a b c p q r s t =
 pub leaving-none : (variables : ℕ → Option ℕ) (told : List Entry) (p q : ProofParts) (given : List Entry) → given ≡ [] → IsTold p given q →
     TellsLeaving variables told told p q
 leaving-none variables told p q given e h = record {
-  more = tells-nothing told;
-  derived = nothing-derived told;
+  more = record { entries = []; joined = sym (append-nil told); goes = λ held d. (held, refl) };
+  leaving = tt;
   proof = record { entries = []; joined = sym (append-nil told); told = subst (λ es. IsTold p es q) e h };
 }
 
 pub leaving-nothing : (variables : ℕ → Option ℕ) (told : List Entry) (p : ProofParts) → TellsLeaving variables told told p p
-leaving-nothing variables told p = record { more = tells-nothing told; derived = nothing-derived told; proof = proof-quiet variables told p }
+leaving-nothing variables told p = record {
+  more = record { entries = []; joined = sym (append-nil told); goes = λ held d. (held, refl) };
+  leaving = tt;
+  proof = proof-quiet variables told p;
+}
 
 -- one did, and the proof was told of its global variable
 pub leaving-one : (variables : ℕ → Option ℕ) (told : List Entry) (i x : ℕ) (p q : ProofParts) (given : List Entry) → variables i ≡ Some x →
     given ≡ Leaves x ∷ [] → IsTold p given q → TellsLeaving variables told (told ++ Leaves i ∷ []) p q
 leaving-one variables told i x p q given at e h = record {
-  more = tells 0 told (Leaves i ∷ []) (leaves-goes told i);
-  derived = one-derived told (Leaves i) tt (leaves-goes told i);
+  more = record { entries = Leaves i ∷ []; joined = refl; goes = leaves-goes told i };
+  leaving = tt;
   proof = record {
     entries = Leaves i ∷ [];
     joined = refl;
@@ -86,7 +92,11 @@ pub leaving-through : (variables : ℕ → Option ℕ) (a b c : List Entry) (p q
     TellsLeaving variables b c q r → TellsLeaving variables a c p r
 leaving-through variables a b c p q r s t =
     record {
-      more = tells-through 0 0 a b c s.more t.more;
-      derived = through-derived 0 0 a b c s.more t.more s.derived t.derived;
+      more = record {
+        entries = s.more.entries ++ t.more.entries;
+        joined = t.more.joined ∙ ap (λ xs. xs ++ t.more.entries) s.more.joined ∙ append_assoc a s.more.entries t.more.entries;
+        goes = goes_on_further 0 0 a s.more.entries t.more.entries s.more.goes (subst (λ xs. GoesOn 0 xs t.more.entries) s.more.joined t.more.goes);
+      };
+      leaving = leaving-append s.more.entries t.more.entries s.leaving t.leaving;
       proof = proof-through variables a b c p q r s.proof t.proof;
     }

@@ -8,14 +8,14 @@ use Rattle.std.specs.Prelude.{◌≡◌, ◌≢◌, ℕ, ◌+◌, ◌-◌, ◌^�
 use Rattle.std.specs.declared.alloc.AllocError.{AllocError}
 use Rattle.varisat_theory.specs.Membership.{◌∈◌}
 use Rattle.varisat_theory.specs.Literals.{Literal, Clause, variable_of, opposite, IsUnit, IsSatisfiable}
-use Rattle.varisat_theory.specs.NewClauses.{GoesOnAdding}
 use Rattle.varisat_theory.specs.Journals.{Entry}
 use Rattle.varisat_theory.specs.Journals as entry
 use Rattle.varisat_proof.specs.Passing.{ToldConflict}
 use Rattle.varisat_theory.specs.CallBounds.{AreFew}
 use Rattle.varisat_proof.specs.declared.proof.format.ProofFormat.{ProofFormat}
 use Rattle.varisat_proof.specs.Lines.{has_marks}
-use Rattle.varisat.specs.Journals.{retold, TellsMore, BeginsAdding, AreDerived, EndBy, IsJournal}
+use Rattle.varisat.specs.Journals.{retold, TellsMore, BeginsInSteps, AreDerived, EndBy, IsJournal}
+use Rattle.varisat.specs.StepEntries.{GoesOnInSteps}
 use Rattle.varisat.specs.OpenProofs.{IsOpen, BarsClauses, BarsAssumptions, searched_under, lines_over, GoesOnWriting, GoesOnFailing}
 use Rattle.varisat.specs.States.{Known, State, join_counted, Verdict, Unknown, Sat, Unsat, UnsatUnderAssumptions, HasRightVerdict}
 use Rattle.varisat.specs.Names.{Naming, name_one, name_all, through_names, IsLeastFree, NameNoWitness, IsFirstWitness}
@@ -228,7 +228,7 @@ module _ {V : Type 0} (by : Verdicts V) where
     -- of the clauses that it told to be added as many count as steps were made
     pub told : TellsMore (t.ledger.steps - s.ledger.steps) s.told t.told
     -- and each step but the last, which came to the answer, added a new one, as where the steps are spent
-    pub adds : BeginsAdding (t.ledger.steps - s.ledger.steps - 1) s.told told.entries
+    pub adds : BeginsInSteps s.ledger.settings.reduce_locals_interval s.ledger.steps (t.ledger.steps - s.ledger.steps - 1) s.told told.entries
     pub right : by.answers s b told.entries t
     pub rest : IsSolved t.verdict s t
 
@@ -241,9 +241,10 @@ module _ {V : Type 0} (by : Verdicts V) where
     -- a proof writes each identity as the variable that it had
     pub variables : t.variables ≡ s.variables
     -- of the clauses that it told to be added as many count as steps were made; and each step added a new one, of which no clause that
-    -- was held just before is a part, and which is held as the step ends
+    -- was held just before is a part, and which is held as the step ends; nor one that was held as the step began, unless it was a step
+    -- that may delete learned clauses
     pub told : TellsMore (t.ledger.steps - s.ledger.steps) s.told t.told
-    pub adds : GoesOnAdding (t.ledger.steps - s.ledger.steps) s.told told.entries
+    pub adds : GoesOnInSteps s.ledger.settings.reduce_locals_interval s.ledger.steps (t.ledger.steps - s.ledger.steps) s.told told.entries
     -- no core is told
     pub derived : AreDerived told.entries
     -- where no step was made nothing changed

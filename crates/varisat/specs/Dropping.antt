@@ -53,6 +53,10 @@ LeavesInTime t s = NoneIsToLeave t s ⊎ IsUnsettled s
 abbrev pub GoesOnLeaving : Summary → Summary → Type 0
 GoesOnLeaving g h = LeavesInTime g.tables g.search → h.ledger.valid ≡ true → h.sat_state ≢ verdict.Unsat → LeavesInTime h.tables h.search
 
+-- At level 0 no literal is left to be propagated, or a clause is false there.
+abbrev pub IsCalm : View → Type 0
+IsCalm s = (IsUnsettled s → ⊥) ⊎ ((s.decisions ≡ []) × ((conflict : Conflict) × IsConflicting s conflict))
+
 -- As a step has begun: none is to leave, and at level 0 all is propagated, or a clause is false there.
 abbrev pub HasLetLeave : Tables → View → Type 0
 HasLetLeave t s = (NoneIsToLeave t s × (IsUnsettled s → ⊥)) ⊎ ((s.decisions ≡ []) × ((conflict : Conflict) × IsConflicting s conflict))

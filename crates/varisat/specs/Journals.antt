@@ -3,7 +3,6 @@ use Rattle.std.specs.Prelude.{◌≡◌, ℕ, true, false, Option, List, [], ◌
 use Rattle.varisat_theory.specs.Literals.{Literal, Clause}
 use Rattle.varisat_theory.specs.Journals.{Entry, Writes, Fails, Leaves, Leads, LeadsBy, NoneLeaves, accepted_of, lines_of, rename_entry, GoesOn}
 use Rattle.varisat_theory.specs.Derivations.{IsDerivation, Refutes}
-use Rattle.varisat_theory.specs.NewClauses.{GoesOnAdding}
 use Rattle.varisat_proof.specs.declared.proof.format.Encoding.TheVariants.{Text}
 use Rattle.varisat_proof.specs.Telling.{lines_told}
 use Rattle.varisat_proof.specs.Proving.{ProofParts, IsTold}
@@ -12,6 +11,7 @@ use Rattle.varisat_tracer.specs.Carried.{carry}
 use Rattle.varisat_proof.specs.Assumed.{assumed_behind, CoresAreAssumed}
 use Rattle.varisat.specs.OpenProofs.{entries_over, IsWrittenWhereOpen, HaveOwnVariables}
 use Rattle.varisat.specs.States.{Known, State, Verdict, Unsat, UnsatUnderAssumptions}
+use Rattle.varisat.specs.StepEntries.{GoesOnInSteps}
 
 -- the same once more was told
 abbrev pub retold : {V : Type 0} → List Entry → Known V → Known V
@@ -24,12 +24,12 @@ pub record TellsMore (n : ℕ) (before after : List Entry) : Type 0 where
   pub joined : after ≡ before ++ entries
   pub goes : GoesOn n before entries
 
--- The first of the further entries go on in k parts in turn that each add a new clause, and then come others.
-pub record BeginsAdding (k : ℕ) (told es : List Entry) : Type 0 where
+-- The first of the further entries are those of k steps in turn that each add a new clause, and then come others.
+pub record BeginsInSteps (interval number k : ℕ) (told es : List Entry) : Type 0 where
   pub front : List Entry
   pub back : List Entry
   pub split : es ≡ front ++ back
-  pub adds : GoesOnAdding k told front
+  pub adds : GoesOnInSteps interval number k told front
 
 -- No clause is accepted, nothing is assumed and no core told: the entries are lines, and variables that leave.
 abbrev pub AreDerived : List Entry → Type 0
@@ -38,7 +38,13 @@ AreDerived (Writes line ∷ es) = AreDerived es
 AreDerived (Leaves v ∷ es) = AreDerived es
 AreDerived (_ ∷ es) = ⊥
 
--- so they are, and then the core is told, at last
+-- no line, clause, list or core: the entries are variables that leave
+abbrev pub AreLeaving : List Entry → Type 0
+AreLeaving [] = Unit {0}
+AreLeaving (Leaves v ∷ es) = AreLeaving es
+AreLeaving (_ ∷ es) = ⊥
+
+-- the entries are derived, and then the core is told, at last
 abbrev pub EndWithCore : List Literal → List Entry → Type 0
 EndWithCore core es = (front : List Entry) × AreDerived front × (es ≡ front ++ Fails core ∷ [])
 
@@ -60,7 +66,7 @@ pub record TellsProof (variables : ℕ → Option ℕ) (before after : List Entr
 -- Entries are told as variables leave, and to the proof as well.
 pub record TellsLeaving (variables : ℕ → Option ℕ) (before after : List Entry) (old new : ProofParts) : Type 0 where
   pub more : TellsMore 0 before after
-  pub derived : AreDerived more.entries
+  pub leaving : AreLeaving more.entries
   pub proof : TellsProof variables before after old new
 
 -- What was told is right, entry by entry, and an open proof has all of it for which its format has lines, each identity as its

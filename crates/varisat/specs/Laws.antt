@@ -1,10 +1,11 @@
 -- What holds of names as long as none is freed: they come into use in order, and each stands for the identity of its number. So a
 -- user who hides nothing may read what is said over identities as said over names. What is told and written of a core that is found.
 -- And what a check of a proof's bytes returns.
-use Rattle.std.specs.Prelude.{◌≡◌, Bool, true, false, ℕ, ◌+◌, ◌≤◌, Option, List, [], ◌∷◌, ◌++◌, map, Result, Ok}
+use Rattle.std.specs.Prelude.{◌≡◌, ◌≢◌, Bool, true, false, ℕ, ◌+◌, ◌%◌, ◌≤◌, Option, List, [], ◌∷◌, ◌++◌, map, Result, Ok}
 use Rattle.varisat_theory.specs.Literals.{Literal, Clause}
 use Rattle.varisat_theory.specs.Propagation.{Conflicts}
-use Rattle.varisat_theory.specs.Journals.{Entry, Leads, lines_of}
+use Rattle.varisat_theory.specs.Derivations.{Add, Delete}
+use Rattle.varisat_theory.specs.Journals.{Entry, Writes, Leads, lines_of}
 use Rattle.varisat_literals.specs.Numbers.{variable_limit}
 use Rattle.varisat_formula.specs.Streams.{Taken}
 use Rattle.varisat_proof.specs.declared.proof.format.Encoding.TheVariants.{Text}
@@ -25,6 +26,7 @@ use Rattle.varisat.specs.OpenProofs.{OpenProof, entries_over}
 use Rattle.varisat.specs.Decided.{Conclusion}
 use Rattle.varisat.specs.Proven.{IsProven}
 use Rattle.varisat.specs.Journals.{TellsMore, EndWithCore}
+use Rattle.varisat.specs.StepEntries.{LeadsInSteps}
 use Rattle.varisat.specs.Names.{Naming, no_names, name_one, name_all, through_names, IsLeastFree, AreInOrder}
 use Rattle.varisat.specs.Models.{AreNamesInUse}
 use Rattle.varisat.specs.ProofCalls.{IsProof}
@@ -39,6 +41,12 @@ abbrev pub NamesStayInOrder : Type 0
 NamesStayInOrder =
     AreInOrder 0 no_names × ((n : ℕ) (m : Naming) (ls : List Literal) → AreInOrder n m → AreInOrder (count_with n ls) (name_all ls m))
     × ((n : ℕ) (m : Naming) (u : ℕ) → AreInOrder n m → IsLeastFree m u → (u ≡ n) × AreInOrder (n + 1) (name_one u m))
+
+-- A clause that is deleted and added again is no step, unless it is one that may delete learned clauses.
+abbrev pub AgainIsNoStep : Type 0
+AgainIsNoStep =
+    (interval number : ℕ) (P : List Clause) (c : Clause) (Q : List Clause) → number % interval ≢ 0 →
+    LeadsInSteps interval number 1 P (Writes (Delete c) ∷ Writes (Add c) ∷ []) Q → ⊥
 
 -- names in order carry literals over them to themselves
 abbrev pub NamesAreIdentities : Type 0

@@ -26,6 +26,7 @@ pub mod Accepting
 pub mod Summaries
 pub mod Carried
 pub mod Spaces
+pub mod StepEntries
 pub mod Journals
 pub mod Usage
 pub mod ClauseCalls

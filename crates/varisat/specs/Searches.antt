@@ -3,7 +3,6 @@ use Rattle.std.specs.Prelude.{◌≡◌, ℕ, ◌-◌, Bool, true, false, Option
 use Rattle.varisat_theory.specs.Derivations.{Line}
 use Rattle.varisat_theory.specs.Outcomes.{Steps}
 use Rattle.varisat_theory.specs.Journals.{Entry}
-use Rattle.varisat_theory.specs.NewClauses.{GoesOnAdding}
 use Rattle.varisat_trace.specs.Traces.{TakesStep}
 use Rattle.varisat_proof.specs.Proving.{ProofParts, IsTold}
 use Rattle.varisat_tracer.specs.Tracing.{TracerState, TakesGlobally, CanTell}
@@ -17,11 +16,12 @@ use Rattle.varisat_search.specs.Decisions.{SameDecidable}
 use Rattle.varisat_search.specs.DueReductions.{BeginsStep}
 use Rattle.varisat_search.specs.Progress.{RaisesRank}
 use Rattle.varisat_search.specs.Seen.{search_of, outcome_of}
-use Rattle.varisat_search.specs.SettledUnits.{FixesByLearning}
+use Rattle.varisat_search.specs.SettledUnits.{FixesByLearning, LearnsAlone}
 use Rattle.varisat.specs.Calls.{with_verdict}
 use Rattle.varisat.specs.Carried.{named_literals}
-use Rattle.varisat.specs.Dropping.{LeavesWhereUnsettled, LeavesInTime, HasLetLeave}
-use Rattle.varisat.specs.Journals.{retold, TellsMore, BeginsAdding, EndBy, TellsProof}
+use Rattle.varisat.specs.Dropping.{LeavesWhereUnsettled, LeavesInTime, HasLetLeave, IsCalm}
+use Rattle.varisat.specs.Journals.{retold, TellsMore, BeginsInSteps, EndBy, TellsProof}
+use Rattle.varisat.specs.StepEntries.{TellsInSteps, SpeakOfAdded, HasStayed}
 use Rattle.varisat.specs.SinceChange.{GoesOnSince, BeginsWithin}
 use Rattle.varisat.specs.Spaces.{Spaces, SpacesFit}
 use Rattle.varisat.specs.States.{State, Verdict, Unknown}
@@ -38,26 +38,37 @@ answer_at verdict.UnsatUnderAssumptions = Some false
 abbrev pub TellsSome : ProofParts → ProofParts → Type 0
 TellsSome p q = (given : List Entry) × IsTold p given q
 
--- What a search comes to from a state without a verdict: a verdict or none, and what it told further, to the proof too. Of the
--- clauses that were added n or fewer count, and n or more are new, or one less where there is a verdict. A core that was found is told
--- at last.
-pub record ComesTo (n : ℕ) (s : State) (p q : ProofParts) (after : Spaces) : Type 0 where
+-- When learned clauses may be deleted: before each step whose number is a multiple of the interval. And the number of the next step.
+pub record Turn : Type 0 where
+  pub interval : ℕ
+  pub number : ℕ
+
+-- as it is in the context
+abbrev pub turn_of : {A : Type 0} → Context A → Turn
+turn_of x = record { interval = x.solver_config.reduce_locals_interval; number = x.schedule.steps }
+
+-- What a search comes to by n steps from a state without a verdict: a verdict or none, and what it told further, to the proof too. Of
+-- the clauses that were added n or fewer count, and n are new, or one less where there is a verdict. None of these names a variable
+-- that left before. A core that was found is told at last.
+pub record ComesTo (at : Turn) (n : ℕ) (s : State) (p q : ProofParts) (after : Spaces) : Type 0 where
   pub verdict : Verdict
   pub told : List Entry
   pub more : TellsMore n s.told told
-  pub adds : verdict ≡ Unknown → GoesOnAdding n s.told more.entries
-  pub begins : BeginsAdding (n - 1) s.told more.entries
+  pub adds : verdict ≡ Unknown → TellsInSteps at.interval at.number n s.told more.entries
+  pub stayed : verdict ≡ Unknown → SpeakOfAdded (HasStayed s.told) more.entries
+  pub begins : BeginsInSteps at.interval at.number (n - 1) s.told more.entries
   pub ends : EndBy verdict more.entries
   pub proof : TellsProof s.variables s.told told p q
   pub fits : SpacesFit after (retold told (with_verdict verdict s))
 
 -- so it does from each state for which the spaces before stand
-abbrev pub ComesOn : ℕ → Spaces → Spaces → ProofParts → ProofParts → Type 0
-ComesOn n before after p q = (s : State) → SpacesFit before s → ComesTo n s p q after
+abbrev pub ComesOn : Turn → ℕ → Spaces → Spaces → ProofParts → ProofParts → Type 0
+ComesOn at n before after p q = (s : State) → SpacesFit before s → ComesTo at n s p q after
 
 -- so it does while no verdict is known
-abbrev pub ComesOnUndecided : {A : Type 0} → ℕ → TracerState → Context A → TracerState → Context A → Type 0
-ComesOnUndecided n p x q y = ComesOn n (undecided_spaces p.tables p.proof.checker x) (undecided_spaces q.tables q.proof.checker y) p.proof q.proof
+abbrev pub ComesOnUndecided : {A : Type 0} → Turn → ℕ → TracerState → Context A → TracerState → Context A → Type 0
+ComesOnUndecided at n p x q y =
+    ComesOn at n (undecided_spaces p.tables p.proof.checker x) (undecided_spaces q.tables q.proof.checker y) p.proof q.proof
 
 -- Where the step begins at level 0 with literals still to be propagated, variables leave that may: those that have a value then
 -- and are not assumed, and hidden ones that no kept clause names; unless a clause is false.
@@ -75,8 +86,10 @@ pub record BeginsSolverStep {A : Type 0} (p q : TracerState) (x y : Context A) :
   pub state : y.solver_state ≡ x.solver_state
   pub count : length y.assignment.current ≡ length x.assignment.current
   pub left : LeavesIfNews q x y
+  -- at level 0 all is propagated, or a clause is false
+  pub calm : IsCalm (view y)
   pub leaves : LeavesInTime p.tables (view x) → HasLetLeave q.tables (view y)
-  pub stands : ComesOnUndecided 0 p x q y
+  pub stands : ComesOnUndecided (turn_of x) 0 p x q y
 
 -- A step leads from one context to the other, which has a verdict or none, as a tracer that was p takes its lines and the core;
 -- and a core that was found is kept over names too.
@@ -91,7 +104,9 @@ pub record MakesNamedStep {A : Type 0} (p q : TracerState) (x y : Context A) : T
   pub tables : q.tables ≡ p.tables
   -- the assumptions that are left, and the core over solver variables
   pub parts : AssumptionParts
+  -- one that has no units to settle, and after which the search goes on, adds what was learned by its only line
   pub steps : (lines : List Line) × Steps (search_of (view x)) (search_of (view y)) (outcome_of (view y) parts.failed_core y.solver_state.sat_state) lines
+      × LearnsAlone lines x y
       × TakesStep TakesGlobally p lines (outcome_of (view y) parts.failed_core y.solver_state.sat_state) q
   pub assumes : KeepsAssumptions (search_of (view x)) (outcome_of (view y) parts.failed_core y.solver_state.sat_state) x.assumptions parts
   pub rest : y.assumptions ≡ record parts { user_core = y.assumptions.user_core }
@@ -113,7 +128,7 @@ pub record MakesSolverStep {A : Type 0} (p q : TracerState) (x y : Context A) : 
   pub state : y.solver_state ≡ record x.solver_state { sat_state = y.solver_state.sat_state }
   pub count : length y.assignment.current ≡ length x.assignment.current
   pub leaves : LeavesInTime p.tables (view x) → IsNotUnsat y → LeavesInTime q.tables (view y)
-  pub stands : ComesOn 1 (undecided_spaces p.tables p.proof.checker x) (spaces_with q.tables q.proof.checker y) p.proof q.proof
+  pub stands : ComesOn (turn_of x) 1 (undecided_spaces p.tables p.proof.checker x) (spaces_with q.tables q.proof.checker y) p.proof q.proof
 
 -- Steps were made, from one context to the other, until there was a verdict or they were spent. Where none was made nothing changed.
 pub record FindsVerdict {A : Type 0} (p q : TracerState) (x y : Context A) (found : Option Bool) : Type 0 where
@@ -124,6 +139,6 @@ pub record FindsVerdict {A : Type 0} (p q : TracerState) (x y : Context A) (foun
   pub told : TellsSome p.proof q.proof
   -- where no variable was to leave but with literals that are still to be propagated, so it is, unless under Unsat
   pub leaves : LeavesInTime p.tables (view x) → IsNotUnsat y → LeavesInTime q.tables (view y)
-  pub stands : ComesOn (steps_since x.schedule y.schedule) (undecided_spaces p.tables p.proof.checker x)
+  pub stands : ComesOn (turn_of x) (steps_since x.schedule y.schedule) (undecided_spaces p.tables p.proof.checker x)
       (spaces_with q.tables q.proof.checker y) p.proof q.proof
   pub still : y.schedule.steps ≡ x.schedule.steps → (y ≡ x) × (q ≡ p)

@@ -10,12 +10,12 @@ ghost use Rattle.varisat_search.specs.Contexts.{view, KeepsSchedule};
 ghost use Rattle.varisat_search.specs.SettledUnits.{IsSettledDown};
 ghost use Rattle.varisat.specs.SinceChange.{GoesOnWithin};
 ghost use Rattle.varisat.specs.Accepting.{AreBounded};
-ghost use Rattle.varisat.specs.Searches.{TellsSome, ComesOnUndecided};
+ghost use Rattle.varisat.specs.Searches.{TellsSome, Turn, ComesOnUndecided};
 ghost use Rattle.varisat_tracer.specs.Tracing.{tracer_state, open_parts, BreaksProof, CanTell};
 ghost use Rattle.varisat_search.specs.StepErrors.{step_faults};
 ghost use Rattle.varisat.specs.Spaces.{FitSome};
 ghost use Rattle.varisat.specs.Summaries.{undecided_spaces, IsKept};
-ghost use Rattle.varisat.specs.Dropping.{leads_to_unassumed, unassumed_among, AreOverAssumed, LeavesInTime, HasLetLeave, FlagsVariables, LosesSolverVar, AreDroppedAlone, leads_to_hidden, ListsUnneeded, AreReleased, LeavesNeeded, LeavesWhereUnsettled, LeavesTables, LetsLeave};
+ghost use Rattle.varisat.specs.Dropping.{leads_to_unassumed, unassumed_among, AreOverAssumed, LeavesInTime, IsCalm, HasLetLeave, FlagsVariables, LosesSolverVar, AreDroppedAlone, leads_to_hidden, ListsUnneeded, AreReleased, LeavesNeeded, LeavesWhereUnsettled, LeavesTables, LetsLeave};
 
 use std::alloc::{AllocError, Allocator};
 use varisat_formula::io::ProofTarget;
@@ -257,7 +257,9 @@ pub fn drop_fixed<W: ProofTarget, A: Allocator + Copy>(
     ensures left { OnOk result (LeavesWhereUnsettled ctx.old tracer.new.tables (view ctx.new)) }
     // Where none was to leave but with such news, none is now, unless a clause is false.
     ensures leaves { OnOk result (LeavesInTime tracer.old.tables (view ctx.old) → HasLetLeave tracer.new.tables (view ctx.new)) }
-    ensures stands { OnOk result (ComesOnUndecided 0 (tracer_state tracer.old) ctx.old (tracer_state tracer.new) ctx.new) }
+    ensures calm { OnOk result (IsCalm (view ctx.new)) }
+    // Parts of all clauses that were held are held still, but for variables that left.
+    ensures stands { OnOk result ((at : Turn) → ComesOnUndecided at 0 (tracer_state tracer.old) ctx.old (tracer_state tracer.new) ctx.new) }
     // What the target of an open proof has after an error, which is never that the store is full.
     ensures broken { IfErr result (λ error. BreaksProof tracer.old.proof (step_faults error) tracer.new.proof) }
     ensures full { IfErr result (λ error. error ≢ StepError.Full) }

@@ -2,7 +2,7 @@
 //! check of a proof's bytes; and that `answers` of `answers_of` rules wrong answers out.
 ghost use Rattle.varisat.specs.Laws.{NamesStayInOrder, NamesAreIdentities, GivenIsAccepted, CrowdedIsPastLimit};
 ghost use Rattle.varisat.specs.WrongAnswers.{WrongAnswersFitNoStory};
-ghost use Rattle.varisat.specs.Laws.{CoresAreTold, CoresAreWritten, BytesAreAccepted, MarkedProofsPass};
+ghost use Rattle.varisat.specs.Laws.{AgainIsNoStep, CoresAreTold, CoresAreWritten, BytesAreAccepted, MarkedProofsPass};
 
 /// Names come into use in order.
 pub fn names_stay_in_order()
@@ -22,6 +22,11 @@ pub fn given_is_accepted()
 /// It is refused for its names only where one of these is past the limit.
 pub fn crowded_is_past_limit()
     ensures { CrowdedIsPastLimit }
+{}
+
+/// No step deletes a clause and adds it again, unless it is one that may delete learned clauses.
+pub fn again_is_no_step()
+    ensures { AgainIsNoStep }
 {}
 
 /// A core that is found is told, and conflicts with what is held then.

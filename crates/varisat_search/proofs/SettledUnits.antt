@@ -8,7 +8,8 @@ use Rattle.varisat_theory.proofs.StepParts.{no_part, parts_join}
 use Rattle.varisat_theory.proofs.StepStands.{part_step}
 use Rattle.varisat_prop.specs.declared.prop.graph.Conflict.{Conflict}
 use Rattle.varisat_prop.specs.declared.prop.graph.Conflict.TheVariants as conflict
-use Rattle.varisat_prop.specs.View.{View, WellFormed, kinds}
+use Rattle.varisat_theory.specs.Propagation.{IsComplete}
+use Rattle.varisat_prop.specs.View.{View, WellFormed, kept, kinds}
 use Rattle.varisat_prop.specs.Changes.{IsConflicting}
 use Rattle.varisat_prop.specs.Looks.{Propagates}
 use Rattle.varisat_prop.proofs.SimplifiedView.{HasUnits}
@@ -136,12 +137,14 @@ module _ {A : Type 0} (x m p : Context A) (d : ProvedAfter x m p) where
   pub settles-to-units : (lines : List Line) (t : View) (end : Result (Unit {0}) Conflict) →
       MatchResult end (λ _. IsSimplified (view p) t
       × (lines ≡ unit_lines (implied_units (view m)) ++ (pair_lines (view p) ++ clause_lines (view p))))
-      (λ f. (t ≡ view p) × IsConflicting t f × (lines ≡ unit_lines (implied_units (view m)))) → SettlesUnits lines (view x) t end
-  settles-to-units lines t end e = record {
+      (λ f. (t ≡ view p) × IsConflicting t f × (lines ≡ unit_lines (implied_units (view m)))) →
+      MatchResult end (λ _. IsComplete (kept (view m)) (view m).trail) (λ _. Unit {0}) → SettlesUnits lines (view x) t end
+  settles-to-units lines t end e complete = record {
     propagated = view m;
     proved = view p;
     propagates = d.propagates;
     units = d.proved;
+    complete = complete;
     ends = e;
   }
 

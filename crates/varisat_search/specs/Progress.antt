@@ -1,6 +1,7 @@
 -- What a step of the search comes to, from one context to the next.
-use Rattle.std.specs.Prelude.{◌≡◌, ℕ, ◌<◌, ◌≤◌, ◌⊎◌, List, length}
-use Rattle.varisat_theory.specs.Derivations.{Line}
+use Rattle.std.specs.Prelude.{◌≡◌, ℕ, ◌<◌, ◌≤◌, ◌⊎◌, List, [], ◌∷◌, length}
+use Rattle.varisat_theory.specs.Literals.{Clause}
+use Rattle.varisat_theory.specs.Derivations.{Line, Add}
 use Rattle.varisat_theory.specs.Outcomes.{Outcome, Proves, Steps}
 use Rattle.varisat_theory.specs.Rank.{rank}
 use Rattle.varisat_prop.specs.View.{kinds}
@@ -23,6 +24,14 @@ ProvesTo lines x y = Proves 0 (search_of (view x)) (search_of (view y)) lines
 -- lines for which `are` holds lead from the search to the next one, with its verdict
 abbrev pub StepsTo : {A : Type 0} → (List Line → Type 0) → Context A → Context A → Type 0
 StepsTo are x y = (lines : List Line) × Steps (search_of (view x)) (search_of (view y)) (outcome_at y) lines × are lines
+
+-- there is one line, and it adds a clause
+abbrev pub AddOne : List Line → Type 0
+AddOne lines = (c : Clause) × (lines ≡ Add c ∷ [])
+
+-- so it is where the search goes on from the context
+abbrev pub AddOneIfUnknown : {A : Type 0} → List Line → Context A → Type 0
+AddOneIfUnknown lines y = y.solver_state.sat_state ≡ verdict.Unknown → AddOne lines
 
 -- the trail's rank rises, over each number of variables that bounds the first trail
 abbrev pub RaisesRank : {A : Type 0} → Context A → Context A → Type 0

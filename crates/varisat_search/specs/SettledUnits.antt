@@ -14,7 +14,7 @@ use Rattle.varisat_search.specs.declared.context.Context.{Context}
 use Rattle.varisat_search.specs.declared.state.SatState.TheVariants as verdict
 use Rattle.varisat_search.specs.Contexts.{view, IsReady}
 use Rattle.varisat_search.specs.Decisions.{SameDecidable}
-use Rattle.varisat_search.specs.Progress.{ProvesTo, StepsTo, MakesStep}
+use Rattle.varisat_search.specs.Progress.{ProvesTo, StepsTo, AddOneIfUnknown, MakesStep}
 use Rattle.varisat_search.specs.ProvedUnits.{implied_units, ProvesUnits}
 use Rattle.varisat_search.specs.Simplifications.{IsSimplified, pair_lines, clause_lines}
 use Rattle.varisat_search.specs.Steps.{IsPropagatedToEnd, ExtendsTrail}
@@ -54,6 +54,7 @@ pub record SettlesUnits (lines : List Line) (s t : View) (end : Result (Unit {0}
   pub proved : View
   pub propagates : Propagates s propagated
   pub units : ProvesUnits propagated proved
+  pub complete : MatchResult end (λ _. IsComplete (kept propagated) propagated.trail) (λ _. Unit {0})
   pub ends : MatchResult end
       (λ _. IsSimplified proved t × (lines ≡ unit_lines (implied_units propagated) ++ (pair_lines proved ++ clause_lines proved)))
       (λ conflict. (t ≡ proved) × IsConflicting t conflict × (lines ≡ unit_lines (implied_units propagated)))
@@ -71,9 +72,10 @@ pub record GoesOnByLines {A : Type 0} (are : List Line → Type 0) (x y : Contex
 abbrev pub SettlesByLines : {A : Type 0} → (List Line → Type 0) → Context A → Context A → Result (Unit {0}) Conflict → Type 0
 SettlesByLines are x y end = GoesOnByLines (λ lines. SettlesUnits lines (view x) (view y) end × are lines) x y
 
--- where some are unsettled they are settled, and in any case the search goes on by lines for which `are` holds
+-- Where some are unsettled they are settled, and else there is no line. In any case the search goes on by lines for which `are` holds.
 abbrev pub SettlesIfUnsettled : {A : Type 0} → (List Line → Type 0) → Context A → Context A → Result (Unit {0}) Conflict → Type 0
-SettlesIfUnsettled are x y end = GoesOnByLines (λ lines. (IsUnsettled (view x) → SettlesUnits lines (view x) (view y) end) × are lines) x y
+SettlesIfUnsettled are x y end = GoesOnByLines
+    (λ lines. (IsUnsettled (view x) → SettlesUnits lines (view x) (view y) end) × ((IsUnsettled (view x) → ⊥) → lines ≡ []) × are lines) x y
 
 -- Units are settled, and the step goes on from there: the lines are those of both, in turn.
 pub record SettlesThenSteps {A : Type 0} (lines : List Line) (x z : Context A) : Type 0 where
@@ -89,9 +91,13 @@ pub record SettlesThenSteps {A : Type 0} (lines : List Line) (x z : Context A) :
 abbrev pub SettlesFirst : {A : Type 0} → List Line → Context A → Context A → Type 0
 SettlesFirst lines x z = IsUnsettled (view x) → SettlesThenSteps lines x z
 
+-- a step that has none to settle, and after which the search goes on, deletes nothing: it adds what was learned
+abbrev pub LearnsAlone : {A : Type 0} → List Line → Context A → Context A → Type 0
+LearnsAlone lines x z = (IsUnsettled (view x) → ⊥) → AddOneIfUnknown lines z
+
 -- such a step was made, by lines for which `are` holds
 abbrev pub SettlesAndSteps : {A : Type 0} → (List Line → Type 0) → Context A → Context A → Type 0
-SettlesAndSteps are x y = MakesStep (λ lines. SettlesFirst lines x y × are lines) x y
+SettlesAndSteps are x y = MakesStep (λ lines. SettlesFirst lines x y × LearnsAlone lines x y × are lines) x y
 
 -- A search may be simplified: at level 0 propagation came to its end, and each literal of the trail is a unit.
 pub record CanSimplify {A : Type 0} (x : Context A) : Type 0 where

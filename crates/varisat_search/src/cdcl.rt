@@ -21,7 +21,7 @@ ghost use Rattle.varisat_search.specs.Conflicts.{ComesToDecision, EndsOrStops, k
 ghost use Rattle.varisat_search.specs.Learning.{HasMet, BumpsVariables, BumpsAndStores};
 ghost use Rattle.varisat_search.specs.SettledUnits.{IsUnsettled, FixesNone, KeepsFixed, FixesByLearning, SettlesByLines, SettlesIfUnsettled, IsSettledDown, SettlesAndSteps};
 ghost use Rattle.varisat_search.specs.StepErrors.{EndsStep, step_faults};
-ghost use Rattle.varisat_search.specs.Progress.{outcome_at, IsStepFurther, MakesStep};
+ghost use Rattle.varisat_search.specs.Progress.{outcome_at, AddOne, AddOneIfUnknown, IsStepFurther, MakesStep};
 ghost use Rattle.varisat_search.specs.FoundCores.{HasCoreIfFailed};
 
 use crate::assess::{assess_learned, bump_involved_clauses};
@@ -205,7 +205,7 @@ fn learn_from_conflict<A: Allocator + Copy, P: ProofTracer>(
     requires conflict { IsConflicting (view ctx.old) conflict }
     requires unknown { ctx.old.solver_state.sat_state ≡ SatState.Unknown }
     requires holds { HoldsFor (P.holds proof.old) (search_of (view ctx.old)) }
-    ensures further { OnOk result (IsStepFurther (λ lines. TakesLines P.takes proof.old lines proof.new) ctx.old ctx.new) }
+    ensures further { OnOk result (IsStepFurther (λ lines. AddOne lines × TakesLines P.takes proof.old lines proof.new) ctx.old ctx.new) }
     // Above level 0 the variables of the clauses that the learned one came from are bumped, and activities decay.
     ensures bumps { OnOk result (0 < length ctx.old.trail.decisions → BumpsVariables ctx.old ctx.new) }
     // So are the clauses of the store among them, and the learned one gets the glue of the conflict, and its tier.
@@ -322,7 +322,8 @@ fn find_and_learn<A: Allocator + Copy, P: ProofTracer>(
     requires ready { IsReady ctx.old }
     requires unknown { ctx.old.solver_state.sat_state ≡ SatState.Unknown }
     requires holds { HoldsFor (P.holds proof.old) (search_of (view ctx.old)) }
-    ensures made { OnOk result (MakesStep (λ lines. TakesStep P.takes proof.old lines (outcome_at ctx.new) proof.new) ctx.old ctx.new) }
+    ensures made { OnOk result (MakesStep
+        (λ lines. AddOneIfUnknown lines ctx.new × TakesStep P.takes proof.old lines (outcome_at ctx.new) proof.new) ctx.old ctx.new) }
     ensures core { OnOk result (HasCoreIfFailed ctx.new) }
     ensures fixed { OnOk result ((IsUnsettled (view ctx.old) → ⊥) → IsNotUnsat ctx.new → KeepsFixed (view ctx.old) (view ctx.new)) }
     ensures ends { EndsStep result ctx.old ctx.new }

@@ -13,7 +13,8 @@ use Rattle.varisat_names.specs.Variables.{Tables}
 use Rattle.varisat_tracer.specs.Tracing.{tracer_state, open_parts, BreaksProof}
 use Rattle.varisat_proof.specs.Proving.{ProofParts}
 use Rattle.varisat_tracer.proofs.Telling.{tells-told, breaks-proof, open-unbroken, proof-breaks-on}
-use Rattle.varisat.specs.Searches.{TellsSome, ComesOn}
+use Rattle.varisat.specs.Searches.{TellsSome, Turn, ComesOn}
+use Rattle.varisat.proofs.SettledParts.{settled-parts}
 use Rattle.varisat.specs.Summaries.{undecided_spaces, IsKept}
 use Rattle.varisat.proofs.SearchVerdicts.{kept-on}
 use Rattle.varisat.proofs.dropping.drop_fixed.Given.{Over}
@@ -29,12 +30,15 @@ settle-requires-clause-holds g c = relied c.args.tracer.now.tables c.args.tracer
     (view c.args.ctx.now) c.args.ctx.now.assumptions c.requires.tells c.requires.stands
 
 -- what settling comes to
-begun : (g : Over) (c : In-Ok g) → ComesOn 0 (undecided_spaces c.args.tracer.now.tables c.args.tracer.now.proof.checker c.args.ctx.now)
+begun : (g : Over) (c : In-Ok g) (at : Turn) → ComesOn at 0 (undecided_spaces c.args.tracer.now.tables c.args.tracer.now.proof.checker c.args.ctx.now)
     (undecided_spaces c.settle.new.proof.tables c.settle.new.proof.proof.checker c.settle.new.ctx) c.args.tracer.now.proof c.settle.new.proof.proof
-begun g c =
-    let goes = (c.in-Ok.ensures {u = tt}).goes_on in
+begun g c at =
+    let e = c.in-Ok.ensures {u = tt} in
+    let goes = e.goes_on in
     let (lines, proves, (settles, takes)) = goes.proves in
-    part-comes (tracer_state c.args.tracer.now) (tracer_state c.settle.new.proof) c.args.ctx.now c.settle.new.ctx lines c.requires.kept proves takes
+    part-comes at (tracer_state c.args.tracer.now) (tracer_state c.settle.new.proof) c.args.ctx.now c.settle.new.ctx lines c.requires.kept
+    (λ due held after d f. settled-parts lines (view c.args.ctx.now) (view c.settle.new.ctx) c.in-Ok.settled settles goes.ready.well e.settled held after d f)
+    proves takes
     goes.ready goes.extends.count goes.decidable
     (ap (λ (z : Context g.row.A.Denot). z.assumptions) c.settle.ensures.kept)
 
@@ -118,14 +122,14 @@ returns-clause-tells g c =
     tells-told c.args.tracer.now.proof c.drop_unneeded.new.tracer.proof given told c.requires.tells
 
 pub returns-then-current_level-gt0-clause-stands : goal.returns-then-current_level-gt0-clause-stands
-returns-then-current_level-gt0-clause-stands g c s fit = comes-nowhere 0 s c.args.tracer.now.proof _ refl
+returns-then-current_level-gt0-clause-stands g c at s fit = comes-nowhere at 0 s c.args.tracer.now.proof _ refl
     (unknown-undecided c.args.tracer.now.tables c.args.tracer.now.proof.checker c.args.ctx.now s fit) fit
 
 pub returns-then-is_err-clause-stands : goal.returns-then-is_err-clause-stands
-returns-then-is_err-clause-stands g c = begun g (goal.at.returns-then-is_err-clause-stands g c).In-Ok
+returns-then-is_err-clause-stands g c at = begun g (goal.at.returns-then-is_err-clause-stands g c).In-Ok at
 
 pub returns-clause-stands : goal.returns-clause-stands
-returns-clause-stands g c =
+returns-clause-stands g c at =
     let p = c.args.tracer.now in
     let q = c.settle.new.proof in
     let r = c.drop_listed.new.tracer in
@@ -134,16 +138,37 @@ returns-clause-stands g c =
     let y = c.settle.new.ctx in
     let u = c.drop_listed.new.ctx in
     let z = c.drop_unneeded.new.ctx in
-    comes-through 0 0 0 p.proof q.proof last.proof (undecided_spaces p.tables p.proof.checker x) (undecided_spaces q.tables q.proof.checker y)
-    (undecided_spaces last.tables last.proof.checker z) refl (λ z. refl) (unknown-undecided q.tables q.proof.checker y)
-    (begun g (goal.at.returns-clause-stands g c).In-Ok)
-    (comes-through 0 0 0 q.proof r.proof last.proof (undecided_spaces q.tables q.proof.checker y)
-    (undecided_spaces r.tables r.proof.checker u) (undecided_spaces last.tables last.proof.checker z) refl (λ z. refl)
-    (unknown-undecided r.tables r.proof.checker u)
-    (leaving-comes q.proof r.proof (undecided_spaces q.tables q.proof.checker y) (undecided_spaces r.tables r.proof.checker u)
+    comes-through at p.proof q.proof last.proof (undecided_spaces p.tables p.proof.checker x) (undecided_spaces q.tables q.proof.checker y)
+    (undecided_spaces last.tables last.proof.checker z) (unknown-undecided q.tables q.proof.checker y)
+    (begun g (goal.at.returns-clause-stands g c).In-Ok at)
+    (comes-through at q.proof r.proof last.proof (undecided_spaces q.tables q.proof.checker y)
+    (undecided_spaces r.tables r.proof.checker u) (undecided_spaces last.tables last.proof.checker z) (unknown-undecided r.tables r.proof.checker u)
+    (leaving-comes at q.proof r.proof (undecided_spaces q.tables q.proof.checker y) (undecided_spaces r.tables r.proof.checker u)
     (unknown-undecided q.tables q.proof.checker y) (c.in_ok-drop_listed.ensures {u = tt}).leave.stands)
-    (leaving-comes r.proof last.proof (undecided_spaces r.tables r.proof.checker u) (undecided_spaces last.tables last.proof.checker z)
+    (leaving-comes at r.proof last.proof (undecided_spaces r.tables r.proof.checker u) (undecided_spaces last.tables last.proof.checker z)
     (unknown-undecided r.tables r.proof.checker u) (c.in_ok-drop_unneeded.ensures {u = tt}).leave.stands))
+
+pub returns-then-current_level-gt0-clause-calm : goal.returns-then-current_level-gt0-clause-calm
+returns-then-current_level-gt0-clause-calm g c = inl (λ u.
+    elim c.then-current_level-gt0.branch [
+      | then-current_level-gt0-via-then-current_level-gt0 w ↦ (let n = ap length u.0 in omega (arith, n, c.current_level.ensures, w.if-current_level-gt0.true))
+      | then-current_level-gt0-via-else-current_level-gt0+then-fully_propagated w ↦
+          (let n = w.fully_propagated.ensures.0 w.if-fully_propagated.true in omega (arith, n, u.1))
+    ])
+
+pub returns-then-is_err-clause-calm : goal.returns-then-is_err-clause-calm
+returns-then-is_err-clause-calm g c =
+    let e = c.in-Ok.ensures {u = tt} in
+    inr (
+      e.at_zero,
+      failed-there c.in-Ok.settled (λ _. Unit {0}) (IsConflicting (view c.settle.new.ctx))
+          (sym c.is_err.ensures.value ∙ c.if-is_err.true) e.conflict,
+    )
+
+pub returns-clause-calm : goal.returns-clause-calm
+returns-clause-calm g c =
+    let d = (c.in_ok-drop_unneeded.ensures {u = tt}).settled in
+    inl (λ u. let head = d.propagated in let low = u.1 in omega (arith, head, low))
 
 pub returns-then-is_err-clause-within : goal.returns-then-is_err-clause-within
 returns-then-is_err-clause-within g c =

@@ -1,4 +1,4 @@
-use Rattle.std.proofs.Common.{◌≢◌, ap, ◌∙◌, subst, sym, refl}
+use Rattle.std.proofs.Common.{◌≡◌, ◌≢◌, ap, ◌∙◌, subst, sym, refl}
 use Rattle.varisat_names.specs.Variables.{Tables}
 use Rattle.varisat_search.specs.declared.context.Context.{Context}
 use Rattle.varisat_search.specs.declared.error.StepError.TheVariants as step
@@ -10,8 +10,9 @@ use Rattle.varisat_trace.specs.Traces.{TakesLines, faults_of}
 use Rattle.varisat_trace.proofs.Broken.{passed-on}
 use Rattle.varisat_tracer.specs.Tracing.{tracer_state, TakesGlobally, BreaksProof}
 use Rattle.varisat_tracer.proofs.Telling.{breaks-proof, proof-breaks-on}
+use Rattle.varisat.specs.Searches.{turn_of}
 use Rattle.varisat.specs.Summaries.{undecided_spaces, IsKept}
-use Rattle.varisat.proofs.SinceSteps.{leaves-begun, come-begun}
+use Rattle.varisat.proofs.SinceSteps.{leaves-begun, come-begun, steps-begun}
 use Rattle.varisat.proofs.CheckedHeld.{relied, some-on}
 use Rattle.varisat.proofs.SolverSteps.{comes-through, unknown-undecided, some-through, begins-any, begin-count, begin-kept, begin-told, begin-tables, begin-tells, begin-comes}
 use Rattle.varisat.proofs.solving.begin.Given.{Over}
@@ -35,6 +36,10 @@ kept g c =
     (sym (begin-tables (tracer_state c.args.tracer.now) (tracer_state c.begin_step.new.proof) c.args.ctx.now c.begin_step.new.ctx b))
     (begin-kept c.args.ctx.now c.begin_step.new.ctx b c.requires.kept.ready c.args.tracer.now.tables c.requires.kept)
 
+-- no step is counted yet
+steps-still : (g : Over) (c : In_ok-begin_step g) → c.begin_step.new.ctx.schedule.steps ≡ c.args.ctx.now.schedule.steps
+steps-still g c = ap (λ (x : Context g.row.A.Denot). x.schedule.steps) c.begin_step.ensures.kept ∙ steps-begun _ c.args.ctx.now.schedule
+
 pub drop_fixed-requires-clause-kept : goal.drop_fixed-requires-clause-kept
 drop_fixed-requires-clause-kept g c = kept g (goal.at.drop_fixed-requires-clause-kept g c).In_ok-begin_step
 
@@ -50,7 +55,8 @@ pub drop_fixed-requires-clause-stands : goal.drop_fixed-requires-clause-stands
 drop_fixed-requires-clause-stands g c =
     let p = tracer_state c.args.tracer.now in
     let q = tracer_state c.begin_step.new.proof in
-    some-on 0 _ _ p.proof q.proof (begin-comes p q c.args.ctx.now c.begin_step.new.ctx c.requires.kept
+    some-on _ 0 _ _ p.proof q.proof (begin-comes p q c.args.ctx.now c.begin_step.new.ctx c.requires.kept
+    (steps-still g (goal.at.drop_fixed-requires-clause-stands g c).In_ok-begin_step)
     (begun g (goal.at.drop_fixed-requires-clause-stands g c).In_ok-begin_step)) c.requires.stands
 
 pub returns-clause-begins : goal.returns-clause-begins
@@ -75,10 +81,12 @@ returns-clause-begins g c =
       count = e.count ∙ count;
       left = record { reduced = y; begins = begins-any x y b; left = e.left };
       leaves = λ h. e.leaves (leaves-begun p.tables q.tables x y c.requires.kept.ready b (begin-tables (tracer_state p) (tracer_state q) x y b) h);
-      stands = comes-through 0 0 0 p.proof q.proof r.proof (undecided_spaces p.tables p.proof.checker x)
-          (undecided_spaces q.tables q.proof.checker y) (undecided_spaces r.tables r.proof.checker z) refl (λ z. refl)
+      calm = e.calm;
+      stands = comes-through (turn_of x) p.proof q.proof r.proof (undecided_spaces p.tables p.proof.checker x)
+          (undecided_spaces q.tables q.proof.checker y) (undecided_spaces r.tables r.proof.checker z)
           (unknown-undecided q.tables q.proof.checker y)
-          (begin-comes (tracer_state p) (tracer_state q) x y c.requires.kept b) e.stands;
+          (begin-comes (tracer_state p) (tracer_state q) x y c.requires.kept
+          (steps-still g (goal.at.returns-clause-begins g c).In_ok-begin_step) b) (e.stands (turn_of x));
     }
 
 pub returns-clause-schedule : goal.returns-clause-schedule

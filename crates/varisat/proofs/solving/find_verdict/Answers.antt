@@ -8,11 +8,11 @@ use Rattle.varisat_schedule.specs.CallSteps.{steps_since}
 use Rattle.varisat_tracer.specs.Tracing.{tracer_state, BreaksProof}
 use Rattle.varisat_tracer.proofs.Telling.{proof-breaks-on}
 use Rattle.varisat.specs.Budgets.{CountsSteps}
-use Rattle.varisat.specs.Searches.{answer_at, ComesOn, MakesSolverStep, FindsVerdict}
+use Rattle.varisat.specs.Searches.{answer_at, Turn, turn_of, ComesOn, MakesSolverStep, FindsVerdict}
 use Rattle.varisat.specs.Summaries.{undecided_spaces, spaces_with}
 use Rattle.varisat.proofs.CheckedHeld.{some-on}
-use Rattle.varisat.proofs.FindVerdictSteps.{searching-at, not-less, Stepping, one-more, stepping-moved, stepping-goes-on, stepping-counts, stepping-since, stepping-shortens, none-made, counts-spent, counts-refused, since-stopped, told-refused, not-spent, room}
-use Rattle.varisat.proofs.SolverSteps.{comes-nowhere, comes-through, comes-undecided, comes-decided, unknown-undecided, some-none, some-through}
+use Rattle.varisat.proofs.FindVerdictSteps.{searching-at, not-less, so-far, Stepping, one-more, stepping-moved, stepping-goes-on, stepping-counts, stepping-since, stepping-shortens, none-made, counts-spent, counts-refused, since-stopped, told-refused, not-spent, room}
+use Rattle.varisat.proofs.SolverSteps.{later, later-turn, comes-nowhere, comes-one-more, comes-undecided, comes-decided, unknown-undecided, some-none, some-through}
 use Rattle.varisat.proofs.solving.find_verdict.Given.{Over}
 use Rattle.varisat.proofs.solving.find_verdict.Goals.{In_ok-make_step, then-steps-first-via-then-steps-first, then-steps-first-via-else-steps-first+then-steps}
 use Rattle.varisat.proofs.solving.find_verdict.Goals as goal
@@ -34,7 +34,7 @@ stepping g c =
     }
 
 -- what the steps come to with it
-stepped : (g : Over) (c : In_ok-make_step g) → ComesOn (steps_since c.args.ctx.now.schedule c.make_step.new.ctx.schedule)
+stepped : (g : Over) (c : In_ok-make_step g) → ComesOn (turn_of c.args.ctx.now) (steps_since c.args.ctx.now.schedule c.make_step.new.ctx.schedule)
     (undecided_spaces c.args.tracer.now.tables c.args.tracer.now.proof.checker c.args.ctx.now)
     (spaces_with c.make_step.new.tracer.tables c.make_step.new.tracer.proof.checker c.make_step.new.ctx) c.args.tracer.now.proof
     c.make_step.new.tracer.proof
@@ -45,9 +45,14 @@ stepped g c =
     let x = c.args.ctx.now in
     let y = c.steps.ctx in
     let z = c.make_step.new.ctx in
-    comes-through (steps_since x.schedule y.schedule) 1 (steps_since x.schedule z.schedule) p.proof q.proof r.proof
-    (undecided_spaces p.tables p.proof.checker x) (undecided_spaces q.tables q.proof.checker y) (spaces_with r.tables r.proof.checker z)
-    (one-more (stepping g c)) (λ z. absurd (omega (arith, z))) (unknown-undecided q.tables q.proof.checker y) c.steps.invariant.stands (made g c).stands
+    let n = steps_since x.schedule y.schedule in
+    let before = undecided_spaces q.tables q.proof.checker y in
+    let after = spaces_with r.tables r.proof.checker z in
+    let same : turn_of y ≡ later n (turn_of x) = later-turn x y n c.steps.invariant.config (so-far (stepping g c).searching) in
+    comes-one-more (turn_of x) n (steps_since x.schedule z.schedule) p.proof q.proof r.proof
+    (undecided_spaces p.tables p.proof.checker x) before after
+    (one-more (stepping g c)) (unknown-undecided q.tables q.proof.checker y) c.steps.invariant.stands
+    (subst (λ (at : Turn). ComesOn at 1 before after q.proof r.proof) same (made g c).stands)
 
 -- the solver's state but for the verdict
 same-state : (g : Over) (c : In_ok-make_step g) → c.make_step.new.ctx.solver_state ≡ record c.args.ctx.now.solver_state
@@ -69,7 +74,7 @@ found g c answer e = record {
 }
 
 pub make_step-requires-clause-stands : goal.make_step-requires-clause-stands
-make_step-requires-clause-stands g c = some-on _ _ _ c.args.tracer.now.proof c.steps.tracer.proof c.steps.invariant.stands c.requires.stands
+make_step-requires-clause-stands g c = some-on _ _ _ _ c.args.tracer.now.proof c.steps.tracer.proof c.steps.invariant.stands c.requires.stands
 
 pub make_step-requires-clause-unknown : goal.make_step-requires-clause-unknown
 make_step-requires-clause-unknown g c = ap (λ (s : SolverState). s.sat_state) c.steps.invariant.state ∙ c.requires.unknown
@@ -90,7 +95,7 @@ steps-init g c =
       config = refl;
       made = none-made x c.args.max_steps c.steps-first.ensures.plan;
       leaves = λ h. h;
-      stands = λ s fit. comes-nowhere (steps_since x.schedule x.schedule) s p.proof (undecided_spaces p.tables p.proof.checker x) (omega arith)
+      stands = λ s fit. comes-nowhere (turn_of x) (steps_since x.schedule x.schedule) s p.proof (undecided_spaces p.tables p.proof.checker x) (omega arith)
           (unknown-undecided p.tables p.proof.checker x s fit) fit;
       still = λ e. (refl, refl);
     }
@@ -125,7 +130,7 @@ steps-preserved g c =
       config = c.make_step.ensures.config ∙ i.config;
       made = stepping-goes-on d (m.since c.in-Unknown.is);
       leaves = λ h. m.leaves (i.leaves h) (λ e. let z : verdict.Unknown ≡ verdict.Unsat = sym c.in-Unknown.is ∙ e in cc);
-      stands = comes-undecided _ (undecided_spaces p.tables p.proof.checker c.args.ctx.now) r.tables z p.proof r.proof c.in-Unknown.is (stepped g h);
+      stands = comes-undecided _ _ (undecided_spaces p.tables p.proof.checker c.args.ctx.now) r.tables z p.proof r.proof c.in-Unknown.is (stepped g h);
       still = λ e. absurd (stepping-moved d e);
     }
 
@@ -140,7 +145,7 @@ returns-then-steps-first-clause-found g c =
       answer = sym (ap answer_at unknown);
       told = i.told;
       leaves = λ h n. i.leaves h;
-      stands = comes-decided _ (undecided_spaces c.args.tracer.now.tables c.args.tracer.now.proof.checker c.args.ctx.now)
+      stands = comes-decided _ _ (undecided_spaces c.args.tracer.now.tables c.args.tracer.now.proof.checker c.args.ctx.now)
           c.steps.tracer.tables c.steps.ctx c.args.tracer.now.proof c.steps.tracer.proof unknown i.stands;
       still = i.still;
     }

@@ -3,7 +3,7 @@ use Rattle.varisat_schedule.specs.CallSteps.{steps_since}
 use Rattle.varisat_tracer.specs.Tracing.{tracer_state, CanTell}
 use Rattle.varisat_search.specs.Contexts.{view}
 use Rattle.varisat.specs.Dropping.{LeavesInTime}
-use Rattle.varisat.specs.Searches.{TellsSome, ComesOn}
+use Rattle.varisat.specs.Searches.{TellsSome, turn_of, ComesOn}
 use Rattle.varisat.specs.Summaries.{undecided_spaces, IsKept}
 use Rattle.varisat.proofs.FindVerdictSteps.{HasMade}
 use Rattle.varisat.proofs.solving.find_verdict.Given as goal
@@ -18,7 +18,7 @@ invariant-steps g l = record {
   config : l.ctx.solver_config ≡ l.fn.ctx.solver_config;
   made : HasMade l.fn.ctx l.ctx l.max_steps;
   leaves : LeavesInTime l.fn.tracer.tables (view l.fn.ctx) → LeavesInTime l.tracer.tables (view l.ctx);
-  stands : ComesOn (steps_since l.fn.ctx.schedule l.ctx.schedule) (undecided_spaces l.fn.tracer.tables l.fn.tracer.proof.checker l.fn.ctx)
+  stands : ComesOn (turn_of l.fn.ctx) (steps_since l.fn.ctx.schedule l.ctx.schedule) (undecided_spaces l.fn.tracer.tables l.fn.tracer.proof.checker l.fn.ctx)
       (undecided_spaces l.tracer.tables l.tracer.proof.checker l.ctx) l.fn.tracer.proof l.tracer.proof;
   still : l.ctx.schedule.steps ≡ l.fn.ctx.schedule.steps → (l.ctx ≡ l.fn.ctx) × (tracer_state l.tracer ≡ tracer_state l.fn.tracer);
 }

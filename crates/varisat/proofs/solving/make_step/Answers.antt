@@ -7,12 +7,12 @@ use Rattle.varisat_search.specs.StepErrors.{step_faults, HasNoRoom}
 use Rattle.varisat_trace.proofs.Broken.{passed-on, on-error}
 use Rattle.varisat_tracer.specs.Tracing.{tracer_state, BreaksProof}
 use Rattle.varisat_tracer.proofs.Telling.{proof-breaks-on, tells-on}
-use Rattle.varisat.specs.Searches.{BeginsSolverStep, MakesNamedStep}
+use Rattle.varisat.specs.Searches.{turn_of, BeginsSolverStep, MakesNamedStep}
 use Rattle.varisat.specs.Summaries.{undecided_spaces, spaces_with}
 use Rattle.varisat.proofs.SinceSteps.{leaves-stepped, come-ended, steps-begun, step-ended}
 use Rattle.varisat.proofs.CheckedHeld.{some-on}
 use Rattle.varisat.proofs.SearchVerdicts.{ready-counted, named-counted, kept-named, kept-counted}
-use Rattle.varisat.proofs.SolverSteps.{comes-through, unknown-undecided, some-through, named-comes}
+use Rattle.varisat.proofs.SolverSteps.{later, comes-one-more, unknown-undecided, some-through, named-comes}
 use Rattle.varisat.proofs.solving.make_step.Given.{Over}
 use Rattle.varisat.proofs.solving.make_step.Goals.{In_ok-begin, In_ok-named_conflict_step}
 use Rattle.varisat.proofs.solving.make_step.Goals as goal
@@ -34,7 +34,7 @@ named_conflict_step-requires-clause-tells g c = (begun g (goal.at.named_conflict
 
 pub named_conflict_step-requires-clause-stands : goal.named_conflict_step-requires-clause-stands
 named_conflict_step-requires-clause-stands g c =
-    some-on 0 _ _ c.args.tracer.now.proof c.begin.new.tracer.proof
+    some-on _ 0 _ _ c.args.tracer.now.proof c.begin.new.tracer.proof
     (begun g (goal.at.named_conflict_step-requires-clause-stands g c).In_ok-begin).stands c.requires.stands
 
 pub named_conflict_step-requires-clause-unknown : goal.named_conflict_step-requires-clause-unknown
@@ -52,7 +52,7 @@ returns-clause-made g c =
     let plan : Plan = c.end_step.new.self in
     let b = begun g (goal.at.returns-clause-made g c).In_ok-begin in
     let m = named g (goal.at.returns-clause-made g c).In_ok-named_conflict_step in
-    let (lines, steps, takes) = m.steps in
+    let (lines, steps, learns, takes) = m.steps in
     let same = c.named_conflict_step.ensures.schedule in
     record {
       mid = tracer_state q;
@@ -70,10 +70,10 @@ returns-clause-made g c =
       state = m.state ∙ ap (λ (s : SolverState). record s { sat_state = z.solver_state.sat_state }) b.state;
       count = m.count ∙ b.count;
       leaves = λ h n. leaves-stepped q.tables r.tables y z m.tables m.fixes (b.leaves h) n;
-      stands = comes-through 0 1 1 p.proof q.proof r.proof (undecided_spaces p.tables p.proof.checker x)
-          (undecided_spaces q.tables q.proof.checker y) (spaces_with r.tables r.proof.checker (record z { schedule = plan })) refl (λ z. refl)
+      stands = comes-one-more (turn_of x) 0 1 p.proof q.proof r.proof (undecided_spaces p.tables p.proof.checker x)
+          (undecided_spaces q.tables q.proof.checker y) (spaces_with r.tables r.proof.checker (record z { schedule = plan })) refl
           (unknown-undecided q.tables q.proof.checker y)
-          b.stands (named-comes (tracer_state q) (tracer_state r) y z b.kept m);
+          b.stands (named-comes (tracer_state q) (tracer_state r) y z b.kept m b.calm (later 0 (turn_of x)));
     }
 
 pub returns-clause-schedule : goal.returns-clause-schedule

@@ -3,12 +3,13 @@ use Rattle.varisat_search.proofs.StepErrors.{ends-unfilled, ends-after, trace-un
 use Rattle.varisat_search.proofs.Frames.{schedule-through}
 use Rattle.varisat_search.specs.StepErrors.{step_error_of_trace}
 use Rattle.varisat_search.specs.Frames.{ChangesSettled}
-use Rattle.std.proofs.Common.{◌≡◌, ◌∙◌, Ok, Err, ⊎_elim, length, refl, sym, ap, subst, arith}
+use Rattle.std.proofs.Common.{◌≡◌, ◌∙◌, Ok, Err, List, [], ◌++◌, ⊎_elim, length, refl, sym, ap, subst, arith}
+use Rattle.varisat_theory.specs.Derivations.{Line}
 use Rattle.varisat_theory.specs.Outcomes.{Steps}
 use Rattle.varisat_search.specs.declared.context.Context.{Context}
-use Rattle.varisat_search.specs.Progress.{outcome_at, MakesStep}
+use Rattle.varisat_search.specs.Progress.{outcome_at, AddOne, AddOneIfUnknown, MakesStep}
 use Rattle.varisat_search.specs.declared.state.SatState.TheVariants as verdict
-use Rattle.varisat_search.specs.SettledUnits.{IsUnsettled, KeepsFixed, SettlesUnits, SettlesFirst}
+use Rattle.varisat_search.specs.SettledUnits.{IsUnsettled, KeepsFixed, SettlesUnits, SettlesFirst, LearnsAlone}
 use Rattle.varisat_search.specs.Contexts.{view, KeepsSchedule}
 use Rattle.varisat_search.specs.Seen.{search_of}
 use Rattle.varisat_search.proofs.MadeSteps.{made-are, made-with, no-core-entry, learned-no-core, made-settled, made-at-once}
@@ -21,7 +22,7 @@ use Rattle.varisat_search.proofs.cdcl.conflict_step.Goals as goal
 -- what the tracer may hold fits the search once the units are settled
 holds : (g : Over) (c : In_ok-settle_units g) → HoldsFor (g.P.ProofTracer.holds c.settle_units.new.proof) (search_of (view c.settle_units.new.ctx))
 holds g c =
-    let (lines, p, (s, t)) = c.in_ok-settle_units.ensures.goes_on.proves in
+    let (lines, p, (s, o, t)) = c.in_ok-settle_units.ensures.goes_on.proves in
     holds_on g.P.ProofTracer.holds g.P.ProofTracer.takes g.met.P.ProofTracer.holds_after c.args.proof.now c.settle_units.new.proof 0
     (search_of (view c.args.ctx.now)) (search_of (view c.settle_units.new.ctx)) lines c.requires.holds p t
 
@@ -33,8 +34,10 @@ learn_from_conflict-requires-clause-holds g c = holds g (goal.at.learn_from_conf
 
 -- the units are settled, and a step is made from there
 after : (g : Over) (c : In_ok-settle_units g) (z : Context g.row.A.Denot) (p2 : g.row.P.Denot) →
-    MakesStep (λ lines. TakesStep g.P.ProofTracer.takes c.settle_units.new.proof lines (outcome_at z) p2) c.settle_units.new.ctx z →
-    MakesStep (λ lines. SettlesFirst lines c.args.ctx.now z × TakesStep g.P.ProofTracer.takes c.args.proof.now lines (outcome_at z) p2) c.args.ctx.now z
+    MakesStep (λ lines. AddOneIfUnknown lines z × TakesStep g.P.ProofTracer.takes c.settle_units.new.proof lines (outcome_at z) p2)
+    c.settle_units.new.ctx z →
+    MakesStep (λ lines. SettlesFirst lines c.args.ctx.now z × LearnsAlone lines c.args.ctx.now z
+    × TakesStep g.P.ProofTracer.takes c.args.proof.now lines (outcome_at z) p2) c.args.ctx.now z
 after g c z p2 m =
     let takes = g.P.ProofTracer.takes in
     let x = c.args.ctx.now in
@@ -44,16 +47,18 @@ after g c z p2 m =
     let v = outcome_at z in
     let end = c.in_ok-settle_units.field-0 in
     made-settled x y z
-    (λ lines. (IsUnsettled (view x) → SettlesUnits lines (view x) (view y) end) × TakesLines takes p0 lines p1)
-    (λ lines. Steps (search_of (view y)) (search_of (view z)) v lines × TakesStep takes p1 lines v p2)
-    (λ lines. SettlesFirst lines x z × TakesStep takes p0 lines v p2)
-    (λ first more (s, i) (p, j). (
+    (λ lines. (IsUnsettled (view x) → SettlesUnits lines (view x) (view y) end) × ((IsUnsettled (view x) → ⊥) → lines ≡ []) × TakesLines takes p0 lines p1)
+    (λ lines. Steps (search_of (view y)) (search_of (view z)) v lines × (AddOneIfUnknown lines z × TakesStep takes p1 lines v p2))
+    (λ lines. SettlesFirst lines x z × LearnsAlone lines x z × TakesStep takes p0 lines v p2)
+    (λ first more (s, o, i) (p, (a, j)). (
       (λ u.
           record { settled = y; end = end; first = first; rest = more; parts = refl; settles = s u; steps = (more, p, refl) }),
+      (λ calm u. subst (λ (ls : List Line). AddOne (ls ++ more)) (sym (o calm)) (a u)),
       step-more takes
           g.met.P.ProofTracer.takes_more p0 p1 p2 first more v i j,
     ))
-    c.requires.ready c.in_ok-settle_units.ensures.goes_on c.settle_units.ensures.kept (made-with y z (λ lines. TakesStep takes p1 lines v p2) m)
+    c.requires.ready c.in_ok-settle_units.ensures.goes_on c.settle_units.ensures.kept
+    (made-with y z (λ lines. AddOneIfUnknown lines z × TakesStep takes p1 lines v p2) m)
 
 pub returns-in_ok-find_and_learn-in-Ok-clause-made : goal.returns-in_ok-find_and_learn-in-Ok-clause-made
 returns-in_ok-find_and_learn-in-Ok-clause-made g c =
@@ -70,9 +75,12 @@ returns-in_ok-learn_from_conflict-in-Err-clause-made g c =
     let z = c.learn_from_conflict.new.ctx in
     let v = outcome_at z in
     after g (goal.at.returns-in_ok-learn_from_conflict-in-Err-clause-made g c).In_ok-settle_units z p2
-    (made-are y z (λ lines. TakesLines takes p1 lines p2) (λ lines. TakesStep takes p1 lines v p2)
-    (λ lines h. step-lines takes p1 p2 lines v (no-core-entry (view z) z.assumptions.failed_core z.solver_state.sat_state e.further.known) h)
-    (made-at-once y z (λ lines. TakesLines takes p1 lines p2) c.in_ok-settle_units.ensures.goes_on.ready e.further e.last))
+    (made-are y z (λ lines. AddOne lines × TakesLines takes p1 lines p2) (λ lines. AddOneIfUnknown lines z × TakesStep takes p1 lines v p2)
+    (λ lines (o, h). (
+      λ u. o,
+      step-lines takes p1 p2 lines v (no-core-entry (view z) z.assumptions.failed_core z.solver_state.sat_state e.further.known) h,
+    ))
+    (made-at-once y z (λ lines. AddOne lines × TakesLines takes p1 lines p2) c.in_ok-settle_units.ensures.goes_on.ready e.further e.last))
 
 pub returns-in_ok-find_and_learn-in-Ok-clause-core : goal.returns-in_ok-find_and_learn-in-Ok-clause-core
 returns-in_ok-find_and_learn-in-Ok-clause-core g c = c.in_ok-find_and_learn-in-Ok.ensures.core
@@ -147,14 +155,14 @@ returns-in_err-learn_from_conflict-in-Err-clause-ends g c =
 
 pub returns-in_err-find_and_learn-in-Ok-clause-broken : goal.returns-in_err-find_and_learn-in-Ok-clause-broken
 returns-in_err-find_and_learn-in-Ok-clause-broken g c =
-    let (lines, p, (s, t)) = c.in_ok-settle_units.ensures.goes_on.proves in
+    let (lines, p, (s, o, t)) = c.in_ok-settle_units.ensures.goes_on.proves in
     step-passed g.P.ProofTracer.breaks_off c.args.proof.now c.find_and_learn.new.proof c.from_residual-in_err-find_and_learn-in-Ok.result
     c.in_err-find_and_learn-in-Ok.field-0.0 c.from_residual-in_err-find_and_learn-in-Ok.ensures
     (breaks-on g.P.ProofTracer.takes g.P.ProofTracer.breaks_off g.met.P.ProofTracer.breaks_behind t c.in_err-find_and_learn-in-Ok.ensures.broken)
 
 pub returns-in_err-learn_from_conflict-in-Err-clause-broken : goal.returns-in_err-learn_from_conflict-in-Err-clause-broken
 returns-in_err-learn_from_conflict-in-Err-clause-broken g c =
-    let (lines, p, (s, t)) = c.in_ok-settle_units.ensures.goes_on.proves in
+    let (lines, p, (s, o, t)) = c.in_ok-settle_units.ensures.goes_on.proves in
     step-passed g.P.ProofTracer.breaks_off c.args.proof.now c.learn_from_conflict.new.proof c.from_residual-in_err-learn_from_conflict-in-Err.result
     c.in_err-learn_from_conflict-in-Err.field-0.0 c.from_residual-in_err-learn_from_conflict-in-Err.ensures
     (breaks-on g.P.ProofTracer.takes g.P.ProofTracer.breaks_off g.met.P.ProofTracer.breaks_behind t c.in_err-learn_from_conflict-in-Err.ensures.broken)

@@ -2,7 +2,7 @@ use Rattle.varisat_trace.proofs.Broken.{breaks-not}
 use Rattle.varisat_search.proofs.StepErrors.{ends-unfilled, ends-after, memory-unfilled, trace-unfilled, memory-broken, trace-broken, step-passed, model-steps}
 use Rattle.varisat_search.proofs.Frames.{schedule-through}
 use Rattle.varisat_search.specs.StepErrors.{step_error_of_trace}
-use Rattle.std.proofs.Common.{◌∙◌, MatchResult, List, inl, inr, ⊎_elim, sym, subst}
+use Rattle.std.proofs.Common.{◌≡◌, ◌∙◌, MatchResult, List, inl, inr, ⊎_elim, sym, subst}
 use Rattle.varisat_theory.specs.Literals.{Clause}
 use Rattle.varisat_theory.specs.Propagation.{IsComplete, Conflicts}
 use Rattle.varisat_prop.specs.View.{kept}
@@ -11,6 +11,7 @@ use Rattle.varisat_search.specs.declared.state.SatState.TheVariants as verdict
 use Rattle.varisat_search.specs.AssumptionParts.{EndsAssumed}
 use Rattle.varisat_search.specs.Contexts.{view}
 use Rattle.varisat_search.specs.Conflicts.{Stops}
+use Rattle.varisat_search.specs.Progress.{AddOne, AddOneIfUnknown}
 use Rattle.varisat_search.proofs.AssumptionOutcomes.{error-is, core-steps, keeps-model, keeps-core}
 use Rattle.varisat_search.proofs.MadeSteps.{Finds, made-are, no-core-entry, learned-no-core, made-ended, made-learned}
 use Rattle.varisat_search.specs.Seen.{search_of, outcome_of}
@@ -39,8 +40,9 @@ returns-in-Ok-clause-made g c =
     let a = subst (λ r. MatchResult r (λ _. IsComplete (kept (view y)) y.trail.literals × EndsAssumed (view y) y.assumptions)
     (λ f. Stops (view y) y.assumptions f)) c.in-Ok.is m.found in
     made-ended x y c.requires.ready (finds g (goal.at.returns-in-Ok-clause-made g c).In_ok-find_conflict) verdict.Sat
-    (λ lines. TakesStep g.P.ProofTracer.takes c.args.proof.now lines
-    (outcome_of (view y) y.assumptions.failed_core verdict.Sat) c.args.proof.now) (g.met.P.ProofTracer.takes_none c.args.proof.now) (λ e. absurd cc)
+    (λ lines. (verdict.Sat ≡ verdict.Unknown → AddOne lines) × TakesStep g.P.ProofTracer.takes c.args.proof.now lines
+    (outcome_of (view y) y.assumptions.failed_core verdict.Sat) c.args.proof.now)
+    (λ e. absurd cc, g.met.P.ProofTracer.takes_none c.args.proof.now) (λ e. absurd cc)
     (model-steps (view y) m.ready.well a.0 a.1.0)
     (keeps-model (view x) (view y) x.assumptions y.assumptions c.requires.ready.well m.ready.well m.taken m.ready.assumed a.1.1)
 
@@ -52,9 +54,9 @@ returns-in_ok-trace_core-in-Err-Assumption-clause-made g c =
     let b = error-is (IsComplete (kept (view y)) y.trail.literals × EndsAssumed (view y) y.assumptions)
     (Stops (view y) y.assumptions) c.in-Err-Assumption.is c.in-Err-Assumption.field-0-is m.found in
     made-ended x y c.requires.ready (finds g (goal.at.returns-in_ok-trace_core-in-Err-Assumption-clause-made g c).In_ok-find_conflict)
-    verdict.UnsatUnderAssumptions (λ lines. TakesStep g.P.ProofTracer.takes c.args.proof.now lines
-    (outcome_of (view y) y.assumptions.failed_core verdict.UnsatUnderAssumptions) c.trace_core.new.proof)
-    ((c.in_ok-trace_core-in-Err-Assumption.ensures {u = tt}).taken) (λ e. absurd cc)
+    verdict.UnsatUnderAssumptions (λ lines. (verdict.UnsatUnderAssumptions ≡ verdict.Unknown → AddOne lines) × TakesStep g.P.ProofTracer.takes
+    c.args.proof.now lines (outcome_of (view y) y.assumptions.failed_core verdict.UnsatUnderAssumptions) c.trace_core.new.proof)
+    (λ e. absurd cc, (c.in_ok-trace_core-in-Err-Assumption.ensures {u = tt}).taken) (λ e. absurd cc)
     (core-steps (view y) y.assumptions m.ready.well b)
     (keeps-core (view x) (view y) x.assumptions y.assumptions c.requires.ready.well m.taken b)
 
@@ -64,12 +66,15 @@ returns-in_ok-learn_from_conflict-in-Err-Conflict-clause-made g c =
     let e = c.in_ok-learn_from_conflict-in-Err-Conflict.ensures in
     let z = c.learn_from_conflict.new.ctx in
     let v = outcome_of (view z) z.assumptions.failed_core z.solver_state.sat_state in
-    made-are c.args.ctx.now z (λ lines. TakesLines g.P.ProofTracer.takes c.args.proof.now lines c.learn_from_conflict.new.proof)
-    (λ lines. TakesStep g.P.ProofTracer.takes c.args.proof.now lines v c.learn_from_conflict.new.proof)
-    (λ lines h. step-lines g.P.ProofTracer.takes c.args.proof.now c.learn_from_conflict.new.proof lines v
-    (no-core-entry (view z) z.assumptions.failed_core z.solver_state.sat_state e.further.known) h)
+    made-are c.args.ctx.now z (λ lines. AddOne lines × TakesLines g.P.ProofTracer.takes c.args.proof.now lines c.learn_from_conflict.new.proof)
+    (λ lines. AddOneIfUnknown lines z × TakesStep g.P.ProofTracer.takes c.args.proof.now lines v c.learn_from_conflict.new.proof)
+    (λ lines (o, h). (
+      λ u. o,
+      step-lines g.P.ProofTracer.takes c.args.proof.now c.learn_from_conflict.new.proof lines v
+          (no-core-entry (view z) z.assumptions.failed_core z.solver_state.sat_state e.further.known) h,
+    ))
     (made-learned c.args.ctx.now c.find_conflict.new.ctx c.requires.ready (finds g here) z
-    (λ lines. TakesLines g.P.ProofTracer.takes c.args.proof.now lines c.learn_from_conflict.new.proof) e.further e.last)
+    (λ lines. AddOne lines × TakesLines g.P.ProofTracer.takes c.args.proof.now lines c.learn_from_conflict.new.proof) e.further e.last)
 
 pub returns-in_ok-trace_core-in-Err-Assumption-clause-core : goal.returns-in_ok-trace_core-in-Err-Assumption-clause-core
 returns-in_ok-trace_core-in-Err-Assumption-clause-core g c u =

@@ -16,7 +16,7 @@ use Rattle.varisat_search.specs.StepErrors.{step_error_of_trace}
 use Rattle.varisat_search.specs.declared.error.StepError.TheVariants as step
 use Rattle.varisat_analysis.specs.Learned.{Analysis, AreInvolved}
 use Rattle.varisat_search.specs.Steps.{SavesSome}
-use Rattle.varisat_search.specs.Progress.{IsStepFurther}
+use Rattle.varisat_search.specs.Progress.{AddOne, IsStepFurther}
 use Rattle.varisat_analysis.specs.Assessments.{glue_of, assessed}
 use Rattle.varisat_search.specs.Conflicts.{IsStoredAsReason}
 use Rattle.varisat_vsids.specs.Activities.{Activities}
@@ -123,7 +123,7 @@ undone g c =
 
 -- the lines that were taken
 abbrev taken : (g : Over) (c : After-backtrack g) → List Line → Type 0
-taken g c lines = TakesLines g.P.ProofTracer.takes c.args.proof.now lines c.trace_learned.new.proof
+taken g c lines = AddOne lines × TakesLines g.P.ProofTracer.takes c.args.proof.now lines c.trace_learned.new.proof
 
 further : (g : Over) (c : After-backtrack g) (z : Context g.row.A.Denot) →
     IsStepFurther (taken g c) (with_store c.args.ctx.now c.bump_involved_clauses.new.ctx) z → IsStepFurther (taken g c) c.args.ctx.now z
@@ -151,7 +151,8 @@ analysis-stays g c =
 -- the line that was taken is that of the clause that is kept
 taken-is : (g : Over) (c : After-backtrack g) (d : Clause) → c.backtrack.new.ctx.analyze_conflict.clause ≡ d → taken g c (Add d ∷ [])
 taken-is g c d e =
-    subst (λ (x : Clause). taken g c (Add x ∷ [])) (sym (ap (λ (a : Analysis). a.clause) (analysis-stays g c)) ∙ e) (c.in_ok-trace_learned.ensures {u = tt})
+    subst (λ (x : Clause). taken g c (Add x ∷ [])) (sym (ap (λ (a : Analysis). a.clause) (analysis-stays g c)) ∙ e)
+    ((_, refl), c.in_ok-trace_learned.ensures {u = tt})
 
 learning : (g : Over) (c : In_ok-reason g) → Backtracked (with_store c.args.ctx.now c.bump_involved_clauses.new.ctx) c.assess_learned-header.new.ctx
     c.backtrack.new.ctx c.args.conflict c.in_ok-level.level → Learning

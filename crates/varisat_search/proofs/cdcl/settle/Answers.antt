@@ -114,7 +114,7 @@ returns-in-Err-clause-goes_on g c =
     (λ lines. SettlesUnits lines (view c.args.ctx.now) t (Err c.in-Err.conflict)
     × TakesLines g.P.ProofTracer.takes c.args.proof.now lines c.prove_units.new.proof) (
       settles-to-units c.args.ctx.now m c.prove_units.new.ctx d (unit_lines (implied_units (view m))) t (Err c.in-Err.conflict)
-          (refl, still-conflicting (view m) t c.in-Err.conflict (p.proved (none g h)) ends, refl),
+          (refl, still-conflicting (view m) t c.in-Err.conflict (p.proved (none g h)) ends, refl) tt,
       p.takes (none g h),
     )
 
@@ -165,10 +165,12 @@ returns-clause-goes_on g c =
     let d = facts g h y p.ready p.proved p.proves c.prove_units.ensures.kept in
     let units = unit_lines (implied_units (view m)) in
     let left = pair_lines (view y) ++ clause_lines (view y) in
+    let ends = subst (λ r. MatchResult r (λ _. IsComplete (kept (view m)) m.trail.literals × (m.trail.queue_head ≡ length m.trail.literals))
+    (λ f. IsConflicting (view m) f)) c.in_default.is c.in_ok-propagated.ensures.ends in
     goes-trans x y z (λ lines. (lines ≡ units) × TakesLines takes p0 lines p1) (λ lines. (lines ≡ left) × TakesLines takes p1 lines p2)
     (λ lines. SettlesUnits lines (view x) (view z) (Ok tt) × TakesLines takes p0 lines p2)
     (λ first more (e, i) (f, j). (
-      settles-to-units x m y d (first ++ more) (view z) (Ok tt) (q.simplified, ap₂ (λ (xs ys : List Line). xs ++ ys) e f),
+      settles-to-units x m y d (first ++ more) (view z) (Ok tt) (q.simplified, ap₂ (λ (xs ys : List Line). xs ++ ys) e f) ends.0,
       lines-more takes g.met.P.ProofTracer.takes_more p0 p1 p2 first more i j,
     ))
     (goes-to-units x m y d (λ lines. (lines ≡ units) × TakesLines takes p0 lines p1) (refl, p.takes (none g h)))

@@ -1,10 +1,12 @@
 use Rattle.varisat_trace.proofs.Broken.{error-broken}
 use Rattle.std.proofs.lemmas.Grind.{common_steps}
-use Rattle.std.proofs.Common.{◌≡◌, length, ap, arith}
+use Rattle.std.proofs.Common.{◌≡◌, List, [], Ok, length, ap, refl, arith}
 use Rattle.varisat_search.specs.Contexts.{view}
-use Rattle.varisat_search.specs.SettledUnits.{IsUnsettled}
+use Rattle.varisat_theory.specs.Derivations.{Line}
+use Rattle.varisat_trace.specs.Traces.{TakesLines}
+use Rattle.varisat_search.specs.SettledUnits.{IsUnsettled, SettlesUnits}
 use Rattle.varisat_search.proofs.FixedLiterals.{ready-complete, none-conflicting}
-use Rattle.varisat_search.proofs.SettledUnits.{goes-refl}
+use Rattle.varisat_search.proofs.SettledUnits.{goes-refl, goes-are}
 use Rattle.varisat_search.proofs.cdcl.settle_units.Goals as goal
 use Rattle.varisat_search.proofs.cdcl.settle_units.Goals.{then-current_level-gt0-via-then-current_level-gt0, then-current_level-gt0-via-else-current_level-gt0+then-fully_propagated}
 
@@ -16,7 +18,19 @@ returns-then-current_level-gt0-clause-goes_on g c =
       | then-current_level-gt0-via-else-current_level-gt0+then-fully_propagated w ↦
           (let n = w.fully_propagated.ensures.0 w.if-fully_propagated.true in omega (arith, n, u.1))
     ] in
-    goes-refl c.args.ctx.now _ c.requires.ready ((λ u. absurd (settled u)), g.met.P.ProofTracer.takes_none c.args.proof.now)
+    goes-refl c.args.ctx.now _ c.requires.ready ((λ u. absurd (settled u)), (λ _. refl), g.met.P.ProofTracer.takes_none c.args.proof.now)
+
+pub returns-clause-goes_on : goal.returns-clause-goes_on
+returns-clause-goes_on g c =
+    let x = c.args.ctx.now in
+    let y = c.settle.new.ctx in
+    let end = c.in_ok-end.end in
+    let takes = g.P.ProofTracer.takes in
+    let unsettled : IsUnsettled (view x) = grind (arith, common_steps) in
+    goes-are x y (λ lines. SettlesUnits lines (view x) (view y) end × TakesLines takes c.args.proof.now lines c.settle.new.proof)
+    (λ lines. (IsUnsettled (view x) → SettlesUnits lines (view x) (view y) end) × ((IsUnsettled (view x) → ⊥) → lines ≡ [])
+    × TakesLines takes c.args.proof.now lines c.settle.new.proof)
+    (λ lines (s, t). (λ u. s, λ calm. absurd (calm unsettled), t)) c.in_ok-end.ensures.goes_on
 
 pub returns-then-current_level-gt0-clause-finds : goal.returns-then-current_level-gt0-clause-finds
 returns-then-current_level-gt0-clause-finds g c none f k e =

@@ -1,4 +1,4 @@
-use Rattle.std.proofs.Common.{◌≡◌, ℕ, ◌<◌, ◌≤◌, Bool, List, [], ◌++◌, length, subst, ◌∙◌, ap, refl}
+use Rattle.std.proofs.Common.{◌≡◌, if◌then◌else◌, nat_eq, ℕ, suc, ◌+◌, ◌*◌, ◌<◌, ◌≤◌, Bool, true, false, List, [], ◌++◌, length, subst, ◌∙◌, ap, refl}
 use Rattle.varisat_theory.specs.Rank.{rank}
 use Rattle.varisat_theory.specs.Derivations.{Line}
 use Rattle.varisat_theory.specs.Outcomes.{Outcome, Steps, Proves}
@@ -19,9 +19,10 @@ use Rattle.varisat_search.proofs.DueReductions.{rises-over, keeps-are}
 use Rattle.varisat_search.proofs.RestartSteps.{begun-view, begun-steps, begun-rises}
 use Rattle.varisat_trace.proofs.Broken.{breaks-on}
 use Rattle.varisat_search.proofs.StepErrors.{trace-broken, step-passed}
-use Rattle.varisat_schedule.specs.Plans.{Plan}
+use Rattle.varisat_schedule.specs.Plans.{Plan, step_begun}
+use Rattle.varisat_theory.specs.Luby.{luby, saturated}
 use Rattle.varisat_search.specs.Progress.{outcome_at}
-use Rattle.varisat_search.specs.SettledUnits.{SettlesThenSteps, SettlesFirst}
+use Rattle.varisat_search.specs.SettledUnits.{SettlesThenSteps, SettlesFirst, LearnsAlone}
 use Rattle.varisat_search.proofs.MadeSteps.{made-with}
 use Rattle.varisat_trace.specs.Traces.{TakesLines, TakesStep}
 use Rattle.varisat_trace.proofs.Traced.{step-more}
@@ -81,14 +82,14 @@ returns-clause-steps g c =
     let p1 = c.begin_step.new.proof in
     let p2 = c.conflict_step.new.proof in
     let v = outcome_at z in
-    let m = made-with u z (λ lines. SettlesFirst lines u z × TakesStep takes p1 lines v p2) c.in_ok-conflict_step.ensures.made in
+    let m = made-with u z (λ lines. SettlesFirst lines u z × LearnsAlone lines u z × TakesStep takes p1 lines v p2) c.in_ok-conflict_step.ensures.made in
     scheduled-steps x t u c.requires.ready b.restarts
     (keeps-are (λ lines. Proves 0 (search_of (view t)) (search_of (view u)) lines × (ReducesIfDue lines t u × TakesLines takes p0 lines p1))
     (λ lines p i. (p, i)) b.reduces)
     (view z) v
-    (λ lines. Steps (search_of (view u)) (search_of (view z)) v lines × (SettlesFirst lines u z × TakesStep takes p1 lines v p2))
+    (λ lines. Steps (search_of (view u)) (search_of (view z)) v lines × (SettlesFirst lines u z × LearnsAlone lines u z × TakesStep takes p1 lines v p2))
     (λ lines. GoesBySchedule lines x (record z { schedule = c.end_step.new.self }) × TakesStep takes p0 lines v p2)
-    (λ first more (d, (r, i)) (p, (s, j)). (
+    (λ first more (d, (r, i)) (p, (s, a, j)). (
       record {
         begun = t;
         reduced = u;
@@ -106,6 +107,27 @@ returns-clause-steps g c =
       step-more takes g.met.P.ProofTracer.takes_more p0 p1 p2 first more v i j,
     ))
     m.goes.steps
+
+-- no step is counted as it begins
+begun-uncounted : (scale : ℕ) (p : Plan) → (step_begun scale p).steps ≡ p.steps
+begun-uncounted scale p = go (nat_eq p.steps p.next_restart)
+    (record { steps = p.steps; next_restart = saturated (p.next_restart + saturated (scale * luby p.next_term)); next_term = suc p.next_term }) refl
+  where
+    go : (b : Bool) (q : Plan) → q.steps ≡ p.steps → (if b then q else p).steps ≡ p.steps
+    go true q e = e
+    go false q e = refl
+
+pub returns-clause-counts : goal.returns-clause-counts
+returns-clause-counts g c =
+    let x = c.args.ctx.now in
+    let k = c.conflict_step.ensures.ends.schedule in
+    let scale = x.solver_config.luby_restart_interval_scale in
+    let same = k.schedule ∙ ap (λ (y : Context g.row.A.Denot). y.schedule) c.begin_step.ensures.kept in
+    record {
+      plan = c.end_step.ensures ∙ ap (λ (p : Plan). record p { steps = suc p.steps }) same
+          ∙ ap (λ n. record (step_begun scale x.schedule) { steps = suc n }) (begun-uncounted scale x.schedule);
+      solver_config = k.solver_config ∙ ap (λ (y : Context g.row.A.Denot). y.solver_config) c.begin_step.ensures.kept;
+    }
 
 pub returns-clause-rises : goal.returns-clause-rises
 returns-clause-rises g c e =

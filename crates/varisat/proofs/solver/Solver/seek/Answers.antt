@@ -13,7 +13,7 @@ use Rattle.varisat.specs.OpenProofs.{OpenProof, ProofFits, GoesOnWriting}
 use Rattle.varisat.specs.Targets.{WritesUpTo}
 use Rattle.varisat.proofs.Targets.{writes-nothing, refused-unwritten, tells-writes, tells-refused, breaks-writes, refused-full, same-error}
 use Rattle.varisat.proofs.OpenProofs.{proof-goes-on, broken-open, broken-on}
-use Rattle.varisat.specs.Searches.{answer_at, ComesTo, ComesOn, FindsVerdict}
+use Rattle.varisat.specs.Searches.{answer_at, Turn, turn_of, ComesTo, ComesOn, FindsVerdict}
 use Rattle.varisat_names.specs.Variables.{Tables}
 use Rattle.varisat_proof.specs.Calls.{CheckerState}
 use Rattle.varisat_proof.specs.Proving.{ProofParts}
@@ -52,11 +52,14 @@ module _ {A : Type 0} {p q : TracerState} {started : Bool} {changed_at : ℕ} {x
   n : ℕ
   n = y.schedule.steps
 
-  comes : ComesTo (steps_since x.schedule y.schedule) s p.proof q.proof (spaces_with q.tables q.proof.checker y)
+  comes : ComesTo (turn_of x) (steps_since x.schedule y.schedule) s p.proof q.proof (spaces_with q.tables q.proof.checker y)
   comes = d.finds.stands s (subst (λ b. SpacesFit (spaces_of p.tables p.proof.checker (view x) x.assumptions b) s) d.unknown (d.stood.fits d.valid))
 
   made : steps_since x.schedule y.schedule ≡ y.schedule.steps - s.ledger.steps
   made = ap (λ (l : Ledger). y.schedule.steps - l.steps) (sym d.stood.ledger)
+
+  turn : ((turn_of x).interval ≡ s.ledger.settings.reduce_locals_interval) × ((turn_of x).number ≡ s.ledger.steps)
+  turn = (ap (λ (l : Ledger). l.settings.reduce_locals_interval) (sym d.stood.ledger), ap (λ (l : Ledger). l.steps) (sym d.stood.ledger))
 
   still-valid : not y.solver_state.state_is_invalid ≡ true
   still-valid = ap (λ (b : SolverState). not b.state_is_invalid) d.finds.state ∙ d.valid
@@ -101,7 +104,7 @@ found-call {p = p} {q = q} {started = started} {changed_at = changed_at} {x = x}
   after-solve (comes d).told (comes d).verdict y.schedule.steps (goes-on d).0 (length y.clause_alloc.words) s,
   comes-verdict q.tables y (comes d) y.schedule.steps (goes-on d).0 (length y.clause_alloc.words) b
       (stands-valid (summary_of p started changed_at x) s d.stood d.valid)
-      (was-unknown (summary_of p started changed_at x) s d.stood d.valid d.unknown) k (sym d.finds.answer) (made d) (goes-on d).1,
+      (was-unknown (summary_of p started changed_at x) s d.stood d.valid d.unknown) (turn d) k (sym d.finds.answer) (made d) (goes-on d).1,
   stands-after d k,
 )
 
@@ -120,7 +123,7 @@ moved-call {p = p} {q = q} {started = started} {changed_at = changed_at} {x = x}
       after-solve (comes d).told (comes d).verdict y.schedule.steps (goes-on d).0 (length y.clause_alloc.words) s,
       comes-interrupted q.tables y (comes d) y.schedule.steps (goes-on d).0 (length y.clause_alloc.words)
           (stands-valid (summary_of p started changed_at x) s d.stood d.valid)
-          (was-unknown (summary_of p started changed_at x) s d.stood d.valid d.unknown) k unknown (made d) (λ e. omega (arith, h, e)) (goes-on d).1,
+          (was-unknown (summary_of p started changed_at x) s d.stood d.valid d.unknown) (turn d) k unknown (made d) (λ e. omega (arith, h, e)) (goes-on d).1,
       stands-after d k,
     )
 
@@ -181,7 +184,7 @@ begins : {A : Type 0} (t : Tables) (checker : Option CheckerState) (started : Bo
 begins t checker started x e f = subst (λ b. StandsForSome (spaces_of t checker (view x) x.assumptions b) started) e f
 
 -- and after what it came to
-on : {n : ℕ} {before after : Spaces} {p q : ProofParts} {started : Bool} → ComesOn n before after p q → StandsForSome before started →
+on : {at : Turn} {n : ℕ} {before after : Spaces} {p q : ProofParts} {started : Bool} → ComesOn at n before after p q → StandsForSome before started →
     StandsForSome after started
 on comes (s, fits, fresh) = let c = comes s fits in (_, c.fits, fresh)
 

@@ -6,6 +6,7 @@ use Rattle.varisat_tracer.specs.TracerLaws.{checked-runs}
 use Rattle.varisat.specs.States.{Ledger, with_variables}
 use Rattle.varisat.specs.Journals.{retold}
 use Rattle.varisat.specs.Usage.{ChangesMode}
+use Rattle.varisat.proofs.StepEntries.{leaving-derived}
 use Rattle.varisat.proofs.AcceptClause.{proof-free}
 use Rattle.varisat.proofs.Additions.{told-error}
 use Rattle.varisat.proofs.CallStates.{ledger-is, none-since, begins, broken, broken-untold}
@@ -79,7 +80,7 @@ returns g c s st =
               clauses = f.clauses;
               assumptions = f.assumptions;
               counted = f.counted;
-              unlisted = λ e. lists-on s.told m.told m.more.more (lists-derived m.more.more.entries m.more.derived) ∙ f.unlisted e;
+              unlisted = λ e. lists-on s.told m.told m.more.more (lists-derived m.more.more.entries (leaving-derived m.more.more.entries m.more.leaving)) ∙ f.unlisted e;
               unassumed = λ o. f.unassumed (barred-before s.proof now grows o);
             };
       }),

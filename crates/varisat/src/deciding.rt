@@ -51,7 +51,7 @@ pub enum Report<A: Allocator + Copy> {
 // The new solver has a function of its own: it is dropped in one place and in one step, not at each return of `decide_in`
 // and part by part. Where all went well nothing but memory is left of it, and the program ends: a list for each literal is
 // not given back one by one.
-pub(crate) fn decide_text<W: ProofTarget, A: Allocator + Copy, S: ByteSource, E: Write>(
+pub fn decide_text<W: ProofTarget, A: Allocator + Copy, S: ByteSource, E: Write>(
     alloc: A,
     cnf: &mut S,
     target: &mut Option<W>,
@@ -78,7 +78,7 @@ pub(crate) fn decide_text<W: ProofTarget, A: Allocator + Copy, S: ByteSource, E:
 }
 
 /// A new solver, inside which a checker runs where that is wanted. Before anything is accepted that is not refused.
-fn new_solver<W: ProofTarget, A: Allocator + Copy>(alloc: A, is_checked: bool) -> Solver<W, A>
+pub fn new_solver<W: ProofTarget, A: Allocator + Copy>(alloc: A, is_checked: bool) -> Solver<W, A>
     ensures stands { StandsFor result (new_state is_checked) }
     ensures checks { is_checked ≡ true → IsSome result.checker }
 {
@@ -114,7 +114,7 @@ fn decide_in<W: ProofTarget, A: Allocator + Copy, S: ByteSource, E: Write>(
 
 /// Gives a new solver the settings for a file, with the limit of steps, and opens a proof where there is a target. A new
 /// solver refuses neither.
-fn prepare<W: ProofTarget, A: Allocator + Copy>(
+pub fn prepare<W: ProofTarget, A: Allocator + Copy>(
     solver: &mut Solver<W, A>,
     target: Option<W>,
     options: SolveOptions,
@@ -134,7 +134,7 @@ fn prepare<W: ProofTarget, A: Allocator + Copy>(
 }
 
 /// Searches, and lists the model that is found.
-fn find_report<W: ProofTarget, A: Allocator + Copy, E: Write>(
+pub fn find_report<W: ProofTarget, A: Allocator + Copy, E: Write>(
     solver: &mut Solver<W, A>,
     progress: Option<u64>,
     err: &mut E,
@@ -153,7 +153,7 @@ fn find_report<W: ProofTarget, A: Allocator + Copy, E: Write>(
 }
 
 /// Closes the proof, if one is open, and returns its target.
-fn close<W: ProofTarget, A: Allocator + Copy>(
+pub fn close<W: ProofTarget, A: Allocator + Copy>(
     solver: &mut Solver<W, A>,
 ) -> Result<Option<W>, SolverError>
     ensures handed { IfOk result (λ back. IsClosed {E = SolverError} W.taken solver.old.opened (Ok back)) }

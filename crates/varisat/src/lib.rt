@@ -3,7 +3,7 @@
 
 mod accept;
 mod carrying;
-mod deciding;
+pub mod deciding;
 mod dropping;
 pub mod laws;
 pub mod line;

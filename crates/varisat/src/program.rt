@@ -79,7 +79,7 @@ pub fn solve_lines<A: Allocator + Copy, S: ByteSource, P: ProofTarget, T: ProofT
 }
 
 /// Prints what a text was found to be.
-fn print_report<T: ProofTarget, A: Allocator + Copy>(
+pub fn print_report<T: ProofTarget, A: Allocator + Copy>(
     out: &mut T,
     report: &Report<A>,
 ) -> io::Result<()>
@@ -94,7 +94,7 @@ fn print_report<T: ProofTarget, A: Allocator + Copy>(
 }
 
 /// The status for it.
-fn status_of<A: Allocator + Copy>(report: &Report<A>) -> u8
+pub fn status_of<A: Allocator + Copy>(report: &Report<A>) -> u8
     ensures { result ≡ conclusion_status (concluded report.now) }
 {
     match report {

@@ -1,0 +1,8 @@
+use Rattle.varisat_theory.specs.Literals.{Assignment, MakesTrue}
+use Rattle.varisat_client.specs.Pasts.{Past}
+use Rattle.varisat_maxsat.specs.Charges.{AreValues}
+use Rattle.varisat_maxsat.specs.Reductions.{IsReady}
+use Rattle.varisat_maxsat.proofs.feeding.values.Given as goal
+
+abbrev pub invariant-loop-index : goal.invariant-loop-index
+invariant-loop-index g l = (p : Past) → IsReady l.client p → (a : Assignment) → MakesTrue a p.model → AreValues l.index p.model l.values.items

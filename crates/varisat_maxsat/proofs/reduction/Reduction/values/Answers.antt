@@ -1,0 +1,6 @@
+use Rattle.std.proofs.Common.{refl}
+use Rattle.varisat_maxsat.proofs.Standing.{stands-optimal}
+use Rattle.varisat_maxsat.proofs.reduction.Reduction.values.Goals as goal
+
+pub returns : goal.returns
+returns g c = rw (← c.self.view_is) (λ p st. stands-optimal p _ _ _ _ c.in_ok-values.ensures refl c.truncate.ensures.items st)

@@ -1,0 +1,3 @@
+pub mod Problems
+pub mod Charges
+pub mod Reductions

@@ -1,0 +1,147 @@
+//! What is given to a client, and what it is asked.
+ghost use Rattle.std.specs.Prelude.{◌≡◌, ◌≢◌, ◌++◌, ◌∷◌, [], pos, None, OnOk, IfOk};
+ghost use Rattle.varisat_theory.specs.Literals.{Assignment, MakesTrue};
+ghost use Rattle.varisat_literals.specs.Numbers.{literal_numbered};
+ghost use Rattle.varisat_client.specs.Pasts.{Past, count};
+ghost use Rattle.varisat_client.specs.Clients.{StandsForPast};
+ghost use Rattle.varisat_maxsat.specs.Charges.{AreBelow, IsSplit, AreValues};
+ghost use Rattle.varisat_maxsat.specs.Reductions.{IsReady, HasBegun, Finds};
+
+use crate::charge::Charge;
+use crate::refusal::MaxSatError;
+use std::alloc::Allocator;
+use varisat_client::client::{Client, SearchEnd};
+use varisat_literals::{Lit, VARIABLE_LIMIT};
+
+/// The charges that a core leaves, and those that it names.
+#[derive(Drop)]
+pub(crate) struct Split<A: Allocator + Copy> {
+    pub kept: Vec<Charge, A>,
+    pub failed: Vec<Charge, A>,
+}
+
+/// The number of the literal.
+fn number_of(literal: Lit) -> Result<i32, MaxSatError>
+    ensures lit { IfOk result (λ n. literal_numbered n ≡ literal) }
+    ensures some { IfOk result (λ n. n ≢ pos 0) }
+{
+    if literal.index() >= VARIABLE_LIMIT {
+        return Err(MaxSatError::VariableLimit);
+    }
+    Ok(literal.to_dimacs() as i32)
+}
+
+/// Refuses a clause that has a variable from the count on.
+pub(crate) fn ensure_below(clause: &[Lit], count: usize) -> Result<(), MaxSatError>
+    ensures { OnOk result (AreBelow count clause.now) }
+{
+    for literal in clause {
+        if literal.index() >= count {
+            return Err(MaxSatError::VariableLimit);
+        }
+    }
+    Ok(())
+}
+
+/// Refuses where the client refused a call.
+fn ensure_accepted<A: Allocator + Copy>(client: &Client<A>) -> Result<(), MaxSatError>
+    ensures { OnOk result ((p : Past) → StandsForPast client.now p → p.refusal ≡ None) }
+{
+    match client.refusal() {
+        Some(refusal) => Err(MaxSatError::from(refusal)),
+        None => Ok(()),
+    }
+}
+
+/// Gives a clause to the client.
+pub(crate) fn give<A: Allocator + Copy>(
+    client: &mut Client<A>,
+    clause: &[Lit],
+) -> Result<(), MaxSatError>
+    ensures { OnOk result ((p : Past) → IsReady client.old p → IsReady client.new (record (count clause.now p) { clauses = p.clauses ++ clause.now ∷ [] })) }
+{
+    for literal in clause {
+        client.add(number_of(*literal)?);
+    }
+    client.add(0);
+    ensure_accepted(client)?;
+    Ok(())
+}
+
+/// Assumes the opposite of each literal whose weight is no less than the threshold.
+fn assume<A: Allocator + Copy>(
+    client: &mut Client<A>,
+    charges: &[Charge],
+    threshold: u64,
+) -> Result<(), MaxSatError>
+    ensures { OnOk result ((p : Past) → IsReady client.old p → HasBegun threshold charges.now p client.new) }
+{
+    for charge in charges {
+        if charge.weight >= threshold {
+            client.assume(number_of(!charge.literal)?);
+        }
+    }
+    client.begin();
+    ensure_accepted(client)?;
+    Ok(())
+}
+
+/// Whether some assignment satisfies the clauses with none of these literals true. Then the client has a model, else a
+/// core.
+pub(crate) fn search<A: Allocator + Copy>(
+    client: &mut Client<A>,
+    charges: &[Charge],
+    threshold: u64,
+) -> Result<bool, MaxSatError>
+    ensures { IfOk result (λ b. (p : Past) → IsReady client.old p → Finds b threshold charges.now p.clauses client.new) }
+{
+    assume(client, charges, threshold)?;
+    match client.search() {
+        SearchEnd::Satisfiable => Ok(true),
+        SearchEnd::Unsatisfiable => Ok(false),
+        SearchEnd::Interrupted => Err(MaxSatError::StepsSpent),
+        SearchEnd::Refused => {
+            ensure_accepted(client)?;
+            Err(MaxSatError::StepsSpent)
+        }
+    }
+}
+
+/// The charges whose opposite is in the client's core, and the others.
+pub(crate) fn divide<A: Allocator + Copy>(
+    client: &Client<A>,
+    charges: &[Charge],
+    alloc: A,
+) -> Result<Split<A>, MaxSatError>
+    ensures { IfOk result (λ s. (p : Past) → IsReady client.now p → IsSplit p.core charges.now s.kept.items s.failed.items) }
+{
+    let mut kept = Vec::new(alloc);
+    let mut failed = Vec::new(alloc);
+    for charge in charges {
+        if client.has_failed(number_of(!charge.literal)?) {
+            failed.push(*charge)?;
+        } else {
+            kept.push(*charge)?;
+        }
+    }
+    Ok(Split { kept, failed })
+}
+
+/// The values of so many variables in the client's model.
+pub(crate) fn values<A: Allocator + Copy>(
+    client: &Client<A>,
+    count: usize,
+    alloc: A,
+) -> Result<Vec<bool, A>, MaxSatError>
+    ensures { IfOk result (λ vs. (p : Past) → IsReady client.now p → (a : Assignment) → MakesTrue a p.model → AreValues count p.model vs.items) }
+{
+    let mut values = Vec::new(alloc);
+    for index in 0..count {
+        if index >= VARIABLE_LIMIT {
+            return Err(MaxSatError::VariableLimit);
+        }
+        let number = number_of(Lit::from_index(index, true))?;
+        values.push(client.value(number) == number)?;
+    }
+    Ok(values)
+}

@@ -1,0 +1,14 @@
+//! Weighted partial MaxSAT: an assignment that satisfies each hard clause, and misses soft clauses of the least weight.
+#![tactic(auto)]
+
+mod charge;
+mod feeding;
+pub mod problem;
+mod reduction;
+pub mod refusal;
+pub mod solving;
+pub mod wcnf;
+
+pub use problem::Problem;
+pub use refusal::MaxSatError;
+pub use solving::{Optimum, optimize};

@@ -1,0 +1,119 @@
+//! Problems.
+ghost use Rattle.std.specs.Prelude.{◌≡◌, ◌++◌, ◌∷◌, [], ◌+◌, max, OnOk, OnErr, IfOk, ◌≤◌, ◌^◌, length};
+ghost use Rattle.varisat_formula.specs.Formulas.{variables_of};
+ghost use Rattle.varisat_maxsat.specs.Problems.{Problem as Asked, starting, paired, with_hard, with_soft};
+ghost use Rattle.varisat_maxsat.specs.Reductions.{Stands};
+
+use crate::reduction::Reduction;
+use crate::refusal::MaxSatError;
+use std::alloc::Allocator;
+use std::marker::Model;
+use varisat_formula::formula::{CnfFormula, FormulaError};
+use varisat_literals::Lit;
+
+/// Hard clauses, which must be satisfied, and soft clauses, each with the weight that it costs not to satisfy it.
+#[derive(Drop)]
+pub struct Problem<A: Allocator + Copy> {
+    hard: CnfFormula<A>,
+    soft: CnfFormula<A>,
+    weights: Vec<u64, A>,
+}
+
+impl<A: Allocator + Copy> Model for Problem<A> {
+    ghost use Rattle.std.specs.Prelude.{◌≡◌, max, length};
+    ghost use Rattle.varisat_maxsat.specs.Problems as problems;
+
+    ghost Value = { problems.Problem };
+
+    ghost view = { λ p. record { variables = max p.hard.var_count p.soft.var_count; hard = p.hard.clauses; soft = problems.paired p.weights.items p.soft.clauses } };
+
+    ghost invariant = { λ p. length p.weights.items ≡ length p.soft.clauses };
+}
+
+/// Adds the clauses to a problem that is brought down.
+fn add_all_hard<A: Allocator + Copy>(
+    reduction: &mut Reduction<A>,
+    formula: &CnfFormula<A>,
+) -> Result<(), MaxSatError>
+    ensures { OnOk result ((p : Asked) → Stands p reduction.old → Stands (record p { hard = p.hard ++ formula.now.clauses }) reduction.new) }
+{
+    for clause in formula.iter() {
+        reduction.add_hard(clause)?;
+    }
+    Ok(())
+}
+
+/// Adds the clauses with their weights to a problem that is brought down.
+fn add_all_soft<A: Allocator + Copy>(
+    reduction: &mut Reduction<A>,
+    formula: &CnfFormula<A>,
+    weights: &[u64],
+) -> Result<(), MaxSatError>
+    requires { length weights.now ≡ length formula.now.clauses }
+    ensures { OnOk result ((p : Asked) → Stands p reduction.old → Stands (record p { soft = p.soft ++ paired weights.now formula.now.clauses }) reduction.new) }
+{
+    let mut index = 0;
+    for clause in formula.iter() {
+        reduction.add_soft(weights[index], clause)?;
+        index += 1;
+    }
+    Ok(())
+}
+
+impl<A: Allocator + Copy> Problem<A> {
+    /// A problem without clauses and variables. It takes no memory.
+    pub fn new_in(alloc: A) -> Problem<A>
+        ensures { result ≡ record { variables = 0; hard = []; soft = [] } }
+    {
+        Problem {
+            hard: CnfFormula::new_in(alloc),
+            soft: CnfFormula::new_in(alloc),
+            weights: Vec::new(alloc),
+        }
+    }
+
+    /// How many variables there are.
+    pub fn var_count(&self) -> usize
+        ensures count { result ≡ self.now.variables }
+        ensures small { result ≤ 2 ^ 31 }
+    {
+        self.hard.var_count().max(self.soft.var_count())
+    }
+
+    /// Raises the count of variables to the given one, and never lowers it.
+    pub fn set_var_count(&mut self, count: usize)
+        requires { count ≤ 2 ^ 31 }
+        ensures { self.new ≡ record self.old { variables = max self.old.variables count } }
+    {
+        self.hard.set_var_count(count);
+    }
+
+    /// Takes a hard clause.
+    pub fn add_hard(&mut self, clause: &[Lit]) -> Result<(), FormulaError>
+        ensures ok { OnOk result (self.new ≡ record (with_hard clause.now self.old) { variables = max self.old.variables (variables_of clause.now) }) }
+        ensures err { OnErr result (self.new ≡ self.old) }
+    {
+        self.hard.add_clause(clause)?;
+        Ok(())
+    }
+
+    /// Takes a soft clause with its weight.
+    pub fn add_soft(&mut self, weight: u64, clause: &[Lit]) -> Result<(), FormulaError>
+        ensures ok { OnOk result (self.new ≡ record (with_soft weight clause.now self.old) { variables = max self.old.variables (variables_of clause.now) }) }
+        ensures err { OnErr result (self.new ≡ self.old) }
+    {
+        self.weights.reserve(1)?;
+        self.soft.add_clause(clause)?;
+        self.weights.push_reserved(weight);
+        Ok(())
+    }
+
+    /// Brings the problem down.
+    pub(crate) fn reduce(&self, reduction: &mut Reduction<A>) -> Result<(), MaxSatError>
+        ensures { OnOk result (Stands (starting self.now.variables) reduction.old → Stands self.now reduction.new) }
+    {
+        add_all_hard(reduction, &self.hard)?;
+        add_all_soft(reduction, &self.soft, &self.weights)?;
+        Ok(())
+    }
+}

@@ -1,0 +1,181 @@
+//! A problem that is reduced to hard clauses, and literals that cost a weight each.
+ghost use Rattle.std.specs.Prelude.{◌≡◌, ◌+◌, ◌*◌, ◌++◌, ◌∷◌, [], List, ℕ, OnOk, IfOk, true, false};
+ghost use Rattle.varisat_maxsat.specs.Problems.{Problem, with_hard, with_soft, IsOptimum};
+ghost use Rattle.varisat_maxsat.specs.Reductions.{Stands, StandsWith, StandsAfter, IsRelaxed};
+
+use crate::charge::{Charge, least_weight, take_weight};
+use crate::feeding::{Split, divide, ensure_below, give, search, values};
+use crate::refusal::MaxSatError;
+use std::alloc::Allocator;
+use std::collections::VecDeque;
+use std::marker::Model;
+use varisat_client::client::Client;
+use varisat_literals::{Lit, VARIABLE_LIMIT};
+
+/// A problem that is brought down.
+#[derive(Drop)]
+pub(crate) struct Reduction<A: Allocator + Copy> {
+    client: Client<A>,
+    alloc: A,
+    variables: usize,
+    named: usize,
+    charges: Vec<Charge, A>,
+    bound: u64,
+}
+
+impl<A: Allocator + Copy> Model for Reduction<A> {
+    ghost use Rattle.varisat_maxsat.specs.Reductions as reductions;
+
+    ghost Value = { reductions.Reduction };
+
+    ghost view = { λ r. record { client = r.client; variables = r.variables; named = r.named; charges = r.charges.items; bound = r.bound } };
+}
+
+impl<A: Allocator + Copy> Reduction<A> {
+    /// No clauses over so many variables.
+    pub fn new_in(alloc: A, variables: usize) -> Reduction<A>
+        ensures { Stands (record { variables = variables; hard = []; soft = [] }) result }
+    {
+        Reduction {
+            client: Client::new_in(alloc),
+            alloc,
+            variables,
+            named: variables,
+            charges: Vec::new(alloc),
+            bound: 0,
+        }
+    }
+
+    /// The charges.
+    pub fn charges(&self) -> &[Charge] {
+        self.charges.as_slice()
+    }
+
+    /// The literal of a new variable.
+    fn fresh(&mut self) -> Result<Lit, MaxSatError>
+        ensures literal { IfOk result (λ l. l ≡ 2 * self.old.named) }
+        ensures named { OnOk result (self.new ≡ record self.old { named = self.old.named + 1 }) }
+    {
+        if self.named >= VARIABLE_LIMIT {
+            return Err(MaxSatError::VariableLimit);
+        }
+        let literal = Lit::from_index(self.named, true);
+        self.named += 1;
+        Ok(literal)
+    }
+
+    /// Takes a hard clause.
+    pub fn add_hard(&mut self, clause: &[Lit]) -> Result<(), MaxSatError>
+        ensures { OnOk result ((p : Problem) → Stands p self.old → Stands (with_hard clause.now p) self.new) }
+    {
+        ensure_below(clause, self.variables)?;
+        give(&mut self.client, clause)?;
+        Ok(())
+    }
+
+    /// Takes a soft clause.
+    pub fn add_soft(&mut self, weight: u64, clause: &[Lit]) -> Result<(), MaxSatError>
+        ensures { OnOk result ((p : Problem) → Stands p self.old → Stands (with_soft weight clause.now p) self.new) }
+    {
+        ensure_below(clause, self.variables)?;
+        if weight == 0 {
+            return Ok(());
+        }
+        if let [literal] = clause {
+            self.charges.push(Charge {
+                literal: !*literal,
+                weight,
+            })?;
+            return Ok(());
+        }
+        let literal = self.fresh()?;
+        let mut relaxed = Vec::new(self.alloc);
+        relaxed.extend_from_slice(clause)?;
+        relaxed.push(literal)?;
+        give(&mut self.client, &relaxed)?;
+        self.charges.push(Charge { literal, weight })?;
+        Ok(())
+    }
+
+    /// Searches for a model in which no literal is true whose weight is no less than the threshold.
+    pub fn search(&mut self, threshold: u64) -> Result<bool, MaxSatError>
+        ensures { IfOk result (λ b. (p : Problem) → Stands p self.old → StandsAfter b threshold p self.new) }
+    {
+        let found = search(&mut self.client, &self.charges, threshold)?;
+        Ok(found)
+    }
+
+    /// Brings the problem further down by the core. False is for one that no assignment satisfies.
+    pub fn relax(&mut self) -> Result<bool, MaxSatError>
+        ensures { IfOk result (λ b. (p : Problem) (t : ℕ) → StandsAfter false t p self.old → IsRelaxed b p self.new) }
+    {
+        let Split { mut kept, failed } = divide(&self.client, &self.charges, self.alloc)?;
+        if failed.is_empty() {
+            return Ok(false);
+        }
+        let weight = least_weight(&failed);
+        let pending = take_weight(&failed, weight, &mut kept)?;
+        self.charges = kept;
+        self.settle(pending, weight)?;
+        Ok(true)
+    }
+
+    /// Joins the literals, of which one is true, and raises the bound by their weight.
+    fn settle(&mut self, mut pending: VecDeque<Lit, A>, weight: u64) -> Result<(), MaxSatError>
+        ensures { OnOk result ((p : Problem) → StandsWith p pending.items weight self.old → Stands p self.new) }
+    {
+        'gates: while let Some(first) = pending.pop_front() {
+            let Some(second) = pending.pop_front() else {
+                give(&mut self.client, &[first])?;
+                self.bound = raised(self.bound, weight)?;
+                return Ok(());
+            };
+            let either = self.join(first, second, weight)?;
+            pending.push_back(either)?;
+        }
+        Ok(())
+    }
+
+    /// In place of two literals: one that is true where either is, which is returned, and one that is true where both are,
+    /// which is charged.
+    fn join(&mut self, first: Lit, second: Lit, weight: u64) -> Result<Lit, MaxSatError>
+        ensures { IfOk result (λ d. (p : Problem) (rest : List ℕ) → StandsWith p (first ∷ second ∷ rest) weight self.old → StandsWith p (rest ++ d ∷ []) weight self.new) }
+    {
+        let either = self.fresh()?;
+        let both = self.fresh()?;
+        give(&mut self.client, &[!first, either])?;
+        give(&mut self.client, &[!second, either])?;
+        give(&mut self.client, &[!first, !second, both])?;
+        self.charges.push(Charge {
+            literal: both,
+            weight,
+        })?;
+        Ok(either)
+    }
+
+    /// The bound.
+    pub fn bound(&self) -> u64
+        ensures { result ≡ self.now.bound }
+    {
+        self.bound
+    }
+
+    /// The values of the problem's variables in the model.
+    pub fn values(&self) -> Result<Vec<bool, A>, MaxSatError>
+        ensures { IfOk result (λ vs. (p : Problem) → StandsAfter true 0 p self.now → IsOptimum p self.now.bound vs.items) }
+    {
+        let mut values = values(&self.client, self.named, self.alloc)?;
+        values.truncate(self.variables);
+        Ok(values)
+    }
+}
+
+/// The bound and the weight.
+fn raised(bound: u64, weight: u64) -> Result<u64, MaxSatError>
+    ensures { IfOk result (λ sum. sum ≡ bound + weight) }
+{
+    match bound.checked_add(weight) {
+        Some(sum) => Ok(sum),
+        None => Err(MaxSatError::CostOverflow),
+    }
+}

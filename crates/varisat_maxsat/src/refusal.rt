@@ -1,0 +1,61 @@
+//! Why no answer is told.
+ghost use Rattle.std.specs.Prelude.{◌≡◌};
+ghost use Rattle.varisat_maxsat.specs.declared.refusal.MaxSatError.TheVariants.{OutOfMemory};
+
+use std::alloc::{AllocError, AllocFailed};
+use thiserror::Error;
+use varisat_client::refusal::Refusal;
+use varisat_formula::formula::FormulaError;
+
+/// Why no answer is told.
+#[derive(Clone, Copy, Debug, PartialEq, Eq, Error)]
+pub enum MaxSatError {
+    /// Memory ran out.
+    #[error("out of memory")]
+    OutOfMemory,
+    /// A variable would be past the limit of 2^28.
+    #[error("more than 268435456 variables")]
+    VariableLimit,
+    /// The solver's store of clauses is full.
+    #[error("the store of clauses is full")]
+    ClauseStoreFull,
+    /// The least cost is 2^64 or more.
+    #[error("the least cost is 2^64 or more")]
+    CostOverflow,
+    /// All steps that can be counted were made.
+    #[error("all steps that can be counted were made")]
+    StepsSpent,
+}
+
+impl From<AllocError> for MaxSatError {
+    ghost from_gives = { λ _ e. e ≡ OutOfMemory };
+
+    fn from(_error: AllocError) -> MaxSatError {
+        MaxSatError::OutOfMemory
+    }
+}
+
+impl<T: Drop> From<AllocFailed<T>> for MaxSatError {
+    fn from(_error: AllocFailed<T>) -> MaxSatError {
+        MaxSatError::OutOfMemory
+    }
+}
+
+impl From<FormulaError> for MaxSatError {
+    fn from(error: FormulaError) -> MaxSatError {
+        match error {
+            FormulaError::Full => MaxSatError::VariableLimit,
+            FormulaError::Memory => MaxSatError::OutOfMemory,
+        }
+    }
+}
+
+impl From<Refusal> for MaxSatError {
+    fn from(refusal: Refusal) -> MaxSatError {
+        match refusal {
+            Refusal::OutOfMemory => MaxSatError::OutOfMemory,
+            Refusal::VariableLimit => MaxSatError::VariableLimit,
+            Refusal::ClauseStoreFull => MaxSatError::ClauseStoreFull,
+        }
+    }
+}

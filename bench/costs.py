@@ -1,4 +1,4 @@
-"""The least costs of small problems with wishes, beside all assignments."""
+"""The least costs of small MaxSAT problems, beside all assignments."""
 import itertools
 import os
 import re
@@ -9,7 +9,7 @@ import formulas
 import optimum
 import programs
 
-SUMMARY = "compares the optimum of small problems with wishes with that of all assignments"
+SUMMARY = "compares the optimum of small MaxSAT problems with that of all assignments"
 
 
 def add_arguments(command):

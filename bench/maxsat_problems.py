@@ -1,4 +1,4 @@
-"""Problems with wishes for benchmarks, in the old format of WCNF, which clasp and sat4j read: the same seed gives the same bytes."""
+"""MaxSAT problems for benchmarks, in the old format of WCNF, which clasp and sat4j read: the same seed gives the same bytes."""
 from formulas import Numbers
 
 
@@ -17,7 +17,7 @@ class Problem:
 
 
 def packages(count, seed):
-    """Packages of three versions each: what a version needs and what it breaks, and which packages and versions are wished for."""
+    """Packages of three versions each: what a version needs and what it breaks, and the weights of packages that are left out and of versions that are installed."""
     numbers = Numbers(seed)
     problem = Problem(3 * count)
     versions = [[3 * package + version + 1 for version in range(3)] for package in range(count)]
@@ -42,7 +42,7 @@ def packages(count, seed):
 
 
 def lessons(count, hours, seed):
-    """Lessons in hours: pairs that share a class or a teacher are apart, and hours are wished for and unwished for."""
+    """Lessons in hours: pairs that share a class or a teacher are apart, and some hours of a lesson cost a weight."""
     numbers = Numbers(seed)
     problem = Problem(count * hours)
     at = [[lesson * hours + hour + 1 for hour in range(hours)] for lesson in range(count)]
@@ -60,9 +60,9 @@ def lessons(count, hours, seed):
     return problem
 
 
-def random_wishes(variables, hard, soft, most, seed):
-    """Random clauses of three variables that some assignment satisfies, and random wishes for one literal each, with weights up to
-    the greatest."""
+def random_units(variables, hard, soft, most, seed):
+    """Random clauses of three variables that some assignment satisfies, and random soft clauses of one literal each, with weights up
+    to the greatest."""
     numbers = Numbers(seed)
     problem = Problem(variables)
     hidden = [numbers.below(2) for _ in range(variables)]

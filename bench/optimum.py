@@ -7,10 +7,10 @@ import shutil
 import subprocess
 import tempfile
 
+import maxsat_problems
 import programs
-import wishes
 
-SUMMARY = "times the optimum of problems with wishes, beside clasp and sat4j"
+SUMMARY = "times the optimum of MaxSAT problems, beside clasp and sat4j"
 MAXSAT = f"{programs.ROOT}/crates/maxsat/out/maxsat"
 # The jars of Debian's package sat4j.
 SAT4J = [f"/usr/share/java/org.ow2.sat4j.{part}.jar" for part in ("maxsat", "pb", "core")]
@@ -20,10 +20,10 @@ WITHIN = 10
 EACH = 4.0
 MEAN = 1.5
 PROBLEMS = {
-    **{f"pack-{count}": (wishes.packages, count, count) for count in (40, 80, 150)},
-    **{f"time-{count}": (wishes.lessons, count, hours, count) for count, hours in ((12, 3), (16, 3), (20, 4))},
-    **{f"wrand-{seed}": (wishes.random_wishes, 200, 600, 120, 20, seed + 1) for seed in (0, 2, 4)},
-    **{f"rand-{seed}": (wishes.random_wishes, 200, 800, 200, 1, seed + 1) for seed in (0, 1, 4)},
+    **{f"pack-{count}": (maxsat_problems.packages, count, count) for count in (40, 80, 150)},
+    **{f"time-{count}": (maxsat_problems.lessons, count, hours, count) for count, hours in ((12, 3), (16, 3), (20, 4))},
+    **{f"wrand-{seed}": (maxsat_problems.random_units, 200, 600, 120, 20, seed + 1) for seed in (0, 2, 4)},
+    **{f"rand-{seed}": (maxsat_problems.random_units, 200, 800, 200, 1, seed + 1) for seed in (0, 1, 4)},
 }
 
 

@@ -1,0 +1,6 @@
+pub mod TextLiterals
+pub mod LeadBytes
+pub mod LeadBehind
+pub mod ExtendedModels
+pub mod DecidedBehind
+pub mod SimplifiedTexts

@@ -1,0 +1,62 @@
+-- The calls of a new solver, each from the state that the one before leads to.
+use Rattle.std.proofs.Common.{sym, ap, ◌∙◌, subst}
+use Rattle.varisat.specs.States.{State, Ledger}
+use Rattle.varisat.specs.Summaries.{StandsFor}
+use Rattle.varisat.specs.Decided.{concluded}
+use Rattle.varisat.specs.Proven.{prepared}
+use Rattle.varisat_trace.proofs.Broken.{passed-on}
+use Rattle.varisat.proofs.ProgramProves.{finds-valid}
+use Rattle.varisat.proofs.ToldJournals.{proof-of}
+use Rattle.varisat_solve.specs.Solving.{FailsOver, AsAdded, AsClosed}
+use Rattle.varisat_solve.proofs.DecidedBehind.{concluded-of, fails-reported}
+use Rattle.varisat_solve.proofs.deciding.decide_in.Goals as goal
+
+pub returns-in_err-add_formula-clause-fails : goal.returns-in_err-add_formula-clause-fails
+returns-in_err-add_formula-clause-fails g c =
+    let taken = g.W.ProofTarget.taken in
+    let s = prepared taken c.args.options.format c.args.options.check c.args.options.max_steps c.args.target.now in
+    let x = subst (λ o. StandsFor c.prepare.new.solver (prepared taken c.args.options.format c.args.options.check c.args.options.max_steps o))
+    c.take.ensures.value
+    c.prepare.ensures in
+    let (t, a, y) = (c.in_err-add_formula.ensures {u = tt}).call s x in
+    passed-on c.from_residual.result c.in_err-add_formula.field-0.0 (λ e. FailsOver taken s _ e) c.from_residual.ensures (AsAdded t a)
+
+pub returns-in_err-report-clause-fails : goal.returns-in_err-report-clause-fails
+returns-in_err-report-clause-fails g c =
+    let taken = g.W.ProofTarget.taken in
+    let s = prepared taken c.args.options.format c.args.options.check c.args.options.max_steps c.args.target.now in
+    let x = subst (λ o. StandsFor c.prepare.new.solver (prepared taken c.args.options.format c.args.options.check c.args.options.max_steps o))
+    c.take.ensures.value
+    c.prepare.ensures in
+    let (t, a, y) = (c.in_ok-add_formula.ensures {u = tt}).call s x in
+    let (u, f, z) = c.in_err-report.ensures {u = tt} t y in
+    passed-on c.from_residual-in_err-report.result c.in_err-report.field-0.0 (λ e. FailsOver taken s _ e) c.from_residual-in_err-report.ensures
+    (fails-reported g.row.A.Denot taken s _ t u c.in_err-report.field-0.0 a f)
+
+pub returns-in_err-back-clause-fails : goal.returns-in_err-back-clause-fails
+returns-in_err-back-clause-fails g c =
+    let taken = g.W.ProofTarget.taken in
+    let s = prepared taken c.args.options.format c.args.options.check c.args.options.max_steps c.args.target.now in
+    let x = subst (λ o. StandsFor c.prepare.new.solver (prepared taken c.args.options.format c.args.options.check c.args.options.max_steps o))
+    c.take.ensures.value
+    c.prepare.ensures in
+    let (t, a, y) = (c.in_ok-add_formula.ensures {u = tt}).call s x in
+    let (u, f, z) = c.in_ok-report.ensures {u = tt} t y in
+    let (back, v, d) = c.in_err-back.ensures.fails u z in
+    passed-on c.from_residual-in_err-back.result c.in_err-back.field-0.0 (λ e. FailsOver taken s _ e) c.from_residual-in_err-back.ensures
+    (AsClosed t u v (concluded c.in_ok-report.report) back a f d)
+
+pub returns-clause-decided : goal.returns-clause-decided
+returns-clause-decided g c =
+    let taken = g.W.ProofTarget.taken in
+    let format = c.args.options.format in
+    let check = c.args.options.check in
+    let limit = c.args.options.max_steps in
+    let x = subst (λ o. StandsFor c.prepare.new.solver (prepared taken format check limit o)) c.take.ensures.value c.prepare.ensures in
+    let (t, a, y) = (c.in_ok-add_formula.ensures {u = tt}).call (prepared taken format check limit c.args.target.now) x in
+    let (u, f, z) = c.in_ok-report.ensures {u = tt} t y in
+    let report = concluded c.in_ok-report.report in
+    let valid = finds-valid t u report f in
+    let ok = ap (λ (l : Ledger). l.valid) (sym z.ledger) ∙ valid in
+    concluded-of taken format check limit _ c.args.target.now c.in_ok-back.back t u report _ c.requires.low c.requires.few a f (proof-of _ u z ok) z.same
+    c.in_ok-back.ensures.handed

@@ -1,0 +1,14 @@
+-- The line that is not written, or not whole, stands behind those before it.
+use Rattle.std.proofs.Common.{◌<◌, ◌≡◌, ℕ, length, get_or, [], refl, subst, sym}
+use Rattle.varisat_theory.specs.Derivations.{Add}
+use Rattle.varisat_proof.specs.Lines.{encoding_of}
+use Rattle.varisat_solve.proofs.LeadBytes.{lines-fail}
+use Rattle.varisat_solve.proofs.lines.write_history.Goals as goal
+
+pub returns-in-Err : goal.returns-in-Err
+returns-in-Err g c =
+    lines-fail (encoding_of c.args.format) (g.W.ProofTarget.taken c.args.target.now) (g.W.ProofTarget.taken c.loop-line.target)
+    (g.W.ProofTarget.taken c.write_line.new.target) c.in-Err.error c.args.history.now.lines c.loop-line.line
+    (get_or c.args.history.now.lines c.loop-line.line (Add []))
+    (subst (λ n. c.loop-line.line < n) c.line_count-line-end.ensures c.loop-line-test.true) refl
+    c.loop-line.invariant.put c.loop-line.invariant.quiet c.in-Err.ensures

@@ -1,0 +1,22 @@
+-- The status is that of the outcome, or tells a fault.
+use Rattle.std.proofs.Common.{inl, inr, refl}
+use Rattle.varisat.specs.Decided.{concluded, conclusion_status, conclusion_text}
+use Rattle.varisat_proof.proofs.PrintedTexts.{ends-printed}
+use Rattle.varisat.proofs.ProgramDecides.{outcome-is-true}
+use Rattle.varisat_solve.proofs.program.solve_lines.Goals as goal
+
+pub returns-in-Ok-print_report-clause-truth : goal.returns-in-Ok-print_report-clause-truth
+returns-in-Ok-print_report-clause-truth g c = outcome-is-true _ _ _ _ _ c.in-Ok.ensures.decided.decides c.status_of.ensures
+
+pub returns-in-Ok-print_report-clause-outcome : goal.returns-in-Ok-print_report-clause-outcome
+returns-in-Ok-print_report-clause-outcome g c =
+    let found = concluded c.in-Ok.report in
+    inr (
+      found,
+      c.in-Ok.ensures.decided,
+      ends-printed (conclusion_status found) (conclusion_text found) (conclusion_text found) _ _ _ refl
+          c.status_of.ensures c.in-Ok-print_report.ensures,
+    )
+
+pub returns-clause-outcome : goal.returns-clause-outcome
+returns-clause-outcome g c = inl (c.in-Err.refusal, c.in-Err.ensures.fails, c.tell_fault-in-Err.ensures, refl)

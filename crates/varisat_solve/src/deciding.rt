@@ -1,0 +1,259 @@
+//! How a text is decided whose formula is simplified first.
+ghost use Rattle.std.specs.Prelude.{◌≡◌, ◌-◌, ◌^◌, ◌<◌, ◌≤◌, ℕ, List, length, true, false, Some, Ok, Err, IfOk, IfErr, IsSome};
+ghost use Rattle.varisat_proof.specs.Lines.{has_marks};
+ghost use Rattle.varisat_simplify.specs.Simplified.{IsMadeOf};
+ghost use Rattle.varisat.specs.States.{new_state};
+ghost use Rattle.varisat.specs.Summaries.{StandsFor};
+ghost use Rattle.varisat.specs.Decided.{Decided, concluded, allowed_steps};
+ghost use Rattle.varisat.specs.Proven.{CanCountFault, prepared, DecidesBy};
+ghost use Rattle.varisat_solve.specs.Extending.{conclusion_of_all};
+ghost use Rattle.varisat_solve.specs.Solving.{AreLow, Concluded, IsRefusedText, line_refusal, TakesLead, FailsOver, FailsSimplified, FailsFirst};
+
+use crate::lines::write_history;
+use crate::models::{extend_model, named_count};
+use std::alloc::Allocator;
+use std::io::{self, Write};
+use std::mem::forget;
+use std::time::{Clock, Instant};
+use varisat::CnfFormula;
+use varisat::deciding::{
+    Report, SolveOptions, close, decide_text, find_report, new_solver, prepare,
+};
+use varisat::dimacs::{DimacsError, DimacsErrorKind, DimacsParser};
+use varisat::io::{ByteSource, ProofTarget};
+use varisat::proof::{ProofFormat, WriteError};
+use varisat::solver::{Solver, SolverError};
+use varisat_simplify::clauses::ClauseList;
+use varisat_simplify::history::History;
+use varisat_simplify::simplify::{Simplified, simplify};
+
+/// What the program's `solve` keeps to.
+#[derive(Clone, Copy, Debug)]
+pub struct ProgramOptions {
+    /// What the search keeps to.
+    pub search: SolveOptions,
+    /// Whether the text's formula is simplified before it is searched.
+    pub simplify: bool,
+}
+
+/// Decides a DIMACS CNF text, whose formula is simplified first where that is wanted, unless a proof is written as marked text.
+pub fn decide<W: ProofTarget, A: Allocator + Copy, S: ByteSource, E: Write, C: Clock>(
+    alloc: A,
+    cnf: &mut S,
+    target: &mut Option<W>,
+    options: ProgramOptions,
+    clock: &C,
+    err: &mut E,
+) -> Result<Report<A>, SolverError>
+    requires faults { (S.stand cnf.old).faults < 2 ^ 64 - 1 }
+    requires room { CanCountFault W.taken target.old }
+    ensures decided { IfOk result (λ report. DecidesBy W.taken options.search (S.stand cnf.old) (S.stand cnf.new) target.old target.new (concluded report)) }
+    ensures fails { IfErr result (λ error. FailsFirst W.taken options target.old (S.stand cnf.old) (S.stand cnf.new) error) }
+{
+    if options.simplify && !matches!(options.search.format, ProofFormat::Marked) {
+        decide_simplified(alloc, cnf, target, options.search, clock, err)
+    } else {
+        decide_text(alloc, cnf, target, options.search, err)
+    }
+}
+
+/// The refusal for a fault of a text.
+fn refuse_text(fault: DimacsError) -> SolverError
+    ensures { IsRefusedText fault result }
+{
+    if let DimacsErrorKind::OutOfMemory = fault.kind {
+        return SolverError::OutOfMemory;
+    }
+    SolverError::Dimacs { cause: fault }
+}
+
+/// The refusal for a line that is not written.
+fn refuse_line(fault: WriteError) -> SolverError
+    ensures { result ≡ line_refusal fault }
+{
+    match fault {
+        WriteError::Memory => SolverError::OutOfMemory,
+        WriteError::Target(cause) => SolverError::ProofIoError { cause },
+    }
+}
+
+/// Decides a text whose formula is simplified first. The lines that lead to what that is made into come before those of the search.
+fn decide_simplified<W: ProofTarget, A: Allocator + Copy, S: ByteSource, E: Write, C: Clock>(
+    alloc: A,
+    cnf: &mut S,
+    target: &mut Option<W>,
+    options: SolveOptions,
+    clock: &C,
+    err: &mut E,
+) -> Result<Report<A>, SolverError>
+    requires faults { (S.stand cnf.old).faults < 2 ^ 64 - 1 }
+    requires room { CanCountFault W.taken target.old }
+    requires plain { has_marks options.format ≡ false }
+    ensures decided { IfOk result (λ report. DecidesBy W.taken options (S.stand cnf.old) (S.stand cnf.new) target.old target.new (concluded report)) }
+    ensures fails { IfErr result (λ error. FailsSimplified W.taken options target.old (S.stand cnf.old) (S.stand cnf.new) error) }
+{
+    let formula = match DimacsParser::parse(alloc, cnf) {
+        Ok(formula) => formula,
+        Err(fault) => return Err(refuse_text(fault)),
+    };
+    let count = named_count(&formula);
+    let made = simplify_told(alloc, formula, options.progress.is_some(), clock, err)?;
+    let Simplified {
+        formula,
+        stack,
+        history,
+    } = made;
+    write_lead(alloc, history, target, options.format)?;
+    let report = decide_formula(alloc, formula, target, options, err)?;
+    let report = extend_report(alloc, &stack, report, count)?;
+    Ok(report)
+}
+
+/// Simplifies a formula, of which no variable is frozen. What is left of it is told on `err`, if that is wanted.
+fn simplify_told<A: Allocator + Copy, E: Write, C: Clock>(
+    alloc: A,
+    formula: CnfFormula<A>,
+    is_told: bool,
+    clock: &C,
+    err: &mut E,
+) -> Result<Simplified<A>, SolverError>
+    ensures made { IfOk result (λ s. IsMadeOf formula s.formula s.stack s.history.lines) }
+    ensures few { IfOk result (λ s. length s.formula.clauses < 2 ^ 64) }
+    ensures memory { IfErr result (λ error. error ≡ SolverError.OutOfMemory) }
+{
+    let clauses = formula.len();
+    let start = Instant::now(clock);
+    match simplify(alloc, formula, &[]) {
+        Ok(made) => {
+            let left = made.formula.len();
+            if is_told {
+                tell_made(
+                    err,
+                    clauses,
+                    left,
+                    made.stack.len(),
+                    milliseconds_since(start, clock),
+                );
+            }
+            Ok(made)
+        }
+        Err(_) => Err(SolverError::OutOfMemory),
+    }
+}
+
+/// How many milliseconds there were since the moment; 0 where the clock fails.
+fn milliseconds_since<C: Clock>(start: io::Result<Instant>, clock: &C) -> u128 {
+    match start {
+        Ok(start) => match start.elapsed(clock) {
+            Ok(time) => time.as_millis(),
+            Err(_) => 0,
+        },
+        Err(_) => 0,
+    }
+}
+
+/// Tells how many of so many clauses are left, how many are saved, by which models are extended, and how long that took.
+fn tell_made<E: Write>(err: &mut E, clauses: usize, left: usize, saved: usize, milliseconds: u128) {
+    // Of a writer that fails here nothing is left to tell.
+    let _ = writeln!(
+        err,
+        "c simplified: {left} of {clauses} clauses left, {saved} saved for models, {milliseconds} ms"
+    );
+}
+
+/// Writes the lines that lead to what was made, if there is a target for a proof.
+fn write_lead<W: ProofTarget, A: Allocator + Copy>(
+    alloc: A,
+    history: History<A>,
+    target: &mut Option<W>,
+    format: ProofFormat,
+) -> Result<(), SolverError>
+    requires room { CanCountFault W.taken target.old }
+    requires plain { has_marks format ≡ false }
+    ensures led { IfOk result (λ _. TakesLead W.taken format target.old history.lines (Ok tt) target.new) }
+    ensures room { IfOk result (λ _. CanCountFault W.taken target.new) }
+    ensures fails { IfErr result (λ error. (fault : WriteError) × TakesLead W.taken format target.old history.lines (Err fault) target.new × (error ≡ line_refusal fault)) }
+{
+    let Some(target) = target else {
+        return Ok(());
+    };
+    let mut buffer = Vec::new(alloc);
+    match write_history(target, &mut buffer, format, &history) {
+        Ok(()) => Ok(()),
+        Err(fault) => Err(refuse_line(fault)),
+    }
+}
+
+/// Decides a formula by a new solver. Where all went well the solver's memory is kept, as by `decide_text`.
+fn decide_formula<W: ProofTarget, A: Allocator + Copy, E: Write>(
+    alloc: A,
+    formula: CnfFormula<A>,
+    target: &mut Option<W>,
+    options: SolveOptions,
+    err: &mut E,
+) -> Result<Report<A>, SolverError>
+    requires room { CanCountFault W.taken target.old }
+    requires low { AreLow formula.clauses }
+    requires few { length formula.clauses < 2 ^ 64 }
+    ensures decided { IfOk result (λ report. Concluded W.taken options.format (allowed_steps options.max_steps) formula.clauses target.old target.new (concluded report)) }
+    ensures fails { IfErr result (λ error. FailsOver W.taken (prepared W.taken options.format options.check options.max_steps target.old) formula.clauses error) }
+{
+    let mut solver: Solver<W, A> = new_solver(alloc, options.check);
+    let report = decide_in(&mut solver, formula, target, options, err);
+    match report {
+        Ok(report) => {
+            forget(solver);
+            Ok(report)
+        }
+        Err(error) => {
+            drop(solver);
+            Err(error)
+        }
+    }
+}
+
+/// The same in a new solver, inside which a checker runs where that is wanted.
+fn decide_in<W: ProofTarget, A: Allocator + Copy, E: Write>(
+    solver: &mut Solver<W, A>,
+    formula: CnfFormula<A>,
+    target: &mut Option<W>,
+    options: SolveOptions,
+    err: &mut E,
+) -> Result<Report<A>, SolverError>
+    requires new { StandsFor solver.old (new_state options.check) }
+    requires checks { options.check ≡ true → IsSome solver.old.checker }
+    requires room { CanCountFault W.taken target.old }
+    requires low { AreLow formula.clauses }
+    requires few { length formula.clauses < 2 ^ 64 }
+    ensures decided { IfOk result (λ report. Concluded W.taken options.format (allowed_steps options.max_steps) formula.clauses target.old target.new (concluded report)) }
+    ensures fails { IfErr result (λ error. FailsOver W.taken (prepared W.taken options.format options.check options.max_steps target.old) formula.clauses error) }
+{
+    prepare(solver, target.take(), options);
+    solver.add_formula(&formula)?;
+    drop(formula);
+    let report = find_report(solver, options.progress, err)?;
+    let back = close(solver)?;
+    *target = back;
+    Ok(report)
+}
+
+/// Extends the model of what was made, if there is one, to one of a formula that names so many variables.
+fn extend_report<A: Allocator + Copy>(
+    alloc: A,
+    stack: &ClauseList<A>,
+    report: Report<A>,
+    count: usize,
+) -> Result<Report<A>, SolverError>
+    requires { count ≤ 2 ^ 31 }
+    ensures extended { IfOk result (λ all. concluded all ≡ conclusion_of_all stack.now count (concluded report)) }
+    ensures memory { IfErr result (λ error. (error ≡ SolverError.OutOfMemory) × ((model : List ℕ) × (concluded report ≡ Decided (Some model)))) }
+{
+    match report {
+        Report::Decided(Some(model)) => match extend_model(alloc, stack, &model, count) {
+            Ok(all) => Ok(Report::Decided(Some(all))),
+            Err(_) => Err(SolverError::OutOfMemory),
+        },
+        Report::Decided(None) => Ok(Report::Decided(None)),
+        Report::Unknown => Ok(Report::Unknown),
+    }
+}

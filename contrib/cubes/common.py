@@ -39,7 +39,7 @@ def read_bytes(path):
 def read_formula(path):
     """The clauses of a DIMACS CNF file, each as a list of its literals as they stand. The program reads the file before, so
     that a fault in it is found by the same rules as everywhere."""
-    status, told = varisat("solve", os.path.join(".", path), "--max-steps", "0")
+    status, told = varisat("solve", os.path.join(".", path), "--no-simplify", "--max-steps", "0")
     if status not in (0, 10, 20):
         stop(f"{path}: {told}")
     clauses = [[]]

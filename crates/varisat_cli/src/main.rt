@@ -22,10 +22,11 @@ use varisat::io::{IoTarget, ProofTarget, ReadSource};
 use varisat::line::parse_number;
 use varisat::program::{
     STATUS_DONE, STATUS_FAULT, SolveOptions, check_drat_lines, check_lines, session_lines,
-    solve_lines, tell_fault, tell_usage,
+    tell_fault, tell_usage,
 };
 use varisat::proof::ProofFormat;
 use varisat::solver::SolverError;
+use varisat_solve::program::{ProgramOptions, solve_lines};
 
 fn main(rt: HostRuntime) -> ExitCode {
     ExitCode::from(run(&rt))
@@ -165,7 +166,7 @@ const PROGRESS_INTERVAL: u64 = 10_000;
 const LEAST_HEAP: u64 = 4096;
 
 // The options of `solve`: where a proof goes, whether it is binary or marked, whether the search is checked, whether it is
-// told how far it is, a limit of steps, and the size of the solver's heap.
+// told how far it is, whether nothing is simplified, a limit of steps, and the size of the solver's heap.
 #[derive(Drop)]
 struct SolveWords<'a> {
     proof: Option<&'a str>,
@@ -173,6 +174,7 @@ struct SolveWords<'a> {
     is_marked: bool,
     is_checked: bool,
     is_shown: bool,
+    is_plain: bool,
     max_steps: Option<u64>,
     heap: Option<usize>,
 }
@@ -192,12 +194,15 @@ impl<'a> SolveWords<'a> {
     }
 
     // What they ask of the command.
-    fn options(&self) -> SolveOptions {
-        SolveOptions {
-            check: self.is_checked,
-            max_steps: self.max_steps,
-            progress: self.is_shown.then_some(PROGRESS_INTERVAL),
-            format: proof_format(self.is_binary, self.is_marked),
+    fn options(&self) -> ProgramOptions {
+        ProgramOptions {
+            search: SolveOptions {
+                check: self.is_checked,
+                max_steps: self.max_steps,
+                progress: self.is_shown.then_some(PROGRESS_INTERVAL),
+                format: proof_format(self.is_binary, self.is_marked),
+            },
+            simplify: !self.is_plain,
         }
     }
 }
@@ -232,6 +237,7 @@ fn solve_words(words: &[String]) -> Option<SolveWords<'_>> {
         is_marked: false,
         is_checked: false,
         is_shown: false,
+        is_plain: false,
         max_steps: None,
         heap: None,
     };
@@ -248,6 +254,7 @@ fn solve_words(words: &[String]) -> Option<SolveWords<'_>> {
             None if word == "--marked" && !found.is_marked => found.is_marked = true,
             None if word == "--check" && !found.is_checked => found.is_checked = true,
             None if word == "--progress" && !found.is_shown => found.is_shown = true,
+            None if word == "--no-simplify" && !found.is_plain => found.is_plain = true,
             None => option = Some(word),
         }
     }
@@ -392,7 +399,7 @@ fn decide_text<R: Read + Drop, T: ProofTarget, E: Write>(
     heap: Option<usize>,
     cnf: &mut ReadSource<R>,
     proof: &mut Option<FileTarget>,
-    options: SolveOptions,
+    options: ProgramOptions,
     out: &mut T,
     err: &mut E,
 ) -> u8
@@ -400,12 +407,12 @@ fn decide_text<R: Read + Drop, T: ProofTarget, E: Write>(
     requires room { CanCountFault taken_by_writer proof.old }
     requires out_faults { (T.taken out.old).faults < 2 ^ 64 - 1 }
     ensures truth { StatusIsTrue cnf.old cnf.new result }
-    ensures outcome { (result ≡ fault_status) ⊎ DecidesWithStatus taken_by_writer options cnf.old cnf.new proof.old proof.new result }
+    ensures outcome { (result ≡ fault_status) ⊎ DecidesWithStatus taken_by_writer options.search cnf.old cnf.new proof.old proof.new result }
 {
     match heap {
-        None => solve_lines(rt.alloc(), cnf, proof, options, out, err),
+        None => solve_lines(rt.alloc(), cnf, proof, options, rt, out, err),
         Some(size) => match LocalHeap::new(rt.alloc(), size) {
-            Ok(heap) => solve_lines(&heap, cnf, proof, options, out, err),
+            Ok(heap) => solve_lines(&heap, cnf, proof, options, rt, out, err),
             Err(_) => tell_fault(err, &SolverError::OutOfMemory),
         },
     }

@@ -167,7 +167,7 @@ fn options_are_read(rt: HostRuntime) -> Result<(), Fail> {
         let words = words_of(&rt, line)?;
         let found = solve_words(words.as_slice());
         let found = found.map(|found| {
-            let options = found.options();
+            let options = found.options().search;
             (
                 found.proof,
                 found.is_binary,
@@ -176,6 +176,22 @@ fn options_are_read(rt: HostRuntime) -> Result<(), Fail> {
                 options.progress,
             )
         });
+        assert!(rt; found == wanted, "{line}");
+    }
+    Ok(())
+}
+
+#[test]
+fn a_formula_is_simplified_unless_that_is_turned_off(rt: HostRuntime) -> Result<(), Fail> {
+    let rows = [
+        ("--check", Some(true)),
+        ("--proof p --no-simplify --check", Some(false)),
+        ("--no-simplify --no-simplify", None),
+    ];
+    for (line, wanted) in rows {
+        let words = words_of(&rt, line)?;
+        let found = solve_words(words.as_slice());
+        let found = found.map(|found| found.options().simplify);
         assert!(rt; found == wanted, "{line}");
     }
     Ok(())
@@ -199,7 +215,7 @@ fn formats_are_chosen(rt: HostRuntime) -> Result<(), Fail> {
     for (line, wanted) in rows {
         let words = words_of(&rt, line)?;
         let found = solve_words(words.as_slice());
-        let found = found.map(|found| found.options().format);
+        let found = found.map(|found| found.options().search.format);
         assert!(rt; found == wanted, "{line}");
     }
     Ok(())

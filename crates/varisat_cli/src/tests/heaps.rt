@@ -24,11 +24,14 @@ const HEAPS: [(&str, Option<Option<usize>>); 8] = [
 fn decides(rt: &HostRuntime, heap: Option<usize>, text: &[u8], wanted: (&[u8], &[u8], u8)) -> bool {
     let mut out = MemoryTarget::new_in(rt.alloc());
     let mut err = Vec::new(rt.alloc());
-    let options = SolveOptions {
-        check: false,
-        max_steps: None,
-        progress: None,
-        format: ProofFormat::Drat,
+    let options = ProgramOptions {
+        search: SolveOptions {
+            check: false,
+            max_steps: None,
+            progress: None,
+            format: ProofFormat::Drat,
+        },
+        simplify: true,
     };
     let mut cnf = ReadSource::new(Cursor::new(text));
     let status = decide_text(rt, heap, &mut cnf, &mut None, options, &mut out, &mut err);

@@ -6,6 +6,7 @@ use std::alloc::Global;
 use std::io::Cursor;
 use std::test::Fail;
 use varisat::io::{MemoryTarget, ProofTarget};
+use varisat::program::solve_lines;
 
 // What a command prints, what it tells of a fault, and its status.
 type Printed = (&'static str, &'static str, u8);

@@ -39,7 +39,7 @@ def seconds_of(command, wanted):
 
 def take_turn(path, proof):
     """Runs each command once: deciding alone, with a proof, checking that, and deciding with a checker inside."""
-    solve = [programs.PROGRAM, "solve", path]
+    solve = [programs.PROGRAM, "solve", path, "--no-simplify"]
     return Turn(
         seconds_of(solve, programs.UNSATISFIABLE),
         seconds_of([*solve, "--proof", proof], programs.UNSATISFIABLE),
@@ -50,9 +50,9 @@ def take_turn(path, proof):
 
 def peaks(path, proof):
     """The largest resident sizes of deciding, of a check of the proof, and of deciding with a checker inside, in MiB."""
-    solve = programs.Program("varisat solve", [programs.PROGRAM, "solve"])
+    solve = programs.Program("varisat solve", [programs.PROGRAM, "solve"], options=("--no-simplify",))
     checking = programs.Program("varisat check", [programs.PROGRAM, "check", path])
-    inside = programs.Program("varisat solve --check", [programs.PROGRAM, "solve", path])
+    inside = programs.Program("varisat solve --check", [programs.PROGRAM, "solve", path], options=("--no-simplify",))
     runs = [(solve, path, programs.UNSATISFIABLE), (checking, proof, check.VERIFIED), (inside, "--check", programs.UNSATISFIABLE)]
     return [programs.peak_memory(*run) / 1024 for run in runs]
 

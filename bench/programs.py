@@ -36,6 +36,8 @@ class Program:
     command: list
     # From what a run printed, how many conflicts it came to, or None.
     conflicts_of: Callable = untold
+    # What stands behind the name of the formula.
+    options: tuple = ()
 
 
 @dataclass
@@ -81,6 +83,11 @@ def build_ours():
 
 
 def ours():
+    """Our program, as it searches a formula that it does not simplify."""
+    return Program("varisat", [PROGRAM, "solve"], options=("--no-simplify",))
+
+
+def ours_simplifying():
     return Program("varisat", [PROGRAM, "solve"])
 
 
@@ -133,7 +140,7 @@ def run_command(command, source, output, limit, errors=subprocess.DEVNULL):
 
 def run_once(program, path, output, limit=None):
     """Runs the program on the file."""
-    return run_command([*program.command, path], subprocess.DEVNULL, output, limit)
+    return run_command([*program.command, path, *program.options], subprocess.DEVNULL, output, limit)
 
 
 def measure(program, path, status):
@@ -151,7 +158,7 @@ def was_killed(status, taken, limit):
 def count_conflicts(path, limit):
     """How many conflicts our program comes to on the file, which it tells with `--progress`; None past the limit."""
     with tempfile.TemporaryFile("w+", encoding="utf-8") as errors:
-        status, taken = run_command([*ours().command, path, "--progress"], subprocess.DEVNULL, subprocess.DEVNULL, limit, errors)
+        status, taken = run_command([*ours().command, path, *ours().options, "--progress"], subprocess.DEVNULL, subprocess.DEVNULL, limit, errors)
         errors.seek(0)
         line = re.search(r"^c conflicts +(\d+)$", errors.read(), re.MULTILINE)
     if was_killed(status, taken, limit):
@@ -202,7 +209,7 @@ def decide(program, path, limit):
 
 def peak_memory(program, path, status):
     """The largest resident size of a run, in KiB. A child of Python itself would be told as large as Python."""
-    command = ["/usr/bin/time", "--quiet", "-f", "%M", *program.command, path]
+    command = ["/usr/bin/time", "--quiet", "-f", "%M", *program.command, path, *program.options]
     done = subprocess.run(command, stdout=subprocess.DEVNULL, stderr=subprocess.PIPE, text=True)
     must_be(done.returncode, status, program)
     return int(done.stderr.split()[-1])

@@ -31,7 +31,7 @@ def add_arguments(command):
 
 def commands(path):
     """For each program its runs without a proof, with one in text, and with one in the binary format."""
-    ours = [programs.PROGRAM, "solve", path]
+    ours = [programs.PROGRAM, "solve", path, "--no-simplify"]
     cadical = ["cadical", "-q", path]
     return [
         ours,

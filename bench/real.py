@@ -22,7 +22,7 @@ def add_arguments(command):
 
 def solvers():
     return [
-        programs.ours(),
+        programs.ours_simplifying(),
         programs.Program("minisat", ["minisat", "-verb=0"]),
         programs.Program("minisat -no-pre", ["minisat", "-verb=0", "-no-pre"]),
         programs.cadical(),

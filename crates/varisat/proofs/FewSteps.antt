@@ -8,28 +8,28 @@ use Rattle.varisat_formula.specs.Dimacs.{Reading}
 use Rattle.varisat_formula.specs.Streams.{Stand, Taken}
 use Rattle.varisat_formula.specs.declared.dimacs.error.DimacsError.{DimacsError}
 use Rattle.varisat_names.specs.declared.config.SolverConfigUpdate.{SolverConfigUpdate}
-use Rattle.varisat.specs.States.{Known, State, Ledger}
-use Rattle.varisat.specs.Names.{Sample, Witness}
-use Rattle.varisat.specs.Additions.{AllAdded, OneRefused, RefusedAtOnce, NoFault, MemoryFault, Fault, ClauseRefused, ClausesAdded, RefusedEarly, Read, Unread}
-use Rattle.varisat.specs.Additions as additions
-use Rattle.varisat.specs.Usage as usage
-use Rattle.varisat.specs.Budgets.{CountsSteps}
-use Rattle.varisat.specs.OpenProofs.{BarsAssumptions}
-use Rattle.varisat.specs.Calls as state
-use Rattle.varisat.specs.Calls.{calling, Verdicts, Ignored, Accepted, Decided, Searched, IsValid, IsSolved, Invalidates, IsLikeButLeft, CountsCall}
+use Rattle.varisat_solver.specs.States.{Known, State, Ledger}
+use Rattle.varisat_solver.specs.Names.{Sample, Witness}
+use Rattle.varisat_solver.specs.Additions.{AllAdded, OneRefused, RefusedAtOnce, NoFault, MemoryFault, Fault, ClauseRefused, ClausesAdded, RefusedEarly, Read, Unread}
+use Rattle.varisat_solver.specs.Additions as additions
+use Rattle.varisat_solver.specs.Usage as usage
+use Rattle.varisat_solver.specs.Budgets.{CountsSteps}
+use Rattle.varisat_solver.specs.OpenProofs.{BarsAssumptions}
+use Rattle.varisat_solver.specs.Calls as state
+use Rattle.varisat_solver.specs.Calls.{calling, Verdicts, Ignored, Accepted, Decided, Searched, IsValid, IsSolved, Invalidates, IsLikeButLeft, CountsCall}
 use Rattle.varisat.specs.Pasts.{empty_past, telling}
 use Rattle.varisat_proof.specs.declared.proof.format.ProofFormat.{ProofFormat}
-use Rattle.varisat.specs.ProofCalls.{OpensProof, EnablesChecking, Closes}
-use Rattle.varisat.specs.Told.{told_list, told_vars}
+use Rattle.varisat_solver.specs.ProofCalls.{OpensProof, EnablesChecking, Closes}
+use Rattle.varisat_solver.specs.Told.{told_list, told_vars}
 use Rattle.varisat.specs.Turns.{Makes}
 use Rattle.varisat.specs.Moments.{HasFewSteps, HasFewStepsAlong}
 use Rattle.varisat.specs.declared.session.Call.{Call}
 use Rattle.varisat.specs.declared.session.Answer.{Answer}
 use Rattle.varisat.specs.declared.session.Call.TheVariants as call
 use Rattle.varisat.specs.declared.session.Answer.TheVariants as answer
-use Rattle.varisat.specs.declared.solver.SolverError.{SolverError}
-use Rattle.varisat.specs.declared.solver.SolverError.TheVariants.{OutOfMemory, Invalid, ProofIoError, ClauseStoreFull, WitnessVar, AssumedVar, VariableLimit, ClauseAfterSolve, ProofOpen, ProofTooLate, Interrupted, ConfigOutOfRange}
-use Rattle.varisat.proofs.CallStates.{same-counted, same-ledger}
+use Rattle.varisat_solver.specs.declared.solver.SolverError.{SolverError}
+use Rattle.varisat_solver.specs.declared.solver.SolverError.TheVariants.{OutOfMemory, Invalid, ProofIoError, ClauseStoreFull, WitnessVar, AssumedVar, VariableLimit, ClauseAfterSolve, ProofOpen, ProofTooLate, Interrupted, ConfigOutOfRange}
+use Rattle.varisat_solver.proofs.CallStates.{same-counted, same-ledger}
 
 none-is-few : (since n : ℕ) → since ≡ 0 → AreFew n since
 none-is-few since n e = subst (AreFew n) (sym e) (few_none n)

@@ -6,11 +6,11 @@ use Rattle.varisat.specs.declared.session.Call.{Call}
 use Rattle.varisat.specs.declared.session.Answer.{Answer}
 use Rattle.varisat.specs.declared.session.Call.TheVariants as call
 use Rattle.varisat.specs.declared.session.Answer.TheVariants as answer
-use Rattle.varisat.specs.States.{State, empty_state}
-use Rattle.varisat.specs.Journals.{IsJournal, IsToldWithin}
-use Rattle.varisat.specs.Calls.{IsValid}
-use Rattle.varisat.specs.Told.{told_list, told_vars}
-use Rattle.varisat.specs.Names.{Sample, Witness}
+use Rattle.varisat_solver.specs.States.{State, empty_state}
+use Rattle.varisat_solver.specs.Journals.{IsJournal, IsToldWithin}
+use Rattle.varisat_solver.specs.Calls.{IsValid}
+use Rattle.varisat_solver.specs.Told.{told_list, told_vars}
+use Rattle.varisat_solver.specs.Names.{Sample, Witness}
 use Rattle.varisat.specs.Turns.{Makes}
 use Rattle.varisat.specs.Runs.{MakesCall, Run}
 use Rattle.varisat.specs.Pasts.{Findings, IsPastJournal, empty_past, telling}

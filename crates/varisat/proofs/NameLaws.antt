@@ -6,11 +6,11 @@ use Rattle.varisat_theory.specs.Literals.{Literal, variable_of}
 use Rattle.varisat_theory.proofs.Members.{equal_or_not}
 use Rattle.varisat_names.specs.Maps.{updated}
 use Rattle.varisat_names.proofs.Maps.{updated-other}
-use Rattle.varisat.specs.Names.{Naming, Sample, bring, bring_next, bring_if_free, name_one, name_all, identity_of, through_names, IsLeastFree, AreInOrder, no_names}
+use Rattle.varisat_solver.specs.Names.{Naming, Sample, bring, bring_next, bring_if_free, name_one, name_all, identity_of, through_names, IsLeastFree, AreInOrder, no_names}
 use Rattle.varisat.specs.Counts.{count_with}
 use Rattle.varisat_literals.specs.Numbers.{variable_limit}
-use Rattle.varisat.specs.Models.{AreNamesInUse}
-use Rattle.varisat.specs.Calls.{IsPastLimit}
+use Rattle.varisat_solver.specs.Models.{AreNamesInUse}
+use Rattle.varisat_solver.specs.Calls.{IsPastLimit}
 use Rattle.varisat.specs.Laws.{NamesStayInOrder, NamesAreIdentities, GivenIsAccepted, CrowdedIsPastLimit}
 
 -- Names that come into use, where those in use are the ones below a count, in order.

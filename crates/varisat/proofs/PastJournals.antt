@@ -8,7 +8,7 @@ use Rattle.varisat_theory.specs.NewClauses.{GoesOnAdding}
 use Rattle.varisat_theory.proofs.Journals.{leads_append, by_leads, lines_append}
 use Rattle.varisat_theory.proofs.NewClauses.{adding_leads, adding_adds}
 use Rattle.varisat_theory.proofs.StepStands.{added_append}
-use Rattle.varisat.specs.Journals.{TellsMore, AreDerived}
+use Rattle.varisat_solver.specs.Journals.{TellsMore, AreDerived}
 
 -- What was told leads somewhere, and its lines add at least as many clauses as interrupted calls made steps.
 pub record KnowsTold (told : List Entry) (interrupted : ℕ) : Type 0 where

@@ -13,25 +13,25 @@ use Rattle.varisat_proof.specs.declared.proof.format.ProofFormat.{ProofFormat}
 use Rattle.varisat_proof.specs.Assumed.{lists_of}
 use Rattle.varisat_names.specs.declared.config.SolverConfigUpdate.{SolverConfigUpdate}
 use Rattle.varisat_names.proofs.Maps.{updated-other, updated-all}
-use Rattle.varisat.specs.OpenProofs.{OpenProof, BarsAssumptions}
-use Rattle.varisat.specs.ProofCalls.{OpensProof, EnablesChecking, IsProofIfOpen, Closes}
-use Rattle.varisat.specs.States.{Known, State, Ledger, Verdict, Unknown, Sat, Unsat, UnsatUnderAssumptions, new_state, IsRight, HasRightVerdict}
-use Rattle.varisat.specs.Names.{Naming, Mode, bring, bring_next, bring_if_free, name_one, name_all, through_names, free_name, set_mode, give_name, AreShown}
-use Rattle.varisat.specs.Models.{list_names, model_of, IsCompletable}
-use Rattle.varisat.specs.Additions as additions
-use Rattle.varisat.specs.Additions.{AllAdded, OneRefused, RefusedAtOnce, NoFault, MemoryFault, Fault, ClauseRefused, ClausesAdded, RefusedEarly, Read, Unread}
-use Rattle.varisat.specs.Calls as state
-use Rattle.varisat.specs.Calls.{calling, IsValid, Invalidates, IsLikeButLeft, IsLike, Ignored, Accepted, MayAccept, TakesOne, TakesList, TellsList, IsRefuted, RefusesNames, accept, count_anew, start, with_naming, answer_of, reopened_verdict, assumed_verdict, VerdictAfter}
+use Rattle.varisat_solver.specs.OpenProofs.{OpenProof, BarsAssumptions}
+use Rattle.varisat_solver.specs.ProofCalls.{OpensProof, EnablesChecking, IsProofIfOpen, Closes}
+use Rattle.varisat_solver.specs.States.{Known, State, Ledger, Verdict, Unknown, Sat, Unsat, UnsatUnderAssumptions, new_state, IsRight, HasRightVerdict}
+use Rattle.varisat_solver.specs.Names.{Naming, Mode, bring, bring_next, bring_if_free, name_one, name_all, through_names, free_name, set_mode, give_name, AreShown}
+use Rattle.varisat_solver.specs.Models.{list_names, model_of, IsCompletable}
+use Rattle.varisat_solver.specs.Additions as additions
+use Rattle.varisat_solver.specs.Additions.{AllAdded, OneRefused, RefusedAtOnce, NoFault, MemoryFault, Fault, ClauseRefused, ClausesAdded, RefusedEarly, Read, Unread}
+use Rattle.varisat_solver.specs.Calls as state
+use Rattle.varisat_solver.specs.Calls.{calling, IsValid, Invalidates, IsLikeButLeft, IsLike, Ignored, Accepted, MayAccept, TakesOne, TakesList, TellsList, IsRefuted, RefusesNames, accept, count_anew, start, with_naming, answer_of, reopened_verdict, assumed_verdict, VerdictAfter}
 use Rattle.varisat.specs.Pasts as past
 use Rattle.varisat.specs.Pasts.{Findings, Past, MayTellModel, MayTellCore, telling}
-use Rattle.varisat.specs.Usage as usage
-use Rattle.varisat.specs.declared.solver.SolverError.{SolverError}
-use Rattle.varisat.specs.declared.solver.SolverError.TheVariants.{ProofIoError, OutOfMemory, Invalid, ClauseStoreFull, WitnessVar, VariableLimit, AssumedVar, ClauseAfterSolve, ProofOpen, ProofTooLate, ConfigOutOfRange}
-use Rattle.varisat.proofs.CallStates.{same-assumptions, same-clauses, same-counted, same-naming, same-verdict}
-use Rattle.varisat.proofs.ToldEntries.{tells-through, tells, accepts-goes, assumes-goes, lists-append, lists-derived, lists-on}
+use Rattle.varisat_solver.specs.Usage as usage
+use Rattle.varisat_solver.specs.declared.solver.SolverError.{SolverError}
+use Rattle.varisat_solver.specs.declared.solver.SolverError.TheVariants.{ProofIoError, OutOfMemory, Invalid, ClauseStoreFull, WitnessVar, VariableLimit, AssumedVar, ClauseAfterSolve, ProofOpen, ProofTooLate, ConfigOutOfRange}
+use Rattle.varisat_solver.proofs.CallStates.{same-assumptions, same-clauses, same-counted, same-naming, same-verdict}
+use Rattle.varisat_solver.proofs.ToldEntries.{tells-through, tells, accepts-goes, assumes-goes, lists-append, lists-derived, lists-on}
 use Rattle.varisat.proofs.PastJournals.{KnowsTold, told-more}
-use Rattle.varisat.proofs.SearchVerdicts.{told-fails, core-answer, no-core, reopened-core, assumed-no-core, reopened-not-true, reopened-false, right-reopened, assumed-not-true, right-assumed}
-use Rattle.varisat.proofs.ModelsFit.{completable}
+use Rattle.varisat_solver.proofs.SearchVerdicts.{told-fails, core-answer, no-core, reopened-core, assumed-no-core, reopened-not-true, reopened-false, right-reopened, assumed-not-true, right-assumed}
+use Rattle.varisat_solver.proofs.ModelsFit.{completable}
 
 -- 1. No name is in use from the watermark on.
 

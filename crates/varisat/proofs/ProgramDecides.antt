@@ -17,28 +17,28 @@ use Rattle.varisat_formula.proofs.ParsedSources.{gives_whole}
 use Rattle.varisat_names.specs.declared.config.SolverConfigUpdate.{SolverConfigUpdate}
 use Rattle.varisat_names.specs.Settings.{Settings, no_update}
 use Rattle.varisat_proof.specs.declared.proof.format.ProofFormat.{ProofFormat}
-use Rattle.varisat.specs.ProofCalls.{OpensProof, EnablesChecking}
+use Rattle.varisat_solver.specs.ProofCalls.{OpensProof, EnablesChecking}
 use Rattle.varisat.specs.Proven.{file_update, configured, prepared, Concludes}
-use Rattle.varisat.specs.States.{State, Ledger, join_counted, empty_state, new_state}
-use Rattle.varisat.specs.Names.{Naming, AreInOrder}
-use Rattle.varisat.specs.Models.{IsCompletable}
+use Rattle.varisat_solver.specs.States.{State, Ledger, join_counted, empty_state, new_state}
+use Rattle.varisat_solver.specs.Names.{Naming, AreInOrder}
+use Rattle.varisat_solver.specs.Models.{IsCompletable}
 use Rattle.varisat.specs.Counts.{count_with}
-use Rattle.varisat.specs.ClauseCalls.{AddsDimacs}
-use Rattle.varisat.specs.OpenProofs.{OpenProof, first_proof}
-use Rattle.varisat.specs.Calls.{calling, count_anew, Ignored, Accepted}
-use Rattle.varisat.specs.Additions.{NoFault, MemoryFault, Fault, ClauseRefused, ClausesAdded, RefusedEarly, Read, Unread}
+use Rattle.varisat_solver.specs.ClauseCalls.{AddsDimacs}
+use Rattle.varisat_solver.specs.OpenProofs.{OpenProof, first_proof}
+use Rattle.varisat_solver.specs.Calls.{calling, count_anew, Ignored, Accepted}
+use Rattle.varisat_solver.specs.Additions.{NoFault, MemoryFault, Fault, ClauseRefused, ClausesAdded, RefusedEarly, Read, Unread}
 use Rattle.varisat.specs.Pasts.{Findings, Past, empty_past, telling}
-use Rattle.varisat.specs.Budgets.{CountsSteps}
+use Rattle.varisat_solver.specs.Budgets.{CountsSteps}
 use Rattle.varisat.specs.Decided.{IsUpToHighest, IsModel, named_variables, allowed_steps, Conclusion, Decided, Unknown, IsConclusion, Decides, StatusIsTrue, conclusion_status}
-use Rattle.varisat.specs.declared.solver.SolverError.{SolverError}
-use Rattle.varisat.specs.declared.solver.SolverError.TheVariants.{Interrupted, Invalid, ConfigOutOfRange, ProofOpen, ProofTooLate}
-use Rattle.varisat.proofs.CallStates.{same-assumptions, same-clauses, same-counted, same-ledger, same-naming}
+use Rattle.varisat_solver.specs.declared.solver.SolverError.{SolverError}
+use Rattle.varisat_solver.specs.declared.solver.SolverError.TheVariants.{Interrupted, Invalid, ConfigOutOfRange, ProofOpen, ProofTooLate}
+use Rattle.varisat_solver.proofs.CallStates.{same-assumptions, same-clauses, same-counted, same-ledger, same-naming}
 use Rattle.varisat.proofs.NameLaws.{stay-in-order, count-above, count-within, through-all, none-in-order, in-use-below}
-use Rattle.varisat.proofs.Counted.{join-more, join-has, join-only, join-once}
+use Rattle.varisat_solver.proofs.Counted.{join-more, join-has, join-only, join-once}
 use Rattle.varisat.proofs.Pasts.{Agrees, past_of, stays-but, add-text, tell-model, new-agrees}
 use Rattle.varisat.proofs.SolvedPasts.{solve}
-use Rattle.varisat.specs.Calls as state
-use Rattle.varisat.specs.Additions as additions
+use Rattle.varisat_solver.specs.Calls as state
+use Rattle.varisat_solver.specs.Additions as additions
 
 -- Lines that are a proof from some clauses, and stay one from these and others.
 

@@ -5,15 +5,15 @@ use Rattle.varisat_theory.specs.Literals.{Clause, Literal}
 use Rattle.varisat_formula.specs.Dimacs.{Reading, dimacs}
 use Rattle.varisat_formula.specs.Streams.{Stand, Taken}
 use Rattle.varisat_formula.proofs.ParsedSources.{gives_whole}
-use Rattle.varisat.specs.States.{State, Unknown, Unsat, Ledger, Verdict, Sat, UnsatUnderAssumptions, IsRight}
-use Rattle.varisat.specs.Names.{AreInOrder}
+use Rattle.varisat_solver.specs.States.{State, Unknown, Unsat, Ledger, Verdict, Sat, UnsatUnderAssumptions, IsRight}
+use Rattle.varisat_solver.specs.Names.{AreInOrder}
 use Rattle.varisat.specs.Counts.{count_with}
-use Rattle.varisat.specs.ClauseCalls.{AddsDimacs}
-use Rattle.varisat.specs.Calls.{calling, IsValid, IsRefuted, TellsVerdict}
-use Rattle.varisat.specs.Additions.{AddsAll, NoFault, MemoryFault, Fault, ClauseRefused, ClausesAdded, RefusedEarly, Read, Unread}
+use Rattle.varisat_solver.specs.ClauseCalls.{AddsDimacs}
+use Rattle.varisat_solver.specs.Calls.{calling, IsValid, IsRefuted, TellsVerdict}
+use Rattle.varisat_solver.specs.Additions.{AddsAll, NoFault, MemoryFault, Fault, ClauseRefused, ClausesAdded, RefusedEarly, Read, Unread}
 use Rattle.varisat.specs.Decided.{Conclusion, allowed_steps}
 use Rattle.varisat.specs.Proven.{Concludes, prepared, Reports, IsProven, IsProvenIf, DecidesProven, Fails, AsSearched, AsListed}
-use Rattle.varisat.proofs.CallStates.{same-clauses, same-naming, same-assumptions, same-hidden, same-ledger}
+use Rattle.varisat_solver.proofs.CallStates.{same-clauses, same-naming, same-assumptions, same-hidden, same-ledger}
 use Rattle.varisat.proofs.NameLaws.{stay-in-order, none-in-order}
 use Rattle.varisat.proofs.ProgramDecides.{done, Carries, prepared-begun, unsearched, found}
 use Rattle.varisat_theory.specs.Membership.{◌⊆◌}
@@ -21,13 +21,13 @@ use Rattle.varisat_theory.specs.Journals.{lines_of}
 use Rattle.varisat_proof.specs.Telling.{bytes_told}
 use Rattle.varisat_proof.specs.declared.proof.format.ProofFormat.{ProofFormat}
 use Rattle.varisat_proof.specs.Proving.{OpenState, IsClosed}
-use Rattle.varisat.specs.OpenProofs.{OpenProof, opened_state, GoesOnWriting, searched_under, first_proof}
-use Rattle.varisat.specs.ProofCalls.{IsProofIfOpen}
-use Rattle.varisat.specs.declared.solver.SolverError.{SolverError}
-use Rattle.varisat.specs.declared.solver.SolverError.TheVariants.{Interrupted, ProofIoError, OutOfMemory, Invalid, ClauseStoreFull, WitnessVar, VariableLimit, AssumedVar, ClauseAfterSolve, ProofOpen, ProofTooLate, ConfigOutOfRange, Dimacs}
-use Rattle.varisat.proofs.OpenProofs.{goes-on-none, goes-on-through, plain-bytes}
-use Rattle.varisat.specs.Calls as state
-use Rattle.varisat.specs.Additions as additions
+use Rattle.varisat_solver.specs.OpenProofs.{OpenProof, opened_state, GoesOnWriting, searched_under, first_proof}
+use Rattle.varisat_solver.specs.ProofCalls.{IsProofIfOpen}
+use Rattle.varisat_solver.specs.declared.solver.SolverError.{SolverError}
+use Rattle.varisat_solver.specs.declared.solver.SolverError.TheVariants.{Interrupted, ProofIoError, OutOfMemory, Invalid, ClauseStoreFull, WitnessVar, VariableLimit, AssumedVar, ClauseAfterSolve, ProofOpen, ProofTooLate, ConfigOutOfRange, Dimacs}
+use Rattle.varisat_solver.proofs.OpenProofs.{goes-on-none, goes-on-through, plain-bytes}
+use Rattle.varisat_solver.specs.Calls as state
+use Rattle.varisat_solver.specs.Additions as additions
 use Rattle.varisat.specs.Decided as conclusion
 
 -- Which clauses of a text are accepted: the first ones, and all but where these are known to be unsatisfiable.

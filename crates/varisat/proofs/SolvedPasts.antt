@@ -5,18 +5,18 @@ use Rattle.varisat_theory.specs.Membership.{◌⊆◌}
 use Rattle.varisat_theory.specs.Literals.{Literal, SatisfiesAll, MakesTrue, IsSatisfiable, IsSatisfiableWith}
 use Rattle.varisat_proof.specs.Passing.{ToldConflict}
 use Rattle.varisat_proof.specs.Assumed.{lists_of}
-use Rattle.varisat.specs.States.{State, Ledger, Verdict, Unknown, Sat, Unsat, UnsatUnderAssumptions, IsRight}
-use Rattle.varisat.specs.Journals.{retold, AreDerived, EndBy}
-use Rattle.varisat.specs.Calls.{calling, CountsIf, Decided, Searched, TellsVerdict, IsSpent, FailsStep, Solves, with_steps, with_verdict, once_searched, answer_of}
+use Rattle.varisat_solver.specs.States.{State, Ledger, Verdict, Unknown, Sat, Unsat, UnsatUnderAssumptions, IsRight}
+use Rattle.varisat_solver.specs.Journals.{retold, AreDerived, EndBy}
+use Rattle.varisat_solver.specs.Calls.{calling, CountsIf, Decided, Searched, TellsVerdict, IsSpent, FailsStep, Solves, with_steps, with_verdict, once_searched, answer_of}
 use Rattle.varisat.specs.Pasts as past
 use Rattle.varisat.specs.Pasts.{Findings, IsAnswer, TellsFalse, telling}
-use Rattle.varisat.specs.declared.solver.SolverError.{SolverError}
-use Rattle.varisat.specs.declared.solver.SolverError.TheVariants.{Interrupted, ProofIoError, OutOfMemory, Invalid, ClauseStoreFull}
-use Rattle.varisat.proofs.StepEntries.{goes-adding}
-use Rattle.varisat.proofs.CallStates.{same-assumptions, same-clauses, same-counted, same-ledger, same-naming, same-verdict}
-use Rattle.varisat.proofs.SearchVerdicts.{is-unknown-or-not, answer-sat, right-false}
+use Rattle.varisat_solver.specs.declared.solver.SolverError.{SolverError}
+use Rattle.varisat_solver.specs.declared.solver.SolverError.TheVariants.{Interrupted, ProofIoError, OutOfMemory, Invalid, ClauseStoreFull}
+use Rattle.varisat_solver.proofs.StepEntries.{goes-adding}
+use Rattle.varisat_solver.proofs.CallStates.{same-assumptions, same-clauses, same-counted, same-ledger, same-naming, same-verdict}
+use Rattle.varisat_solver.proofs.SearchVerdicts.{is-unknown-or-not, answer-sat, right-false}
 use Rattle.varisat.proofs.PastJournals.{told-more, told-interrupted, nothing-said}
-use Rattle.varisat.proofs.ToldEntries.{lists-derived, lists-ended, lists-on}
+use Rattle.varisat_solver.proofs.ToldEntries.{lists-derived, lists-ended, lists-on}
 use Rattle.varisat.proofs.Pasts.{IsCapped, Knows, Agrees, Leads, past_of, like-past, broken-past, breaks, stays, refuted, right-like}
 
 -- the findings once the answer was returned

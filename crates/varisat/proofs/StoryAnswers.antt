@@ -9,33 +9,33 @@ use Rattle.varisat_formula.specs.declared.dimacs.error.DimacsError.{DimacsError}
 use Rattle.varisat_formula.specs.Streams.{Stand, Taken}
 use Rattle.varisat_proof.specs.declared.proof.format.ProofFormat.{ProofFormat}
 use Rattle.varisat_names.specs.declared.config.SolverConfigUpdate.{SolverConfigUpdate}
-use Rattle.varisat.specs.OpenProofs.{OpenProof, BarsAssumptions}
-use Rattle.varisat.specs.Journals.{retold}
-use Rattle.varisat.specs.ProofCalls.{OpensProof, EnablesChecking, Closes}
-use Rattle.varisat.specs.States.{State, Ledger, Verdict, Unsat, IsRight, HasRightVerdict, join_counted}
-use Rattle.varisat.specs.Models.{IsCompletable, IsCoreToTell}
-use Rattle.varisat.specs.Names.{Naming, Mode, Sample, Witness, name_one, name_all, through_names, set_mode, free_name, IsLeastFree, AreShown}
-use Rattle.varisat.specs.Additions as additions
-use Rattle.varisat.specs.Additions.{AllAdded, OneRefused, RefusedAtOnce, NoFault, MemoryFault, Fault, ClauseRefused, ClausesAdded, RefusedEarly, Read, Unread}
-use Rattle.varisat.specs.Calls as state
-use Rattle.varisat.specs.Calls.{is_valid, IsValid, Invalidates, IsRefusedInvalid, IsLikeButLeft, Ignored, Accepted, TakesClause, TakesOne, TakesList, TellsList, RefusesNames, TellsVerdict, IsSpent, Solves, VerdictAfter, answer_of, calling}
-use Rattle.varisat.specs.Usage as usage
-use Rattle.varisat.specs.Told.{told_list, told_vars}
+use Rattle.varisat_solver.specs.OpenProofs.{OpenProof, BarsAssumptions}
+use Rattle.varisat_solver.specs.Journals.{retold}
+use Rattle.varisat_solver.specs.ProofCalls.{OpensProof, EnablesChecking, Closes}
+use Rattle.varisat_solver.specs.States.{State, Ledger, Verdict, Unsat, IsRight, HasRightVerdict, join_counted}
+use Rattle.varisat_solver.specs.Models.{IsCompletable, IsCoreToTell}
+use Rattle.varisat_solver.specs.Names.{Naming, Mode, Sample, Witness, name_one, name_all, through_names, set_mode, free_name, IsLeastFree, AreShown}
+use Rattle.varisat_solver.specs.Additions as additions
+use Rattle.varisat_solver.specs.Additions.{AllAdded, OneRefused, RefusedAtOnce, NoFault, MemoryFault, Fault, ClauseRefused, ClausesAdded, RefusedEarly, Read, Unread}
+use Rattle.varisat_solver.specs.Calls as state
+use Rattle.varisat_solver.specs.Calls.{is_valid, IsValid, Invalidates, IsRefusedInvalid, IsLikeButLeft, Ignored, Accepted, TakesClause, TakesOne, TakesList, TellsList, RefusesNames, TellsVerdict, IsSpent, Solves, VerdictAfter, answer_of, calling}
+use Rattle.varisat_solver.specs.Usage as usage
+use Rattle.varisat_solver.specs.Told.{told_list, told_vars}
 use Rattle.varisat.specs.Turns.{Makes}
-use Rattle.varisat.specs.Summaries.{Summary, StandsFor}
+use Rattle.varisat_solver.specs.Summaries.{Summary, StandsFor}
 use Rattle.varisat.specs.Runs.{Run, found_in, story_now}
 use Rattle.varisat.specs.Answers.{Story, with_names, reopened, with_clause, with_assumptions, ended, IsRefused, Outcome, Accepts, Joined, PassedOver, AcceptsAll, EndsText, AcceptsText, ToItsEnd, ToARefusal, IfValid, IsTrueAnswer, IsTrueModel, IsTrueCore, IsAnswered, AreAnswered}
 use Rattle.varisat.specs.declared.session.Call.{Call}
 use Rattle.varisat.specs.declared.session.Answer.{Answer}
 use Rattle.varisat.specs.declared.session.Call.TheVariants as call
 use Rattle.varisat.specs.declared.session.Answer.TheVariants as answer
-use Rattle.varisat.specs.declared.solver.SolverError.{SolverError}
-use Rattle.varisat.specs.declared.solver.SolverError.TheVariants.{Interrupted, ProofIoError, OutOfMemory, Invalid, ClauseStoreFull, WitnessVar, VariableLimit, AssumedVar, ClauseAfterSolve, ProofOpen, ProofTooLate, ConfigOutOfRange}
-use Rattle.varisat.proofs.CallStates.{same-counted, same-ledger, same-naming}
-use Rattle.varisat.proofs.Counted.{join-only}
-use Rattle.varisat.proofs.ModelsFit.{completable}
+use Rattle.varisat_solver.specs.declared.solver.SolverError.{SolverError}
+use Rattle.varisat_solver.specs.declared.solver.SolverError.TheVariants.{Interrupted, ProofIoError, OutOfMemory, Invalid, ClauseStoreFull, WitnessVar, VariableLimit, AssumedVar, ClauseAfterSolve, ProofOpen, ProofTooLate, ConfigOutOfRange}
+use Rattle.varisat_solver.proofs.CallStates.{same-counted, same-ledger, same-naming}
+use Rattle.varisat_solver.proofs.Counted.{join-only}
+use Rattle.varisat_solver.proofs.ModelsFit.{completable}
 use Rattle.varisat.proofs.Pasts.{IsCapped, capped-one, capped-all, capped-freed, capped-shown, model-sat, no-model}
-use Rattle.varisat.proofs.SearchVerdicts.{told-fails, no-core, reopened-false, right-reopened, right-assumed}
+use Rattle.varisat_solver.proofs.SearchVerdicts.{told-fails, no-core, reopened-false, right-reopened, right-assumed}
 use Rattle.varisat.proofs.SolvedPasts.{some-with, none-with}
 
 -- 1. The story of a state.

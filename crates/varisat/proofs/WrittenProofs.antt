@@ -5,16 +5,16 @@ use Rattle.varisat_theory.specs.Literals.{Literal, Clause}
 use Rattle.varisat_theory.specs.Propagation.{Conflicts}
 use Rattle.varisat_theory.specs.Journals.{Fails, Leads, Entry, rename_entry, Accepts, Writes, Assumes, Leaves, lines_of}
 use Rattle.varisat_theory.proofs.Journals.{leads_cut, by_leads}
-use Rattle.varisat.specs.Calls.{TellsVerdict, calling, IsRefuted}
+use Rattle.varisat_solver.specs.Calls.{TellsVerdict, calling, IsRefuted}
 use Rattle.varisat_proof.specs.declared.proof.format.ProofFormat.TheVariants.{Marked, Drat, BinaryDrat}
 use Rattle.varisat_proof.specs.Lines.{line_of_kind, ProofLine, encoding_of, plain_lines, plain_encoding, has_marks}
 use Rattle.varisat_proof.specs.Written.{line_text, Written, AreInRange}
 use Rattle.varisat_proof.specs.Telling.{bytes_told, lines_told}
 use Rattle.varisat_tracer.specs.Carried.{carry}
-use Rattle.varisat.specs.OpenProofs.{entries_over, lines_over}
-use Rattle.varisat.specs.Journals.{TellsMore, EndWithCore, EndBy}
-use Rattle.varisat.proofs.OpenProofs.{bytes-more, lines-renamed}
-use Rattle.varisat.specs.States.{State, Unknown, UnsatUnderAssumptions}
+use Rattle.varisat_solver.specs.OpenProofs.{entries_over, lines_over}
+use Rattle.varisat_solver.specs.Journals.{TellsMore, EndWithCore, EndBy}
+use Rattle.varisat_solver.proofs.OpenProofs.{bytes-more, lines-renamed}
+use Rattle.varisat_solver.specs.States.{State, Unknown, UnsatUnderAssumptions}
 use Rattle.varisat_theory.specs.Membership.{◌∈◌}
 use Rattle.varisat_theory.specs.Derivations.{IsDerivation}
 use Rattle.varisat_proof.specs.declared.proof.format.Encoding.TheVariants.{Text}

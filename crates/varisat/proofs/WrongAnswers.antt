@@ -8,11 +8,11 @@ use Rattle.varisat_formula.specs.Dimacs.{Reading, dimacs}
 use Rattle.varisat_formula.proofs.ParsedSources.{GivesWhole, gives_whole}
 use Rattle.varisat.specs.Answers.{Story, empty_story, with_names, with_clause, with_assumptions, Accepts, Joined, PassedOver, AcceptsAll, ToItsEnd, ToARefusal, EndsText, IsTrueModel, IsTrueCore}
 use Rattle.varisat_formula.specs.declared.dimacs.error.DimacsError.{DimacsError}
-use Rattle.varisat.specs.Names.{name_one, free_name}
+use Rattle.varisat_solver.specs.Names.{name_one, free_name}
 use Rattle.varisat.specs.WrongAnswers.{Literals, FitNoStory, WrongAnswersFitNoStory}
 use Rattle.varisat.specs.declared.session.Call.TheVariants as call
 use Rattle.varisat.specs.declared.session.Answer.TheVariants as answer
-use Rattle.varisat.specs.declared.solver.SolverError.TheVariants.{OutOfMemory, Dimacs}
+use Rattle.varisat_solver.specs.declared.solver.SolverError.TheVariants.{OutOfMemory, Dimacs}
 
 -- what an assignment makes of three literals
 at-zero : (a : Assignment) → value a 0 ≡ a 0

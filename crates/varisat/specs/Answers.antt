@@ -8,11 +8,11 @@ use Rattle.varisat_formula.specs.Dimacs.{Reading}
 use Rattle.varisat_formula.specs.Streams.{Stand}
 use Rattle.varisat_formula.specs.Parsed.{GivesReading}
 use Rattle.varisat_formula.specs.TakenTexts.{GivesFirst}
-use Rattle.varisat.specs.Names.{Naming, Sample, Witness, no_names, name_one, name_all, through_names, set_mode, free_name, IsLeastFree, AreShown}
-use Rattle.varisat.specs.Models.{IsCompletable, AreNamesInUse}
-use Rattle.varisat.specs.Told.{told_list}
-use Rattle.varisat.specs.declared.solver.SolverError.{SolverError}
-use Rattle.varisat.specs.declared.solver.SolverError.TheVariants.{OutOfMemory, Invalid, ClauseStoreFull, ProofIoError, Dimacs}
+use Rattle.varisat_solver.specs.Names.{Naming, Sample, Witness, no_names, name_one, name_all, through_names, set_mode, free_name, IsLeastFree, AreShown}
+use Rattle.varisat_solver.specs.Models.{IsCompletable, AreNamesInUse}
+use Rattle.varisat_solver.specs.Told.{told_list}
+use Rattle.varisat_solver.specs.declared.solver.SolverError.{SolverError}
+use Rattle.varisat_solver.specs.declared.solver.SolverError.TheVariants.{OutOfMemory, Invalid, ClauseStoreFull, ProofIoError, Dimacs}
 use Rattle.varisat.specs.declared.session.Call.{Call}
 use Rattle.varisat.specs.declared.session.Answer.{Answer}
 use Rattle.varisat.specs.declared.session.Call.TheVariants as call

@@ -6,8 +6,8 @@ use Rattle.varisat_theory.specs.Literals.{Literal, Clause, Assignment, variable_
 use Rattle.varisat_formula.specs.Dimacs.{dimacs}
 use Rattle.varisat_formula.specs.Streams.{Stand, Reads, HasEnded}
 use Rattle.varisat_proof.specs.Verified.{fault_status}
-use Rattle.varisat.specs.States.{join_counted}
-use Rattle.varisat.specs.Models.{IsRising}
+use Rattle.varisat_solver.specs.States.{join_counted}
+use Rattle.varisat_solver.specs.Models.{IsRising}
 use Rattle.varisat.specs.declared.deciding.Report.{Report}
 use Rattle.varisat.specs.declared.deciding.Report.TheVariants as report
 use Rattle.varisat.specs.Lines.{literals_text}

@@ -22,17 +22,17 @@ use Rattle.varisat_proof.specs.Telling.{bytes_told}
 use Rattle.varisat_proof.specs.Marked.{nothing_told, ProofState, state_of, IsCheckOf}
 use Rattle.varisat_proof.specs.Passing.{PassesWith}
 use Rattle.varisat_tracer.specs.Carried.{carry}
-use Rattle.varisat.specs.OpenProofs.{OpenProof, entries_over}
+use Rattle.varisat_solver.specs.OpenProofs.{OpenProof, entries_over}
 use Rattle.varisat.specs.Decided.{Conclusion}
 use Rattle.varisat.specs.Proven.{IsProven}
-use Rattle.varisat.specs.Journals.{TellsMore, EndWithCore}
-use Rattle.varisat.specs.StepEntries.{LeadsInSteps}
-use Rattle.varisat.specs.Names.{Naming, no_names, name_one, name_all, through_names, IsLeastFree, AreInOrder}
-use Rattle.varisat.specs.Models.{AreNamesInUse}
-use Rattle.varisat.specs.ProofCalls.{IsProof}
-use Rattle.varisat.specs.Calls.{IsPastLimit, IsCrowded, TellsVerdict, IsRefuted, accept, assume, calling}
+use Rattle.varisat_solver.specs.Journals.{TellsMore, EndWithCore}
+use Rattle.varisat_solver.specs.StepEntries.{LeadsInSteps}
+use Rattle.varisat_solver.specs.Names.{Naming, no_names, name_one, name_all, through_names, IsLeastFree, AreInOrder}
+use Rattle.varisat_solver.specs.Models.{AreNamesInUse}
+use Rattle.varisat_solver.specs.ProofCalls.{IsProof}
+use Rattle.varisat_solver.specs.Calls.{IsPastLimit, IsCrowded, TellsVerdict, IsRefuted, accept, assume, calling}
 use Rattle.varisat.specs.Counts.{count_with}
-use Rattle.varisat.specs.States.{State, Unknown, UnsatUnderAssumptions}
+use Rattle.varisat_solver.specs.States.{State, Unknown, UnsatUnderAssumptions}
 use Rattle.varisat.specs.Pasts.{Findings, Past, IsPastJournal, telling}
 
 -- Before the first call names are in order. They stay so where those of a list of literals come into use, and where the least

@@ -9,14 +9,14 @@ use Rattle.varisat_proof.specs.declared.proof.format.ProofFormat.TheVariants.{Dr
 use Rattle.varisat_names.specs.declared.config.ConfigField.{ConfigField}
 use Rattle.varisat_names.specs.declared.config.SolverConfigUpdate.{SolverConfigUpdate}
 use Rattle.varisat_names.specs.Settings.{field_text, update_of}
-use Rattle.varisat.specs.Refusals.{refusal_number}
-use Rattle.varisat.specs.Told.{told_list, told_vars}
+use Rattle.varisat_solver.specs.Refusals.{refusal_number}
+use Rattle.varisat_solver.specs.Told.{told_list, told_vars}
 use Rattle.varisat.specs.declared.session.Call.{Call}
 use Rattle.varisat.specs.declared.session.Call.TheVariants as call
 use Rattle.varisat.specs.declared.session.Answer.{Answer}
 use Rattle.varisat.specs.declared.session.Answer.TheVariants as answer
-use Rattle.varisat.specs.declared.solver.SolverError.{SolverError}
-use Rattle.varisat.specs.declared.solver.SolverError.TheVariants.{OutOfMemory}
+use Rattle.varisat_solver.specs.declared.solver.SolverError.{SolverError}
+use Rattle.varisat_solver.specs.declared.solver.SolverError.TheVariants.{OutOfMemory}
 
 -- a command, by its call; a literal is its code, a variable its index, and an update changes one setting
 pub data Command : Type 0 where

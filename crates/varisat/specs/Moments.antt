@@ -2,8 +2,8 @@
 use Rattle.std.specs.Prelude.{ℕ, List, length, take}
 use Rattle.varisat_theory.specs.CallBounds.{AreFew}
 use Rattle.varisat_formula.specs.Streams.{Stand, Taken}
-use Rattle.varisat.specs.States.{Known}
-use Rattle.varisat.specs.Calls.{IsValid, Verdicts}
+use Rattle.varisat_solver.specs.States.{Known}
+use Rattle.varisat_solver.specs.Calls.{IsValid, Verdicts}
 use Rattle.varisat.specs.Turns.{MakesInTurn}
 use Rattle.varisat.specs.declared.session.Call.{Call}
 use Rattle.varisat.specs.declared.session.Answer.{Answer}

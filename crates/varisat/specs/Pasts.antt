@@ -9,12 +9,12 @@ use Rattle.varisat_proof.specs.Assumed.{lists_of, assumed_behind, CoresAreAssume
 use Rattle.varisat_proof.specs.Passing.{ToldConflict}
 use Rattle.varisat_proof.specs.Telling.{lines_told}
 use Rattle.varisat_proof.specs.Written.{AreInRange}
-use Rattle.varisat.specs.Names.{through_names}
-use Rattle.varisat.specs.OpenProofs.{entries_over}
-use Rattle.varisat.specs.States.{Known, first_known}
-use Rattle.varisat.specs.Journals.{IsToldWithin, AreDerived, EndWithCore}
-use Rattle.varisat.specs.Models.{IsCompletable, AreNamesInUse}
-use Rattle.varisat.specs.Calls.{IsValid, Verdicts}
+use Rattle.varisat_solver.specs.Names.{through_names}
+use Rattle.varisat_solver.specs.OpenProofs.{entries_over}
+use Rattle.varisat_solver.specs.States.{Known, first_known}
+use Rattle.varisat_solver.specs.Journals.{IsToldWithin, AreDerived, EndWithCore}
+use Rattle.varisat_solver.specs.Models.{IsCompletable, AreNamesInUse}
+use Rattle.varisat_solver.specs.Calls.{IsValid, Verdicts}
 
 -- What answers say, in place of a verdict. `has_model`: `solve` returned true, and no clause was accepted and nothing assumed since.
 -- `has_core`: it returned false, and nothing was assumed since. `lists`: all lists of assumptions that were given, over identities, in

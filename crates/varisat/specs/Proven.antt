@@ -14,14 +14,14 @@ use Rattle.varisat_proof.specs.Telling.{lines_told, bytes_told}
 use Rattle.varisat_proof.specs.Steps.{lines_written}
 use Rattle.varisat_proof.specs.Written.{AreInRange}
 use Rattle.varisat_proof.specs.Verified.{fault_status, EndsPrinting}
-use Rattle.varisat.specs.OpenProofs.{first_proof}
-use Rattle.varisat.specs.ProofBytes.{IsMarkedDerivation}
-use Rattle.varisat.specs.ProofCalls.{with_proof, ClosesProof}
-use Rattle.varisat.specs.States.{State, new_state}
-use Rattle.varisat.specs.ClauseCalls.{AddsDimacs}
-use Rattle.varisat.specs.Calls.{Solves, TellsList, with_update, count_anew, calling}
-use Rattle.varisat.specs.declared.solver.SolverError.{SolverError}
-use Rattle.varisat.specs.declared.solver.SolverError.TheVariants.{Interrupted, OutOfMemory}
+use Rattle.varisat_solver.specs.OpenProofs.{first_proof}
+use Rattle.varisat_solver.specs.ProofBytes.{IsMarkedDerivation}
+use Rattle.varisat_solver.specs.ProofCalls.{with_proof, ClosesProof}
+use Rattle.varisat_solver.specs.States.{State, new_state}
+use Rattle.varisat_solver.specs.ClauseCalls.{AddsDimacs}
+use Rattle.varisat_solver.specs.Calls.{Solves, TellsList, with_update, count_anew, calling}
+use Rattle.varisat_solver.specs.declared.solver.SolverError.{SolverError}
+use Rattle.varisat_solver.specs.declared.solver.SolverError.TheVariants.{Interrupted, OutOfMemory}
 use Rattle.varisat.specs.declared.deciding.Report.{Report}
 use Rattle.varisat.specs.declared.deciding.SolveOptions.{SolveOptions}
 use Rattle.varisat.specs.Decided.{Conclusion, Decided, Unknown, concluded, allowed_steps, Decides, conclusion_text, conclusion_status}

@@ -1,9 +1,9 @@
 -- Runs: which answers a list of calls may get, and to which state it leads.
 use Rattle.std.specs.Prelude.{◌-◌, ◌^◌, ◌<◌, Bool, true, false, Option, None, List, [], ◌∷◌}
 use Rattle.varisat_formula.specs.Streams.{Stand, Taken}
-use Rattle.varisat.specs.States.{State, Verdict}
-use Rattle.varisat.specs.Journals.{IsJournal, IsToldWithin}
-use Rattle.varisat.specs.Calls.{IsValid, calling, answer_of}
+use Rattle.varisat_solver.specs.States.{State, Verdict}
+use Rattle.varisat_solver.specs.Journals.{IsJournal, IsToldWithin}
+use Rattle.varisat_solver.specs.Calls.{IsValid, calling, answer_of}
 use Rattle.varisat.specs.Answers.{Story}
 use Rattle.varisat.specs.Turns.{Makes, MakesInTurn}
 use Rattle.varisat.specs.declared.session.Call.{Call}

@@ -1,13 +1,13 @@
 -- Calls in turn with their answers, whatever is known of verdicts.
 use Rattle.std.specs.Prelude.{◌≡◌, List, [], ◌∷◌}
 use Rattle.varisat_formula.specs.Streams.{Stand, Taken}
-use Rattle.varisat.specs.States.{Known}
-use Rattle.varisat.specs.Names.{Sample, Witness}
-use Rattle.varisat.specs.Calls.{Verdicts, TakesOne, TakesList, MakesVar, Solves, TellsList, Configures, TellsSteps, TellsSince, TellsValid}
-use Rattle.varisat.specs.ProofCalls.{OpensProof, EnablesChecking, Closes}
-use Rattle.varisat.specs.Additions.{AddsList, AddsText}
-use Rattle.varisat.specs.Usage.{SetsMode, HidesVar, Observes}
-use Rattle.varisat.specs.Told.{told_list, told_vars}
+use Rattle.varisat_solver.specs.States.{Known}
+use Rattle.varisat_solver.specs.Names.{Sample, Witness}
+use Rattle.varisat_solver.specs.Calls.{Verdicts, TakesOne, TakesList, MakesVar, Solves, TellsList, Configures, TellsSteps, TellsSince, TellsValid}
+use Rattle.varisat_solver.specs.ProofCalls.{OpensProof, EnablesChecking, Closes}
+use Rattle.varisat_solver.specs.Additions.{AddsList, AddsText}
+use Rattle.varisat_solver.specs.Usage.{SetsMode, HidesVar, Observes}
+use Rattle.varisat_solver.specs.Told.{told_list, told_vars}
 use Rattle.varisat.specs.declared.session.Call.{Call}
 use Rattle.varisat.specs.declared.session.Answer.{Answer}
 use Rattle.varisat.specs.declared.session.Call.TheVariants as call

@@ -8,7 +8,7 @@ use Rattle.varisat.specs.declared.session.Call.{Call}
 use Rattle.varisat.specs.declared.session.Answer.{Answer}
 use Rattle.varisat.specs.declared.session.Call.TheVariants as call
 use Rattle.varisat.specs.declared.session.Answer.TheVariants as answer
-use Rattle.varisat.specs.declared.solver.SolverError.TheVariants.{OutOfMemory}
+use Rattle.varisat_solver.specs.declared.solver.SolverError.TheVariants.{OutOfMemory}
 
 -- a list of literals; a call, and an answer, where a source is what is seen of it
 abbrev pub Literals : Type 0

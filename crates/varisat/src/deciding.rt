@@ -1,14 +1,12 @@
 //! How a text is decided: by a new solver, which may write a proof.
 ghost use Rattle.std.specs.Prelude.{◌≡◌, ◌-◌, ◌^◌, ◌<◌, true, Ok, Err, IfOk, IfErr, IsSome};
 ghost use Rattle.varisat_proof.specs.Proving.{IsClosed};
-ghost use Rattle.varisat.specs.States.{State, new_state};
-ghost use Rattle.varisat.specs.Summaries.{StandsFor};
-ghost use Rattle.varisat.specs.ProofCalls.{ClosesProof};
+ghost use Rattle.varisat_solver.specs.States.{State, new_state};
+ghost use Rattle.varisat_solver.specs.Summaries.{StandsFor};
+ghost use Rattle.varisat_solver.specs.ProofCalls.{ClosesProof};
 ghost use Rattle.varisat.specs.Decided.{concluded};
 ghost use Rattle.varisat.specs.Proven.{CanCountFault, prepared, Reports, DecidesBy, FailsBy};
 
-use crate::rounds::search;
-use crate::solver::{Solver, SolverError};
 use std::alloc::Allocator;
 use std::io::Write;
 use std::mem::forget;
@@ -16,6 +14,8 @@ use varisat_formula::io::{ByteSource, ProofTarget};
 use varisat_literals::Lit;
 use varisat_names::config::SolverConfigUpdate;
 use varisat_proof::proof::ProofFormat;
+use varisat_solver::rounds::search;
+use varisat_solver::solver::{Solver, SolverError};
 
 // The settings by which a file is decided. Those of a new solver, 15000 and 128, are the crate's; with these a search took
 // between half and three quarters of the time over forty formulas.

@@ -1,20 +1,11 @@
 //! A SAT solver that is called again and again on one growing formula.
 #![tactic(auto)]
 
-mod accept;
-mod carrying;
 pub mod deciding;
-mod dropping;
 pub mod laws;
 pub mod line;
-mod name_checks;
 pub mod program;
-mod progress;
-mod rounds;
 pub mod session;
-pub mod solver;
-mod solving;
-mod usage;
 
 /// The clauses of two literals.
 pub mod binary {
@@ -88,10 +79,10 @@ pub mod variables {
     };
 }
 
-pub use solver::Solver;
 pub use varisat_formula::formula::{CnfFormula, ExtendFormula};
 pub use varisat_formula::{cnf, cnf_formula, dimacs, formula, io};
 pub use varisat_literals::{Lit, Var, lit, lits, var};
 pub use varisat_names::config;
 pub use varisat_proof::proof::ProofFormat;
 pub use varisat_proof::{checker, proof};
+pub use varisat_solver::{Solver, solver};

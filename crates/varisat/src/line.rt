@@ -5,10 +5,9 @@ ghost use Rattle.std.specs.Io.KnownBytes.{Appends};
 ghost use Rattle.varisat_theory.specs.Literals.{Literal};
 ghost use Rattle.varisat_literals.specs.Numbers.{literal_text, variable_text};
 ghost use Rattle.varisat.specs.Lines.{Command, Add, Assume, Config, words, MeansCommand, BeginsList, MeansUpdate, MeansOneCommand, AsksFor, SetsUsage, Opens, words_of, literals_text, variables_text, names_text, refusal_text, done_text, list_text, made_text, solved_text, truth_text, count_text, hex_digit, hex_text, bytes_text, opened_text, closed_text, answer_text};
-ghost use Rattle.varisat.specs.Told.{told_list, told_vars};
+ghost use Rattle.varisat_solver.specs.Told.{told_list, told_vars};
 
 use crate::session::{Answer, Call};
-use crate::solver::SolverError;
 use itoa::Buffer;
 use std::alloc::{AllocError, Allocator};
 use std::io::{self, Write};
@@ -17,6 +16,7 @@ use varisat_formula::io::{ByteSource, MemoryTarget};
 use varisat_literals::{Lit, Var};
 use varisat_names::config::{ConfigField, SolverConfigUpdate};
 use varisat_proof::proof::ProofFormat;
+use varisat_solver::solver::SolverError;
 
 // The highest number of a variable.
 const MAX_NUMBER: u64 = 0x8000_0000;

@@ -11,7 +11,6 @@ use crate::deciding::decide_text;
 pub use crate::deciding::{Report, SolveOptions};
 use crate::line::{parse_line, write_answer};
 use crate::session::make_call;
-use crate::solver::{Solver, SolverError};
 use itoa::Buffer;
 use std::alloc::Allocator;
 use std::fmt::Display;
@@ -20,6 +19,7 @@ use varisat_formula::io::{ByteSource, MemoryTarget, ProofTarget, ReadSource};
 use varisat_literals::Lit;
 use varisat_proof::program::print_text;
 pub use varisat_proof::program::{STATUS_FAULT, check_drat_lines, check_lines};
+use varisat_solver::solver::{Solver, SolverError};
 
 /// The status of a command that came to its end.
 pub const STATUS_DONE: u8 = 0;

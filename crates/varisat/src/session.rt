@@ -1,21 +1,21 @@
 //! Any list of calls of a solver.
 ghost use Rattle.std.specs.Prelude.{◌≡◌, [], IfOk, OnErr};
-ghost use Rattle.varisat.specs.States.{State, empty_state};
-ghost use Rattle.varisat.specs.Summaries.{StandsFor, StandsOnce};
+ghost use Rattle.varisat_solver.specs.States.{State, empty_state};
+ghost use Rattle.varisat_solver.specs.Summaries.{StandsFor, StandsOnce};
 ghost use Rattle.varisat.specs.Runs.{MakesCall, Run, HasToldRight, MayStillFail, AreReady, story_now};
-ghost use Rattle.varisat.specs.Calls.{calling};
+ghost use Rattle.varisat_solver.specs.Calls.{calling};
 ghost use Rattle.varisat.specs.Pasts.{empty_past, telling};
 ghost use Rattle.varisat.specs.Histories.{AreTrue};
 ghost use Rattle.varisat.specs.Answers.{AreAnswered, empty_story};
 ghost use Rattle.varisat.specs.Moments.{HasFewSteps, HasFewStepsAlong};
 
-use crate::solver::{Solver, SolverError};
 use std::alloc::{AllocError, Allocator};
 use varisat_formula::formula::CnfFormula;
 use varisat_formula::io::{ByteSource, ProofTarget};
 use varisat_literals::{Lit, Var};
 use varisat_names::config::SolverConfigUpdate;
 use varisat_proof::proof::ProofFormat;
+use varisat_solver::solver::{Solver, SolverError};
 
 /// A call of a solver, with what it is given: a text by its source, and a proof by its target.
 #[derive(Drop)]

@@ -8,19 +8,19 @@ use Rattle.varisat_theory.proofs.Count.{length-distinct}
 use Rattle.varisat_theory.proofs.Members.{∈-append_left, ∈-append_right, ∈-append_cases}
 use Rattle.varisat_theory.proofs.Values.{parity, not_both, true_or_opposite}
 use Rattle.varisat_literals.specs.Numbers.{variable_limit}
-use Rattle.varisat.specs.States.{State, join_counted, Verdict, Unsat, IsRight}
-use Rattle.varisat.specs.Names.{Naming, name_all, through_names, AreInOrder}
-use Rattle.varisat.specs.Models.{IsCompletable, AreNamesInUse}
+use Rattle.varisat_solver.specs.States.{State, join_counted, Verdict, Unsat, IsRight}
+use Rattle.varisat_solver.specs.Names.{Naming, name_all, through_names, AreInOrder}
+use Rattle.varisat_solver.specs.Models.{IsCompletable, AreNamesInUse}
 use Rattle.varisat.specs.Counts.{count_with}
-use Rattle.varisat.specs.Calls.{IsPastLimit, IsCrowded, AddsClause, Ignored, Accepted, VerdictAfter, Refuted, Reopened, Assumes, Solves, Configures, CountsIf, Decided, Searched, once_searched, calling}
+use Rattle.varisat_solver.specs.Calls.{IsPastLimit, IsCrowded, AddsClause, Ignored, Accepted, VerdictAfter, Refuted, Reopened, Assumes, Solves, Configures, CountsIf, Decided, Searched, once_searched, calling}
 use Rattle.varisat_names.specs.declared.config.SolverConfigUpdate.{SolverConfigUpdate}
-use Rattle.varisat.specs.declared.solver.SolverError.TheVariants.{Interrupted}
-use Rattle.varisat.specs.Budgets.{CountsSteps}
-use Rattle.varisat.specs.declared.solver.SolverError.{SolverError}
-use Rattle.varisat.proofs.CallStates.{same-assumptions, same-clauses, same-counted, same-ledger, same-naming, same-verdict}
+use Rattle.varisat_solver.specs.declared.solver.SolverError.TheVariants.{Interrupted}
+use Rattle.varisat_solver.specs.Budgets.{CountsSteps}
+use Rattle.varisat_solver.specs.declared.solver.SolverError.{SolverError}
+use Rattle.varisat_solver.proofs.CallStates.{same-assumptions, same-clauses, same-counted, same-ledger, same-naming, same-verdict}
 use Rattle.varisat.proofs.NameLaws.{stay-in-order, count-above, count-within, names-are-identities, crowded-is-past-limit}
-use Rattle.varisat.proofs.Counted.{join-more, join-has, join-only, join-once}
-use Rattle.varisat.proofs.SearchVerdicts.{reopened-not-unsat, assumed-unsat}
+use Rattle.varisat_solver.proofs.Counted.{join-more, join-has, join-only, join-once}
+use Rattle.varisat_solver.proofs.SearchVerdicts.{reopened-not-unsat, assumed-unsat}
 use Rattle.varisat_client.specs.Pasts.{IsFoundModel}
 use Rattle.varisat_client.specs.Clients.{WasGiven, CountsAmong}
 

@@ -9,14 +9,14 @@ use Rattle.varisat_names.specs.Settings.{update_of, first_bad}
 use Rattle.varisat_names.proofs.Maps.{is_none-none}
 use Rattle.varisat_names.specs.declared.config.SolverConfigUpdate.{SolverConfigUpdate}
 use Rattle.varisat_names.specs.declared.config.ConfigField.TheVariants.{MaxSteps}
-use Rattle.varisat.specs.States.{State}
-use Rattle.varisat.proofs.CallStates.{same-counted}
+use Rattle.varisat_solver.specs.States.{State}
+use Rattle.varisat_solver.proofs.CallStates.{same-counted}
 use Rattle.varisat.specs.Proven.{configured}
 use Rattle.varisat.proofs.NameLaws.{none-in-order}
-use Rattle.varisat.specs.Calls.{AddsClause, Assumes, Solves, Configures, calling}
-use Rattle.varisat.specs.declared.solver.SolverError.{SolverError}
-use Rattle.varisat.specs.declared.solver.SolverError.TheVariants as error
-use Rattle.varisat.specs.Summaries.{Summary, StandsFor, HasFullStore}
+use Rattle.varisat_solver.specs.Calls.{AddsClause, Assumes, Solves, Configures, calling}
+use Rattle.varisat_solver.specs.declared.solver.SolverError.{SolverError}
+use Rattle.varisat_solver.specs.declared.solver.SolverError.TheVariants as error
+use Rattle.varisat_solver.specs.Summaries.{Summary, StandsFor, HasFullStore}
 use Rattle.varisat_client.specs.declared.client.SearchEnd.{SearchEnd}
 use Rattle.varisat_client.specs.declared.client.SearchEnd.TheVariants as end
 use Rattle.varisat_client.specs.declared.refusal.Refusal.{Refusal}

@@ -3,10 +3,10 @@ use Rattle.std.proofs.Common.{◌≡◌, ◌⊎◌, inl, inr, ⊎_elim, ℕ, Boo
 use Rattle.varisat_theory.specs.Literals.{Literal, Clause}
 use Rattle.varisat_names.specs.Settings.{first_bad}
 use Rattle.varisat_names.specs.declared.config.SolverConfigUpdate.{SolverConfigUpdate}
-use Rattle.varisat.specs.States.{State}
-use Rattle.varisat.specs.Calls.{IsPastLimit, AddsClause, Assumes, Solves, Configures, calling}
-use Rattle.varisat.specs.declared.solver.SolverError.{SolverError}
-use Rattle.varisat.specs.declared.solver.SolverError.TheVariants as error
+use Rattle.varisat_solver.specs.States.{State}
+use Rattle.varisat_solver.specs.Calls.{IsPastLimit, AddsClause, Assumes, Solves, Configures, calling}
+use Rattle.varisat_solver.specs.declared.solver.SolverError.{SolverError}
+use Rattle.varisat_solver.specs.declared.solver.SolverError.TheVariants as error
 use Rattle.varisat_client.specs.declared.refusal.Refusal.TheVariants.{OutOfMemory, VariableLimit, ClauseStoreFull}
 use Rattle.varisat_client.specs.Refusals.{refusal_for}
 use Rattle.varisat_client.specs.Pasts.{Past, refuse, Refuses, Memory, Limit, Full}

@@ -3,10 +3,10 @@ use Rattle.std.specs.Prelude.{◌≡◌, ℕ, ◌<◌, ◌≤◌, Bool, true, Op
 use Rattle.varisat_theory.specs.Membership.{◌∈◌, ◌⊆◌, IsDistinct}
 use Rattle.varisat_theory.specs.Literals.{Literal, Clause, variable_of, IsSatisfiable, IsFailedCore}
 use Rattle.varisat_literals.specs.Numbers.{variable_limit}
-use Rattle.varisat.specs.States.{State, Unsat}
-use Rattle.varisat.specs.Names.{through_names, AreInOrder}
-use Rattle.varisat.specs.Models.{IsCompletable, AreNamesInUse}
-use Rattle.varisat.specs.Summaries.{Summary, StandsFor, HasFullStore}
+use Rattle.varisat_solver.specs.States.{State, Unsat}
+use Rattle.varisat_solver.specs.Names.{through_names, AreInOrder}
+use Rattle.varisat_solver.specs.Models.{IsCompletable, AreNamesInUse}
+use Rattle.varisat_solver.specs.Summaries.{Summary, StandsFor, HasFullStore}
 use Rattle.varisat_client.specs.LiteralSets.{IsSetOf}
 use Rattle.varisat_client.specs.Pasts.{Past}
 use Rattle.varisat_client.specs.declared.client.SearchEnd.{SearchEnd}

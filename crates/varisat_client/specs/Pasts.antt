@@ -3,8 +3,8 @@ use Rattle.std.specs.Prelude.{◌≡◌, ◌≢◌, ◌⊎◌, ℕ, ◌+◌, ◌
 use Rattle.varisat_theory.specs.Membership.{◌∈◌, ◌⊆◌}
 use Rattle.varisat_theory.specs.Literals.{Literal, Clause, Assignment, variable_of, opposite, SatisfiesAll, MakesTrue, IsFailedCore}
 use Rattle.varisat_literals.specs.Numbers.{literal_numbered}
-use Rattle.varisat.specs.Calls.{IsPastLimit}
-use Rattle.varisat.specs.States.{join_counted}
+use Rattle.varisat_solver.specs.Calls.{IsPastLimit}
+use Rattle.varisat_solver.specs.States.{join_counted}
 use Rattle.varisat_client.specs.declared.client.SearchEnd.{SearchEnd}
 use Rattle.varisat_client.specs.declared.client.SearchEnd.TheVariants as end
 use Rattle.varisat_client.specs.declared.refusal.Refusal.{Refusal}

@@ -1,7 +1,7 @@
 //! A client of the solver that takes clauses and assumptions a literal at a time, and tells values one at a time.
 ghost use Rattle.std.specs.Prelude.{◌≡◌, ◌≢◌, ◌∷◌, [], ◌++◌, pos, OnOk, false, None};
 ghost use Rattle.varisat_literals.specs.Numbers.{literal_numbered};
-ghost use Rattle.varisat.specs.Summaries.{StandsFor};
+ghost use Rattle.varisat_solver.specs.Summaries.{StandsFor};
 ghost use Rattle.varisat.specs.Proven.{configured};
 
 use crate::literal_set::LitSet;

@@ -15,16 +15,16 @@ use Rattle.varisat_proof.specs.declared.proof.format.ProofFormat.{ProofFormat}
 use Rattle.varisat_proof.specs.Lines.{has_marks}
 use Rattle.varisat_proof.specs.Proving.{OpenState, IsClosed}
 use Rattle.varisat_simplify.specs.Simplified.{IsMadeOf}
-use Rattle.varisat.specs.States.{State}
-use Rattle.varisat.specs.Additions.{AddsAll, AllAdded, OneRefused, RefusedAtOnce, Read, ClausesAdded, NoFault}
-use Rattle.varisat.specs.Calls.{calling}
-use Rattle.varisat.specs.ClauseCalls.{AddsFormula, AddsDimacs}
-use Rattle.varisat.specs.OpenProofs.{opened_state}
-use Rattle.varisat.specs.ProofCalls.{IsProofIfOpen}
+use Rattle.varisat_solver.specs.States.{State}
+use Rattle.varisat_solver.specs.Additions.{AddsAll, AllAdded, OneRefused, RefusedAtOnce, Read, ClausesAdded, NoFault}
+use Rattle.varisat_solver.specs.Calls.{calling}
+use Rattle.varisat_solver.specs.ClauseCalls.{AddsFormula, AddsDimacs}
+use Rattle.varisat_solver.specs.OpenProofs.{opened_state}
+use Rattle.varisat_solver.specs.ProofCalls.{IsProofIfOpen}
 use Rattle.varisat.specs.Decided.{Conclusion, IsConclusion, allowed_steps}
 use Rattle.varisat.specs.Proven.{prepared, Concludes, Reports, IsProven, IsProvenIf, DecidesProven}
-use Rattle.varisat.specs.declared.solver.SolverError.{SolverError}
-use Rattle.varisat.specs.declared.solver.SolverError.TheVariants.{Interrupted, ProofIoError, OutOfMemory, Invalid, ClauseStoreFull, WitnessVar, VariableLimit, AssumedVar, ClauseAfterSolve, ProofOpen, ProofTooLate, ConfigOutOfRange, Dimacs}
+use Rattle.varisat_solver.specs.declared.solver.SolverError.{SolverError}
+use Rattle.varisat_solver.specs.declared.solver.SolverError.TheVariants.{Interrupted, ProofIoError, OutOfMemory, Invalid, ClauseStoreFull, WitnessVar, VariableLimit, AssumedVar, ClauseAfterSolve, ProofOpen, ProofTooLate, ConfigOutOfRange, Dimacs}
 use Rattle.varisat.proofs.ProgramProves.{proven}
 use Rattle.varisat_solve.specs.Extending.{named_count, conclusion_of_all}
 use Rattle.varisat_solve.specs.Solving.{TakesLead, AreLow, Concluded, FailsOver, AsSearched, AsListed}

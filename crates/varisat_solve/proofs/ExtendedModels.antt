@@ -11,10 +11,10 @@ use Rattle.varisat_simplify.specs.Stacks.{assignment_of, is_satisfied, with_true
 use Rattle.varisat_simplify.specs.Simplified.{IsMadeOf}
 use Rattle.varisat_simplify.proofs.ExtendLemmas.{stays_true}
 use Rattle.varisat_simplify.proofs.ExtendLemmas as extending
-use Rattle.varisat.specs.States.{join_counted}
-use Rattle.varisat.specs.Models.{IsRising}
+use Rattle.varisat_solver.specs.States.{join_counted}
+use Rattle.varisat_solver.specs.Models.{IsRising}
 use Rattle.varisat.specs.Decided.{IsUpToHighest, IsModel, named_variables, Conclusion, Decided, Unknown, IsConclusion}
-use Rattle.varisat.proofs.Counted.{join-more, join-has, join-only, join-once}
+use Rattle.varisat_solver.proofs.Counted.{join-more, join-has, join-only, join-once}
 use Rattle.varisat_solve.specs.Extending.{named_count, made_true, literals_from, model_of_all, conclusion_of_all}
 
 -- 1. Lists of values.

@@ -10,8 +10,8 @@ use Rattle.varisat_simplify.specs.Simplified.{IsMadeOf}
 use Rattle.varisat.specs.Decided.{Conclusion, Decided, IsConclusion, allowed_steps}
 use Rattle.varisat.specs.Proven.{DecidesBy}
 use Rattle.varisat.specs.declared.deciding.SolveOptions.{SolveOptions}
-use Rattle.varisat.specs.declared.solver.SolverError.{SolverError}
-use Rattle.varisat.specs.declared.solver.SolverError.TheVariants.{OutOfMemory}
+use Rattle.varisat_solver.specs.declared.solver.SolverError.{SolverError}
+use Rattle.varisat_solver.specs.declared.solver.SolverError.TheVariants.{OutOfMemory}
 use Rattle.varisat_solve.specs.Extending.{named_count, conclusion_of_all}
 use Rattle.varisat_solve.specs.Solving.{AreLow, Made, TakesLead, Concluded, FailsSimplified, AsExtended}
 use Rattle.varisat_solve.proofs.DecidedBehind.{parsed-low, made-low, decides-text}

@@ -15,15 +15,15 @@ use Rattle.varisat_proof.specs.Lines.{encoding_of, has_marks, plain_lines}
 use Rattle.varisat_proof.specs.Steps.{PutsLines}
 use Rattle.varisat_proof.specs.Verified.{fault_status}
 use Rattle.varisat_simplify.specs.Simplified.{IsMadeOf}
-use Rattle.varisat.specs.States.{State}
-use Rattle.varisat.specs.Calls.{Solves, calling}
-use Rattle.varisat.specs.ClauseCalls.{AddsFormula}
-use Rattle.varisat.specs.ProofCalls.{ClosesProof}
+use Rattle.varisat_solver.specs.States.{State}
+use Rattle.varisat_solver.specs.Calls.{Solves, calling}
+use Rattle.varisat_solver.specs.ClauseCalls.{AddsFormula}
+use Rattle.varisat_solver.specs.ProofCalls.{ClosesProof}
 use Rattle.varisat.specs.Decided.{Conclusion, IsConclusion, IsModel}
 use Rattle.varisat.specs.Proven.{prepared, Concludes, IsProvenIf, DecidesBy, FailsBy, Prints}
 use Rattle.varisat.specs.declared.deciding.SolveOptions.{SolveOptions}
-use Rattle.varisat.specs.declared.solver.SolverError.{SolverError}
-use Rattle.varisat.specs.declared.solver.SolverError.TheVariants.{Interrupted, OutOfMemory, ProofIoError, Dimacs}
+use Rattle.varisat_solver.specs.declared.solver.SolverError.{SolverError}
+use Rattle.varisat_solver.specs.declared.solver.SolverError.TheVariants.{Interrupted, OutOfMemory, ProofIoError, Dimacs}
 use Rattle.varisat_solve.specs.declared.deciding.ProgramOptions.{ProgramOptions}
 
 -- the refusal for a fault of a text: memory that ran out in the reader is told as in any call

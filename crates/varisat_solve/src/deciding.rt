@@ -2,8 +2,8 @@
 ghost use Rattle.std.specs.Prelude.{◌≡◌, ◌-◌, ◌^◌, ◌<◌, ◌≤◌, ℕ, List, length, true, false, Some, Ok, Err, IfOk, IfErr, IsSome};
 ghost use Rattle.varisat_proof.specs.Lines.{has_marks};
 ghost use Rattle.varisat_simplify.specs.Simplified.{IsMadeOf};
-ghost use Rattle.varisat.specs.States.{new_state};
-ghost use Rattle.varisat.specs.Summaries.{StandsFor};
+ghost use Rattle.varisat_solver.specs.States.{new_state};
+ghost use Rattle.varisat_solver.specs.Summaries.{StandsFor};
 ghost use Rattle.varisat.specs.Decided.{Decided, concluded, allowed_steps};
 ghost use Rattle.varisat.specs.Proven.{CanCountFault, prepared, DecidesBy};
 ghost use Rattle.varisat_solve.specs.Extending.{conclusion_of_all};

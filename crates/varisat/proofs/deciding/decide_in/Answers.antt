@@ -1,12 +1,12 @@
 -- The calls of a new solver, each from the state that the one before leads to.
 use Rattle.std.proofs.Common.{sym, ap, ◌∙◌, subst}
-use Rattle.varisat.specs.States.{Ledger}
-use Rattle.varisat.specs.Summaries.{StandsFor}
+use Rattle.varisat_solver.specs.States.{Ledger}
+use Rattle.varisat_solver.specs.Summaries.{StandsFor}
 use Rattle.varisat.specs.Decided.{concluded}
 use Rattle.varisat.specs.Proven.{prepared, Fails, AsRead, AsClosed}
 use Rattle.varisat_trace.proofs.Broken.{passed-on}
 use Rattle.varisat.proofs.ProgramProves.{fails-reported, finds-valid, proven}
-use Rattle.varisat.proofs.ToldJournals.{proof-of}
+use Rattle.varisat_solver.proofs.ToldJournals.{proof-of}
 use Rattle.varisat.proofs.deciding.decide_in.Goals as goal
 
 pub returns-in_err-add_dimacs_cnf-clause-fails : goal.returns-in_err-add_dimacs_cnf-clause-fails

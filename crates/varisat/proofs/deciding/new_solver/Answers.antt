@@ -1,7 +1,7 @@
 -- A new solver switches self checking on.
 use Rattle.std.proofs.Common.{◌∙◌, sym, ap, subst}
-use Rattle.varisat.specs.States.{State, empty_state, new_state}
-use Rattle.varisat.specs.Summaries.{StandsFor}
+use Rattle.varisat_solver.specs.States.{State, empty_state, new_state}
+use Rattle.varisat_solver.specs.Summaries.{StandsFor}
 use Rattle.varisat.proofs.ProgramDecides.{enables-new}
 use Rattle.varisat.proofs.deciding.new_solver.Goals as goal
 

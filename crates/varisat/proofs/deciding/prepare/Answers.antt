@@ -1,7 +1,7 @@
 -- A new solver refuses neither call.
 use Rattle.std.proofs.Common.{sym, ap, ◌∙◌, subst}
-use Rattle.varisat.specs.States.{State, new_state}
-use Rattle.varisat.specs.Summaries.{StandsFor}
+use Rattle.varisat_solver.specs.States.{State, new_state}
+use Rattle.varisat_solver.specs.Summaries.{StandsFor}
 use Rattle.varisat.specs.Proven.{prepared}
 use Rattle.varisat.proofs.ProgramDecides.{no-target, configures-new, opens-configured}
 use Rattle.varisat.proofs.deciding.prepare.Goals as goal

@@ -1,6 +1,6 @@
 use Rattle.std.proofs.Common.{ap, sym, ◌∙◌}
-use Rattle.varisat.specs.States.{Ledger, empty_state}
-use Rattle.varisat.proofs.ToldJournals.{journal-of}
+use Rattle.varisat_solver.specs.States.{Ledger, empty_state}
+use Rattle.varisat_solver.proofs.ToldJournals.{journal-of}
 use Rattle.varisat.proofs.RunsTold.{run-counts}
 use Rattle.varisat.proofs.Histories.{of-ok, run-is-true}
 use Rattle.varisat.proofs.FewSteps.{answers-stay-few}

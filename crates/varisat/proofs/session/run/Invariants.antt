@@ -1,8 +1,8 @@
 use Rattle.std.proofs.Common.{◌≡◌, ◌≤◌, ◌+◌, ◌++◌, length, vec_len}
 use Rattle.std.specs.Prelude.{vec_capacity}
 use Rattle.std.specs.Vec.Iter.{into_iter_items, into_iter_len}
-use Rattle.varisat.specs.States.{State}
-use Rattle.varisat.specs.Summaries.{StandsFor}
+use Rattle.varisat_solver.specs.States.{State}
+use Rattle.varisat_solver.specs.Summaries.{StandsFor}
 use Rattle.varisat.specs.Runs.{Run}
 use Rattle.varisat.proofs.session.run.Given as goal
 

@@ -2,9 +2,9 @@
 use Rattle.std.proofs.Common.{◌≡◌, Some, None, false, refl, subst}
 use Rattle.varisat_names.specs.Settings.{no_update}
 use Rattle.varisat_names.specs.declared.config.SolverConfigUpdate.{SolverConfigUpdate}
-use Rattle.varisat.specs.States.{State, empty_state}
-use Rattle.varisat.specs.Summaries.{StandsFor}
-use Rattle.varisat.specs.Calls.{Configures}
+use Rattle.varisat_solver.specs.States.{State, empty_state}
+use Rattle.varisat_solver.specs.Summaries.{StandsFor}
+use Rattle.varisat_solver.specs.Calls.{Configures}
 use Rattle.varisat.proofs.ProgramDecides.{configures-new}
 use Rattle.varisat_client.proofs.client.new_solver.Goals as goal
 

@@ -1,12 +1,12 @@
 -- The calls of a new solver, each from the state that the one before leads to.
 use Rattle.std.proofs.Common.{sym, ap, ◌∙◌, subst}
-use Rattle.varisat.specs.States.{State, Ledger}
-use Rattle.varisat.specs.Summaries.{StandsFor}
+use Rattle.varisat_solver.specs.States.{State, Ledger}
+use Rattle.varisat_solver.specs.Summaries.{StandsFor}
 use Rattle.varisat.specs.Decided.{concluded}
 use Rattle.varisat.specs.Proven.{prepared}
 use Rattle.varisat_trace.proofs.Broken.{passed-on}
 use Rattle.varisat.proofs.ProgramProves.{finds-valid}
-use Rattle.varisat.proofs.ToldJournals.{proof-of}
+use Rattle.varisat_solver.proofs.ToldJournals.{proof-of}
 use Rattle.varisat_solve.specs.Solving.{FailsOver, AsAdded, AsClosed}
 use Rattle.varisat_solve.proofs.DecidedBehind.{concluded-of, fails-reported}
 use Rattle.varisat_solve.proofs.deciding.decide_in.Goals as goal

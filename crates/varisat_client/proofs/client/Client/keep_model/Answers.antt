@@ -1,6 +1,6 @@
 use Rattle.std.proofs.Common.{List, Ok, refl, subst, ap}
 use Rattle.varisat_theory.specs.Literals.{Literal}
-use Rattle.varisat.specs.Told.{told_list}
+use Rattle.varisat_solver.specs.Told.{told_list}
 use Rattle.varisat_client.specs.LiteralSets.{IsSetOf}
 use Rattle.varisat_client.specs.Clients.{Kept}
 use Rattle.varisat_client.proofs.client.Client.keep_model.Goals as goal

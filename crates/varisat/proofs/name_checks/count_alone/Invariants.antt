@@ -1,8 +1,0 @@
-use Rattle.std.proofs.Common.{take}
-use Rattle.varisat.specs.Names.{name_all}
-use Rattle.varisat.specs.Accepting.{naming_of}
-use Rattle.varisat.proofs.NamesComing.{AreCounted}
-use Rattle.varisat.proofs.name_checks.count_alone.Given as goal
-
-abbrev pub invariant-loop-index : goal.invariant-loop-index
-invariant-loop-index g l = AreCounted (naming_of l.variables) (take l.index l.clause) (name_all (take l.index l.clause) (naming_of l.variables)) l.count

@@ -1,8 +1,0 @@
-use Rattle.std.proofs.Common.{nat_lt, refl}
-use Rattle.varisat.specs.Accepting.{naming_of}
-use Rattle.varisat.proofs.NamesComing.{limit-decides}
-use Rattle.varisat.proofs.name_checks.passes_limit.Goals as goal
-
-pub returns : goal.returns
-returns g c = limit-decides (nat_lt c.max_count.result c.args.watermark) c.args._clause.now (naming_of c.args._variables.now) c.max_count.result
-    c.args.watermark refl c.max_count.ensures c.requires.watermark c.requires.bounded.users

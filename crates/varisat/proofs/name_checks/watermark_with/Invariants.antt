@@ -1,7 +1,0 @@
-use Rattle.std.proofs.Common.{◌≡◌, take}
-use Rattle.varisat.specs.Names.{name_all}
-use Rattle.varisat.specs.Accepting.{naming_of}
-use Rattle.varisat.proofs.name_checks.watermark_with.Given as goal
-
-abbrev pub invariant-loop-lit : goal.invariant-loop-lit
-invariant-loop-lit g l = l.watermark ≡ (name_all (take l.lit-index l.clause) (naming_of l.variables)).watermark

@@ -1,0 +1,145 @@
+-- The calls that set the mode of a variable and hide it, as one.
+use Rattle.std.proofs.Common.{◌≡◌, ◌≢◌, ◌<◌, ℕ, Bool, true, false, Option, None, List, Ok, Err, refl, sym, subst}
+use Rattle.varisat_theory.specs.Journals.{Entry}
+use Rattle.varisat_literals.specs.Numbers.{variable_limit}
+use Rattle.varisat_names.specs.VarMap.{at}
+use Rattle.varisat_names.specs.declared.variables.data.SamplingMode.{SamplingMode}
+use Rattle.varisat_names.specs.declared.variables.data.SamplingMode.TheVariants as sampling
+use Rattle.varisat_proof.specs.Proving.{ProofParts}
+use Rattle.varisat_search.specs.declared.state.SatState.{SatState}
+use Rattle.varisat_tracer.specs.Tracing.{TracerState, CanTell}
+use Rattle.varisat_tracer.proofs.Telling.{tells-told}
+use Rattle.varisat_solver.specs.Names.{Mode, Sample, Witness, Naming, name_one, set_mode, free_name}
+use Rattle.varisat_solver.specs.Calls.{is_valid, IsValid, Invalidates, count_anew}
+use Rattle.varisat_solver.specs.Journals.{retold, TellsLeaving}
+use Rattle.varisat_solver.specs.OpenProofs.{OpenProof, lines_over, GoesOnWriting}
+use Rattle.varisat_solver.specs.Spaces.{KeepVariables, ModeFits, SpacesFit}
+use Rattle.varisat_solver.specs.States.{State, with_variables}
+use Rattle.varisat_solver.specs.Summaries.{Summary, spaces}
+use Rattle.varisat_solver.specs.Usage.{name_var, with_mode, hide_name, IsAssumed, ChangesMode}
+use Rattle.varisat_solver.specs.VariableChanges.{ChecksChange, StaysKept, SetsNamedMode, ChangesNamed}
+use Rattle.varisat_solver.specs.declared.solver.SolverError.{SolverError}
+use Rattle.varisat_solver.specs.declared.solver.SolverError.TheVariants.{OutOfMemory, Invalid}
+use Rattle.varisat_solver.proofs.StepEntries.{leaving-derived}
+use Rattle.varisat_solver.proofs.AcceptClause.{with_tables}
+use Rattle.varisat_solver.proofs.CallStates.{Begins, like-told, like-retold}
+use Rattle.varisat_solver.proofs.HiddenTables.{with_checker}
+use Rattle.varisat_solver.proofs.ToldEntries.{stays-nothing}
+use Rattle.varisat_solver.proofs.ToldProofs.{leaving-nothing}
+use Rattle.varisat_solver.proofs.VariableChanges.{hides-stay, hides-told}
+use Rattle.varisat_solver.proofs.VariableStates.{mode-state, hide-state, free-state, mode-refused, change-refused}
+
+-- 1. The tables and the proof.
+
+pub changed-stays : (u : ℕ) (m : SamplingMode) (v : SatState) (p q : TracerState) → ChangesNamed u m v p q → StaysKept p.tables q.tables
+changed-stays u sampling.Sample v p q h = let (x, set) = h.sets (λ e. cc) in set.stays
+changed-stays u sampling.Witness v p q h = let (x, set) = h.sets (λ e. cc) in set.stays
+changed-stays u sampling.Hide v p q h = hides-stay u v p q (h.hides refl)
+
+pub changed-tells : (u : ℕ) (m : SamplingMode) (v : SatState) (p q : TracerState) → ChangesNamed u m v p q → CanTell p.proof → CanTell q.proof
+changed-tells u sampling.Sample v p q h t = subst CanTell (sym (h.untold (λ e. cc))) t
+changed-tells u sampling.Witness v p q h t = subst CanTell (sym (h.untold (λ e. cc))) t
+changed-tells u sampling.Hide v p q h t = let (given, told, opened) = hides-told u v p q (h.hides refl) in tells-told p.proof q.proof given told t
+
+-- 2. The state.
+
+-- its names then: as Hide the name is free
+abbrev renamed : SamplingMode → ℕ → Naming → Naming
+renamed sampling.Sample u n = set_mode u Sample n
+renamed sampling.Witness u n = set_mode u Witness n
+renamed sampling.Hide u n = free_name u n
+
+-- whether a variable was ever hidden then
+abbrev hides : SamplingMode → Bool → Bool
+hides sampling.Sample b = b
+hides sampling.Witness b = b
+hides sampling.Hide b = true
+
+-- the state once the name was named and its variable has the mode
+abbrev pub with_changed : SamplingMode → ℕ → State → State
+with_changed m u s = record (count_anew s) { naming = renamed m u (name_one u s.naming); ever_hidden = hides m s.ever_hidden }
+
+-- What the solver holds stands for that state, to which more was told, and the call may lead there.
+pub record ModeChanged (m : SamplingMode) (g : Summary) (s : State) (u : ℕ) (p : ProofParts) (q : TracerState) : Type 0 where
+  pub variables : ℕ → Option ℕ
+  pub told : List Entry
+  pub keep : KeepVariables s.naming.made s.variables variables
+  pub more : TellsLeaving variables s.told told p q.proof
+  pub fits : SpacesFit (spaces (with_checker q.proof.checker (with_tables q.tables g))) (with_variables variables (retold told (with_changed m u s)))
+  pub leads : (proof : Option OpenProof) → lines_over variables s.told ≡ lines_over s.variables s.told → GoesOnWriting s.proof proof → IsValid s →
+      u < variable_limit → (IsAssumed s u → ⊥) →
+      ChangesMode m s u (Ok tt) (record (with_changed m u s) { told = told; variables = variables; proof = proof })
+
+module _ (g : Summary) (s : State) (u : ℕ) (p : ProofParts) (q : TracerState) (same : p.checker ≡ g.checker) (b : SpacesFit (spaces g) s) where
+  set-changed : (m : SamplingMode) (n : Mode) → ModeFits m n → (x : ℕ) → SetsNamedMode u m g.tables x q.tables → q.proof ≡ p →
+      (variables : ℕ → Option ℕ) × KeepVariables s.naming.made s.variables variables × TellsLeaving variables s.told s.told p q.proof
+      × SpacesFit (spaces (with_checker q.proof.checker (with_tables q.tables g))) (with_variables variables (with_mode u n (name_var u s)))
+  set-changed m n fit x set e =
+      let (variables, keep, fits) = mode-state g s q.tables u x m n b fit set in
+      let t = with_variables variables (with_mode u n (name_var u s)) in (
+        variables,
+        keep,
+        subst (TellsLeaving variables s.told s.told p) (sym e) (leaving-nothing variables s.told p),
+        subst (λ (o : ProofParts). SpacesFit (spaces (with_checker o.checker (with_tables q.tables g))) t) (sym e)
+            (subst (λ o. SpacesFit (spaces (with_checker o (with_tables q.tables g))) t) (sym same) fits),
+      )
+
+  pub mode-changed : (m : SamplingMode) → ChangesNamed u m g.sat_state (record { tables = g.tables; proof = p }) q → ModeChanged m g s u p q
+  mode-changed sampling.Sample h =
+      let (x, set) = h.sets (λ e. cc) in
+      let (variables, keep, more, fits) = set-changed sampling.Sample Sample tt x set (h.untold (λ e. cc)) in
+      record {
+        variables = variables;
+        told = s.told;
+        keep = keep;
+        more = more;
+        fits = fits;
+        leads = λ proof alike grows v i n. (
+          (v, i, n, like-told (with_mode u Sample (name_var u s)) s.told variables proof s.words (stays-nothing s.told) alike grows),
+          λ e. absurd cc,
+        );
+      }
+  mode-changed sampling.Witness h =
+      let (x, set) = h.sets (λ e. cc) in
+      let (variables, keep, more, fits) = set-changed sampling.Witness Witness tt x set (h.untold (λ e. cc)) in
+      record {
+        variables = variables;
+        told = s.told;
+        keep = keep;
+        more = more;
+        fits = fits;
+        leads = λ proof alike grows v i n. (
+          (v, i, n, like-told (with_mode u Witness (name_var u s)) s.told variables proof s.words (stays-nothing s.told) alike grows),
+          λ e. absurd cc,
+        );
+      }
+  mode-changed sampling.Hide h =
+      let (variables, told, keep, more, fits) = hide-state g s u p q same b (h.hides refl) in
+      record {
+        variables = variables;
+        told = told;
+        keep = keep;
+        more = more;
+        fits = fits;
+        leads = λ proof alike grows v i n.
+            (v, i, n, like-retold (hide_name u (name_var u s)) told variables proof more.more (leaving-derived more.more.entries more.leaving) alike grows);
+      }
+
+-- 3. The call is refused, or runs out of memory.
+
+pub mode-invalid : (m : SamplingMode) (s : State) (u : ℕ) → is_valid s ≡ false → ChangesMode m s u (Err Invalid) s
+mode-invalid sampling.Sample s u f = ((f, refl), λ e. absurd cc)
+mode-invalid sampling.Witness s u f = ((f, refl), λ e. absurd cc)
+mode-invalid sampling.Hide s u f = (f, refl)
+
+pub mode-not-changed : (m : SamplingMode) {g : Summary} {s : State} (u : ℕ) (e : SolverError) → Begins g s → ChecksChange g.tables u (Err e) →
+    ChangesMode m s u (Err e) s
+mode-not-changed sampling.Sample u e k c = mode-refused Sample u e k c
+mode-not-changed sampling.Witness u e k c = mode-refused Witness u e k c
+mode-not-changed sampling.Hide u e k c = change-refused true (hide_name u) u e k c
+
+pub mode-broken : (m : SamplingMode) {g : Summary} {s : State} (t : State) (u : ℕ) → Begins g s → u < variable_limit → (IsAssumed s u → ⊥) →
+    (m ≢ sampling.Hide → at g.tables.users.forward u ≡ None) → Invalidates 0 s t → ChangesMode m s u (Err OutOfMemory) t
+mode-broken sampling.Sample t u k i n f v = ((i, n, v), λ e. free-state u k (f (λ e. cc)))
+mode-broken sampling.Witness t u k i n f v = ((i, n, v), λ e. free-state u k (f (λ e. cc)))
+mode-broken sampling.Hide t u k i n f v = (i, n, v)

@@ -1,0 +1,288 @@
+use Rattle.varisat_search.specs.declared.error.StepError.TheVariants as step
+use Rattle.varisat_search.specs.StepErrors.{step_faults, HasNoRoom}
+use Rattle.varisat_trace.proofs.Broken.{passed-on}
+-- What each part did to the maps and to the search.
+use Rattle.std.proofs.Common.{◌≡◌, ◌≢◌, ◌≤◌, arith, ◌++◌, ◌∷◌, [], List, false, sym, ap, ap₂, ◌∙◌, subst, refl, length, map}
+use Rattle.std.specs.Option.{IsSome}
+use Rattle.varisat_theory.specs.Membership.{◌∈◌}
+use Rattle.varisat_theory.specs.Literals.{variable_of}
+use Rattle.varisat_theory.specs.Outcomes.{Loads}
+use Rattle.varisat_names.specs.Maps.{chain}
+use Rattle.varisat_names.specs.VarMap.{at}
+use Rattle.varisat_names.specs.VarBiMap.{BiMap}
+use Rattle.varisat_names.specs.declared.variables.data.VarData.{VarData}
+use Rattle.varisat_names.specs.Variables.{Tables}
+use Rattle.varisat_theory.specs.Literals.{Literal}
+use Rattle.varisat_theory.specs.Journals.{Accepts, written}
+use Rattle.varisat_tracer.specs.Carried.{carry, told_as}
+use Rattle.varisat_tracer.specs.Tracing.{TracerState, tracer_state, global_literal, CanTell, BreaksProof}
+use Rattle.varisat_tracer.specs.TracerLaws.{takes-more, relies-after}
+use Rattle.varisat_solver.proofs.ToldProofs.{AreToldAs, proof-told}
+use Rattle.varisat_tracer.proofs.Telling.{relies-alike, tells-on, breaks-proof, proof-unbroken, proof-breaks-on}
+use Rattle.varisat_search.specs.declared.state.SatState.TheVariants as verdict
+use Rattle.varisat_search.specs.declared.state.SolverState.{SolverState}
+use Rattle.varisat_search.specs.AssumptionParts.{AssumptionParts}
+use Rattle.varisat_search.specs.Contexts.{view}
+use Rattle.varisat_search.specs.Loading.{loaded_outcome}
+use Rattle.varisat_search.specs.Seen.{search_of}
+use Rattle.varisat_solver.specs.Names.{name_all, through_names}
+use Rattle.varisat_solver.specs.Calls.{with_naming, append_clause, reopened_verdict, with_verdict}
+use Rattle.varisat_solver.specs.Journals.{retold}
+use Rattle.varisat_proof.specs.Proving.{IsCheckedIf}
+use Rattle.varisat_solver.specs.States.{State, with_variables}
+use Rattle.varisat_solver.specs.Spaces.{SpacesFit, FitWithNew}
+use Rattle.varisat_solver.specs.Summaries.{spaces_of, spaces_with, IsKept}
+use Rattle.varisat_solver.proofs.SettingsCalls.{summary_in}
+use Rattle.varisat_solver.proofs.ReturnedVariables.{reopened-not, no-model-reopened, reopened-spaces, verdict-after}
+use Rattle.varisat_solver.proofs.SolversInTurn.{with_names, HaveSolvers, have-solvers-then, has-variables, can-have-room, over-leads, over-carried, all-named, literals-within, literals-decidable}
+use Rattle.varisat_solver.proofs.TableMarks.{marks-bounded, joined-same, assumed-joined}
+use Rattle.varisat_solver.proofs.CheckedHeld.{relied-open}
+use Rattle.varisat_solver.proofs.AcceptClause.{clause-accepted, few-made}
+use Rattle.varisat_solver.proofs.SolverSteps.{some-through}
+use Rattle.varisat_solver.proofs.VariableMoves.{same-in-use, tables-in-use}
+use Rattle.varisat_search.proofs.SolverVariables.{in-use-all}
+use Rattle.varisat_solver.proofs.accept.accept_user_clause.Given.{Over}
+use Rattle.varisat_solver.proofs.accept.accept_user_clause.Goals.{In_ok-solver_from_user_lits, In_ok-tell_clause, In_ok-load_clause}
+use Rattle.varisat_solver.proofs.accept.accept_user_clause.Goals as goal
+
+pub solver_from_user_lits-requires-clause-variables : goal.solver_from_user_lits-requires-clause-variables
+solver_from_user_lits-requires-clause-variables g c = has-variables c.args.tracer.now.tables c.args.ctx.now c.reopen.new.self c.requires.kept
+
+pub solver_from_user_lits-requires-clause-room : goal.solver_from_user_lits-requires-clause-room
+solver_from_user_lits-requires-clause-room g c = can-have-room c.args.clause.now c.args.tracer.now.tables c.requires.names
+
+-- the names have solver variables
+have : (g : Over) (c : In_ok-solver_from_user_lits g) → HaveSolvers {A = g.row.A.Denot} c.args.clause.now
+    (record { tables = c.args.tracer.now.tables; context = record c.args.ctx.now { solver_state = c.reopen.new.self } })
+    (record { tables = c.solver_from_user_lits.new.variables; context = c.solver_from_user_lits.new.ctx })
+have g c =
+    have-solvers-then c.args.clause.now c.args.tracer.now.tables c.args.ctx.now c.reopen.new.self
+    (record { tables = c.solver_from_user_lits.new.variables; context = c.solver_from_user_lits.new.ctx })
+    (λ e. no-model-reopened c.args.ctx.now.solver_state.sat_state (ap (λ (x : SolverState). x.sat_state) (sym c.reopen.ensures) ∙ e))
+    c.prove_linked.ensures c.requires.kept (c.in_ok-solver_from_user_lits.ensures {u = tt}).in_turn
+
+pub mark_joined-requires : goal.mark_joined-requires
+mark_joined-requires g c =
+    let here = (goal.at.mark_joined-requires g c).In_ok-solver_from_user_lits in
+    all-named c.args.clause.now c.solver_from_user_lits.new.solver_lits.items (have g here).kept (c.in_ok-solver_from_user_lits.ensures {u = tt}).literals
+
+pub load_clause-requires-clause-in_range : goal.load_clause-requires-clause-in_range
+load_clause-requires-clause-in_range g c l h =
+    let here = (goal.at.load_clause-requires-clause-in_range g c).In_ok-solver_from_user_lits in
+    literals-within c.args.clause.now c.solver_from_user_lits.new.solver_lits.items (have g here).kept
+    (c.in_ok-solver_from_user_lits.ensures {u = tt}).literals c.prove_linked-2.ensures l (subst (λ ls. l ∈ ls) c.as_slice-lits.ensures.value h)
+
+pub load_clause-requires-clause-decidable : goal.load_clause-requires-clause-decidable
+load_clause-requires-clause-decidable g c l h =
+    let here = (goal.at.load_clause-requires-clause-decidable g c).In_ok-solver_from_user_lits in
+    literals-decidable c.args.clause.now c.solver_from_user_lits.new.solver_lits.items (have g here).kept
+    (c.in_ok-solver_from_user_lits.ensures {u = tt}).literals c.prove_linked-2.ensures l (subst (λ ls. l ∈ ls) c.as_slice-lits.ensures.value h)
+
+-- the proof can be told of the search once the clause was
+can-tell : (g : Over) (c : In_ok-tell_clause g) → CanTell c.tell_clause.new.tracer.proof
+can-tell g c = tells-on (record { tables = c.mark_joined.new.variables; proof = c.args.tracer.now.proof }) (tracer_state c.tell_clause.new.tracer) _
+    (c.in_ok-tell_clause.ensures {u = tt}).told c.requires.tells
+
+-- the verdict is not Unsat when the clause is loaded
+opened : (g : Over) (c : In_ok-solver_from_user_lits g) → c.solver_from_user_lits.new.ctx.solver_state.sat_state ≢ verdict.Unsat
+opened g c e =
+    reopened-not c.args.ctx.now.solver_state.sat_state c.requires.unsettled
+    (ap (λ (x : SolverState). x.sat_state) (sym c.reopen.ensures) ∙ ap (λ (x : SolverState). x.sat_state) (sym (have g c).verdict.state) ∙ e)
+
+-- the solver stands for the state once the names have solver variables
+all-named-in : (g : Over) (c : In_ok-solver_from_user_lits g) (s : State) →
+    SpacesFit (spaces_with c.args.tracer.now.tables c.args.tracer.now.proof.checker c.args.ctx.now) s →
+    FitWithNew (spaces_with c.solver_from_user_lits.new.variables c.args.tracer.now.proof.checker c.solver_from_user_lits.new.ctx) s
+    (with_names c.args.clause.now (with_verdict (reopened_verdict s.verdict) s))
+all-named-in g c s f =
+    let old = c.args.ctx.now in
+    let checker = c.args.tracer.now.proof.checker in
+    let first = summary_in c.args.tracer.now.tables checker old s.ledger in
+    let begins = subst (λ y. SpacesFit (spaces_of c.args.tracer.now.tables checker (view old) old.assumptions y)
+    (with_verdict (reopened_verdict s.verdict) s)) (sym (ap (λ (x : SolverState). x.sat_state) c.reopen.ensures)) (reopened-spaces first s f) in
+    (have g c).stands checker (with_verdict (reopened_verdict s.verdict) s) begins
+
+-- what was accepted before and the clause that was told may be held then
+pub load_clause-requires-clause-holds : goal.load_clause-requires-clause-holds
+load_clause-requires-clause-holds g c n =
+    let here = (goal.at.load_clause-requires-clause-holds g c).In_ok-solver_from_user_lits in
+    let mid = c.solver_from_user_lits.new.ctx in
+    let m = c.solver_from_user_lits.new.variables in
+    let p = c.args.tracer.now.proof in
+    let lits = c.as_slice-lits.result.now in
+    let (s, f) = c.requires.stands in
+    let (variables, keep, named) = all-named-in g here s f in
+    let (held, relies, fits) = relied-open m p (view mid) mid.assumptions mid.solver_state.sat_state (opened g here) c.requires.tells
+    (_, named) in
+    let before : TracerState = record { tables = c.mark_joined.new.variables; proof = p } in (
+      held,
+      relies-after before (tracer_state c.tell_clause.new.tracer) (Accepts lits ∷ []) held (held ++ lits ∷ [])
+          (c.in_ok-tell_clause.ensures {u = tt}).told (relies-alike m c.mark_joined.new.variables p held c.mark_joined.ensures.solvers relies)
+          (held ++ lits ∷ [], refl, refl),
+      fits,
+    )
+
+-- names and variables stay as the clause is told and loaded
+same-tables : (g : Over) (c : In_ok-load_clause g) → c.load_clause.new.proof.tables ≡ c.mark_joined.new.variables
+same-tables g c =
+    let here = (goal.at.returns-clause-kept g c).In_ok-solver_from_user_lits in
+    ((c.in_ok-load_clause.ensures {u = tt}).lines (opened g here)).written.tables ∙ (c.in_ok-tell_clause.ensures {u = tt}).told.tables
+
+pub returns-clause-state : goal.returns-clause-state
+returns-clause-state g c =
+    let here = (goal.at.returns-clause-state g c).In_ok-solver_from_user_lits in
+    let sat = c.load_clause.new.ctx.solver_state.sat_state in
+    (c.in_ok-load_clause.ensures {u = tt}).state (opened g here)
+    ∙ ap (λ (x : SolverState). record x { sat_state = sat; formula_is_empty = false })
+    ((have g here).verdict.state ∙ ap
+    (λ (x : SolverState). record x { formula_is_empty = c.solver_from_user_lits.new.ctx.solver_state.formula_is_empty }) c.reopen.ensures)
+
+pub returns-clause-kept : goal.returns-clause-kept
+returns-clause-kept g c =
+    let here = (goal.at.returns-clause-kept g c).In_ok-solver_from_user_lits in
+    let k = (have g here).kept in
+    let taken = c.solver_from_user_lits.new.variables in
+    let mid = c.solver_from_user_lits.new.ctx in
+    let new = c.load_clause.new.ctx in
+    let joined = c.mark_joined.new.variables in
+    let mark = c.mark_joined.ensures in
+    let marks = joined-same c.args.clause.now taken joined mark in
+    let long = ap (λ (m : BiMap). length m.backward) mark.solvers in
+    let r = c.in_ok-load_clause.ensures {u = tt} in
+    let parts = r.assumptions (opened g here) in
+    let user = ap (λ (x : AssumptionParts). x.user) parts in
+    subst (λ (t : Tables). IsKept t new) (sym (same-tables g c)) (record {
+      bounded = marks-bounded taken joined k.bounded marks;
+      ready = r.ready;
+      count = r.keeps.count ∙ k.count ∙ sym long;
+      decidable = tables-in-use taken joined (view new) new.vsids mark.solvers
+          (same-in-use taken (view mid) mid.vsids (view new) new.vsids k.decidable r.keeps.decidable);
+      assumed = λ l h. subst (λ (m : BiMap). IsSome (at m.forward (variable_of l))) (sym mark.users) (k.assumed l (subst (λ ls. l ∈ ls) user h));
+      marked = λ l z h f. ap (λ (d : VarData). d.assumed) (mark.rest z)
+          ∙ k.marked l z (subst (λ ls. l ∈ ls) user h) (ap (λ (m : BiMap). at m.forward (variable_of l)) (sym mark.users) ∙ f);
+      working = λ l h. assumed-joined c.args.clause.now taken joined (variable_of l) mark
+          (k.working l (subst (λ ls. l ∈ ls) (ap (λ (x : AssumptionParts). x.working) parts) h));
+    })
+
+pub returns-clause-tells : goal.returns-clause-tells
+returns-clause-tells g c =
+    let here = goal.at.returns-clause-tells g c in
+    tells-on (tracer_state c.tell_clause.new.tracer) (tracer_state c.load_clause.new.proof) _
+    ((c.in_ok-load_clause.ensures {u = tt}).lines (opened g here.In_ok-solver_from_user_lits)).written (can-tell g here.In_ok-tell_clause)
+
+pub returns-clause-told : goal.returns-clause-told
+returns-clause-told g c =
+    let here = goal.at.returns-clause-told g c in
+    some-through c.args.tracer.now.proof c.tell_clause.new.tracer.proof c.load_clause.new.proof.proof (_, (c.in_ok-tell_clause.ensures {u = tt}).told.told)
+    (_, ((c.in_ok-load_clause.ensures {u = tt}).lines (opened g here.In_ok-solver_from_user_lits)).written.told)
+
+pub returns-clause-accepted : goal.returns-clause-accepted
+returns-clause-accepted g c s f =
+    let here = (goal.at.returns-clause-accepted g c).In_ok-solver_from_user_lits in
+    let all = have g here in
+    let r = c.in_ok-load_clause.ensures {u = tt} in
+    let over = (c.in_ok-solver_from_user_lits.ensures {u = tt}).literals in
+    let old = c.args.ctx.now in
+    let mid = c.solver_from_user_lits.new.ctx in
+    let new = c.load_clause.new.ctx in
+    let m = c.solver_from_user_lits.new.variables in
+    let joined = c.mark_joined.new.variables in
+    let list = c.args.clause.now in
+    let to = chain (at m.users.forward) (at m.solvers.forward) in
+    let carried = ap₂ (λ (x y : BiMap). map (carry (chain (at x.forward) (at y.forward))) list) (sym c.mark_joined.ensures.users)
+    (sym c.mark_joined.ensures.solvers) in
+    let items = c.as_slice-lits.ensures.value ∙ over-carried to list c.solver_from_user_lits.new.solver_lits.items over ∙ carried in
+    let n = with_naming (name_all list s.naming) s in
+    let lines = (r.lines (opened g here)).lines in
+    let before : TracerState = record { tables = joined; proof = c.args.tracer.now.proof } in
+    let after = tracer_state c.load_clause.new.proof in
+    let taken = takes-more before (tracer_state c.tell_clause.new.tracer) after (Accepts c.as_slice-lits.result.now ∷ []) (written lines)
+    (c.in_ok-tell_clause.ensures {u = tt}).told (r.lines (opened g here)).written in
+    let (variables, keep, named) = all-named-in g here s f in
+    let n2 = with_variables variables (with_verdict (reopened_verdict s.verdict) n) in
+    let (x, told, v, more, told-as, k) =
+    clause-accepted (summary_in m c.args.tracer.now.proof.checker mid s.ledger) n2 list joined
+    (view new) new.assumptions new.solver_state.sat_state after.proof.checker
+    (record {
+      not_unsat = opened g here;
+      all = over-leads to list c.solver_from_user_lits.new.solver_lits.items over;
+      are_joined = c.mark_joined.ensures;
+      same_count = r.keeps.count;
+      well_before = all.kept.ready.well;
+      well_new = r.ready.well;
+      in_use = in-use-all m (view new) new.vsids (same-in-use m (view mid) mid.vsids (view new) new.vsids all.kept.decidable r.keeps.decidable)
+          r.ready.decidable r.ready.well;
+      lines = (r.lines (opened g here)).lines;
+      loads = subst (λ xs. Loads (search_of (view mid)) (search_of (view new)) xs (loaded_outcome new.solver_state.sat_state)
+          (r.lines (opened g here)).lines) items (r.lines (opened g here)).loads;
+      verdict = r.verdict;
+      parts_stay = r.assumptions (opened g here);
+    })
+    (subst (λ es. IsCheckedIf before.proof.checker es after.proof.checker)
+    (ap (λ (b : BiMap). told_as (carry (at b.backward)) (Accepts c.as_slice-lits.result.now ∷ written lines)) c.mark_joined.ensures.solvers
+    ∙ ap (λ (ls : List Literal). told_as (global_literal m) (Accepts ls ∷ written lines)) items)
+    taken.told.checked)
+    named in (
+      x,
+      told,
+      variables,
+      verdict-after s.clauses (map (through_names n.naming) list) s.verdict x v,
+      more,
+      keep,
+      proof-told before after
+          (Accepts c.as_slice-lits.result.now ∷ written lines) variables s.told told taken
+          (subst (λ (b : BiMap). AreToldAs variables s.told told
+          (told_as (carry (at b.backward)) (Accepts c.as_slice-lits.result.now ∷ written lines))) (sym c.mark_joined.ensures.solvers)
+          (subst (λ (ls : List Literal). AreToldAs variables s.told told (told_as (global_literal m) (Accepts ls ∷ written lines))) (sym items)
+          told-as)),
+      subst
+          (λ (t : Tables). SpacesFit (spaces_of t after.proof.checker (view new) new.assumptions new.solver_state.sat_state)
+          (with_variables variables (retold told (append_clause (map (through_names n.naming) list) x n)))) (sym (same-tables g c)) k,
+    )
+
+pub returns-in_err-solver_from_user_lits-clause-broken : goal.returns-in_err-solver_from_user_lits-clause-broken
+returns-in_err-solver_from_user_lits-clause-broken g c =
+    let p = c.args.tracer.now.proof in
+    passed-on c.from_residual.result step.Memory (λ z. BreaksProof p (step_faults z) p) c.from_residual.ensures
+    (proof-unbroken p)
+
+pub returns-in_err-tell_clause-clause-broken : goal.returns-in_err-tell_clause-clause-broken
+returns-in_err-tell_clause-clause-broken g c =
+    passed-on c.from_residual-in_err-tell_clause.result c.in_err-tell_clause.field-0.0
+    (λ z. BreaksProof c.args.tracer.now.proof (step_faults z) c.tell_clause.new.tracer.proof)
+    c.from_residual-in_err-tell_clause.ensures (c.in_err-tell_clause.ensures {u = tt}).broken
+
+pub returns-in_err-load_clause-clause-broken : goal.returns-in_err-load_clause-clause-broken
+returns-in_err-load_clause-clause-broken g c =
+    let e = c.in_err-load_clause.field-0.0 in
+    let p = c.args.tracer.now.proof in
+    let q = c.tell_clause.new.tracer in
+    let r = c.load_clause.new.proof in
+    passed-on c.from_residual-in_err-load_clause.result e (λ z. BreaksProof p (step_faults z) r.proof) c.from_residual-in_err-load_clause.ensures
+    (proof-breaks-on p q.proof r.proof _ (step_faults e) (c.in_ok-tell_clause.ensures {u = tt}).told.told
+    (breaks-proof (tracer_state q) (tracer_state r) (step_faults e) (c.in_err-load_clause.ensures {u = tt}).broken))
+
+pub returns-in_err-tell_clause-clause-full : goal.returns-in_err-tell_clause-clause-full
+returns-in_err-tell_clause-clause-full g c =
+    passed-on c.from_residual-in_err-tell_clause.result c.in_err-tell_clause.field-0.0 (λ z. z ≡ step.Full → HasNoRoom c.solver_from_user_lits.new.ctx)
+    c.from_residual-in_err-tell_clause.ensures (λ f. absurd ((c.in_err-tell_clause.ensures {u = tt}).unstored f))
+
+pub returns-in_err-tell_clause-clause-size : goal.returns-in_err-tell_clause-clause-size
+returns-in_err-tell_clause-clause-size g c =
+    passed-on c.from_residual-in_err-tell_clause.result c.in_err-tell_clause.field-0.0 (λ z. z ≡ step.Full → (s : State) →
+    SpacesFit (spaces_with c.args.tracer.now.tables c.args.tracer.now.proof.checker c.args.ctx.now) s →
+    length c.solver_from_user_lits.new.ctx.assignment.current ≤ (name_all c.args.clause.now s.naming).made)
+    c.from_residual-in_err-tell_clause.ensures (λ f. absurd ((c.in_err-tell_clause.ensures {u = tt}).unstored f))
+
+-- the clause is over no more variables than identities that were made with its names
+pub returns-in_err-load_clause-clause-size : goal.returns-in_err-load_clause-clause-size
+returns-in_err-load_clause-clause-size g c =
+    let here = (goal.at.returns-in_err-load_clause-clause-size g c).In_ok-solver_from_user_lits in
+    passed-on c.from_residual-in_err-load_clause.result c.in_err-load_clause.field-0.0 (λ z. z ≡ step.Full → (s : State) →
+    SpacesFit (spaces_with c.args.tracer.now.tables c.args.tracer.now.proof.checker c.args.ctx.now) s →
+    length c.load_clause.new.ctx.assignment.current ≤ (name_all c.args.clause.now s.naming).made)
+    c.from_residual-in_err-load_clause.ensures (λ f s fit.
+    let same = ((c.in_err-load_clause.ensures {u = tt}).ends.full f).1 in
+    let (variables, keep, (w, k)) = all-named-in g here s fit in
+    let few = few-made w _ _ k in
+    omega (arith, same, few))

@@ -1,0 +1,251 @@
+-- What each part did to the maps, the marks and the search.
+use Rattle.std.proofs.Common.{◌≡◌, ◌≢◌, true, false, refl, sym, ap, ap₂, ◌∙◌, subst, length, map, ◌++◌, ◌∷◌, []}
+use Rattle.varisat_theory.specs.Membership.{◌∈◌}
+use Rattle.varisat_theory.specs.Literals.{variable_of}
+use Rattle.varisat_names.specs.Maps.{chain}
+use Rattle.varisat_names.specs.VarMap.{at}
+use Rattle.varisat_names.specs.VarBiMap.{BiMap}
+use Rattle.varisat_names.specs.Variables.{Tables}
+use Rattle.varisat_tracer.specs.Tracing.{TracerState, tracer_state, global_literal, BreaksProof}
+use Rattle.varisat_tracer.proofs.Telling.{tells-on, proof-unbroken}
+use Rattle.varisat_trace.proofs.Broken.{passed-on}
+use Rattle.varisat_search.specs.declared.error.StepError.{StepError}
+use Rattle.varisat_search.specs.declared.error.StepError.TheVariants as step
+use Rattle.varisat_search.specs.StepErrors.{step_faults}
+use Rattle.varisat_tracer.specs.Carried.{carry}
+use Rattle.varisat_solver.proofs.CheckedHeld.{checked-assumed}
+use Rattle.varisat_solver.proofs.ToldProofs.{proof-told}
+use Rattle.varisat_search.specs.declared.state.SolverState.{SolverState}
+use Rattle.varisat_search.specs.AssumptionParts.{AssumptionParts, newly_assumed, assumed_state}
+use Rattle.varisat_search.specs.Contexts.{view}
+use Rattle.varisat_solver.specs.Accepting.{HasNames, AreMarked}
+use Rattle.varisat_solver.specs.Names.{name_all, through_names}
+use Rattle.varisat_solver.specs.Calls.{with_naming, assumed_verdict, with_assumptions, with_verdict}
+use Rattle.varisat_theory.specs.Journals.{Assumes}
+use Rattle.varisat_solver.specs.Journals.{retold}
+use Rattle.varisat_solver.specs.Spaces.{SpacesFit}
+use Rattle.varisat_solver.specs.States.{with_variables}
+use Rattle.varisat_solver.specs.Summaries.{spaces_of, IsKept}
+use Rattle.varisat_solver.proofs.AssumeList.{Assuming, forgets, list-told, list-assumed}
+use Rattle.varisat_solver.proofs.SettingsCalls.{summary_in}
+use Rattle.varisat_solver.proofs.ReturnedVariables.{no-model-assumed, assumed-again}
+use Rattle.varisat_solver.proofs.SolversInTurn.{HaveSolvers, have-solvers-then, has-variables, can-have-room, over-leads, over-carried, all-named, literals-within, literals-decidable}
+use Rattle.varisat_solver.proofs.VariableMoves.{same-in-use, tables-in-use}
+use Rattle.varisat_solver.proofs.TableMarks.{names-marked, marked-same, assumed-listed}
+use Rattle.varisat_solver.proofs.accept.assume_list.Given.{Over}
+use Rattle.varisat_solver.proofs.accept.assume_list.Goals.{In_ok-solver_from_user_lits}
+use Rattle.varisat_solver.proofs.accept.assume_list.Goals as goal
+
+pub solver_from_user_lits-requires-clause-variables : goal.solver_from_user_lits-requires-clause-variables
+solver_from_user_lits-requires-clause-variables g c = has-variables c.args.tracer.now.tables c.args.ctx.now c.assume.new.self c.requires.kept
+
+pub solver_from_user_lits-requires-clause-room : goal.solver_from_user_lits-requires-clause-room
+solver_from_user_lits-requires-clause-room g c = can-have-room c.args.list.now c.args.tracer.now.tables c.requires.names
+
+-- the names have solver variables
+have : (g : Over) (c : In_ok-solver_from_user_lits g) → HaveSolvers {A = g.row.A.Denot} c.args.list.now
+    (record { tables = c.args.tracer.now.tables; context = record c.args.ctx.now { solver_state = c.assume.new.self } })
+    (record { tables = c.solver_from_user_lits.new.variables; context = c.solver_from_user_lits.new.ctx })
+have g c =
+    have-solvers-then c.args.list.now c.args.tracer.now.tables c.args.ctx.now c.assume.new.self
+    (record { tables = c.solver_from_user_lits.new.variables; context = c.solver_from_user_lits.new.ctx })
+    (λ e. no-model-assumed c.args.ctx.now.solver_state.sat_state (ap (λ (x : SolverState). x.sat_state) (sym c.assume.ensures) ∙ e))
+    c.prove_linked.ensures c.requires.kept (c.in_ok-solver_from_user_lits.ensures {u = tt}).in_turn
+
+pub mark_assumed-requires : goal.mark_assumed-requires
+mark_assumed-requires g c =
+    let here = (goal.at.mark_assumed-requires g c).In_ok-solver_from_user_lits in
+    let k = (have g here).kept in
+    record { bounded = k.bounded; named = λ l h. k.assumed l (subst (λ ls. l ∈ ls) c.user_assumptions.ensures h) }
+
+-- the names of the list are in use
+in-use : (g : Over) (c : In_ok-solver_from_user_lits g) → HasNames c.args.list.now c.solver_from_user_lits.new.variables
+in-use g c = all-named c.args.list.now c.solver_from_user_lits.new.solver_lits.items (have g c).kept (c.in_ok-solver_from_user_lits.ensures {u = tt}).literals
+
+pub mark_assumed-requires-2 : goal.mark_assumed-requires-2
+mark_assumed-requires-2 g c =
+    let here = (goal.at.mark_assumed-requires-2 g c).In_ok-solver_from_user_lits in
+    let a = marked-same c.user_assumptions.result.now false c.solver_from_user_lits.new.variables c.mark_assumed.new.variables c.mark_assumed.ensures in
+    names-marked c.args.list.now c.solver_from_user_lits.new.variables c.mark_assumed.new.variables (in-use g here) a
+
+pub set_assumptions-requires-clause-in_range : goal.set_assumptions-requires-clause-in_range
+set_assumptions-requires-clause-in_range g c l h =
+    let here = (goal.at.set_assumptions-requires-clause-in_range g c).In_ok-solver_from_user_lits in
+    literals-within c.args.list.now c.solver_from_user_lits.new.solver_lits.items (have g here).kept
+    (c.in_ok-solver_from_user_lits.ensures {u = tt}).literals c.prove_linked-2.ensures l (subst (λ ls. l ∈ ls) c.as_slice-lits.ensures.value h)
+
+pub set_assumptions-requires-clause-decidable : goal.set_assumptions-requires-clause-decidable
+set_assumptions-requires-clause-decidable g c l h =
+    let here = (goal.at.set_assumptions-requires-clause-decidable g c).In_ok-solver_from_user_lits in
+    literals-decidable c.args.list.now c.solver_from_user_lits.new.solver_lits.items (have g here).kept
+    (c.in_ok-solver_from_user_lits.ensures {u = tt}).literals c.prove_linked-2.ensures l (subst (λ ls. l ∈ ls) c.as_slice-lits.ensures.value h)
+
+pub returns-clause-state : goal.returns-clause-state
+returns-clause-state g c =
+    let here = (goal.at.returns-clause-state g c).In_ok-solver_from_user_lits in
+    let new = c.set_assumptions.new.ctx.solver_state in
+    (c.in_ok-set_assumptions.ensures {u = tt}).state
+    ∙ ap (λ (x : SolverState). record x { sat_state = assumed_state x.sat_state })
+    ((have g here).verdict.state ∙ ap
+    (λ (x : SolverState). record x { formula_is_empty = c.solver_from_user_lits.new.ctx.solver_state.formula_is_empty }) c.assume.ensures)
+    ∙ ap₂ (λ a b. record c.args.ctx.now.solver_state { sat_state = a; formula_is_empty = b })
+    (let e = ap (λ (x : SolverState). assumed_state x.sat_state)
+    ((have g here).verdict.state ∙ ap
+    (λ (x : SolverState). record x { formula_is_empty = c.solver_from_user_lits.new.ctx.solver_state.formula_is_empty })
+    c.assume.ensures) in sym e ∙ sym (ap (λ (x : SolverState). x.sat_state) (c.in_ok-set_assumptions.ensures {u = tt}).state))
+    (sym (ap (λ (x : SolverState). x.formula_is_empty) (c.in_ok-set_assumptions.ensures {u = tt}).state))
+
+pub returns-clause-kept : goal.returns-clause-kept
+returns-clause-kept g c =
+    let here = (goal.at.returns-clause-kept g c).In_ok-solver_from_user_lits in
+    let k = (have g here).kept in
+    let over = (c.in_ok-solver_from_user_lits.ensures {u = tt}).literals in
+    let list = c.args.list.now in
+    let taken = c.solver_from_user_lits.new.variables in
+    let cleared = c.mark_assumed.new.variables in
+    let marked = c.mark_assumed-2.new.variables in
+    let to = chain (at taken.users.forward) (at taken.solvers.forward) in
+    let x = names-marked list taken cleared (in-use g here) (marked-same c.user_assumptions.result.now false taken cleared c.mark_assumed.ensures) in
+    let y = names-marked list cleared marked x (marked-same list true cleared marked c.mark_assumed-2.ensures) in
+    let long = ap (λ (m : BiMap). length m.backward) (c.mark_assumed-2.ensures.solvers ∙ c.mark_assumed.ensures.solvers) in
+    let r = c.in_ok-set_assumptions.ensures {u = tt} in
+    let literals = c.as_slice-lits.ensures.value ∙ over-carried to list c.solver_from_user_lits.new.solver_lits.items over in
+    let mid = c.solver_from_user_lits.new.ctx in
+    let new = c.set_assumptions.new.ctx in
+    subst (λ (t : Tables). IsKept t new) (sym (c.in_ok-tell_assumptions.ensures {u = tt}).told.tables) (record {
+      bounded = y.bounded;
+      ready = r.ready;
+      count = r.keeps.variables.count ∙ k.count ∙ sym long;
+      decidable = tables-in-use taken marked (view new) new.vsids (c.mark_assumed-2.ensures.solvers ∙ c.mark_assumed.ensures.solvers)
+          (same-in-use taken (view mid) mid.vsids (view new) new.vsids k.decidable r.keeps.variables.decidable);
+      assumed = λ l h. y.named l (subst (λ ls. l ∈ ls) (ap (λ (z : AssumptionParts). z.user) r.assumed) h);
+      marked = λ l z h f. c.mark_assumed-2.ensures.marked l z (subst (λ ls. l ∈ ls) (ap (λ (z : AssumptionParts). z.user) r.assumed) h)
+          (ap (λ (m : BiMap). at m.forward (variable_of l)) (sym c.mark_assumed-2.ensures.users) ∙ f);
+      working = λ l h. assumed-listed list taken cleared marked c.user_assumptions.result.now c.prove_linked-2.ensures
+          (over-leads to list c.solver_from_user_lits.new.solver_lits.items over) c.mark_assumed.ensures c.mark_assumed-2.ensures l
+          (subst (λ ls. l ∈ ls) (ap (λ (z : AssumptionParts). z.working) r.assumed ∙ literals) h);
+    })
+
+pub returns-clause-tells : goal.returns-clause-tells
+returns-clause-tells g c =
+    tells-on (record { tables = c.mark_assumed-2.new.variables; proof = c.args.tracer.now.proof }) (tracer_state c.tell_assumptions.new.tracer) _
+    (c.in_ok-tell_assumptions.ensures {u = tt}).told c.requires.tells
+
+pub returns-clause-told : goal.returns-clause-told
+returns-clause-told g c = (_, (c.in_ok-tell_assumptions.ensures {u = tt}).told.told)
+
+pub returns-clause-assumed : goal.returns-clause-assumed
+returns-clause-assumed g c s f =
+    let here = (goal.at.returns-clause-assumed g c).In_ok-solver_from_user_lits in
+    let all = have g here in
+    let over = (c.in_ok-solver_from_user_lits.ensures {u = tt}).literals in
+    let r = c.in_ok-set_assumptions.ensures {u = tt} in
+    let old = c.args.ctx.now in
+    let checker = c.args.tracer.now.proof.checker in
+    let mid = c.solver_from_user_lits.new.ctx in
+    let new = c.set_assumptions.new.ctx in
+    let m = c.solver_from_user_lits.new.variables in
+    let marked = c.mark_assumed-2.new.variables in
+    let list = c.args.list.now in
+    let to = chain (at m.users.forward) (at m.solvers.forward) in
+    let items = c.as_slice-lits.ensures.value ∙ over-carried to list c.solver_from_user_lits.new.solver_lits.items over in
+    let before : TracerState = record { tables = marked; proof = c.args.tracer.now.proof } in
+    let after = tracer_state c.tell_assumptions.new.tracer in
+    let taken = (c.in_ok-tell_assumptions.ensures {u = tt}).told in
+    let first = summary_in c.args.tracer.now.tables checker old s.ledger in
+    let (w, k) = f in
+    let begins = subst (λ y. SpacesFit (spaces_of c.args.tracer.now.tables checker (view old) old.assumptions y)
+    (with_verdict (assumed_verdict s.verdict) s)) (sym (ap (λ (x : SolverState). x.sat_state) c.assume.ensures))
+    (w, forgets w first s old.solver_state.sat_state s.verdict k) in
+    let n = with_naming (name_all list s.naming) s in
+    let carried = map (through_names n.naming) list in
+    let told = s.told ++ Assumes carried ∷ [] in
+    let (variables, keep, named) = all.stands checker (with_verdict (assumed_verdict s.verdict) s) begins in
+    let n2 = with_variables variables (with_verdict (assumed_verdict s.verdict) n) in
+    let second = summary_in m checker mid s.ledger in
+    let assuming : Assuming second list c.mark_assumed.new.variables marked (view new) new.assumptions new.solver_state.sat_state = record {
+      all = over-leads to list c.solver_from_user_lits.new.solver_lits.items over;
+      are_cleared = subst (λ ls. AreMarked ls false m c.mark_assumed.new.variables) c.user_assumptions.ensures c.mark_assumed.ensures;
+      are_marked = c.mark_assumed-2.ensures;
+      seen = r.seen;
+      same_count = r.keeps.variables.count;
+      parts_are = r.assumed ∙ ap (λ ls. newly_assumed list ls) items;
+      verdict = ap (λ (x : SolverState). x.sat_state) r.state;
+    } in
+    let fits = subst (λ v. SpacesFit (spaces_of marked checker (view new) new.assumptions new.solver_state.sat_state)
+    (with_variables variables (with_verdict v (retold told (with_assumptions carried n))))) (assumed-again s.verdict)
+    (list-assumed second n2 list c.mark_assumed.new.variables marked (view new) new.assumptions new.solver_state.sat_state assuming named) in
+    let same-solvers = c.mark_assumed-2.ensures.solvers ∙ c.mark_assumed.ensures.solvers in
+    let same : map (carry variables) carried ≡ map (global_literal marked) c.as_slice-lits.result.now =
+    list-told second n2 list c.mark_assumed.new.variables marked (view new) new.assumptions new.solver_state.sat_state assuming named
+    ∙ ap (map (global_literal m)) (sym items)
+    ∙ ap (λ (b : BiMap). map (carry (at b.backward)) c.as_slice-lits.result.now) (sym same-solvers) in (
+      variables,
+      keep,
+      proof-told before after (Assumes c.as_slice-lits.result.now ∷ []) variables s.told told taken (record {
+        entries = Assumes carried ∷ [];
+        joined = refl;
+        stays = tt;
+        same = ap (λ ls. Assumes ls ∷ []) same;
+      }),
+      subst (λ (t : Tables). SpacesFit (spaces_of t after.proof.checker (view new) new.assumptions new.solver_state.sat_state)
+          (with_variables variables (retold told (with_assumptions carried n)))) (sym taken.tables)
+          (subst (λ x. SpacesFit (spaces_of marked x (view new) new.assumptions new.solver_state.sat_state)
+          (with_variables variables (retold told (with_assumptions carried n))))
+          (sym (checked-assumed checker after.proof.checker (map (global_literal marked) c.as_slice-lits.result.now) taken.told.checked)) fits),
+    )
+
+pub returns-in_err-solver_from_user_lits-clause-broken : goal.returns-in_err-solver_from_user_lits-clause-broken
+returns-in_err-solver_from_user_lits-clause-broken g c =
+    let p = c.args.tracer.now.proof in
+    passed-on c.from_residual.result step.Memory (λ z. BreaksProof p (step_faults z) p) c.from_residual.ensures (proof-unbroken p)
+
+pub returns-in_err-set_assumptions-clause-broken : goal.returns-in_err-set_assumptions-clause-broken
+returns-in_err-set_assumptions-clause-broken g c =
+    let p = c.args.tracer.now.proof in
+    passed-on c.from_residual-in_err-set_assumptions.result step.Memory (λ z. BreaksProof p (step_faults z) p)
+    c.from_residual-in_err-set_assumptions.ensures (proof-unbroken p)
+
+pub returns-in_err-tell_assumptions-clause-broken : goal.returns-in_err-tell_assumptions-clause-broken
+returns-in_err-tell_assumptions-clause-broken g c =
+    passed-on c.from_residual-in_err-tell_assumptions.result c.in_err-tell_assumptions.field-0.0
+    (λ z. BreaksProof c.args.tracer.now.proof (step_faults z) c.tell_assumptions.new.tracer.proof)
+    c.from_residual-in_err-tell_assumptions.ensures (c.in_err-tell_assumptions.ensures {u = tt}).broken
+
+-- memory ran out, and the store was not asked for room
+memory-not-full : (e : StepError) → e ≡ step.Memory → e ≢ step.Full
+memory-not-full e m f = let z : step.Memory ≡ step.Full = sym m ∙ f in cc
+
+pub returns-in_err-solver_from_user_lits-clause-unstored : goal.returns-in_err-solver_from_user_lits-clause-unstored
+returns-in_err-solver_from_user_lits-clause-unstored g c =
+    passed-on c.from_residual.result step.Memory (λ z. z ≢ step.Full) c.from_residual.ensures (memory-not-full step.Memory refl)
+
+pub returns-in_err-set_assumptions-clause-unstored : goal.returns-in_err-set_assumptions-clause-unstored
+returns-in_err-set_assumptions-clause-unstored g c =
+    passed-on c.from_residual-in_err-set_assumptions.result step.Memory (λ z. z ≢ step.Full) c.from_residual-in_err-set_assumptions.ensures
+    (memory-not-full step.Memory refl)
+
+pub returns-in_err-tell_assumptions-clause-unstored : goal.returns-in_err-tell_assumptions-clause-unstored
+returns-in_err-tell_assumptions-clause-unstored g c =
+    passed-on c.from_residual-in_err-tell_assumptions.result c.in_err-tell_assumptions.field-0.0 (λ z. z ≢ step.Full)
+    c.from_residual-in_err-tell_assumptions.ensures (c.in_err-tell_assumptions.ensures {u = tt}).unstored
+
+-- The list is assumed before the target is asked; up to there memory alone can run out.
+
+pub returns-in_err-solver_from_user_lits-clause-last : goal.returns-in_err-solver_from_user_lits-clause-last
+returns-in_err-solver_from_user_lits-clause-last g c =
+    passed-on c.from_residual.result step.Memory (λ z. z ≢ step.Memory → c.solver_from_user_lits.new.ctx.assumptions.user ≡ c.args.list.now)
+    c.from_residual.ensures (λ n. absurd (n refl))
+
+pub returns-in_err-set_assumptions-clause-last : goal.returns-in_err-set_assumptions-clause-last
+returns-in_err-set_assumptions-clause-last g c =
+    passed-on c.from_residual-in_err-set_assumptions.result step.Memory
+    (λ z. z ≢ step.Memory → c.set_assumptions.new.ctx.assumptions.user ≡ c.args.list.now)
+    c.from_residual-in_err-set_assumptions.ensures (λ n. absurd (n refl))
+
+pub returns-in_err-tell_assumptions-clause-last : goal.returns-in_err-tell_assumptions-clause-last
+returns-in_err-tell_assumptions-clause-last g c =
+    passed-on c.from_residual-in_err-tell_assumptions.result c.in_err-tell_assumptions.field-0.0
+    (λ z. z ≢ step.Memory → c.set_assumptions.new.ctx.assumptions.user ≡ c.args.list.now)
+    c.from_residual-in_err-tell_assumptions.ensures
+    (λ _. ap (λ (x : AssumptionParts). x.user) (c.in_ok-set_assumptions.ensures {u = tt}).assumed)

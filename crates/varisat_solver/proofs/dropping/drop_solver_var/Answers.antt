@@ -1,0 +1,23 @@
+use Rattle.std.proofs.Common.{sym, subst, arith}
+use Rattle.varisat_names.specs.Variables.{Tables}
+use Rattle.varisat_tracer.specs.Tracing.{tracer_state}
+use Rattle.varisat_solver.specs.Dropping.{LosesSolverVar}
+use Rattle.varisat_solver.proofs.DroppedAlone.{taken-live}
+use Rattle.varisat_solver.proofs.dropping.drop_solver_var.Goals as goal
+
+pub delete_var_if_gone-requires : goal.delete_var_if_gone-requires
+delete_var_if_gone-requires g c =
+    let n = c.in_ok-global.ensures.dropped in
+    let here = taken-live c.args.tracer.now.tables c.args.solver c.in_ok-global.global c.prove_linked.ensures n.taken in
+    let count = n.kept.count in
+    omega (arith, here, count)
+
+pub returns-clause-dropped : goal.returns-clause-dropped
+returns-clause-dropped g c =
+    let x = c.in_ok-global.global in
+    let before = tracer_state c.args.tracer.now in
+    let proof = c.delete_var_if_gone.new.self.proof in (
+      x,
+      subst (λ (t : Tables). LosesSolverVar x c.args.solver before (record { tables = t; proof = proof }))
+          (sym c.delete_var_if_gone.ensures.variables) (record { dropped = c.in_ok-global.ensures.dropped; told = c.delete_var_if_gone.ensures.told }),
+    )

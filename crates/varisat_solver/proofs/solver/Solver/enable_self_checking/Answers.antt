@@ -1,0 +1,47 @@
+use Rattle.std.proofs.Common.{◌∙◌, not, refl, ap, sym, subst}
+use Rattle.std.specs.Option.{IsSome}
+use Rattle.varisat_solver.specs.States.{Ledger}
+use Rattle.varisat_solver.specs.Summaries.{Summary}
+use Rattle.varisat_solver.specs.Calls.{count_anew}
+use Rattle.varisat_solver.specs.ProofCalls.{EnablesChecking}
+use Rattle.varisat_solver.proofs.CallStates.{stands-valid}
+use Rattle.varisat_solver.proofs.SettingsCalls.{begun-or-on, some-there, tells-checking, some-checking, with_checking, stands-checking}
+use Rattle.varisat_solver.proofs.ChangeEnds.{stands-invalid, invalid-told}
+use Rattle.varisat_solver.proofs.solver.Solver.enable_self_checking.Goals as goal
+
+pub invariant_of-self : goal.invariant_of-self
+invariant_of-self g c v =
+    let k = c.self.invariant v in
+    let p = c.self.inside.tracer.proof in
+    let q = c.begin_checking.new.self in
+    let (e, runs) = begun-or-on p q c.begin_checking.ensures.begun c.begin_checking.ensures.stays in
+    record {
+      kept = k.kept;
+      tells = tells-checking p q e k.tells;
+      stands = some-checking c.self.inside.tracer.tables p q c.self.inside.ctx c.self.inside.started e c.if-is_late.false k.stands;
+      counts = k.counts;
+    }
+
+pub returns-clause-call : goal.returns-clause-call
+returns-clause-call g c s st =
+    let q = rw (← c.self.view_is) at st in
+    let ok = ap not c.in_ok-ensure_valid.ensures in
+    let fresh = ap (λ (l : Ledger). l.started) q.ledger ∙ c.if-is_late.false in
+    let (e, runs) = begun-or-on c.self.inside.tracer.proof c.begin_checking.new.self c.begin_checking.ensures.begun c.begin_checking.ensures.stays in (
+      count_anew (with_checking s),
+      (stands-valid _ s q ok, fresh, refl),
+      c.begin_count.ensures.call (with_checking s) (stands-checking c.self.inside.tracer.tables c.self.inside.tracer.proof
+          c.begin_checking.new.self c.self.inside.started c.self.inside.changed_at c.self.inside.ctx s e
+          (some-there c.begin_checking.new.self.checker runs) fresh q),
+    )
+
+pub returns-clause-runs : goal.returns-clause-runs
+returns-clause-runs g c h =
+    let runs = (begun-or-on c.self.inside.tracer.proof c.begin_checking.new.self c.begin_checking.ensures.begun c.begin_checking.ensures.stays).1 in
+    subst (λ (x : Summary). IsSome x.checker) (sym c.begin_count.ensures.rest) runs
+
+pub returns-in_err-ensure_valid-clause-call : goal.returns-in_err-ensure_valid-clause-call
+returns-in_err-ensure_valid-clause-call g c s st =
+    let q = rw (← c.self.view_is) at st in
+    let refused = invalid-told c.from_residual.result c.in_err-ensure_valid.field-0.0 c.from_residual.ensures c.in_err-ensure_valid.ensures.0 in
+    (s, subst (λ r. EnablesChecking s r s) (sym refused) (stands-invalid _ s q (ap not c.in_err-ensure_valid.ensures.1), refl), st)

@@ -1,0 +1,389 @@
+use Rattle.std.proofs.Common.{◌≡◌, ◌∙◌, ◌+◌, ◌-◌, ◌<◌, ◌≤◌, ℕ, arith, Result, Bool, Ok, Err, Option, Some, None, true, false, not, length, ⊎_elim, refl, sym, ap, subst}
+use Rattle.std.proofs.lemmas.Bool.{cases_lt}
+use Rattle.varisat_search.specs.declared.context.Context.{Context}
+use Rattle.varisat_search.specs.declared.state.SatState.TheVariants as verdict
+use Rattle.varisat_search.specs.declared.state.SolverState.{SolverState}
+use Rattle.varisat_search.specs.Contexts.{view}
+use Rattle.varisat_schedule.specs.CallSteps.{steps_since}
+use Rattle.varisat_tracer.specs.TracerLaws.{checked-runs}
+use Rattle.varisat_solver.specs.Budgets.{told_verdict, CountsSteps}
+use Rattle.varisat_solver.specs.States.{State, Ledger}
+use Rattle.varisat_tracer.specs.Tracing.{TracerState, tracer_state, BreaksProof}
+use Rattle.varisat_solver.specs.OpenProofs.{OpenProof, ProofFits, GoesOnWriting}
+use Rattle.varisat_solver.specs.Targets.{WritesUpTo}
+use Rattle.varisat_solver.proofs.Targets.{writes-nothing, refused-unwritten, tells-writes, tells-refused, breaks-writes, refused-full, same-error}
+use Rattle.varisat_solver.proofs.OpenProofs.{proof-goes-on, broken-open, broken-on}
+use Rattle.varisat_solver.specs.Searches.{answer_at, Turn, turn_of, ComesTo, ComesOn, FindsVerdict}
+use Rattle.varisat_names.specs.Variables.{Tables}
+use Rattle.varisat_proof.specs.Calls.{CheckerState}
+use Rattle.varisat_proof.specs.Proving.{ProofParts}
+use Rattle.varisat_solver.specs.Spaces.{Spaces, SpacesFit}
+use Rattle.varisat_solver.specs.Summaries.{StandsFor, StandsForSome, spaces_of, spaces_with, undecided_spaces}
+use Rattle.varisat_solver.specs.Calls.{calling, with_steps, Searches, IsSpent, TellsVerdict}
+use Rattle.varisat_solver.specs.declared.solver.SolverError.{SolverError}
+use Rattle.varisat_solver.specs.declared.solver.SolverError.TheVariants.{Interrupted, ClauseStoreFull, Invalid}
+use Rattle.varisat_search.specs.StepErrors.{step_faults}
+use Rattle.varisat_solver.specs.Refusals.{step_refusal, told_faults}
+use Rattle.varisat_solver.proofs.CallStates.{ledger-is, more-since, stands-valid, proof-fits, broken, broken-invalid, searches-broken}
+use Rattle.varisat_solver.proofs.AcceptClause.{few-made}
+use Rattle.varisat_solver.specs.Changes.{invalidated}
+use Rattle.varisat_solver.proofs.SettingsCalls.{summary_of, stands-same}
+use Rattle.varisat_solver.proofs.SolverCalls.{counted-call, was-unknown, sat-model, sat-right, known-told, false-right, false-core, answered-true, answered-false, answered-none}
+use Rattle.varisat_solver.proofs.ToldEntries.{lists-ended, lists-on}
+use Rattle.varisat_solver.proofs.SolverSteps.{unknown-undecided, after-solve, flags-after, comes-satisfiable, comes-unsatisfiable, comes-fits, comes-verdict, comes-interrupted, interrupted-still}
+use Rattle.varisat_solver.proofs.solver.Solver.seek.Given.{Over}
+use Rattle.varisat_solver.proofs.solver.Solver.seek.Goals.{In-Ok-Some, In-Ok-None}
+use Rattle.varisat_solver.proofs.ChangeEnds.{stands-invalid, invalid-told}
+use Rattle.varisat_solver.proofs.solver.Solver.seek.Goals as goal
+
+-- 1. What the search comes to.
+
+-- The solver x became y as its tracer p became q, and it stood for the state.
+record Sought {A : Type 0} (p q : TracerState) (started : Bool) (changed_at : ℕ) (x y : Context A) (found : Option Bool) (s : State) : Type 0 where
+  stood : StandsFor (summary_of p started changed_at x) s
+  valid : not x.solver_state.state_is_invalid ≡ true
+  unknown : x.solver_state.sat_state ≡ verdict.Unknown
+  finds : FindsVerdict p q x y found
+  config : y.solver_config ≡ x.solver_config
+  low : changed_at ≤ x.schedule.steps
+
+module _ {A : Type 0} {p q : TracerState} {started : Bool} {changed_at : ℕ} {x y : Context A} {found : Option Bool} {s : State}
+    (d : Sought p q started changed_at x y found s) where
+  n : ℕ
+  n = y.schedule.steps
+
+  comes : ComesTo (turn_of x) (steps_since x.schedule y.schedule) s p.proof q.proof (spaces_with q.tables q.proof.checker y)
+  comes = d.finds.stands s (subst (λ b. SpacesFit (spaces_of p.tables p.proof.checker (view x) x.assumptions b) s) d.unknown (d.stood.fits d.valid))
+
+  made : steps_since x.schedule y.schedule ≡ y.schedule.steps - s.ledger.steps
+  made = ap (λ (l : Ledger). y.schedule.steps - l.steps) (sym d.stood.ledger)
+
+  turn : ((turn_of x).interval ≡ s.ledger.settings.reduce_locals_interval) × ((turn_of x).number ≡ s.ledger.steps)
+  turn = (ap (λ (l : Ledger). l.settings.reduce_locals_interval) (sym d.stood.ledger), ap (λ (l : Ledger). l.steps) (sym d.stood.ledger))
+
+  still-valid : not y.solver_state.state_is_invalid ≡ true
+  still-valid = ap (λ (b : SolverState). not b.state_is_invalid) d.finds.state ∙ d.valid
+
+  since-after : {r : Result Bool SolverError} → CountsSteps (length s.counted) s.ledger.settings.max_steps s.ledger.since s.ledger.steps
+      y.schedule.steps r → s.ledger.since + (y.schedule.steps - s.ledger.steps) ≡ y.schedule.steps - changed_at
+  since-after k =
+      let since = ap (λ (l : Ledger). l.since) d.stood.ledger in
+      let steps = ap (λ (l : Ledger). l.steps) d.stood.ledger in
+      let low = d.low in
+      let e = k.count in
+      more-since changed_at s.ledger.steps y.schedule.steps s.ledger.since (omega (arith, low, steps)) (omega (arith, e)) (omega (arith, since, steps))
+
+  goes-on : (now : Option OpenProof) × GoesOnWriting s.proof now × ProofFits q.proof.opened s.variables comes.told now
+  goes-on = proof-goes-on p.proof q.proof s.variables s.variables s.told comes.told s.proof (proof-fits d.stood d.valid) refl comes.proof
+
+  -- the solver stands for the state that it came to
+  stands-after : {r : Result Bool SolverError} → CountsSteps (length s.counted) s.ledger.settings.max_steps s.ledger.since s.ledger.steps
+      y.schedule.steps r → StandsFor (summary_of q started changed_at y)
+      (after-solve comes.told comes.verdict y.schedule.steps goes-on.0 (length y.clause_alloc.words) s)
+  stands-after k = record {
+    ledger = ledger-is _ _ _ _ _ _ _ (ap (λ (l : Ledger). l.valid) d.stood.ledger
+        ∙ ap (λ (b : SolverState). not b.state_is_invalid) (sym d.finds.state)) (ap (λ (l : Ledger). l.started) d.stood.ledger) refl (since-after k)
+        (ap (λ (l : Ledger). l.settings) d.stood.ledger ∙ sym d.config)
+        (ap (λ (l : Ledger). l.checking) d.stood.ledger
+        ∙ sym (checked-runs p.proof.checker q.proof.checker d.finds.told.0 d.finds.told.1.checked));
+    fits = λ _. comes-fits q.tables y comes y.schedule.steps goes-on.0 (length y.clause_alloc.words);
+    words = refl;
+    same = goes-on.2.same;
+    written = λ _. goes-on.2.written;
+    flags = λ _. flags-after s comes.told comes.verdict y.schedule.steps goes-on.0 (length y.clause_alloc.words) (d.stood.flags d.valid)
+        (lists-on s.told comes.told comes.more (lists-ended comes.verdict comes.more.entries comes.ends)) goes-on.1;
+    bounded = λ _. d.finds.kept.bounded;
+  }
+
+-- a verdict was found
+found-call : {A : Type 0} {p q : TracerState} {started : Bool} {changed_at : ℕ} {x y : Context A} {b : Bool} {s : State}
+    (d : Sought p q started changed_at x y (Some b) s) → CountsSteps
+    (length s.counted) s.ledger.settings.max_steps s.ledger.since s.ledger.steps y.schedule.steps (Ok b) → (t : State) × TellsVerdict calling s b t
+    × StandsFor (summary_of q started changed_at y) t
+found-call {p = p} {q = q} {started = started} {changed_at = changed_at} {x = x} {y = y} {b = b} {s = s} d k = (
+  after-solve (comes d).told (comes d).verdict y.schedule.steps (goes-on d).0 (length y.clause_alloc.words) s,
+  comes-verdict q.tables y (comes d) y.schedule.steps (goes-on d).0 (length y.clause_alloc.words) b
+      (stands-valid (summary_of p started changed_at x) s d.stood d.valid)
+      (was-unknown (summary_of p started changed_at x) s d.stood d.valid d.unknown) (turn d) k (sym d.finds.answer) (made d) (goes-on d).1,
+  stands-after d k,
+)
+
+-- the steps were spent, and some were made
+moved-call : {A : Type 0} {p q : TracerState} {started : Bool} {changed_at : ℕ} {x y : Context A} {s : State}
+    (d : Sought p q started changed_at x y None s) → CountsSteps
+    (length s.counted) s.ledger.settings.max_steps s.ledger.since s.ledger.steps y.schedule.steps (Err Interrupted) →
+    s.ledger.steps < y.schedule.steps → (t : State) × IsSpent calling s t × StandsFor (summary_of q started changed_at y) t
+moved-call {p = p} {q = q} {started = started} {changed_at = changed_at} {x = x} {y = y} {s = s} d k h =
+    let last = answered-none y.solver_state.sat_state (sym d.finds.answer) in
+    let unknown = unknown-undecided q.tables q.proof.checker y
+    (after-solve (comes d).told (comes d).verdict y.schedule.steps (goes-on d).0 (length y.clause_alloc.words) s)
+    (subst (λ b. SpacesFit (spaces_of q.tables q.proof.checker (view y) y.assumptions b)
+    (after-solve (comes d).told (comes d).verdict y.schedule.steps (goes-on d).0 (length y.clause_alloc.words) s)) last
+    (comes-fits q.tables y (comes d) y.schedule.steps (goes-on d).0 (length y.clause_alloc.words))) in (
+      after-solve (comes d).told (comes d).verdict y.schedule.steps (goes-on d).0 (length y.clause_alloc.words) s,
+      comes-interrupted q.tables y (comes d) y.schedule.steps (goes-on d).0 (length y.clause_alloc.words)
+          (stands-valid (summary_of p started changed_at x) s d.stood d.valid)
+          (was-unknown (summary_of p started changed_at x) s d.stood d.valid d.unknown) (turn d) k unknown (made d) (λ e. omega (arith, h, e)) (goes-on d).1,
+      stands-after d k,
+    )
+
+-- none was made
+still-call : {A : Type 0} {p q : TracerState} {started : Bool} {changed_at : ℕ} {x y : Context A} {s : State}
+    (d : Sought p q started changed_at x y None s) → CountsSteps
+    (length s.counted) s.ledger.settings.max_steps s.ledger.since s.ledger.steps y.schedule.steps (Err Interrupted) →
+    y.schedule.steps ≡ s.ledger.steps → (t : State) × IsSpent calling s t × StandsFor (summary_of q started changed_at y) t
+still-call {A} {p} {q} {started} {changed_at} {x} {y} {s} d k e =
+    let (same, parts) = d.finds.still (e ∙ ap (λ (l : Ledger). l.steps) d.stood.ledger) in (
+      s,
+      interrupted-still s (stands-valid (summary_of p started changed_at x) s d.stood d.valid)
+          (was-unknown (summary_of p started changed_at x) s d.stood d.valid d.unknown)
+          (subst (λ m. CountsSteps (length s.counted) s.ledger.settings.max_steps s.ledger.since s.ledger.steps m (Err Interrupted)) e k),
+      subst (λ (z : Context A). StandsFor (summary_of q started changed_at z) s) (sym same)
+          (subst (λ (t : TracerState). StandsFor (summary_of t started changed_at x) s) (sym parts) d.stood),
+    )
+
+spent-call : {A : Type 0} {p q : TracerState} {started : Bool} {changed_at : ℕ} {x y : Context A} {s : State}
+    (d : Sought p q started changed_at x y None s) → CountsSteps
+    (length s.counted) s.ledger.settings.max_steps s.ledger.since s.ledger.steps y.schedule.steps (Err Interrupted) → (t : State)
+    × IsSpent calling s t × StandsFor (summary_of q started changed_at y) t
+spent-call {A} {p} {q} {started} {changed_at} {x} {y} {s} d k =
+    ⊎_elim (λ (h : s.ledger.steps < y.schedule.steps). moved-call d k h)
+    (λ (h : y.schedule.steps ≤ s.ledger.steps). still-call d k (let e = k.count in omega (arith, e, h))) (cases_lt s.ledger.steps y.schedule.steps)
+
+-- 2. The answers.
+
+sought-some : (g : Over) (c : In-Ok-Some g) (s : State) → StandsFor
+    (summary_of (tracer_state c.self.inside.tracer) c.self.inside.started c.self.inside.changed_at c.self.inside.ctx) s →
+    Sought (tracer_state c.self.inside.tracer) (tracer_state c.find_verdict.new.tracer) c.self.inside.started c.self.inside.changed_at c.self.inside.ctx
+    c.find_verdict.new.ctx (Some c.in-Ok-Some.found) s
+sought-some g c s st = record {
+  stood = st;
+  valid = ap not c.in_ok-ensure_valid.ensures;
+  unknown = c.in-Unknown.is;
+  finds = rw c.in-Ok-Some.field-0-is at c.in-Ok-Some.ensures.found;
+  config = c.find_verdict.ensures.config;
+  low = (c.self.invariant c.in_ok-ensure_valid.ensures).counts.low;
+}
+
+sought-none : (g : Over) (c : In-Ok-None g) (s : State) → StandsFor
+    (summary_of (tracer_state c.self.inside.tracer) c.self.inside.started c.self.inside.changed_at c.self.inside.ctx) s →
+    Sought (tracer_state c.self.inside.tracer) (tracer_state c.find_verdict.new.tracer) c.self.inside.started c.self.inside.changed_at c.self.inside.ctx
+    c.find_verdict.new.ctx None s
+sought-none g c s st = record {
+  stood = st;
+  valid = ap not c.in_ok-ensure_valid.ensures;
+  unknown = c.in-Unknown.is;
+  finds = rw c.in-Ok-None.field-0-is at c.in-Ok-None.ensures.found;
+  config = c.find_verdict.ensures.config;
+  low = (c.self.invariant c.in_ok-ensure_valid.ensures).counts.low;
+}
+
+-- some state stands before the search
+begins : {A : Type 0} (t : Tables) (checker : Option CheckerState) (started : Bool) (x : Context A) → x.solver_state.sat_state ≡ verdict.Unknown →
+    StandsForSome (spaces_with t checker x) started → StandsForSome (undecided_spaces t checker x) started
+begins t checker started x e f = subst (λ b. StandsForSome (spaces_of t checker (view x) x.assumptions b) started) e f
+
+-- and after what it came to
+on : {at : Turn} {n : ℕ} {before after : Spaces} {p q : ProofParts} {started : Bool} → ComesOn at n before after p q → StandsForSome before started →
+    StandsForSome after started
+on comes (s, fits, fresh) = let c = comes s fits in (_, c.fits, fresh)
+
+pub find_verdict-requires-clause-stands : goal.find_verdict-requires-clause-stands
+find_verdict-requires-clause-stands g c = let (s, fits, fresh) =
+    begins c.self.inside.tracer.tables c.self.inside.tracer.proof.checker c.self.inside.started c.self.inside.ctx c.in-Unknown.is
+    (c.self.invariant c.in_ok-ensure_valid.ensures).stands in (s, fits)
+
+pub invariant_of-self : goal.invariant_of-self
+invariant_of-self g c _ =
+    let f = c.in-Ok-Some.ensures.found in
+    record {
+      stands = on f.stands (begins c.self.inside.tracer.tables c.self.inside.tracer.proof.checker c.self.inside.started c.self.inside.ctx
+          c.in-Unknown.is (c.self.invariant c.in_ok-ensure_valid.ensures).stands);
+      kept = f.kept;
+      tells = f.tells;
+      counts =
+          c.in-Ok-Some.ensures.since c.self.inside.changed_at (c.self.invariant c.in_ok-ensure_valid.ensures).counts;
+    }
+
+pub invariant_of-self-in-Ok-None : goal.invariant_of-self-in-Ok-None
+invariant_of-self-in-Ok-None g c _ =
+    let f = c.in-Ok-None.ensures.found in
+    record {
+      stands = on f.stands (begins c.self.inside.tracer.tables c.self.inside.tracer.proof.checker c.self.inside.started c.self.inside.ctx
+          c.in-Unknown.is (c.self.invariant c.in_ok-ensure_valid.ensures).stands);
+      kept = f.kept;
+      tells = f.tells;
+      counts =
+          c.in-Ok-None.ensures.since c.self.inside.changed_at (c.self.invariant c.in_ok-ensure_valid.ensures).counts;
+    }
+
+pub returns-in-Sat-clause-call : goal.returns-in-Sat-clause-call
+returns-in-Sat-clause-call g c s st =
+    let q = rw (← c.self.view_is) at st in
+    (s, known-told _ s true q (ap not c.in_ok-ensure_valid.ensures) (ap answer_at c.in-Sat.is), st)
+
+pub returns-in-Sat-clause-satisfiable : goal.returns-in-Sat-clause-satisfiable
+returns-in-Sat-clause-satisfiable g c e s st = let q = rw (← c.self.view_is) at st in sat-right _ s q (ap not c.in_ok-ensure_valid.ensures) c.in-Sat.is
+
+pub returns-in-Sat-clause-model : goal.returns-in-Sat-clause-model
+returns-in-Sat-clause-model g c e s st =
+    let q = rw (← c.self.view_is) at st in
+    let r = sat-model _ s q (ap not c.in_ok-ensure_valid.ensures) c.in-Sat.is in (_, r.0, r.1)
+
+pub returns-in-Unsat-clause-call : goal.returns-in-Unsat-clause-call
+returns-in-Unsat-clause-call g c s st = let q = rw (← c.self.view_is) at st in
+    (s, known-told _ s false q (ap not c.in_ok-ensure_valid.ensures) (answered-false _ c.in-Unsat.is), st)
+
+pub returns-in-Unsat-clause-unsatisfiable : goal.returns-in-Unsat-clause-unsatisfiable
+returns-in-Unsat-clause-unsatisfiable g c e s st = let q = rw (← c.self.view_is) at st in
+    false-right _ s q (ap not c.in_ok-ensure_valid.ensures) (answered-false _ c.in-Unsat.is)
+
+pub returns-in-Unsat-clause-core : goal.returns-in-Unsat-clause-core
+returns-in-Unsat-clause-core g c e s st =
+    let q = rw (← c.self.view_is) at st in
+    false-core _ s q (ap not c.in_ok-ensure_valid.ensures) (answered-false _ c.in-Unsat.is)
+
+pub returns-in-Ok-Some-clause-call : goal.returns-in-Ok-Some-clause-call
+returns-in-Ok-Some-clause-call g c s st =
+    let q = rw (← c.self.view_is) at st in
+    found-call (sought-some g c s q)
+    (counted-call _ s c.max_steps-max_steps.result c.find_verdict.new.ctx.schedule.steps (told_verdict c.find_verdict.result)
+    (Ok c.in-Ok-Some.found) q (ap not c.in_ok-ensure_valid.ensures) c.max_steps-max_steps.ensures
+    (ap told_verdict (c.in-Ok-Some.is ∙ ap Ok c.in-Ok-Some.field-0-is))
+    (λ m h. c.find_verdict.ensures.counted m c.self.inside.changed_at h (c.self.invariant c.in_ok-ensure_valid.ensures).counts))
+
+pub returns-in-Ok-Some-clause-satisfiable : goal.returns-in-Ok-Some-clause-satisfiable
+returns-in-Ok-Some-clause-satisfiable g c b s st =
+    let sat : c.in-Ok-Some.found ≡ true = cc in
+    let d = sought-some g c s (rw (← c.self.view_is) at st) in
+    comes-satisfiable c.find_verdict.new.tracer.tables c.find_verdict.new.ctx (comes d) (answered-true _ (sym d.finds.answer ∙ ap Some sat))
+
+pub returns-in-Ok-Some-clause-unsatisfiable : goal.returns-in-Ok-Some-clause-unsatisfiable
+returns-in-Ok-Some-clause-unsatisfiable g c b s st =
+    let unsat : c.in-Ok-Some.found ≡ false = cc in
+    let d = sought-some g c s (rw (← c.self.view_is) at st) in
+    comes-unsatisfiable c.find_verdict.new.tracer.tables c.find_verdict.new.ctx (comes d) (sym d.finds.answer ∙ ap Some unsat)
+
+pub returns-in-Ok-Some-clause-model : goal.returns-in-Ok-Some-clause-model
+returns-in-Ok-Some-clause-model g c b s st =
+    let f : FindsVerdict (tracer_state c.self.inside.tracer) (tracer_state c.find_verdict.new.tracer) c.self.inside.ctx c.find_verdict.new.ctx
+    (Some c.in-Ok-Some.found) = rw c.in-Ok-Some.field-0-is at c.in-Ok-Some.ensures.found in
+    let sat : c.in-Ok-Some.found ≡ true = cc in
+    let r = sat-model _ s st (ap (λ (x : SolverState). not x.state_is_invalid) f.state ∙ ap not c.in_ok-ensure_valid.ensures)
+    (answered-true _ (sym f.answer ∙ ap Some sat)) in
+    (_, r.0, r.1)
+
+pub returns-in-Ok-Some-clause-core : goal.returns-in-Ok-Some-clause-core
+returns-in-Ok-Some-clause-core g c b s st =
+    let f : FindsVerdict (tracer_state c.self.inside.tracer) (tracer_state c.find_verdict.new.tracer) c.self.inside.ctx c.find_verdict.new.ctx
+    (Some c.in-Ok-Some.found) = rw c.in-Ok-Some.field-0-is at c.in-Ok-Some.ensures.found in
+    let unsat : c.in-Ok-Some.found ≡ false = cc in
+    false-core _ s st (ap (λ (x : SolverState). not x.state_is_invalid) f.state ∙ ap not c.in_ok-ensure_valid.ensures) (sym f.answer ∙ ap Some unsat)
+
+pub returns-in-Ok-None-clause-call : goal.returns-in-Ok-None-clause-call
+returns-in-Ok-None-clause-call g c s st =
+    let q = rw (← c.self.view_is) at st in
+    spent-call (sought-none g c s q)
+    (counted-call _ s c.max_steps-max_steps.result c.find_verdict.new.ctx.schedule.steps (told_verdict c.find_verdict.result) (Err Interrupted) q
+    (ap not c.in_ok-ensure_valid.ensures) c.max_steps-max_steps.ensures (ap told_verdict (c.in-Ok-None.is ∙ ap Ok c.in-Ok-None.field-0-is))
+    (λ m h. c.find_verdict.ensures.counted m c.self.inside.changed_at h (c.self.invariant c.in_ok-ensure_valid.ensures).counts))
+
+pub returns-in-Err-clause-call : goal.returns-in-Err-clause-call
+returns-in-Err-clause-call g c s st =
+    let q = rw (← c.self.view_is) at st in
+    let ok = ap not c.in_ok-ensure_valid.ensures in
+    let was = was-unknown _ s q ok c.in-Unknown.is in
+    let n = c.find_verdict.new.ctx.schedule.steps in
+    let since = (c.self.invariant c.in_ok-ensure_valid.ensures).counts in
+    let counts = counted-call _ s c.max_steps-max_steps.result n (told_verdict c.find_verdict.result)
+    (Err (step_refusal c.in-Err.error)) q ok c.max_steps-max_steps.ensures (ap told_verdict c.in-Err.is)
+    (λ m h. c.find_verdict.ensures.counted m c.self.inside.changed_at h since) in
+    let low = since.low in
+    let before = ap (λ (x : Ledger). x.since) q.ledger in
+    let steps = ap (λ (x : Ledger). x.steps) q.ledger in
+    let count = counts.count in
+    let words = length c.find_verdict.new.ctx.clause_alloc.words in
+    let (now, goes, same) = broken-on c.self.inside.tracer.proof c.find_verdict.new.tracer.proof (step_faults c.in-Err.error) s.proof q.same
+    c.in-Err.ensures.broken in (
+      broken now words (with_steps n s),
+      subst (λ e. Searches s (Err e) (broken now words (with_steps n s))) (sym c.invalidate.ensures.told)
+          (searches-broken c.in-Err.error s (broken now words (with_steps n s))
+          (λ f. broken-open c.self.inside.tracer.proof c.find_verdict.new.tracer.proof s.variables s.told s.proof (proof-fits q ok)
+          (subst (λ k. BreaksProof c.self.inside.tracer.proof k c.find_verdict.new.tracer.proof) f c.in-Err.ensures.broken)) was counts
+          (broken-invalid (step_faults c.in-Err.error) (with_steps n s) now words (stands-valid _ s q ok) goes)
+          (λ f. let room = c.in-Err.ensures.full f in let size = c.in-Err.ensures.size f in
+          let few = few-made (q.fits ok).0 _ s (q.fits ok).1 in omega (arith, room, size, few))),
+      stands-same (tracer_state c.find_verdict.new.tracer) c.self.inside.started c.self.inside.changed_at (invalidated c.find_verdict.new.ctx)
+          c.invalidate.new.ctx (broken now words (with_steps n s)) c.invalidate.ensures.invalid (record {
+            ledger = ledger-is _ _ _ _ _ _ _ refl (ap (λ (x : Ledger). x.started) q.ledger) refl
+                (more-since c.self.inside.changed_at s.ledger.steps n s.ledger.since (omega (arith, low, steps)) (omega (arith, count))
+                (omega (arith, before, steps))) (ap (λ (x : Ledger). x.settings) q.ledger ∙ sym c.find_verdict.ensures.config)
+                (ap (λ (x : Ledger). x.checking) q.ledger ∙ sym c.in-Err.ensures.broken.2);
+            words = refl;
+            same = same;
+            fits = λ e. absurd cc;
+            written = λ e. absurd cc;
+            flags = λ e. absurd cc;
+            bounded = λ e. absurd cc;
+          }),
+    )
+
+-- 3. What the target took.
+pub returns-in-Sat-clause-target : goal.returns-in-Sat-clause-target
+returns-in-Sat-clause-target g c = writes-nothing c.args.self.now.opened
+
+pub returns-in-Sat-clause-whole : goal.returns-in-Sat-clause-whole
+returns-in-Sat-clause-whole g c v = writes-nothing c.args.self.now.opened
+
+pub returns-in-Unsat-clause-target : goal.returns-in-Unsat-clause-target
+returns-in-Unsat-clause-target g c = writes-nothing c.args.self.now.opened
+
+pub returns-in-Unsat-clause-whole : goal.returns-in-Unsat-clause-whole
+returns-in-Unsat-clause-whole g c v = writes-nothing c.args.self.now.opened
+
+pub returns-in-Ok-Some-clause-target : goal.returns-in-Ok-Some-clause-target
+returns-in-Ok-Some-clause-target g c = rw (← c.self.view_is)
+    (tells-writes c.self.inside.tracer.proof c.find_verdict.new.tracer.proof c.in-Ok-Some.ensures.found.told)
+
+pub returns-in-Ok-Some-clause-whole : goal.returns-in-Ok-Some-clause-whole
+returns-in-Ok-Some-clause-whole g c v = rw (← c.self.view_is)
+    (tells-writes c.self.inside.tracer.proof c.find_verdict.new.tracer.proof c.in-Ok-Some.ensures.found.told)
+
+pub returns-in-Ok-None-clause-target : goal.returns-in-Ok-None-clause-target
+returns-in-Ok-None-clause-target g c = rw (← c.self.view_is)
+    (tells-refused c.self.inside.tracer.proof c.find_verdict.new.tracer.proof Interrupted refl c.in-Ok-None.ensures.found.told)
+
+pub returns-in-Ok-None-clause-whole : goal.returns-in-Ok-None-clause-whole
+returns-in-Ok-None-clause-whole g c v = rw (← c.self.view_is)
+    (tells-writes c.self.inside.tracer.proof c.find_verdict.new.tracer.proof c.in-Ok-None.ensures.found.told)
+
+pub returns-in-Err-clause-target : goal.returns-in-Err-clause-target
+returns-in-Err-clause-target g c =
+    rw (← c.self.view_is) (subst (λ e. WritesUpTo (told_faults e) c.self.inside.tracer.proof.opened c.find_verdict.new.tracer.proof.opened)
+    (sym c.invalidate.ensures.told)
+    (breaks-writes c.self.inside.tracer.proof c.find_verdict.new.tracer.proof c.in-Err.error c.in-Err.ensures.broken))
+
+pub returns-in-Err-clause-full : goal.returns-in-Err-clause-full
+returns-in-Err-clause-full g c f =
+    rw c.invalidate.ensures.invalid (c.in-Err.ensures.full (refused-full c.in-Err.error (sym c.invalidate.ensures.told ∙ same-error _ ClauseStoreFull f)))
+
+-- 4. Which variables left.
+pub returns-in-Ok-Some-clause-leaves : goal.returns-in-Ok-Some-clause-leaves
+returns-in-Ok-Some-clause-leaves g c h v n = c.in-Ok-Some.ensures.found.leaves (rw (← c.self.view_is) at h) n
+
+pub returns-in-Ok-None-clause-leaves : goal.returns-in-Ok-None-clause-leaves
+returns-in-Ok-None-clause-leaves g c h v n = c.in-Ok-None.ensures.found.leaves (rw (← c.self.view_is) at h) n
+
+pub returns-in_err-ensure_valid-clause-call : goal.returns-in_err-ensure_valid-clause-call
+returns-in_err-ensure_valid-clause-call g c s st =
+    let q = rw (← c.self.view_is) at st in
+    let refused = invalid-told c.from_residual.result c.in_err-ensure_valid.field-0.0 c.from_residual.ensures c.in_err-ensure_valid.ensures.0 in
+    (s, subst (λ r. Searches s r s) (sym refused) (stands-invalid _ s q (ap not c.in_err-ensure_valid.ensures.1), refl), st)
+
+pub returns-in_err-ensure_valid-clause-target : goal.returns-in_err-ensure_valid-clause-target
+returns-in_err-ensure_valid-clause-target g c =
+    let refused = invalid-told c.from_residual.result c.in_err-ensure_valid.field-0.0 c.from_residual.ensures c.in_err-ensure_valid.ensures.0 in
+    rw refused (refused-unwritten c.args.self.now.opened Invalid refl)
+
+pub returns-in_err-ensure_valid-clause-whole : goal.returns-in_err-ensure_valid-clause-whole
+returns-in_err-ensure_valid-clause-whole g c v = writes-nothing c.args.self.now.opened

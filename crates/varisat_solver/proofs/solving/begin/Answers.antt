@@ -1,0 +1,135 @@
+use Rattle.std.proofs.Common.{◌≡◌, ◌≢◌, ap, ◌∙◌, subst, sym, refl}
+use Rattle.varisat_names.specs.Variables.{Tables}
+use Rattle.varisat_search.specs.declared.context.Context.{Context}
+use Rattle.varisat_search.specs.declared.error.StepError.TheVariants as step
+use Rattle.varisat_search.specs.Contexts.{view}
+use Rattle.varisat_search.specs.DueReductions.{BeginsStep}
+use Rattle.varisat_search.specs.StepErrors.{step_error_of_trace, step_faults}
+use Rattle.varisat_search.proofs.StepErrors.{trace-faults, trace-unfilled}
+use Rattle.varisat_trace.specs.Traces.{TakesLines, faults_of}
+use Rattle.varisat_trace.proofs.Broken.{passed-on}
+use Rattle.varisat_tracer.specs.Tracing.{tracer_state, TakesGlobally, BreaksProof}
+use Rattle.varisat_tracer.proofs.Telling.{breaks-proof, proof-breaks-on}
+use Rattle.varisat_solver.specs.Searches.{turn_of}
+use Rattle.varisat_solver.specs.Summaries.{undecided_spaces, IsKept}
+use Rattle.varisat_solver.proofs.SinceSteps.{leaves-begun, come-begun, steps-begun}
+use Rattle.varisat_solver.proofs.CheckedHeld.{relied, some-on}
+use Rattle.varisat_solver.proofs.SolverSteps.{comes-through, unknown-undecided, some-through, begins-any, begin-count, begin-kept, begin-told, begin-tables, begin-tells, begin-comes}
+use Rattle.varisat_solver.proofs.solving.begin.Given.{Over}
+use Rattle.varisat_solver.proofs.solving.begin.Goals.{In_ok-begin_step}
+use Rattle.varisat_solver.proofs.solving.begin.Goals as goal
+
+pub begin_step-requires-clause-holds : goal.begin_step-requires-clause-holds
+begin_step-requires-clause-holds g c = relied c.args.tracer.now.tables c.args.tracer.now.proof
+    (view c.args.ctx.now) c.args.ctx.now.assumptions c.requires.tells c.requires.stands
+
+-- how the step began
+begun : (g : Over) (c : In_ok-begin_step g) →
+    BeginsStep (λ lines. TakesLines TakesGlobally (tracer_state c.args.tracer.now) lines (tracer_state c.begin_step.new.proof)) c.args.ctx.now
+    c.begin_step.new.ctx
+begun g c = (c.in_ok-begin_step.ensures {u = tt}).begins
+
+kept : (g : Over) (c : In_ok-begin_step g) → IsKept c.begin_step.new.proof.tables c.begin_step.new.ctx
+kept g c =
+    let b = begun g c in
+    subst (λ (t : Tables). IsKept t c.begin_step.new.ctx)
+    (sym (begin-tables (tracer_state c.args.tracer.now) (tracer_state c.begin_step.new.proof) c.args.ctx.now c.begin_step.new.ctx b))
+    (begin-kept c.args.ctx.now c.begin_step.new.ctx b c.requires.kept.ready c.args.tracer.now.tables c.requires.kept)
+
+-- no step is counted yet
+steps-still : (g : Over) (c : In_ok-begin_step g) → c.begin_step.new.ctx.schedule.steps ≡ c.args.ctx.now.schedule.steps
+steps-still g c = ap (λ (x : Context g.row.A.Denot). x.schedule.steps) c.begin_step.ensures.kept ∙ steps-begun _ c.args.ctx.now.schedule
+
+pub drop_fixed-requires-clause-kept : goal.drop_fixed-requires-clause-kept
+drop_fixed-requires-clause-kept g c = kept g (goal.at.drop_fixed-requires-clause-kept g c).In_ok-begin_step
+
+pub drop_fixed-requires-clause-tells : goal.drop_fixed-requires-clause-tells
+drop_fixed-requires-clause-tells g c = begin-tells (tracer_state c.args.tracer.now)
+    (tracer_state c.begin_step.new.proof) c.args.ctx.now c.begin_step.new.ctx
+    (begun g (goal.at.drop_fixed-requires-clause-tells g c).In_ok-begin_step) c.requires.tells
+
+pub drop_fixed-requires-clause-unknown : goal.drop_fixed-requires-clause-unknown
+drop_fixed-requires-clause-unknown g c = ap (λ (x : Context g.row.A.Denot). x.solver_state.sat_state) c.begin_step.ensures.kept ∙ c.requires.unknown
+
+pub drop_fixed-requires-clause-stands : goal.drop_fixed-requires-clause-stands
+drop_fixed-requires-clause-stands g c =
+    let p = tracer_state c.args.tracer.now in
+    let q = tracer_state c.begin_step.new.proof in
+    some-on _ 0 _ _ p.proof q.proof (begin-comes p q c.args.ctx.now c.begin_step.new.ctx c.requires.kept
+    (steps-still g (goal.at.drop_fixed-requires-clause-stands g c).In_ok-begin_step)
+    (begun g (goal.at.drop_fixed-requires-clause-stands g c).In_ok-begin_step)) c.requires.stands
+
+pub returns-clause-begins : goal.returns-clause-begins
+returns-clause-begins g c =
+    let p = c.args.tracer.now in
+    let q = c.begin_step.new.proof in
+    let r = c.drop_fixed.new.tracer in
+    let x = c.args.ctx.now in
+    let y = c.begin_step.new.ctx in
+    let z = c.drop_fixed.new.ctx in
+    let b = begun g (goal.at.returns-clause-begins g c).In_ok-begin_step in
+    let e = c.in_ok-drop_fixed.ensures {u = tt} in
+    let count = begin-count x y b c.requires.kept.ready in
+    let config = ap (λ (c : Context g.row.A.Denot). c.solver_config) c.begin_step.ensures.kept in
+    record {
+      kept = e.kept;
+      tells = e.tells;
+      told = some-through p.proof q.proof r.proof (begin-told (tracer_state p) (tracer_state q) x y b) e.told;
+      within = λ i k. e.within i x.schedule
+          (come-begun _ x y c.requires.kept.ready c.prove_in_range.ensures.luby_restart_interval_scale c.requires.counted b config count i k);
+      state = c.drop_fixed.ensures.state ∙ ap (λ (c : Context g.row.A.Denot). c.solver_state) c.begin_step.ensures.kept;
+      count = e.count ∙ count;
+      left = record { reduced = y; begins = begins-any x y b; left = e.left };
+      leaves = λ h. e.leaves (leaves-begun p.tables q.tables x y c.requires.kept.ready b (begin-tables (tracer_state p) (tracer_state q) x y b) h);
+      calm = e.calm;
+      stands = comes-through (turn_of x) p.proof q.proof r.proof (undecided_spaces p.tables p.proof.checker x)
+          (undecided_spaces q.tables q.proof.checker y) (undecided_spaces r.tables r.proof.checker z)
+          (unknown-undecided q.tables q.proof.checker y)
+          (begin-comes (tracer_state p) (tracer_state q) x y c.requires.kept
+          (steps-still g (goal.at.returns-clause-begins g c).In_ok-begin_step) b) (e.stands (turn_of x));
+    }
+
+pub returns-clause-schedule : goal.returns-clause-schedule
+returns-clause-schedule g c = c.drop_fixed.ensures.schedule.schedule ∙ ap (λ (x : Context g.row.A.Denot). x.schedule) c.begin_step.ensures.kept
+
+pub returns-clause-config : goal.returns-clause-config
+returns-clause-config g c = c.drop_fixed.ensures.schedule.solver_config ∙ ap (λ (x : Context g.row.A.Denot). x.solver_config) c.begin_step.ensures.kept
+
+pub returns-in_err-drop_fixed-clause-schedule : goal.returns-in_err-drop_fixed-clause-schedule
+returns-in_err-drop_fixed-clause-schedule g c = c.drop_fixed.ensures.schedule.schedule
+    ∙ ap (λ (x : Context g.row.A.Denot). x.schedule) c.begin_step.ensures.kept
+
+pub returns-in_err-drop_fixed-clause-config : goal.returns-in_err-drop_fixed-clause-config
+returns-in_err-drop_fixed-clause-config g c = c.drop_fixed.ensures.schedule.solver_config
+    ∙ ap (λ (x : Context g.row.A.Denot). x.solver_config) c.begin_step.ensures.kept
+
+pub returns-in_err-begin_step-clause-broken : goal.returns-in_err-begin_step-clause-broken
+returns-in_err-begin_step-clause-broken g c =
+    let e = c.in_err-begin_step.field-0.0 in
+    let p = c.args.tracer.now in
+    let q = c.begin_step.new.proof in
+    passed-on c.from_residual.result (step_error_of_trace e) (λ z. BreaksProof p.proof (step_faults z) q.proof) c.from_residual.ensures
+    (subst (λ n. BreaksProof p.proof n q.proof) (trace-faults e)
+    (breaks-proof (tracer_state p) (tracer_state q) (faults_of e) (c.in_err-begin_step.ensures {u = tt}).broken))
+
+pub returns-in_err-begin_step-clause-full : goal.returns-in_err-begin_step-clause-full
+returns-in_err-begin_step-clause-full g c =
+    let e = c.in_err-begin_step.field-0.0 in
+    passed-on c.from_residual.result (step_error_of_trace e) (λ z. z ≢ step.Full) c.from_residual.ensures (trace-unfilled e)
+
+pub returns-in_err-drop_fixed-clause-broken : goal.returns-in_err-drop_fixed-clause-broken
+returns-in_err-drop_fixed-clause-broken g c =
+    let e = c.in_err-drop_fixed.field-0.0 in
+    let p = c.args.tracer.now in
+    let q = c.begin_step.new.proof in
+    let r = c.drop_fixed.new.tracer in
+    let (given, told) = begin-told (tracer_state p) (tracer_state q) c.args.ctx.now c.begin_step.new.ctx
+    (begun g (goal.at.returns-in_err-drop_fixed-clause-broken g c).In_ok-begin_step) in
+    passed-on c.from_residual-in_err-drop_fixed.result e (λ z. BreaksProof p.proof (step_faults z) r.proof) c.from_residual-in_err-drop_fixed.ensures
+    (proof-breaks-on p.proof q.proof r.proof given (step_faults e) told (c.in_err-drop_fixed.ensures {u = tt}).broken)
+
+pub returns-in_err-drop_fixed-clause-full : goal.returns-in_err-drop_fixed-clause-full
+returns-in_err-drop_fixed-clause-full g c =
+    let e = c.in_err-drop_fixed.field-0.0 in
+    passed-on c.from_residual-in_err-drop_fixed.result e (λ z. z ≢ step.Full) c.from_residual-in_err-drop_fixed.ensures
+    (c.in_err-drop_fixed.ensures {u = tt}).full

@@ -1,0 +1,135 @@
+use Rattle.std.proofs.Common.{◌≡◌, ◌<◌, length, ap, ◌∙◌, sym, subst, refl}
+use Rattle.varisat_schedule.specs.Plans.{Plan, next_plan}
+use Rattle.varisat_names.specs.Settings.{Settings}
+use Rattle.varisat_search.specs.declared.error.StepError.TheVariants as step
+use Rattle.varisat_search.specs.declared.state.SolverState.{SolverState}
+use Rattle.varisat_search.specs.StepErrors.{step_faults, HasNoRoom}
+use Rattle.varisat_trace.proofs.Broken.{passed-on, on-error}
+use Rattle.varisat_tracer.specs.Tracing.{tracer_state, BreaksProof}
+use Rattle.varisat_tracer.proofs.Telling.{proof-breaks-on, tells-on}
+use Rattle.varisat_solver.specs.Searches.{turn_of, BeginsSolverStep, MakesNamedStep}
+use Rattle.varisat_solver.specs.Summaries.{undecided_spaces, spaces_with}
+use Rattle.varisat_solver.proofs.SinceSteps.{leaves-stepped, come-ended, steps-begun, step-ended}
+use Rattle.varisat_solver.proofs.CheckedHeld.{some-on}
+use Rattle.varisat_solver.proofs.SearchVerdicts.{ready-counted, named-counted, kept-named, kept-counted}
+use Rattle.varisat_solver.proofs.SolverSteps.{later, comes-one-more, unknown-undecided, some-through, named-comes}
+use Rattle.varisat_solver.proofs.solving.make_step.Given.{Over}
+use Rattle.varisat_solver.proofs.solving.make_step.Goals.{In_ok-begin, In_ok-named_conflict_step}
+use Rattle.varisat_solver.proofs.solving.make_step.Goals as goal
+
+-- how the step began
+begun : (g : Over) (c : In_ok-begin g) → BeginsSolverStep (tracer_state c.args.tracer.now) (tracer_state c.begin.new.tracer) c.args.ctx.now c.begin.new.ctx
+begun g c = (c.in_ok-begin.ensures {u = tt}).begins
+
+-- and what came of it
+named : (g : Over) (c : In_ok-named_conflict_step g) → MakesNamedStep (tracer_state c.begin.new.tracer)
+    (tracer_state c.named_conflict_step.new.tracer) c.begin.new.ctx c.named_conflict_step.new.ctx
+named g c = (c.in_ok-named_conflict_step.ensures {u = tt}).made
+
+pub named_conflict_step-requires-clause-kept : goal.named_conflict_step-requires-clause-kept
+named_conflict_step-requires-clause-kept g c = (begun g (goal.at.named_conflict_step-requires-clause-kept g c).In_ok-begin).kept
+
+pub named_conflict_step-requires-clause-tells : goal.named_conflict_step-requires-clause-tells
+named_conflict_step-requires-clause-tells g c = (begun g (goal.at.named_conflict_step-requires-clause-tells g c).In_ok-begin).tells
+
+pub named_conflict_step-requires-clause-stands : goal.named_conflict_step-requires-clause-stands
+named_conflict_step-requires-clause-stands g c =
+    some-on _ 0 _ _ c.args.tracer.now.proof c.begin.new.tracer.proof
+    (begun g (goal.at.named_conflict_step-requires-clause-stands g c).In_ok-begin).stands c.requires.stands
+
+pub named_conflict_step-requires-clause-unknown : goal.named_conflict_step-requires-clause-unknown
+named_conflict_step-requires-clause-unknown g c = ap (λ (s : SolverState). s.sat_state)
+    (begun g (goal.at.named_conflict_step-requires-clause-unknown g c).In_ok-begin).state ∙ c.requires.unknown
+
+pub returns-clause-made : goal.returns-clause-made
+returns-clause-made g c =
+    let p = c.args.tracer.now in
+    let q = c.begin.new.tracer in
+    let r = c.named_conflict_step.new.tracer in
+    let x = c.args.ctx.now in
+    let y = c.begin.new.ctx in
+    let z = c.named_conflict_step.new.ctx in
+    let plan : Plan = c.end_step.new.self in
+    let b = begun g (goal.at.returns-clause-made g c).In_ok-begin in
+    let m = named g (goal.at.returns-clause-made g c).In_ok-named_conflict_step in
+    let (lines, steps, learns, takes) = m.steps in
+    let same = c.named_conflict_step.ensures.schedule in
+    record {
+      mid = tracer_state q;
+      middle = y;
+      begins = b;
+      ends = named-counted (tracer_state q) (tracer_state r) y z y.schedule m;
+      kept = kept-counted r.tables z plan (kept-named (tracer_state q) (tracer_state r) y z b.kept m);
+      tells = tells-on (tracer_state q) (tracer_state r) _ takes b.tells;
+      told = some-through p.proof q.proof r.proof b.told (_, takes.told);
+      since = λ u i k.
+          come-ended i x.schedule y (record z { schedule = plan }) b.kept.ready (ready-counted z plan m.ready) (m.rises u)
+          (step-ended _ x.schedule z.schedule plan (same.schedule ∙ c.begin.ensures.schedule) c.end_step.ensures
+          ∙ ap (λ (s : Settings). next_plan s.luby_restart_interval_scale x.schedule) (sym c.begin.ensures.config))
+          same.solver_config m.count m.decidable (b.within i k);
+      state = m.state ∙ ap (λ (s : SolverState). record s { sat_state = z.solver_state.sat_state }) b.state;
+      count = m.count ∙ b.count;
+      leaves = λ h n. leaves-stepped q.tables r.tables y z m.tables m.fixes (b.leaves h) n;
+      stands = comes-one-more (turn_of x) 0 1 p.proof q.proof r.proof (undecided_spaces p.tables p.proof.checker x)
+          (undecided_spaces q.tables q.proof.checker y) (spaces_with r.tables r.proof.checker (record z { schedule = plan })) refl
+          (unknown-undecided q.tables q.proof.checker y)
+          b.stands (named-comes (tracer_state q) (tracer_state r) y z b.kept m b.calm (later 0 (turn_of x)));
+    }
+
+pub returns-clause-schedule : goal.returns-clause-schedule
+returns-clause-schedule g c = step-ended _ c.args.ctx.now.schedule c.named_conflict_step.new.ctx.schedule c.end_step.new.self
+    (c.named_conflict_step.ensures.schedule.schedule ∙ c.begin.ensures.schedule) c.end_step.ensures
+
+pub returns-clause-config : goal.returns-clause-config
+returns-clause-config g c = c.named_conflict_step.ensures.schedule.solver_config ∙ c.begin.ensures.config
+
+pub end_step-requires : goal.end_step-requires
+end_step-requires g c = subst (λ (p : Plan). p.steps < p.next_restart) (sym c.named_conflict_step.ensures.schedule.schedule) c.begin.ensures.later
+
+pub returns-in_err-begin-clause-uncounted : goal.returns-in_err-begin-clause-uncounted
+returns-in_err-begin-clause-uncounted g c = on-error c.from_residual.result _
+    (ap (λ (p : Plan). p.steps) c.begin.ensures.schedule ∙ steps-begun _ c.args.ctx.now.schedule)
+
+pub returns-in_err-begin-clause-broken : goal.returns-in_err-begin-clause-broken
+returns-in_err-begin-clause-broken g c =
+    let e = c.in_err-begin.field-0.0 in
+    passed-on c.from_residual.result e (λ z. BreaksProof c.args.tracer.now.proof (step_faults z) c.begin.new.tracer.proof) c.from_residual.ensures
+    (c.in_err-begin.ensures {u = tt}).broken
+
+pub returns-in_err-begin-clause-full : goal.returns-in_err-begin-clause-full
+returns-in_err-begin-clause-full g c =
+    let e = c.in_err-begin.field-0.0 in
+    passed-on c.from_residual.result e (λ z. z ≡ step.Full → HasNoRoom c.begin.new.ctx) c.from_residual.ensures
+    (λ z. absurd ((c.in_err-begin.ensures {u = tt}).full z))
+
+pub returns-in_err-begin-clause-size : goal.returns-in_err-begin-clause-size
+returns-in_err-begin-clause-size g c =
+    passed-on c.from_residual.result c.in_err-begin.field-0.0
+    (λ z. z ≡ step.Full → length c.begin.new.ctx.assignment.current ≡ length c.args.ctx.now.assignment.current) c.from_residual.ensures
+    (λ z. absurd ((c.in_err-begin.ensures {u = tt}).full z))
+
+pub returns-in_err-named_conflict_step-clause-size : goal.returns-in_err-named_conflict_step-clause-size
+returns-in_err-named_conflict_step-clause-size g c =
+    passed-on c.from_residual-in_err-named_conflict_step.result c.in_err-named_conflict_step.field-0.0
+    (λ z. z ≡ step.Full → length c.named_conflict_step.new.ctx.assignment.current ≡ length c.args.ctx.now.assignment.current)
+    c.from_residual-in_err-named_conflict_step.ensures
+    (λ f. (c.in_err-named_conflict_step.ensures {u = tt}).size f ∙ (begun g (goal.at.returns-in_err-named_conflict_step-clause-size g c).In_ok-begin).count)
+
+pub returns-in_err-named_conflict_step-clause-uncounted : goal.returns-in_err-named_conflict_step-clause-uncounted
+returns-in_err-named_conflict_step-clause-uncounted g c =
+    on-error c.from_residual-in_err-named_conflict_step.result _
+    (ap (λ (p : Plan). p.steps) (c.named_conflict_step.ensures.schedule.schedule ∙ c.begin.ensures.schedule) ∙ steps-begun _ c.args.ctx.now.schedule)
+
+pub returns-in_err-named_conflict_step-clause-config : goal.returns-in_err-named_conflict_step-clause-config
+returns-in_err-named_conflict_step-clause-config g c = c.named_conflict_step.ensures.schedule.solver_config ∙ c.begin.ensures.config
+
+pub returns-in_err-named_conflict_step-clause-broken : goal.returns-in_err-named_conflict_step-clause-broken
+returns-in_err-named_conflict_step-clause-broken g c =
+    let e = c.in_err-named_conflict_step.field-0.0 in
+    let p = c.args.tracer.now in
+    let q = c.begin.new.tracer in
+    let r = c.named_conflict_step.new.tracer in
+    let (given, told) = (begun g (goal.at.returns-in_err-named_conflict_step-clause-broken g c).In_ok-begin).told in
+    passed-on c.from_residual-in_err-named_conflict_step.result e
+    (λ z. BreaksProof p.proof (step_faults z) r.proof) c.from_residual-in_err-named_conflict_step.ensures
+    (proof-breaks-on p.proof q.proof r.proof given (step_faults e) told (c.in_err-named_conflict_step.ensures {u = tt}).broken)

@@ -1,0 +1,134 @@
+-- What becomes of variables whose values are fixed, unless they are assumed: they leave the search. The values are kept, and what
+-- has no name may be used again.
+use Rattle.std.specs.Prelude.{◌≡◌, ◌≢◌, ◌↔◌, ◌⊎◌, ℕ, ◌<◌, Bool, true, false, not, Option, Some, None, List, [], ◌∷◌, length, map, slice_index_or, IsSome}
+use Rattle.std.specs.Option.{is_none}
+use Rattle.std.specs.List.{filter}
+use Rattle.varisat_theory.specs.Membership.{◌∈◌, IsDistinct}
+use Rattle.varisat_theory.specs.Literals.{Literal, variable_of}
+use Rattle.varisat_literals.specs.Numbers.{polarity_of}
+use Rattle.varisat_prop.specs.declared.prop.graph.Conflict.{Conflict}
+use Rattle.varisat_prop.specs.Changes.{IsConflicting}
+use Rattle.varisat_prop.specs.Leaving.{leaves}
+use Rattle.varisat_prop.specs.View.{View, kept}
+use Rattle.varisat_search.specs.Forgotten.{IsMentioned}
+use Rattle.varisat_search.specs.SettledUnits.{IsUnsettled, fixed_literals}
+use Rattle.varisat_names.specs.VarMap.{at}
+use Rattle.varisat_names.specs.VarData.{kept_at}
+use Rattle.varisat_names.specs.Variables.{Tables, IsChangedTo, IsDropped}
+use Rattle.varisat_names.specs.declared.variables.data.VarData.{VarData}
+use Rattle.varisat_theory.specs.Journals.{Entry}
+use Rattle.varisat_search.specs.declared.context.Context.{Context}
+use Rattle.varisat_proof.specs.Proving.{IsTold}
+use Rattle.varisat_tracer.specs.Tracing.{TracerState, leaves_if_deleted}
+use Rattle.varisat_solver.specs.Accepting.{HasUser}
+use Rattle.varisat_solver.specs.Journals.{retold, TellsLeaving}
+use Rattle.varisat_solver.specs.SinceChange.{GoesOnWithin}
+use Rattle.varisat_solver.specs.Spaces.{SpacesFit}
+use Rattle.varisat_solver.specs.States.{State}
+use Rattle.varisat_search.specs.declared.state.SatState.TheVariants as verdict
+use Rattle.varisat_solver.specs.Summaries.{Summary, undecided_spaces, IsKept}
+
+-- whether a global variable stands there that is not assumed
+abbrev pub leads_to_unassumed : Tables → Option ℕ → Bool
+leads_to_unassumed t None = false
+leads_to_unassumed t (Some x) = not (kept_at t.kept x).assumed
+
+-- the literals over solver variables of global variables that are not assumed
+abbrev pub unassumed_among : Tables → List Literal → List Literal
+unassumed_among t ls = filter (λ l. leads_to_unassumed t (at t.solvers.backward (variable_of l))) ls
+
+-- each literal is of a variable that is assumed, if of any
+abbrev pub AreOverAssumed : Tables → List Literal → Type 0
+AreOverAssumed t ls = (l : Literal) → l ∈ ls → leads_to_unassumed t (at t.solvers.backward (variable_of l)) ≡ false
+
+-- None is to leave: each literal of level 0 is of a variable that is assumed.
+abbrev pub NoneIsToLeave : Tables → View → Type 0
+NoneIsToLeave t s = AreOverAssumed t (fixed_literals s)
+
+-- None is to leave, unless at level 0 literals are still to be propagated, with which the next step lets variables leave.
+abbrev pub LeavesInTime : Tables → View → Type 0
+LeavesInTime t s = NoneIsToLeave t s ⊎ IsUnsettled s
+
+-- Variables go on to leave in time in a valid solver, unless the clauses are refuted.
+abbrev pub GoesOnLeaving : Summary → Summary → Type 0
+GoesOnLeaving g h = LeavesInTime g.tables g.search → h.ledger.valid ≡ true → h.sat_state ≢ verdict.Unsat → LeavesInTime h.tables h.search
+
+-- At level 0 no literal is left to be propagated, or a clause is false there.
+abbrev pub IsCalm : View → Type 0
+IsCalm s = (IsUnsettled s → ⊥) ⊎ ((s.decisions ≡ []) × ((conflict : Conflict) × IsConflicting s conflict))
+
+-- As a step has begun: none is to leave, and at level 0 all is propagated, or a clause is false there.
+abbrev pub HasLetLeave : Tables → View → Type 0
+HasLetLeave t s = (NoneIsToLeave t s × (IsUnsettled s → ⊥)) ⊎ ((s.decisions ≡ []) × ((conflict : Conflict) × IsConflicting s conflict))
+
+-- For each of so many variables it says whether a literal is over it.
+pub record FlagsVariables (size : ℕ) (ls : List Literal) (flags : List Bool) : Type 0 where
+  pub count : length flags ≡ size
+  pub flagged : (v : ℕ) → (leaves flags v ≡ true) ↔ ((l : Literal) × (l ∈ ls) × (variable_of l ≡ v))
+
+-- what is kept of a variable whose value is fixed: the value, and that it is isolated
+abbrev pub fixed_to : Bool → VarData → VarData
+fixed_to b d = record d { unit = Some b; isolated = true }
+
+-- The global variable x has its solver variable v no longer, and the proof was told that it is gone, where it is.
+pub record LosesSolverVar (x v : ℕ) (p q : TracerState) : Type 0 where
+  pub dropped : IsDropped p.tables q.tables x v
+  pub told : IsTold p.proof (leaves_if_deleted q.tables x) q.proof
+
+-- The solver variable of the literal was dropped, once its global variable was kept as isolated and with the value that makes the literal true.
+abbrev pub IsDroppedAlone : Literal → TracerState → TracerState → Type 0
+IsDroppedAlone l p q =
+    (x : ℕ) × (mid : Tables) × IsChangedTo p.tables mid x (fixed_to (polarity_of l) (kept_at p.tables.kept x))
+    × LosesSolverVar x (variable_of l) (record p { tables = mid }) q
+
+-- so were those of the literals, in turn
+abbrev pub AreDroppedAlone : List Literal → TracerState → TracerState → Type 0
+AreDroppedAlone [] p q = q ≡ p
+AreDroppedAlone (l ∷ ls) p q = (mid : TracerState) × IsDroppedAlone l p mid × AreDroppedAlone ls mid q
+
+-- a global variable without a name stands there
+abbrev pub leads_to_hidden : Tables → Option ℕ → Bool
+leads_to_hidden t None = false
+leads_to_hidden t (Some x) = is_none (at t.users.backward x)
+
+-- Of each hidden variable whose flag is not set there is one literal, among those that have flags.
+pub record ListsUnneeded (t : Tables) (flags : List Bool) (ls : List Literal) : Type 0 where
+  pub distinct : IsDistinct (map variable_of ls)
+  pub listed : (v : ℕ) → (v ∈ map variable_of ls) ↔ ((v < length flags) × (slice_index_or flags v false ≡ false)
+      × (leads_to_hidden t (at t.solvers.backward v) ≡ true))
+
+-- The solver variables of the literals were dropped in turn.
+abbrev pub AreReleased : List Literal → TracerState → TracerState → Type 0
+AreReleased [] p q = q ≡ p
+AreReleased (l ∷ ls) p q = (mid : TracerState) × ((x : ℕ) × LosesSolverVar x (variable_of l) p mid) × AreReleased ls mid q
+
+-- Whose variables the search still has: those with a value are assumed, and those in use have a name or are named by a kept clause.
+pub record LeavesNeeded (t : Tables) (s : View) : Type 0 where
+  pub assumed : AreOverAssumed t s.trail
+  pub needed : (v : ℕ) → IsSome (at t.solvers.backward v) → HasUser t v ⊎ IsMentioned (kept s) v
+
+-- Where the search x has literals still to be propagated at level 0, those variables leave that may, or a clause is false.
+abbrev pub LeavesWhereUnsettled : {A : Type 0} → Context A → Tables → View → Type 0
+LeavesWhereUnsettled x t s = x.trail.decisions ≡ [] → x.trail.queue_head ≢ length x.trail.literals →
+    ((conflict : Conflict) × IsConflicting s conflict) ⊎ LeavesNeeded t s
+
+-- What is left of the tables where the solver variables of the literals were dropped: names stay, and so do other solver
+-- variables and what is kept of their global variables.
+pub record LeavesTables (ls : List Literal) (old new : Tables) : Type 0 where
+  pub users : new.users ≡ old.users
+  pub solvers : length new.solvers.backward ≡ length old.solvers.backward
+  pub count : length new.kept ≡ length old.kept
+  pub gone : (v : ℕ) → (l : Literal) → l ∈ ls → variable_of l ≡ v → at new.solvers.backward v ≡ None
+  pub stays : (v : ℕ) → ((l : Literal) → l ∈ ls → variable_of l ≢ v) → at new.solvers.backward v ≡ at old.solvers.backward v
+  pub fewer : (v x : ℕ) → at new.solvers.backward v ≡ Some x → at old.solvers.backward v ≡ Some x
+  pub others : (x : ℕ) → ((l : Literal) → l ∈ ls → at old.solvers.backward (variable_of l) ≢ Some x) → kept_at new.kept x ≡ kept_at old.kept x
+
+-- Variables left the search and the tables. What a valid solver keeps stays true, the search goes on with as many variables, and
+-- the solver stands for the same states, to which it was told what left, as it was to the proof.
+pub record LetsLeave {A : Type 0} (p : TracerState) (x : Context A) (q : TracerState) (y : Context A) : Type 0 where
+  pub kept : IsKept q.tables y
+  pub within : GoesOnWithin x y
+  pub count : length y.assignment.current ≡ length x.assignment.current
+  pub given : (entries : List Entry) × IsTold p.proof entries q.proof
+  pub stands : (s : State) → SpacesFit (undecided_spaces p.tables p.proof.checker x) s →
+      (told : List Entry) × TellsLeaving s.variables s.told told p.proof q.proof × SpacesFit (undecided_spaces q.tables q.proof.checker y) (retold told s)

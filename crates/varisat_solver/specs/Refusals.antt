@@ -1,0 +1,33 @@
+-- The numbers under which the refusals are told, and the refusals of a step.
+use Rattle.std.specs.Prelude.{ℕ}
+use Rattle.varisat_search.specs.declared.error.StepError.{StepError}
+use Rattle.varisat_search.specs.declared.error.StepError.TheVariants as step
+use Rattle.varisat_solver.specs.declared.solver.SolverError.{SolverError}
+use Rattle.varisat_solver.specs.declared.solver.SolverError.TheVariants.{Interrupted, ProofIoError, OutOfMemory, Invalid, ClauseStoreFull, WitnessVar, VariableLimit, AssumedVar, ClauseAfterSolve, ProofOpen, ProofTooLate, ConfigOutOfRange, Dimacs}
+
+-- the number under which a refusal is told
+abbrev pub refusal_number : SolverError → ℕ
+refusal_number Interrupted = 1
+refusal_number (ProofIoError cause) = 2
+refusal_number OutOfMemory = 3
+refusal_number Invalid = 4
+refusal_number ClauseStoreFull = 5
+refusal_number (WitnessVar var) = 6
+refusal_number VariableLimit = 7
+refusal_number (AssumedVar var) = 8
+refusal_number ClauseAfterSolve = 9
+refusal_number ProofOpen = 10
+refusal_number ProofTooLate = 11
+refusal_number (ConfigOutOfRange field) = 12
+refusal_number (Dimacs cause) = 13
+
+-- how it is told why a step came to no end
+abbrev pub step_refusal : StepError → SolverError
+step_refusal step.Full = ClauseStoreFull
+step_refusal step.Memory = OutOfMemory
+step_refusal (step.Target cause) = ProofIoError cause
+
+-- how many faults of a proof's target the refusal tells
+abbrev pub told_faults : SolverError → ℕ
+told_faults (ProofIoError cause) = 1
+told_faults _ = 0

@@ -1,0 +1,170 @@
+//! What an accepted clause and a list of assumptions bring: their names, the solver variables of these, and the clause
+//! or the list itself.
+ghost use Rattle.std.specs.Prelude.{◌≡◌, ◌≢◌, ◌<◌, ◌∷◌, [], Some, false, OnOk, IfErr};
+ghost use Rattle.varisat_theory.specs.Membership.{◌∈◌};
+ghost use Rattle.varisat_theory.specs.Literals.{Literal, variable_of};
+ghost use Rattle.varisat_names.specs.VarData.{kept_at};
+ghost use Rattle.varisat_names.specs.VarMap.{at};
+ghost use Rattle.varisat_search.specs.Contexts.{IsNotUnsat, KeepsSchedule};
+ghost use Rattle.varisat_solver.specs.Accepted.{KeepsValidity, IsWithinIdentities, StandsOnceAccepted, StandsOnceAssumed};
+ghost use Rattle.varisat_theory.specs.Journals.{Accepts, Assumes};
+ghost use Rattle.varisat_tracer.specs.Tracing.{tracer_state, TakesGlobally, BreaksProof, CanTell};
+ghost use Rattle.varisat_search.specs.StepErrors.{step_faults, HasNoRoom};
+ghost use Rattle.varisat_solver.specs.Spaces.{FitSome};
+ghost use Rattle.varisat_solver.specs.Summaries.{spaces_with, IsKept};
+ghost use Rattle.varisat_solver.specs.Searches.{TellsSome};
+ghost use Rattle.varisat_solver.specs.Accepting.{CanBeNamed, HasNames, AreJoined, AreMarked};
+
+use std::alloc::Allocator;
+use varisat_formula::io::ProofTarget;
+use varisat_literals::{Lit, Var};
+use varisat_names::variables::LinkedVariables;
+use varisat_search::assumptions::set_assumptions;
+use varisat_search::context::Context;
+use varisat_search::error::StepError;
+use varisat_search::load::load_clause;
+use varisat_search::solver_variables::solver_from_user_lits;
+use varisat_tracer::SolverTracer;
+
+/// The global variable of the literal's name, which is in use.
+fn global_of<A: Allocator + Copy>(variables: &LinkedVariables<A>, lit: Lit) -> Var
+    requires { HasNames (lit ∷ []) variables.now }
+    ensures found { at variables.now.users.forward (variable_of lit) ≡ Some result }
+    ensures live { (kept_at variables.now.kept result).deleted ≡ false }
+{
+    variables.prove_linked();
+    variables.global_from_user().get(lit.var()).unwrap()
+}
+
+/// Marks the variables of a clause of several literals, which are not isolated any more.
+fn mark_joined<A: Allocator + Copy>(variables: &mut LinkedVariables<A>, clause: &[Lit])
+    requires { HasNames clause.now variables.old }
+    ensures { AreJoined clause.now variables.old variables.new }
+{
+    if clause.len() > 1 {
+        for lit in clause {
+            let global = global_of(variables, *lit);
+            variables.set_isolated(global, false);
+        }
+    }
+}
+
+/// Marks the variables of the list as assumed, or takes their marks away.
+fn mark_assumed<A: Allocator + Copy>(
+    variables: &mut LinkedVariables<A>,
+    list: &[Lit],
+    assumed: bool,
+)
+    requires { HasNames list.now variables.old }
+    ensures { AreMarked list.now assumed variables.old variables.new }
+{
+    for lit in list {
+        let global = global_of(variables, *lit);
+        variables.set_assumed(global, assumed);
+    }
+}
+
+/// Tells the proof of an accepted clause, which is over solver variables.
+fn tell_clause<W: ProofTarget, A: Allocator + Copy>(
+    tracer: &mut SolverTracer<W, A>,
+    clause: &[Lit],
+) -> Result<(), StepError>
+    requires { CanTell tracer.old.proof }
+    ensures told { OnOk result (TakesGlobally (tracer_state tracer.old) (Accepts clause.now ∷ []) (tracer_state tracer.new)) }
+    ensures broken { IfErr result (λ error. BreaksProof tracer.old.proof (step_faults error) tracer.new.proof) }
+    ensures unstored { IfErr result (λ error. error ≢ StepError.Full) }
+{
+    tracer.add_clause(clause)?;
+    Ok(())
+}
+
+/// Tells the proof of an accepted list of assumptions, which is over solver variables.
+fn tell_assumptions<W: ProofTarget, A: Allocator + Copy>(
+    tracer: &mut SolverTracer<W, A>,
+    list: &[Lit],
+) -> Result<(), StepError>
+    requires { CanTell tracer.old.proof }
+    ensures told { OnOk result (TakesGlobally (tracer_state tracer.old) (Assumes list.now ∷ []) (tracer_state tracer.new)) }
+    ensures broken { IfErr result (λ error. BreaksProof tracer.old.proof (step_faults error) tracer.new.proof) }
+    ensures unstored { IfErr result (λ error. error ≢ StepError.Full) }
+{
+    tracer.add_assumptions(list)?;
+    Ok(())
+}
+
+/// Brings the names of the clause into use, takes solver variables for them, tells the proof of the clause, and loads
+/// it over these variables. `literals` is overwritten.
+pub fn accept_user_clause<W: ProofTarget, A: Allocator + Copy>(
+    tracer: &mut SolverTracer<W, A>,
+    ctx: &mut Context<A>,
+    literals: &mut Vec<Lit, A>,
+    clause: &[Lit],
+) -> Result<(), StepError>
+    requires kept { IsKept tracer.old.tables ctx.old }
+    requires tells { CanTell tracer.old.proof }
+    requires stands { FitSome (spaces_with tracer.old.tables tracer.old.proof.checker ctx.old) }
+    requires unsettled { IsNotUnsat ctx.old }
+    requires names { CanBeNamed clause.now tracer.old.tables }
+    ensures kept { OnOk result (IsKept tracer.new.tables ctx.new) }
+    ensures tells { OnOk result (CanTell tracer.new.proof) }
+    ensures state { OnOk result (ctx.new.solver_state ≡
+        record ctx.old.solver_state { sat_state = ctx.new.solver_state.sat_state; formula_is_empty = false }) }
+    ensures schedule { KeepsSchedule ctx.old ctx.new }
+    ensures told { OnOk result (TellsSome tracer.old.proof tracer.new.proof) }
+    ensures accepted { OnOk result (StandsOnceAccepted clause.now (tracer_state tracer.old) ctx.old (tracer_state tracer.new) ctx.new) }
+    // What the target of an open proof has after an error.
+    ensures broken { IfErr result (λ error. BreaksProof tracer.old.proof (step_faults error) tracer.new.proof) }
+    ensures full { IfErr result (λ error. error ≡ StepError.Full → HasNoRoom ctx.new) }
+    ensures size { IfErr result (λ error. error ≡ StepError.Full → IsWithinIdentities clause.now (tracer_state tracer.old) ctx.old ctx.new) }
+{
+    // A model that was found may not satisfy the clause.
+    ctx.solver_state.reopen();
+    tracer.tables.prove_linked();
+    solver_from_user_lits(ctx, &mut tracer.tables, literals, clause)?;
+    tracer.tables.prove_linked();
+    mark_joined(&mut tracer.tables, clause);
+    let lits = literals.as_slice();
+    tell_clause(tracer, lits)?;
+    load_clause(ctx, tracer, lits)?;
+    Ok(())
+}
+
+/// Brings the names of the list into use, takes solver variables for them, assumes the list in place of the one before,
+/// and tells the proof of it. `literals` is overwritten.
+pub fn assume_list<W: ProofTarget, A: Allocator + Copy>(
+    tracer: &mut SolverTracer<W, A>,
+    ctx: &mut Context<A>,
+    literals: &mut Vec<Lit, A>,
+    list: &[Lit],
+) -> Result<(), StepError>
+    requires kept { IsKept tracer.old.tables ctx.old }
+    requires tells { CanTell tracer.old.proof }
+    requires names { CanBeNamed list.now tracer.old.tables }
+    ensures kept { OnOk result (IsKept tracer.new.tables ctx.new) }
+    ensures tells { OnOk result (CanTell tracer.new.proof) }
+    ensures state { OnOk result (KeepsValidity ctx.old.solver_state ctx.new.solver_state) }
+    ensures schedule { KeepsSchedule ctx.old ctx.new }
+    ensures told { OnOk result (TellsSome tracer.old.proof tracer.new.proof) }
+    ensures assumed { OnOk result (StandsOnceAssumed list.now (tracer_state tracer.old) ctx.old (tracer_state tracer.new) ctx.new) }
+    // What the target of an open proof has after an error. The clause store is not asked for room.
+    ensures broken { IfErr result (λ error. BreaksProof tracer.old.proof (step_faults error) tracer.new.proof) }
+    ensures unstored { IfErr result (λ error. error ≢ StepError.Full) }
+    // The target is asked last: where it fails the list is assumed already, so that there was memory for it.
+    ensures last { IfErr result (λ error. error ≢ StepError.Memory → ctx.new.assumptions.user ≡ list.now) }
+{
+    // What was found under the assumptions before says nothing of these.
+    ctx.solver_state.assume();
+    tracer.tables.prove_linked();
+    solver_from_user_lits(ctx, &mut tracer.tables, literals, list)?;
+    tracer.tables.prove_linked();
+    mark_assumed(
+        &mut tracer.tables,
+        ctx.assumptions.user_assumptions(),
+        false,
+    );
+    mark_assumed(&mut tracer.tables, list, true);
+    let lits = literals.as_slice();
+    set_assumptions(ctx, list, lits)?;
+    tell_assumptions(tracer, lits)?;
+    Ok(())
+}

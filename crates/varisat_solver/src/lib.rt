@@ -1,0 +1,14 @@
+//! The solver: clauses, assumptions, searches, models, cores, modes of variables, settings and proofs.
+#![tactic(auto)]
+
+mod accept;
+mod carrying;
+mod dropping;
+mod name_checks;
+mod progress;
+pub mod rounds;
+pub mod solver;
+mod solving;
+mod usage;
+
+pub use solver::Solver;

@@ -10,7 +10,7 @@ use Rattle.varisat_theory.proofs.Values.{opposite_twice}
 use Rattle.varisat_theory.proofs.ConflictForms.{never_its_own}
 use Rattle.varisat_theory.proofs.Places.{∈-take_more, ∈-take_all}
 use Rattle.varisat_plain.proofs.PropagationRounds.{IsQuiet, quiet_known, quiet_open, unknown, unknown_fewer, unknown_less}
-use Rattle.varisat_present.specs.Knowing.{AreImplied, GrowsKnown, Finds, Saturates, LeavesNew, TakesBase, IsPassed, Joins, Passes}
+use Rattle.varisat_present.specs.Knowing.{AreImplied, GrowsKnown, Finds, Saturates, TakesBase, IsPassed, Joins, Passes}
 
 -- 1. One literal.
 no_clash_joined : (known : List Literal) (l : Literal) → (HasClash known → ⊥) → (opposite l ∈ known → ⊥) → HasClash (known ++ (l ∷ [])) → ⊥
@@ -75,20 +75,13 @@ finds_no_more P old new g = record { grows = g; conflict = λ e. absurd cc }
 pub finds_conflict : (P : List Clause) (old : List Literal) → (HasClash old → ⊥) → Conflicts P old → Finds P old true old
 finds_conflict P old n k = record { grows = grows_none P old n; conflict = λ e. k }
 
-pub finds_left : (P : List Clause) (old new : List Literal) (l : Literal) → (HasClash old → ⊥) → LeavesNew P old l → new ≡ old ++ (l ∷ []) →
-    Finds P old false new
-finds_left P old new l n w e = finds_no_more P old new (grows_by P old new w.clause l n w.is_present w.holds w.not_false w.leaves e)
-
 pub finds_found : (P : List Clause) (a b c : List Literal) → GrowsKnown P a b → GrowsKnown P b c → Conflicts P c → Finds P a true c
 finds_found P a b c g h k = record { grows = grows_on P a b c g h; conflict = λ e. k }
 
 pub finds_on : (P : List Clause) (a b c : List Literal) (found : Bool) → GrowsKnown P a b → Finds P b found c → Finds P a found c
 finds_on P a b c found g f = record { grows = grows_on P a b c g f.grows; conflict = f.conflict }
 
--- 4. A watched clause.
-pub visit_conflict : (P : List Clause) (known : List Literal) (c : Clause) (l : Literal) → c ∈ P → LeavesOnly known c l → opposite l ∈ known → Conflicts P known
-visit_conflict P known c l i u o = FalseClause c i (λ m j. ⊎_elim (λ e. subst (λ x. opposite x ∈ known) (sym e) o) (λ h. h) (u m j))
-
+-- 4. One clause.
 pub other_more : (known : List Literal) (c : Clause) (i l : ℕ) → LeavesOnly known (take i c) l → (get_or c i 0 ≡ l) ⊎ (opposite (get_or c i 0) ∈ known) →
     LeavesOnly known (take (i + 1) c) l
 other_more known c i l u h = λ m j. ⊎_elim (u m) (λ e. ⊎_elim (λ a. inl (e ∙ a)) (λ a. inr (subst (λ x. opposite x ∈ known) (sym e) a)) h)
@@ -96,10 +89,6 @@ other_more known c i l u h = λ m j. ⊎_elim (u m) (λ e. ⊎_elim (λ a. inl (
 
 pub other_all : (known : List Literal) (c : Clause) (i l : ℕ) → length c ≤ i → LeavesOnly known (take i c) l → LeavesOnly known c l
 other_all known c i l h u = λ m j. u m (∈-take_all m c i h j)
-
-pub leaves_new : (P : List Clause) (known : List Literal) (c : Clause) (l : Literal) → c ∈ P → l ∈ c → LeavesOnly known c l → (opposite l ∈ known → ⊥) →
-    (l ∈ known → ⊥) → LeavesNew P known l
-leaves_new P known c l i j u o n = record { clause = c; is_present = i; holds = j; leaves = u; not_false = o; is_new = n }
 
 quiet_complete : (known : List Literal) (c : Clause) → IsQuiet known c → IsComplete (c ∷ []) known
 quiet_complete known c q = record {

@@ -8,4 +8,3 @@ pub mod KnownGrowth
 pub mod KeptLiterals
 pub mod RatPlaces
 pub mod FirstPlaces
-pub mod LookedWatches

@@ -37,15 +37,6 @@ pub record Settles (P : List Clause) (found : Bool) (known : List Literal) : Typ
   pub keeps : Keeps (not found) P known
   pub right : IsTrue found ↔ Conflicts P []
 
--- what is found of the clause under the known literals: it is false, or it leaves a literal that is neither known nor false
-pub record LeavesNew (P : List Clause) (known : List Literal) (l : Literal) : Type 0 where
-  pub clause : Clause
-  pub is_present : clause ∈ P
-  pub holds : l ∈ clause
-  pub leaves : LeavesOnly known clause l
-  pub not_false : opposite l ∈ known → ⊥
-  pub is_new : l ∈ known → ⊥
-
 -- the base joins the known literals, or clashes with them or in itself
 pub record TakesBase (old base : List Literal) (clashes : Bool) (new : List Literal) : Type 0 where
   pub more : List Literal

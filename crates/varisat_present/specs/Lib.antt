@@ -1,4 +1,3 @@
 pub mod Places
 pub mod Knowing
-pub mod Visits
 pub mod Resolving

@@ -3,7 +3,9 @@
 #![tactic(auto)]
 
 pub mod clause;
+mod copies;
 mod firsts;
+mod guide;
 mod index;
 pub mod known;
 mod places;

@@ -14,12 +14,12 @@ ghost use Rattle.varisat_present.specs.Resolving.{AllConflict, IsForced, IsRatOn
 
 use crate::clause::{holds, is_quiet, status_of};
 use crate::firsts::{UNSEEN, first_of, note_all};
+use crate::guide::Guide;
 use crate::index::{ClauseIndex, key_of};
 use crate::known::Known;
 use crate::places::{clause_at, drop_mentions, find_place, has_clause, is_equal_at};
 use crate::propagation::{assume, propagate, saturate};
 use crate::resolvents::{add_others, negated};
-use crate::watches::Watches;
 use std::alloc::{AllocError, Allocator};
 use std::marker::Model;
 use varisat_literals::{Lit, Var};
@@ -36,7 +36,7 @@ pub struct PresentClauses<A: Allocator + Copy> {
     known: Known<A>,
     /// Whether propagation came to its end with them.
     is_saturated: bool,
-    watches: Watches<A>,
+    guide: Guide<A>,
     index: ClauseIndex<A>,
     /// By a literal's code, for those below `PLACE_LIMIT`, a place before which no clause has it.
     firsts: Vec<usize, A>,
@@ -173,7 +173,7 @@ pub enum Deletion {
 fn settle<A: Allocator + Copy>(
     places: &[Option<Vec<Lit, A>>],
     known: &mut Known<A>,
-    watches: &mut Watches<A>,
+    guide: &mut Guide<A>,
     is_saturated: bool,
 ) -> Result<bool, AllocError>
     requires { Keeps is_saturated (present places.now) known.old }
@@ -182,7 +182,7 @@ fn settle<A: Allocator + Copy>(
     if is_saturated {
         return Ok(false);
     }
-    let found = saturate(places, known, watches)?;
+    let found = saturate(places, known, guide)?;
     Ok(found)
 }
 
@@ -190,7 +190,7 @@ fn settle<A: Allocator + Copy>(
 fn ask<A: Allocator + Copy>(
     places: &[Option<Vec<Lit, A>>],
     known: &mut Known<A>,
-    watches: &mut Watches<A>,
+    guide: &mut Guide<A>,
     base: &[Lit],
 ) -> Result<bool, AllocError>
     requires no_clash { HasClash known.old → ⊥ }
@@ -202,19 +202,19 @@ fn ask<A: Allocator + Copy>(
     if clashes {
         return Ok(true);
     }
-    let conflicts = propagate(places, known, watches, count)?;
+    let conflicts = propagate(places, known, guide, count)?;
     if conflicts {
         return Ok(true);
     }
-    let found = saturate(places, known, watches)?;
+    let found = saturate(places, known, guide)?;
     Ok(found)
 }
 
-/// The same, as far as watches lead: where it is seen to conflict it does.
+/// The same, as far as the guide leads: where it is seen to conflict it does.
 fn ask_watches<A: Allocator + Copy>(
     places: &[Option<Vec<Lit, A>>],
     known: &mut Known<A>,
-    watches: &mut Watches<A>,
+    guide: &mut Guide<A>,
     base: &[Lit],
 ) -> Result<bool, AllocError>
     requires no_clash { HasClash known.old → ⊥ }
@@ -226,7 +226,7 @@ fn ask_watches<A: Allocator + Copy>(
     if clashes {
         return Ok(true);
     }
-    let seen = propagate(places, known, watches, count)?;
+    let seen = propagate(places, known, guide, count)?;
     Ok(seen)
 }
 
@@ -237,7 +237,7 @@ fn resolvent_conflicts<A: Allocator + Copy>(
     places: &[Option<Vec<Lit, A>>],
     place: usize,
     known: &mut Known<A>,
-    watches: &mut Watches<A>,
+    guide: &mut Guide<A>,
     base: &[Lit],
     literal: Lit,
 ) -> Result<bool, AllocError>
@@ -254,7 +254,7 @@ fn resolvent_conflicts<A: Allocator + Copy>(
     }
     let mut both = Vec::from_slice(alloc, base)?;
     add_others(&mut both, clause, literal)?;
-    let found = ask(places, known, watches, &both)?;
+    let found = ask(places, known, guide, &both)?;
     Ok(found)
 }
 
@@ -270,7 +270,7 @@ fn resolvents_conflict<A: Allocator + Copy>(
     alloc: A,
     places: &[Option<Vec<Lit, A>>],
     known: &mut Known<A>,
-    watches: &mut Watches<A>,
+    guide: &mut Guide<A>,
     base: &[Lit],
     literal: Lit,
     first: usize,
@@ -284,7 +284,7 @@ fn resolvents_conflict<A: Allocator + Copy>(
 {
     let count = known.len();
     for place in first..places.len() {
-        let found = resolvent_conflicts(alloc, places, place, known, watches, base, literal)?;
+        let found = resolvent_conflicts(alloc, places, place, known, guide, base, literal)?;
         known.cut(count);
         if !found {
             note_stopper(stopper, place);
@@ -304,7 +304,7 @@ impl<A: Allocator + Copy> PresentClauses<A> {
             places: Vec::new(alloc),
             known: Known::new_in(alloc),
             is_saturated: false,
-            watches: Watches::new_in(alloc),
+            guide: Guide::new_in(alloc),
             index: ClauseIndex::new_in(alloc),
             firsts: Vec::new(alloc),
             stopper: UNSEEN,
@@ -352,7 +352,7 @@ impl<A: Allocator + Copy> PresentClauses<A> {
         let copy = Vec::from_slice(self.alloc, clause)?;
         note_all(&mut self.firsts, clause, self.places.len())?;
         let is_saturated = is_saturated_with(self.is_saturated, &self.known, clause);
-        self.watches.add_clause(&self.known, clause)?;
+        self.guide.add_clause(&self.places, &self.known, clause)?;
         self.index.add(key_of(clause))?;
         self.places.push(Some(copy))?;
         self.is_saturated = is_saturated;
@@ -381,6 +381,7 @@ impl<A: Allocator + Copy> PresentClauses<A> {
             Some(place) => place,
         };
         self.places[place] = None;
+        self.guide.forget(place, clause);
         if is_spare(
             self.alloc,
             self.is_saturated,
@@ -405,7 +406,7 @@ impl<A: Allocator + Copy> PresentClauses<A> {
         match settle(
             &self.places,
             &mut self.known,
-            &mut self.watches,
+            &mut self.guide,
             self.is_saturated,
         ) {
             Ok(found) => {
@@ -443,6 +444,7 @@ impl<A: Allocator + Copy> PresentClauses<A> {
     pub fn drop_mentions(&mut self, var: Var)
         ensures { self.new ≡ without var self.old }
     {
+        self.guide.forget_mentions(&self.places, var);
         drop_mentions(&mut self.places, var);
         self.known.cut(0);
         self.is_saturated = false;
@@ -456,7 +458,7 @@ impl<A: Allocator + Copy> PresentClauses<A> {
         match settle(
             &self.places,
             &mut self.known,
-            &mut self.watches,
+            &mut self.guide,
             self.is_saturated,
         ) {
             Ok(found) => {
@@ -484,7 +486,7 @@ impl<A: Allocator + Copy> PresentClauses<A> {
             return Ok(false);
         }
         let count = self.known.len();
-        match ask(&self.places, &mut self.known, &mut self.watches, base) {
+        match ask(&self.places, &mut self.known, &mut self.guide, base) {
             Ok(found) => {
                 self.known.cut(count);
                 Ok(found)
@@ -507,7 +509,7 @@ impl<A: Allocator + Copy> PresentClauses<A> {
         Ok(found)
     }
 
-    /// Whether the clause is seen to follow, as far as watches lead. It looks at no other clauses.
+    /// Whether the clause is seen to follow, as far as the guide leads. It looks at no other clauses.
     pub fn is_seen_to_follow(&mut self, clause: &[Lit]) -> Result<bool, AllocError>
         ensures seen { IfOk result (λ seen. seen ≡ true → Follows self.old clause.now) }
         ensures stays { self.new ≡ self.old }
@@ -518,7 +520,7 @@ impl<A: Allocator + Copy> PresentClauses<A> {
         }
         let base = negated(self.alloc, clause)?;
         let count = self.known.len();
-        match ask_watches(&self.places, &mut self.known, &mut self.watches, &base) {
+        match ask_watches(&self.places, &mut self.known, &mut self.guide, &base) {
             Ok(seen) => {
                 self.known.cut(count);
                 Ok(seen)
@@ -547,7 +549,7 @@ impl<A: Allocator + Copy> PresentClauses<A> {
             self.alloc,
             &self.places,
             &mut self.known,
-            &mut self.watches,
+            &mut self.guide,
             &base,
             !literal,
             first,

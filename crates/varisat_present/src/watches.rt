@@ -1,5 +1,4 @@
-//! Watched literals: which clauses to look at when a literal becomes false. They are guesses: who uses them looks at
-//! the clause, and looks at all clauses before it says that nothing is left to propagate.
+//! Watched literals: which copies of clauses to look at when a literal becomes false.
 use crate::clause::find_other;
 use crate::known::{Known, PLACE_LIMIT};
 use std::alloc::{AllocError, Allocator};
@@ -10,12 +9,16 @@ use varisat_literals::Lit;
 /// A watch on a clause.
 #[derive(Clone, Copy)]
 pub struct Watch {
-    pub place: u32,
-    /// A literal of the clause. As long as it is true there is no need to look at the clause.
+    /// Where the clause's copy begins, or the clause's place with `OF_TWO` if it has two literals.
+    pub key: u32,
+    /// A literal of the clause, the other one if it has two. As long as it is true there is no need to look at the clause.
     pub blocking: Lit,
 }
 
-/// The two watched literals of each clause, and for each literal the watches on it.
+/// Marks the keys of clauses of two literals.
+pub const OF_TWO: u32 = 0x8000_0000;
+
+/// For each literal the watches on it.
 #[derive(Drop)]
 pub struct Watches<A: Allocator + Copy> {
     alloc: A,
@@ -23,14 +26,6 @@ pub struct Watches<A: Allocator + Copy> {
     lists: Vec<Vec<Watch, A>, A>,
     /// For the others.
     far: BTreeMap<usize, Vec<Watch, A>, A>,
-    /// By place, what `pair_of` makes of the clause's two watched literals.
-    pairs: Vec<u32, A>,
-}
-
-/// Two literals as one number, from which either one gives the other. So nothing depends on which of them comes first,
-/// which no processor could foretell.
-fn pair_of(one: Lit, other: Lit) -> u32 {
-    one.code() as u32 ^ other.code() as u32
 }
 
 impl<A: Allocator + Copy> Watches<A> {
@@ -40,8 +35,15 @@ impl<A: Allocator + Copy> Watches<A> {
             alloc,
             lists: Vec::new(alloc),
             far: BTreeMap::new(alloc),
-            pairs: Vec::new(alloc),
         }
+    }
+
+    /// Takes all watches out.
+    pub fn clear(&mut self) {
+        for code in 0..self.lists.len() {
+            self.lists[code].clear();
+        }
+        self.far.clear();
     }
 
     /// The list of the literal of this code, if it has one.
@@ -69,15 +71,6 @@ impl<A: Allocator + Copy> Watches<A> {
         }
     }
 
-    /// The other watched literal of the clause at the place, where the literal is one of them.
-    pub fn other(&self, place: usize, literal: Lit) -> Option<Lit> {
-        if place >= self.pairs.len() {
-            return None;
-        }
-        let code = self.pairs[place] ^ literal.code() as u32;
-        Some(Lit::from_code(code as usize))
-    }
-
     // The rare cases of `add` have functions of their own, so that it saves few registers.
     /// One more watch on a literal whose code is not below `PLACE_LIMIT`.
     #[cold]
@@ -101,7 +94,7 @@ impl<A: Allocator + Copy> Watches<A> {
     }
 
     /// One more watch on a literal.
-    fn add(&mut self, literal: Lit, watch: Watch) -> Result<(), AllocError> {
+    pub fn add(&mut self, literal: Lit, watch: Watch) -> Result<(), AllocError> {
         let code = literal.code();
         if code >= PLACE_LIMIT {
             self.add_far(literal, watch)?;
@@ -116,47 +109,26 @@ impl<A: Allocator + Copy> Watches<A> {
         Ok(())
     }
 
-    /// The clause at the place is watched by these two literals.
-    pub fn watch(&mut self, place: u32, one: Lit, other: Lit) -> Result<(), AllocError> {
-        let index = place as usize;
-        if index < self.pairs.len() {
-            self.pairs[index] = pair_of(one, other);
-        }
-        self.add(
-            one,
-            Watch {
-                place,
-                blocking: other,
-            },
-        )?;
+    /// Both literals are watched by this key.
+    pub fn add_both(&mut self, key: u32, one: Lit, other: Lit) -> Result<(), AllocError> {
+        let blocking = other;
+        self.add(one, Watch { key, blocking })?;
+        let blocking = one;
+        self.add(other, Watch { key, blocking })?;
         Ok(())
     }
 
-    /// The next place has a clause, which is watched by the two literals that are best to watch, if it has two.
-    pub fn add_clause(&mut self, known: &Known<A>, clause: &[Lit]) -> Result<(), AllocError> {
-        let place = self.pairs.len();
-        match best_two(known, clause) {
-            Some((one, other)) if place < 0xffff_ffff => {
-                let number = place as u32;
-                self.pairs.push(pair_of(one, other))?;
-                self.add(
-                    one,
-                    Watch {
-                        place: number,
-                        blocking: other,
-                    },
-                )?;
-                self.add(
-                    other,
-                    Watch {
-                        place: number,
-                        blocking: one,
-                    },
-                )?;
+    /// Takes out a watch on a literal by this key.
+    pub fn remove(&mut self, key: u32, literal: Lit) {
+        let Some(list) = self.list_mut(literal.code()) else {
+            return;
+        };
+        for i in 0..list.len() {
+            if list[i].key == key {
+                let _ = list.swap_remove(i);
+                return;
             }
-            _ => self.pairs.push(0)?,
         }
-        Ok(())
     }
 }
 
@@ -171,7 +143,7 @@ fn find_different(clause: &[Lit], literal: Lit) -> Option<Lit> {
 }
 
 /// Two different literals of the clause, if it has two. Those that are not false come first.
-fn best_two<A: Allocator + Copy>(known: &Known<A>, clause: &[Lit]) -> Option<(Lit, Lit)> {
+pub fn best_two<A: Allocator + Copy>(known: &Known<A>, clause: &[Lit]) -> Option<(Lit, Lit)> {
     if clause.is_empty() {
         return None;
     }

@@ -10,3 +10,4 @@ pub mod LeadingLemmas
 pub mod UnloadLemmas
 pub mod EliminateSteps
 pub mod WrittenLemmas
+pub mod UnitLemmas

@@ -1,5 +1,5 @@
 -- What is found of literals and clauses.
-use Rattle.std.specs.Prelude.{◌≡◌, ℕ, ◌⊎◌}
+use Rattle.std.specs.Prelude.{◌≡◌, ℕ, ◌⊎◌, [], ◌∷◌}
 use Rattle.varisat_theory.specs.Membership.{◌∈◌, ◌⊆◌}
 use Rattle.varisat_theory.specs.Literals.{Literal, Clause, opposite}
 use Rattle.varisat_simplify.specs.declared.resolve.Standing.{Standing}
@@ -39,6 +39,15 @@ pub record Resolves (c d : Clause) (l : Literal) (e : Clause) : Type 0 where
   pub from : (m : Literal) → m ∈ e → ((m ∈ c) × (m ≡ l → ⊥)) ⊎ ((m ∈ d) × (m ≡ opposite l → ⊥))
   pub left : (m : Literal) → m ∈ c → (m ≡ l) ⊎ ((m ≡ opposite l) ⊎ (m ∈ e))
   pub right : (m : Literal) → m ∈ d → (m ≡ opposite l) ⊎ (m ∈ e)
+
+-- a live clause has the literal alone
+abbrev pub IsFixed : State → Literal → Type 0
+IsFixed s l = (j : ℕ) × IsLive s j × (clause_at s j ≡ l ∷ [])
+
+-- the clause without literals whose opposites are fixed
+pub record LeavesOutFalse (s : State) (c e : Clause) : Type 0 where
+  pub part : (m : Literal) → m ∈ e → m ∈ c
+  pub whole : (m : Literal) → m ∈ c → (m ∈ e) ⊎ IsFixed s (opposite m)
 
 -- the clauses have another literal and its opposite
 abbrev pub Clashes : Clause → Clause → Literal → Type 0

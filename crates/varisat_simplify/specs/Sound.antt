@@ -4,11 +4,14 @@ use Rattle.varisat_theory.specs.Membership.{◌∈◌}
 use Rattle.varisat_theory.specs.Literals.{Literal, Clause}
 
 -- each live clause is listed for each of its literals
-pub record IsSound (n : ℕ) (cs : List Clause) (live : List Bool) (lists : List (List ℕ)) : Type 0 where
+abbrev pub AreListed : List Clause → List Bool → List (List ℕ) → Type 0
+AreListed cs live lists = (k l : ℕ) → slice_index_or live k false ≡ true → l ∈ slice_index_or cs k [] → k ∈ slice_index_or lists l []
+
+-- each clause is live or not, and they are listed if the flag says so
+pub record IsSound (n : ℕ) (cs : List Clause) (live : List Bool) (is_listed : Bool) (lists : List (List ℕ)) : Type 0 where
   pub even : length live ≡ length cs
   pub small : n ≤ 2 ^ 31
-  pub below : (k l : ℕ) → l ∈ slice_index_or cs k [] → l < length lists
-  pub listed : (k l : ℕ) → slice_index_or live k false ≡ true → l ∈ slice_index_or cs k [] → k ∈ slice_index_or lists l []
+  pub listed : is_listed ≡ true → AreListed cs live lists
 
 -- as many lists, each with what it had
 pub record Grows (old new : List (List ℕ)) : Type 0 where

@@ -1,7 +1,9 @@
-//! The clauses of a formula that is simplified: each is added once, and is live until it is removed.
-ghost use Rattle.std.specs.Prelude.{◌≡◌, ℕ, List, Bool, true, false, ◌+◌, ◌*◌, ◌/◌, ◌∷◌, ◌++◌, [], ◌<◌, ◌≤◌, ◌^◌, length, IsTrue, OnOk, OnErr, IfOk, slice_index_or, slice_set};
+//! The clauses of a formula that is simplified: each is added once, and is live until it is removed. They are found by their
+//! literals once all that are live then were listed.
+ghost use Rattle.std.specs.Prelude.{◌≡◌, ℕ, List, Bool, true, false, ◌+◌, ◌*◌, ◌/◌, ◌∷◌, ◌++◌, [], ◌<◌, ◌≤◌, ◌^◌, length, IsTrue, OnOk, OnErr, IfOk, IfSome, slice_index_or, slice_set};
 ghost use Rattle.varisat_theory.specs.Membership.{◌∈◌};
 ghost use Rattle.varisat_simplify.specs.States.{State, no_clauses, given, pushed, joined, removed, saved, clause_at, IsLive};
+ghost use Rattle.varisat_simplify.specs.Sound.{Grows, IsListed, AreListed};
 
 use crate::clauses::ClauseList;
 use crate::history::History;
@@ -19,6 +21,7 @@ pub struct Database<A: Allocator + Copy> {
     history: History<A>,
     live: Vec<bool, A>,
     stack: ClauseList<A>,
+    is_listed: bool,
     occurrences: Occurrences<A>,
     signatures: Vec<u32, A>,
     counts: Vec<u32, A>,
@@ -34,7 +37,7 @@ impl<A: Allocator + Copy> Model for Database<A> {
 
     ghost view = { λ d. record { var_count = d.var_count; frozen = d.frozen.items; clauses = d.history.clauses; live = d.live.items; lines = d.history.lines; stack = d.stack } };
 
-    ghost invariant = { λ d. IsSound d.var_count d.history.clauses d.live.items d.occurrences };
+    ghost invariant = { λ d. IsSound d.var_count d.history.clauses d.live.items d.is_listed d.occurrences };
 }
 
 /// One bit for each variable of the clause, out of 32.
@@ -69,15 +72,67 @@ fn touch<A: Allocator + Copy>(touched: &mut Vec<u32, A>, flags: &mut [bool], var
     }
 }
 
-/// Notes it for each variable of the clause.
-fn touch_all<A: Allocator + Copy>(touched: &mut Vec<u32, A>, flags: &mut [bool], clause: &[Lit]) {
+/// Notes what one clause more, or fewer, changes, once clauses are listed.
+fn note_change<A: Allocator + Copy>(
+    is_listed: bool,
+    counts: &mut [u32],
+    touched: &mut Vec<u32, A>,
+    flags: &mut [bool],
+    clause: &[Lit],
+    is_added: bool,
+) {
+    if !is_listed {
+        return;
+    }
+    recount(counts, clause, is_added);
     for lit in clause {
         touch(touched, flags, lit.index());
     }
 }
 
+/// Notes that the clauses of all variables changed.
+fn touch_all<A: Allocator + Copy>(touched: &mut Vec<u32, A>, flags: &mut [bool]) {
+    for var in 0..flags.len() {
+        touch(touched, flags, var);
+    }
+}
+
+/// Lists a clause, if that is wanted.
+fn list_clause<A: Allocator + Copy>(
+    occurrences: &mut Occurrences<A>,
+    clause: &[Lit],
+    place: usize,
+    is_wanted: bool,
+) -> Result<(), AllocError>
+    requires { place < 2 ^ 32 }
+    ensures grows { Grows occurrences.old occurrences.new }
+    ensures ok { OnOk result (is_wanted ≡ true → IsListed occurrences.new clause.now place) }
+{
+    if !is_wanted {
+        return Ok(());
+    }
+    occurrences.add_all(clause, place as u32)?;
+    Ok(())
+}
+
+/// Lists each live clause.
+fn list_live<A: Allocator + Copy>(
+    occurrences: &mut Occurrences<A>,
+    history: &History<A>,
+    live: &[bool],
+) -> Result<(), AllocError>
+    requires { length live.now ≡ length history.now.clauses }
+    ensures grows { Grows occurrences.old occurrences.new }
+    ensures ok { OnOk result (AreListed history.now.clauses live.now occurrences.new) }
+{
+    for place in 0..history.len() {
+        list_clause(occurrences, history.clause(place), place, live[place])?;
+    }
+    Ok(())
+}
+
 /// So many times the same.
-fn filled<T: Copy, A: Allocator + Copy>(
+pub(crate) fn filled<T: Copy, A: Allocator + Copy>(
     alloc: A,
     count: usize,
     value: T,
@@ -89,11 +144,19 @@ fn filled<T: Copy, A: Allocator + Copy>(
     Ok(list)
 }
 
-/// Counts the formula's literals one by one, and returns how many there are.
-fn count_all<A: Allocator + Copy>(counts: &mut [u32], formula: &CnfFormula<A>) -> usize {
+/// Counts the literals of the live clauses one by one.
+fn count_live<A: Allocator + Copy>(counts: &mut [u32], history: &History<A>, live: &[bool]) {
+    for place in 0..history.len() {
+        if let Some(true) = live.get(place) {
+            recount(counts, history.clause(place), true);
+        }
+    }
+}
+
+/// How many literals the formula's clauses have.
+fn literals_in<A: Allocator + Copy>(formula: &CnfFormula<A>) -> usize {
     let mut literals: usize = 0;
     for clause in formula.iter() {
-        recount(counts, clause, true);
         literals = literals.saturating_add(clause.len());
     }
     literals
@@ -116,6 +179,7 @@ impl<A: Allocator + Copy> Database<A> {
             history: History::new_in(alloc),
             live: Vec::new(alloc),
             stack: ClauseList::new_in(alloc),
+            is_listed: false,
             occurrences,
             signatures: Vec::new(alloc),
             counts,
@@ -128,13 +192,25 @@ impl<A: Allocator + Copy> Database<A> {
     pub fn reserve_for(&mut self, formula: &CnfFormula<A>) -> Result<(), AllocError>
         ensures { self.new ≡ self.old }
     {
-        let alloc = *self.live.allocator();
-        let mut counts = filled(alloc, self.counts.len(), 0u32)?;
-        let literals = count_all(&mut counts, formula);
-        self.history.reserve(formula.len(), literals)?;
+        self.history.reserve(formula.len(), literals_in(formula))?;
         self.live.reserve_exact(formula.len())?;
         self.signatures.reserve_exact(formula.len())?;
-        self.occurrences.reserve_lists(self.var_count, &counts)?;
+        Ok(())
+    }
+
+    /// Lists all live clauses by their literals, and each that is added from then on.
+    pub fn list_all(&mut self) -> Result<(), AllocError>
+        ensures { self.new ≡ self.old }
+    {
+        if self.is_listed {
+            return Ok(());
+        }
+        count_live(&mut self.counts, &self.history, &self.live);
+        self.occurrences
+            .reserve_lists(self.var_count, &self.counts)?;
+        list_live(&mut self.occurrences, &self.history, &self.live)?;
+        self.is_listed = true;
+        touch_all(&mut self.touched, &mut self.is_touched);
         Ok(())
     }
 
@@ -202,15 +278,18 @@ impl<A: Allocator + Copy> Database<A> {
         count_at(&self.counts, lit)
     }
 
-    /// Places among which each live clause with the literal is.
-    pub fn places(&self, lit: Lit) -> &[u32]
+    /// Places among which each live clause with the literal is. None if the clauses are not listed.
+    pub fn places(&self, lit: Lit) -> Option<&[u32]>
         ensures even { length self.now.live ≡ length self.now.clauses }
-        ensures all { (k : ℕ) → IsLive self.now k → lit ∈ clause_at self.now k → k ∈ result.now }
+        ensures all { IfSome result (λ places. (k : ℕ) → IsLive self.now k → lit ∈ clause_at self.now k → k ∈ places.now) }
     {
-        if lit.code() >= self.occurrences.len() {
-            return &[];
+        if !self.is_listed {
+            return None;
         }
-        self.occurrences.list(lit)
+        if lit.code() >= self.occurrences.len() {
+            return Some(&[]);
+        }
+        Some(self.occurrences.list(lit))
     }
 
     /// A variable whose clauses changed since it was last returned.
@@ -247,14 +326,20 @@ impl<A: Allocator + Copy> Database<A> {
         ensures err { OnErr result (self.new ≡ self.old) }
     {
         let place = self.history.len();
-        self.occurrences.add_all(clause, place as u32)?;
+        list_clause(&mut self.occurrences, clause, place, self.is_listed)?;
         self.live.reserve(1)?;
         self.signatures.reserve(1)?;
         self.history.push(clause, is_given)?;
         self.live.push_reserved(true);
         self.signatures.push_reserved(signature_of(clause));
-        recount(&mut self.counts, clause, true);
-        touch_all(&mut self.touched, &mut self.is_touched, clause);
+        note_change(
+            self.is_listed,
+            &mut self.counts,
+            &mut self.touched,
+            &mut self.is_touched,
+            clause,
+            true,
+        );
         Ok(())
     }
 
@@ -267,9 +352,14 @@ impl<A: Allocator + Copy> Database<A> {
         }
         self.history.delete(place)?;
         self.live[place] = false;
-        let clause = self.history.clause(place);
-        recount(&mut self.counts, clause, false);
-        touch_all(&mut self.touched, &mut self.is_touched, clause);
+        note_change(
+            self.is_listed,
+            &mut self.counts,
+            &mut self.touched,
+            &mut self.is_touched,
+            self.history.clause(place),
+            false,
+        );
         Ok(())
     }
 

@@ -18,6 +18,9 @@ const MOST_PAIRS: usize = 1000;
 /// A variable stays that has a longer resolvent.
 const MOST_LITERALS: usize = 20;
 
+/// A variable stays whose longest clauses of each sign have more literals.
+const MOST_LENGTH: usize = 200;
+
 /// The lists that an elimination uses.
 #[derive(Drop)]
 pub struct Scratch<A: Allocator + Copy> {
@@ -35,7 +38,10 @@ fn collect<A: Allocator + Copy>(
     ensures { IfOk result (λ b. IsTrue b → Collects db.now lit out.new.items) }
 {
     out.clear();
-    for place in db.places(lit) {
+    let Some(places) = db.places(lit) else {
+        return Ok(false);
+    };
+    for place in places {
         if db.is_live(*place as usize) {
             let clause = db.clause(*place as usize);
             if holds(clause, lit) {
@@ -49,6 +55,15 @@ fn collect<A: Allocator + Copy>(
     Ok(true)
 }
 
+/// The most literals of a clause at the places.
+fn longest<A: Allocator + Copy>(db: &Database<A>, places: &[u32]) -> usize {
+    let mut most: usize = 0;
+    for place in places {
+        most = most.max(db.clause(*place as usize).len());
+    }
+    most
+}
+
 /// Whether the resolvents are few and short enough.
 fn is_worth<A: Allocator + Copy>(
     db: &Database<A>,
@@ -58,6 +73,14 @@ fn is_worth<A: Allocator + Copy>(
     literals: &mut Vec<Lit, A>,
 ) -> Result<bool, AllocError> {
     let most = with.len().saturating_add(against.len());
+    let length = longest(db, with).saturating_add(longest(db, against));
+    if length > MOST_LENGTH {
+        return Ok(false);
+    }
+    let pairs = with.len().saturating_mul(against.len());
+    if pairs <= most && length <= MOST_LITERALS {
+        return Ok(true);
+    }
     let mut count: usize = 0;
     for one in with {
         for other in against {
@@ -162,6 +185,38 @@ fn save_literal<A: Allocator + Copy>(
     Ok(())
 }
 
+/// Whether the literal's variable is there, is not frozen and stands in few clauses.
+fn may_go<A: Allocator + Copy>(db: &Database<A>, lit: Lit) -> bool
+    ensures small { IsTrue result → variable_of lit < db.now.var_count }
+    ensures thawed { IsTrue result → IsThawed db.now lit }
+{
+    if lit.index() >= db.var_count() || db.is_frozen(lit) {
+        return false;
+    }
+    let count = db.count(lit);
+    count <= MOST_CLAUSES && count.saturating_mul(db.count(!lit)) <= MOST_PAIRS
+}
+
+/// Adds the resolvents, and saves and removes the clauses that were resolved.
+fn resolve_away<A: Allocator + Copy>(
+    db: &mut Database<A>,
+    lit: Lit,
+    with: &[u32],
+    against: &[u32],
+    literals: &mut Vec<Lit, A>,
+) -> Result<(), AllocError>
+    requires small { variable_of lit < db.old.var_count }
+    requires thawed { IsThawed db.old lit }
+    requires with { Collects db.old lit with.now }
+    requires against { Collects db.old (opposite lit) against.now }
+    ensures { OnOk result (Becomes db.old db.new) }
+{
+    add_resolvents(db, lit, with, against, literals)?;
+    save_all(db, lit, with, against, literals)?;
+    save_literal(db, !lit, against)?;
+    Ok(())
+}
+
 /// Resolves the literal's variable away where that is worth it. The literal stands in no more clauses than its opposite.
 fn eliminate_by<A: Allocator + Copy>(
     db: &mut Database<A>,
@@ -171,52 +226,28 @@ fn eliminate_by<A: Allocator + Copy>(
 ) -> Result<bool, AllocError>
     ensures { OnOk result (Becomes db.old db.new) }
 {
-    if db.count(lit) > MOST_CLAUSES || db.count(lit).saturating_mul(db.count(!lit)) > MOST_PAIRS {
-        return Ok(false);
-    }
-    if lit.index() >= db.var_count() || db.is_frozen(lit) {
+    if !may_go(db, lit) {
         return Ok(false);
     }
     db.tidy(lit);
     db.tidy(!lit);
-    if !collect(db, lit, &mut scratch.with)? {
+    let Scratch {
+        literals,
+        with,
+        against,
+    } = scratch;
+    if !collect(db, lit, with)? || !collect(db, !lit, against)? {
         return Ok(false);
     }
-    if !collect(db, !lit, &mut scratch.against)? {
-        return Ok(false);
-    }
-    if scratch.with.is_empty() && scratch.against.is_empty() {
-        return Ok(false);
-    }
-    let pairs = (scratch.with.len() as u64).saturating_mul(scratch.against.len() as u64);
-    if pairs > *most {
+    let pairs = (with.len() as u64).saturating_mul(against.len() as u64);
+    if pairs > *most || (with.is_empty() && against.is_empty()) {
         return Ok(false);
     }
     *most -= pairs;
-    if !is_worth(
-        db,
-        lit,
-        &scratch.with,
-        &scratch.against,
-        &mut scratch.literals,
-    )? {
+    if !is_worth(db, lit, with, against, literals)? {
         return Ok(false);
     }
-    add_resolvents(
-        db,
-        lit,
-        &scratch.with,
-        &scratch.against,
-        &mut scratch.literals,
-    )?;
-    save_all(
-        db,
-        lit,
-        &scratch.with,
-        &scratch.against,
-        &mut scratch.literals,
-    )?;
-    save_literal(db, !lit, &scratch.against)?;
+    resolve_away(db, lit, with, against, literals)?;
     Ok(true)
 }
 

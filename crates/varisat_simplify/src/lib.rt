@@ -8,6 +8,7 @@ pub mod history;
 pub mod laws;
 pub mod lists;
 pub mod occurrences;
+pub mod propagate;
 pub mod resolve;
 pub mod simplify;
 pub mod stack;

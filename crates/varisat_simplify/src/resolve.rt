@@ -124,7 +124,10 @@ pub fn resolve<A: Allocator + Copy>(
     Ok(true)
 }
 
-/// Each literal of the clause once, or false where it is a tautology.
+/// A clause of more literals is taken as it is.
+const MOST_LITERALS: usize = 1000;
+
+/// Each literal of the clause once, or false where it is a tautology. A long one is taken as it is.
 pub fn normalize<A: Allocator + Copy>(
     clause: &[Lit],
     out: &mut Vec<Lit, A>,
@@ -132,6 +135,10 @@ pub fn normalize<A: Allocator + Copy>(
     ensures { IfOk result (λ b. MatchBool b (SameSet clause.now out.new.items) (IsTautology clause.now)) }
 {
     out.clear();
+    if clause.len() > MOST_LITERALS {
+        out.extend_from_slice(clause)?;
+        return Ok(true);
+    }
     for lit in clause {
         match standing_of(out, *lit) {
             Standing::Same => {}

@@ -10,6 +10,7 @@ use crate::clauses::ClauseList;
 use crate::database::Database;
 use crate::eliminate::{Scratch, eliminate};
 use crate::history::History;
+use crate::propagate::propagate;
 use crate::resolve::normalize;
 use crate::stack::extend;
 use crate::subsume::subsume_from;
@@ -213,6 +214,8 @@ fn simplify_in<A: Allocator + Copy>(
     load(db, &formula, &mut scratch.literals)?;
     drop(formula);
     let size = db.literal_count() as u64;
+    propagate(db, alloc, &mut scratch.literals)?;
+    db.list_all()?;
     run(db, size, order, scratch)?;
     let made = unload(db, alloc)?;
     Ok(made)

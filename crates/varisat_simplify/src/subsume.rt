@@ -11,6 +11,9 @@ use varisat_literals::Lit;
 /// No literal in more clauses is looked through, but for a clause of one literal.
 const MOST_PLACES: usize = 1000;
 
+/// No clauses are compared that have more pairs of literals.
+const MOST_READ: usize = 10_000;
+
 /// The literal of the clause whose variable stands in the fewest clauses.
 fn rarest<A: Allocator + Copy>(db: &Database<A>, clause: &[Lit]) -> Option<Lit> {
     let mut best = *clause.first()?;
@@ -25,10 +28,14 @@ fn rarest<A: Allocator + Copy>(db: &Database<A>, clause: &[Lit]) -> Option<Lit> 
     Some(best)
 }
 
-/// Whether the one clause may have all variables of the other.
+/// Whether the one clause may have all variables of the other, and they are not too long to be compared.
 fn may_use<A: Allocator + Copy>(db: &Database<A>, place: usize, other: usize) -> bool {
-    (db.signature(place) & !db.signature(other)) == 0
-        && db.clause(place).len() <= db.clause(other).len()
+    if (db.signature(place) & !db.signature(other)) != 0 {
+        return false;
+    }
+    let length = db.clause(place).len();
+    let other_length = db.clause(other).len();
+    length <= other_length && length.saturating_mul(other_length) <= MOST_READ
 }
 
 /// What the clause at `place` makes of the one at `other`.
@@ -51,7 +58,7 @@ fn compare<A: Allocator + Copy>(db: &Database<A>, place: usize, other: usize) ->
 }
 
 /// Uses the clause at `place` on the one at `other`.
-fn use_on<A: Allocator + Copy>(
+pub(crate) fn use_on<A: Allocator + Copy>(
     db: &mut Database<A>,
     place: usize,
     other: usize,
@@ -71,12 +78,18 @@ fn use_on<A: Allocator + Copy>(
     Ok(())
 }
 
+/// How long the literal's list is.
+fn place_count<A: Allocator + Copy>(db: &Database<A>, lit: Lit) -> usize {
+    match db.places(lit) {
+        Some(places) => places.len(),
+        None => 0,
+    }
+}
+
 /// The place at the index of the literal's list, which may be out of date.
 fn place_at<A: Allocator + Copy>(db: &Database<A>, lit: Lit, index: usize) -> Option<usize> {
-    match db.places(lit).get(index) {
-        Some(place) => Some(*place as usize),
-        None => None,
-    }
+    let place = db.places(lit)?.get(index)?;
+    Some(*place as usize)
 }
 
 /// Uses the clause at `place` on those with the literal. Each that is looked at is taken from the budget.
@@ -90,7 +103,7 @@ fn use_along<A: Allocator + Copy>(
     ensures { OnOk result (Becomes db.old db.new) }
 {
     db.tidy(lit);
-    let count = db.places(lit).len();
+    let count = place_count(db, lit);
     *budget = budget.saturating_sub(count as u64);
     for index in 0..count {
         let Some(other) = place_at(db, lit, index) else {

@@ -7,12 +7,12 @@ use Rattle.varisat_simplify.proofs.eliminate.collect.Goals as goal
 use Rattle.varisat_simplify.proofs.eliminate.collect.Goals.{then-is_live+then-holds+else-holds-2+in_ok-push, then-is_live+else-holds, else-is_live}
 
 pub loop-place-init : goal.loop-place-init
-loop-place-init g c = collecting_first c.args.db.now c.args.lit c.places-place-items.result.now c.clear.new.self.items c.clear.ensures.items
+loop-place-init g c = collecting_first c.args.db.now c.args.lit c.in-Some.places.now c.clear.new.self.items c.clear.ensures.items
 
 pub loop-place-preserved : goal.loop-place-preserved
 loop-place-preserved g c =
     let s = c.args.db.now in
-    let items = c.places-place-items.result.now in
+    let items = c.in-Some.places.now in
     let i = c.loop-place.place-index in
     let x = get_or items i 0 in
     elim c.if-is_live.branch [
@@ -31,5 +31,5 @@ loop-place-preserved g c =
     ]
 
 pub returns : goal.returns
-returns g c = λ t. collecting_end c.args.db.now c.args.lit c.places-place-items.result.now c.loop-place.out.items c.loop-place.place-index
-    c.loop-place-test.false c.places-place-items.ensures.even c.places-place-items.ensures.all c.loop-place.invariant
+returns g c = λ t. collecting_end c.args.db.now c.args.lit c.in-Some.places.now c.loop-place.out.items c.loop-place.place-index
+    c.loop-place-test.false (c.in-Some.ensures {u = tt}).even (c.in-Some.ensures {u = tt}).all c.loop-place.invariant

@@ -1,12 +1,15 @@
-use Rattle.std.proofs.Common.{arith, sym, subst}
+use Rattle.std.proofs.Common.{arith, sym, subst, length, ◌≤◌}
 use Rattle.varisat_theory.specs.Membership.{◌∈◌}
-use Rattle.varisat_simplify.specs.States.{State, clause_at}
+use Rattle.varisat_simplify.specs.States.{State, clause_at, IsLive}
+use Rattle.varisat_simplify.proofs.ListLemmas.{listed_beyond}
 use Rattle.varisat_simplify.proofs.database.Database.places.Goals as goal
 
 pub returns-then-code-len-clause-all : goal.returns-then-code-len-clause-all
 returns-then-code-len-clause-all g c = λ k live h.
-    let b = c.self.invariant.below k c.args.lit (subst (λ (s : State). c.args.lit ∈ clause_at s k) (sym c.self.view_is) h) in
     let d = c.len.ensures in
     let e = c.if-code-len.true in
     let f = c.code.ensures.code in
-    omega (arith, b, d, e, f)
+    let n : length c.self.inside.occurrences ≤ c.args.lit = omega (arith, d, e, f) in
+    listed_beyond c.self.inside.history.clauses c.self.inside.live.items c.self.inside.occurrences k c.args.lit n
+    (c.self.invariant.listed c.if-not-self.false) (subst (λ (s : State). IsLive s k) (sym c.self.view_is) live)
+    (subst (λ (s : State). c.args.lit ∈ clause_at s k) (sym c.self.view_is) h)

@@ -11,6 +11,6 @@ invariant_of-self g c =
     let b = c.len.ensures in
     let d = c.if-code-len.false in
     let h : c.args.lit < length lists = omega (arith, a, b, d) in
-    sound_kept c.self.inside.var_count c.self.inside.history.clauses c.self.inside.live.items lists c.keep.new.self c.args.lit h
+    sound_kept c.self.inside.var_count c.self.inside.history.clauses c.self.inside.live.items c.self.inside.is_listed lists c.keep.new.self c.args.lit h
     (c.keep.ensures ∙ ap (λ (flags : List Bool). set lists c.args.lit (filter (is_flagged flags) (get_or lists c.args.lit []))) c.deref.ensures.value)
     c.self.invariant

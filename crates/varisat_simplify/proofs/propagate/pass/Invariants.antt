@@ -1,0 +1,5 @@
+use Rattle.varisat_simplify.specs.States.{Becomes}
+use Rattle.varisat_simplify.proofs.propagate.pass.Given as goal
+
+abbrev pub invariant-loop : goal.invariant-loop
+invariant-loop g l = Becomes l.fn.db l.db

@@ -1,0 +1,206 @@
+//! Unit propagation before clauses are listed by their literals: passes over all of them.
+ghost use Rattle.std.specs.Prelude.{◌≡◌, OnOk, IfOk, IsTrue};
+ghost use Rattle.varisat_simplify.specs.States.{clause_at, Becomes};
+ghost use Rattle.varisat_simplify.specs.Resolving.{IsFixed, LeavesOutFalse};
+
+use crate::database::{Database, filled};
+use crate::resolve::holds;
+use crate::subsume::use_on;
+use std::alloc::{AllocError, Allocator};
+use varisat_literals::Lit;
+
+/// How often the clauses are gone through at most.
+const MOST_PASSES: usize = 4;
+
+/// One more than the place that was noted for the literal, or 0.
+fn noted(units: &[u32], lit: Lit) -> u32 {
+    match units.get(lit.code()) {
+        Some(entry) => *entry,
+        None => 0,
+    }
+}
+
+/// Notes the place of a clause of one literal for which none was noted. Returns whether it did.
+fn note_unit(units: &mut [u32], clause: &[Lit], place: usize) -> bool {
+    let [lit] = clause else {
+        return false;
+    };
+    let Some(entry) = units.get_mut(lit.code()) else {
+        return false;
+    };
+    if *entry != 0 || place >= 0xffff_ffff {
+        return false;
+    }
+    *entry = place as u32 + 1;
+    true
+}
+
+/// Whether a place was noted for a literal of the clause or its opposite.
+fn meets_unit(units: &[u32], clause: &[Lit]) -> bool {
+    for lit in clause {
+        if noted(units, *lit) != 0 || noted(units, !*lit) != 0 {
+            return true;
+        }
+    }
+    false
+}
+
+/// The place that was noted for the first literal of the clause for which one was.
+fn satisfied_by(units: &[u32], clause: &[Lit]) -> Option<usize> {
+    for lit in clause {
+        let entry = noted(units, *lit);
+        if entry != 0 {
+            return Some(entry as usize - 1);
+        }
+    }
+    None
+}
+
+/// Whether a live clause has the literal alone, by the place that was noted.
+fn is_fixed<A: Allocator + Copy>(db: &Database<A>, units: &[u32], lit: Lit) -> bool
+    ensures { IsTrue result → IsFixed db.now lit }
+{
+    let entry = noted(units, lit);
+    if entry == 0 {
+        return false;
+    }
+    let place = entry as usize - 1;
+    if !db.is_live(place) {
+        return false;
+    }
+    let clause = db.clause(place);
+    if clause.len() != 1 {
+        return false;
+    }
+    holds(clause, lit)
+}
+
+/// The clause at the place without literals whose opposites are fixed.
+fn without_false<A: Allocator + Copy>(
+    db: &Database<A>,
+    place: usize,
+    units: &[u32],
+    out: &mut Vec<Lit, A>,
+) -> Result<(), AllocError>
+    ensures { OnOk result (LeavesOutFalse db.now (clause_at db.now place) out.new.items) }
+{
+    out.clear();
+    for lit in db.clause(place) {
+        if !is_fixed(db, units, !*lit) {
+            out.push(*lit)?;
+        }
+    }
+    Ok(())
+}
+
+/// Takes from the clause at the place what is false.
+fn shorten<A: Allocator + Copy>(
+    db: &mut Database<A>,
+    place: usize,
+    units: &[u32],
+    scratch: &mut Vec<Lit, A>,
+) -> Result<(), AllocError>
+    ensures { OnOk result (Becomes db.old db.new) }
+{
+    if !db.is_live(place) {
+        return Ok(());
+    }
+    without_false(db, place, units, scratch)?;
+    if scratch.len() >= db.clause(place).len() {
+        return Ok(());
+    }
+    db.push(scratch)?;
+    db.remove(place)?;
+    Ok(())
+}
+
+/// Uses on the clause at the place what was noted.
+fn use_noted<A: Allocator + Copy>(
+    db: &mut Database<A>,
+    place: usize,
+    units: &[u32],
+    scratch: &mut Vec<Lit, A>,
+) -> Result<(), AllocError>
+    ensures { OnOk result (Becomes db.old db.new) }
+{
+    match satisfied_by(units, db.clause(place)) {
+        Some(unit) => use_on(db, unit, place, scratch),
+        None => shorten(db, place, units, scratch),
+    }
+}
+
+/// Notes the clause at the place, or uses on it what was noted. Returns whether it was noted.
+fn settle<A: Allocator + Copy>(
+    db: &mut Database<A>,
+    place: usize,
+    units: &mut [u32],
+    scratch: &mut Vec<Lit, A>,
+) -> Result<bool, AllocError>
+    ensures { OnOk result (Becomes db.old db.new) }
+{
+    if !db.is_live(place) {
+        return Ok(false);
+    }
+    let clause = db.clause(place);
+    if note_unit(units, clause, place) {
+        return Ok(true);
+    }
+    if !meets_unit(units, clause) {
+        return Ok(false);
+    }
+    use_noted(db, place, units, scratch)?;
+    Ok(false)
+}
+
+/// Goes through all clauses, those that are added meanwhile too. Returns whether one was noted.
+fn pass<A: Allocator + Copy>(
+    db: &mut Database<A>,
+    units: &mut [u32],
+    scratch: &mut Vec<Lit, A>,
+) -> Result<bool, AllocError>
+    ensures { OnOk result (Becomes db.old db.new) }
+{
+    let mut place: usize = 0;
+    let mut is_noted = false;
+    for _ in 0..u64::MAX {
+        if place >= db.len() {
+            return Ok(is_noted);
+        }
+        let is_new = settle(db, place, units, scratch)?;
+        is_noted = is_noted || is_new;
+        place += 1;
+    }
+    Ok(is_noted)
+}
+
+/// Notes each clause of one literal. Returns whether there is one.
+fn note_all<A: Allocator + Copy>(db: &Database<A>, units: &mut [u32]) -> bool {
+    let mut is_noted = false;
+    for place in 0..db.len() {
+        if db.is_live(place) && note_unit(units, db.clause(place), place) {
+            is_noted = true;
+        }
+    }
+    is_noted
+}
+
+/// Uses each clause of one literal on the others, until none is new or for so many passes.
+pub fn propagate<A: Allocator + Copy>(
+    db: &mut Database<A>,
+    alloc: A,
+    scratch: &mut Vec<Lit, A>,
+) -> Result<(), AllocError>
+    ensures { OnOk result (Becomes db.old db.new) }
+{
+    let count = db.var_count().saturating_mul(2);
+    let mut units = filled(alloc, count, 0u32)?;
+    if !note_all(db, &mut units) {
+        return Ok(());
+    }
+    for _ in 0..MOST_PASSES {
+        if !pass(db, &mut units, scratch)? {
+            return Ok(());
+        }
+    }
+    Ok(())
+}

@@ -1,0 +1,31 @@
+use Rattle.std.proofs.Common.{◌∙◌, refl, sym, ap, subst, Ok, Err}
+use Rattle.varisat_formula.specs.Rest.{IsEnding, fault_of}
+use Rattle.varisat_calls.specs.Texts.{Ended, HasFault, Refused}
+use Rattle.varisat_calls.proofs.Making.{text-taken}
+use Rattle.varisat_calls.proofs.caller.Caller.end_text.Goals as goal
+
+pub returns-in-Err : goal.returns-in-Err
+returns-in-Err g c = record {
+  read = c.finish-read.new.self;
+  ends = subst (λ p. IsEnding p c.finish-read.new.self) c.take_text-parser.ensures.text c.finish-read.ensures.reads;
+  adds = Refused c.in-Err.error (ap Err c.refuse.ensures.number)
+      (text-taken _ _ _ _ _ _ c.take_text-parser.ensures.taken c.in-Err.ensures.added c.refuse.ensures.same);
+}
+
+pub returns-in-Ok-read : goal.returns-in-Ok-read
+returns-in-Ok-read g c = record {
+  read = c.finish-read.new.self;
+  ends = subst (λ p. IsEnding p c.finish-read.new.self) c.take_text-parser.ensures.text c.finish-read.ensures.reads;
+  adds = Ended (sym c.finish-read.ensures.answer ∙ ap fault_of c.in-Ok-read.is)
+      (ap Ok (c.var_count.ensures ∙ ap (λ p. p.reading.highest) c.in-Ok.ensures.taken))
+      (text-taken _ _ _ _ _ _ c.take_text-parser.ensures.taken c.in-Ok.ensures.added refl);
+}
+
+pub returns : goal.returns
+returns g c = record {
+  read = c.finish-read.new.self;
+  ends = subst (λ p. IsEnding p c.finish-read.new.self) c.take_text-parser.ensures.text c.finish-read.ensures.reads;
+  adds = HasFault c.in-Err-read.cause (sym c.finish-read.ensures.answer ∙ ap fault_of c.in-Err-read.is)
+      (ap Err c.refuse-in-Err-read.ensures.number)
+      (text-taken _ _ _ _ _ _ c.take_text-parser.ensures.taken c.in-Ok.ensures.added c.refuse-in-Err-read.ensures.same);
+}

@@ -1,0 +1,17 @@
+use Rattle.std.proofs.Common.{◌∙◌, refl, ap}
+use Rattle.varisat_calls.specs.Numbers.{told_names}
+use Rattle.varisat_calls.specs.Callers.{Refused}
+use Rattle.varisat_calls.proofs.Making.{made, names-told, no-room}
+use Rattle.varisat_calls.proofs.caller.Caller.observe.Goals as goal
+
+pub returns-in-Ok-tell_names : goal.returns-in-Ok-tell_names
+returns-in-Ok-tell_names g c = rw (← c.self.view_is)
+    (names-told _ _ c.in-Ok.vars.items c.in-Ok.ensures (c.in-Ok-tell_names.ensures {u = tt} ∙ ap told_names c.deref.ensures.value) refl)
+
+pub returns-in-Ok : goal.returns-in-Ok
+returns-in-Ok g c = rw (← c.self.view_is)
+    (no-room _ _ _ c.in-Ok.vars.items _ c.refuse.ensures.number c.refuse.ensures.same c.in-Ok.ensures refl)
+
+pub returns : goal.returns
+returns g c = rw (← c.self.view_is)
+    (Refused c.in-Err.error c.refuse-in-Err.ensures.number (made _ _ _ _ _ c.refuse-in-Err.ensures.same c.in-Err.ensures refl))

@@ -1,0 +1,133 @@
+-- What a caller holds, and what the number of a call's answer says: the relation that the call of `Solver` has, over the literals of
+-- the numbers given. Numbers of answers are 0, those of the solver's refusals, 14 where what was given is none of what it should be,
+-- and 15 where there is nothing to tell.
+use Rattle.std.specs.Prelude.{◌≡◌, ◌⊎◌, ℕ, ℤ, pos, ◌<ℤ◌, ◌≤ℤ◌, Bool, Option, Some, None, List, [], Result, Ok, Err, map}
+use Rattle.std.specs.declared.alloc.AllocError.{AllocError}
+use Rattle.varisat_theory.specs.Membership.{◌∈◌}
+use Rattle.varisat_theory.specs.Literals.{Literal}
+use Rattle.varisat_literals.specs.Numbers.{literal_numbered, variable_numbered}
+use Rattle.varisat_formula.specs.Rest.{Progress}
+use Rattle.varisat_formula.specs.Streams.{Taken}
+use Rattle.varisat_names.specs.Settings.{update_of}
+use Rattle.varisat_names.specs.declared.config.ConfigField.{ConfigField}
+use Rattle.varisat_names.specs.declared.variables.data.SamplingMode.{SamplingMode}
+use Rattle.varisat_proof.specs.declared.proof.format.ProofFormat.{ProofFormat}
+use Rattle.varisat_solver.specs.States.{State, empty_state}
+use Rattle.varisat_solver.specs.Summaries.{Summary, StandsFor, StandsOnce}
+use Rattle.varisat_solver.specs.Refusals.{refusal_number}
+use Rattle.varisat_solver.specs.Calls.{Solves, Configures, MakesVar, calling}
+use Rattle.varisat_solver.specs.Usage.{ChangesMode, Observes}
+use Rattle.varisat_solver.specs.ProofCalls.{OpensProof, ClosesProof}
+use Rattle.varisat_solver.specs.declared.solver.SolverError.{SolverError}
+use Rattle.varisat_calls.specs.Numbers.{told_numbers, told_names}
+use Rattle.varisat_calls.specs.Codes.{answer_number, verdict_number, numbered}
+
+-- The solver; the numbers of the list that was told last; and how far the DIMACS text came that is being given, if one is.
+pub record Caller : Type 0 where
+  pub solver : Summary
+  pub told : List ℤ
+  pub text : Option Progress
+
+-- a caller of a new solver, to which nothing was told yet
+pub record IsNew (g : Caller) : Type 0 where
+  pub solver : StandsFor g.solver empty_state
+  pub told : g.told ≡ []
+  pub text : g.text ≡ None
+
+-- what a call answers that has nothing to tell but whether it was refused
+abbrev pub Answer : Type 0
+Answer = Result (Unit {0}) SolverError
+
+-- The solver made the call, which had this answer; nothing else changed.
+pub record Makes {X : Type 0} (R : State → X → State → Type 0) (g : Caller) (answer : X) (h : Caller) : Type 0 where
+  pub call : StandsOnce g.solver (λ s t. R s answer t) h.solver
+  pub rest : h ≡ record g { solver = h.solver }
+
+-- The solver made the call, whose answer has this number.
+abbrev pub MakesNumbered : (State → Answer → State → Type 0) → Caller → ℕ → Caller → Type 0
+MakesNumbered R g n h = (answer : Answer) × (n ≡ answer_number answer) × Makes R g answer h
+
+-- What was given is none of what it should be, and nothing changes.
+abbrev pub IsWrong : Caller → ℕ → Caller → Type 0
+IsWrong g n h = (n ≡ 14) × (h ≡ g)
+
+-- the call over the literals of the numbers
+abbrev pub over : List ℤ → (State → List Literal → Answer → State → Type 0) → State → Answer → State → Type 0
+over numbers R s r t = R s (map literal_numbered numbers) r t
+
+-- The call is over the literals of these numbers, of which none is 0. It is 3 also where there was no room for them; then nothing changes.
+pub data MakesOver (numbers : List ℤ) (R : State → List Literal → Answer → State → Type 0) (g : Caller)
+    (n : ℕ) (h : Caller) : Type 0 where
+  Zero : pos 0 ∈ numbers → IsWrong g n h → MakesOver numbers R g n h
+  NoRoom : n ≡ 3 → h ≡ g → MakesOver numbers R g n h
+  Made : (pos 0 ∈ numbers → ⊥) → MakesNumbered (over numbers R) g n h → MakesOver numbers R g n h
+
+-- the solver searched
+abbrev pub Searches : Caller → ℕ → Caller → Type 0
+Searches g n h = (answer : Result Bool SolverError) × (n ≡ verdict_number answer) × Makes (Solves calling) g answer h
+
+-- the least free variable came into use
+abbrev pub NamesNew : Caller → Result ℕ ℕ → Caller → Type 0
+NamesNew g r h = (answer : Result ℕ SolverError) × (r ≡ numbered answer) × Makes MakesVar g answer h
+
+-- the setting is set
+abbrev pub SetsField : Option ConfigField → ℕ → Caller → ℕ → Caller → Type 0
+SetsField None value g n h = IsWrong g n h
+SetsField (Some field) value g n h = MakesNumbered (λ s r t. Configures s (update_of field value) r t) g n h
+
+-- the mode of the variable of the number is set
+abbrev pub changing : SamplingMode → ℤ → State → Answer → State → Type 0
+changing mode variable s r t = ChangesMode mode s (variable_numbered variable) r t
+
+-- the mode of the variable is set
+pub data SetsMode (variable : ℤ) (mode : Option SamplingMode) (g : Caller) (n : ℕ) (h : Caller) : Type 0 where
+  Wrong : (variable <ℤ pos 1) ⊎ (mode ≡ None) → IsWrong g n h → SetsMode variable mode g n h
+  Made : (m : SamplingMode) → mode ≡ Some m → pos 1 ≤ℤ variable → MakesNumbered (changing m variable) g n h →
+      SetsMode variable mode g n h
+
+-- The list is told that the solver tells, if it does. It is 3 where there was no room for the list, and then another one may be told.
+pub data TellsOf (R : State → Result (Option (List Literal)) AllocError → State → Type 0) (g : Caller)
+    (n : ℕ) (h : Caller) : Type 0 where
+  Told : (list : List Literal) → n ≡ 0 → StandsOnce g.solver (λ s t. R s (Ok (Some list)) t) h.solver →
+      h ≡ record g { told = told_numbers list } → TellsOf R g n h
+  Nothing : n ≡ 15 → StandsOnce g.solver (λ s t. R s (Ok None) t) h.solver → h ≡ g → TellsOf R g n h
+  NoRoom : n ≡ 3 → h ≡ record g { told = h.told } → TellsOf R g n h
+
+-- hidden variables come back under these names
+abbrev pub ShowsNames : List ℕ → Caller → Caller → Type 0
+ShowsNames us g h = StandsOnce g.solver (λ s t. Observes s (Ok us) t) h.solver
+
+-- Hidden variables come back, and their names are told, or there is no room for that; or the call is refused.
+pub data Shows (g : Caller) (n : ℕ) (h : Caller) : Type 0 where
+  Told : (us : List ℕ) → n ≡ 0 → ShowsNames us g h →
+      h ≡ record g { solver = h.solver; told = told_names us } → Shows g n h
+  NoRoom : (us : List ℕ) → n ≡ 3 → ShowsNames us g h →
+      h ≡ record g { solver = h.solver; told = h.told } → Shows g n h
+  Refused : (e : SolverError) → n ≡ refusal_number e → Makes Observes g (Err e) h → Shows g n h
+
+-- before a proof a target has no bytes
+abbrev pub no_bytes : Taken
+no_bytes = record { bytes = []; faults = 0 }
+
+-- a proof opens in the format, for a target without bytes
+abbrev pub opening : ProofFormat → State → Result (Unit {0}) (SolverError × Taken) → State → Type 0
+opening f s r t = OpensProof {W = Taken} (λ w. w) no_bytes f s r t
+
+-- A proof opens in the format, if it is one. It is 3 also where there is no room for a target; then nothing changes.
+pub data Opens (format : Option ProofFormat) (g : Caller) (n : ℕ) (h : Caller) : Type 0 where
+  Wrong : format ≡ None → IsWrong g n h → Opens format g n h
+  NoRoom : n ≡ 3 → h ≡ g → Opens format g n h
+  Opened : (f : ProofFormat) → format ≡ Some f → n ≡ 0 → Makes (opening f) g (Ok tt) h → Opens format g n h
+  Refused : (f : ProofFormat) (e : SolverError) → format ≡ Some f → n ≡ refusal_number e →
+      Makes (opening f) g (Err (e, no_bytes)) h → Opens format g n h
+
+-- the proof is closed, with the target that comes back
+abbrev pub closing : State → Result (Option Taken) (SolverError × Taken) → State → Type 0
+closing s r t = ClosesProof {W = Taken} (λ w. w) s r t
+
+-- The proof is closed, with all its bytes; or none was open; or its target can't be flushed.
+pub data Closes (g : Caller) (n : ℕ) (h : Caller) : Type 0 where
+  Closed : (target : Taken) → n ≡ 0 → Makes closing g (Ok (Some target)) h → Closes g n h
+  NoneOpen : n ≡ 15 → Makes closing g (Ok None) h → Closes g n h
+  Failed : (e : SolverError) (target : Taken) → n ≡ refusal_number e →
+      Makes closing g (Err (e, target)) h → Closes g n h

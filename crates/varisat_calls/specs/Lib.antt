@@ -1,0 +1,4 @@
+pub mod Numbers
+pub mod Codes
+pub mod Callers
+pub mod Texts

@@ -1,0 +1,406 @@
+//! A solver, and what is kept for its caller between calls.
+ghost use Rattle.std.specs.Prelude.{◌≡◌, pos, ◌≤ℤ◌, ◌-◌, ◌^◌, [], None, true, false};
+ghost use Rattle.varisat_literals.specs.Numbers.{variable_numbered};
+ghost use Rattle.varisat_solver.specs.Refusals.{refusal_number};
+ghost use Rattle.varisat_calls.specs.Codes.{answer_number};
+
+use crate::codes::{DONE, NOTHING, WRONG, field_of, format_of, mode_of};
+use crate::numbers::{read_numbers, tell_names, tell_numbers};
+use crate::stream::{self, Lines, StreamTarget};
+use std::alloc::Allocator;
+use std::marker::Model;
+use std::string::String;
+use varisat_formula::dimacs::DimacsParser;
+use varisat_literals::{Lit, Var};
+use varisat_names::config::{ConfigField, SolverConfigUpdate};
+use varisat_names::variables::SamplingMode;
+use varisat_solver::Solver;
+use varisat_solver::solver::SolverError;
+
+/// The variable of the number.
+fn variable_of(number: i32) -> Var
+    requires { pos 1 ≤ℤ number }
+    ensures { result ≡ variable_numbered number }
+{
+    Var::from_dimacs(number as isize)
+}
+
+/// A solver, and what is kept for its caller between calls.
+#[derive(Drop)]
+pub struct Caller<A: Allocator + Copy> {
+    alloc: A,
+    solver: Solver<StreamTarget<A>, A>,
+    // The literals of the clause or the assumptions that are being given.
+    given: Vec<Lit, A>,
+    // The list that was told last.
+    told: Vec<i32, A>,
+    // The DIMACS text that is being given, if one is.
+    text: Option<DimacsParser<A>>,
+    // What an open proof wrote and was not taken out yet.
+    lines: Option<Lines<A>>,
+    written: Vec<u8, A>,
+    // The last refusal.
+    refusal: Option<SolverError>,
+}
+
+impl<A: Allocator + Copy> Model for Caller<A> {
+    ghost use Rattle.varisat_calls.specs.Callers as callers;
+
+    ghost Value = { callers.Caller };
+
+    ghost view = { λ c. record { solver = c.solver; told = c.told.items; text = c.text } };
+}
+
+impl<A: Allocator + Copy> Caller<A> {
+    ghost use Rattle.std.specs.Prelude.{Ok, Err};
+    ghost use Rattle.varisat_solver.specs.States.{State};
+    ghost use Rattle.varisat_solver.specs.Summaries.{StandsFor, StandsOnce};
+    ghost use Rattle.varisat_solver.specs.Calls.{AddsClause, Assumes, Configures, TellsList, TellsSteps, TellsValid, calling};
+    ghost use Rattle.varisat_solver.specs.ProofCalls.{EnablesChecking};
+    ghost use Rattle.varisat_solver.specs.Usage.{ChangesMode};
+    ghost use Rattle.varisat_theory.specs.Literals.{IsSatisfiableWith};
+    ghost use Rattle.varisat_names.specs.Settings.{update_of};
+    ghost use Rattle.varisat_names.specs.declared.config.ConfigField.TheVariants.{MaxSteps};
+    ghost use Rattle.varisat_calls.specs.Codes.{field_numbered, format_numbered, mode_numbered};
+    ghost use Rattle.varisat_calls.specs.Callers.{IsNew, Makes, MakesNumbered, MakesOver, Searches, NamesNew, SetsField, SetsMode, TellsOf, Shows, Opens, Closes};
+    ghost use Rattle.varisat_calls.specs.Texts.{text_of, without_clauses, AddsClauses, Feeds, EndsText};
+
+    /// A caller with a new solver. It takes no memory.
+    pub fn new_in(alloc: A) -> Caller<A>
+        ensures { IsNew result }
+    {
+        Caller {
+            alloc,
+            solver: Solver::new_in(alloc),
+            given: Vec::new(alloc),
+            told: Vec::new(alloc),
+            text: None,
+            lines: None,
+            written: Vec::new(alloc),
+            refusal: None,
+        }
+    }
+
+    /// The number of a refusal, which is kept.
+    fn refuse(&mut self, error: SolverError) -> u8
+        ensures number { result ≡ refusal_number error }
+        ensures same { self.new ≡ self.old }
+    {
+        let number = error.number();
+        self.refusal = Some(error);
+        number
+    }
+
+    /// The number of an answer.
+    fn answer(&mut self, answer: Result<(), SolverError>) -> u8
+        ensures number { result ≡ answer_number answer }
+        ensures same { self.new ≡ self.old }
+    {
+        match answer {
+            Ok(()) => DONE,
+            Err(error) => self.refuse(error),
+        }
+    }
+
+    /// Accepts the clause of these numbers.
+    pub fn add_clause(&mut self, numbers: &[i32]) -> u8
+        ensures { MakesOver numbers.now AddsClause self.old result self.new }
+    {
+        match read_numbers(&mut self.given, numbers) {
+            Ok(true) => {
+                let added = self.solver.add_clause(&self.given);
+                self.answer(added)
+            }
+            Ok(false) => WRONG,
+            Err(_) => self.refuse(SolverError::OutOfMemory),
+        }
+    }
+
+    /// Replaces the assumptions by the literals of these numbers.
+    pub fn assume(&mut self, numbers: &[i32]) -> u8
+        ensures { MakesOver numbers.now Assumes self.old result self.new }
+    {
+        match read_numbers(&mut self.given, numbers) {
+            Ok(true) => {
+                let assumed = self.solver.assume(&self.given);
+                self.answer(assumed)
+            }
+            Ok(false) => WRONG,
+            Err(_) => self.refuse(SolverError::OutOfMemory),
+        }
+    }
+
+    /// How many steps each call of `solve` may make.
+    pub fn limit_steps(&mut self, steps: u64) -> u8
+        ensures { MakesNumbered (λ s r t. Configures s (update_of MaxSteps steps) r t) self.old result self.new }
+    {
+        let update = SolverConfigUpdate::one(ConfigField::MaxSteps, steps);
+        let set = self.solver.config(&update);
+        self.answer(set)
+    }
+
+    /// 10 where the clauses are satisfiable under the assumptions, 20 where they are not, or the number of a refusal.
+    pub fn solve(&mut self) -> u8
+        ensures call { Searches self.old result self.new }
+        ensures satisfiable { result ≡ 10 →
+            (s : State) → StandsFor self.old.solver s → IsSatisfiableWith s.clauses s.assumptions }
+        ensures unsatisfiable { result ≡ 20 →
+            (s : State) → StandsFor self.old.solver s → IsSatisfiableWith s.clauses s.assumptions → ⊥ }
+    {
+        match self.solver.solve() {
+            Ok(true) => 10,
+            Ok(false) => 20,
+            Err(error) => self.refuse(error),
+        }
+    }
+
+    /// Brings the least free variable into use, or returns the number of a refusal.
+    pub fn new_var(&mut self) -> Result<Var, u8>
+        ensures { NamesNew self.old result self.new }
+    {
+        match self.solver.new_var() {
+            Ok(var) => Ok(var),
+            Err(error) => Err(self.refuse(error)),
+        }
+    }
+
+    /// Changes the mode of the variable.
+    fn change_mode(&mut self, var: Var, mode: SamplingMode) -> Result<(), SolverError>
+        ensures { Makes (λ s r t. ChangesMode mode s var r t) self.old result self.new }
+    {
+        match mode {
+            SamplingMode::Sample => self.solver.sample_var(var),
+            SamplingMode::Witness => self.solver.witness_var(var),
+            SamplingMode::Hide => self.solver.hide_var(var),
+        }
+    }
+
+    /// Lets clauses and assumptions name the variable (0), lets none name it (1), or hides it (2).
+    pub fn set_mode(&mut self, variable: i32, mode: u8) -> u8
+        ensures { SetsMode variable (mode_numbered mode) self.old result self.new }
+    {
+        let Some(mode) = mode_of(mode) else {
+            return WRONG;
+        };
+        if variable < 1 {
+            return WRONG;
+        }
+        let set = self.change_mode(variable_of(variable), mode);
+        self.answer(set)
+    }
+
+    /// Tells the model, or 15 where there is none.
+    pub fn model(&mut self) -> u8
+        ensures { TellsOf (λ s r t. TellsList (calling.model s) s r t) self.old result self.new }
+    {
+        match self.solver.model() {
+            Ok(Some(lits)) => match tell_numbers(&mut self.told, &lits) {
+                Ok(()) => DONE,
+                Err(_) => self.refuse(SolverError::OutOfMemory),
+            },
+            Ok(None) => NOTHING,
+            Err(_) => self.refuse(SolverError::OutOfMemory),
+        }
+    }
+
+    /// Tells the core, or 15 where there is none.
+    pub fn core(&mut self) -> u8
+        ensures { TellsOf (λ s r t. TellsList (calling.core s) s r t) self.old result self.new }
+    {
+        match self.solver.failed_core() {
+            Some(core) => match tell_numbers(&mut self.told, core) {
+                Ok(()) => DONE,
+                Err(_) => self.refuse(SolverError::OutOfMemory),
+            },
+            None => NOTHING,
+        }
+    }
+
+    /// Brings the hidden variables back as witnesses, and tells their names.
+    pub fn observe(&mut self) -> u8
+        ensures { Shows self.old result self.new }
+    {
+        match self.solver.observe_internal_vars() {
+            Ok(vars) => match tell_names(&mut self.told, &vars) {
+                Ok(()) => DONE,
+                Err(_) => self.refuse(SolverError::OutOfMemory),
+            },
+            Err(error) => self.refuse(error),
+        }
+    }
+
+    /// The list that was told last.
+    pub fn told(&self) -> &[i32]
+        ensures { result.now ≡ self.now.told }
+    {
+        &self.told
+    }
+
+    /// Sets the setting of this number.
+    pub fn config(&mut self, field: u8, value: u64) -> u8
+        ensures { SetsField (field_numbered field) value self.old result self.new }
+    {
+        let Some(field) = field_of(field) else {
+            return WRONG;
+        };
+        let set = self.solver.config(&SolverConfigUpdate::one(field, value));
+        self.answer(set)
+    }
+
+    /// All steps made.
+    pub fn steps(&self) -> u64
+        ensures { StandsOnce self.now.solver (λ s t. TellsSteps s result t) self.now.solver }
+    {
+        self.solver.steps()
+    }
+
+    /// The counter of this number, 0 where there is none. No contract says what the counters are.
+    pub fn counter(&self, number: u8) -> u64 {
+        let counters = self.solver.statistics();
+        match number {
+            0 => counters.conflicts,
+            1 => counters.decisions,
+            2 => counters.propagations,
+            3 => counters.restarts,
+            4 => counters.learned_literals,
+            5 => counters.deleted_clauses,
+            6 => counters.collections,
+            _ => 0,
+        }
+    }
+
+    /// Whether no refusal came from which there is no way back.
+    pub fn is_valid(&self) -> bool
+        ensures { StandsOnce self.now.solver (λ s t. TellsValid s result t) self.now.solver }
+    {
+        self.solver.is_valid()
+    }
+
+    /// The text that is being given, or a new one.
+    fn take_text(&mut self) -> DimacsParser<A>
+        ensures text { result ≡ text_of self.old.text }
+        ensures taken { self.new ≡ record self.old { text = None } }
+    {
+        match self.text.take() {
+            Some(parser) => parser,
+            None => DimacsParser::new_in(self.alloc),
+        }
+    }
+
+    /// Adds the clauses that were read, which the parser has no more then.
+    fn add_read(&mut self, parser: &mut DimacsParser<A>) -> Result<(), SolverError>
+        ensures added { AddsClauses parser.old result self.old.text self.old self.new }
+        ensures taken { parser.new ≡ without_clauses parser.old }
+    {
+        self.solver.add_formula(&parser.take_formula())
+    }
+
+    /// Accepts the clauses that end in the next piece of a DIMACS text. A text that is refused is over.
+    pub fn feed(&mut self, piece: &[u8]) -> u8
+        ensures { Feeds piece.now self.old result self.new }
+    {
+        let mut parser = self.take_text();
+        let read = parser.feed(piece);
+        match self.add_read(&mut parser) {
+            Ok(()) => {}
+            Err(error) => return self.refuse(error),
+        }
+        match read {
+            Ok(()) => {
+                self.text = Some(parser);
+                DONE
+            }
+            Err(cause) => self.refuse(SolverError::Dimacs { cause }),
+        }
+    }
+
+    /// Ends the DIMACS text: the highest number of its header and its literals, or the number of a refusal.
+    pub fn end_text(&mut self) -> Result<usize, u8>
+        ensures { EndsText self.old result self.new }
+    {
+        let mut parser = self.take_text();
+        let read = parser.finish();
+        match self.add_read(&mut parser) {
+            Ok(()) => {}
+            Err(error) => return Err(self.refuse(error)),
+        }
+        match read {
+            Ok(()) => Ok(parser.var_count()),
+            Err(cause) => Err(self.refuse(SolverError::Dimacs { cause })),
+        }
+    }
+
+    /// Opens a proof in the format of this number.
+    pub fn open_proof(&mut self, format: u8) -> u8
+        ensures { Opens (format_numbered format) self.old result self.new }
+    {
+        let Some(format) = format_of(format) else {
+            return WRONG;
+        };
+        let Ok((lines, target)) = stream::stream_in(self.alloc) else {
+            return self.refuse(SolverError::OutOfMemory);
+        };
+        match self.solver.write_proof(target, format) {
+            Ok(()) => {
+                self.lines = Some(lines);
+                DONE
+            }
+            Err((error, target)) => {
+                drop(target);
+                self.refuse(error)
+            }
+        }
+    }
+
+    /// Closes the proof, of which the last bytes are still to be taken out. 15 where none is open.
+    pub fn close_proof(&mut self) -> u8
+        ensures { Closes self.old result self.new }
+    {
+        match self.solver.close_proof() {
+            Ok(Some(target)) => {
+                drop(target);
+                DONE
+            }
+            Ok(None) => NOTHING,
+            Err((error, target)) => {
+                drop(target);
+                self.refuse(error)
+            }
+        }
+    }
+
+    /// Takes out what a proof wrote since the last call: from now on that is `written`. No contract says what bytes these are, since they
+    /// pass through a cell; what the target took is told by `close_proof`.
+    pub fn take_written(&mut self)
+        ensures { self.new ≡ self.old }
+    {
+        self.written = match &self.lines {
+            Some(lines) => lines.take(self.alloc),
+            None => Vec::new(self.alloc),
+        };
+    }
+
+    /// What was taken out last.
+    pub fn written(&self) -> &[u8] {
+        &self.written
+    }
+
+    /// Has a checker run inside.
+    pub fn self_check(&mut self) -> u8
+        ensures { MakesNumbered EnablesChecking self.old result self.new }
+    {
+        let enabled = self.solver.enable_self_checking();
+        self.answer(enabled)
+    }
+
+    /// The text of the last refusal, empty where there was none or memory runs out.
+    pub fn refusal_text(&self) -> String<A> {
+        let Some(refusal) = &self.refusal else {
+            return String::new(self.alloc);
+        };
+        match refusal.to_string(self.alloc) {
+            Ok(text) => text,
+            Err(_) => String::new(self.alloc),
+        }
+    }
+}

@@ -1,0 +1,159 @@
+//! The check of a proof in memory against a DIMACS text in memory.
+ghost use Rattle.std.specs.Prelude.{◌≡◌, ◌≢◌, ◌↔◌, [], false, None, IsTrue, OnOk};
+ghost use Rattle.varisat_theory.specs.Literals.{IsSatisfiable};
+ghost use Rattle.varisat_formula.specs.Dimacs.{dimacs};
+ghost use Rattle.varisat_proof.specs.Verified.{AreGiven};
+ghost use Rattle.varisat_proof.specs.declared.checker.error.CheckVerdict.TheVariants.{Refutation};
+ghost use Rattle.varisat_calls.specs.Texts.{IsRefutedText};
+
+use crate::codes::{WRONG, format_of};
+use std::alloc::Allocator;
+use varisat_formula::formula::CnfFormula;
+use varisat_formula::io::CutSource;
+use varisat_formula::io::source::known_bytes_are_read;
+use varisat_proof::checker::{CheckVerdict, Checker, CheckerError};
+use varisat_proof::proof::ProofFormat;
+
+/// The proof refutes the text's clauses.
+pub const REFUTATION: u8 = 20;
+
+/// All lines are right, and refute nothing.
+pub const DERIVATION: u8 = 0;
+
+/// A line is wrong, or the bytes are no lines.
+pub const WRONG_PROOF: u8 = 16;
+
+/// A marked proof was given a clause that the text has not.
+pub const OTHER_CLAUSE: u8 = 17;
+
+/// What a check tells: a number, and the line of the proof, its byte or the line of the text that is wrong.
+#[derive(Clone, Copy)]
+pub struct Told {
+    pub number: u8,
+    pub place: u64,
+}
+
+/// What a refusal tells.
+fn told_error(error: &CheckerError) -> Told
+    ensures { result.number ≢ 20 }
+{
+    let (number, place) = match error {
+        CheckerError::CheckFailed { step }
+        | CheckerError::NoSuchClause { step }
+        | CheckerError::CoreNotAssumed { step } => (WRONG_PROOF, *step),
+        CheckerError::Parse { offset } => (WRONG_PROOF, *offset),
+        CheckerError::Dimacs { cause } => (13, cause.line),
+        CheckerError::Io { .. } | CheckerError::OutOfMemory | CheckerError::Spent => (3, 0),
+    };
+    Told { number, place }
+}
+
+/// What the end of a proof tells.
+fn told_verdict(verdict: CheckVerdict) -> Told
+    ensures { result.number ≡ 20 → verdict ≡ Refutation }
+{
+    let number = match verdict {
+        CheckVerdict::Refutation => REFUTATION,
+        CheckVerdict::Derivation => DERIVATION,
+    };
+    Told { number, place: 0 }
+}
+
+/// Adds the clauses of the text to a new checker.
+fn add_text<A: Allocator + Copy>(checker: &mut Checker<A>, text: &[u8]) -> Result<(), CheckerError>
+    requires new { checker.old ≡ record { clauses = []; spent = false } }
+    ensures clauses { OnOk result (checker.new ≡ record { clauses = (dimacs text.now).clauses; spent = false }) }
+    ensures fine { OnOk result ((dimacs text.now).fault ≡ None) }
+{
+    known_bytes_are_read();
+    checker.add_dimacs_cnf(&mut CutSource::new(text))
+}
+
+/// Whether each clause of the formula is equal as a set to one that the checker has.
+fn are_given<A: Allocator + Copy>(given: &Checker<A>, formula: &CnfFormula<A>) -> bool
+    ensures { IsTrue result ↔ AreGiven given.now.clauses formula.now.clauses }
+{
+    for clause in formula.iter() {
+        if !given.has_clause(clause) {
+            return false;
+        }
+    }
+    true
+}
+
+/// Checks a marked proof by a new checker. The clauses that it was given have to be among those of the other one.
+fn check_marked<A: Allocator + Copy>(
+    checker: &mut Checker<A>,
+    given: &Checker<A>,
+    proof: &[u8],
+) -> Told
+    requires new { checker.old ≡ record { clauses = []; spent = false } }
+    ensures { result.number ≡ 20 → IsSatisfiable given.now.clauses → ⊥ }
+{
+    match checker.check_marked(&mut CutSource::new(proof)) {
+        Ok(report) => {
+            if !are_given(given, &report.inputs) {
+                return Told {
+                    number: OTHER_CLAUSE,
+                    place: 0,
+                };
+            }
+            told_verdict(report.verdict)
+        }
+        Err(error) => told_error(&error),
+    }
+}
+
+/// Checks a DRAT proof against the clauses of the checker.
+fn check_drat<A: Allocator + Copy>(
+    checker: &mut Checker<A>,
+    format: ProofFormat,
+    proof: &[u8],
+) -> Told
+    ensures { result.number ≡ 20 → IsSatisfiable checker.old.clauses → ⊥ }
+{
+    match checker.check_proof(&mut CutSource::new(proof), format) {
+        Ok(verdict) => told_verdict(verdict),
+        Err(error) => told_error(&error),
+    }
+}
+
+/// Checks the proof against the clauses of the text, by two new checkers.
+fn check_with<A: Allocator + Copy>(
+    given: &mut Checker<A>,
+    checker: &mut Checker<A>,
+    format: ProofFormat,
+    text: &[u8],
+    proof: &[u8],
+) -> Told
+    requires given_new { given.old ≡ record { clauses = []; spent = false } }
+    requires checker_new { checker.old ≡ record { clauses = []; spent = false } }
+    ensures { result.number ≡ 20 → IsRefutedText text.now }
+{
+    match add_text(given, text) {
+        Ok(()) => {}
+        Err(error) => return told_error(&error),
+    }
+    match format {
+        ProofFormat::Marked => check_marked(checker, given, proof),
+        ProofFormat::Drat | ProofFormat::BinaryDrat => check_drat(given, format, proof),
+    }
+}
+
+/// Checks the proof, in the format of this number, against the clauses of the text.
+pub fn check_texts<A: Allocator + Copy>(alloc: A, format: u8, text: &[u8], proof: &[u8]) -> Told
+    ensures { result.number ≡ 20 → IsRefutedText text.now }
+{
+    let Some(format) = format_of(format) else {
+        return Told {
+            number: WRONG,
+            place: 0,
+        };
+    };
+    let mut given = Checker::new_in(alloc);
+    let mut checker = Checker::new_in(alloc);
+    let told = check_with(&mut given, &mut checker, format, text, proof);
+    drop(checker);
+    drop(given);
+    told
+}

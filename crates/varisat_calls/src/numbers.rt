@@ -1,0 +1,74 @@
+//! Lists of DIMACS numbers, by which callers give literals and are told them.
+ghost use Rattle.std.specs.Prelude.{◌≡◌, ◌≢◌, ◌∷◌, ◌++◌, [], pos, map, true, false, Ok, OnOk};
+ghost use Rattle.varisat_theory.specs.Membership.{◌∈◌};
+ghost use Rattle.varisat_literals.specs.Numbers.{literal_numbered};
+ghost use Rattle.varisat_calls.specs.Numbers.{told_number, told_numbers, told_names};
+
+use std::alloc::{AllocError, Allocator};
+use varisat_literals::{Lit, Var};
+
+/// Puts the literal of the number behind the list.
+fn put_number<A: Allocator + Copy>(list: &mut Vec<Lit, A>, number: i32) -> Result<(), AllocError>
+    requires { number ≢ pos 0 }
+    ensures { OnOk result (list.new.items ≡ list.old.items ++ literal_numbered number ∷ []) }
+{
+    list.push(Lit::from_dimacs(number as isize))?;
+    Ok(())
+}
+
+/// Puts the literals of the numbers in place of those before. False where a number is 0.
+pub fn read_numbers<A: Allocator + Copy>(
+    list: &mut Vec<Lit, A>,
+    numbers: &[i32],
+) -> Result<bool, AllocError>
+    ensures literals { result ≡ Ok true → list.new.items ≡ map literal_numbered numbers.now }
+    ensures sound { result ≡ Ok true → pos 0 ∈ numbers.now → ⊥ }
+    ensures zero { result ≡ Ok false → pos 0 ∈ numbers.now }
+{
+    list.clear();
+    for &number in numbers {
+        if number == 0 {
+            return Ok(false);
+        }
+        put_number(list, number)?;
+    }
+    Ok(true)
+}
+
+/// The number of the literal.
+fn number_of(lit: Lit) -> i32
+    ensures { result ≡ told_number lit }
+{
+    match i32::try_from(lit.to_dimacs()) {
+        Ok(number) => number,
+        Err(_) => 0,
+    }
+}
+
+/// Puts the numbers of the literals in place of those before.
+pub fn tell_numbers<A: Allocator + Copy>(
+    told: &mut Vec<i32, A>,
+    lits: &[Lit],
+) -> Result<(), AllocError>
+    ensures { OnOk result (told.new.items ≡ told_numbers lits.now) }
+{
+    told.clear();
+    for &lit in lits {
+        told.push(number_of(lit))?;
+    }
+    Ok(())
+}
+
+/// Puts the numbers of the variables in place of those before.
+pub fn tell_names<A: Allocator + Copy>(
+    told: &mut Vec<i32, A>,
+    vars: &[Var],
+) -> Result<(), AllocError>
+    ensures { OnOk result (told.new.items ≡ told_names vars.now) }
+{
+    told.clear();
+    for &var in vars {
+        told.push(number_of(var.positive()))?;
+    }
+    Ok(())
+}

@@ -12,8 +12,7 @@ import programs
 
 SUMMARY = "times 1,000 incremental calls over 100,000 variables through IPASIR, beside minisat and cadical where they are there"
 SOURCES = f"{programs.ROOT}/bench/incremental"
-IPASIR = f"{programs.ROOT}/contrib/ipasir"
-CRATE = f"{programs.ROOT}/crates/varisat_ipasir"
+LIBRARY = f"{programs.ROOT}/out/c/libvarisat.a"
 # Debian's libraries, and the packages that have them.
 MINISAT = "/usr/lib/libminisat.a"
 CADICAL = "/usr/lib/x86_64-linux-gnu/libcadical.a"
@@ -46,13 +45,10 @@ def must_run(command, folder=None):
 
 def build(folder, client="calls"):
     """Links the client to each solver that is there, and gives the names of these."""
-    # What stands there is taken: behind the gate contrib/ipasir/test leaves it, where rt lib would prove all once more.
-    if not os.path.exists(f"{CRATE}/out/libvarisat_ipasir.a"):
-        must_run(["rt", "lib"], CRATE)
-    kit = os.path.dirname(must_run(["rt", "doc"]).strip())
+    must_run(["make", "-s", "-C", f"{programs.ROOT}/contrib/c"])
     calls = f"{folder}/{client}.o"
     must_run(["gcc", "-std=c11", "-D_POSIX_C_SOURCE=200809L", "-O2", "-c", f"{SOURCES}/{client}.c", "-o", calls])
-    linked = {"varisat": ["gcc", calls, f"{IPASIR}/ipasir.c", f"{CRATE}/out/libvarisat_ipasir.a", f"{kit}/c/liblibc_c.a"]}
+    linked = {"varisat": ["gcc", calls, LIBRARY]}
     if os.path.exists(MINISAT):
         linked["minisat"] = ["g++", "-w", "-D__STDC_LIMIT_MACROS", "-D__STDC_FORMAT_MACROS", calls, f"{SOURCES}/minisat.cc", MINISAT]
     if os.path.exists(CADICAL):

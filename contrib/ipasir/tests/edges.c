@@ -1,7 +1,7 @@
 /* Numbers out of range and calls out of turn, which end as ipasir.h says. */
 #include "check.h"
 
-#include "../varisat.h"
+#include "../../c/varisat.h"
 
 #include <limits.h>
 
@@ -11,14 +11,14 @@ enum { BEYOND = sizeof beyond / sizeof *beyond };
 
 /* Every call of a solver that refused one. */
 static void check_refused(void *solver, int reason) {
-    CHECK(varisat_refusal(solver) == reason);
+    CHECK(varisat_ipasir_error(solver) == reason);
     add_clause(solver, (int[]){1, -2}, 2);
     ipasir_assume(solver, 1);
     CHECK(ipasir_solve(solver) == 0);
     CHECK(ipasir_solve(solver) == 0);
     CHECK(ipasir_val(solver, 1) == 0 && ipasir_failed(solver, 1) == 0);
     ipasir_set_terminate(solver, NULL, NULL);
-    CHECK(varisat_refusal(solver) == reason);
+    CHECK(varisat_ipasir_error(solver) == reason);
 }
 
 static void past_in_clauses(void) {
@@ -30,9 +30,9 @@ static void past_in_clauses(void) {
         CHECK(ipasir_val(solver, beyond[i]) == 0 && ipasir_failed(solver, beyond[i]) == 0);
         ipasir_add(solver, 1);
         ipasir_add(solver, beyond[i]);
-        CHECK(varisat_refusal(solver) == 0);
+        CHECK(varisat_ipasir_error(solver) == 0);
         ipasir_add(solver, 0);
-        check_refused(solver, 2);
+        check_refused(solver, VARISAT_VARIABLE_LIMIT);
         ipasir_release(solver);
     }
 }
@@ -42,9 +42,9 @@ static void past_in_assumptions(void) {
         void *solver = ipasir_init();
         add_clause(solver, (int[]){1, 2}, 2);
         ipasir_assume(solver, beyond[i]);
-        CHECK(varisat_refusal(solver) == 0);
+        CHECK(varisat_ipasir_error(solver) == 0);
         CHECK(ipasir_solve(solver) == 0);
-        check_refused(solver, 2);
+        check_refused(solver, VARISAT_VARIABLE_LIMIT);
         ipasir_release(solver);
     }
 }
@@ -116,7 +116,7 @@ static void called_from_within(void) {
     ipasir_assume(solver, -outside);
     CHECK(ipasir_solve(solver) == 0);
     CHECK(asked == 3);
-    CHECK(varisat_refusal(solver) == 0);
+    CHECK(varisat_ipasir_error(solver) == 0);
     /* Neither the empty clause nor the assumption came from within. */
     ipasir_set_terminate(solver, NULL, NULL);
     add_clause(solver, (int[]){-1}, 1);

@@ -2,7 +2,7 @@
  * it with -Wl,--wrap=malloc,--wrap=realloc. */
 #include "check.h"
 
-#include "../varisat.h"
+#include "../../c/varisat.h"
 
 void *__real_malloc(size_t size);
 void *__real_realloc(void *at, size_t size);
@@ -50,7 +50,7 @@ int main(void) {
         }
         int answered = is_answered(solver);
         /* Running out of memory is told, and nothing else. */
-        CHECK(varisat_refusal(solver) == (answered ? 0 : 1));
+        CHECK(varisat_ipasir_error(solver) == (answered ? 0 : VARISAT_OUT_OF_MEMORY));
         CHECK(answered || (ipasir_solve(solver) == 0 && ipasir_val(solver, 41) == 0 && ipasir_failed(solver, 41) == 0));
         ipasir_release(solver);
         if (answered)

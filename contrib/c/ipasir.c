@@ -1,0 +1,121 @@
+/* IPASIR over the proved calls of clients, as ../ipasir/ipasir.h says. This file is not proved: it keeps the client's word, the callback,
+ * and whether a search is under way. */
+#include "../ipasir/ipasir.h"
+
+#include <stdlib.h>
+
+#include "callers.h"
+#include "varisat.h"
+
+/* How many steps a search makes between two questions whether it is to end. */
+static const uint64_t steps_between = 1000;
+
+struct client {
+    struct handle handle;
+    void *data;
+    int (*terminate)(void *data);
+    bool is_solving;
+    /* Where a callback of varisat.h calls: what that call is charged to. */
+    struct account *outer;
+};
+
+/* Begins a call that may take memory, which nothing limits: the client, or NULL where it is not there or its callback calls. */
+static struct client *enter(void *solver) {
+    struct client *client = solver;
+    if (!client || client->is_solving)
+        return NULL;
+    client->outer = charged;
+    charged = NULL;
+    return client;
+}
+
+static void leave(struct client *client) {
+    charged = client->outer;
+}
+
+const char *ipasir_signature(void) {
+    return varisat_version();
+}
+
+void *ipasir_init(void) {
+    struct client *client = enter(calloc(1, sizeof *client));
+    if (!client)
+        return NULL;
+    bool is_open = client_open(&client->handle);
+    leave(client);
+    if (is_open)
+        return client;
+    free(client);
+    return NULL;
+}
+
+void ipasir_release(void *solver) {
+    struct client *client = enter(solver);
+    if (!client)
+        return;
+    client_close(&client->handle);
+    leave(client);
+    free(client);
+}
+
+void ipasir_add(void *solver, int32_t number) {
+    struct client *client = enter(solver);
+    if (!client)
+        return;
+    client_add(&client->handle, number);
+    leave(client);
+}
+
+void ipasir_assume(void *solver, int32_t number) {
+    struct client *client = enter(solver);
+    if (!client)
+        return;
+    client_assume(&client->handle, number);
+    leave(client);
+}
+
+int ipasir_solve(void *solver) {
+    struct client *client = enter(solver);
+    if (!client)
+        return 0;
+    client->is_solving = true;
+    client_begin(&client->handle);
+    int answer;
+    do
+        answer = client_search(&client->handle);
+    /* Without a callback the steps are all that can be counted. */
+    while (answer == 0 && client->terminate && !client->terminate(client->data));
+    client->is_solving = false;
+    leave(client);
+    return answer == 1 ? 0 : answer;
+}
+
+int32_t ipasir_val(void *solver, int32_t number) {
+    struct client *client = solver;
+    return client ? client_value(&client->handle, number) : 0;
+}
+
+int ipasir_failed(void *solver, int32_t number) {
+    struct client *client = solver;
+    return client ? client_has_failed(&client->handle, number) : 0;
+}
+
+void ipasir_set_terminate(void *solver, void *data, int (*terminate)(void *data)) {
+    struct client *client = enter(solver);
+    if (!client)
+        return;
+    client->data = data;
+    client->terminate = terminate;
+    client_limit_steps(&client->handle, terminate ? steps_between : UINT64_MAX);
+    leave(client);
+}
+
+void ipasir_set_learn(void *solver, void *data, int max_length, void (*learn)(void *data, int32_t *clause)) {
+    (void)solver, (void)data, (void)max_length, (void)learn;
+}
+
+int varisat_ipasir_error(void *solver) {
+    static const int errors[] = {0, VARISAT_OUT_OF_MEMORY, VARISAT_VARIABLE_LIMIT, VARISAT_STORE_FULL};
+    struct client *client = solver;
+    return client ? errors[client_refusal(&client->handle)] : VARISAT_OUT_OF_MEMORY;
+}

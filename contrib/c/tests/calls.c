@@ -1,0 +1,276 @@
+/* Each call, used rightly and wrongly. */
+#include "../varisat.h"
+
+#include <pthread.h>
+#include <stdio.h>
+#include <stdlib.h>
+#include <string.h>
+#include <unistd.h>
+
+#define CHECK(it) ((it) ? (void)0 : (printf("%s:%d: %s\n", __FILE__, __LINE__, #it), exit(1)))
+#define LITS(...) (const int32_t[]){__VA_ARGS__}, sizeof((int32_t[]){__VA_ARGS__}) / sizeof(int32_t)
+
+static const int32_t *list;
+static size_t count;
+
+static int is_list(size_t size, const int32_t *want) {
+    return count == size && (!size || !memcmp(list, want, size * sizeof *want));
+}
+
+/* n pigeons in n - 1 holes */
+static void add_pigeons(varisat *s, int n) {
+    for (int p = 0; p < n; p++) {
+        for (int h = 0; h < n - 1; h++) CHECK(!varisat_add(s, p * (n - 1) + h + 1));
+        CHECK(!varisat_add(s, 0));
+    }
+    for (int h = 0; h < n - 1; h++)
+        for (int p = 0; p < n; p++)
+            for (int q = 0; q < p; q++) CHECK(!varisat_add_clause(s, LITS(-(p * (n - 1) + h + 1), -(q * (n - 1) + h + 1))));
+}
+
+static void right_calls(void) {
+    varisat *s = varisat_new(0);
+    CHECK(varisat_is_valid(s) == 1 && varisat_error(s) == 0 && !strcmp(varisat_error_text(s), ""));
+    CHECK(varisat_add_clauses(s, LITS(1, 2, 0, -1, 2, 0)) == 0);
+    CHECK(varisat_solve(s) == VARISAT_SATISFIABLE);
+    CHECK(varisat_model(s, &list, &count) == 0 && is_list(2, (int32_t[]){-1, 2}));
+    CHECK(varisat_value(s, 2) == 1 && varisat_value(s, -2) == 0 && varisat_value(s, -1) == 1);
+    CHECK(varisat_value(s, 3) == VARISAT_NOTHING);
+    CHECK(varisat_assume(s, LITS(1, -2)) == 0);
+    CHECK(varisat_solve(s) == VARISAT_UNSATISFIABLE);
+    CHECK(varisat_failed_core(s, &list, &count) == 0 && count >= 1 && varisat_is_failed(s, -2) == 1 && varisat_is_failed(s, 2) == 0);
+    CHECK(varisat_model(s, &list, &count) == VARISAT_NOTHING && count == 0);
+    CHECK(varisat_value(s, 1) == VARISAT_NOTHING);
+    CHECK(varisat_assume(s, NULL, 0) == 0 && varisat_solve(s) == VARISAT_SATISFIABLE);
+    CHECK(varisat_failed_core(s, &list, &count) == VARISAT_NOTHING && varisat_is_failed(s, 1) == VARISAT_NOTHING);
+    CHECK(varisat_new_var(s) == 3);
+    CHECK(varisat_add_clause(s, NULL, 0) == 0 && varisat_solve(s) == VARISAT_UNSATISFIABLE);
+    CHECK(varisat_failed_core(s, &list, &count) == 0 && count == 0);
+    CHECK(varisat_free(s) == 0);
+}
+
+static void modes(void) {
+    varisat *s = varisat_new(0);
+    CHECK(varisat_add_clauses(s, LITS(1, 2, 0)) == 0);
+    CHECK(varisat_hide_var(s, 2) == 0);
+    CHECK(varisat_add_clause(s, LITS(-2)) == 0);
+    CHECK(varisat_solve(s) == VARISAT_SATISFIABLE);
+    CHECK(varisat_model(s, &list, &count) == 0 && count == 2 && list[1] == -2);
+    CHECK(varisat_observe_internal_vars(s, &list, &count) == 0 && is_list(1, (int32_t[]){3}));
+    CHECK(varisat_add_clause(s, LITS(3)) == VARISAT_WITNESS_VAR && strstr(varisat_error_text(s), "3"));
+    CHECK(varisat_sample_var(s, 3) == 0 && varisat_add_clause(s, LITS(-3)) == 0);
+    CHECK(varisat_solve(s) == VARISAT_SATISFIABLE && varisat_value(s, 1) == 1);
+    CHECK(varisat_witness_var(s, 1) == 0 && varisat_assume(s, LITS(1)) == VARISAT_WITNESS_VAR);
+    CHECK(varisat_assume(s, LITS(3)) == 0 && varisat_hide_var(s, 3) == VARISAT_ASSUMED_VAR);
+    CHECK(varisat_is_valid(s) == 1);
+    CHECK(varisat_free(s) == 0);
+}
+
+static void wrong_calls(void) {
+    const int32_t one[] = {1};
+    CHECK(varisat_add(NULL, 1) == VARISAT_BAD_ARGUMENT && varisat_solve(NULL) == VARISAT_BAD_ARGUMENT && varisat_free(NULL) == 0);
+    CHECK(varisat_model(NULL, &list, &count) == VARISAT_BAD_ARGUMENT && varisat_interrupt(NULL) == VARISAT_BAD_ARGUMENT);
+    CHECK(varisat_error(NULL) == VARISAT_BAD_ARGUMENT && varisat_count(NULL, VARISAT_STEPS) == 0);
+    varisat *s = varisat_new(0);
+    CHECK(varisat_add_clause(s, LITS(1, 0, 2)) == VARISAT_BAD_ARGUMENT);
+    CHECK(varisat_error(s) == VARISAT_BAD_ARGUMENT && strstr(varisat_error_text(s), "literal 0"));
+    CHECK(varisat_add_clause(s, NULL, 3) == VARISAT_BAD_ARGUMENT && varisat_assume(s, NULL, 3) == VARISAT_BAD_ARGUMENT);
+    CHECK(varisat_add_clauses(s, one, 1) == VARISAT_BAD_ARGUMENT && varisat_assume(s, LITS(0)) == VARISAT_BAD_ARGUMENT);
+    CHECK(varisat_value(s, 0) == VARISAT_BAD_ARGUMENT && varisat_is_failed(s, 0) == VARISAT_BAD_ARGUMENT);
+    CHECK(varisat_value(s, 1) == VARISAT_NOTHING && varisat_is_failed(s, 1) == VARISAT_NOTHING);
+    CHECK(varisat_model(s, NULL, &count) == VARISAT_BAD_ARGUMENT && varisat_model(s, &list, NULL) == VARISAT_BAD_ARGUMENT);
+    CHECK(varisat_hide_var(s, 0) == VARISAT_BAD_ARGUMENT && varisat_witness_var(s, -1) == VARISAT_BAD_ARGUMENT);
+    CHECK(varisat_set(s, 99, 1) == VARISAT_BAD_ARGUMENT && varisat_set(s, VARISAT_VSIDS_DECAY, 10) == VARISAT_OUT_OF_RANGE);
+    CHECK(strstr(varisat_error_text(s), "vsids_decay"));
+    CHECK(varisat_add_clause(s, LITS(0x10000001)) == VARISAT_VARIABLE_LIMIT && varisat_add_clause(s, LITS(INT32_MIN)) == VARISAT_VARIABLE_LIMIT);
+    CHECK(varisat_hide_var(s, INT32_MAX) == VARISAT_VARIABLE_LIMIT);
+    CHECK(varisat_close_proof(s) == VARISAT_NOTHING);
+    CHECK(varisat_write_proof(s, 77, NULL, NULL) == VARISAT_BAD_ARGUMENT);
+    CHECK(varisat_add_clause(s, one, 1) == 0 && varisat_self_check(s) == VARISAT_PROOF_TOO_LATE);
+    CHECK(varisat_solve(s) == VARISAT_SATISFIABLE && varisat_value(s, INT32_MIN) == VARISAT_NOTHING && varisat_value(s, INT32_MAX) == VARISAT_NOTHING);
+    CHECK(varisat_is_valid(s) == 1);
+    CHECK(varisat_free(s) == 0);
+}
+
+static void texts(void) {
+    const char *text = "c a comment\np cnf 5 3\n1 -5 0\n2 3 -4\n0 -1 2 0\n";
+    varisat *s = varisat_new(0);
+    for (const char *p = text; *p; p++) CHECK(varisat_read_dimacs(s, p, 1) == 0);
+    CHECK(varisat_end_dimacs(s) == 5 && varisat_solve(s) == VARISAT_SATISFIABLE);
+    CHECK(varisat_read_dimacs(s, "1 0\n2 x 0", 9) == VARISAT_DIMACS && strstr(varisat_error_text(s), "line 2"));
+    CHECK(varisat_read_dimacs(s, "-1 0 3", 6) == 0 && varisat_end_dimacs(s) == VARISAT_DIMACS);
+    CHECK(varisat_solve(s) == VARISAT_UNSATISFIABLE);
+    CHECK(varisat_free(s) == 0);
+}
+
+struct sink {
+    varisat *solver;
+    char bytes[1 << 20];
+    size_t size, most;
+};
+
+static int take(void *data, const void *bytes, size_t size) {
+    struct sink *sink = data;
+    if (sink->size + size > sink->most) return 1;
+    memcpy(sink->bytes + sink->size, bytes, size);
+    sink->size += size;
+    /* From within a callback all calls but one are refused. */
+    if (sink->solver) {
+        CHECK(varisat_solve(sink->solver) == VARISAT_BUSY && varisat_free(sink->solver) == VARISAT_BUSY);
+        CHECK(varisat_add(sink->solver, 1) == VARISAT_BUSY && varisat_count(sink->solver, VARISAT_STEPS) == 0);
+        /* Those of another solver are fine. */
+        varisat *other = varisat_new(0);
+        CHECK(varisat_add_clause(other, LITS(1)) == 0 && varisat_solve(other) == 10 && varisat_free(other) == 0);
+    }
+    return 0;
+}
+
+static void write_text(char *text, int n) {
+    text += sprintf(text, "p cnf %d %d\n", n * (n - 1), n + (n - 1) * n * (n - 1) / 2);
+    for (int p = 0; p < n; p++) {
+        for (int h = 0; h < n - 1; h++) text += sprintf(text, "%d ", p * (n - 1) + h + 1);
+        text += sprintf(text, "0\n");
+    }
+    for (int h = 0; h < n - 1; h++)
+        for (int p = 0; p < n; p++)
+            for (int q = 0; q < p; q++) text += sprintf(text, "%d %d 0\n", -(p * (n - 1) + h + 1), -(q * (n - 1) + h + 1));
+}
+
+static void proofs(void) {
+    static struct sink sink;
+    static char text[1 << 16];
+    uint64_t place;
+    write_text(text, 6);
+    for (int format = VARISAT_DRAT; format <= VARISAT_MARKED; format++) {
+        varisat *s = varisat_new(0);
+        sink = (struct sink){.solver = s, .most = sizeof sink.bytes};
+        CHECK(varisat_write_proof(s, format, take, &sink) == 0);
+        CHECK(varisat_write_proof(s, format, take, &sink) == VARISAT_PROOF_OPEN);
+        add_pigeons(s, 6);
+        if (format != VARISAT_MARKED) CHECK(varisat_assume(s, LITS(1)) == VARISAT_PROOF_OPEN && varisat_assume(s, NULL, 0) == 0);
+        CHECK(varisat_solve_steps(s, 3) == VARISAT_UNKNOWN);
+        CHECK(sink.size);
+        if (format != VARISAT_MARKED) CHECK(varisat_add_clause(s, LITS(1)) == VARISAT_CLAUSE_AFTER_SOLVE);
+        CHECK(varisat_solve(s) == VARISAT_UNSATISFIABLE && varisat_close_proof(s) == 0);
+        CHECK(varisat_check_proof(format, text, strlen(text), sink.bytes, sink.size, &place) == VARISAT_UNSATISFIABLE);
+        CHECK(varisat_check_proof(format, "p cnf 2 1\n1 2 0\n", 16, sink.bytes, sink.size, &place) < 0);
+        CHECK(varisat_check_proof(format, "x", 1, sink.bytes, sink.size, &place) == VARISAT_DIMACS && place == 1);
+        CHECK(varisat_free(s) == 0);
+    }
+    CHECK(varisat_check_proof(VARISAT_DRAT, NULL, 0, NULL, 0, NULL) == VARISAT_UNKNOWN);
+    CHECK(varisat_check_proof(VARISAT_DRAT, NULL, 4, NULL, 0, NULL) == VARISAT_BAD_ARGUMENT);
+    /* what takes the proof fails */
+    varisat *s = varisat_new(0);
+    sink = (struct sink){.most = 100};
+    CHECK(varisat_write_proof(s, VARISAT_DRAT, take, &sink) == 0);
+    add_pigeons(s, 7);
+    CHECK(varisat_solve(s) == VARISAT_PROOF_IO && varisat_is_valid(s) == 0);
+    CHECK(varisat_solve(s) == VARISAT_INVALID && varisat_add_clause(s, LITS(1)) == VARISAT_INVALID && varisat_value(s, 1) == VARISAT_NOTHING);
+    CHECK(varisat_free(s) == 0);
+    /* a file */
+    int ends[2];
+    CHECK(!pipe(ends));
+    s = varisat_new(0);
+    CHECK(varisat_write_proof_fd(s, VARISAT_DRAT, ends[1]) == 0 && varisat_add_clauses(s, LITS(1, 2, 0, -1, 2, 0, 1, -2, 0, -1, -2, 0)) == 0);
+    CHECK(varisat_solve(s) == VARISAT_UNSATISFIABLE && varisat_close_proof(s) == 0);
+    char lines[100];
+    CHECK(read(ends[0], lines, sizeof lines) > 2);
+    CHECK(varisat_free(s) == 0);
+    close(ends[0]), close(ends[1]);
+}
+
+static void heaps(void) {
+    for (size_t limit = 1; limit < 400000; limit += limit / 3 + 1) {
+        varisat *s = varisat_new(limit);
+        if (!s) continue;
+        int answer = 0, n = 6;
+        for (int p = 0; p < n && !answer; p++) {
+            for (int h = 0; h < n - 1 && !answer; h++) answer = varisat_add(s, p * (n - 1) + h + 1);
+            if (!answer) answer = varisat_add(s, 0);
+        }
+        for (int h = 0; h < n - 1; h++)
+            for (int p = 0; p < n; p++)
+                for (int q = 0; q < p && !answer; q++) answer = varisat_add_clause(s, LITS(-(p * (n - 1) + h + 1), -(q * (n - 1) + h + 1)));
+        if (!answer) answer = varisat_solve(s);
+        CHECK(answer == VARISAT_UNSATISFIABLE || answer == VARISAT_OUT_OF_MEMORY);
+        CHECK(varisat_count(s, VARISAT_BYTES) <= limit + 4096);
+        CHECK(limit < 300000 || answer == VARISAT_UNSATISFIABLE);
+        CHECK(varisat_free(s) == 0);
+    }
+}
+
+static int stop_late(void *data) {
+    return ++*(int *)data == 3;
+}
+
+static void *interrupt(void *solver) {
+    usleep(200000);
+    varisat_interrupt(solver);
+    return NULL;
+}
+
+static void interrupts(void) {
+    varisat *s = varisat_new(0);
+    add_pigeons(s, 12);
+    CHECK(varisat_solve_steps(s, 0) == VARISAT_UNKNOWN && varisat_count(s, VARISAT_STEPS) == 0);
+    CHECK(varisat_solve_steps(s, 10) == VARISAT_UNKNOWN && varisat_count(s, VARISAT_STEPS) == 10);
+    CHECK(varisat_solve_steps(s, 2500) == VARISAT_UNKNOWN && varisat_count(s, VARISAT_STEPS) == 2510);
+    int asked = 0;
+    CHECK(varisat_set_terminate(s, stop_late, &asked) == 0 && varisat_solve(s) == VARISAT_UNKNOWN && asked == 3);
+    CHECK(varisat_set_terminate(s, NULL, NULL) == 0);
+    CHECK(varisat_interrupt(s) == 0 && varisat_solve(s) == VARISAT_UNKNOWN);
+    pthread_t thread;
+    CHECK(!pthread_create(&thread, NULL, interrupt, s));
+    CHECK(varisat_solve(s) == VARISAT_UNKNOWN);
+    pthread_join(thread, NULL);
+    CHECK(varisat_count(s, VARISAT_CONFLICTS) > 100 && varisat_error(s) == 0);
+    CHECK(varisat_free(s) == 0);
+}
+
+static void *solve_own(void *data) {
+    (void)data;
+    for (int i = 0; i < 20; i++) {
+        varisat *s = varisat_new(1 << 20);
+        add_pigeons(s, 6);
+        CHECK(varisat_solve(s) == VARISAT_UNSATISFIABLE && varisat_free(s) == 0);
+    }
+    return NULL;
+}
+
+static void *disturb(void *solver) {
+    int *busy = calloc(1, sizeof *busy);
+    for (int i = 0; i < 100000; i++) {
+        int answer = varisat_is_valid(solver);
+        CHECK(answer == 1 || answer == VARISAT_BUSY);
+        *busy += answer == VARISAT_BUSY;
+    }
+    return busy;
+}
+
+static void threads(void) {
+    pthread_t thread[4];
+    for (int i = 0; i < 4; i++) CHECK(!pthread_create(&thread[i], NULL, solve_own, NULL));
+    for (int i = 0; i < 4; i++) pthread_join(thread[i], NULL);
+    varisat *s = varisat_new(0);
+    add_pigeons(s, 9);
+    void *busy;
+    CHECK(!pthread_create(&thread[0], NULL, disturb, s));
+    int answer = varisat_solve(s);
+    CHECK(answer == VARISAT_UNSATISFIABLE || answer == VARISAT_BUSY);
+    pthread_join(thread[0], &busy);
+    free(busy);
+    CHECK(varisat_free(s) == 0);
+}
+
+static void checking(void) {
+    varisat *s = varisat_new(0);
+    CHECK(varisat_self_check(s) == 0);
+    add_pigeons(s, 6);
+    CHECK(varisat_solve(s) == VARISAT_UNSATISFIABLE && varisat_is_valid(s) == 1);
+    CHECK(varisat_free(s) == 0);
+}
+
+int main(void) {
+    right_calls(), modes(), wrong_calls(), texts(), proofs(), heaps(), interrupts(), threads(), checking();
+    puts("all passed");
+}

@@ -1,0 +1,78 @@
+/* Makes calls with the n-th allocation refused, and all after it, for each n: none crashes, and no answer is wrong. Link it with
+ * -Wl,--wrap=realloc,--wrap=calloc. */
+#include "../varisat.h"
+
+#include <stdio.h>
+#include <stdlib.h>
+
+#define CHECK(it) ((it) ? (void)0 : (printf("%s:%d: %s\n", __FILE__, __LINE__, #it), exit(1)))
+
+void *__real_realloc(void *at, size_t size);
+void *__real_calloc(size_t count, size_t size);
+
+/* How many allocations are left; below 0: any number. */
+static long left = -1;
+
+static int is_refused(void) {
+    return left == 0 || (left > 0 && left-- == 0);
+}
+
+void *__wrap_realloc(void *at, size_t size) {
+    return is_refused() ? NULL : __real_realloc(at, size);
+}
+
+void *__wrap_calloc(size_t count, size_t size) {
+    return is_refused() ? NULL : __real_calloc(count, size);
+}
+
+static int take(void *data, const void *bytes, size_t size) {
+    (void)bytes;
+    *(size_t *)data += size;
+    return 0;
+}
+
+/* Whether the answer came, or memory ran out. */
+static int is_there(int answer, int want) {
+    CHECK(answer == want || answer == VARISAT_OUT_OF_MEMORY || answer == VARISAT_PROOF_IO || answer == VARISAT_INVALID);
+    return answer == want;
+}
+
+/* Whether all calls came to their answers. */
+static int is_answered(varisat *solver, size_t *bytes) {
+    const int32_t *list, rules[] = {-1, 2, 0, -2, -3, 0, 1, 3, 0}, both[] = {1, 3}, none[] = {-1, -3};
+    size_t count;
+    int all = is_there(varisat_write_proof(solver, VARISAT_MARKED, take, bytes), 0);
+    all &= is_there(varisat_read_dimacs(solver, "4 5 0\n-4 5", 10), 0) && is_there(varisat_read_dimacs(solver, " 0\n", 3), 0);
+    if (all) all &= is_there(varisat_end_dimacs(solver), 5);
+    if (all) all &= is_there(varisat_add_clauses(solver, rules, 9), 0);
+    if (all) all &= is_there(varisat_assume(solver, both, 2), 0) && is_there(varisat_solve(solver), VARISAT_UNSATISFIABLE);
+    if (all) all &= is_there(varisat_failed_core(solver, &list, &count), 0) && is_there(varisat_is_failed(solver, 1), 1);
+    if (all) all &= is_there(varisat_assume(solver, NULL, 0), 0) && is_there(varisat_solve(solver), VARISAT_SATISFIABLE);
+    if (all) all &= is_there(varisat_model(solver, &list, &count), 0) && is_there(varisat_value(solver, 5), 1);
+    if (all) all &= is_there(varisat_new_var(solver), 6) && is_there(varisat_hide_var(solver, 6), 0);
+    if (all) all &= is_there(varisat_add(solver, 1), 0) && is_there(varisat_add(solver, 0), 0);
+    if (all) all &= is_there(varisat_assume(solver, none, 2), 0) && is_there(varisat_solve(solver), VARISAT_UNSATISFIABLE);
+    if (all) all &= is_there(varisat_close_proof(solver), 0);
+    return all;
+}
+
+int main(void) {
+    int unopened = 0, refused = 0;
+    for (long most = 0;; most++) {
+        size_t bytes = 0;
+        left = most;
+        varisat *solver = varisat_new(0);
+        if (!solver) {
+            unopened++;
+            continue;
+        }
+        int answered = is_answered(solver, &bytes);
+        CHECK(answered ? bytes > 0 : varisat_error(solver) != 0);
+        CHECK(varisat_free(solver) == 0);
+        if (answered) break;
+        refused++;
+    }
+    left = -1;
+    CHECK(unopened > 0 && refused > 20);
+    printf("%d refusals passed\n", unopened + refused);
+}

@@ -1,0 +1,128 @@
+/* Random calls, whose answers are compared with a search through all assignments. random ROUNDS */
+#include "../varisat.h"
+
+#include <stdio.h>
+#include <stdlib.h>
+
+#define CHECK(it) ((it) ? (void)0 : (printf("%s:%d: round %ld: %s\n", __FILE__, __LINE__, round_number, #it), exit(1)))
+
+enum { MOST_VARIABLES = 10, MOST_CLAUSES = 80, MOST_LITERALS = 4, MOST_ASSUMED = 4, TURNS = 12 };
+
+struct clause {
+    int32_t literals[MOST_LITERALS];
+    size_t count;
+};
+
+static long round_number;
+static struct clause clauses[MOST_CLAUSES], assumed;
+static size_t clause_count;
+static uint64_t seed = 88172645463325252u;
+
+static int draw(int below) {
+    seed ^= seed << 13, seed ^= seed >> 7, seed ^= seed << 17;
+    return (int)((seed >> 33) % (unsigned)below);
+}
+
+static void draw_clause(struct clause *clause, int variables, int most) {
+    clause->count = (size_t)draw(most + 1);
+    for (size_t i = 0; i < clause->count; i++)
+        clause->literals[i] = (1 + draw(variables)) * (draw(2) ? 1 : -1);
+}
+
+/* Bit v - 1 of an assignment is the value of the variable v. */
+static int is_true(unsigned values, int32_t literal) {
+    return literal > 0 ? values >> (literal - 1) & 1 : !(values >> (-literal - 1) & 1);
+}
+
+static int satisfies(unsigned values) {
+    for (size_t c = 0; c < clause_count; c++) {
+        int some = 0;
+        for (size_t i = 0; i < clauses[c].count; i++) some |= is_true(values, clauses[c].literals[i]);
+        if (!some) return 0;
+    }
+    return 1;
+}
+
+/* Whether some assignment satisfies the clauses and makes these literals true. */
+static int is_satisfiable(int variables, const int32_t *literals, size_t count) {
+    for (unsigned values = 0; values < 1u << variables; values++) {
+        int all = satisfies(values);
+        for (size_t i = 0; i < count; i++) all &= is_true(values, literals[i]);
+        if (all) return 1;
+    }
+    return 0;
+}
+
+static void check_model(varisat *solver, int variables) {
+    const int32_t *model;
+    size_t count;
+    unsigned values = 0;
+    CHECK(varisat_model(solver, &model, &count) == 0);
+    for (size_t i = 0; i < count; i++) {
+        CHECK(i == 0 || abs(model[i - 1]) < abs(model[i]));
+        CHECK(varisat_value(solver, model[i]) == 1 && varisat_value(solver, -model[i]) == 0);
+        if (abs(model[i]) <= variables && model[i] > 0) values |= 1u << (model[i] - 1);
+    }
+    CHECK(satisfies(values));
+    for (size_t i = 0; i < assumed.count; i++) CHECK(is_true(values, assumed.literals[i]));
+    CHECK(varisat_failed_core(solver, &model, &count) == VARISAT_NOTHING && count == 0);
+}
+
+static void check_core(varisat *solver, int variables) {
+    const int32_t *core;
+    size_t count;
+    CHECK(varisat_failed_core(solver, &core, &count) == 0);
+    for (size_t i = 0; i < count; i++) {
+        int is_assumed = 0;
+        for (size_t j = 0; j < assumed.count; j++) is_assumed |= assumed.literals[j] == core[i];
+        CHECK(is_assumed && varisat_is_failed(solver, core[i]) == 1);
+    }
+    CHECK(!is_satisfiable(variables, core, count));
+    CHECK(varisat_model(solver, &core, &count) == VARISAT_NOTHING && count == 0);
+}
+
+/* Gives the clause in one of three ways. */
+static void add(varisat *solver, const struct clause *clause) {
+    char text[100], *end = text;
+    switch (draw(3)) {
+    case 0: CHECK(varisat_add_clause(solver, clause->literals, clause->count) == 0); break;
+    case 1:
+        for (size_t i = 0; i < clause->count; i++) CHECK(varisat_add(solver, clause->literals[i]) == 0);
+        CHECK(varisat_add(solver, 0) == 0);
+        break;
+    default:
+        for (size_t i = 0; i < clause->count; i++) end += sprintf(end, "%d ", clause->literals[i]);
+        end += sprintf(end, "0\n");
+        CHECK(varisat_read_dimacs(solver, text, (size_t)(end - text)) == 0 && varisat_end_dimacs(solver) >= 0);
+    }
+}
+
+static void play(void) {
+    varisat *solver = varisat_new(0);
+    int variables = 2 + draw(MOST_VARIABLES - 1);
+    clause_count = assumed.count = 0;
+    for (int turn = 0; turn < TURNS; turn++) {
+        for (int more = draw(MOST_CLAUSES / TURNS); more > 0; more--) {
+            draw_clause(&clauses[clause_count], variables, MOST_LITERALS);
+            /* An empty clause would end the game early. */
+            if (!clauses[clause_count].count && draw(20)) continue;
+            add(solver, &clauses[clause_count++]);
+        }
+        if (draw(3)) {
+            draw_clause(&assumed, variables, MOST_ASSUMED);
+            CHECK(varisat_assume(solver, assumed.literals, assumed.count) == 0);
+        }
+        int answer = draw(2) ? varisat_solve(solver) : varisat_solve_steps(solver, (uint64_t)draw(3));
+        if (answer == VARISAT_UNKNOWN) continue;
+        CHECK(answer == (is_satisfiable(variables, assumed.literals, assumed.count) ? VARISAT_SATISFIABLE : VARISAT_UNSATISFIABLE));
+        if (answer == VARISAT_SATISFIABLE) check_model(solver, variables);
+        else check_core(solver, variables);
+    }
+    CHECK(varisat_is_valid(solver) == 1 && varisat_error(solver) != VARISAT_INVALID && varisat_free(solver) == 0);
+}
+
+int main(int count, char **words) {
+    long rounds = count > 1 ? atol(words[1]) : 1000;
+    for (round_number = 0; round_number < rounds; round_number++) play();
+    printf("%ld random rounds passed\n", rounds);
+}

@@ -1,0 +1,494 @@
+/* varisat.h over the proved library. This file is not proved: it refuses wrong arguments, keeps memory within a solver's limit, calls
+ * back between rounds of steps, and keeps the lists that are told. */
+#define _POSIX_C_SOURCE 200809L
+#include "varisat.h"
+
+#include <errno.h>
+#include <stdatomic.h>
+#include <stdlib.h>
+#include <string.h>
+#include <unistd.h>
+
+#include "callers.h"
+
+/* Memory. Each block is charged to the solver whose call is under way, if one is; the proved library takes a refusal at any place. */
+
+struct account {
+    size_t used, limit;
+};
+_Thread_local struct account *charged;
+
+struct block {
+    _Alignas(16) size_t size;
+};
+
+static void *grow(void *old, size_t size) {
+    struct block *block = old ? (struct block *)old - 1 : NULL;
+    size_t before = block ? block->size : 0, after = sizeof *block + size;
+    if (size > SIZE_MAX / 2 || (charged && after > before && after - before > charged->limit - charged->used))
+        return NULL;
+    block = realloc(block, after);
+    if (!block)
+        return NULL;
+    if (charged)
+        charged->used += after - before;
+    block->size = after;
+    return block + 1;
+}
+
+static void release(void *old) {
+    struct block *block = old ? (struct block *)old - 1 : NULL;
+    if (block && charged)
+        charged->used -= block->size;
+    free(block);
+}
+
+static struct tried tried(void *p) {
+    static _Alignas(16) char none[16];
+    return (struct tried){p != NULL, p ? p : none};
+}
+
+struct tried rattle_alloc(size_t size, size_t align) {
+    return tried(grow(NULL, size ? size : align));
+}
+
+struct tried rattle_realloc(void *old, size_t kept, size_t size, size_t align) {
+    (void)kept;
+    return tried(grow(old, size ? size : align));
+}
+
+void rattle_dealloc(void *old) { release(old); }
+
+/* Solvers. */
+
+enum { MOST_STEPS = 1000, PIECE = 1 << 14, TEXT = 200 };
+
+/* Literals, in the order of their variables once they are all there. */
+struct list {
+    int32_t *numbers;
+    size_t count, room;
+    bool is_whole;
+};
+
+struct varisat {
+    struct handle handle;
+    struct account account, *outer;
+    uint64_t limit;
+    atomic_int busy, interrupted;
+    int error;
+    char text[TEXT];
+    struct list clause, model, core, observed;
+    /* A literal of the clause that is being given found no room, so the clause must not be accepted. */
+    bool is_clause_lost;
+    int (*terminate)(void *);
+    void *terminate_data;
+    int (*write)(void *, const void *, size_t);
+    void *write_data;
+    int fd;
+    bool proof_failed;
+};
+
+const char *varisat_version(void) {
+#ifdef UNPROVED
+    return "varisat 1.0.0, built without proofs";
+#else
+    return "varisat 1.0.0";
+#endif
+}
+
+/* The text of an error, and NULL for those that the library tells. */
+static const char *text_of(int error) {
+    switch (error) {
+    case VARISAT_PROOF_IO: return "Error writing proof file";
+    case VARISAT_OUT_OF_MEMORY: return "Out of memory";
+    case VARISAT_INVALID: return "The solver is invalid after an unrecoverable error";
+    case VARISAT_BAD_ARGUMENT: return "No solver, no list, no such setting, mode or format, or the literal 0";
+    case VARISAT_NOTHING: return "There is no model, core or proof";
+    default: return NULL;
+    }
+}
+
+/* Ends a call with this answer. */
+static int leave(varisat *solver, int answer) {
+    /* What made the solver invalid is told on. */
+    if (answer < 0 && !(answer == VARISAT_INVALID && solver->error)) {
+        const char *text = text_of(answer);
+        memset(solver->text, 0, TEXT);
+        if (text)
+            strncpy(solver->text, text, TEXT - 1);
+        else
+            caller_refusal_copy(&solver->handle, (uint8_t *)solver->text, TEXT - 1);
+        solver->error = answer;
+    }
+    charged = solver->outer;
+    atomic_store_explicit(&solver->busy, 0, memory_order_release);
+    return answer;
+}
+
+/* Begins a call, of which the other arguments are right or not: 0, or why it is refused. */
+static int enter(varisat *solver, bool is_right) {
+    if (!solver)
+        return VARISAT_BAD_ARGUMENT;
+    if (atomic_exchange_explicit(&solver->busy, 1, memory_order_acquire))
+        return VARISAT_BUSY;
+    /* A callback of another solver may be what calls. */
+    solver->outer = charged;
+    charged = &solver->account;
+    return is_right ? 0 : leave(solver, VARISAT_BAD_ARGUMENT);
+}
+
+/* Begins a call that changes the solver: what was told is over. */
+static int enter_change(varisat *solver, bool is_right) {
+    int refused = enter(solver, is_right);
+    if (refused)
+        return refused;
+    if (solver->proof_failed)
+        return leave(solver, VARISAT_INVALID);
+    solver->model.is_whole = solver->core.is_whole = solver->observed.is_whole = false;
+    return 0;
+}
+
+/* Returns from a call that does not begin. */
+#define BEGIN(entered)         \
+    do {                       \
+        int refused = entered; \
+        if (refused)           \
+            return refused;    \
+    } while (0)
+
+/* Hands on what an open proof wrote, behind an answer that stands where that succeeds. */
+static int written(varisat *solver, int answer) {
+    size_t size = solver->write ? caller_take_written(&solver->handle) : 0;
+    for (size_t done = 0; done < size;) {
+        uint8_t piece[PIECE];
+        size_t count = caller_written_copy(&solver->handle, done, piece, sizeof piece);
+        if (solver->write(solver->write_data, piece, count)) {
+            solver->proof_failed = true;
+            solver->write = NULL;
+            return VARISAT_PROOF_IO;
+        }
+        done += count;
+    }
+    return answer;
+}
+
+/* Ends a call that changes the solver, by the library's number. */
+static int changed(varisat *solver, int number) {
+    return leave(solver, written(solver, -number));
+}
+
+varisat *varisat_new(size_t heap_limit) {
+    varisat *solver = calloc(1, sizeof *solver);
+    if (!solver)
+        return NULL;
+    solver->account.limit = heap_limit ? heap_limit : SIZE_MAX;
+    solver->limit = UINT64_MAX;
+    enter(solver, true);
+    bool is_open = caller_open(&solver->handle);
+    leave(solver, 0);
+    if (is_open)
+        return solver;
+    free(solver);
+    return NULL;
+}
+
+int varisat_free(varisat *solver) {
+    if (!solver)
+        return 0;
+    BEGIN(enter(solver, true));
+    caller_close(&solver->handle);
+    release(solver->clause.numbers);
+    release(solver->model.numbers);
+    release(solver->core.numbers);
+    release(solver->observed.numbers);
+    charged = solver->outer;
+    free(solver);
+    return 0;
+}
+
+int varisat_error(varisat *solver) { return solver ? solver->error : VARISAT_BAD_ARGUMENT; }
+
+const char *varisat_error_text(varisat *solver) { return solver ? solver->text : text_of(VARISAT_BAD_ARGUMENT); }
+
+int varisat_is_valid(varisat *solver) {
+    BEGIN(enter(solver, true));
+    return leave(solver, caller_is_valid(&solver->handle) && !solver->proof_failed);
+}
+
+/* Clauses. */
+
+/* A slice that is never null. */
+static const int32_t *slice(const int32_t *numbers) {
+    static const int32_t none;
+    return numbers ? numbers : &none;
+}
+
+static const void *bytes(const void *bytes) {
+    return bytes ? bytes : "";
+}
+
+int varisat_add_clause(varisat *solver, const int32_t *literals, size_t count) {
+    BEGIN(enter_change(solver, literals || !count));
+    return changed(solver, caller_add_clause(&solver->handle, slice(literals), count));
+}
+
+int varisat_add_clauses(varisat *solver, const int32_t *numbers, size_t count) {
+    BEGIN(enter_change(solver, !count || (numbers && !numbers[count - 1])));
+    int number = 0;
+    for (size_t begin = 0, end = 0; end < count && !number; end++)
+        if (!numbers[end]) {
+            number = caller_add_clause(&solver->handle, numbers + begin, end - begin);
+            begin = end + 1;
+        }
+    return changed(solver, number);
+}
+
+/* Makes room for so many numbers. */
+static bool reserve(struct list *list, size_t room) {
+    if (room <= list->room)
+        return true;
+    if (room < 2 * list->room)
+        room = 2 * list->room;
+    int32_t *numbers = grow(list->numbers, room * sizeof *numbers);
+    if (!numbers)
+        return false;
+    list->numbers = numbers;
+    list->room = room;
+    return true;
+}
+
+int varisat_add(varisat *solver, int32_t literal) {
+    BEGIN(literal ? enter(solver, true) : enter_change(solver, true));
+    struct list *clause = &solver->clause;
+    if (literal) {
+        solver->is_clause_lost |= !reserve(clause, clause->count + 1);
+        if (!solver->is_clause_lost)
+            clause->numbers[clause->count++] = literal;
+        return leave(solver, solver->is_clause_lost ? VARISAT_OUT_OF_MEMORY : 0);
+    }
+    size_t count = clause->count;
+    bool is_lost = solver->is_clause_lost;
+    clause->count = 0;
+    solver->is_clause_lost = false;
+    if (is_lost)
+        return leave(solver, VARISAT_OUT_OF_MEMORY);
+    return changed(solver, caller_add_clause(&solver->handle, slice(clause->numbers), count));
+}
+
+int varisat_read_dimacs(varisat *solver, const char *piece, size_t size) {
+    BEGIN(enter_change(solver, piece || !size));
+    return changed(solver, caller_feed(&solver->handle, bytes(piece), size));
+}
+
+int varisat_end_dimacs(varisat *solver) {
+    BEGIN(enter_change(solver, true));
+    return leave(solver, written(solver, (int)caller_end_text(&solver->handle)));
+}
+
+/* Searches. */
+
+int varisat_assume(varisat *solver, const int32_t *literals, size_t count) {
+    BEGIN(enter_change(solver, literals || !count));
+    int number = caller_assume(&solver->handle, slice(literals), count);
+    /* Under a proof that bars assumptions none are made, so that the empty list is assumed already. */
+    return changed(solver, number == -VARISAT_PROOF_OPEN && !count ? 0 : number);
+}
+
+int varisat_solve(varisat *solver) { return varisat_solve_steps(solver, UINT64_MAX); }
+
+int varisat_solve_steps(varisat *solver, uint64_t steps) {
+    BEGIN(enter_change(solver, true));
+    int answer = VARISAT_UNKNOWN;
+    do {
+        uint64_t round = steps < MOST_STEPS ? steps : MOST_STEPS;
+        if (round != solver->limit)
+            caller_limit_steps(&solver->handle, solver->limit = round);
+        uint8_t number = caller_solve(&solver->handle);
+        /* 1: the round is over */
+        answer = written(solver, number == 10 || number == 20 ? number : number == 1 ? VARISAT_UNKNOWN : -number);
+        steps -= steps == UINT64_MAX ? 0 : round;
+    } while (answer == VARISAT_UNKNOWN && steps &&
+             !atomic_load_explicit(&solver->interrupted, memory_order_relaxed) &&
+             !(solver->terminate && solver->terminate(solver->terminate_data)));
+    atomic_store_explicit(&solver->interrupted, 0, memory_order_relaxed);
+    return leave(solver, answer);
+}
+
+int varisat_interrupt(varisat *solver) {
+    if (!solver)
+        return VARISAT_BAD_ARGUMENT;
+    atomic_store_explicit(&solver->interrupted, 1, memory_order_relaxed);
+    return 0;
+}
+
+int varisat_set_terminate(varisat *solver, int (*terminate)(void *data), void *data) {
+    BEGIN(enter(solver, true));
+    solver->terminate = terminate;
+    solver->terminate_data = data;
+    return leave(solver, 0);
+}
+
+/* Lists that are told. */
+
+/* v before -v before the numbers of later variables */
+static int by_variable(const void *left, const void *right) {
+    int64_t a = *(const int32_t *)left, b = *(const int32_t *)right;
+    int64_t p = a < 0 ? -2 * a + 1 : 2 * a, q = b < 0 ? -2 * b + 1 : 2 * b;
+    return (p > q) - (p < q);
+}
+
+/* Keeps the list that the call of the library tells, until the next change. */
+static int keep(varisat *solver, struct list *list, uint8_t (*tell)(struct handle *)) {
+    if (list->is_whole)
+        return 0;
+    list->count = 0;
+    int number = solver->proof_failed ? -VARISAT_NOTHING : tell(&solver->handle);
+    if (number)
+        return -number;
+    size_t count = caller_told_len(&solver->handle);
+    if (!reserve(list, count + 1))
+        return VARISAT_OUT_OF_MEMORY;
+    list->count = caller_told_copy(&solver->handle, list->numbers, count);
+    bool is_sorted = true;
+    for (size_t i = 1; i < list->count; i++) is_sorted &= by_variable(&list->numbers[i - 1], &list->numbers[i]) < 0;
+    if (!is_sorted)
+        qsort(list->numbers, list->count, sizeof *list->numbers, by_variable);
+    list->is_whole = true;
+    return 0;
+}
+
+static bool has(const struct list *list, int32_t literal) {
+    return bsearch(&literal, list->numbers, list->count, sizeof literal, by_variable);
+}
+
+/* Ends a call that tells the list. */
+static int tell(varisat *solver, int answer, const struct list *list, const int32_t **numbers, size_t *count) {
+    *numbers = list->numbers;
+    *count = answer ? 0 : list->count;
+    return leave(solver, answer);
+}
+
+int varisat_model(varisat *solver, const int32_t **literals, size_t *count) {
+    BEGIN(enter(solver, literals && count));
+    return tell(solver, keep(solver, &solver->model, caller_model), &solver->model, literals, count);
+}
+
+int varisat_failed_core(varisat *solver, const int32_t **literals, size_t *count) {
+    BEGIN(enter(solver, literals && count));
+    return tell(solver, keep(solver, &solver->core, caller_core), &solver->core, literals, count);
+}
+
+int varisat_observe_internal_vars(varisat *solver, const int32_t **variables, size_t *count) {
+    BEGIN(enter_change(solver, variables && count));
+    return tell(solver, keep(solver, &solver->observed, caller_observe), &solver->observed, variables, count);
+}
+
+int varisat_value(varisat *solver, int32_t literal) {
+    BEGIN(enter(solver, literal));
+    int refused = keep(solver, &solver->model, caller_model);
+    bool is_true = !refused && has(&solver->model, literal);
+    bool is_false = !refused && !is_true && literal != INT32_MIN && has(&solver->model, -literal);
+    return leave(solver, is_true || is_false ? is_true : refused ? refused : VARISAT_NOTHING);
+}
+
+int varisat_is_failed(varisat *solver, int32_t literal) {
+    BEGIN(enter(solver, literal));
+    int refused = keep(solver, &solver->core, caller_core);
+    return leave(solver, refused ? refused : has(&solver->core, literal));
+}
+
+/* Variables. */
+
+int varisat_new_var(varisat *solver) {
+    BEGIN(enter_change(solver, true));
+    return leave(solver, written(solver, (int)caller_new_var(&solver->handle)));
+}
+
+static int set_mode(varisat *solver, int32_t variable, uint8_t mode) {
+    BEGIN(enter_change(solver, true));
+    return changed(solver, caller_set_mode(&solver->handle, variable, mode));
+}
+
+int varisat_sample_var(varisat *solver, int32_t variable) { return set_mode(solver, variable, 0); }
+int varisat_witness_var(varisat *solver, int32_t variable) { return set_mode(solver, variable, 1); }
+int varisat_hide_var(varisat *solver, int32_t variable) { return set_mode(solver, variable, 2); }
+
+/* Settings and counters. */
+
+int varisat_set(varisat *solver, enum varisat_setting setting, uint64_t value) {
+    BEGIN(enter(solver, setting <= VARISAT_LUBY_RESTART_INTERVAL_SCALE));
+    return leave(solver, -caller_config(&solver->handle, setting, value));
+}
+
+int varisat_set_for_file(varisat *solver) {
+    BEGIN(varisat_set(solver, VARISAT_REDUCE_LOCALS_INTERVAL, 2000));
+    return varisat_set(solver, VARISAT_LUBY_RESTART_INTERVAL_SCALE, 64);
+}
+
+uint64_t varisat_count(varisat *solver, enum varisat_counter counter) {
+    if (enter(solver, true))
+        return 0;
+    uint64_t count = counter == VARISAT_BYTES   ? sizeof *solver + solver->account.used
+                     : counter == VARISAT_STEPS ? caller_steps(&solver->handle)
+                     : counter < VARISAT_STEPS  ? caller_counter(&solver->handle, (uint8_t)counter)
+                                                : 0;
+    leave(solver, 0);
+    return count;
+}
+
+/* Proofs. */
+
+int varisat_write_proof(varisat *solver, enum varisat_format format, int (*write)(void *, const void *, size_t), void *data) {
+    BEGIN(enter_change(solver, write && format <= VARISAT_MARKED));
+    int answer = -caller_open_proof(&solver->handle, format);
+    if (!answer) {
+        solver->write = write;
+        solver->write_data = data;
+    }
+    return leave(solver, answer);
+}
+
+static int write_to_fd(void *data, const void *bytes, size_t size) {
+    varisat *solver = data;
+    const char *next = bytes;
+    while (size) {
+        ssize_t count = write(solver->fd, next, size);
+        if (count < 0 && errno == EINTR)
+            continue;
+        if (count <= 0)
+            return 1;
+        next += count;
+        size -= (size_t)count;
+    }
+    return 0;
+}
+
+int varisat_write_proof_fd(varisat *solver, enum varisat_format format, int fd) {
+    int answer = varisat_write_proof(solver, format, write_to_fd, solver);
+    if (!answer)
+        solver->fd = fd;
+    return answer;
+}
+
+int varisat_close_proof(varisat *solver) {
+    BEGIN(enter_change(solver, true));
+    int answer = written(solver, -caller_close_proof(&solver->handle));
+    solver->write = NULL;
+    return leave(solver, answer);
+}
+
+int varisat_self_check(varisat *solver) {
+    BEGIN(enter_change(solver, true));
+    return changed(solver, caller_self_check(&solver->handle));
+}
+
+int varisat_check_proof(enum varisat_format format, const char *text, size_t text_size, const void *proof, size_t proof_size, uint64_t *place) {
+    uint64_t unused;
+    if ((!text && text_size) || (!proof && proof_size) || format > VARISAT_MARKED)
+        return VARISAT_BAD_ARGUMENT;
+    struct account *before = charged;
+    charged = NULL;
+    uint8_t number = caller_check(format, bytes(text), text_size, bytes(proof), proof_size, place ? place : &unused);
+    charged = before;
+    return number == VARISAT_UNSATISFIABLE ? number : -number;
+}

@@ -1,0 +1,190 @@
+/* varisat: an incremental SAT solver whose search, names, proofs and checker are proved.
+ *
+ * Literals are the numbers v and -v of variables v from 1 to 2^28. Names come into use up to the highest one, and each takes memory.
+ *
+ * Each call that returns an int returns 0 or more, or one of the errors below, which are negative. After an error the solver is as
+ * before, unless varisat_is_valid says that it is not: then each further call returns VARISAT_INVALID, and varisat_free alone is left.
+ * A list that is told stays where it is until the next call of that solver.
+ *
+ * Threads: solvers share nothing. One call at a time uses a solver, from whatever thread; a second one is refused as VARISAT_BUSY, and
+ * so is a call from within a callback of that solver. varisat_interrupt alone may be called at any time, also in a signal handler.
+ * Nothing finds out a solver that was freed, or a pointer that has fewer members than its count says. */
+#ifndef VARISAT_H
+#define VARISAT_H
+
+#include <stddef.h>
+#include <stdint.h>
+
+#ifdef __cplusplus
+extern "C" {
+#endif
+
+typedef struct varisat varisat;
+
+/* What varisat_solve found out. */
+enum {
+    VARISAT_UNKNOWN = 0,
+    VARISAT_SATISFIABLE = 10,
+    VARISAT_UNSATISFIABLE = 20
+};
+
+enum {
+    VARISAT_PROOF_IO = -2,           /* what takes the proof failed; the solver is invalid */
+    VARISAT_OUT_OF_MEMORY = -3,      /* memory or the limit of the heap; the solver is invalid, unless a list was to be told */
+    VARISAT_INVALID = -4,            /* a call after one that left the solver invalid */
+    VARISAT_STORE_FULL = -5,         /* the store of clauses is full; the solver is invalid */
+    VARISAT_WITNESS_VAR = -6,        /* a clause or an assumption names a witness */
+    VARISAT_VARIABLE_LIMIT = -7,     /* a variable above 2^28 */
+    VARISAT_ASSUMED_VAR = -8,        /* a mode or a hiding of an assumed variable */
+    VARISAT_CLAUSE_AFTER_SOLVE = -9, /* a clause once varisat_solve was called under an open DRAT proof */
+    VARISAT_PROOF_OPEN = -10,        /* a proof is open; an assumption under a DRAT proof */
+    VARISAT_PROOF_TOO_LATE = -11,    /* something was accepted before the proof or the checker */
+    VARISAT_OUT_OF_RANGE = -12,      /* a value out of its setting's range */
+    VARISAT_DIMACS = -13,            /* a fault of a text; the clauses before it stay */
+    VARISAT_BAD_ARGUMENT = -14,      /* no solver, no list, no setting, the literal 0 */
+    VARISAT_NOTHING = -15,           /* there is no model, core or proof to tell of */
+    VARISAT_WRONG_PROOF = -16,       /* a line of a proof is wrong */
+    VARISAT_OTHER_CLAUSE = -17,      /* a marked proof was given a clause that the text has not */
+    VARISAT_BUSY = -18               /* another call of this solver is under way */
+};
+
+/* The name and the version. */
+const char *varisat_version(void);
+
+/* A new solver, which takes at most so many bytes of memory; 0 sets no limit. NULL where there is no memory. */
+varisat *varisat_new(size_t heap_limit);
+
+/* Ends the solver. Refused from within its callbacks. NULL is fine. */
+int varisat_free(varisat *solver);
+
+/* What went wrong last, as a number and as text; 0 and "" where nothing did. What left the solver invalid is told on. */
+int varisat_error(varisat *solver);
+const char *varisat_error_text(varisat *solver);
+
+/* Whether the solver can be used. */
+int varisat_is_valid(varisat *solver);
+
+/* Clauses. */
+
+/* Accepts a clause of so many literals. */
+int varisat_add_clause(varisat *solver, const int32_t *literals, size_t count);
+
+/* Accepts clauses, each of which a 0 ends, up to the first that is refused. */
+int varisat_add_clauses(varisat *solver, const int32_t *numbers, size_t count);
+
+/* Puts a literal behind the clause that is being given, or accepts that clause at 0. One of which a literal found no memory is refused
+ * as a whole. */
+int varisat_add(varisat *solver, int32_t literal);
+
+/* Accepts the clauses that end in the next piece of a DIMACS CNF text. A fault ends the text. */
+int varisat_read_dimacs(varisat *solver, const char *piece, size_t size);
+
+/* Ends the text. Returns the highest variable of its header and its literals. */
+int varisat_end_dimacs(varisat *solver);
+
+/* Searches. */
+
+/* Assumes these literals in all searches, until others replace them. Under a DRAT proof none can be assumed, and the empty list is 0. */
+int varisat_assume(varisat *solver, const int32_t *literals, size_t count);
+
+/* Are the clauses satisfiable under the assumptions? VARISAT_UNKNOWN where the search was interrupted: the next call goes on. */
+int varisat_solve(varisat *solver);
+
+/* The same, interrupted after so many steps. A step ends with a conflict or the answer. */
+int varisat_solve_steps(varisat *solver, uint64_t steps);
+
+/* Interrupts the search that is under way, or else the next one, within 1000 steps. */
+int varisat_interrupt(varisat *solver);
+
+/* Each 1000 steps a search asks the function, and is interrupted where it does not return 0. NULL asks none. */
+int varisat_set_terminate(varisat *solver, int (*terminate)(void *data), void *data);
+
+/* The variables in use with their values, in their order, if the last thing that was found out is that there is a model. */
+int varisat_model(varisat *solver, const int32_t **literals, size_t *count);
+
+/* Whether the literal is true in this model, 1 or 0. */
+int varisat_value(varisat *solver, int32_t literal);
+
+/* Some of the assumptions which fail together with the clauses, in the order of their variables, if the last thing that was found out is that they do. */
+int varisat_failed_core(varisat *solver, const int32_t **literals, size_t *count);
+
+/* Whether the literal is one of this core, 1 or 0. */
+int varisat_is_failed(varisat *solver, int32_t literal);
+
+/* Variables. */
+
+/* Brings the least free variable into use, and returns it. */
+int varisat_new_var(varisat *solver);
+
+/* Makes it a witness, which no clause and no assumption names, or lets them name it again. */
+int varisat_witness_var(varisat *solver, int32_t variable);
+int varisat_sample_var(varisat *solver, int32_t variable);
+
+/* Frees its name; the variable lives on in the clauses. */
+int varisat_hide_var(varisat *solver, int32_t variable);
+
+/* Brings hidden variables back as witnesses, and tells their names. */
+int varisat_observe_internal_vars(varisat *solver, const int32_t **variables, size_t *count);
+
+/* Settings and counters. */
+
+enum varisat_setting {
+    VARISAT_VSIDS_DECAY,                 /* 500 to 999, in thousandths; 950 */
+    VARISAT_CLAUSE_ACTIVITY_DECAY,       /* 500 to 999, in thousandths; 999 */
+    VARISAT_REDUCE_LOCALS_INTERVAL,      /* from 1; 15000 */
+    VARISAT_REDUCE_MIDS_INTERVAL,        /* from 1; 10000 */
+    VARISAT_LUBY_RESTART_INTERVAL_SCALE  /* from 1; 128 */
+};
+int varisat_set(varisat *solver, enum varisat_setting setting, uint64_t value);
+
+/* Settings for one formula as in a file: locals 2000, restarts 64. */
+int varisat_set_for_file(varisat *solver);
+
+enum varisat_counter {
+    VARISAT_CONFLICTS,
+    VARISAT_DECISIONS,
+    VARISAT_PROPAGATIONS,
+    VARISAT_RESTARTS,
+    VARISAT_LEARNED_LITERALS,
+    VARISAT_DELETED_CLAUSES,
+    VARISAT_COLLECTIONS,
+    VARISAT_STEPS,
+    VARISAT_BYTES /* of memory in use */
+};
+/* 0 where there is no such counter, or the solver is busy. */
+uint64_t varisat_count(varisat *solver, enum varisat_counter counter);
+
+/* Proofs. */
+
+enum varisat_format {
+    VARISAT_DRAT,
+    VARISAT_BINARY_DRAT,
+    VARISAT_MARKED
+};
+
+/* Opens a proof, before anything is accepted. Its bytes go to the function at least each 1000 steps, and with each call that gives
+ * clauses; the function returns 0 once it took them all. */
+int varisat_write_proof(varisat *solver, enum varisat_format format, int (*write)(void *data, const void *bytes, size_t size), void *data);
+
+/* The same into a file that is open under this number, which stays open. */
+int varisat_write_proof_fd(varisat *solver, enum varisat_format format, int fd);
+
+/* Ends the proof. VARISAT_NOTHING where none is open. */
+int varisat_close_proof(varisat *solver);
+
+/* Has a checker run inside, from before anything is accepted: a step that it finds wrong leaves the solver invalid. */
+int varisat_self_check(varisat *solver);
+
+/* Checks a proof against a DIMACS CNF text: VARISAT_UNSATISFIABLE where it refutes the text's clauses, VARISAT_UNKNOWN where all its
+ * lines are right and refute nothing. Else *place is the step or the byte of the proof, or the line of the text, that is wrong. */
+int varisat_check_proof(enum varisat_format format, const char *text, size_t text_size, const void *proof, size_t proof_size, uint64_t *place);
+
+/* IPASIR, the ten functions of ipasir.h, is in the library too. Why a solver that ipasir_init returned does nothing and answers 0 from
+ * some call on: an error above, or 0. */
+int varisat_ipasir_error(void *solver);
+
+#ifdef __cplusplus
+}
+#endif
+
+#endif

@@ -1,0 +1,4 @@
+pub mod ClientHandleWords
+pub mod HandleWords
+pub mod SearchEnds
+pub mod SlotWords

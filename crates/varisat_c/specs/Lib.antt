@@ -1,0 +1,5 @@
+pub mod ClientHandles
+pub mod Codes
+pub mod Ends
+pub mod Handles
+pub mod Slots

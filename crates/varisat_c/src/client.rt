@@ -1,0 +1,133 @@
+//! A client of the solver for C programs: each call takes a handle, behind which a client stands.
+ghost use Rattle.std.specs.Prelude.{◌≡◌, ◌↔◌, Some, None, IsSome, IsTrue, IfSome};
+ghost use Rattle.varisat_client.specs.Pasts.{empty_past, AddsNumber, AssumesNumber, Begins, LimitsSteps, TellsValue, TellsFailed};
+ghost use Rattle.varisat_client.specs.Clients.{StandsForPast};
+ghost use Rattle.varisat_c.specs.Ends.{SearchesBy, refusal_code};
+ghost use Rattle.varisat_c.specs.ClientHandles.{MovesHeld, TellsHeld};
+
+use crate::client_handle::ClientHandle;
+use crate::ends::{end_code, refusal_code};
+use std::alloc::Global;
+use varisat_client::client::Client;
+
+/// Makes a client of a new solver. False where memory runs out; the handle stays empty then.
+#[unsafe(no_mangle)]
+pub extern "C" fn client_open(alloc: Global, handle: &mut ClientHandle) -> bool
+    requires { handle.old.held ≡ None }
+    ensures made { IsTrue result ↔ IsSome handle.new.held }
+    ensures new { IfSome handle.new.held (λ g. StandsForPast g empty_past) }
+{
+    match Box::new(alloc, Client::new_in(alloc)) {
+        Ok(client) => {
+            handle.put(alloc, client);
+            true
+        }
+        Err(_) => false,
+    }
+}
+
+/// Drops the client, and leaves the handle empty.
+#[unsafe(no_mangle)]
+pub extern "C" fn client_close(alloc: Global, handle: &mut ClientHandle)
+    requires { IsSome handle.old.held }
+    ensures { handle.new.held ≡ None }
+{
+    drop(handle.take(alloc));
+}
+
+/// Adds the literal of the number to the clause that is being given, or ends that clause where the number is 0.
+#[unsafe(no_mangle)]
+pub extern "C" fn client_add(alloc: Global, handle: &mut ClientHandle, number: i32)
+    requires { IsSome handle.old.held }
+    ensures { MovesHeld (AddsNumber number) handle.old.held handle.new.held }
+{
+    let mut client = handle.take(alloc);
+    client.add(number);
+    handle.put(alloc, client);
+}
+
+/// Adds the literal of the number to the assumptions for the next search. 0 adds none.
+#[unsafe(no_mangle)]
+pub extern "C" fn client_assume(alloc: Global, handle: &mut ClientHandle, number: i32)
+    requires { IsSome handle.old.held }
+    ensures { MovesHeld (AssumesNumber number) handle.old.held handle.new.held }
+{
+    let mut client = handle.take(alloc);
+    client.assume(number);
+    handle.put(alloc, client);
+}
+
+/// How many steps each call of `client_search` may make.
+#[unsafe(no_mangle)]
+pub extern "C" fn client_limit_steps(alloc: Global, handle: &mut ClientHandle, steps: u64)
+    requires { IsSome handle.old.held }
+    ensures { MovesHeld (LimitsSteps steps) handle.old.held handle.new.held }
+{
+    let mut client = handle.take(alloc);
+    client.limit_steps(steps);
+    handle.put(alloc, client);
+}
+
+/// Begins a search under the assumptions that were given.
+#[unsafe(no_mangle)]
+pub extern "C" fn client_begin(alloc: Global, handle: &mut ClientHandle)
+    requires { IsSome handle.old.held }
+    ensures { MovesHeld Begins handle.old.held handle.new.held }
+{
+    let mut client = handle.take(alloc);
+    client.begin();
+    handle.put(alloc, client);
+}
+
+/// Searches: 10 where some assignment satisfies the clauses and makes the assumptions true, 20 where none does, 0 where
+/// the steps of one call are spent, 1 where the call is refused.
+#[unsafe(no_mangle)]
+pub extern "C" fn client_search(alloc: Global, handle: &mut ClientHandle) -> u8
+    requires { IsSome handle.old.held }
+    ensures { MovesHeld (SearchesBy result) handle.old.held handle.new.held }
+{
+    let mut client = handle.take(alloc);
+    let end = client.search();
+    handle.put(alloc, client);
+    end_code(end)
+}
+
+/// The number where its literal is true in the model that was found last, the opposite number where that is, else 0.
+#[unsafe(no_mangle)]
+pub extern "C" fn client_value(alloc: Global, handle: &mut ClientHandle, number: i32) -> i32
+    requires { IsSome handle.old.held }
+    ensures same { handle.new.held ≡ handle.old.held }
+    ensures value { TellsHeld (TellsValue number result) handle.old.held }
+{
+    let client = handle.take(alloc);
+    let value = client.value(number);
+    handle.put(alloc, client);
+    value
+}
+
+/// Whether the literal of the number is in the failed core that was found last.
+#[unsafe(no_mangle)]
+pub extern "C" fn client_has_failed(alloc: Global, handle: &mut ClientHandle, number: i32) -> bool
+    requires { IsSome handle.old.held }
+    ensures same { handle.new.held ≡ handle.old.held }
+    ensures failed { TellsHeld (TellsFailed number result) handle.old.held }
+{
+    let client = handle.take(alloc);
+    let failed = client.has_failed(number);
+    handle.put(alloc, client);
+    failed
+}
+
+/// Why calls are refused: 0 where they are not, 1 since memory ran out, 2 since a variable is past 2^28, 3 since the store
+/// of clauses is full.
+#[unsafe(no_mangle)]
+pub extern "C" fn client_refusal(alloc: Global, handle: &mut ClientHandle) -> u8
+    requires { IsSome handle.old.held }
+    ensures same { handle.new.held ≡ handle.old.held }
+    ensures refusal { TellsHeld (λ p. result ≡ refusal_code p.refusal) handle.old.held }
+{
+    let client = handle.take(alloc);
+    let refusal = client.refusal();
+    handle.put(alloc, client);
+    refusal_code(refusal)
+}

@@ -1,0 +1,386 @@
+//! All calls of a solver for C programs: each takes a handle, behind which a caller stands. `contrib/c/varisat.c` calls
+//! them alone, and `contrib/c/ipasir.c` those of `client`.
+#![tactic(auto)]
+
+ghost use Rattle.std.specs.Prelude.{◌≡◌, ◌↔◌, ◌≤◌, min, length, take, drop, Some, None, IsSome, IsTrue, IfSome};
+ghost use Rattle.varisat_solver.specs.Summaries.{StandsOnce};
+ghost use Rattle.varisat_solver.specs.Calls.{AddsClause, Assumes, TellsList, TellsSteps, TellsValid, calling};
+ghost use Rattle.varisat_solver.specs.ProofCalls.{EnablesChecking};
+ghost use Rattle.varisat_names.specs.declared.config.ConfigField.TheVariants.{MaxSteps};
+ghost use Rattle.varisat_calls.specs.Codes.{field_numbered, format_numbered, mode_numbered};
+ghost use Rattle.varisat_calls.specs.Callers.{IsNew, MakesNumbered, MakesOver, Searches, SetsField, SetsMode, TellsOf, Shows, Opens, Closes};
+ghost use Rattle.varisat_calls.specs.Texts.{Feeds, IsRefutedText};
+ghost use Rattle.varisat_c.specs.Codes.{NamesBy, EndsBy};
+ghost use Rattle.varisat_c.specs.Handles.{MovesHeld, TellsHeld, IsSatisfiableNow, IsUnsatisfiableNow};
+
+pub mod client;
+pub mod client_handle;
+pub mod codes;
+pub mod ends;
+pub mod handle;
+pub mod slot;
+
+use codes::{count_answer, variable_answer};
+use handle::Handle;
+use std::alloc::Global;
+use varisat_calls::caller::Caller;
+use varisat_calls::checks::check_texts;
+
+/// Copies as many as both have, and returns how many.
+fn copy_numbers(from: &[i32], to: &mut [i32]) -> usize
+    ensures count { result ≡ min (length from.now) (length to.new) }
+    ensures copied { take result to.new ≡ take result from.now }
+{
+    let count = from.len().min(to.len());
+    to[..count].copy_from_slice(&from[..count]);
+    count
+}
+
+/// Copies as many as both have, and returns how many.
+fn copy_bytes(from: &[u8], to: &mut [u8]) -> usize
+    ensures count { result ≡ min (length from.now) (length to.new) }
+    ensures copied { take result to.new ≡ take result from.now }
+{
+    let count = from.len().min(to.len());
+    to[..count].copy_from_slice(&from[..count]);
+    count
+}
+
+/// The bytes from this place on.
+fn behind(bytes: &[u8], from: usize) -> &[u8]
+    ensures { result.now ≡ drop from bytes.now }
+{
+    &bytes[from.min(bytes.len())..]
+}
+
+/// Makes a caller of a new solver. False where memory runs out; the handle stays empty then.
+#[unsafe(no_mangle)]
+pub extern "C" fn caller_open(alloc: Global, handle: &mut Handle) -> bool
+    requires { handle.old.held ≡ None }
+    ensures made { IsTrue result ↔ IsSome handle.new.held }
+    ensures new { IfSome handle.new.held IsNew }
+{
+    match Box::new(alloc, Caller::new_in(alloc)) {
+        Ok(caller) => {
+            handle.put(alloc, caller);
+            true
+        }
+        Err(_) => false,
+    }
+}
+
+/// Drops the caller, and leaves the handle empty.
+#[unsafe(no_mangle)]
+pub extern "C" fn caller_close(alloc: Global, handle: &mut Handle)
+    requires { IsSome handle.old.held }
+    ensures { handle.new.held ≡ None }
+{
+    drop(handle.take(alloc));
+}
+
+/// Accepts the clause of these numbers.
+#[unsafe(no_mangle)]
+pub extern "C" fn caller_add_clause(alloc: Global, handle: &mut Handle, numbers: &[i32]) -> u8
+    requires { IsSome handle.old.held }
+    ensures { MovesHeld (λ g h. MakesOver numbers.now AddsClause g result h) handle.old.held handle.new.held }
+{
+    let mut caller = handle.take(alloc);
+    let answer = caller.add_clause(numbers);
+    handle.put(alloc, caller);
+    answer
+}
+
+/// Accepts the clauses that end in the next piece of a DIMACS text.
+#[unsafe(no_mangle)]
+pub extern "C" fn caller_feed(alloc: Global, handle: &mut Handle, piece: &[u8]) -> u8
+    requires { IsSome handle.old.held }
+    ensures { MovesHeld (λ g h. Feeds piece.now g result h) handle.old.held handle.new.held }
+{
+    let mut caller = handle.take(alloc);
+    let answer = caller.feed(piece);
+    handle.put(alloc, caller);
+    answer
+}
+
+/// Ends the DIMACS text: the highest number of its header and its literals, or the opposite of a refusal's number.
+#[unsafe(no_mangle)]
+pub extern "C" fn caller_end_text(alloc: Global, handle: &mut Handle) -> isize
+    requires { IsSome handle.old.held }
+    ensures { MovesHeld (λ g h. EndsBy g result h) handle.old.held handle.new.held }
+{
+    let mut caller = handle.take(alloc);
+    let answer = count_answer(caller.end_text());
+    handle.put(alloc, caller);
+    answer
+}
+
+/// Replaces the assumptions by the literals of these numbers.
+#[unsafe(no_mangle)]
+pub extern "C" fn caller_assume(alloc: Global, handle: &mut Handle, numbers: &[i32]) -> u8
+    requires { IsSome handle.old.held }
+    ensures { MovesHeld (λ g h. MakesOver numbers.now Assumes g result h) handle.old.held handle.new.held }
+{
+    let mut caller = handle.take(alloc);
+    let answer = caller.assume(numbers);
+    handle.put(alloc, caller);
+    answer
+}
+
+/// How many steps each call of `caller_solve` may make.
+#[unsafe(no_mangle)]
+pub extern "C" fn caller_limit_steps(alloc: Global, handle: &mut Handle, steps: u64) -> u8
+    requires { IsSome handle.old.held }
+    ensures { MovesHeld (λ g h. SetsField (Some MaxSteps) steps g result h) handle.old.held handle.new.held }
+{
+    let mut caller = handle.take(alloc);
+    let answer = caller.limit_steps(steps);
+    handle.put(alloc, caller);
+    answer
+}
+
+/// Searches: 10 where the clauses are satisfiable under the assumptions, 20 where they are not, or the number of a refusal.
+#[unsafe(no_mangle)]
+pub extern "C" fn caller_solve(alloc: Global, handle: &mut Handle) -> u8
+    requires { IsSome handle.old.held }
+    ensures call { MovesHeld (λ g h. Searches g result h) handle.old.held handle.new.held }
+    ensures satisfiable { result ≡ 10 → TellsHeld IsSatisfiableNow handle.old.held }
+    ensures unsatisfiable { result ≡ 20 → TellsHeld IsUnsatisfiableNow handle.old.held }
+{
+    let mut caller = handle.take(alloc);
+    let answer = caller.solve();
+    handle.put(alloc, caller);
+    answer
+}
+
+/// Brings the least free variable into use: its number, or the opposite of a refusal's.
+#[unsafe(no_mangle)]
+pub extern "C" fn caller_new_var(alloc: Global, handle: &mut Handle) -> isize
+    requires { IsSome handle.old.held }
+    ensures { MovesHeld (λ g h. NamesBy g result h) handle.old.held handle.new.held }
+{
+    let mut caller = handle.take(alloc);
+    let answer = variable_answer(caller.new_var());
+    handle.put(alloc, caller);
+    answer
+}
+
+/// Lets clauses and assumptions name the variable (0), lets none name it (1), or hides it (2).
+#[unsafe(no_mangle)]
+pub extern "C" fn caller_set_mode(alloc: Global, handle: &mut Handle, variable: i32, mode: u8) -> u8
+    requires { IsSome handle.old.held }
+    ensures { MovesHeld (λ g h. SetsMode variable (mode_numbered mode) g result h) handle.old.held handle.new.held }
+{
+    let mut caller = handle.take(alloc);
+    let answer = caller.set_mode(variable, mode);
+    handle.put(alloc, caller);
+    answer
+}
+
+/// Tells the model, or 15 where there is none.
+#[unsafe(no_mangle)]
+pub extern "C" fn caller_model(alloc: Global, handle: &mut Handle) -> u8
+    requires { IsSome handle.old.held }
+    ensures { MovesHeld (λ g h. TellsOf (λ s r t. TellsList (calling.model s) s r t) g result h) handle.old.held handle.new.held }
+{
+    let mut caller = handle.take(alloc);
+    let answer = caller.model();
+    handle.put(alloc, caller);
+    answer
+}
+
+/// Tells the core, or 15 where there is none.
+#[unsafe(no_mangle)]
+pub extern "C" fn caller_core(alloc: Global, handle: &mut Handle) -> u8
+    requires { IsSome handle.old.held }
+    ensures { MovesHeld (λ g h. TellsOf (λ s r t. TellsList (calling.core s) s r t) g result h) handle.old.held handle.new.held }
+{
+    let mut caller = handle.take(alloc);
+    let answer = caller.core();
+    handle.put(alloc, caller);
+    answer
+}
+
+/// Brings the hidden variables back as witnesses, and tells their names.
+#[unsafe(no_mangle)]
+pub extern "C" fn caller_observe(alloc: Global, handle: &mut Handle) -> u8
+    requires { IsSome handle.old.held }
+    ensures { MovesHeld (λ g h. Shows g result h) handle.old.held handle.new.held }
+{
+    let mut caller = handle.take(alloc);
+    let answer = caller.observe();
+    handle.put(alloc, caller);
+    answer
+}
+
+/// Sets the setting of this number.
+#[unsafe(no_mangle)]
+pub extern "C" fn caller_config(alloc: Global, handle: &mut Handle, field: u8, value: u64) -> u8
+    requires { IsSome handle.old.held }
+    ensures { MovesHeld (λ g h. SetsField (field_numbered field) value g result h) handle.old.held handle.new.held }
+{
+    let mut caller = handle.take(alloc);
+    let answer = caller.config(field, value);
+    handle.put(alloc, caller);
+    answer
+}
+
+/// Opens a proof in the format of this number.
+#[unsafe(no_mangle)]
+pub extern "C" fn caller_open_proof(alloc: Global, handle: &mut Handle, format: u8) -> u8
+    requires { IsSome handle.old.held }
+    ensures { MovesHeld (λ g h. Opens (format_numbered format) g result h) handle.old.held handle.new.held }
+{
+    let mut caller = handle.take(alloc);
+    let answer = caller.open_proof(format);
+    handle.put(alloc, caller);
+    answer
+}
+
+/// Closes the proof. 15 where none is open.
+#[unsafe(no_mangle)]
+pub extern "C" fn caller_close_proof(alloc: Global, handle: &mut Handle) -> u8
+    requires { IsSome handle.old.held }
+    ensures { MovesHeld (λ g h. Closes g result h) handle.old.held handle.new.held }
+{
+    let mut caller = handle.take(alloc);
+    let answer = caller.close_proof();
+    handle.put(alloc, caller);
+    answer
+}
+
+/// Has a checker run inside.
+#[unsafe(no_mangle)]
+pub extern "C" fn caller_self_check(alloc: Global, handle: &mut Handle) -> u8
+    requires { IsSome handle.old.held }
+    ensures { MovesHeld (λ g h. MakesNumbered EnablesChecking g result h) handle.old.held handle.new.held }
+{
+    let mut caller = handle.take(alloc);
+    let answer = caller.self_check();
+    handle.put(alloc, caller);
+    answer
+}
+
+/// Takes out what a proof wrote since the last call, and returns how many bytes these are.
+#[unsafe(no_mangle)]
+pub extern "C" fn caller_take_written(alloc: Global, handle: &mut Handle) -> usize
+    requires { IsSome handle.old.held }
+    ensures { handle.new.held ≡ handle.old.held }
+{
+    let mut caller = handle.take(alloc);
+    caller.take_written();
+    let count = caller.written().len();
+    handle.put(alloc, caller);
+    count
+}
+
+/// All steps made.
+#[unsafe(no_mangle)]
+pub extern "C" fn caller_steps(alloc: Global, handle: &mut Handle) -> u64
+    requires { IsSome handle.old.held }
+    ensures same { handle.new.held ≡ handle.old.held }
+    ensures steps { TellsHeld (λ g. StandsOnce g.solver (λ s t. TellsSteps s result t) g.solver) handle.old.held }
+{
+    let caller = handle.take(alloc);
+    let answer = caller.steps();
+    handle.put(alloc, caller);
+    answer
+}
+
+/// The counter of this number, 0 where there is none.
+#[unsafe(no_mangle)]
+pub extern "C" fn caller_counter(alloc: Global, handle: &mut Handle, number: u8) -> u64
+    requires { IsSome handle.old.held }
+    ensures { handle.new.held ≡ handle.old.held }
+{
+    let caller = handle.take(alloc);
+    let answer = caller.counter(number);
+    handle.put(alloc, caller);
+    answer
+}
+
+/// Whether no refusal came from which there is no way back.
+#[unsafe(no_mangle)]
+pub extern "C" fn caller_is_valid(alloc: Global, handle: &mut Handle) -> bool
+    requires { IsSome handle.old.held }
+    ensures same { handle.new.held ≡ handle.old.held }
+    ensures valid { TellsHeld (λ g. StandsOnce g.solver (λ s t. TellsValid s result t) g.solver) handle.old.held }
+{
+    let caller = handle.take(alloc);
+    let answer = caller.is_valid();
+    handle.put(alloc, caller);
+    answer
+}
+
+/// How many numbers the list has that was told last.
+#[unsafe(no_mangle)]
+pub extern "C" fn caller_told_len(alloc: Global, handle: &mut Handle) -> usize
+    requires { IsSome handle.old.held }
+    ensures same { handle.new.held ≡ handle.old.held }
+    ensures count { TellsHeld (λ g. result ≡ length g.told) handle.old.held }
+{
+    let caller = handle.take(alloc);
+    let answer = caller.told().len();
+    handle.put(alloc, caller);
+    answer
+}
+
+/// Copies the front of that list, and returns how many numbers it copied.
+#[unsafe(no_mangle)]
+pub extern "C" fn caller_told_copy(alloc: Global, handle: &mut Handle, out: &mut [i32]) -> usize
+    requires { IsSome handle.old.held }
+    ensures same { handle.new.held ≡ handle.old.held }
+    ensures count { TellsHeld (λ g. result ≡ min (length g.told) (length out.new)) handle.old.held }
+    ensures copied { TellsHeld (λ g. take result out.new ≡ take result g.told) handle.old.held }
+{
+    let caller = handle.take(alloc);
+    let answer = copy_numbers(caller.told(), out);
+    handle.put(alloc, caller);
+    answer
+}
+
+/// Copies what was taken out of a proof from this place on, and returns how many bytes it copied.
+#[unsafe(no_mangle)]
+pub extern "C" fn caller_written_copy(
+    alloc: Global,
+    handle: &mut Handle,
+    from: usize,
+    out: &mut [u8],
+) -> usize
+    requires { IsSome handle.old.held }
+    ensures same { handle.new.held ≡ handle.old.held }
+    ensures count { result ≤ length out.new }
+{
+    let caller = handle.take(alloc);
+    let answer = copy_bytes(behind(caller.written(), from), out);
+    handle.put(alloc, caller);
+    answer
+}
+
+/// Copies the front of the text of the last refusal, and returns how many bytes it copied.
+#[unsafe(no_mangle)]
+pub extern "C" fn caller_refusal_copy(alloc: Global, handle: &mut Handle, out: &mut [u8]) -> usize
+    requires { IsSome handle.old.held }
+    ensures same { handle.new.held ≡ handle.old.held }
+    ensures count { result ≤ length out.new }
+{
+    let caller = handle.take(alloc);
+    let answer = copy_bytes(caller.refusal_text().as_bytes(), out);
+    handle.put(alloc, caller);
+    answer
+}
+
+/// Checks a proof against a DIMACS text: 20 where it refutes the clauses, 0 where all lines are right, else what is wrong and where.
+#[unsafe(no_mangle)]
+pub extern "C" fn caller_check(
+    alloc: Global,
+    format: u8,
+    text: &[u8],
+    proof: &[u8],
+    place: &mut u64,
+) -> u8
+    ensures { result ≡ 20 → IsRefutedText text.now }
+{
+    let told = check_texts(alloc, format, text, proof);
+    *place = told.place;
+    told.number
+}

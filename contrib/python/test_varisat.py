@@ -1,0 +1,119 @@
+"""Tests of the module varisat: python3 test_varisat.py"""
+import io
+import itertools
+import os
+import random
+import signal
+import threading
+import time
+import unittest
+
+from varisat import Solver, VarisatError, check_proof
+
+
+def is_satisfied(clauses, model):
+    true = set(model)
+    return all(any(literal in true for literal in clause) for clause in clauses)
+
+
+def brute(clauses, count, assumed=()):
+    for values in itertools.product([1, -1], repeat=count):
+        model = [value * (index + 1) for index, value in enumerate(values)]
+        if set(assumed) <= set(model) and is_satisfied(clauses, model):
+            return True
+    return False
+
+
+def pigeons(n):
+    clauses = [[p * (n - 1) + h + 1 for h in range(n - 1)] for p in range(n)]
+    for h in range(n - 1):
+        for p, q in itertools.combinations(range(n), 2):
+            clauses.append([-(p * (n - 1) + h + 1), -(q * (n - 1) + h + 1)])
+    return clauses
+
+
+class Calls(unittest.TestCase):
+    def test_random_formulas(self):
+        rng = random.Random(1)
+        for _ in range(300):
+            count = rng.randint(1, 7)
+            clauses = [[rng.choice([1, -1]) * rng.randint(1, count) for _ in range(rng.randint(1, 4))] for _ in range(rng.randint(1, 25))]
+            with Solver() as solver:
+                given = []
+                for part in range(0, len(clauses), 5):
+                    solver.append_formula(clauses[part : part + 5])
+                    given += clauses[part : part + 5]
+                    assumed = [rng.choice([1, -1]) * v for v in rng.sample(range(1, count + 1), rng.randint(0, count))]
+                    answer = solver.solve(assumptions=assumed)
+                    self.assertEqual(answer, brute(given, count, assumed))
+                    if answer:
+                        self.assertTrue(is_satisfied(given + [[literal] for literal in assumed], solver.get_model()))
+                        self.assertIsNone(solver.get_core())
+                    else:
+                        core = solver.get_core()
+                        self.assertLessEqual(set(core), set(assumed))
+                        self.assertFalse(brute(given, count, core))
+                        self.assertIsNone(solver.get_model())
+
+    def test_enum_models(self):
+        with Solver(bootstrap_with=[[1, 2], [-2, 3]]) as solver:
+            self.assertEqual(len({tuple(model) for model in solver.enum_models()}), 4)
+
+    def test_modes(self):
+        with Solver([[1, 2]]) as solver:
+            solver.hide_var(2)
+            solver.add_clause([-2])
+            self.assertTrue(solver.solve())
+            self.assertEqual(solver.observe_internal_vars(), [3])
+            with self.assertRaises(VarisatError) as told:
+                solver.add_clause([3])
+            self.assertEqual(told.exception.number, -6)
+
+    def test_refusals(self):
+        with Solver() as solver:
+            self.assertRaises(ValueError, solver.add_clause, [1, 0])
+            self.assertRaises(TypeError, solver.add_clause, ["a"])
+            self.assertRaises(OverflowError, solver.add_clause, [1 << 40])
+            self.assertRaises(VarisatError, solver.add_clause, [1 << 29])
+        self.assertRaises(VarisatError, Solver, vsids_decay=3)
+        with self.assertRaises(MemoryError):
+            Solver(pigeons(20), heap_limit=10000)
+
+    def test_interrupts(self):
+        with Solver(pigeons(12)) as solver:
+            self.assertIsNone(solver.solve(steps=100))
+            self.assertEqual(solver.accum_stats()["steps"], 100)
+            threading.Timer(0.2, solver.interrupt).start()
+            begin = time.time()
+            self.assertIsNone(solver.solve())
+            self.assertLess(time.time() - begin, 20)
+            solver.set_terminate(lambda: True)
+            self.assertIsNone(solver.solve())
+            solver.set_terminate()
+            threading.Timer(0.2, os.kill, (os.getpid(), signal.SIGINT)).start()
+            self.assertRaises(KeyboardInterrupt, solver.solve)
+            self.assertFalse(solver.solve(assumptions=[1, 12]))
+
+    def test_proofs(self):
+        clauses = pigeons(6)
+        text = "".join(" ".join(map(str, clause)) + " 0\n" for clause in clauses).encode()
+        for format in ("drat", "binary", "marked"):
+            target = io.BytesIO()
+            with Solver(clauses, proof=target, format=format) as solver:
+                self.assertFalse(solver.solve())
+                solver.close_proof()
+            self.assertTrue(check_proof(text, target.getvalue(), format))
+            self.assertRaises(VarisatError, check_proof, b"1 2 0", target.getvalue(), format)
+        with open("/dev/full", "wb", buffering=0) as target, Solver(proof=target) as solver:
+            self.assertRaises(OSError, solver.append_formula, [[1], [2, 1, 2]])
+
+    def test_texts(self):
+        with Solver(self_check=True) as solver:
+            solver.read_dimacs(io.BytesIO(b"p cnf 4 2\n1 2 0 -1 0"))
+            self.assertEqual(solver.nof_vars(), 4)
+            self.assertTrue(solver.solve())
+            self.assertEqual(solver.get_model()[:2], [-1, 2])
+
+
+if __name__ == "__main__":
+    unittest.main(verbosity=0)

@@ -1,0 +1,290 @@
+"""The proved solver varisat, with the calls of PySAT's solvers. It needs libvarisat.so, as `make install` puts it: VARISAT_SO names
+another place of it. Literals are the numbers v and -v of variables v from 1 on, each of which up to the highest takes memory.
+
+    with Solver(bootstrap_with=[[-1, 2], [-2, -3]]) as solver:
+        solver.solve(assumptions=[1, 3]), solver.get_core()    # False, and some of 1 and 3
+"""
+from __future__ import annotations
+
+import ctypes
+import ctypes.util
+import os
+import tempfile
+from array import array
+from typing import Any, BinaryIO, Callable, Iterable, Iterator, List, Optional, Protocol
+
+__all__ = ["Solver", "Varisat", "VarisatError", "check_proof", "version"]
+__version__ = "1.0.0"
+
+_int, _size, _pointer, _text = ctypes.c_int, ctypes.c_size_t, ctypes.c_void_p, ctypes.c_char_p
+_numbers = ctypes.POINTER(ctypes.c_int32)
+_list = [_pointer, ctypes.POINTER(_numbers), ctypes.POINTER(_size)]
+
+_UNKNOWN, _SAT, _UNSAT = 0, 10, 20
+_OUT_OF_MEMORY = -3
+_FORMATS = {"drat": 0, "binary": 1, "marked": 2}
+# Between so many steps of a search Python looks at signals, interrupts and the function of set_terminate.
+_ROUND = 1000
+SETTINGS = ("vsids_decay", "clause_activity_decay", "reduce_locals_interval", "reduce_mids_interval", "luby_restart_interval_scale")
+COUNTERS = ("conflicts", "decisions", "propagations", "restarts", "learned_literals", "deleted_clauses", "collections", "steps", "bytes")
+
+
+class _Writer(Protocol):
+    def write(self, piece: bytes, /) -> Any: ...
+
+
+def _load() -> ctypes.CDLL:
+    here = os.path.dirname(os.path.abspath(__file__))
+    installed = [os.path.join(here, up, "libvarisat.so.0") for up in (".", "../..")]
+    found = [place for place in installed if os.path.exists(place)]
+    place = os.environ.get("VARISAT_SO") or (found or [ctypes.util.find_library("varisat") or "libvarisat.so.0"])[0]
+    try:
+        library = ctypes.CDLL(place)
+    except OSError as error:
+        raise ImportError(f"the library of varisat is not there ({error}): make install puts it, and VARISAT_SO names it elsewhere") from error
+    signatures = {
+        "new": (_pointer, [_size]), "free": (_int, [_pointer]), "error_text": (_text, [_pointer]), "version": (_text, []),
+        "add_clauses": (_int, [_pointer, _pointer, _size]), "assume": (_int, [_pointer, _pointer, _size]),
+        "read_dimacs": (_int, [_pointer, _text, _size]), "end_dimacs": (_int, [_pointer]),
+        "solve_steps": (_int, [_pointer, ctypes.c_uint64]), "interrupt": (_int, [_pointer]), "is_valid": (_int, [_pointer]),
+        "model": (_int, _list), "failed_core": (_int, _list), "observe_internal_vars": (_int, _list),
+        "new_var": (_int, [_pointer]), "witness_var": (_int, [_pointer, ctypes.c_int32]),
+        "sample_var": (_int, [_pointer, ctypes.c_int32]), "hide_var": (_int, [_pointer, ctypes.c_int32]),
+        "set": (_int, [_pointer, _int, ctypes.c_uint64]), "set_for_file": (_int, [_pointer]), "count": (ctypes.c_uint64, [_pointer, _int]),
+        "write_proof_fd": (_int, [_pointer, _int, _int]), "close_proof": (_int, [_pointer]), "self_check": (_int, [_pointer]),
+        "check_proof": (_int, [_int, _text, _size, _text, _size, ctypes.POINTER(ctypes.c_uint64)]),
+    }
+    for name, (result, arguments) in signatures.items():
+        function = getattr(library, "varisat_" + name)
+        function.restype, function.argtypes = result, arguments
+    return library
+
+
+_lib = _load()
+
+
+def version() -> str:
+    """The name and the version of the library, which say whether it was built without proofs."""
+    return _lib.varisat_version().decode()
+
+
+class VarisatError(Exception):
+    """A refusal: its number, as in varisat.h, and its text."""
+
+    def __init__(self, number: int, text: str):
+        super().__init__(text)
+        self.number = number
+
+
+def check_proof(text: bytes, proof: bytes, format: str = "drat") -> bool:
+    """True where the proof refutes the clauses of the DIMACS text, False where its lines are right and refute nothing. Else a
+    VarisatError whose `place` is the step or byte that is wrong."""
+    place = ctypes.c_uint64()
+    answer = _lib.varisat_check_proof(_FORMATS[format], text, len(text), proof, len(proof), ctypes.byref(place))
+    if answer >= 0:
+        return answer == _UNSAT
+    error = VarisatError(answer, f"the check fails with {answer} at {place.value}")
+    error.place = place.value
+    raise error
+
+
+class Solver:
+    """A solver of growing formulas. MemoryError and VarisatError tell of refusals."""
+
+    def __init__(self, bootstrap_with: Optional[Iterable[Iterable[int]]] = None, heap_limit: int = 0, for_file: bool = False,
+                 proof: Optional[_Writer] = None, format: str = "drat", self_check: bool = False, **settings: int):
+        """bootstrap_with: clauses. heap_limit: bytes of memory that it may take. for_file: settings for one long search, else those of
+        SETTINGS. proof: what has a method `write` gets a proof, in the format drat, binary or marked. self_check: a checker runs inside."""
+        self._solver = _lib.varisat_new(heap_limit)
+        if not self._solver:
+            raise MemoryError
+        self._target, self._written = proof, None
+        self._status: Optional[bool] = None
+        self._clauses = self._top = 0
+        self._budget: Optional[int] = None
+        self._is_interrupted = False
+        self._terminate: Optional[Callable[[], Any]] = None
+        if for_file:
+            self._done(_lib.varisat_set_for_file(self._solver))
+        for name, value in settings.items():
+            self._done(_lib.varisat_set(self._solver, SETTINGS.index(name), value))
+        if proof is not None:
+            # The library writes here, and after each call what stands here goes on: Python code that it called could be interrupted.
+            self._written = tempfile.TemporaryFile(buffering=0)
+            self._done(_lib.varisat_write_proof_fd(self._solver, _FORMATS[format], self._written.fileno()))
+        if self_check:
+            self._done(_lib.varisat_self_check(self._solver))
+        if bootstrap_with is not None:
+            self.append_formula(bootstrap_with)
+
+    def _hand_on(self) -> None:
+        size = self._written.tell()
+        if size:
+            self._target.write(os.pread(self._written.fileno(), size, 0))
+            self._written.seek(0)
+            self._written.truncate()
+
+    def _done(self, answer: int) -> int:
+        if self._written:
+            self._hand_on()
+        if answer >= 0:
+            return answer
+        text = _lib.varisat_error_text(self._solver).decode()
+        raise MemoryError(text) if answer == _OUT_OF_MEMORY else VarisatError(answer, text)
+
+    def close_proof(self) -> None:
+        """Ends the proof."""
+        self._done(_lib.varisat_close_proof(self._solver))
+        if self._written:
+            self._written.close()
+            self._written = None
+
+    def _add(self, numbers: array, count: int) -> None:
+        address, size = numbers.buffer_info()
+        self._status = None
+        self._done(_lib.varisat_add_clauses(self._solver, address, size))
+        self._clauses += count
+        if size:
+            self._top = max(self._top, max(numbers), -min(numbers))
+
+    def add_clause(self, clause: Iterable[int], no_return: bool = True) -> None:
+        """Accepts a clause."""
+        self.append_formula([clause])
+
+    def append_formula(self, formula: Iterable[Iterable[int]], no_return: bool = True) -> None:
+        """Accepts the clauses of a list of lists, or of a PySAT CNF."""
+        numbers, count = array("i"), 0
+        for clause in getattr(formula, "clauses", formula):
+            numbers.extend(clause)
+            numbers.append(0)
+            count += 1
+        if numbers.count(0) != count:
+            raise ValueError("0 is no literal")
+        self._add(numbers, count)
+
+    def read_dimacs(self, file: BinaryIO) -> None:
+        """Accepts the clauses of a DIMACS CNF text, of a file that is open in binary."""
+        self._status = None
+        while piece := file.read(1 << 16):
+            self._done(_lib.varisat_read_dimacs(self._solver, piece, len(piece)))
+        self._top = max(self._top, self._done(_lib.varisat_end_dimacs(self._solver)))
+
+    def solve(self, assumptions: Iterable[int] = (), steps: Optional[int] = None) -> Optional[bool]:
+        """Are the clauses satisfiable under the assumptions? None where so many steps are spent, interrupt() was called, or the function
+        of set_terminate said so: the next call goes on. Ctrl-C ends it too, and the solver stays as it is."""
+        numbers = array("i", assumptions)
+        address, size = numbers.buffer_info()
+        self._status = None
+        self._done(_lib.varisat_assume(self._solver, address, size))
+        answer = _UNKNOWN
+        while True:
+            round = _ROUND if steps is None else min(steps, _ROUND)
+            answer = self._done(_lib.varisat_solve_steps(self._solver, round))
+            steps = None if steps is None else steps - round
+            if answer != _UNKNOWN or steps == 0 or self._is_interrupted or (self._terminate and self._terminate()):
+                break
+        self._is_interrupted = False
+        self._status = {_SAT: True, _UNSAT: False}.get(answer)
+        return self._status
+
+    def conf_budget(self, budget: int = -1) -> None:
+        """How many steps solve_limited may make, -1 for any number."""
+        self._budget = budget if budget >= 0 else None
+
+    def solve_limited(self, assumptions: Iterable[int] = (), expect_interrupt: bool = False) -> Optional[bool]:
+        """`solve` with the steps of conf_budget."""
+        return self.solve(assumptions, self._budget)
+
+    def set_terminate(self, function: Optional[Callable[[], Any]] = None) -> None:
+        """Interrupts searches once the function returns true, which they ask each 1000 steps. What it raises ends the search too."""
+        self._terminate = function
+
+    def interrupt(self) -> None:
+        """Ends the search that another thread makes, or the next one."""
+        self._is_interrupted = True
+        _lib.varisat_interrupt(self._solver)
+
+    def clear_interrupt(self) -> None:
+        """Nothing: a search that was interrupted forgets that."""
+
+    def get_status(self) -> Optional[bool]:
+        """The last answer, as long as nothing was given since."""
+        return self._status
+
+    def _told(self, tell: Callable[..., int]) -> List[int]:
+        literals, count = _numbers(), _size()
+        self._done(tell(self._solver, ctypes.byref(literals), ctypes.byref(count)))
+        return literals[: count.value]
+
+    def get_model(self) -> Optional[List[int]]:
+        """After True: the variables in use with their values."""
+        return self._told(_lib.varisat_model) if self._status else None
+
+    def get_core(self) -> Optional[List[int]]:
+        """After False: some of the assumptions which fail with the clauses, none where those have no model."""
+        return self._told(_lib.varisat_failed_core) if self._status is False else None
+
+    def enum_models(self, assumptions: Iterable[int] = ()) -> Iterator[List[int]]:
+        """Each model, which a clause then bars."""
+        assumptions = list(assumptions)
+        while self.solve(assumptions):
+            model = self.get_model()
+            yield model
+            self.add_clause([-literal for literal in model])
+
+    def new_var(self) -> int:
+        """The least free variable, which comes into use."""
+        self._status = None
+        variable = self._done(_lib.varisat_new_var(self._solver))
+        self._top = max(self._top, variable)
+        return variable
+
+    def witness_var(self, variable: int) -> None:
+        """Makes it a witness, which no clause and no assumption names."""
+        self._done(_lib.varisat_witness_var(self._solver, variable))
+
+    def sample_var(self, variable: int) -> None:
+        """Lets clauses and assumptions name it again."""
+        self._done(_lib.varisat_sample_var(self._solver, variable))
+
+    def hide_var(self, variable: int) -> None:
+        """Frees its name; the variable lives on in the clauses."""
+        self._done(_lib.varisat_hide_var(self._solver, variable))
+
+    def observe_internal_vars(self) -> List[int]:
+        """Brings hidden variables back as witnesses, and tells their names."""
+        return self._told(_lib.varisat_observe_internal_vars)
+
+    def nof_vars(self) -> int:
+        """The highest variable that was given."""
+        return self._top
+
+    def nof_clauses(self) -> int:
+        """How many clauses were given, but for those of texts."""
+        return self._clauses
+
+    def accum_stats(self) -> dict[str, int]:
+        """The COUNTERS, among them the bytes of memory in use."""
+        return {name: _lib.varisat_count(self._solver, number) for number, name in enumerate(COUNTERS)}
+
+    def delete(self) -> None:
+        """Frees the memory, as the end of a `with` does."""
+        if self._solver:
+            _lib.varisat_free(self._solver)
+            self._solver = None
+        if self._written:
+            self._written.close()
+
+    def __del__(self) -> None:
+        # What was not begun has no solver.
+        if hasattr(self, "_written"):
+            self.delete()
+
+    def __enter__(self) -> Solver:
+        return self
+
+    def __exit__(self, *_: object) -> None:
+        self.delete()
+
+
+Varisat = Solver

@@ -1,0 +1,178 @@
+//! The C library, `varisat.h`, as a type. All that is unsafe in this crate stands here: pointers to the solver are never null, a slice is
+//! passed with its length, a list that is told is copied before the next call, and a writer stays where it is while a proof is open.
+#![allow(unsafe_code)]
+
+use std::ffi::{c_char, c_int, c_void, CStr};
+use std::io::{self, Write};
+use std::panic::{catch_unwind, AssertUnwindSafe};
+use std::ptr::{null, NonNull};
+
+pub const SATISFIABLE: c_int = 10;
+pub const UNSATISFIABLE: c_int = 20;
+pub const PROOF_IO: c_int = -2;
+pub const WITNESS_VAR: c_int = -6;
+pub const ASSUMED_VAR: c_int = -8;
+pub const CLAUSE_AFTER_SOLVE: c_int = -9;
+pub const PROOF_OPEN: c_int = -10;
+pub const NOTHING: c_int = -15;
+
+#[repr(C)]
+struct Opaque {
+    _opaque: [u8; 0],
+}
+
+type Handle = *mut Opaque;
+type Tell = unsafe extern "C" fn(Handle, *mut *const i32, *mut usize) -> c_int;
+type Take = unsafe extern "C" fn(*mut c_void, *const c_void, usize) -> c_int;
+
+extern "C" {
+    fn varisat_new(heap_limit: usize) -> Handle;
+    fn varisat_free(solver: Handle) -> c_int;
+    fn varisat_error_text(solver: Handle) -> *const c_char;
+    fn varisat_add_clause(solver: Handle, literals: *const i32, count: usize) -> c_int;
+    fn varisat_assume(solver: Handle, literals: *const i32, count: usize) -> c_int;
+    fn varisat_solve(solver: Handle) -> c_int;
+    fn varisat_model(solver: Handle, literals: *mut *const i32, count: *mut usize) -> c_int;
+    fn varisat_failed_core(solver: Handle, literals: *mut *const i32, count: *mut usize) -> c_int;
+    fn varisat_new_var(solver: Handle) -> c_int;
+    fn varisat_witness_var(solver: Handle, variable: i32) -> c_int;
+    fn varisat_sample_var(solver: Handle, variable: i32) -> c_int;
+    fn varisat_hide_var(solver: Handle, variable: i32) -> c_int;
+    fn varisat_observe_internal_vars(solver: Handle, variables: *mut *const i32, count: *mut usize) -> c_int;
+    fn varisat_set(solver: Handle, setting: c_int, value: u64) -> c_int;
+    fn varisat_write_proof(solver: Handle, format: c_int, take: Option<Take>, data: *mut c_void) -> c_int;
+    fn varisat_close_proof(solver: Handle) -> c_int;
+    fn varisat_self_check(solver: Handle) -> c_int;
+}
+
+/// Where a proof goes, and why that failed.
+struct Target<'a> {
+    writer: Box<dyn Write + 'a>,
+    error: Option<io::Error>,
+}
+
+unsafe extern "C" fn take(data: *mut c_void, bytes: *const c_void, size: usize) -> c_int {
+    let target = unsafe { &mut *(data as *mut Target<'_>) };
+    let bytes = unsafe { std::slice::from_raw_parts(bytes as *const u8, size) };
+    let error = match catch_unwind(AssertUnwindSafe(|| target.writer.write_all(bytes))) {
+        Ok(Ok(())) => return 0,
+        Ok(Err(error)) => error,
+        Err(_) => io::Error::new(io::ErrorKind::Other, "the writer panicked"),
+    };
+    target.error = Some(error);
+    1
+}
+
+/// A solver of the library. Numbers of answers are those of `varisat.h`.
+pub struct Library<'a> {
+    at: NonNull<Opaque>,
+    target: Option<Box<Target<'a>>>,
+}
+
+impl<'a> Library<'a> {
+    /// A new one, where there is memory.
+    pub fn new() -> Option<Library<'a>> {
+        let at = NonNull::new(unsafe { varisat_new(0) })?;
+        Some(Library { at, target: None })
+    }
+
+    /// The text of the last error.
+    pub fn error_text(&self) -> String {
+        unsafe { CStr::from_ptr(varisat_error_text(self.at.as_ptr())) }.to_string_lossy().into_owned()
+    }
+
+    pub fn add_clause(&mut self, literals: &[i32]) -> c_int {
+        unsafe { varisat_add_clause(self.at.as_ptr(), literals.as_ptr(), literals.len()) }
+    }
+
+    pub fn assume(&mut self, literals: &[i32]) -> c_int {
+        unsafe { varisat_assume(self.at.as_ptr(), literals.as_ptr(), literals.len()) }
+    }
+
+    pub fn solve(&mut self) -> c_int {
+        unsafe { varisat_solve(self.at.as_ptr()) }
+    }
+
+    pub fn new_var(&mut self) -> c_int {
+        unsafe { varisat_new_var(self.at.as_ptr()) }
+    }
+
+    pub fn witness_var(&mut self, variable: i32) -> c_int {
+        unsafe { varisat_witness_var(self.at.as_ptr(), variable) }
+    }
+
+    pub fn sample_var(&mut self, variable: i32) -> c_int {
+        unsafe { varisat_sample_var(self.at.as_ptr(), variable) }
+    }
+
+    pub fn hide_var(&mut self, variable: i32) -> c_int {
+        unsafe { varisat_hide_var(self.at.as_ptr(), variable) }
+    }
+
+    pub fn set(&mut self, setting: c_int, value: u64) -> c_int {
+        unsafe { varisat_set(self.at.as_ptr(), setting, value) }
+    }
+
+    pub fn self_check(&mut self) -> c_int {
+        unsafe { varisat_self_check(self.at.as_ptr()) }
+    }
+
+    /// The list that a call tells, or why it tells none.
+    fn list(&self, tell: Tell) -> Result<Vec<i32>, c_int> {
+        let (mut numbers, mut count) = (null(), 0);
+        match unsafe { tell(self.at.as_ptr(), &mut numbers, &mut count) } {
+            0 if count == 0 => Ok(vec![]),
+            0 => Ok(unsafe { std::slice::from_raw_parts(numbers, count) }.to_vec()),
+            answer => Err(answer),
+        }
+    }
+
+    pub fn model(&self) -> Result<Vec<i32>, c_int> {
+        self.list(varisat_model)
+    }
+
+    pub fn failed_core(&self) -> Result<Vec<i32>, c_int> {
+        self.list(varisat_failed_core)
+    }
+
+    pub fn observe_internal_vars(&mut self) -> Result<Vec<i32>, c_int> {
+        self.list(varisat_observe_internal_vars)
+    }
+
+    /// Opens a proof that goes to the writer.
+    pub fn write_proof(&mut self, format: c_int, writer: Box<dyn Write + 'a>) -> c_int {
+        let mut target = Box::new(Target { writer, error: None });
+        let data = &mut *target as *mut Target<'a> as *mut c_void;
+        let answer = unsafe { varisat_write_proof(self.at.as_ptr(), format, Some(take), data) };
+        if answer == 0 {
+            self.target = Some(target);
+        }
+        answer
+    }
+
+    /// Whether a proof is open.
+    pub fn has_proof(&self) -> bool {
+        self.target.is_some()
+    }
+
+    /// Closes the proof. The writer stays until `flush`.
+    pub fn close_proof(&mut self) -> c_int {
+        unsafe { varisat_close_proof(self.at.as_ptr()) }
+    }
+
+    /// Flushes the writer of a closed proof, and lets go of it.
+    pub fn flush(&mut self) -> io::Result<()> {
+        self.target.take().map_or(Ok(()), |mut target| target.writer.flush())
+    }
+
+    /// Why the writer failed, if it did.
+    pub fn take_error(&mut self) -> Option<io::Error> {
+        self.target.as_mut()?.error.take()
+    }
+}
+
+impl Drop for Library<'_> {
+    fn drop(&mut self) {
+        unsafe { varisat_free(self.at.as_ptr()) };
+    }
+}

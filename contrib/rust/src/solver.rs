@@ -1,0 +1,274 @@
+//! Boolean satisfiability solver.
+use std::cell::OnceCell;
+use std::ffi::c_int;
+use std::io;
+
+use anyhow::Error;
+use thiserror::Error;
+
+use varisat_checker::ProofProcessor;
+use varisat_dimacs::DimacsParser;
+use varisat_formula::{CnfFormula, ExtendFormula, Lit, Var};
+
+use crate::config::{SolverConfig, SolverConfigUpdate};
+use crate::library::*;
+
+/// Proof formats that can be generated during solving.
+#[derive(Copy, Clone, Eq, PartialEq, Debug)]
+pub enum ProofFormat {
+    /// The original's own format, which this solver does not write.
+    Varisat,
+    Drat,
+    BinaryDrat,
+}
+
+/// Possible errors while solving a formula.
+#[derive(Debug, Error)]
+#[non_exhaustive]
+pub enum SolverError {
+    #[error("The solver was interrupted")]
+    Interrupted,
+    #[error("Error in proof processor: {}", cause)]
+    ProofProcessorError {
+        #[source]
+        cause: Error,
+    },
+    #[error("Error writing proof file: {}", cause)]
+    ProofIoError {
+        #[source]
+        cause: io::Error,
+    },
+}
+
+impl SolverError {
+    /// Whether a Solver instance can be used after producing such an error.
+    pub fn is_recoverable(&self) -> bool {
+        matches!(self, SolverError::Interrupted)
+    }
+}
+
+/// A boolean satisfiability solver.
+pub struct Solver<'a> {
+    library: Library<'a>,
+    config: SolverConfig,
+    numbers: Vec<i32>,
+    // What `failed_core` lends, until the solver changes.
+    core: OnceCell<Option<Vec<Lit>>>,
+    is_empty: bool,
+    is_invalid: bool,
+}
+
+impl<'a> Default for Solver<'a> {
+    fn default() -> Self {
+        Solver {
+            library: Library::new().expect("out of memory"),
+            config: SolverConfig::default(),
+            numbers: vec![],
+            core: OnceCell::new(),
+            is_empty: true,
+            is_invalid: false,
+        }
+    }
+}
+
+impl<'a> Solver<'a> {
+    /// Create a new solver.
+    pub fn new() -> Solver<'a> {
+        Solver::default()
+    }
+
+    /// Change the solver configuration.
+    pub fn config(&mut self, config_update: &SolverConfigUpdate) -> Result<(), Error> {
+        config_update.apply(&mut self.config)?;
+        // Decays are kept in thousandths, up to 999.
+        let thousandths = |value: f32| ((value * 1000.0).round() as u64).min(999);
+        let values = [
+            config_update.vsids_decay.map(thousandths),
+            config_update.clause_activity_decay.map(thousandths),
+            config_update.reduce_locals_interval,
+            config_update.reduce_mids_interval,
+            config_update.luby_restart_interval_scale,
+        ];
+        for (setting, value) in values.into_iter().enumerate() {
+            if let Some(value) = value {
+                let answer = self.library.set(setting as c_int, value);
+                anyhow::ensure!(answer == 0, "{}", self.library.error_text());
+            }
+        }
+        Ok(())
+    }
+
+    /// Add a formula to the solver.
+    pub fn add_formula(&mut self, formula: &CnfFormula) {
+        for clause in formula.iter() {
+            self.add_clause(clause);
+        }
+    }
+
+    /// Reads and adds a formula in DIMACS CNF format.
+    pub fn add_dimacs_cnf(&mut self, input: impl io::Read) -> Result<(), Error> {
+        DimacsParser::parse_incremental(input, |parser| {
+            self.add_formula(&parser.take_formula());
+            Ok(())
+        })?;
+        Ok(())
+    }
+
+    /// Sets the "witness" sampling mode for a variable.
+    pub fn witness_var(&mut self, var: Var) {
+        let answer = self.library.witness_var(var.to_dimacs() as i32);
+        self.changed(answer);
+    }
+
+    /// Sets the "sample" sampling mode for a variable.
+    pub fn sample_var(&mut self, var: Var) {
+        let answer = self.library.sample_var(var.to_dimacs() as i32);
+        self.changed(answer);
+    }
+
+    /// Hide a variable.
+    pub fn hide_var(&mut self, var: Var) {
+        let answer = self.library.hide_var(var.to_dimacs() as i32);
+        self.changed(answer);
+    }
+
+    /// Observe solver internal variables.
+    pub fn observe_internal_vars(&mut self) -> Vec<Var> {
+        self.core = OnceCell::new();
+        let told = self.library.observe_internal_vars();
+        self.list(told).unwrap_or_default().into_iter().map(Lit::var).collect()
+    }
+
+    /// Check the satisfiability of the current formula.
+    pub fn solve(&mut self) -> Result<bool, SolverError> {
+        self.is_empty = false;
+        self.core = OnceCell::new();
+        assert!(
+            !self.is_invalid,
+            "solve() called after encountering an unrecoverable error"
+        );
+        match self.library.solve() {
+            SATISFIABLE => Ok(true),
+            UNSATISFIABLE => Ok(false),
+            0 => Err(SolverError::Interrupted),
+            answer => Err(self.error(answer)),
+        }
+    }
+
+    /// Assume given literals for future calls to solve.
+    pub fn assume(&mut self, assumptions: &[Lit]) {
+        self.give(assumptions);
+        let answer = self.library.assume(&self.numbers);
+        self.changed(answer);
+    }
+
+    /// Set of literals that satisfy the formula.
+    pub fn model(&self) -> Option<Vec<Lit>> {
+        self.list(self.library.model())
+    }
+
+    /// Subset of the assumptions that made the formula unsatisfiable.
+    pub fn failed_core(&self) -> Option<&[Lit]> {
+        self.core.get_or_init(|| self.list(self.library.failed_core())).as_deref()
+    }
+
+    /// Generate a proof of unsatisfiability during solving.
+    pub fn write_proof(&mut self, target: impl io::Write + 'a, format: ProofFormat) {
+        assert!(self.is_empty, "called after clauses were added");
+        let format = match format {
+            ProofFormat::Drat => 0,
+            ProofFormat::BinaryDrat => 1,
+            ProofFormat::Varisat => panic!("ProofFormat::Varisat is not written by this solver"),
+        };
+        let answer = self.library.write_proof(format, Box::new(target));
+        assert!(answer == 0, "{}", self.library.error_text());
+    }
+
+    /// Stop generating a proof of unsatisfiability.
+    pub fn close_proof(&mut self) -> Result<(), SolverError> {
+        if self.is_invalid || !self.library.has_proof() {
+            return Ok(());
+        }
+        match self.library.close_proof() {
+            0 => self.library.flush().map_err(|cause| {
+                self.is_invalid = true;
+                SolverError::ProofIoError { cause }
+            }),
+            answer => Err(self.error(answer)),
+        }
+    }
+
+    /// Generate and check a proof on the fly.
+    pub fn enable_self_checking(&mut self) {
+        assert!(self.is_empty, "called after clauses were added");
+        let answer = self.library.self_check();
+        self.changed(answer);
+        self.is_empty = true;
+    }
+
+    /// Generate a proof and process it using a [`ProofProcessor`]: this solver has no such call, and panics.
+    pub fn add_proof_processor(&mut self, _processor: &'a mut dyn ProofProcessor) {
+        assert!(self.is_empty, "called after clauses were added");
+        panic!("proof processors are not offered by this solver");
+    }
+
+    /// Ends a call that changes the solver. Wrong calls panic, as in the original; so do memory and limits that are spent.
+    fn changed(&mut self, answer: c_int) {
+        self.is_empty = false;
+        self.core = OnceCell::new();
+        match answer {
+            PROOF_IO | 0.. => {}
+            WITNESS_VAR => panic!("witness variables cannot be constrained"),
+            ASSUMED_VAR => panic!("cannot change sampling mode of assumption variable"),
+            CLAUSE_AFTER_SOLVE => panic!("incremental clause additions not supported by DRAT proofs"),
+            PROOF_OPEN => panic!("assumptions not supported by DRAT proofs"),
+            _ => panic!("{}", self.library.error_text()),
+        }
+    }
+
+    /// The literals of a list, and None where there is none to tell.
+    fn list(&self, told: Result<Vec<i32>, c_int>) -> Option<Vec<Lit>> {
+        match told {
+            Ok(numbers) => Some(numbers.into_iter().map(|it| Lit::from_dimacs(it as isize)).collect()),
+            Err(NOTHING) => None,
+            Err(_) => panic!("{}", self.library.error_text()),
+        }
+    }
+
+    /// An error from which there is no way back.
+    fn error(&mut self, answer: c_int) -> SolverError {
+        self.is_invalid = true;
+        let cause = self.library.take_error().unwrap_or_else(|| {
+            let kind = if answer == PROOF_IO { io::ErrorKind::Other } else { io::ErrorKind::OutOfMemory };
+            io::Error::new(kind, self.library.error_text())
+        });
+        SolverError::ProofIoError { cause }
+    }
+
+    fn give(&mut self, lits: &[Lit]) {
+        self.numbers.clear();
+        self.numbers.extend(lits.iter().map(|lit| lit.to_dimacs() as i32));
+    }
+}
+
+impl<'a> Drop for Solver<'a> {
+    fn drop(&mut self) {
+        let _ = self.close_proof();
+    }
+}
+
+impl<'a> ExtendFormula for Solver<'a> {
+    /// Add a clause to the solver.
+    fn add_clause(&mut self, clause: &[Lit]) {
+        self.give(clause);
+        let answer = self.library.add_clause(&self.numbers);
+        self.changed(answer);
+    }
+
+    /// Add a new variable to the solver.
+    fn new_var(&mut self) -> Var {
+        let answer = self.library.new_var();
+        self.changed(answer);
+        Var::from_dimacs(answer as isize)
+    }
+}

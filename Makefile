@@ -1,6 +1,8 @@
-# make                      the proved program, in half an hour the first time; with UNPROVED=1 one without proofs, in a minute
-# make install              the program, its page for man, and what bash completes; PREFIX and DESTDIR as usual
+# make                      the proved program and library, in half an hour the first time; with UNPROVED=1 without proofs, in four minutes
+# make install              the program, its page for man, and what bash completes; the library for C, its headers, what pkg-config tells
+#                           of it, and the module for Python; PREFIX and DESTDIR as usual
 # make uninstall            takes out what install put there
+# PARTS=program             the program alone; PARTS=library the other
 UNPROVED =
 PREFIX = /usr/local
 DESTDIR =
@@ -13,8 +15,10 @@ COMPLETIONS = $(PREFIX)/share/bash-completion/completions
 # Prints the file of the program that is to be installed, built where that is due.
 WHICH = ./varisat $(if $(UNPROVED),,--prove) --which
 
+LIBRARY = $(MAKE) -C contrib/c UNPROVED='$(UNPROVED)' PREFIX='$(PREFIX)' DESTDIR='$(DESTDIR)'
+
 # What is installed, each part by a target of its own.
-PARTS = program
+PARTS = program library
 
 all: $(PARTS:%=build-%)
 install: $(PARTS:%=install-%)
@@ -36,5 +40,14 @@ install-program:
 uninstall-program:
 	rm -f '$(DESTDIR)$(BIN)/varisat' '$(DESTDIR)$(LIBEXEC)/varisat' '$(DESTDIR)$(MAN)/varisat.1' '$(DESTDIR)$(COMPLETIONS)/varisat'
 	-rmdir '$(DESTDIR)$(LIBEXEC)'
+
+build-library:
+	$(LIBRARY) all
+
+install-library:
+	$(LIBRARY) install
+
+uninstall-library:
+	$(LIBRARY) uninstall
 
 .PHONY: all install uninstall $(PARTS:%=build-%) $(PARTS:%=install-%) $(PARTS:%=uninstall-%)

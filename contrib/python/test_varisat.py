@@ -90,6 +90,8 @@ class Calls(unittest.TestCase):
             solver.set_terminate(lambda: True)
             self.assertIsNone(solver.solve())
             solver.set_terminate()
+            # A shell has what it starts in the background ignore Ctrl-C, and Python then raises nothing.
+            signal.signal(signal.SIGINT, signal.default_int_handler)
             threading.Timer(0.2, os.kill, (os.getpid(), signal.SIGINT)).start()
             self.assertRaises(KeyboardInterrupt, solver.solve)
             self.assertFalse(solver.solve(assumptions=[1, 12]))

@@ -35,7 +35,7 @@ pub mod clause {
 /// The parts of a search that propagate, and backtracking.
 pub mod prop {
     pub use varisat_prop::prop::{
-        Assignment, Conflict, ImplGraph, ImplNode, Reason, Trail, Watch, Watchlists,
+        Assignment, Conflict, ImplGraph, ImplNode, Reason, Trail, Watch, WatchList, Watchlists,
         enable_watchlists, enqueue_assignment, propagate, propagate_binary, propagate_long,
     };
     pub use varisat_search::levels::{backtrack, full_restart, restart};

@@ -23,7 +23,6 @@ pub mod TrailExtend
 pub mod TrailValues
 pub mod ViewGrowth
 pub mod WatchKept
-pub mod WatchLists
 pub mod WatchRebuilt
 pub mod WatchSettled
 pub mod WatchesOnce

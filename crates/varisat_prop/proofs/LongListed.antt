@@ -9,7 +9,7 @@ use Rattle.varisat_prop.specs.View.{View, IsTrueIn, clause_at, literal_at}
 use Rattle.varisat_prop.specs.Looks.{Propagates}
 use Rattle.varisat_prop.proofs.ViewGrowth.{grows-longer, literal-stays}
 use Rattle.varisat_prop.proofs.PropagateSteps.{propagates-refl, propagates-trans, keeps-refl, keeps-trans}
-use Rattle.varisat_prop.specs.declared.prop.watch.Watch.{Watch}
+use Rattle.varisat_prop.specs.declared.prop.watch_list.Watch.{Watch}
 use Rattle.varisat_prop.specs.declared.prop.long.Visit.{Visit}
 use Rattle.varisat_prop.specs.declared.prop.long.Visit.TheVariants as visit
 use Rattle.varisat_prop.specs.declared.prop.graph.Conflict.TheVariants as conflict

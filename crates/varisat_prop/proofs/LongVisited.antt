@@ -18,7 +18,7 @@ use Rattle.varisat_prop.proofs.TrailExtend.{ext-length, literal-new}
 use Rattle.varisat_prop.proofs.EnqueueAssignment.{MayImply, enqueued-well, ext-grows}
 use Rattle.varisat_prop.proofs.ViewGrowth.{append-nil}
 use Rattle.varisat_prop.proofs.DistinctPlaces.{distinct-places}
-use Rattle.varisat_prop.specs.declared.prop.watch.Watch.{Watch}
+use Rattle.varisat_prop.specs.declared.prop.watch_list.Watch.{Watch}
 use Rattle.varisat_prop.specs.declared.prop.long.Found.{Found}
 use Rattle.varisat_prop.specs.declared.prop.long.Found.TheVariants as found
 use Rattle.varisat_prop.specs.declared.prop.long.Visit.{Visit}

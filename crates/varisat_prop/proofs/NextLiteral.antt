@@ -9,7 +9,7 @@ use Rattle.varisat_theory.proofs.Members.{∈-append_left}
 use Rattle.varisat_clause.specs.Collected.{live_clauses}
 use Rattle.varisat_clause.specs.Shapes.{KeepsShapes}
 use Rattle.varisat_prop.specs.declared.prop.graph.Conflict.{Conflict}
-use Rattle.varisat_prop.specs.declared.prop.watch.Watch.{Watch}
+use Rattle.varisat_prop.specs.declared.prop.watch_list.Watch.{Watch}
 use Rattle.varisat_prop.specs.Parts.{TrailParts}
 use Rattle.varisat_prop.specs.View.{View, IsTrueIn, implied_by, literal_at, WellFormed}
 use Rattle.varisat_prop.specs.Looks.{Propagates}

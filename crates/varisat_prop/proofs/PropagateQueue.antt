@@ -9,7 +9,7 @@ use Rattle.varisat_theory.specs.Literals.{Literal}
 use Rattle.varisat_prop.specs.View.{View, WellFormed}
 use Rattle.varisat_prop.proofs.WatchSettled.{settled-longer, implied-longer, propagates-goes-on}
 use Rattle.varisat_prop.proofs.ViewGrowth.{append-nil}
-use Rattle.varisat_prop.specs.declared.prop.watch.Watch.{Watch}
+use Rattle.varisat_prop.specs.declared.prop.watch_list.Watch.{Watch}
 use Rattle.varisat_prop.specs.Watches.{Watches, watches_of, with_watches, IsWatching, IsSettledTo, IsImpliedTo, IsPropagated, IsWatched}
 use Rattle.varisat_prop.specs.Looks.{Propagates}
 use Rattle.varisat_prop.proofs.WellFormedChanges.{well-moved}

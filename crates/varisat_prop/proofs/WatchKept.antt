@@ -13,7 +13,7 @@ use Rattle.varisat_prop.specs.declared.prop.graph.Reason.TheVariants as reason
 use Rattle.varisat_clause.specs.Stored.{StoredClause, IsPlace, literals_at}
 use Rattle.varisat_prop.specs.View.{View, clause_at, literal_at, decision_at, WellFormed}
 use Rattle.varisat_prop.specs.Changes.{enqueued, decided_on}
-use Rattle.varisat_prop.specs.declared.prop.watch.Watch.{Watch}
+use Rattle.varisat_prop.specs.declared.prop.watch_list.Watch.{Watch}
 use Rattle.varisat_prop.specs.Watches.{Watches, watches_of, with_watches, literal_in, IsWatchedBy, NameOnce, HasWatch, IsWatching, IsCovered, IsSettledTo, IsImpliedTo, IsPropagated}
 use Rattle.varisat_prop.specs.Visits.{AddsWatches, GetsWatch, WatchesClause}
 use Rattle.varisat_clause.proofs.StoredClauses.{place-cases-more, place-more, place-last, stored-more, stored-last}

@@ -3,7 +3,7 @@ use Rattle.std.proofs.Common.{◌≡◌, ◌≢◌, ℕ, zero, suc, true, ◌+�
 use Rattle.varisat_theory.specs.Membership.{◌∈◌, IsDistinct}
 use Rattle.varisat_theory.specs.Literals.{Literal, opposite}
 use Rattle.varisat_clause.specs.Stored.{StoredClause, IsPlace, AreRising, literals_at}
-use Rattle.varisat_prop.specs.declared.prop.watch.Watch.{Watch}
+use Rattle.varisat_prop.specs.declared.prop.watch_list.Watch.{Watch}
 use Rattle.varisat_prop.specs.Watches.{Watches, watches_of, literal_in, IsWatchedBy, IsKnownWatch, NameOnce, HasWatch, IsWatching}
 use Rattle.varisat_prop.specs.Visits.{WatchesClause}
 use Rattle.varisat_prop.proofs.WatchesOnce.{once-gets}

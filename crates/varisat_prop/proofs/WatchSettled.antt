@@ -11,7 +11,7 @@ use Rattle.varisat_prop.specs.View.{View, pairs_from, implied_by, IsTrueIn, clau
 use Rattle.varisat_prop.proofs.LiteralValues.{made-clash}
 use Rattle.varisat_prop.proofs.DistinctPlaces.{distinct-places}
 use Rattle.varisat_prop.proofs.TrailValues.{on-trail, trail-true}
-use Rattle.varisat_prop.specs.declared.prop.watch.Watch.{Watch}
+use Rattle.varisat_prop.specs.declared.prop.watch_list.Watch.{Watch}
 use Rattle.varisat_clause.specs.Stored.{literals_of, IsPlace, literals_at, with_literals}
 use Rattle.varisat_clause.proofs.StoredClauses.{from-literals, stored-found, reordered-place-back, with-reordered, with-same, with-other}
 use Rattle.varisat_theory.proofs.Members.{∈-append_cases}

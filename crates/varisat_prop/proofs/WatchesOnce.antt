@@ -2,7 +2,7 @@
 use Rattle.std.proofs.Common.{◌≡◌, ◌≢◌, ℕ, ◌++◌, List, [], ◌∷◌, map, ◌⊎◌, inl, inr, ⊎_elim, sym, ap, ◌∙◌, subst, refl}
 use Rattle.varisat_theory.specs.Membership.{◌∈◌, IsDistinct}
 use Rattle.varisat_theory.proofs.Members.{∈-append_right}
-use Rattle.varisat_prop.specs.declared.prop.watch.Watch.{Watch}
+use Rattle.varisat_prop.specs.declared.prop.watch_list.Watch.{Watch}
 use Rattle.varisat_prop.specs.Watches.{NameOnce}
 use Rattle.varisat_prop.specs.Visits.{GetsWatch}
 

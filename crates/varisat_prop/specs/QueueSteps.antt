@@ -14,7 +14,7 @@ use Rattle.varisat_prop.specs.declared.prop.graph.ImplGraph.{ImplGraph}
 use Rattle.varisat_prop.specs.declared.prop.graph.ImplNode.{ImplNode}
 use Rattle.varisat_prop.specs.declared.prop.long.Found.{Found}
 use Rattle.varisat_prop.specs.declared.prop.long.Visit.{Visit}
-use Rattle.varisat_prop.specs.declared.prop.watch.Watch.{Watch}
+use Rattle.varisat_prop.specs.declared.prop.watch_list.Watch.{Watch}
 use Rattle.varisat_prop.specs.Parts.{Values, TrailParts}
 use Rattle.varisat_prop.specs.View.{View, view_of, kept, implied_by, IsTrueIn, clause_at, literal_at, WellFormed}
 use Rattle.varisat_prop.specs.Changes.{IsConflicting}

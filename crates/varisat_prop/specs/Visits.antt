@@ -7,7 +7,7 @@ use Rattle.varisat_prop.specs.Parts.{IsMadeTrue}
 use Rattle.varisat_prop.specs.View.{View, clause_at}
 use Rattle.varisat_prop.specs.Looks.{Propagates, IsFalseAt}
 use Rattle.varisat_prop.specs.Watches.{Watches, watches_of, literal_in, IsWatchedBy, HasWatch, IsSatisfied, IsSettledTo, IsRearranged}
-use Rattle.varisat_prop.specs.declared.prop.watch.Watch.{Watch}
+use Rattle.varisat_prop.specs.declared.prop.watch_list.Watch.{Watch}
 use Rattle.varisat_prop.specs.declared.prop.long.Found.{Found}
 use Rattle.varisat_prop.specs.declared.prop.long.Found.TheVariants as found
 use Rattle.varisat_prop.specs.declared.prop.long.Visit.{Visit}

@@ -4,7 +4,7 @@ use Rattle.varisat_theory.specs.Membership.{◌∈◌, SameSet, IsDistinct}
 use Rattle.varisat_theory.specs.Literals.{Literal, Clause, opposite}
 use Rattle.varisat_clause.specs.Stored.{StoredClause, IsPlace, literals_at}
 use Rattle.varisat_prop.specs.View.{View, clause_at, implied_by, literal_at, decision_at}
-use Rattle.varisat_prop.specs.declared.prop.watch.Watch.{Watch}
+use Rattle.varisat_prop.specs.declared.prop.watch_list.Watch.{Watch}
 
 -- For each literal the watches to be looked at when it becomes true, and whether the lists are kept up to date.
 pub record Watches : Type 0 where

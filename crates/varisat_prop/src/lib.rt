@@ -4,6 +4,5 @@
 
 pub mod binary;
 pub mod clause;
-mod lists;
 pub mod prop;
 pub mod short;

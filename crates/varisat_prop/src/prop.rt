@@ -9,6 +9,7 @@ pub mod long;
 pub mod propagation;
 pub mod trail;
 pub mod watch;
+pub mod watch_list;
 
 pub use assignment::Assignment;
 pub use binary::propagate_binary;
@@ -17,4 +18,5 @@ pub use graph::{Conflict, ImplGraph, ImplNode, Reason};
 pub use long::propagate_long;
 pub use propagation::{enable_watchlists, propagate};
 pub use trail::Trail;
-pub use watch::{Watch, Watchlists};
+pub use watch::Watchlists;
+pub use watch_list::{Watch, WatchList};

@@ -27,7 +27,7 @@ impl<A: Allocator + Copy> Model for ShortList<A> {
 
     ghost Value = { List ℕ };
 
-    ghost view = { λ s. short_list s.few s.count s.many.items };
+    ghost view = { λ s. short_list 3 s.few s.count s.many.items };
 
     ghost invariant = { λ s. (s.count ≤ 4) × (s.count ≤ 3 → s.many.items ≡ []) };
 }

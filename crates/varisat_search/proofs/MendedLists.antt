@@ -10,7 +10,7 @@ use Rattle.varisat_clause.specs.Collected.{live_clauses}
 use Rattle.varisat_clause.proofs.StoredClauses.{stored-∈}
 use Rattle.varisat_clause.proofs.DatabaseTracks.{place-is}
 use Rattle.varisat_clause.proofs.LiveStore.{live-∈, ∈-live, live-stored}
-use Rattle.varisat_prop.specs.declared.prop.watch.Watch.{Watch}
+use Rattle.varisat_prop.specs.declared.prop.watch_list.Watch.{Watch}
 use Rattle.varisat_prop.specs.Watches.{Watches, watches_of, with_watches, HasWatch, NameOnce}
 use Rattle.varisat_prop.proofs.WatchesOnce.{once-dropped, once-moved}
 use Rattle.varisat_search.specs.MendedLists.{AreMended, MendsLists}

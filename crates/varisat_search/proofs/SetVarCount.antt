@@ -14,7 +14,7 @@ use Rattle.varisat_prop.specs.View.{View, IsTrueIn, kept, implied_by, clause_at,
 use Rattle.varisat_prop.specs.Watches.{Watches, IsPropagated}
 use Rattle.varisat_prop.proofs.WatchRebuilt.{with_more, more-lists, watching-variables}
 use Rattle.varisat_prop.proofs.KeptPairs.{implied-raised, pairs-raised}
-use Rattle.varisat_prop.specs.declared.prop.watch.Watch.{Watch}
+use Rattle.varisat_prop.specs.declared.prop.watch_list.Watch.{Watch}
 use Rattle.varisat_analysis.specs.HeaderChanges.{kept_clause}
 use Rattle.varisat_search.specs.Seen.{kept_pair, is_fixed, is_proved, search_of}
 

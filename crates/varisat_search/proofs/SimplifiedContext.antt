@@ -11,7 +11,7 @@ use Rattle.varisat_clause.proofs.LiveStore.{∈-live, are-live-long}
 use Rattle.varisat_clause.proofs.StoreSound.{sound-is}
 use Rattle.varisat_prop.specs.Simplified.{are_unassigned, without_assigned, is_unassigned}
 use Rattle.varisat_prop.specs.View.{View, clause_at, WellFormed, LevelsSettled, literal_at}
-use Rattle.varisat_prop.specs.declared.prop.watch.Watch.{Watch}
+use Rattle.varisat_prop.specs.declared.prop.watch_list.Watch.{Watch}
 use Rattle.varisat_prop.specs.Watches.{watches_of, literal_in, IsSettledTo, IsPropagated, Watches, IsKnownWatch, NameOnce, HasWatch, IsWatching}
 use Rattle.varisat_prop.proofs.SimplifiedPairs.{unassigned-none, filter-∈, ∈-filter, all-unassigned}
 use Rattle.varisat_prop.proofs.SimplifiedView.{simplified, settled-undecided, settled-unassigned, implied-unassigned}

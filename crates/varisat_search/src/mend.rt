@@ -5,14 +5,14 @@ ghost use Rattle.varisat_theory.specs.Literals.{Literal};
 ghost use Rattle.varisat_clause.specs.Stored.{IsPlace};
 ghost use Rattle.varisat_clause.specs.Stores.{stored_clauses, IsSound};
 ghost use Rattle.varisat_clause.specs.Collected.{live_clauses};
-ghost use Rattle.varisat_prop.specs.declared.prop.watch.Watch.{Watch};
+ghost use Rattle.varisat_prop.specs.declared.prop.watch_list.Watch.{Watch};
 ghost use Rattle.varisat_prop.specs.Watches.{watches_of};
 ghost use Rattle.varisat_search.specs.MendedLists.{IsMended, AreMended, MendsLists};
 
 use std::alloc::Allocator;
 use varisat_clause::alloc::ClauseAlloc;
 use varisat_literals::Lit;
-use varisat_prop::prop::{Watch, Watchlists};
+use varisat_prop::prop::{Watch, WatchList, Watchlists};
 
 /// One of the first two literals, the first if it is another one than this.
 fn other_watched(lits: &[Lit], lit: Lit) -> Lit
@@ -42,20 +42,20 @@ fn mended_watch<A: Allocator + Copy>(
 }
 
 /// Takes the watches of deleted clauses out of the literal's list.
-fn mend_list<A: Allocator + Copy>(list: &mut Vec<Watch, A>, lit: Lit, clause_alloc: &ClauseAlloc<A>)
+fn mend_list<A: Allocator + Copy>(list: &mut WatchList<A>, lit: Lit, clause_alloc: &ClauseAlloc<A>)
     requires sound { IsSound clause_alloc.now }
-    requires places { (w : Watch) → w ∈ list.old.items → IsPlace (stored_clauses clause_alloc.now) w.cref }
-    ensures { AreMended (live_clauses clause_alloc.now) list.old.items list.new.items }
+    requires places { (w : Watch) → w ∈ list.old → IsPlace (stored_clauses clause_alloc.now) w.cref }
+    ensures { AreMended (live_clauses clause_alloc.now) list.old list.new }
 {
     let mut write = 0;
     let mut read = 0;
-    'watches: while read < list.len() {
-        let watch = list[read];
+    'watches: while read < list.as_slice().len() {
+        let watch = list.as_slice()[read];
         read += 1;
         let Some(mended) = mended_watch(watch, lit, clause_alloc) else {
             continue;
         };
-        list[write] = mended;
+        list.set(write, mended);
         write += 1;
     }
     list.truncate(write);

@@ -35,7 +35,7 @@ fn has<A: Allocator + Copy>(
     if lists.len() <= lit.code() {
         return false;
     }
-    are(lists.watched_by_mut(lit), wanted)
+    are(lists.watched_by_mut(lit).as_slice(), wanted)
 }
 
 /// Whether the literals of four variables have these watches, in the order of the codes, and no other has a list.
@@ -85,7 +85,7 @@ fn are_moved<A: Allocator + Copy>(lists: &mut Watchlists<A>) -> Result<bool, All
         return Ok(false);
     }
     let list = lists.take_list(lit!(-1));
-    let is_out = list.len() == 2;
+    let is_out = list.as_slice().len() == 2;
     lists.put_list(lit!(-2), list);
     lists.add_watch(lit!(-2), watch_on(7, lit!(3)))?;
     lists.set_var_count(4)?;

@@ -1,5 +1,5 @@
 //! Propagation of long clauses.
-ghost use Rattle.std.specs.Prelude.{◌≡◌, ◌<◌, ◌≤◌, ◌++◌, length, take, drop, OnOk, IfOk, MatchOption};
+ghost use Rattle.std.specs.Prelude.{◌≡◌, ◌<◌, ◌≤◌, ◌+◌, ◌-◌, ◌++◌, length, take, drop, OnOk, IfOk, MatchOption};
 ghost use Rattle.varisat_theory.specs.Literals.{opposite};
 ghost use Rattle.varisat_clause.specs.Stored.{IsPlace, literals_at};
 ghost use Rattle.varisat_clause.specs.Stores.{IsSound};
@@ -17,7 +17,8 @@ use crate::prop::assignment::Assignment;
 use crate::prop::enqueue::enqueue_assignment;
 use crate::prop::graph::{Conflict, ImplGraph, Reason};
 use crate::prop::trail::Trail;
-use crate::prop::watch::{Watch, Watchlists};
+use crate::prop::watch::Watchlists;
+use crate::prop::watch_list::{FEW, Watch, WatchList};
 use std::alloc::{AllocError, Allocator};
 use varisat_literals::Lit;
 
@@ -129,6 +130,7 @@ fn reorder_clause<A: Allocator + Copy>(
 }
 
 /// Looks at the clause of a watch of the literal, which became true.
+#[inline(always)]
 fn visit_watch<A: Allocator + Copy>(
     assignment: &mut Assignment<A>,
     alloc: &mut ClauseAlloc<A>,
@@ -162,48 +164,64 @@ fn visit_watch<A: Allocator + Copy>(
     }
 }
 
-/// Takes out what stands from the first place on and before the second.
+/// Takes out what stands from the first place on and before the second, and returns how many watches are left.
 // A conflict needs it, once at the end of a propagation. It is kept out of the loop over the watches, in which its own loop
 // would take registers for each watch.
 #[cold]
 #[inline(never)]
-fn close_gap<A: Allocator + Copy>(list: &mut Vec<Watch, A>, start: usize, end: usize)
+fn close_gap(watches: &mut [Watch], start: usize, end: usize) -> usize
     requires order { start ≤ end }
-    requires within { end ≤ length list.old.items }
-    ensures { list.new.items ≡ take start list.old.items ++ drop end list.old.items }
+    requires within { end ≤ length watches.old }
+    ensures kept { take result watches.new ≡ take start watches.old ++ drop end watches.old }
+    ensures count { length watches.new ≡ length watches.old }
+    ensures left { result ≡ start + (length watches.old - end) }
 {
-    let count = list.len() - end;
-    list.copy_within(end.., start);
-    list.truncate(start + count);
+    let count = watches.len() - end;
+    watches.copy_within(end.., start);
+    start + count
+}
+
+/// What a visit of watches comes to.
+#[derive(Drop)]
+struct Visited {
+    /// How many of the watches stay. They stand in front.
+    kept: usize,
+    end: Result<(), Conflict>,
 }
 
 /// Visits the watches of a literal, which became true. Those that stay are moved to the front as it goes.
-pub(crate) fn visit_watches<A: Allocator + Copy>(
+// Most of the time of a search is spent here, so that it is compiled twice, for watches that stand in place and for others, and
+// not called.
+#[inline(always)]
+fn visit_watches<A: Allocator + Copy>(
     assignment: &mut Assignment<A>,
     alloc: &mut ClauseAlloc<A>,
     graph: &mut ImplGraph<A>,
     trail: &mut Trail<A>,
     binary: &BinaryClauses<A>,
     watchlists: &mut Watchlists<A>,
-    list: &mut Vec<Watch, A>,
+    watches: &mut [Watch],
     lit: Lit,
-) -> Result<Result<(), Conflict>, AllocError>
+) -> Result<Visited, AllocError>
     requires inside { lit < length watchlists.old.lists }
-    requires next { IsNext (with_watches watchlists.old lit list.old.items)
+    requires next { IsNext (with_watches watchlists.old lit watches.old)
         (view_of alloc.old binary.now assignment.old trail.old graph.old) lit }
     ensures propagates { OnOk result (PartsPropagate alloc.old alloc.new binary.now assignment.old assignment.new trail.old trail.new graph.old graph.new) }
     ensures keeps { OnOk result (PartsKeep alloc.old alloc.new binary.now assignment.old assignment.new trail.old trail.new graph.old graph.new) }
-    ensures next { OnOk result (IsNext (with_watches watchlists.new lit list.new.items) (view_of alloc.new binary.now assignment.new trail.new graph.new) lit) }
-    ensures ends { IfOk result (EndsPropagation IsNextSettled (view_of alloc.new binary.now assignment.new trail.new graph.new)) }
+    ensures next { IfOk result (λ v. IsNext (with_watches watchlists.new lit (take v.kept watches.new))
+        (view_of alloc.new binary.now assignment.new trail.new graph.new) lit) }
+    ensures ends { IfOk result (λ v. EndsPropagation IsNextSettled (view_of alloc.new binary.now assignment.new trail.new graph.new) v.end) }
     ensures lists { OnOk result (length watchlists.new.lists ≡ length watchlists.old.lists) }
+    ensures count { length watches.new ≡ length watches.old }
+    ensures within { IfOk result (λ v. v.kept ≤ length watches.old) }
 {
     let mut write = 0;
     let mut read = 0;
-    while read < list.len() {
-        let watch = list[read];
+    while read < watches.len() {
+        let watch = watches[read];
         // Where the blocking literal is true the clause needs no look, and the watch stays as it is.
         if assignment.lit_is_true(watch.blocking) {
-            list[write] = watch;
+            watches[write] = watch;
             write += 1;
             read += 1;
             continue;
@@ -214,19 +232,57 @@ pub(crate) fn visit_watches<A: Allocator + Copy>(
         )? {
             Visit::Dropped => {}
             Visit::Keep(blocking) => {
-                list[write] = Watch { cref, blocking };
+                watches[write] = Watch { cref, blocking };
                 write += 1;
             }
             Visit::Conflicting(blocking) => {
-                list[write] = Watch { cref, blocking };
-                close_gap(list, write + 1, read + 1);
-                return Ok(Err(Conflict::Long(cref)));
+                watches[write] = Watch { cref, blocking };
+                let kept = close_gap(watches, write + 1, read + 1);
+                let end = Err(Conflict::Long(cref));
+                return Ok(Visited { kept, end });
             }
         }
         read += 1;
     }
-    list.truncate(write);
-    Ok(Ok(()))
+    let end = Ok(());
+    Ok(Visited { kept: write, end })
+}
+
+/// Visits the watches of a literal, which became true, and takes out of its list those that don't stay.
+pub(crate) fn visit_list<A: Allocator + Copy>(
+    assignment: &mut Assignment<A>,
+    alloc: &mut ClauseAlloc<A>,
+    graph: &mut ImplGraph<A>,
+    trail: &mut Trail<A>,
+    binary: &BinaryClauses<A>,
+    watchlists: &mut Watchlists<A>,
+    list: &mut WatchList<A>,
+    lit: Lit,
+) -> Result<Result<(), Conflict>, AllocError>
+    requires inside { lit < length watchlists.old.lists }
+    requires next { IsNext (with_watches watchlists.old lit list.old)
+        (view_of alloc.old binary.now assignment.old trail.old graph.old) lit }
+    ensures propagates { OnOk result (PartsPropagate alloc.old alloc.new binary.now assignment.old assignment.new trail.old trail.new graph.old graph.new) }
+    ensures keeps { OnOk result (PartsKeep alloc.old alloc.new binary.now assignment.old assignment.new trail.old trail.new graph.old graph.new) }
+    ensures next { OnOk result (IsNext (with_watches watchlists.new lit list.new) (view_of alloc.new binary.now assignment.new trail.new graph.new) lit) }
+    ensures ends { IfOk result (EndsPropagation IsNextSettled (view_of alloc.new binary.now assignment.new trail.new graph.new)) }
+    ensures lists { OnOk result (length watchlists.new.lists ≡ length watchlists.old.lists) }
+{
+    let count = list.count as usize;
+    if count <= FEW {
+        let watches = &mut list.few[..count];
+        let visited = visit_watches(
+            assignment, alloc, graph, trail, binary, watchlists, watches, lit,
+        )?;
+        list.count = visited.kept as u32;
+        return Ok(visited.end);
+    }
+    let watches = list.many.as_mut_slice();
+    let visited = visit_watches(
+        assignment, alloc, graph, trail, binary, watchlists, watches, lit,
+    )?;
+    list.many.truncate(visited.kept);
+    Ok(visited.end)
 }
 
 /// Makes true what the clauses imply that watch the literal, which became true.
@@ -244,7 +300,7 @@ pub fn propagate_long<A: Allocator + Copy>(
     ensures ends { IfOk result (EndsPropagation IsNextSettled (view_of alloc.new binary.now assignment.new trail.new graph.new)) }
 {
     let mut list = watchlists.take_list(lit);
-    let end = visit_watches(
+    let end = visit_list(
         assignment, alloc, graph, trail, binary, watchlists, &mut list, lit,
     )?;
     watchlists.put_list(lit, list);

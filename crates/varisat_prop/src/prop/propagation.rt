@@ -15,7 +15,7 @@ use crate::clause::ClauseAlloc;
 use crate::prop::assignment::Assignment;
 use crate::prop::binary::propagate_binary;
 use crate::prop::graph::{Conflict, ImplGraph};
-use crate::prop::long::visit_watches;
+use crate::prop::long::visit_list;
 use crate::prop::trail::Trail;
 use crate::prop::watch::Watchlists;
 use std::alloc::{AllocError, Allocator};
@@ -68,7 +68,7 @@ fn propagate_lit<A: Allocator + Copy>(
             Ok(Err(conflict))
         }
         Ok(()) => {
-            let end = visit_watches(
+            let end = visit_list(
                 assignment, alloc, graph, trail, binary, watchlists, &mut list, lit,
             )?;
             watchlists.put_list(lit, list);

@@ -8,35 +8,26 @@ ghost use Rattle.varisat_prop.specs.Watches.{no_watches, watches_of, with_watche
 ghost use Rattle.varisat_prop.specs.Visits.{WatchesClause};
 
 use crate::clause::ClauseRef;
-use crate::lists::push_lists;
+use crate::prop::watch_list::{Watch, WatchList};
 use std::alloc::{AllocError, Allocator};
 use std::marker::Model;
 use std::mem;
 use varisat_literals::Lit;
 
-/// A watch on a clause.
-#[derive(Clone, Copy, Debug)]
-pub struct Watch {
-    pub cref: ClauseRef,
-    /// A literal of the clause. As long as it is true there is no need to look at the clause.
-    pub blocking: Lit,
-}
-
 /// For each literal the watches to be looked at when it becomes true.
 #[derive(Drop)]
 pub struct Watchlists<A: Allocator + Copy> {
-    watches: Vec<Vec<Watch, A>, A>,
+    watches: Vec<WatchList<A>, A>,
     /// Whether the lists are kept up to date. Else they are empty, until propagation fills them anew.
     enabled: bool,
 }
 
 impl<A: Allocator + Copy> Model for Watchlists<A> {
-    ghost use Rattle.std.specs.Prelude.{map};
     ghost use Rattle.varisat_prop.specs.Watches.{Watches};
 
     ghost Value = { Watches };
 
-    ghost view = { λ s. record { lists = map (λ v. v.items) s.watches.items; enabled = s.enabled } };
+    ghost view = { λ s. record { lists = s.watches.items; enabled = s.enabled } };
 }
 
 impl<A: Allocator + Copy> Watchlists<A> {
@@ -86,53 +77,68 @@ impl<A: Allocator + Copy> Watchlists<A> {
         self.enabled = false;
     }
 
+    /// One more literal, without watches.
+    fn push_list(&mut self) -> Result<(), AllocError>
+        ensures { OnOk result (self.new ≡ record self.old { lists = self.old.lists ++ [] ∷ [] }) }
+    {
+        let alloc = *self.watches.allocator();
+        self.watches.push(WatchList::new_in(alloc))?;
+        Ok(())
+    }
+
     /// Raises the count of variables. The new ones have no watches.
     pub fn set_var_count(&mut self, count: usize) -> Result<(), AllocError>
         requires raised { length self.old.lists ≤ 2 * count }
         requires small { count ≤ variable_limit }
         ensures { OnOk result (self.new ≡ record self.old { lists = self.old.lists ++ replicate (2 * count - length self.old.lists) [] }) }
     {
-        push_lists(&mut self.watches, 2 * count)?;
+        let old_count = self.watches.len();
+        let mut added = 0;
+        'lists: while added < 2 * count - old_count {
+            self.push_list()?;
+            added += 1;
+        }
         Ok(())
     }
 
     /// The list at the place.
-    fn list_mut(&mut self, place: usize) -> &mut Vec<Watch, A>
+    fn list_mut(&mut self, place: usize) -> &mut WatchList<A>
         requires { place < length self.old.lists }
         ensures* lends { sem 𝓛 (lends_list A.row A.Allocator self.entry place result) }
-        ensures value { result.now.items ≡ watches_of self.old place }
+        ensures value { result.now ≡ watches_of self.old place }
     {
         &mut self.watches[place]
     }
 
     /// The watches of the literal.
-    pub fn watched_by_mut(&mut self, lit: Lit) -> &mut Vec<Watch, A>
+    pub fn watched_by_mut(&mut self, lit: Lit) -> &mut WatchList<A>
         requires { lit < length self.old.lists }
         ensures* lends { sem 𝓛 (lends_list A.row A.Allocator self.entry lit result) }
-        ensures value { result.now.items ≡ watches_of self.old lit }
+        ensures value { result.now ≡ watches_of self.old lit }
     {
         self.list_mut(lit.code())
     }
 
     /// Takes the watches of the literal out.
-    pub fn take_list(&mut self, lit: Lit) -> Vec<Watch, A>
+    pub fn take_list(&mut self, lit: Lit) -> WatchList<A>
         requires { lit < length self.old.lists }
-        ensures list { result.items ≡ watches_of self.old lit }
+        ensures list { result ≡ watches_of self.old lit }
         ensures taken { self.new ≡ with_watches self.old lit [] }
     {
         let alloc = *self.watches.allocator();
-        mem::replace(self.watched_by_mut(lit), Vec::new(alloc))
+        mem::replace(self.watched_by_mut(lit), WatchList::new_in(alloc))
     }
 
     /// Puts the watches of the literal back.
-    pub fn put_list(&mut self, lit: Lit, list: Vec<Watch, A>)
+    pub fn put_list(&mut self, lit: Lit, list: WatchList<A>)
         requires { lit < length self.old.lists }
-        ensures { self.new ≡ with_watches self.old lit list.items }
+        ensures { self.new ≡ with_watches self.old lit list }
     {
         *self.watched_by_mut(lit) = list;
     }
 
     /// One more watch of the literal.
+    #[inline(always)]
     pub fn add_watch(&mut self, lit: Lit, watch: Watch) -> Result<(), AllocError>
         requires { lit < length self.old.lists }
         ensures { OnOk result (self.new ≡ with_watches self.old lit (watches_of self.old lit ++ watch ∷ [])) }

@@ -37,7 +37,7 @@ fn watches<A: Allocator + Copy>(lists: &mut Watchlists<A>, lit: Lit, places: &[u
     if lists.len() <= lit.code() {
         return false;
     }
-    let list = lists.watched_by_mut(lit);
+    let list = lists.watched_by_mut(lit).as_slice();
     for (watch, place) in list.iter().zip(places) {
         if watch.cref.offset() != *place {
             return false;

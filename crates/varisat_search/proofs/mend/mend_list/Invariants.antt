@@ -4,7 +4,7 @@ use Rattle.varisat_search.proofs.MendedLists.{MendingAt}
 use Rattle.varisat_search.proofs.mend.mend_list.Given as goal
 
 abbrev pub invariant-watches : goal.invariant-watches
-invariant-watches g l = MendingAt (live_clauses l.clause_alloc) l.fn.list.items l.list.items l.write l.read
+invariant-watches g l = MendingAt (live_clauses l.clause_alloc) l.fn.list l.list l.write l.read
 
 abbrev pub decreases-watches : goal.decreases-watches
-decreases-watches g l = length l.list.items - l.read
+decreases-watches g l = length l.list - l.read

@@ -7,7 +7,7 @@ use Rattle.varisat_theory.proofs.Places.{∈-get_or, ∈-take_more}
 use Rattle.varisat_clause.specs.Stored.{IsPlace}
 use Rattle.varisat_clause.specs.Stores.{stored_clauses}
 use Rattle.varisat_clause.specs.Collected.{live_clauses}
-use Rattle.varisat_prop.specs.declared.prop.watch.Watch.{Watch}
+use Rattle.varisat_prop.specs.declared.prop.watch_list.Watch.{Watch}
 use Rattle.varisat_prop.specs.Watches.{Watches, with_watches}
 use Rattle.varisat_prop.proofs.ReadElements.{element, item-∈}
 use Rattle.varisat_search.specs.MendedLists.{AreMended, MendsLists}
@@ -60,7 +60,7 @@ literals-preserved g c =
     let k = c.literals.place in
     let l = c.index-lits-place.result in
     let ks = live_clauses c.args.clause_alloc.now in
-    let us = c.mend_list.new.list.items in
+    let us = c.mend_list.new.list in
     let inside : k < length lits = omega (arith, c.literals-test.true) in
     let h = c.requires.listed l (item-∈ lits k l inside c.index-lits-place.is) in
     let n = c.literals.invariant.count in

@@ -8,7 +8,7 @@ use Rattle.varisat_clause.specs.Stored.{StoredClause, IsPlace, stored_at, litera
 use Rattle.varisat_clause.proofs.StoredClauses.{stored-∈, literals-∈}
 use Rattle.varisat_clause.proofs.LiveStore.{live-place}
 use Rattle.varisat_clause.proofs.TierPlaces.{∈-permutation}
-use Rattle.varisat_prop.specs.declared.prop.watch.Watch.{Watch}
+use Rattle.varisat_prop.specs.declared.prop.watch_list.Watch.{Watch}
 use Rattle.varisat_prop.specs.Watches.{literal_in}
 use Rattle.varisat_prop.proofs.LongVisited.{listed}
 use Rattle.varisat_prop.proofs.WellFormedChanges.{stored-kept}

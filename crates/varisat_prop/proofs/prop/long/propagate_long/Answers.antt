@@ -5,8 +5,8 @@ use Rattle.varisat_prop.proofs.prop.long.propagate_long.Goals as goal
 pub take_list-list-requires : goal.take_list-list-requires
 take_list-list-requires g c = next-list c.requires
 
-pub visit_watches-requires : goal.visit_watches-requires
-visit_watches-requires g c = record {
+pub visit_list-requires : goal.visit_list-requires
+visit_list-requires g c = record {
   inside = taken-inside c.requires c.take_list-list.ensures.taken c.take_list-list.ensures.list;
   next = taken-next c.requires c.take_list-list.ensures.taken c.take_list-list.ensures.list;
 }

@@ -16,8 +16,8 @@ returns-in-Err-clause-goes g c =
     goes-put (pairs-go c.requires c.in_ok-conflict.ensures.propagates c.in_ok-conflict.ensures.keeps refl)
     (c.put_list.ensures ∙ taken-back c.requires c.take_list-list.ensures.taken c.take_list-list.ensures.list)
 
-pub visit_watches-requires : goal.visit_watches-requires
-visit_watches-requires g c =
+pub visit_list-requires : goal.visit_list-requires
+visit_list-requires g c =
     let n = still-next c.requires c.in_ok-conflict.ensures.propagates c.in_ok-conflict.ensures.keeps refl in
     record {
       inside = taken-inside c.requires c.take_list-list.ensures.taken c.take_list-list.ensures.list;

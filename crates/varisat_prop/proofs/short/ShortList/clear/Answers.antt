@@ -3,4 +3,4 @@ use Rattle.varisat_prop.proofs.ShortLists.{short_few}
 use Rattle.varisat_prop.proofs.short.ShortList.clear.Goals as goal
 
 pub returns : goal.returns
-returns g c = short_few c.self.inside.few c.clear.new.self.items 0 (omega arith)
+returns g c = short_few 3 c.self.inside.few c.clear.new.self.items 0 (omega arith)

@@ -18,13 +18,13 @@ returns-then-count-le-FEW g c =
     let s = c.self.inside in
     let h : s.count ≤ 3 = grind (arith, common_steps) in
     let k : c.compact.result ≤ 3 = grind (arith, common_steps) in
-    rw (← c.self.view_is) (short_few c.compact.new.few s.many.items c.compact.result k ∙ c.compact.ensures.kept
-    ∙ ap (filter (is_unassigned c.args.values.now)) (sym (short_few s.few s.many.items s.count h)))
+    rw (← c.self.view_is) (short_few 3 c.compact.new.few s.many.items c.compact.result k ∙ c.compact.ensures.kept
+    ∙ ap (filter (is_unassigned c.args.values.now)) (sym (short_few 3 s.few s.many.items s.count h)))
 
 pub returns : goal.returns
 returns g c =
     let s = c.self.inside in
     let h : 3 < s.count = grind (arith, common_steps) in
-    rw (← c.self.view_is) (short_many s.few c.retain.new.self.items s.count h
+    rw (← c.self.view_is) (short_many 3 s.few c.retain.new.self.items s.count h
     ∙ filter_same _ (is_unassigned c.args.values.now) _ (λ x b after called. search rules) _ _ c.retain.ensures.filtered
-    ∙ ap (filter (is_unassigned c.args.values.now)) (sym (short_many s.few s.many.items s.count h)))
+    ∙ ap (filter (is_unassigned c.args.values.now)) (sym (short_many 3 s.few s.many.items s.count h)))

@@ -1,0 +1,16 @@
+use Rattle.std.proofs.Common.{◌<◌, ◌≤◌, ◌∙◌, sym, arith}
+use Rattle.std.proofs.lemmas.Grind.{common_steps}
+use Rattle.varisat_prop.proofs.ShortLists.{short_few, short_many}
+use Rattle.varisat_prop.proofs.prop.watch_list.WatchList.as_slice.Goals as goal
+
+pub returns-then-count-le-FEW : goal.returns-then-count-le-FEW
+returns-then-count-le-FEW g c =
+    let s = c.self.inside in
+    let h : s.count ≤ 2 = grind (arith, common_steps) in
+    rw (← c.self.view_is) (sym (short_few 2 s.few s.many.items s.count h))
+
+pub returns : goal.returns
+returns g c =
+    let s = c.self.inside in
+    let h : 2 < s.count = grind (arith, common_steps) in
+    rw (← c.self.view_is) (c.as_slice.ensures.value ∙ sym (short_many 2 s.few s.many.items s.count h))

@@ -1,0 +1,6 @@
+use Rattle.std.proofs.Common.{arith}
+use Rattle.varisat_prop.proofs.ShortLists.{short_few}
+use Rattle.varisat_prop.proofs.prop.watch_list.WatchList.clear.Goals as goal
+
+pub returns : goal.returns
+returns g c = short_few 2 c.self.inside.few c.clear.new.self.items 0 (omega arith)

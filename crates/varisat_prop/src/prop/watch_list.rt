@@ -1,0 +1,135 @@
+//! The watches of one literal.
+ghost use Rattle.std.specs.Prelude.{◌≡◌, ◌<◌, ◌≤◌, ◌++◌, ◌∷◌, [], take, length, OnOk, slice_set};
+
+use crate::clause::ClauseRef;
+use std::alloc::{AllocError, Allocator};
+use std::marker::Model;
+use varisat_literals::Lit;
+
+/// A watch on a clause.
+#[derive(Clone, Copy, Debug)]
+pub struct Watch {
+    pub cref: ClauseRef,
+    /// A literal of the clause. As long as it is true there is no need to look at the clause.
+    pub blocking: Lit,
+}
+
+/// How many watches stand in place.
+pub(crate) const FEW: usize = 2;
+
+/// A list of watches. Up to two stand in place: where clauses are short few literals have more, and who has looked at the list has
+/// them too, and needs not wait for memory once more.
+#[derive(Drop)]
+pub struct WatchList<A: Allocator + Copy> {
+    pub(crate) few: [Watch; 2],
+    // How many stand in place; where it is more than two all watches stand in `many`.
+    pub(crate) count: u32,
+    pub(crate) many: Vec<Watch, A>,
+}
+
+impl<A: Allocator + Copy> Model for WatchList<A> {
+    ghost use Rattle.std.specs.Prelude.{◌≡◌, ◌≤◌, List, []};
+    ghost use Rattle.varisat_prop.specs.declared.prop.watch_list.Watch.{Watch};
+    ghost use Rattle.varisat_prop.specs.ShortLists.{short_list};
+
+    ghost Value = { List Watch };
+
+    ghost view = { λ s. short_list 2 s.few s.count s.many.items };
+
+    ghost invariant = { λ s. (s.count ≤ 3) × (s.count ≤ 2 → s.many.items ≡ []) };
+}
+
+impl<A: Allocator + Copy> WatchList<A> {
+    /// No watches. It takes no memory.
+    pub fn new_in(alloc: A) -> WatchList<A>
+        ensures { result ≡ [] }
+    {
+        let none = Watch {
+            cref: ClauseRef::from_offset(0),
+            blocking: Lit::from_code(0),
+        };
+        WatchList {
+            few: [none; 2],
+            count: 0,
+            many: Vec::new(alloc),
+        }
+    }
+
+    /// The watches.
+    pub fn as_slice(&self) -> &[Watch]
+        ensures { result.now ≡ self.now }
+    {
+        let count = self.count as usize;
+        if count <= FEW {
+            return &self.few[..count];
+        }
+        self.many.as_slice()
+    }
+
+    /// Writes a watch over the one at the place.
+    pub fn set(&mut self, place: usize, watch: Watch)
+        requires { place < length self.old }
+        ensures { self.new ≡ slice_set self.old place watch }
+    {
+        if self.count as usize <= FEW {
+            self.few[place] = watch;
+            return;
+        }
+        self.many[place] = watch;
+    }
+
+    /// Puts a watch behind the others.
+    // Propagation moves a watch for most clauses that it looks at. The lists that it moves them to are long where that costs time,
+    // so that what such a list needs is compiled in place, and the rest is not.
+    #[inline(always)]
+    pub fn push(&mut self, watch: Watch) -> Result<(), AllocError>
+        ensures { OnOk result (self.new ≡ self.old ++ watch ∷ []) }
+    {
+        if self.count as usize > FEW {
+            self.many.push(watch)?;
+            return Ok(());
+        }
+        self.push_out_of_line(watch)
+    }
+
+    /// Puts a watch behind the others, wherever they stand.
+    #[inline(never)]
+    fn push_out_of_line(&mut self, watch: Watch) -> Result<(), AllocError>
+        ensures { OnOk result (self.new ≡ self.old ++ watch ∷ []) }
+    {
+        let count = self.count as usize;
+        if count < FEW {
+            self.few[count] = watch;
+            self.count += 1;
+            return Ok(());
+        }
+        if count > FEW {
+            self.many.push(watch)?;
+            return Ok(());
+        }
+        self.many.extend_from_slice(&self.few)?;
+        self.count += 1;
+        self.many.push(watch)?;
+        Ok(())
+    }
+
+    /// Takes all watches out.
+    pub fn clear(&mut self)
+        ensures { self.new ≡ [] }
+    {
+        self.count = 0;
+        self.many.clear();
+    }
+
+    /// Takes out all but the first ones, as many as `count`.
+    pub fn truncate(&mut self, count: usize)
+        ensures { self.new ≡ take count self.old }
+    {
+        let old_count = self.count as usize;
+        if old_count > FEW {
+            self.many.truncate(count);
+        } else if count < old_count {
+            self.count = count as u32;
+        }
+    }
+}

@@ -10,6 +10,7 @@ pub mod CheckedSources
 pub mod PlainResults
 pub mod MarkedReports
 pub mod MarkedOnce
+pub mod DratOnce
 pub mod MarkedJournals
 pub mod PassingJournals
 pub mod CheckResults

@@ -18,14 +18,14 @@ use Rattle.varisat_proof.specs.declared.checker.error.CheckerError.{CheckerError
 use Rattle.varisat_proof.specs.declared.checker.error.CheckerError.TheVariants.{CheckFailed, NoSuchClause, CoreNotAssumed, Parse}
 use Rattle.varisat_proof.specs.Lines.{ProofLine, step_number}
 use Rattle.varisat_proof.specs.Machine.{Parsed, parsed}
-use Rattle.varisat_proof.specs.Marked.{MarkedTold, ProofState, TakesKind, Takes, IsWrongKind, IsWrongBy, Goes, TakesAll, GoesThrough, StopsBefore, StopsCheck, CheckOnce, CheckGoesThrough}
+use Rattle.varisat_proof.specs.Marked.{MarkedTold, ProofState, Rules, strict_rules, TakesKind, IsWrongKind, GoesBy, Goes, TakesAll, GoesThrough, StopsBeforeBy, StopsCheckBy, StopsCheck, CheckOnceBy, CheckOnce, CheckGoesThrough}
 use Rattle.varisat_proof.proofs.CheckedLines.{error_of}
 use Rattle.varisat_proof.proofs.TokenLines.{only_parsed}
 
 -- 1. The same but for the order of clauses and of their literals.
-record Same (s t : ProofState) : Type 0 where
-  present : SameClauses s.present t.present
-  told : s.told ≡ t.told
+pub record Same (s t : ProofState) : Type 0 where
+  pub present : SameClauses s.present t.present
+  pub told : s.told ≡ t.told
 
 same_back : (s t : ProofState) → Same s t → Same t s
 same_back s t w = record { present = same_clauses-back s.present t.present w.present; told = sym w.told }
@@ -98,91 +98,111 @@ abbrev ended_result : Option ℕ → Result CheckVerdict CheckerError
 ended_result None = Ok Derivation
 ended_result (Some o) = Err (Parse o)
 
-data Halts (fault : Option ℕ) (n : ℕ) (t : ProofState) (back : List ProofLine) (r : Result CheckVerdict CheckerError) : Type 0 where
-  Refuted : Conflicts t.present [] → r ≡ refuted_result fault → Halts fault n t back r
-  AtEnd : (Conflicts t.present [] → ⊥) → back ≡ [] → r ≡ ended_result fault → Halts fault n t back r
+data Halts (rules : Rules) (fault : Option ℕ) (n : ℕ) (t : ProofState) (back : List ProofLine) (r : Result CheckVerdict CheckerError) : Type 0 where
+  Refuted : Conflicts t.present [] → r ≡ refuted_result fault → Halts rules fault n t back r
+  AtEnd : (Conflicts t.present [] → ⊥) → back ≡ [] → r ≡ ended_result fault → Halts rules fault n t back r
   AtLine : (Conflicts t.present [] → ⊥) → (line : ProofLine) → (lines : List ProofLine) → back ≡ line ∷ lines → (status : LineStatus) →
-      IsWrongBy t line status → r ≡ Err (error_of status (step_number (suc n))) → Halts fault n t back r
+      rules.wrong t line status → r ≡ Err (error_of status (step_number (suc n))) → Halts rules fault n t back r
 
-before_line : (fault : Option ℕ) (n : ℕ) (t : ProofState) (back : List ProofLine) (status : LineStatus) (step : ℕ) → StopsBefore status n t back step →
-    Halts fault n t back (Err (error_of status step))
-before_line fault n t [] status step s = absurd s
-before_line fault n t (line ∷ lines) status step s = AtLine s.0 line lines refl status s.1 (ap (λ x. Err (error_of status x)) s.2)
+before_line : (rules : Rules) (fault : Option ℕ) (n : ℕ) (t : ProofState) (back : List ProofLine) (status : LineStatus) (step : ℕ) →
+    StopsBeforeBy rules status n t back step → Halts rules fault n t back (Err (error_of status step))
+before_line rules fault n t [] status step s = absurd s
+before_line rules fault n t (line ∷ lines) status step s = AtLine s.0 line lines refl status s.1 (ap (λ x. Err (error_of status x)) s.2)
 
-halts : (fault : Option ℕ) (n : ℕ) (t : ProofState) (back : List ProofLine) (r : Result CheckVerdict CheckerError) → StopsCheck fault n t back r →
-    Halts fault n t back r
-halts fault n t back (Ok Refutation) s = Refuted s.1 (sym (ap refuted_result s.0))
-halts fault n t back (Ok Derivation) s = AtEnd s.2 s.1 (sym (ap ended_result s.0))
-halts fault n t back (Err (CheckFailed step)) s = before_line fault n t back Unproved step s
-halts fault n t back (Err (NoSuchClause step)) s = before_line fault n t back Absent step s
-halts fault n t back (Err (CoreNotAssumed step)) s = before_line fault n t back Unassumed step s
-halts fault n t back (Err (Parse o)) s = ⊎_elim (λ k. Refuted k (sym (ap refuted_result s.0))) (λ k. AtEnd k.1 k.0 (sym (ap ended_result s.0))) s.1
-halts fault n t back (Err error) s = absurd s
+halts : (rules : Rules) (fault : Option ℕ) (n : ℕ) (t : ProofState) (back : List ProofLine) (r : Result CheckVerdict CheckerError) →
+    StopsCheckBy rules fault n t back r → Halts rules fault n t back r
+halts rules fault n t back (Ok Refutation) s = Refuted s.1 (sym (ap refuted_result s.0))
+halts rules fault n t back (Ok Derivation) s = AtEnd s.2 s.1 (sym (ap ended_result s.0))
+halts rules fault n t back (Err (CheckFailed step)) s = before_line rules fault n t back Unproved step s
+halts rules fault n t back (Err (NoSuchClause step)) s = before_line rules fault n t back Absent step s
+halts rules fault n t back (Err (CoreNotAssumed step)) s = before_line rules fault n t back Unassumed step s
+halts rules fault n t back (Err (Parse o)) s =
+    ⊎_elim (λ k. Refuted k (sym (ap refuted_result s.0))) (λ k. AtEnd k.1 k.0 (sym (ap ended_result s.0))) s.1
+halts rules fault n t back (Err error) s = absurd s
+
+-- Where the present clauses are the same, a line leads to the same ones, is not taken in one state and wrong in the other, and is wrong in one way.
+pub record AreDetermined (rules : Rules) : Type 0 where
+  pub taken : (s s' : ProofState) (line : ProofLine) (r r' : ProofState) → Same s s' → rules.takes s line r → rules.takes s' line r' → Same r r'
+  pub refused : (s s' : ProofState) (line : ProofLine) (status : LineStatus) (r : ProofState) → Same s s' → rules.wrong s line status → rules.takes s' line r → ⊥
+  pub status : (s s' : ProofState) (line : ProofLine) (a b : LineStatus) → Same s s' → rules.wrong s line a → rules.wrong s' line b → a ≡ b
+
+strict_determined : AreDetermined strict_rules
+strict_determined = record {
+  taken = λ s s' line r r' w h k. same_taken s s' line.kind line.clause r r' w h k;
+  refused = λ s s' line status r w h k. wrong_taken s s' line.kind line.clause status r w h k;
+  status = λ s s' line a b w h k. same_status s s' line.kind line.clause a b w h k;
+}
 
 -- it does not go on there
-stuck : (fault : Option ℕ) (n : ℕ) (s s' : ProofState) (line : ProofLine) (lines back : List ProofLine) (r : Result CheckVerdict CheckerError)
-    (u : ProofState) → Same s s' → Halts fault n s back r → back ≡ line ∷ lines → (Conflicts s'.present [] → ⊥) → Takes s' line u → ⊥
-stuck fault n s s' line lines back r u w (Refuted k e) b none h = none (conflicts_same s.present s'.present [] w.present k)
-stuck fault n s s' line lines back r u w (AtEnd k z e) b none h = let f : [] ≡ line ∷ lines = sym z ∙ b in absurd cc
-stuck fault n s s' line lines back r u w (AtLine k l ls z status i e) b none h =
+stuck : (rules : Rules) → AreDetermined rules → (fault : Option ℕ) (n : ℕ) (s s' : ProofState) (line : ProofLine) (lines back : List ProofLine)
+    (r : Result CheckVerdict CheckerError) (u : ProofState) → Same s s' → Halts rules fault n s back r → back ≡ line ∷ lines →
+    (Conflicts s'.present [] → ⊥) → rules.takes s' line u → ⊥
+stuck rules d fault n s s' line lines back r u w (Refuted k e) b none h = none (conflicts_same s.present s'.present [] w.present k)
+stuck rules d fault n s s' line lines back r u w (AtEnd k z e) b none h = let f : [] ≡ line ∷ lines = sym z ∙ b in absurd cc
+stuck rules d fault n s s' line lines back r u w (AtLine k l ls z status i e) b none h =
     let f : l ∷ ls ≡ line ∷ lines = sym z ∙ b in
     let g : l ≡ line = cc in
-    wrong_taken s s' line.kind line.clause status u w (subst (λ x. IsWrongBy s x status) g i) h
+    d.refused s s' line status u w (subst (λ x. rules.wrong s x status) g i) h
 
 -- two checks take the same lines
-walk : (fault : Option ℕ) (n m : ℕ) (front front' back back' : List ProofLine) (r q : Result CheckVerdict CheckerError) (s s' t t' : ProofState) →
-    Same s s' → Goes s front t → Goes s' front' t' → front ++ back ≡ front' ++ back' → Halts fault n t back r → Halts fault m t' back' q →
-    (front ≡ front') × (back ≡ back') × Same t t'
-walk fault n m [] [] back back' r q s s' t t' w g h e a b = (refl, e, same_by t t' s s' (sym g) (sym h) w)
-walk fault n m [] (l ∷ f) back back' r q s s' t t' w g h e a b =
-    absurd (stuck fault n s s' l (f ++ back') back r h.1 w (subst (λ x. Halts fault n x back r) (sym g) a) e h.0 h.2)
-walk fault n m (l ∷ f) [] back back' r q s s' t t' w g h e a b =
-    absurd (stuck fault m s' s l (f ++ back) back' q g.1 (same_back s s' w) (subst (λ x. Halts fault m x back' q) (sym h) b) (sym e) g.0 g.2)
-walk fault n m (l ∷ f) (k ∷ f') back back' r q s s' t t' w g h e a b =
+walk : (rules : Rules) → AreDetermined rules → (fault : Option ℕ) (n m : ℕ) (front front' back back' : List ProofLine)
+    (r q : Result CheckVerdict CheckerError) (s s' t t' : ProofState) → Same s s' → GoesBy rules s front t → GoesBy rules s' front' t' →
+    front ++ back ≡ front' ++ back' → Halts rules fault n t back r → Halts rules fault m t' back' q → (front ≡ front') × (back ≡ back') × Same t t'
+walk rules d fault n m [] [] back back' r q s s' t t' w g h e a b = (refl, e, same_by t t' s s' (sym g) (sym h) w)
+walk rules d fault n m [] (l ∷ f) back back' r q s s' t t' w g h e a b =
+    absurd (stuck rules d fault n s s' l (f ++ back') back r h.1 w (subst (λ x. Halts rules fault n x back r) (sym g) a) e h.0 h.2)
+walk rules d fault n m (l ∷ f) [] back back' r q s s' t t' w g h e a b =
+    absurd (stuck rules d fault m s' s l (f ++ back) back' q g.1 (same_back s s' w) (subst (λ x. Halts rules fault m x back' q) (sym h) b) (sym e) g.0 g.2)
+walk rules d fault n m (l ∷ f) (k ∷ f') back back' r q s s' t t' w g h e a b =
     let x : l ≡ k = cc in
     let y : f ++ back ≡ f' ++ back' = cc in
-    let more = same_taken s s' l.kind l.clause g.1 h.1 w g.2 (subst (λ z. Takes s' z h.1) (sym x) h.2) in
-    let rest = walk fault n m f f' back back' r q g.1 h.1 t t' more g.3 h.3 y a b in
+    let more = d.taken s s' l g.1 h.1 w g.2 (subst (λ z. rules.takes s' z h.1) (sym x) h.2) in
+    let rest = walk rules d fault n m f f' back back' r q g.1 h.1 t t' more g.3 h.3 y a b in
     (ap (λ z. z ∷ f) x ∙ ap (λ z. k ∷ z) rest.0, rest.1, rest.2)
 
 -- and return the same
-return_same : (fault : Option ℕ) (n : ℕ) (t t' : ProofState) (back : List ProofLine) (r q : Result CheckVerdict CheckerError) → Same t t' →
-    Halts fault n t back r → Halts fault n t' back q → r ≡ q
-return_same fault n t t' back r q w (Refuted k e) (Refuted l f) = e ∙ sym f
-return_same fault n t t' back r q w (Refuted k e) (AtEnd l z f) = absurd (l (conflicts_same t.present t'.present [] w.present k))
-return_same fault n t t' back r q w (Refuted k e) (AtLine l x y z a i f) = absurd (l (conflicts_same t.present t'.present [] w.present k))
-return_same fault n t t' back r q w (AtEnd k z e) (Refuted l f) = absurd
+return_same : (rules : Rules) → AreDetermined rules → (fault : Option ℕ) (n : ℕ) (t t' : ProofState) (back : List ProofLine)
+    (r q : Result CheckVerdict CheckerError) → Same t t' → Halts rules fault n t back r → Halts rules fault n t' back q → r ≡ q
+return_same rules d fault n t t' back r q w (Refuted k e) (Refuted l f) = e ∙ sym f
+return_same rules d fault n t t' back r q w (Refuted k e) (AtEnd l z f) = absurd (l (conflicts_same t.present t'.present [] w.present k))
+return_same rules d fault n t t' back r q w (Refuted k e) (AtLine l x y z a i f) = absurd (l (conflicts_same t.present t'.present [] w.present k))
+return_same rules d fault n t t' back r q w (AtEnd k z e) (Refuted l f) = absurd
     (k (conflicts_same t'.present t.present [] (same_clauses-back t.present t'.present w.present) l))
-return_same fault n t t' back r q w (AtEnd k z e) (AtEnd l y f) = e ∙ sym f
-return_same fault n t t' back r q w (AtEnd k z e) (AtLine l x y v a i f) = absurd (let h : [] ≡ x ∷ y = sym z ∙ v in cc)
-return_same fault n t t' back r q w (AtLine k x y z a i e) (Refuted l f) = absurd
+return_same rules d fault n t t' back r q w (AtEnd k z e) (AtEnd l y f) = e ∙ sym f
+return_same rules d fault n t t' back r q w (AtEnd k z e) (AtLine l x y v a i f) = absurd (let h : [] ≡ x ∷ y = sym z ∙ v in cc)
+return_same rules d fault n t t' back r q w (AtLine k x y z a i e) (Refuted l f) = absurd
     (k (conflicts_same t'.present t.present [] (same_clauses-back t.present t'.present w.present) l))
-return_same fault n t t' back r q w (AtLine k x y z a i e) (AtEnd l v f) = absurd (let h : [] ≡ x ∷ y = sym v ∙ z in cc)
-return_same fault n t t' back r q w (AtLine k x y z a i e) (AtLine l x' y' v b j f) =
+return_same rules d fault n t t' back r q w (AtLine k x y z a i e) (AtEnd l v f) = absurd (let h : [] ≡ x ∷ y = sym v ∙ z in cc)
+return_same rules d fault n t t' back r q w (AtLine k x y z a i e) (AtLine l x' y' v b j f) =
     let h : x ∷ y ≡ x' ∷ y' = sym z ∙ v in
     let g : x ≡ x' = cc in
-    let same = same_status t t' x.kind x.clause a b w i (subst (λ (o : ProofLine). IsWrongBy t' o b) (sym g) j) in
+    let same = d.status t t' x a b w i (subst (λ (o : ProofLine). rules.wrong t' o b) (sym g) j) in
     e ∙ ap (λ o. Err (error_of o (step_number (suc n)))) same ∙ sym f
 
 same_parsed : (a b : List ProofLine) (f g : Option ℕ) (t : Parsed) → t ≡ record { lines = a; fault = f } → t ≡ record { lines = b; fault = g } → (a ≡ b)
     × (f ≡ g)
 same_parsed a b f g t e h = (sym (ap (λ x. x.lines) e) ∙ ap (λ x. x.lines) h, sym (ap (λ x. x.fault) e) ∙ ap (λ x. x.fault) h)
 
-pub check_once : (e : Encoding) → CheckOnce e
-check_once e = λ s bytes r q t u a b.
+pub once : (rules : Rules) → AreDetermined rules → (e : Encoding) → CheckOnceBy rules e
+once rules d e = λ s bytes r q t u a b.
     let p = same_parsed a.lines b.lines a.fault b.fault (parsed e bytes) (only_parsed e bytes a.lines a.fault a.means)
     (only_parsed e bytes b.lines b.fault b.means) in
-    let x = halts a.fault (length a.front) t a.back r a.stops in
-    let y = subst (λ f. Halts f (length b.front) u b.back q) (sym p.1) (halts b.fault (length b.front) u b.back q b.stops) in
+    let x = halts rules a.fault (length a.front) t a.back r a.stops in
+    let y = subst (λ f. Halts rules f (length b.front) u b.back q) (sym p.1) (halts rules b.fault (length b.front) u b.back q b.stops) in
     let self : Same s s = record { present = same_clauses-self s.present; told = refl } in
-    let w = walk a.fault (length a.front) (length b.front) a.front b.front a.back b.back r q s s t u self a.goes b.goes (sym a.splits ∙ p.0 ∙ b.splits) x y in
-    let z = subst (λ k. Halts a.fault k u a.back q) (ap length (sym w.0)) (subst (λ k. Halts a.fault (length b.front) u k q) (sym w.1) y) in
-    (return_same a.fault (length a.front) t u a.back r q w.2 x z, w.2.told)
+    let w = walk rules d a.fault (length a.front) (length b.front) a.front b.front a.back b.back r q s s t u self a.goes b.goes
+    (sym a.splits ∙ p.0 ∙ b.splits) x y in
+    let z = subst (λ k. Halts rules a.fault k u a.back q) (ap length (sym w.0))
+    (subst (λ k. Halts rules a.fault (length b.front) u k q) (sym w.1) y) in
+    (return_same rules d a.fault (length a.front) t u a.back r q w.2 x z, w.2.told)
+
+pub check_once : (e : Encoding) → CheckOnce e
+check_once e = once strict_rules strict_determined e
 
 -- 3. Lines that are all right, one after the other.
 
 at_end : (fault : Option ℕ) (n : ℕ) (back : List ProofLine) (r : Result CheckVerdict CheckerError) (t s u : ProofState) → Same t s →
-    TakesAll s back u → Halts fault n t back r → (r ≡ refuted_result fault)
+    TakesAll s back u → Halts strict_rules fault n t back r → (r ≡ refuted_result fault)
     ⊎ ((r ≡ ended_result fault) × (Conflicts u.present [] → ⊥) × (t.told ≡ u.told))
 at_end fault n back r t s u w a (Refuted k e) = inl e
 at_end fault n back r t s u w a (AtEnd k z e) =
@@ -194,7 +214,7 @@ at_end fault n back r t s u w a (AtLine k line lines z status i e) =
     absurd (wrong_taken t s line.kind line.clause status b.0 w i b.1)
 
 taken_through : (fault : Option ℕ) (n : ℕ) (front back : List ProofLine) (r : Result CheckVerdict CheckerError) (s s' t u : ProofState) → Same s s' →
-    Goes s front t → TakesAll s' (front ++ back) u → Halts fault n t back r → (r ≡ refuted_result fault)
+    Goes s front t → TakesAll s' (front ++ back) u → Halts strict_rules fault n t back r → (r ≡ refuted_result fault)
     ⊎ ((r ≡ ended_result fault) × (Conflicts u.present [] → ⊥) × (t.told ≡ u.told))
 taken_through fault n [] back r s s' t u w g a h = at_end fault n back r t s' u (same_by t s' s s' (sym g) refl w) a h
 taken_through fault n (l ∷ f) back r s s' t u w g a h =
@@ -217,7 +237,7 @@ through s lines front back u (Err error) t fault e g k x = absurd (⊎_elim
 pub check_through : (e : Encoding) → CheckGoesThrough e
 check_through e = λ s bytes lines u r t m a k.
     let p = same_parsed lines k.lines None k.fault (parsed e bytes) (only_parsed e bytes lines None m) (only_parsed e bytes k.lines k.fault k.means) in
-    let h = subst (λ f. Halts f (length k.front) t k.back r) (sym p.1) (halts k.fault (length k.front) t k.back r k.stops) in
+    let h = subst (λ f. Halts strict_rules f (length k.front) t k.back r) (sym p.1) (halts strict_rules k.fault (length k.front) t k.back r k.stops) in
     let self : Same s s = record { present = same_clauses-self s.present; told = refl } in
     through s lines k.front k.back u r t k.fault (p.0 ∙ k.splits) k.goes k.stops
     (taken_through None (length k.front) k.front k.back r s s t u self k.goes (subst (λ ls. TakesAll s ls u) (p.0 ∙ k.splits) a) h)

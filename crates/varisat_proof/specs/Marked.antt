@@ -132,10 +132,14 @@ abbrev pub IsCheckOf : Encoding → ProofState → List ℕ → Result CheckVerd
 IsCheckOf encoding s bytes result t = IsCheckBy strict_rules encoding s bytes result t
 
 -- all bytes have one result from a state on, and what was told then is one thing too
-abbrev pub CheckOnce : Encoding → Type 0
-CheckOnce encoding =
+abbrev pub CheckOnceBy : Rules → Encoding → Type 0
+CheckOnceBy rules encoding =
     (s : ProofState) (bytes : List ℕ) (r q : Result CheckVerdict CheckerError) (t u : ProofState)
-    → IsCheckOf encoding s bytes r t → IsCheckOf encoding s bytes q u → (r ≡ q) × (t.told ≡ u.told)
+    → IsCheckBy rules encoding s bytes r t → IsCheckBy rules encoding s bytes q u → (r ≡ q) × (t.told ≡ u.told)
+
+-- so it is by the strict rules
+abbrev pub CheckOnce : Encoding → Type 0
+CheckOnce encoding = CheckOnceBy strict_rules encoding
 
 -- A check from s on that finds no line wrong. It stops behind the first lines behind which propagation conflicts, and refutes; or it
 -- comes to the end of all, where it does not conflict.

@@ -1,7 +1,8 @@
 //! What the formats promise: each is the contract of a function with an empty body.
 ghost use Rattle.varisat_proof.specs.Laws.{WrittenIsAccepted, AcceptedOnce, AcceptedOrFaulty, NotBoth, FaultyOnce};
-ghost use Rattle.varisat_proof.specs.Lines.{encoding_of};
-ghost use Rattle.varisat_proof.specs.Marked.{CheckOnce, CheckGoesThrough};
+ghost use Rattle.varisat_proof.specs.DratChecks.{drat_rules};
+ghost use Rattle.varisat_proof.specs.Lines.{encoding_of, plain_encoding};
+ghost use Rattle.varisat_proof.specs.Marked.{CheckOnce, CheckOnceBy, CheckGoesThrough};
 ghost use Rattle.varisat_proof.specs.Passing.{JournalsPass};
 ghost use Rattle.varisat_proof.specs.Results.{DerivationIsAccepted, ResultOnce};
 
@@ -32,6 +33,12 @@ pub fn derivation_is_accepted(_format: ProofFormat)
 /// where it stops are determined.
 pub fn one_check_is_right(_format: ProofFormat)
     ensures { CheckOnce (encoding_of _format) }
+{}
+
+/// Over all bytes just one result of a check of DRAT lines is right, whichever present clauses that are equal as sets its
+/// deletions take out.
+pub fn one_drat_check_is_right(_format: ProofFormat)
+    ensures { CheckOnceBy drat_rules (plain_encoding _format) }
 {}
 
 /// A check of lines that are right one after the other finds none wrong, whichever present clauses the deletions take

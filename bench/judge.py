@@ -130,8 +130,64 @@ def told(command):
     return ran.returncode, ran.stdout.decode(errors="replace").splitlines()
 
 
-def judge(program, folder, seed, has_peer):
-    """Whether ours verifies the proof that the seed gives, and what is wrong with that, if anything is."""
+def propagated(clauses, assumed):
+    """The literals that unit propagation makes true, or None where it makes a clause false."""
+    true = set(assumed)
+    while not any(-each in true for each in true):
+        new = set()
+        for clause in clauses:
+            left = {each for each in clause if -each not in true}
+            if not left:
+                return None
+            if len(left) == 1:
+                new |= left
+        if new <= true:
+            return true
+        true |= new
+    return None
+
+
+def is_rat(clauses, clause, pivot):
+    """Whether each clause with the opposite of the pivot follows once the clause's literals replace that."""
+    for other in clauses:
+        if -pivot in other:
+            rest = [each for each in other if each != -pivot]
+            if propagated(clauses, [-each for each in [*clause, *rest]]) is not None:
+                return False
+    return True
+
+
+def refutes(clauses, lines, on_first):
+    """Whether the lines refute the clauses: by RAT on the first literal of a line alone, or on any."""
+    held = [list(clause) for clause in clauses]
+    for mark, clause in lines:
+        true = propagated(held, [])
+        if true is None:
+            return True
+        if not mark:
+            follows = propagated(held, [-each for each in clause]) is None
+            if not follows and not any(is_rat(held, clause, pivot) for pivot in (clause[:1] if on_first else clause)):
+                return False
+            held.append(list(clause))
+        elif len({each for each in clause if -each not in true}) != 1:
+            same = [place for place, other in enumerate(held) if set(other) == set(clause)]
+            if same:
+                held.pop(same[0])
+    return propagated(held, []) is None
+
+
+def kind_of(clauses, lines, is_verified):
+    """Why the peer's verdict differs, if that is known. By the rules that docs/USE.md states ours has to be right."""
+    if refutes(clauses, lines, False) != is_verified:
+        return None
+    if is_verified and not refutes(clauses, lines, True):
+        return "ours yes, drat-trim no: a line is RAT on another literal than the first alone"
+    return None
+
+
+def judge(program, folder, seed, has_peer, kinds):
+    """Whether ours verifies the proof that the seed gives, and what is wrong with that, if anything is. Counts differences
+    from the peer of a known kind in `kinds`."""
     numbers = formulas.Numbers(seed)
     variables, clauses = random_formula(numbers)
     lines = right_proof(numbers, variables, clauses)
@@ -153,6 +209,10 @@ def judge(program, folder, seed, has_peer):
     if has_peer:
         _, peer = told(["drat-trim", cnf, proof, "-f", "-w"])
         if (VERIFIED in peer) != (status == 0):
+            kind = kind_of(clauses, lines, status == 0)
+            if kind is not None:
+                kinds.setdefault(kind, []).append(seed)
+                return status == 0, None
             return status == 0, f"drat-trim says {'yes' if VERIFIED in peer else 'no'}, ours {'yes' if status == 0 else 'no'} ({', '.join(breaks)})"
     return status == 0, None
 
@@ -164,13 +224,15 @@ def run(arguments):
     has_peer = shutil.which("drat-trim") is not None
     if not has_peer:
         print("drat-trim is not there: verdicts are compared with all assignments alone")
-    verified, wrong = 0, 0
+    verified, wrong, kinds = 0, 0, {}
     with tempfile.TemporaryDirectory() as folder:
         for seed in range(arguments.seed, arguments.seed + arguments.count):
-            is_verified, fault = judge(program, folder, seed, has_peer)
+            is_verified, fault = judge(program, folder, seed, has_peer, kinds)
             verified += bool(is_verified)
             wrong += fault is not None
             if fault is not None:
                 print(f"seed {seed}: {fault}", flush=True)
     print(f"{arguments.count} proofs: {verified} verified, {arguments.count - verified} not; {wrong} wrong")
+    for kind, seeds in kinds.items():
+        print(f"{len(seeds)} differ as is known: {kind} (seeds {', '.join(map(str, seeds[:10]))}{' ..' if len(seeds) > 10 else ''})")
     return int(wrong > 0)

@@ -312,9 +312,9 @@ impl<W: ProofTarget, A: Allocator + Copy> Solver<W, A> {
         self.ctx.solver_config.max_steps()
     }
 
-    /// Sets how many steps a call of `solve` may make. Unlike `config` this is no change, since no user sees it: so the steps
-    /// since the last change are counted on.
-    pub(crate) fn set_max_steps(&mut self, max_steps: u64)
+    /// Sets how many steps a call of `solve` may make. Unlike `config` this is no change, so that the steps since the last
+    /// change are counted on: a search can be made in rounds of steps.
+    pub fn set_max_steps(&mut self, max_steps: u64)
         ensures { (s : State) → StandsFor self.old s → StandsFor self.new (with_max_steps max_steps s) }
     {
         let mut update = SolverConfigUpdate::new();

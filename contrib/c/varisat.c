@@ -1,5 +1,5 @@
 /* varisat.h over the proved library. This file is not proved: it refuses wrong arguments, keeps memory within a solver's limit, calls
- * back between rounds of steps, and keeps the lists that are told. */
+ * back between rounds of steps, and hands proofs on. It keeps no literal. */
 #define _POSIX_C_SOURCE 200809L
 #include "varisat.h"
 
@@ -36,13 +36,6 @@ static void *grow(void *old, size_t size) {
     return block + 1;
 }
 
-static void release(void *old) {
-    struct block *block = old ? (struct block *)old - 1 : NULL;
-    if (block && charged)
-        charged->used -= block->size;
-    free(block);
-}
-
 static struct tried tried(void *p) {
     static _Alignas(16) char none[16];
     return (struct tried){p != NULL, p ? p : none};
@@ -57,29 +50,23 @@ struct tried rattle_realloc(void *old, size_t kept, size_t size, size_t align) {
     return tried(grow(old, size ? size : align));
 }
 
-void rattle_dealloc(void *old) { release(old); }
+void rattle_dealloc(void *old) {
+    struct block *block = old ? (struct block *)old - 1 : NULL;
+    if (block && charged)
+        charged->used -= block->size;
+    free(block);
+}
 
 /* Solvers. */
 
 enum { MOST_STEPS = 1000, PIECE = 1 << 14, TEXT = 200 };
 
-/* Literals, in the order of their variables once they are all there. */
-struct list {
-    int32_t *numbers;
-    size_t count, room;
-    bool is_whole;
-};
-
 struct varisat {
     struct handle handle;
     struct account account, *outer;
-    uint64_t limit;
     atomic_int busy, interrupted;
     int error;
     char text[TEXT];
-    struct list clause, model, core, observed;
-    /* A literal of the clause that is being given found no room, so the clause must not be accepted. */
-    bool is_clause_lost;
     int (*terminate)(void *);
     void *terminate_data;
     int (*write)(void *, const void *, size_t);
@@ -137,15 +124,10 @@ static int enter(varisat *solver, bool is_right) {
     return is_right ? 0 : leave(solver, VARISAT_BAD_ARGUMENT);
 }
 
-/* Begins a call that changes the solver: what was told is over. */
+/* Begins a call that changes the solver. */
 static int enter_change(varisat *solver, bool is_right) {
     int refused = enter(solver, is_right);
-    if (refused)
-        return refused;
-    if (solver->proof_failed)
-        return leave(solver, VARISAT_INVALID);
-    solver->model.is_whole = solver->core.is_whole = solver->observed.is_whole = false;
-    return 0;
+    return !refused && solver->proof_failed ? leave(solver, VARISAT_INVALID) : refused;
 }
 
 /* Returns from a call that does not begin. */
@@ -182,7 +164,6 @@ varisat *varisat_new(size_t heap_limit) {
     if (!solver)
         return NULL;
     solver->account.limit = heap_limit ? heap_limit : SIZE_MAX;
-    solver->limit = UINT64_MAX;
     enter(solver, true);
     bool is_open = caller_open(&solver->handle);
     leave(solver, 0);
@@ -197,10 +178,6 @@ int varisat_free(varisat *solver) {
         return 0;
     BEGIN(enter(solver, true));
     caller_close(&solver->handle);
-    release(solver->clause.numbers);
-    release(solver->model.numbers);
-    release(solver->core.numbers);
-    release(solver->observed.numbers);
     charged = solver->outer;
     free(solver);
     return 0;
@@ -218,13 +195,9 @@ int varisat_is_valid(varisat *solver) {
 /* Clauses. */
 
 /* A slice that is never null. */
-static const int32_t *slice(const int32_t *numbers) {
+static const void *slice(const void *at) {
     static const int32_t none;
-    return numbers ? numbers : &none;
-}
-
-static const void *bytes(const void *bytes) {
-    return bytes ? bytes : "";
+    return at ? at : &none;
 }
 
 int varisat_add_clause(varisat *solver, const int32_t *literals, size_t count) {
@@ -243,41 +216,14 @@ int varisat_add_clauses(varisat *solver, const int32_t *numbers, size_t count) {
     return changed(solver, number);
 }
 
-/* Makes room for so many numbers. */
-static bool reserve(struct list *list, size_t room) {
-    if (room <= list->room)
-        return true;
-    if (room < 2 * list->room)
-        room = 2 * list->room;
-    int32_t *numbers = grow(list->numbers, room * sizeof *numbers);
-    if (!numbers)
-        return false;
-    list->numbers = numbers;
-    list->room = room;
-    return true;
-}
-
 int varisat_add(varisat *solver, int32_t literal) {
-    BEGIN(literal ? enter(solver, true) : enter_change(solver, true));
-    struct list *clause = &solver->clause;
-    if (literal) {
-        solver->is_clause_lost |= !reserve(clause, clause->count + 1);
-        if (!solver->is_clause_lost)
-            clause->numbers[clause->count++] = literal;
-        return leave(solver, solver->is_clause_lost ? VARISAT_OUT_OF_MEMORY : 0);
-    }
-    size_t count = clause->count;
-    bool is_lost = solver->is_clause_lost;
-    clause->count = 0;
-    solver->is_clause_lost = false;
-    if (is_lost)
-        return leave(solver, VARISAT_OUT_OF_MEMORY);
-    return changed(solver, caller_add_clause(&solver->handle, slice(clause->numbers), count));
+    BEGIN(enter_change(solver, true));
+    return changed(solver, caller_add(&solver->handle, literal));
 }
 
 int varisat_read_dimacs(varisat *solver, const char *piece, size_t size) {
     BEGIN(enter_change(solver, piece || !size));
-    return changed(solver, caller_feed(&solver->handle, bytes(piece), size));
+    return changed(solver, caller_feed(&solver->handle, slice(piece), size));
 }
 
 int varisat_end_dimacs(varisat *solver) {
@@ -301,8 +247,7 @@ int varisat_solve_steps(varisat *solver, uint64_t steps) {
     int answer = VARISAT_UNKNOWN;
     do {
         uint64_t round = steps < MOST_STEPS ? steps : MOST_STEPS;
-        if (round != solver->limit)
-            caller_limit_steps(&solver->handle, solver->limit = round);
+        caller_limit_steps(&solver->handle, round);
         uint8_t number = caller_solve(&solver->handle);
         /* 1: the round is over */
         answer = written(solver, number == 10 || number == 20 ? number : number == 1 ? VARISAT_UNKNOWN : -number);
@@ -330,71 +275,48 @@ int varisat_set_terminate(varisat *solver, int (*terminate)(void *data), void *d
 
 /* Lists that are told. */
 
-/* v before -v before the numbers of later variables */
-static int by_variable(const void *left, const void *right) {
-    int64_t a = *(const int32_t *)left, b = *(const int32_t *)right;
-    int64_t p = a < 0 ? -2 * a + 1 : 2 * a, q = b < 0 ? -2 * b + 1 : 2 * b;
-    return (p > q) - (p < q);
-}
-
-/* Keeps the list that the call of the library tells, until the next change. */
-static int keep(varisat *solver, struct list *list, uint8_t (*tell)(struct handle *)) {
-    if (list->is_whole)
-        return 0;
-    list->count = 0;
-    int number = solver->proof_failed ? -VARISAT_NOTHING : tell(&solver->handle);
+/* Ends a call that tells a list, by the library's number. */
+static int told(varisat *solver, int number, int32_t *numbers, size_t room) {
+    int32_t none;
     if (number)
-        return -number;
-    size_t count = caller_told_len(&solver->handle);
-    if (!reserve(list, count + 1))
-        return VARISAT_OUT_OF_MEMORY;
-    list->count = caller_told_copy(&solver->handle, list->numbers, count);
-    bool is_sorted = true;
-    for (size_t i = 1; i < list->count; i++) is_sorted &= by_variable(&list->numbers[i - 1], &list->numbers[i]) < 0;
-    if (!is_sorted)
-        qsort(list->numbers, list->count, sizeof *list->numbers, by_variable);
-    list->is_whole = true;
-    return 0;
+        return leave(solver, -number);
+    caller_told_copy(&solver->handle, numbers ? numbers : &none, room);
+    return leave(solver, (int)caller_told_len(&solver->handle));
 }
 
-static bool has(const struct list *list, int32_t literal) {
-    return bsearch(&literal, list->numbers, list->count, sizeof literal, by_variable);
+int varisat_model(varisat *solver, int32_t *literals, size_t room) {
+    BEGIN(enter(solver, literals || !room));
+    return told(solver, solver->proof_failed ? -VARISAT_NOTHING : caller_model(&solver->handle), literals, room);
 }
 
-/* Ends a call that tells the list. */
-static int tell(varisat *solver, int answer, const struct list *list, const int32_t **numbers, size_t *count) {
-    *numbers = list->numbers;
-    *count = answer ? 0 : list->count;
-    return leave(solver, answer);
+int varisat_failed_core(varisat *solver, int32_t *literals, size_t room) {
+    BEGIN(enter(solver, literals || !room));
+    return told(solver, solver->proof_failed ? -VARISAT_NOTHING : caller_core(&solver->handle), literals, room);
 }
 
-int varisat_model(varisat *solver, const int32_t **literals, size_t *count) {
-    BEGIN(enter(solver, literals && count));
-    return tell(solver, keep(solver, &solver->model, caller_model), &solver->model, literals, count);
+int varisat_observe_internal_vars(varisat *solver, int32_t *variables, size_t room) {
+    BEGIN(enter_change(solver, variables || !room));
+    return told(solver, caller_observe(&solver->handle), variables, room);
 }
 
-int varisat_failed_core(varisat *solver, const int32_t **literals, size_t *count) {
-    BEGIN(enter(solver, literals && count));
-    return tell(solver, keep(solver, &solver->core, caller_core), &solver->core, literals, count);
+int varisat_told(varisat *solver, int32_t *numbers, size_t room) {
+    BEGIN(enter(solver, numbers || !room));
+    return told(solver, 0, numbers, room);
 }
 
-int varisat_observe_internal_vars(varisat *solver, const int32_t **variables, size_t *count) {
-    BEGIN(enter_change(solver, variables && count));
-    return tell(solver, keep(solver, &solver->observed, caller_observe), &solver->observed, variables, count);
+/* Ends a call that looks a literal up, by the library's number: 0 and 1 are answers. */
+static int looked_up(varisat *solver, int number) {
+    return leave(solver, number > 1 ? -number : number);
 }
 
 int varisat_value(varisat *solver, int32_t literal) {
-    BEGIN(enter(solver, literal));
-    int refused = keep(solver, &solver->model, caller_model);
-    bool is_true = !refused && has(&solver->model, literal);
-    bool is_false = !refused && !is_true && literal != INT32_MIN && has(&solver->model, -literal);
-    return leave(solver, is_true || is_false ? is_true : refused ? refused : VARISAT_NOTHING);
+    BEGIN(enter(solver, true));
+    return looked_up(solver, solver->proof_failed ? -VARISAT_NOTHING : caller_value(&solver->handle, literal));
 }
 
 int varisat_is_failed(varisat *solver, int32_t literal) {
-    BEGIN(enter(solver, literal));
-    int refused = keep(solver, &solver->core, caller_core);
-    return leave(solver, refused ? refused : has(&solver->core, literal));
+    BEGIN(enter(solver, true));
+    return looked_up(solver, solver->proof_failed ? -VARISAT_NOTHING : caller_is_failed(&solver->handle, literal));
 }
 
 /* Variables. */
@@ -488,7 +410,7 @@ int varisat_check_proof(enum varisat_format format, const char *text, size_t tex
         return VARISAT_BAD_ARGUMENT;
     struct account *before = charged;
     charged = NULL;
-    uint8_t number = caller_check(format, bytes(text), text_size, bytes(proof), proof_size, place ? place : &unused);
+    uint8_t number = caller_check(format, slice(text), text_size, slice(proof), proof_size, place ? place : &unused);
     charged = before;
     return number == VARISAT_UNSATISFIABLE ? number : -number;
 }

@@ -4,7 +4,7 @@
  *
  * Each call that returns an int returns 0 or more, or one of the errors below, which are negative. After an error the solver is as
  * before, unless varisat_is_valid says that it is not: then each further call returns VARISAT_INVALID, and varisat_free alone is left.
- * A list that is told stays where it is until the next call of that solver.
+ * A call that tells a list copies as many of its numbers as there is room for, and returns how many there are.
  *
  * Threads: solvers share nothing. One call at a time uses a solver, from whatever thread; a second one is refused as VARISAT_BUSY, and
  * so is a call from within a callback of that solver. varisat_interrupt alone may be called at any time, also in a signal handler.
@@ -100,16 +100,19 @@ int varisat_interrupt(varisat *solver);
 int varisat_set_terminate(varisat *solver, int (*terminate)(void *data), void *data);
 
 /* The variables in use with their values, in their order, if the last thing that was found out is that there is a model. */
-int varisat_model(varisat *solver, const int32_t **literals, size_t *count);
+int varisat_model(varisat *solver, int32_t *literals, size_t room);
 
 /* Whether the literal is true in this model, 1 or 0. */
 int varisat_value(varisat *solver, int32_t literal);
 
-/* Some of the assumptions which fail together with the clauses, in the order of their variables, if the last thing that was found out is that they do. */
-int varisat_failed_core(varisat *solver, const int32_t **literals, size_t *count);
+/* Some of the assumptions which fail together with the clauses, if the last thing that was found out is that they do. */
+int varisat_failed_core(varisat *solver, int32_t *literals, size_t room);
 
 /* Whether the literal is one of this core, 1 or 0. */
 int varisat_is_failed(varisat *solver, int32_t literal);
+
+/* The list that was told last once more, as for one that was longer than its room. */
+int varisat_told(varisat *solver, int32_t *numbers, size_t room);
 
 /* Variables. */
 
@@ -124,7 +127,7 @@ int varisat_sample_var(varisat *solver, int32_t variable);
 int varisat_hide_var(varisat *solver, int32_t variable);
 
 /* Brings hidden variables back as witnesses, and tells their names. */
-int varisat_observe_internal_vars(varisat *solver, const int32_t **variables, size_t *count);
+int varisat_observe_internal_vars(varisat *solver, int32_t *variables, size_t room);
 
 /* Settings and counters. */
 
@@ -176,7 +179,9 @@ int varisat_close_proof(varisat *solver);
 int varisat_self_check(varisat *solver);
 
 /* Checks a proof against a DIMACS CNF text: VARISAT_UNSATISFIABLE where it refutes the text's clauses, VARISAT_UNKNOWN where all its
- * lines are right and refute nothing. Else *place is the step or the byte of the proof, or the line of the text, that is wrong. */
+ * lines are right and refute nothing. Else *place is the step or the byte of the proof, or the line of the text, that is wrong. DRAT may
+ * be another solver's: a clause may be RAT on any of its literals, and a deletion that finds no clause, or one by which a literal is
+ * implied, is passed over. */
 int varisat_check_proof(enum varisat_format format, const char *text, size_t text_size, const void *proof, size_t proof_size, uint64_t *place);
 
 /* IPASIR, the ten functions of ipasir.h, is in the library too. Why a solver that ipasir_init returned does nothing and answers 0 from

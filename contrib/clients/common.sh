@@ -31,7 +31,9 @@ need() {
 lists_of() { # RELEASE
   local lists=$work/apt-$1 site kind
   [ ! -e "$lists/updated" ] || return 0
+  # Where apt-get update was never run it knows no labels.
   site=$(apt-get indextargets --format '$(SITE)' 'Label: Debian' | head -n 1)
+  [ -n "$site" ] || site=$(apt-get indextargets --format '$(SITE)' | grep '/debian$' | head -n 1)
   mkdir -p "$lists"/{lists/partial,cache/archives/partial}
   : >"$lists/status"
   for kind in deb deb-src; do echo "$kind $site $1 main"; done >"$lists/sources.list"

@@ -17,8 +17,7 @@ __all__ = ["Solver", "Varisat", "VarisatError", "check_proof", "version"]
 __version__ = "1.0.0"
 
 _int, _size, _pointer, _text = ctypes.c_int, ctypes.c_size_t, ctypes.c_void_p, ctypes.c_char_p
-_numbers = ctypes.POINTER(ctypes.c_int32)
-_list = [_pointer, ctypes.POINTER(_numbers), ctypes.POINTER(_size)]
+_list = [_pointer, _pointer, _size]
 
 _UNKNOWN, _SAT, _UNSAT = 0, 10, 20
 _OUT_OF_MEMORY = -3
@@ -47,7 +46,7 @@ def _load() -> ctypes.CDLL:
         "add_clauses": (_int, [_pointer, _pointer, _size]), "assume": (_int, [_pointer, _pointer, _size]),
         "read_dimacs": (_int, [_pointer, _text, _size]), "end_dimacs": (_int, [_pointer]),
         "solve_steps": (_int, [_pointer, ctypes.c_uint64]), "interrupt": (_int, [_pointer]), "is_valid": (_int, [_pointer]),
-        "model": (_int, _list), "failed_core": (_int, _list), "observe_internal_vars": (_int, _list),
+        "model": (_int, _list), "failed_core": (_int, _list), "observe_internal_vars": (_int, _list), "told": (_int, _list),
         "new_var": (_int, [_pointer]), "witness_var": (_int, [_pointer, ctypes.c_int32]),
         "sample_var": (_int, [_pointer, ctypes.c_int32]), "hide_var": (_int, [_pointer, ctypes.c_int32]),
         "set": (_int, [_pointer, _int, ctypes.c_uint64]), "set_for_file": (_int, [_pointer]), "count": (ctypes.c_uint64, [_pointer, _int]),
@@ -77,8 +76,8 @@ class VarisatError(Exception):
 
 
 def check_proof(text: bytes, proof: bytes, format: str = "drat") -> bool:
-    """True where the proof refutes the clauses of the DIMACS text, False where its lines are right and refute nothing. Else a
-    VarisatError whose `place` is the step or byte that is wrong."""
+    """True where the proof, of whatever solver, refutes the clauses of the DIMACS text, False where its lines are right and refute
+    nothing. Else a VarisatError whose `place` is the step or byte that is wrong."""
     place = ctypes.c_uint64()
     answer = _lib.varisat_check_proof(_FORMATS[format], text, len(text), proof, len(proof), ctypes.byref(place))
     if answer >= 0:
@@ -212,9 +211,10 @@ class Solver:
         return self._status
 
     def _told(self, tell: Callable[..., int]) -> List[int]:
-        literals, count = _numbers(), _size()
-        self._done(tell(self._solver, ctypes.byref(literals), ctypes.byref(count)))
-        return literals[: count.value]
+        count = self._done(tell(self._solver, None, 0))
+        literals = (ctypes.c_int32 * count)()
+        self._done(_lib.varisat_told(self._solver, literals, count))
+        return list(literals)
 
     def get_model(self) -> Optional[List[int]]:
         """After True: the variables in use with their values."""

@@ -10,11 +10,12 @@
 #define CHECK(it) ((it) ? (void)0 : (printf("%s:%d: %s\n", __FILE__, __LINE__, #it), exit(1)))
 #define LITS(...) (const int32_t[]){__VA_ARGS__}, sizeof((int32_t[]){__VA_ARGS__}) / sizeof(int32_t)
 
-static const int32_t *list;
-static size_t count;
+enum { ROOM = 8 };
+static int32_t list[ROOM];
 
-static int is_list(size_t size, const int32_t *want) {
-    return count == size && (!size || !memcmp(list, want, size * sizeof *want));
+/* Whether the list has just these numbers: told counts it. */
+static int is_list(int told, int size, const int32_t *want) {
+    return told == size && !memcmp(list, want, (size_t)size * sizeof *want);
 }
 
 /* n pigeons in n - 1 holes */
@@ -33,19 +34,39 @@ static void right_calls(void) {
     CHECK(varisat_is_valid(s) == 1 && varisat_error(s) == 0 && !strcmp(varisat_error_text(s), ""));
     CHECK(varisat_add_clauses(s, LITS(1, 2, 0, -1, 2, 0)) == 0);
     CHECK(varisat_solve(s) == VARISAT_SATISFIABLE);
-    CHECK(varisat_model(s, &list, &count) == 0 && is_list(2, (int32_t[]){-1, 2}));
+    CHECK(is_list(varisat_model(s, list, ROOM), 2, (int32_t[]){-1, 2}));
     CHECK(varisat_value(s, 2) == 1 && varisat_value(s, -2) == 0 && varisat_value(s, -1) == 1);
     CHECK(varisat_value(s, 3) == VARISAT_NOTHING);
     CHECK(varisat_assume(s, LITS(1, -2)) == 0);
     CHECK(varisat_solve(s) == VARISAT_UNSATISFIABLE);
-    CHECK(varisat_failed_core(s, &list, &count) == 0 && count >= 1 && varisat_is_failed(s, -2) == 1 && varisat_is_failed(s, 2) == 0);
-    CHECK(varisat_model(s, &list, &count) == VARISAT_NOTHING && count == 0);
+    CHECK(varisat_failed_core(s, list, ROOM) >= 1 && varisat_is_failed(s, -2) == 1 && varisat_is_failed(s, 2) == 0);
+    CHECK(varisat_model(s, list, ROOM) == VARISAT_NOTHING);
     CHECK(varisat_value(s, 1) == VARISAT_NOTHING);
     CHECK(varisat_assume(s, NULL, 0) == 0 && varisat_solve(s) == VARISAT_SATISFIABLE);
-    CHECK(varisat_failed_core(s, &list, &count) == VARISAT_NOTHING && varisat_is_failed(s, 1) == VARISAT_NOTHING);
+    CHECK(varisat_failed_core(s, list, ROOM) == VARISAT_NOTHING && varisat_is_failed(s, 1) == VARISAT_NOTHING);
     CHECK(varisat_new_var(s) == 3);
     CHECK(varisat_add_clause(s, NULL, 0) == 0 && varisat_solve(s) == VARISAT_UNSATISFIABLE);
-    CHECK(varisat_failed_core(s, &list, &count) == 0 && count == 0);
+    CHECK(varisat_failed_core(s, list, ROOM) == 0 && varisat_is_failed(s, 1) == 0);
+    CHECK(varisat_free(s) == 0);
+}
+
+/* Lists that are longer than the room for them, and look-ups behind each kind of change. */
+static void lists(void) {
+    varisat *s = varisat_new(0);
+    CHECK(varisat_told(s, list, ROOM) == 0);
+    CHECK(varisat_add_clauses(s, LITS(1, 0, -2, 0, 3, 0)) == 0 && varisat_solve(s) == VARISAT_SATISFIABLE);
+    list[1] = 99;
+    CHECK(varisat_model(s, list, 1) == 3 && list[0] == 1 && list[1] == 99);
+    CHECK(varisat_model(s, NULL, 0) == 3 && is_list(varisat_told(s, list, ROOM), 3, (int32_t[]){1, -2, 3}));
+    CHECK(varisat_value(s, 3) == 1 && varisat_add_clause(s, LITS(4)) == 0 && varisat_value(s, 3) == VARISAT_NOTHING);
+    CHECK(varisat_solve(s) == VARISAT_SATISFIABLE && varisat_value(s, 4) == 1 && varisat_value(s, -4) == 0);
+    CHECK(varisat_add(s, -5) == 0 && varisat_value(s, 4) == 1 && varisat_add(s, 0) == 0 && varisat_value(s, 4) == VARISAT_NOTHING);
+    CHECK(varisat_solve(s) == VARISAT_SATISFIABLE && varisat_value(s, 5) == 0);
+    CHECK(varisat_new_var(s) == 6 && varisat_value(s, 6) >= 0 && varisat_hide_var(s, 6) == 0 && varisat_value(s, 6) == VARISAT_NOTHING);
+    CHECK(varisat_assume(s, LITS(5, 2)) == 0 && varisat_value(s, 5) == VARISAT_NOTHING && varisat_is_failed(s, 5) == VARISAT_NOTHING);
+    CHECK(varisat_solve(s) == VARISAT_UNSATISFIABLE && varisat_is_failed(s, 5) + varisat_is_failed(s, 2) >= 1);
+    CHECK(varisat_is_failed(s, -5) == 0 && varisat_is_failed(s, 7) == 0 && varisat_value(s, 5) == VARISAT_NOTHING);
+    CHECK(varisat_assume(s, NULL, 0) == 0 && varisat_is_failed(s, 5) == VARISAT_NOTHING);
     CHECK(varisat_free(s) == 0);
 }
 
@@ -55,8 +76,8 @@ static void modes(void) {
     CHECK(varisat_hide_var(s, 2) == 0);
     CHECK(varisat_add_clause(s, LITS(-2)) == 0);
     CHECK(varisat_solve(s) == VARISAT_SATISFIABLE);
-    CHECK(varisat_model(s, &list, &count) == 0 && count == 2 && list[1] == -2);
-    CHECK(varisat_observe_internal_vars(s, &list, &count) == 0 && is_list(1, (int32_t[]){3}));
+    CHECK(varisat_model(s, list, ROOM) == 2 && list[1] == -2);
+    CHECK(is_list(varisat_observe_internal_vars(s, list, ROOM), 1, (int32_t[]){3}));
     CHECK(varisat_add_clause(s, LITS(3)) == VARISAT_WITNESS_VAR && strstr(varisat_error_text(s), "3"));
     CHECK(varisat_sample_var(s, 3) == 0 && varisat_add_clause(s, LITS(-3)) == 0);
     CHECK(varisat_solve(s) == VARISAT_SATISFIABLE && varisat_value(s, 1) == 1);
@@ -69,7 +90,7 @@ static void modes(void) {
 static void wrong_calls(void) {
     const int32_t one[] = {1};
     CHECK(varisat_add(NULL, 1) == VARISAT_BAD_ARGUMENT && varisat_solve(NULL) == VARISAT_BAD_ARGUMENT && varisat_free(NULL) == 0);
-    CHECK(varisat_model(NULL, &list, &count) == VARISAT_BAD_ARGUMENT && varisat_interrupt(NULL) == VARISAT_BAD_ARGUMENT);
+    CHECK(varisat_model(NULL, list, ROOM) == VARISAT_BAD_ARGUMENT && varisat_interrupt(NULL) == VARISAT_BAD_ARGUMENT);
     CHECK(varisat_error(NULL) == VARISAT_BAD_ARGUMENT && varisat_count(NULL, VARISAT_STEPS) == 0);
     varisat *s = varisat_new(0);
     CHECK(varisat_add_clause(s, LITS(1, 0, 2)) == VARISAT_BAD_ARGUMENT);
@@ -78,7 +99,7 @@ static void wrong_calls(void) {
     CHECK(varisat_add_clauses(s, one, 1) == VARISAT_BAD_ARGUMENT && varisat_assume(s, LITS(0)) == VARISAT_BAD_ARGUMENT);
     CHECK(varisat_value(s, 0) == VARISAT_BAD_ARGUMENT && varisat_is_failed(s, 0) == VARISAT_BAD_ARGUMENT);
     CHECK(varisat_value(s, 1) == VARISAT_NOTHING && varisat_is_failed(s, 1) == VARISAT_NOTHING);
-    CHECK(varisat_model(s, NULL, &count) == VARISAT_BAD_ARGUMENT && varisat_model(s, &list, NULL) == VARISAT_BAD_ARGUMENT);
+    CHECK(varisat_model(s, NULL, 1) == VARISAT_BAD_ARGUMENT && varisat_told(s, NULL, 1) == VARISAT_BAD_ARGUMENT);
     CHECK(varisat_hide_var(s, 0) == VARISAT_BAD_ARGUMENT && varisat_witness_var(s, -1) == VARISAT_BAD_ARGUMENT);
     CHECK(varisat_set(s, 99, 1) == VARISAT_BAD_ARGUMENT && varisat_set(s, VARISAT_VSIDS_DECAY, 10) == VARISAT_OUT_OF_RANGE);
     CHECK(strstr(varisat_error_text(s), "vsids_decay"));
@@ -158,6 +179,13 @@ static void proofs(void) {
         CHECK(varisat_free(s) == 0);
     }
     CHECK(varisat_check_proof(VARISAT_DRAT, NULL, 0, NULL, 0, NULL) == VARISAT_UNKNOWN);
+    /* Lines of a solver that simplifies: the first is RAT on a new literal, the next deletes no clause. The second of the other proof
+     * neither follows nor is RAT. */
+    const char *square = "1 2 0 -1 2 0 1 -2 0 -1 -2 0", *rat = "3 4 0\nd 5 6 0\n2 0\n0\n", *wrong = "3 4 0\n-3 0\n0\n";
+    CHECK(varisat_check_proof(VARISAT_DRAT, square, strlen(square), rat, strlen(rat), &place) == VARISAT_UNSATISFIABLE);
+    CHECK(varisat_check_proof(VARISAT_DRAT, "1 2 0", 5, rat, 6, &place) == VARISAT_UNKNOWN);
+    CHECK(varisat_check_proof(VARISAT_DRAT, "1 2 0", 5, wrong, strlen(wrong), &place) == VARISAT_WRONG_PROOF && place == 2);
+    CHECK(varisat_check_proof(VARISAT_MARKED, square, strlen(square), rat, strlen(rat), &place) == VARISAT_WRONG_PROOF && place == 1);
     CHECK(varisat_check_proof(VARISAT_DRAT, NULL, 4, NULL, 0, NULL) == VARISAT_BAD_ARGUMENT);
     /* what takes the proof fails */
     varisat *s = varisat_new(0);
@@ -271,6 +299,6 @@ static void checking(void) {
 }
 
 int main(void) {
-    right_calls(), modes(), wrong_calls(), texts(), proofs(), heaps(), interrupts(), threads(), checking();
+    right_calls(), lists(), modes(), wrong_calls(), texts(), proofs(), heaps(), interrupts(), threads(), checking();
     puts("all passed");
 }

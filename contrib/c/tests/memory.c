@@ -39,16 +39,16 @@ static int is_there(int answer, int want) {
 
 /* Whether all calls came to their answers. */
 static int is_answered(varisat *solver, size_t *bytes) {
-    const int32_t *list, rules[] = {-1, 2, 0, -2, -3, 0, 1, 3, 0}, both[] = {1, 3}, none[] = {-1, -3};
-    size_t count;
+    int32_t list[8];
+    const int32_t rules[] = {-1, 2, 0, -2, -3, 0, 1, 3, 0}, both[] = {1, 3}, none[] = {-1, -3};
     int all = is_there(varisat_write_proof(solver, VARISAT_MARKED, take, bytes), 0);
     all &= is_there(varisat_read_dimacs(solver, "4 5 0\n-4 5", 10), 0) && is_there(varisat_read_dimacs(solver, " 0\n", 3), 0);
     if (all) all &= is_there(varisat_end_dimacs(solver), 5);
     if (all) all &= is_there(varisat_add_clauses(solver, rules, 9), 0);
     if (all) all &= is_there(varisat_assume(solver, both, 2), 0) && is_there(varisat_solve(solver), VARISAT_UNSATISFIABLE);
-    if (all) all &= is_there(varisat_failed_core(solver, &list, &count), 0) && is_there(varisat_is_failed(solver, 1), 1);
+    if (all) all &= is_there(varisat_failed_core(solver, list, 8), 2) && is_there(varisat_is_failed(solver, 1), 1);
     if (all) all &= is_there(varisat_assume(solver, NULL, 0), 0) && is_there(varisat_solve(solver), VARISAT_SATISFIABLE);
-    if (all) all &= is_there(varisat_model(solver, &list, &count), 0) && is_there(varisat_value(solver, 5), 1);
+    if (all) all &= is_there(varisat_model(solver, list, 8), 5) && is_there(varisat_value(solver, 5), 1);
     if (all) all &= is_there(varisat_new_var(solver), 6) && is_there(varisat_hide_var(solver, 6), 0);
     if (all) all &= is_there(varisat_add(solver, 1), 0) && is_there(varisat_add(solver, 0), 0);
     if (all) all &= is_there(varisat_assume(solver, none, 2), 0) && is_there(varisat_solve(solver), VARISAT_UNSATISFIABLE);

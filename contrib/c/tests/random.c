@@ -6,7 +6,7 @@
 
 #define CHECK(it) ((it) ? (void)0 : (printf("%s:%d: round %ld: %s\n", __FILE__, __LINE__, round_number, #it), exit(1)))
 
-enum { MOST_VARIABLES = 10, MOST_CLAUSES = 80, MOST_LITERALS = 4, MOST_ASSUMED = 4, TURNS = 12 };
+enum { MOST_VARIABLES = 10, MOST_CLAUSES = 80, MOST_LITERALS = 4, MOST_ASSUMED = 4, TURNS = 12, ROOM = 16 };
 
 struct clause {
     int32_t literals[MOST_LITERALS];
@@ -54,31 +54,36 @@ static int is_satisfiable(int variables, const int32_t *literals, size_t count) 
 }
 
 static void check_model(varisat *solver, int variables) {
-    const int32_t *model;
-    size_t count;
+    int32_t model[ROOM];
     unsigned values = 0;
-    CHECK(varisat_model(solver, &model, &count) == 0);
-    for (size_t i = 0; i < count; i++) {
+    int count = varisat_model(solver, model, ROOM);
+    CHECK(count >= 0 && count <= ROOM);
+    for (int i = 0; i < count; i++) {
         CHECK(i == 0 || abs(model[i - 1]) < abs(model[i]));
         CHECK(varisat_value(solver, model[i]) == 1 && varisat_value(solver, -model[i]) == 0);
         if (abs(model[i]) <= variables && model[i] > 0) values |= 1u << (model[i] - 1);
     }
     CHECK(satisfies(values));
     for (size_t i = 0; i < assumed.count; i++) CHECK(is_true(values, assumed.literals[i]));
-    CHECK(varisat_failed_core(solver, &model, &count) == VARISAT_NOTHING && count == 0);
+    CHECK(varisat_failed_core(solver, model, ROOM) == VARISAT_NOTHING);
 }
 
 static void check_core(varisat *solver, int variables) {
-    const int32_t *core;
-    size_t count;
-    CHECK(varisat_failed_core(solver, &core, &count) == 0);
-    for (size_t i = 0; i < count; i++) {
+    int32_t core[ROOM];
+    int count = varisat_failed_core(solver, core, ROOM);
+    CHECK(count >= 0 && count <= ROOM);
+    for (int i = 0; i < count; i++) {
         int is_assumed = 0;
         for (size_t j = 0; j < assumed.count; j++) is_assumed |= assumed.literals[j] == core[i];
         CHECK(is_assumed && varisat_is_failed(solver, core[i]) == 1);
     }
-    CHECK(!is_satisfiable(variables, core, count));
-    CHECK(varisat_model(solver, &core, &count) == VARISAT_NOTHING && count == 0);
+    for (size_t j = 0; j < assumed.count; j++) {
+        int is_in = 0;
+        for (int i = 0; i < count; i++) is_in |= assumed.literals[j] == core[i];
+        CHECK(varisat_is_failed(solver, assumed.literals[j]) == is_in);
+    }
+    CHECK(!is_satisfiable(variables, core, (size_t)count));
+    CHECK(varisat_model(solver, core, ROOM) == VARISAT_NOTHING);
 }
 
 /* Gives the clause in one of three ways. */

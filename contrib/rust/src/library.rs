@@ -1,11 +1,11 @@
 //! The C library, `varisat.h`, as a type. All that is unsafe in this crate stands here: pointers to the solver are never null, a slice is
-//! passed with its length, a list that is told is copied before the next call, and a writer stays where it is while a proof is open.
+//! passed with its length, and a writer stays where it is while a proof is open.
 #![allow(unsafe_code)]
 
 use std::ffi::{c_char, c_int, c_void, CStr};
 use std::io::{self, Write};
 use std::panic::{catch_unwind, AssertUnwindSafe};
-use std::ptr::{null, NonNull};
+use std::ptr::{null_mut, NonNull};
 
 pub const SATISFIABLE: c_int = 10;
 pub const UNSATISFIABLE: c_int = 20;
@@ -22,7 +22,7 @@ struct Opaque {
 }
 
 type Handle = *mut Opaque;
-type Tell = unsafe extern "C" fn(Handle, *mut *const i32, *mut usize) -> c_int;
+type Tell = unsafe extern "C" fn(Handle, *mut i32, usize) -> c_int;
 type Take = unsafe extern "C" fn(*mut c_void, *const c_void, usize) -> c_int;
 
 extern "C" {
@@ -32,13 +32,14 @@ extern "C" {
     fn varisat_add_clause(solver: Handle, literals: *const i32, count: usize) -> c_int;
     fn varisat_assume(solver: Handle, literals: *const i32, count: usize) -> c_int;
     fn varisat_solve(solver: Handle) -> c_int;
-    fn varisat_model(solver: Handle, literals: *mut *const i32, count: *mut usize) -> c_int;
-    fn varisat_failed_core(solver: Handle, literals: *mut *const i32, count: *mut usize) -> c_int;
+    fn varisat_model(solver: Handle, literals: *mut i32, room: usize) -> c_int;
+    fn varisat_failed_core(solver: Handle, literals: *mut i32, room: usize) -> c_int;
     fn varisat_new_var(solver: Handle) -> c_int;
     fn varisat_witness_var(solver: Handle, variable: i32) -> c_int;
     fn varisat_sample_var(solver: Handle, variable: i32) -> c_int;
     fn varisat_hide_var(solver: Handle, variable: i32) -> c_int;
-    fn varisat_observe_internal_vars(solver: Handle, variables: *mut *const i32, count: *mut usize) -> c_int;
+    fn varisat_observe_internal_vars(solver: Handle, variables: *mut i32, room: usize) -> c_int;
+    fn varisat_told(solver: Handle, numbers: *mut i32, room: usize) -> c_int;
     fn varisat_set(solver: Handle, setting: c_int, value: u64) -> c_int;
     fn varisat_write_proof(solver: Handle, format: c_int, take: Option<Take>, data: *mut c_void) -> c_int;
     fn varisat_close_proof(solver: Handle) -> c_int;
@@ -119,10 +120,10 @@ impl<'a> Library<'a> {
 
     /// The list that a call tells, or why it tells none.
     fn list(&self, tell: Tell) -> Result<Vec<i32>, c_int> {
-        let (mut numbers, mut count) = (null(), 0);
-        match unsafe { tell(self.at.as_ptr(), &mut numbers, &mut count) } {
-            0 if count == 0 => Ok(vec![]),
-            0 => Ok(unsafe { std::slice::from_raw_parts(numbers, count) }.to_vec()),
+        let count = unsafe { tell(self.at.as_ptr(), null_mut(), 0) };
+        let mut numbers = vec![0; usize::try_from(count).map_err(|_| count)?];
+        match unsafe { varisat_told(self.at.as_ptr(), numbers.as_mut_ptr(), numbers.len()) } {
+            0.. => Ok(numbers),
             answer => Err(answer),
         }
     }

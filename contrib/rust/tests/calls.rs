@@ -28,7 +28,7 @@ fn models_and_cores() {
     assert_eq!(solver.model(), Some(lits(&[1, 2, -3])));
     solver.assume(&lits(&[1, 3]));
     assert!(!solver.solve().unwrap());
-    assert_eq!(solver.failed_core(), Some(&lits(&[1, 3])[..]));
+    assert_eq!(solver.failed_core(), Some(&lits(&[3, 1])[..]));
     solver.assume(&[]);
     assert!(solver.solve().unwrap() && solver.failed_core().is_none());
     let z = solver.new_var();

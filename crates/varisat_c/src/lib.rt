@@ -6,9 +6,9 @@ ghost use Rattle.std.specs.Prelude.{◌≡◌, ◌↔◌, ◌≤◌, min, length
 ghost use Rattle.varisat_solver.specs.Summaries.{StandsOnce};
 ghost use Rattle.varisat_solver.specs.Calls.{AddsClause, Assumes, TellsList, TellsSteps, TellsValid, calling};
 ghost use Rattle.varisat_solver.specs.ProofCalls.{EnablesChecking};
-ghost use Rattle.varisat_names.specs.declared.config.ConfigField.TheVariants.{MaxSteps};
 ghost use Rattle.varisat_calls.specs.Codes.{field_numbered, format_numbered, mode_numbered};
-ghost use Rattle.varisat_calls.specs.Callers.{IsNew, MakesNumbered, MakesOver, Searches, SetsField, SetsMode, TellsOf, Shows, Opens, Closes};
+ghost use Rattle.varisat_calls.specs.Callers.{IsNew, MakesNumbered, MakesOver, AddsNumber, LimitsSteps, Searches, SetsField, SetsMode, TellsOf, Shows, Opens, Closes};
+ghost use Rattle.varisat_calls.specs.Lookups.{TellsValue, TellsFailed};
 ghost use Rattle.varisat_calls.specs.Texts.{Feeds, IsRefutedText};
 ghost use Rattle.varisat_c.specs.Codes.{NamesBy, EndsBy};
 ghost use Rattle.varisat_c.specs.Handles.{MovesHeld, TellsHeld, IsSatisfiableNow, IsUnsatisfiableNow};
@@ -90,6 +90,18 @@ pub extern "C" fn caller_add_clause(alloc: Global, handle: &mut Handle, numbers:
     answer
 }
 
+/// Puts the literal of the number behind the clause that is being given, or accepts that clause where the number is 0.
+#[unsafe(no_mangle)]
+pub extern "C" fn caller_add(alloc: Global, handle: &mut Handle, number: i32) -> u8
+    requires { IsSome handle.old.held }
+    ensures { MovesHeld (λ g h. AddsNumber number g result h) handle.old.held handle.new.held }
+{
+    let mut caller = handle.take(alloc);
+    let answer = caller.add(number);
+    handle.put(alloc, caller);
+    answer
+}
+
 /// Accepts the clauses that end in the next piece of a DIMACS text.
 #[unsafe(no_mangle)]
 pub extern "C" fn caller_feed(alloc: Global, handle: &mut Handle, piece: &[u8]) -> u8
@@ -128,14 +140,13 @@ pub extern "C" fn caller_assume(alloc: Global, handle: &mut Handle, numbers: &[i
 
 /// How many steps each call of `caller_solve` may make.
 #[unsafe(no_mangle)]
-pub extern "C" fn caller_limit_steps(alloc: Global, handle: &mut Handle, steps: u64) -> u8
+pub extern "C" fn caller_limit_steps(alloc: Global, handle: &mut Handle, steps: u64)
     requires { IsSome handle.old.held }
-    ensures { MovesHeld (λ g h. SetsField (Some MaxSteps) steps g result h) handle.old.held handle.new.held }
+    ensures { MovesHeld (LimitsSteps steps) handle.old.held handle.new.held }
 {
     let mut caller = handle.take(alloc);
-    let answer = caller.limit_steps(steps);
+    caller.limit_steps(steps);
     handle.put(alloc, caller);
-    answer
 }
 
 /// Searches: 10 where the clauses are satisfiable under the assumptions, 20 where they are not, or the number of a refusal.
@@ -196,6 +207,31 @@ pub extern "C" fn caller_core(alloc: Global, handle: &mut Handle) -> u8
 {
     let mut caller = handle.take(alloc);
     let answer = caller.core();
+    handle.put(alloc, caller);
+    answer
+}
+
+/// 1 where the literal of the number is true in the model, 0 where it is false, 15 where there is no model or it has no such
+/// variable.
+#[unsafe(no_mangle)]
+pub extern "C" fn caller_value(alloc: Global, handle: &mut Handle, number: i32) -> u8
+    requires { IsSome handle.old.held }
+    ensures { MovesHeld (λ g h. TellsValue number g result h) handle.old.held handle.new.held }
+{
+    let mut caller = handle.take(alloc);
+    let answer = caller.value(number);
+    handle.put(alloc, caller);
+    answer
+}
+
+/// 1 where the literal of the number is one of the core, 0 where it is not, 15 where there is no core.
+#[unsafe(no_mangle)]
+pub extern "C" fn caller_is_failed(alloc: Global, handle: &mut Handle, number: i32) -> u8
+    requires { IsSome handle.old.held }
+    ensures { MovesHeld (λ g h. TellsFailed number g result h) handle.old.held handle.new.held }
+{
+    let mut caller = handle.take(alloc);
+    let answer = caller.is_failed(number);
     handle.put(alloc, caller);
     answer
 }

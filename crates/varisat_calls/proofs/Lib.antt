@@ -1,3 +1,5 @@
 pub mod Making
 pub mod Checking
 pub mod Reading
+pub mod Adding
+pub mod Looking

@@ -1,7 +1,7 @@
 -- What a caller holds, and what the number of a call's answer says: the relation that the call of `Solver` has, over the literals of
 -- the numbers given. Numbers of answers are 0, those of the solver's refusals, 14 where what was given is none of what it should be,
 -- and 15 where there is nothing to tell.
-use Rattle.std.specs.Prelude.{◌≡◌, ◌⊎◌, ℕ, ℤ, pos, ◌<ℤ◌, ◌≤ℤ◌, Bool, Option, Some, None, List, [], Result, Ok, Err, map}
+use Rattle.std.specs.Prelude.{◌≡◌, ◌⊎◌, ℕ, ℤ, pos, ◌<ℤ◌, ◌≤ℤ◌, Bool, true, false, Option, Some, None, List, [], ◌∷◌, ◌++◌, Result, Ok, Err, map}
 use Rattle.std.specs.declared.alloc.AllocError.{AllocError}
 use Rattle.varisat_theory.specs.Membership.{◌∈◌}
 use Rattle.varisat_theory.specs.Literals.{Literal}
@@ -15,22 +15,30 @@ use Rattle.varisat_proof.specs.declared.proof.format.ProofFormat.{ProofFormat}
 use Rattle.varisat_solver.specs.States.{State, empty_state}
 use Rattle.varisat_solver.specs.Summaries.{Summary, StandsFor, StandsOnce}
 use Rattle.varisat_solver.specs.Refusals.{refusal_number}
-use Rattle.varisat_solver.specs.Calls.{Solves, Configures, MakesVar, calling}
+use Rattle.varisat_solver.specs.Calls.{AddsClause, Solves, Configures, MakesVar, with_max_steps, calling}
 use Rattle.varisat_solver.specs.Usage.{ChangesMode, Observes}
 use Rattle.varisat_solver.specs.ProofCalls.{OpensProof, ClosesProof}
 use Rattle.varisat_solver.specs.declared.solver.SolverError.{SolverError}
 use Rattle.varisat_calls.specs.Numbers.{told_numbers, told_names}
 use Rattle.varisat_calls.specs.Codes.{answer_number, verdict_number, numbered}
 
--- The solver; the numbers of the list that was told last; and how far the DIMACS text came that is being given, if one is.
+-- The solver; what was given of the clause that is given a literal at a time, unless one of its literals found no memory; the numbers
+-- of the list that was told last; and how far the DIMACS text came that is being given, if one is.
 pub record Caller : Type 0 where
   pub solver : Summary
+  pub clause : Option (List Literal)
   pub told : List ℤ
   pub text : Option Progress
+
+-- the clause, unless a literal of it is lost
+abbrev pub clause_of : Bool → List Literal → Option (List Literal)
+clause_of true c = None
+clause_of false c = Some c
 
 -- a caller of a new solver, to which nothing was told yet
 pub record IsNew (g : Caller) : Type 0 where
   pub solver : StandsFor g.solver empty_state
+  pub clause : g.clause ≡ Some []
   pub told : g.told ≡ []
   pub text : g.text ≡ None
 
@@ -61,6 +69,25 @@ pub data MakesOver (numbers : List ℤ) (R : State → List Literal → Answer �
   Zero : pos 0 ∈ numbers → IsWrong g n h → MakesOver numbers R g n h
   NoRoom : n ≡ 3 → h ≡ g → MakesOver numbers R g n h
   Made : (pos 0 ∈ numbers → ⊥) → MakesNumbered (over numbers R) g n h → MakesOver numbers R g n h
+
+-- The caller gives this clause, and then none: what is given next is another one.
+abbrev pub with_clause : Option (List Literal) → Caller → Caller
+with_clause c g = record g { clause = c }
+
+-- A number that is not 0 is put behind the clause that is given a literal at a time, and 0 ends it, as which the solver is given it.
+-- It is 3 where a literal found no memory; then the whole clause is refused at its end.
+pub data AddsNumber (number : ℤ) (g : Caller) (n : ℕ) (h : Caller) : Type 0 where
+  Put : (c : List Literal) → (number ≡ pos 0 → ⊥) → g.clause ≡ Some c → n ≡ 0 →
+      h ≡ with_clause (Some (c ++ literal_numbered number ∷ [])) g → AddsNumber number g n h
+  Lost : (number ≡ pos 0 → ⊥) → n ≡ 3 → h ≡ with_clause None g → AddsNumber number g n h
+  Ended : (c : List Literal) → number ≡ pos 0 → g.clause ≡ Some c →
+      MakesNumbered (λ s r t. AddsClause s c r t) (with_clause (Some []) g) n h → AddsNumber number g n h
+  Dropped : number ≡ pos 0 → g.clause ≡ None → n ≡ 3 → h ≡ with_clause (Some []) g → AddsNumber number g n h
+
+-- A call of `solve` may make so many steps. The steps since the last change are counted on.
+pub record LimitsSteps (steps : ℕ) (g h : Caller) : Type 0 where
+  pub call : StandsOnce g.solver (λ s t. t ≡ with_max_steps steps s) h.solver
+  pub rest : h ≡ record g { solver = h.solver }
 
 -- the solver searched
 abbrev pub Searches : Caller → ℕ → Caller → Type 0

@@ -2,3 +2,4 @@ pub mod Numbers
 pub mod Codes
 pub mod Callers
 pub mod Texts
+pub mod Lookups

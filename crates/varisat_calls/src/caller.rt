@@ -5,14 +5,15 @@ ghost use Rattle.varisat_solver.specs.Refusals.{refusal_number};
 ghost use Rattle.varisat_calls.specs.Codes.{answer_number};
 
 use crate::codes::{DONE, NOTHING, WRONG, field_of, format_of, mode_of};
-use crate::numbers::{read_numbers, tell_names, tell_numbers};
+use crate::lookups::Lookups;
+use crate::numbers::{literal_of, put_number, read_numbers, tell_names, tell_numbers};
 use crate::stream::{self, Lines, StreamTarget};
 use std::alloc::Allocator;
 use std::marker::Model;
 use std::string::String;
 use varisat_formula::dimacs::DimacsParser;
 use varisat_literals::{Lit, Var};
-use varisat_names::config::{ConfigField, SolverConfigUpdate};
+use varisat_names::config::SolverConfigUpdate;
 use varisat_names::variables::SamplingMode;
 use varisat_solver::Solver;
 use varisat_solver::solver::SolverError;
@@ -30,8 +31,12 @@ fn variable_of(number: i32) -> Var
 pub struct Caller<A: Allocator + Copy> {
     alloc: A,
     solver: Solver<StreamTarget<A>, A>,
-    // The literals of the clause or the assumptions that are being given.
+    // The clause that is given a literal at a time, and whether one of its literals found no memory.
+    clause: Vec<Lit, A>,
+    is_lost: bool,
+    // The literals of the clause or the assumptions that are given at once.
     given: Vec<Lit, A>,
+    lookups: Lookups<A>,
     // The list that was told last.
     told: Vec<i32, A>,
     // The DIMACS text that is being given, if one is.
@@ -45,24 +50,31 @@ pub struct Caller<A: Allocator + Copy> {
 
 impl<A: Allocator + Copy> Model for Caller<A> {
     ghost use Rattle.varisat_calls.specs.Callers as callers;
+    ghost use Rattle.varisat_calls.specs.Lookups.{IsKept};
 
     ghost Value = { callers.Caller };
 
-    ghost view = { λ c. record { solver = c.solver; told = c.told.items; text = c.text } };
+    ghost view = { λ c. record {
+      solver = c.solver;
+      clause = callers.clause_of c.is_lost c.clause.items;
+      told = c.told.items;
+      text = c.text;
+    } };
+
+    ghost invariant = { λ c. IsKept c.lookups c.solver };
 }
 
 impl<A: Allocator + Copy> Caller<A> {
     ghost use Rattle.std.specs.Prelude.{Ok, Err};
     ghost use Rattle.varisat_solver.specs.States.{State};
     ghost use Rattle.varisat_solver.specs.Summaries.{StandsFor, StandsOnce};
-    ghost use Rattle.varisat_solver.specs.Calls.{AddsClause, Assumes, Configures, TellsList, TellsSteps, TellsValid, calling};
+    ghost use Rattle.varisat_solver.specs.Calls.{AddsClause, Assumes, TellsList, TellsSteps, TellsValid, calling};
     ghost use Rattle.varisat_solver.specs.ProofCalls.{EnablesChecking};
     ghost use Rattle.varisat_solver.specs.Usage.{ChangesMode};
     ghost use Rattle.varisat_theory.specs.Literals.{IsSatisfiableWith};
-    ghost use Rattle.varisat_names.specs.Settings.{update_of};
-    ghost use Rattle.varisat_names.specs.declared.config.ConfigField.TheVariants.{MaxSteps};
     ghost use Rattle.varisat_calls.specs.Codes.{field_numbered, format_numbered, mode_numbered};
-    ghost use Rattle.varisat_calls.specs.Callers.{IsNew, Makes, MakesNumbered, MakesOver, Searches, NamesNew, SetsField, SetsMode, TellsOf, Shows, Opens, Closes};
+    ghost use Rattle.varisat_calls.specs.Callers.{IsNew, Makes, MakesNumbered, MakesOver, AddsNumber, LimitsSteps, Searches, NamesNew, SetsField, SetsMode, TellsOf, Shows, Opens, Closes};
+    ghost use Rattle.varisat_calls.specs.Lookups.{TellsValue, TellsFailed};
     ghost use Rattle.varisat_calls.specs.Texts.{text_of, without_clauses, AddsClauses, Feeds, EndsText};
 
     /// A caller with a new solver. It takes no memory.
@@ -72,7 +84,10 @@ impl<A: Allocator + Copy> Caller<A> {
         Caller {
             alloc,
             solver: Solver::new_in(alloc),
+            clause: Vec::new(alloc),
+            is_lost: false,
             given: Vec::new(alloc),
+            lookups: Lookups::new_in(alloc),
             told: Vec::new(alloc),
             text: None,
             lines: None,
@@ -108,11 +123,47 @@ impl<A: Allocator + Copy> Caller<A> {
     {
         match read_numbers(&mut self.given, numbers) {
             Ok(true) => {
+                self.lookups.forget();
                 let added = self.solver.add_clause(&self.given);
                 self.answer(added)
             }
             Ok(false) => WRONG,
             Err(_) => self.refuse(SolverError::OutOfMemory),
+        }
+    }
+
+    /// Accepts the clause that was given a literal at a time.
+    fn end_clause(&mut self) -> u8
+        ensures { AddsNumber (pos 0) self.old result self.new }
+    {
+        if self.is_lost {
+            self.is_lost = false;
+            self.clause.clear();
+            return self.refuse(SolverError::OutOfMemory);
+        }
+        self.lookups.forget();
+        let added = self.solver.add_clause(&self.clause);
+        self.clause.clear();
+        self.answer(added)
+    }
+
+    /// Puts the literal of the number behind the clause that is being given, or accepts that clause where the number is 0.
+    /// One of which a literal found no memory is refused as a whole.
+    pub fn add(&mut self, number: i32) -> u8
+        ensures { AddsNumber number self.old result self.new }
+    {
+        if number == 0 {
+            return self.end_clause();
+        }
+        if self.is_lost {
+            return self.refuse(SolverError::OutOfMemory);
+        }
+        match put_number(&mut self.clause, number) {
+            Ok(()) => DONE,
+            Err(_) => {
+                self.is_lost = true;
+                self.refuse(SolverError::OutOfMemory)
+            }
         }
     }
 
@@ -122,6 +173,7 @@ impl<A: Allocator + Copy> Caller<A> {
     {
         match read_numbers(&mut self.given, numbers) {
             Ok(true) => {
+                self.lookups.forget();
                 let assumed = self.solver.assume(&self.given);
                 self.answer(assumed)
             }
@@ -131,12 +183,11 @@ impl<A: Allocator + Copy> Caller<A> {
     }
 
     /// How many steps each call of `solve` may make.
-    pub fn limit_steps(&mut self, steps: u64) -> u8
-        ensures { MakesNumbered (λ s r t. Configures s (update_of MaxSteps steps) r t) self.old result self.new }
+    pub fn limit_steps(&mut self, steps: u64)
+        ensures { LimitsSteps steps self.old self.new }
     {
-        let update = SolverConfigUpdate::one(ConfigField::MaxSteps, steps);
-        let set = self.solver.config(&update);
-        self.answer(set)
+        self.lookups.forget();
+        self.solver.set_max_steps(steps);
     }
 
     /// 10 where the clauses are satisfiable under the assumptions, 20 where they are not, or the number of a refusal.
@@ -147,6 +198,7 @@ impl<A: Allocator + Copy> Caller<A> {
         ensures unsatisfiable { result ≡ 20 →
             (s : State) → StandsFor self.old.solver s → IsSatisfiableWith s.clauses s.assumptions → ⊥ }
     {
+        self.lookups.forget();
         match self.solver.solve() {
             Ok(true) => 10,
             Ok(false) => 20,
@@ -158,6 +210,7 @@ impl<A: Allocator + Copy> Caller<A> {
     pub fn new_var(&mut self) -> Result<Var, u8>
         ensures { NamesNew self.old result self.new }
     {
+        self.lookups.forget();
         match self.solver.new_var() {
             Ok(var) => Ok(var),
             Err(error) => Err(self.refuse(error)),
@@ -168,6 +221,7 @@ impl<A: Allocator + Copy> Caller<A> {
     fn change_mode(&mut self, var: Var, mode: SamplingMode) -> Result<(), SolverError>
         ensures { Makes (λ s r t. ChangesMode mode s var r t) self.old result self.new }
     {
+        self.lookups.forget();
         match mode {
             SamplingMode::Sample => self.solver.sample_var(var),
             SamplingMode::Witness => self.solver.witness_var(var),
@@ -216,10 +270,40 @@ impl<A: Allocator + Copy> Caller<A> {
         }
     }
 
+    /// 1 where the literal of the number is true in the model, 0 where it is false, 15 where there is no model or it has no
+    /// such variable.
+    pub fn value(&mut self, number: i32) -> u8
+        ensures { TellsValue number self.old result self.new }
+    {
+        if number == 0 {
+            return WRONG;
+        }
+        match self.lookups.find_model(&self.solver) {
+            Ok(true) => self.lookups.value(literal_of(number)),
+            Ok(false) => NOTHING,
+            Err(_) => self.refuse(SolverError::OutOfMemory),
+        }
+    }
+
+    /// 1 where the literal of the number is one of the core, 0 where it is not, 15 where there is no core.
+    pub fn is_failed(&mut self, number: i32) -> u8
+        ensures { TellsFailed number self.old result self.new }
+    {
+        if number == 0 {
+            return WRONG;
+        }
+        match self.lookups.find_core(&self.solver) {
+            Ok(true) => self.lookups.is_kept(literal_of(number)),
+            Ok(false) => NOTHING,
+            Err(_) => self.refuse(SolverError::OutOfMemory),
+        }
+    }
+
     /// Brings the hidden variables back as witnesses, and tells their names.
     pub fn observe(&mut self) -> u8
         ensures { Shows self.old result self.new }
     {
+        self.lookups.forget();
         match self.solver.observe_internal_vars() {
             Ok(vars) => match tell_names(&mut self.told, &vars) {
                 Ok(()) => DONE,
@@ -243,6 +327,7 @@ impl<A: Allocator + Copy> Caller<A> {
         let Some(field) = field_of(field) else {
             return WRONG;
         };
+        self.lookups.forget();
         let set = self.solver.config(&SolverConfigUpdate::one(field, value));
         self.answer(set)
     }
@@ -292,6 +377,7 @@ impl<A: Allocator + Copy> Caller<A> {
         ensures added { AddsClauses parser.old result self.old.text self.old self.new }
         ensures taken { parser.new ≡ without_clauses parser.old }
     {
+        self.lookups.forget();
         self.solver.add_formula(&parser.take_formula())
     }
 
@@ -340,6 +426,7 @@ impl<A: Allocator + Copy> Caller<A> {
         let Ok((lines, target)) = stream::stream_in(self.alloc) else {
             return self.refuse(SolverError::OutOfMemory);
         };
+        self.lookups.forget();
         match self.solver.write_proof(target, format) {
             Ok(()) => {
                 self.lines = Some(lines);
@@ -356,6 +443,7 @@ impl<A: Allocator + Copy> Caller<A> {
     pub fn close_proof(&mut self) -> u8
         ensures { Closes self.old result self.new }
     {
+        self.lookups.forget();
         match self.solver.close_proof() {
             Ok(Some(target)) => {
                 drop(target);
@@ -389,6 +477,7 @@ impl<A: Allocator + Copy> Caller<A> {
     pub fn self_check(&mut self) -> u8
         ensures { MakesNumbered EnablesChecking self.old result self.new }
     {
+        self.lookups.forget();
         let enabled = self.solver.enable_self_checking();
         self.answer(enabled)
     }

@@ -11,7 +11,7 @@ use std::alloc::Allocator;
 use varisat_formula::formula::CnfFormula;
 use varisat_formula::io::CutSource;
 use varisat_formula::io::source::known_bytes_are_read;
-use varisat_proof::checker::{CheckVerdict, Checker, CheckerError};
+use varisat_proof::checker::{CheckVerdict, Checker, CheckerError, DratCounts};
 use varisat_proof::proof::ProofFormat;
 
 /// The proof refutes the text's clauses.
@@ -104,7 +104,8 @@ fn check_marked<A: Allocator + Copy>(
     }
 }
 
-/// Checks a DRAT proof against the clauses of the checker.
+/// Checks a DRAT proof against the clauses of the checker. Its clauses may be RAT, and deletions that find no clause, or one
+/// by which a literal is implied, are passed over.
 fn check_drat<A: Allocator + Copy>(
     checker: &mut Checker<A>,
     format: ProofFormat,
@@ -112,7 +113,8 @@ fn check_drat<A: Allocator + Copy>(
 ) -> Told
     ensures { result.number ≡ 20 → IsSatisfiable checker.old.clauses → ⊥ }
 {
-    match checker.check_proof(&mut CutSource::new(proof), format) {
+    let mut counts = DratCounts::new();
+    match checker.check_drat(&mut CutSource::new(proof), format, &mut counts) {
         Ok(verdict) => told_verdict(verdict),
         Err(error) => told_error(&error),
     }

@@ -7,5 +7,6 @@ ghost use Rattle.std.specs.Prelude.{◌≡◌};
 pub mod caller;
 pub mod checks;
 pub mod codes;
+pub mod lookups;
 pub mod numbers;
 pub mod stream;

@@ -7,12 +7,23 @@ ghost use Rattle.varisat_calls.specs.Numbers.{told_number, told_numbers, told_na
 use std::alloc::{AllocError, Allocator};
 use varisat_literals::{Lit, Var};
 
+/// The literal of the number.
+pub fn literal_of(number: i32) -> Lit
+    requires { number ≢ pos 0 }
+    ensures { result ≡ literal_numbered number }
+{
+    Lit::from_dimacs(number as isize)
+}
+
 /// Puts the literal of the number behind the list.
-fn put_number<A: Allocator + Copy>(list: &mut Vec<Lit, A>, number: i32) -> Result<(), AllocError>
+pub fn put_number<A: Allocator + Copy>(
+    list: &mut Vec<Lit, A>,
+    number: i32,
+) -> Result<(), AllocError>
     requires { number ≢ pos 0 }
     ensures { OnOk result (list.new.items ≡ list.old.items ++ literal_numbered number ∷ []) }
 {
-    list.push(Lit::from_dimacs(number as isize))?;
+    list.push(literal_of(number))?;
     Ok(())
 }
 

@@ -1,0 +1,75 @@
+-- The literals of a model or a core that are kept, and what is told of one of them.
+use Rattle.std.specs.Prelude.{◌≡◌, ℕ, ℤ, pos, Bool, Option, Some, None, List, Result, Ok}
+use Rattle.std.specs.declared.alloc.AllocError.{AllocError}
+use Rattle.varisat_theory.specs.Membership.{◌∈◌}
+use Rattle.varisat_theory.specs.Literals.{Literal, opposite}
+use Rattle.varisat_literals.specs.Numbers.{literal_numbered}
+use Rattle.varisat_client.specs.LiteralSets.{Has, IsSetOf}
+use Rattle.varisat_solver.specs.States.{State}
+use Rattle.varisat_solver.specs.Summaries.{Summary, StandsOnce}
+use Rattle.varisat_solver.specs.Calls.{TellsList, calling}
+use Rattle.varisat_calls.specs.Callers.{Caller, IsWrong}
+use Rattle.varisat_calls.specs.declared.lookups.Kept.{Kept}
+use Rattle.varisat_calls.specs.declared.lookups.Kept.TheVariants as kept
+
+-- what `model` and `failed_core` of the solver may answer
+abbrev pub TellsModel : State → Result (Option (List Literal)) AllocError → State → Type 0
+TellsModel s r t = TellsList (calling.model s) s r t
+
+abbrev pub TellsCore : State → Result (Option (List Literal)) AllocError → State → Type 0
+TellsCore s r t = TellsList (calling.core s) s r t
+
+-- the list is the one that `model` tells, or there is none
+abbrev pub IsModel : Summary → List Literal → Type 0
+IsModel g m = StandsOnce g (λ s t. TellsModel s (Ok (Some m)) t) g
+
+abbrev pub HasNoModel : Summary → Type 0
+HasNoModel g = StandsOnce g (λ s t. TellsModel s (Ok None) t) g
+
+-- the list is the one that `failed_core` tells, or there is none
+abbrev pub IsCore : Summary → List Literal → Type 0
+IsCore g m = StandsOnce g (λ s t. TellsCore s (Ok (Some m)) t) g
+
+abbrev pub HasNoCore : Summary → Type 0
+HasNoCore g = StandsOnce g (λ s t. TellsCore s (Ok None) t) g
+
+-- which list has its literals kept, and these as a set
+pub record Lookups : Type 0 where
+  pub kept : Kept
+  pub literals : List Bool
+
+-- what is kept is what the solver tells
+pub record IsKept (c : Lookups) (solver : Summary) : Type 0 where
+  pub model : c.kept ≡ kept.Model → (m : List Literal) × IsModel solver m × IsSetOf m c.literals
+  pub core : c.kept ≡ kept.Core → (m : List Literal) × IsCore solver m × IsSetOf m c.literals
+
+-- 1: the literal is in the set; 0: its opposite is; 15: neither is
+pub data IsValueIn (flags : List Bool) (l : Literal) (n : ℕ) : Type 0 where
+  True : n ≡ 1 → Has flags l → IsValueIn flags l n
+  False : n ≡ 0 → Has flags (opposite l) → IsValueIn flags l n
+  Unknown : n ≡ 15 → (Has flags l → ⊥) → (Has flags (opposite l) → ⊥) → IsValueIn flags l n
+
+-- 1: the literal is in the set; 0: it is not
+pub data IsMember (flags : List Bool) (l : Literal) (n : ℕ) : Type 0 where
+  Yes : n ≡ 1 → Has flags l → IsMember flags l n
+  No : n ≡ 0 → (Has flags l → ⊥) → IsMember flags l n
+
+-- What a look-up answers that finds no list: the number is 0; or there is none; or its literals found no memory, and another look-up may be made.
+pub data FindsNone (none : Summary → Type 0) (number : ℤ) (g : Caller) (n : ℕ) (h : Caller) : Type 0 where
+  Zero : number ≡ pos 0 → IsWrong g n h → FindsNone none number g n h
+  NoList : n ≡ 15 → none g.solver → h ≡ g → FindsNone none number g n h
+  NoRoom : n ≡ 3 → h ≡ g → FindsNone none number g n h
+
+-- Whether the literal of the number is true in the model: 1 and 0, and 15 where the model has no such variable.
+pub data TellsValue (number : ℤ) (g : Caller) (n : ℕ) (h : Caller) : Type 0 where
+  True : (m : List Literal) → IsModel g.solver m → literal_numbered number ∈ m → n ≡ 1 → h ≡ g → TellsValue number g n h
+  False : (m : List Literal) → IsModel g.solver m → opposite (literal_numbered number) ∈ m → n ≡ 0 → h ≡ g → TellsValue number g n h
+  Unknown : (m : List Literal) → IsModel g.solver m → (literal_numbered number ∈ m → ⊥) → (opposite (literal_numbered number) ∈ m → ⊥) →
+      n ≡ 15 → h ≡ g → TellsValue number g n h
+  Unfound : FindsNone HasNoModel number g n h → TellsValue number g n h
+
+-- Whether the literal of the number is one of the core: 1 and 0.
+pub data TellsFailed (number : ℤ) (g : Caller) (n : ℕ) (h : Caller) : Type 0 where
+  Failed : (m : List Literal) → IsCore g.solver m → literal_numbered number ∈ m → n ≡ 1 → h ≡ g → TellsFailed number g n h
+  Unfailed : (m : List Literal) → IsCore g.solver m → (literal_numbered number ∈ m → ⊥) → n ≡ 0 → h ≡ g → TellsFailed number g n h
+  Unfound : FindsNone HasNoCore number g n h → TellsFailed number g n h

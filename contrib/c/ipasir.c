@@ -58,21 +58,16 @@ void ipasir_release(void *solver) {
     free(client);
 }
 
-void ipasir_add(void *solver, int32_t number) {
+static void give(void *solver, void (*call)(struct handle *, int32_t), int32_t number) {
     struct client *client = enter(solver);
     if (!client)
         return;
-    client_add(&client->handle, number);
+    call(&client->handle, number);
     leave(client);
 }
 
-void ipasir_assume(void *solver, int32_t number) {
-    struct client *client = enter(solver);
-    if (!client)
-        return;
-    client_assume(&client->handle, number);
-    leave(client);
-}
+void ipasir_add(void *solver, int32_t number) { give(solver, client_add, number); }
+void ipasir_assume(void *solver, int32_t number) { give(solver, client_assume, number); }
 
 int ipasir_solve(void *solver) {
     struct client *client = enter(solver);

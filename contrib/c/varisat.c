@@ -284,14 +284,17 @@ static int told(varisat *solver, int number, int32_t *numbers, size_t room) {
     return leave(solver, (int)caller_told_len(&solver->handle));
 }
 
-int varisat_model(varisat *solver, int32_t *literals, size_t room) {
-    BEGIN(enter(solver, literals || !room));
-    return told(solver, solver->proof_failed ? -VARISAT_NOTHING : caller_model(&solver->handle), literals, room);
+static int tell(varisat *solver, uint8_t (*call)(struct handle *), int32_t *numbers, size_t room) {
+    BEGIN(enter(solver, numbers || !room));
+    return told(solver, solver->proof_failed ? -VARISAT_NOTHING : call(&solver->handle), numbers, room);
 }
 
-int varisat_failed_core(varisat *solver, int32_t *literals, size_t room) {
-    BEGIN(enter(solver, literals || !room));
-    return told(solver, solver->proof_failed ? -VARISAT_NOTHING : caller_core(&solver->handle), literals, room);
+int varisat_model(varisat *solver, int32_t *literals, size_t room) { return tell(solver, caller_model, literals, room); }
+int varisat_failed_core(varisat *solver, int32_t *literals, size_t room) { return tell(solver, caller_core, literals, room); }
+
+int varisat_told(varisat *solver, int32_t *numbers, size_t room) {
+    BEGIN(enter(solver, numbers || !room));
+    return told(solver, 0, numbers, room);
 }
 
 int varisat_observe_internal_vars(varisat *solver, int32_t *variables, size_t room) {
@@ -299,25 +302,15 @@ int varisat_observe_internal_vars(varisat *solver, int32_t *variables, size_t ro
     return told(solver, caller_observe(&solver->handle), variables, room);
 }
 
-int varisat_told(varisat *solver, int32_t *numbers, size_t room) {
-    BEGIN(enter(solver, numbers || !room));
-    return told(solver, 0, numbers, room);
-}
-
-/* Ends a call that looks a literal up, by the library's number: 0 and 1 are answers. */
-static int looked_up(varisat *solver, int number) {
+/* 0 and 1 are answers. */
+static int look_up(varisat *solver, uint8_t (*call)(struct handle *, int32_t), int32_t literal) {
+    BEGIN(enter(solver, true));
+    int number = solver->proof_failed ? -VARISAT_NOTHING : call(&solver->handle, literal);
     return leave(solver, number > 1 ? -number : number);
 }
 
-int varisat_value(varisat *solver, int32_t literal) {
-    BEGIN(enter(solver, true));
-    return looked_up(solver, solver->proof_failed ? -VARISAT_NOTHING : caller_value(&solver->handle, literal));
-}
-
-int varisat_is_failed(varisat *solver, int32_t literal) {
-    BEGIN(enter(solver, true));
-    return looked_up(solver, solver->proof_failed ? -VARISAT_NOTHING : caller_is_failed(&solver->handle, literal));
-}
+int varisat_value(varisat *solver, int32_t literal) { return look_up(solver, caller_value, literal); }
+int varisat_is_failed(varisat *solver, int32_t literal) { return look_up(solver, caller_is_failed, literal); }
 
 /* Variables. */
 

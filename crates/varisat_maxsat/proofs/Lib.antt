@@ -5,3 +5,5 @@ pub mod Joining
 pub mod Ending
 pub mod Given
 pub mod Standing
+pub mod Reading
+pub mod Printing

@@ -4,6 +4,7 @@
 mod charge;
 mod feeding;
 pub mod problem;
+pub mod program;
 mod reduction;
 pub mod refusal;
 pub mod solving;

@@ -15,7 +15,7 @@ enum End {
 }
 
 fn solved<A: Allocator + Copy>(alloc: A, text: &str) -> End {
-    let problem = match parse(text, alloc) {
+    let problem = match parse(text.as_bytes(), alloc) {
         Ok(problem) => problem,
         Err(error) => return End::Fault(error.line, error.fault),
     };

@@ -1,8 +1,8 @@
 -- Assignments that agree below a count, and sums of lists that are appended.
-use Rattle.std.proofs.Common.{◌≡◌, ◌≢◌, ℕ, ◌+◌, ◌*◌, ◌/◌, ◌%◌, ◌<◌, ◌≤◌, Bool, true, false, not, ◌||◌, nat_eq, if◌then◌else◌, List, [], ◌∷◌, ◌++◌, ◌⊎◌, inl, inr, ⊎_elim, refl, sym, ap, ◌∙◌, subst, eq-eqb, ne_eqb, add_assoc, zero-add, arith}
+use Rattle.std.proofs.Common.{◌≡◌, ◌≢◌, ℕ, ◌+◌, ◌*◌, ◌/◌, ◌%◌, ◌<◌, ◌≤◌, Bool, true, false, not, ◌||◌, nat_eq, if◌then◌else◌, List, [], ◌∷◌, ◌++◌, inl, inr, ⊎_elim, refl, sym, ap, ◌∙◌, subst, eq-eqb, ne_eqb, zero-add, arith}
 use Rattle.varisat_theory.specs.Membership.{◌∈◌}
 use Rattle.varisat_theory.specs.Literals.{Literal, Clause, Assignment, variable_of, opposite, value, Satisfies, SatisfiesAll}
-use Rattle.varisat_theory.proofs.Members.{∈-append_left, ∈-append_cases}
+use Rattle.varisat_theory.proofs.Members.{∈-append_cases}
 use Rattle.varisat_maxsat.specs.Problems.{Soft, is_satisfied, cost}
 use Rattle.varisat_maxsat.specs.Charges.{charged, weighed, AgreeBelow, AreBelow, ChargesAreBelow, ClausesAreBelow, SoftAreBelow}
 use Rattle.varisat_maxsat.specs.declared.charge.Charge.{Charge}

@@ -1,5 +1,5 @@
 -- Lines and words of a text, and what they mean.
-use Rattle.std.proofs.Common.{◌≡◌, ℕ, zero, suc, ◌+◌, ◌-◌, ◌*◌, ◌^◌, ◌<◌, ◌≤◌, ◌==◌, Bool, true, false, if◌then◌else◌, nat_lt, List, [], ◌∷◌, ◌++◌, map, length, take, drop, get_or, min, Option, Some, None, Bor, IfNone, IfSome, option_map, Result, Ok, Err, refl, sym, ap, ◌∙◌, subst, arith, rules}
+use Rattle.std.proofs.Common.{◌≡◌, ℕ, zero, suc, ◌+◌, ◌^◌, ◌<◌, ◌≤◌, Bool, true, false, if◌then◌else◌, nat_lt, List, [], ◌∷◌, ◌++◌, map, length, take, drop, get_or, min, Option, Some, None, Bor, IfNone, IfSome, option_map, Result, Ok, Err, refl, sym, ap, ◌∙◌, arith, rules}
 use Rattle.std.specs.List.{slice_split, AllWithin, HoldsAt}
 use Rattle.std.proofs.lemmas.List.{get_or-take, take-append-drop, length-take, take_all}
 use Rattle.std.proofs.lemmas.List.Splits.{slice_split_none, slice_split_at}
@@ -22,7 +22,7 @@ pub cut_at : (p : ℕ → Bool) (text : List ℕ) (i : ℕ) → i < length text 
     slice_split p text ≡ take i text ∷ slice_split p (drop (i + 1) text)
 cut_at p text i h at before =
     let front : (k d : ℕ) → k < length (take i text) → p (get_or (take i text) k d) ≡ false =
-        λ k d l. let k_below : k < i = omega (arith, length-take i text) in rw get_or-take (before k d (omega arith) k_below) in
+    λ k d l. let k_below : k < i = omega (arith, length-take i text) in rw get_or-take (before k d (omega arith) k_below) in
     let parts : take i text ++ get_or text i 0 ∷ drop (suc i) text ≡ text = ap (λ xs. take i text ++ xs) (sym (drop-cons text i 0 h))
     ∙ take-append-drop i text in
     let up : suc i ≡ i + 1 = omega arith in

@@ -1,5 +1,5 @@
 -- What is printed of a problem, and the status.
-use Rattle.std.specs.Prelude.{◌≡◌, ◌⊎◌, ℕ, ◌+◌, Bool, if◌then◌else◌, List, [], ◌∷◌, ◌++◌, take, codes, decimal, Ok, Err}
+use Rattle.std.specs.Prelude.{◌≡◌, ◌⊎◌, ℕ, Bool, if◌then◌else◌, List, [], ◌∷◌, ◌++◌, take, codes, decimal, Ok, Err}
 use Rattle.varisat_theory.specs.Literals.{IsSatisfiable}
 use Rattle.varisat_formula.specs.Streams.{Taken}
 use Rattle.varisat_maxsat.specs.Problems.{Problem, IsOptimum}

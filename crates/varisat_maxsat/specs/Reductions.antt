@@ -1,5 +1,5 @@
 -- A client that holds a problem as it was brought down.
-use Rattle.std.specs.Prelude.{◌≡◌, ℕ, Bool, true, false, None, List, [], ◌∷◌}
+use Rattle.std.specs.Prelude.{◌≡◌, ℕ, Bool, true, false, None, List, []}
 use Rattle.varisat_theory.specs.Literals.{Literal, Clause, IsFailedCore, IsSatisfiable}
 use Rattle.varisat_client.specs.Pasts.{Past, IsFoundModel, count}
 use Rattle.varisat_client.specs.Clients.{Client, StandsForPast}

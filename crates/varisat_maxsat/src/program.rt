@@ -99,10 +99,7 @@ fn written<A: Allocator + Copy>(
 }
 
 /// Puts a digit for each value behind the text.
-fn put_values<A: Allocator + Copy>(
-    text: &mut Vec<u8, A>,
-    values: &[bool],
-) -> Result<(), AllocError>
+fn put_values<A: Allocator + Copy>(text: &mut Vec<u8, A>, values: &[bool]) -> Result<(), AllocError>
     ensures { OnOk result (text.new.items ≡ text.old.items ++ value_digits values.now) }
 {
     for value in values {
@@ -119,12 +116,7 @@ fn digit_of(value: bool) -> u8
 }
 
 /// Prints a text, and returns its status, or that of a fault where the target fails.
-fn print_answer<T: ProofTarget, E: Write>(
-    text: &[u8],
-    status: u8,
-    out: &mut T,
-    err: &mut E,
-) -> u8
+fn print_answer<T: ProofTarget, E: Write>(text: &[u8], status: u8, out: &mut T, err: &mut E) -> u8
     requires { (T.taken out.old).faults < 2 ^ 64 - 1 }
     ensures { Prints text.now status (T.taken out.old) (T.taken out.new) result }
 {

@@ -146,10 +146,7 @@ fn ensure_end(line: &[u8]) -> Result<(), WcnfFault>
 }
 
 /// Reads the literals of a clause, up to the 0 that ends it and the line.
-fn parse_clause<A: Allocator + Copy>(
-    line: &[u8],
-    clause: &mut Vec<Lit, A>,
-) -> Result<(), WcnfFault>
+fn parse_clause<A: Allocator + Copy>(line: &[u8], clause: &mut Vec<Lit, A>) -> Result<(), WcnfFault>
     ensures ok { OnOk result (clause_of (words line.now) ≡ Ok clause.new.items) }
     ensures err { IfErr result (λ e. (e ≡ OutOfMemory) ⊎ (clause_of (words line.now) ≡ Err e)) }
 {

@@ -1,4 +1,4 @@
-use Rattle.std.proofs.Common.{◌≡◌, ◌≤◌, sym, ap, ◌∙◌, arith}
+use Rattle.std.proofs.Common.{ap, ◌∙◌, arith}
 use Rattle.varisat_maxsat.proofs.Taking.{takes-next-part, takes-next-whole, item-∈}
 use Rattle.varisat_maxsat.proofs.charge.take_weight.Goals as goal
 use Rattle.varisat_maxsat.proofs.charge.take_weight.Goals.{then-charge-weight+in_ok-push, else-charge-weight}

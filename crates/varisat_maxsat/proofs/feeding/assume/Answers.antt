@@ -1,4 +1,4 @@
-use Rattle.std.proofs.Common.{rules, w32, ◌+◌, sym, ap, ◌∙◌, subst, take}
+use Rattle.std.proofs.Common.{rules, w32, ◌+◌, sym, ◌∙◌, subst, take}
 use Rattle.std.proofs.Math.Facts.{to_z-of_z}
 use Rattle.std.proofs.lemmas.List.{take_all}
 use mir.Val.{SFits}

@@ -1,4 +1,4 @@
-use Rattle.std.proofs.Common.{refl, sym}
+use Rattle.std.proofs.Common.{refl}
 use Rattle.varisat_maxsat.proofs.Given.{begun-finds, begun-fails}
 use Rattle.varisat_maxsat.proofs.feeding.search.Goals as goal
 

@@ -1,6 +1,5 @@
-use Rattle.std.proofs.Common.{◌≡◌, ◌∙◌, ◌++◌, ◌∷◌, [], refl, sym, ap, subst, map, append_assoc, append-nil}
+use Rattle.std.proofs.Common.{◌≡◌, ◌∙◌, ◌++◌, ◌∷◌, [], sym, ap, subst, map, append_assoc, append-nil}
 use Rattle.std.proofs.lemmas.List.{map-append}
-use Rattle.varisat_maxsat.specs.Problems.{Problem}
 use Rattle.varisat_maxsat.specs.Reductions.{Stands}
 use Rattle.varisat_maxsat.proofs.Standing.{hard-next}
 use Rattle.varisat_maxsat.proofs.problem.add_all_hard.Goals as goal

@@ -1,4 +1,4 @@
-use Rattle.std.proofs.Common.{◌∙◌, ◌++◌, ◌∷◌, [], sym, ap}
+use Rattle.std.proofs.Common.{◌∙◌, ◌++◌, ◌∷◌, [], ap}
 use Rattle.varisat_maxsat.proofs.Standing.{soft-put}
 use Rattle.varisat_maxsat.proofs.problem.Problem.add_soft.Goals as goal
 

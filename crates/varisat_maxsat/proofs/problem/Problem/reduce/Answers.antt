@@ -1,5 +1,5 @@
-use Rattle.std.proofs.Common.{◌≡◌, ◌∙◌, max, sym, ap, subst}
-use Rattle.varisat_maxsat.specs.Problems.{Problem, paired}
+use Rattle.std.proofs.Common.{max, subst}
+use Rattle.varisat_maxsat.specs.Problems.{paired}
 use Rattle.varisat_maxsat.specs.Reductions.{Stands}
 use Rattle.varisat_maxsat.proofs.Standing.{problem_of}
 use Rattle.varisat_maxsat.proofs.problem.Problem.reduce.Goals as goal

@@ -1,7 +1,6 @@
-use Rattle.std.proofs.Common.{◌≡◌, ◌++◌, ◌∷◌, [], refl, sym, ap, ◌∙◌, subst}
+use Rattle.std.proofs.Common.{◌++◌, ◌∷◌, [], ap, ◌∙◌, subst}
 use Rattle.varisat_maxsat.specs.Charges.{AreBelow}
 use Rattle.varisat_maxsat.specs.Reductions.{Reduction}
-use Rattle.varisat_theory.specs.Literals.{Literal}
 use Rattle.varisat_maxsat.proofs.Standing.{stands-nothing, literal-step, clause-step, one-item}
 use Rattle.varisat_maxsat.proofs.reduction.Reduction.add_soft.Goals as goal
 

@@ -1,4 +1,4 @@
-use Rattle.std.proofs.Common.{refl, sym, ap, ◌∙◌}
+use Rattle.std.proofs.Common.{◌∙◌}
 use Rattle.varisat_maxsat.proofs.Standing.{join-step}
 use Rattle.varisat_maxsat.proofs.reduction.Reduction.join.Goals as goal
 

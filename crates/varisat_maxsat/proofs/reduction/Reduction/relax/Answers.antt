@@ -1,10 +1,8 @@
-use Rattle.std.proofs.Common.{◌≡◌, ℕ, length, List, [], ◌∷◌, refl, sym, ap, ◌∙◌, subst, arith}
+use Rattle.std.proofs.Common.{sym, ◌∙◌, subst, arith}
 use Rattle.std.proofs.lemmas.List.{nil_from_length}
 use Rattle.std.proofs.lemmas.Bool.{eqb-true}
 use Rattle.varisat_theory.specs.Membership.{◌∈◌}
-use Rattle.varisat_client.specs.Pasts.{Past}
-use Rattle.varisat_maxsat.specs.Charges.{IsSplit, TakesWeight}
-use Rattle.varisat_maxsat.specs.Reductions.{IsReady}
+use Rattle.varisat_maxsat.specs.Charges.{IsSplit}
 use Rattle.varisat_maxsat.proofs.Standing.{core-empty, relax-step}
 use Rattle.varisat_maxsat.proofs.reduction.Reduction.relax.Goals as goal
 

@@ -1,4 +1,4 @@
-use Rattle.std.proofs.Common.{◌≡◌, ◌∷◌, ◌++◌, refl, sym, ap, ◌∙◌}
+use Rattle.std.proofs.Common.{◌∷◌, ap, ◌∙◌}
 use Rattle.varisat_maxsat.proofs.Standing.{settle-step, stands-none, empty-by, with-pending}
 use Rattle.varisat_maxsat.proofs.reduction.Reduction.settle.Goals as goal
 

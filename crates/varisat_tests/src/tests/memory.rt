@@ -1,17 +1,21 @@
-//! A solver with little memory.
-use linked_list_allocator::LocalHeap;
-use std::alloc::{AllocError, Allocator, Global};
+//! A solver of which each growth is refused in turn.
+use std::alloc::{Allocator, Global};
 use varisat::ProofFormat;
 use varisat::solver::{Solver, SolverError};
 use varisat_formula::io::{MemoryTarget, ReadSource};
 use varisat_literals::lits;
+use varisat_test_heap::CutHeap;
+
+type Heap<'a> = &'a CutHeap<Global>;
+
+type HeapSolver<'a> = Solver<MemoryTarget<Heap<'a>>, Heap<'a>>;
 
 // What a clause, a text and two searches were answered, by the refusals' numbers and 0 where there was none; whether
 // the solver is valid then; and whether there is a model, or none where its list was refused.
 type Outcome = ([u8; 4], bool, Option<bool>);
 
-// What can happen: once memory ran out in a call that changes the solver, it is invalid. A step may have room for the lists
-// of variables that leave where a model has none for its list.
+// What can happen: once memory ran out in a call that changes the solver, it is invalid; a model's list that gets none
+// changes nothing.
 const OUTCOMES: [Outcome; 5] = [
     ([3, 4, 4, 4], false, Some(false)),
     ([0, 3, 4, 4], false, Some(false)),
@@ -71,16 +75,11 @@ fn outcome_in<A: Allocator + Copy>(alloc: A, is_checked: bool, text: &str) -> Ou
     outcome
 }
 
-// The place in the table of what happens on a heap of that many times 16 bytes.
-fn place_with(
-    alloc: Global,
-    room: u16,
-    is_checked: bool,
-    text: &str,
-) -> Result<Option<usize>, AllocError> {
-    let heap = LocalHeap::new(alloc, 16 * usize::from(room))?;
-    let outcome = outcome_in(&heap, is_checked, text);
-    Ok(OUTCOMES.iter().position(|row| *row == outcome))
+// The row of the table that happens where the growth of this number is refused.
+fn row_with(heap: Heap, number: u64, is_checked: bool, text: &str) -> Option<usize> {
+    heap.refuse(number);
+    let outcome = outcome_in(heap, is_checked, text);
+    OUTCOMES.iter().position(|row| *row == outcome)
 }
 
 // Texts of which the third clause is deleted as it is loaded, each with the line that deletes it. By the unit the clause that
@@ -91,15 +90,15 @@ const TEXTS_UNDER_PROOF: [(&str, &str); 2] = [
     ("1 -2 0\n3 0\n5 3 0\n", "d 3 5 0\n"),
 ];
 
-// What can happen under a proof in memory: a line that its target has no room for is the target's failure. A checker inside
-// takes more of the text before its deletion than the target takes for that, so the third row is not for one.
-const OUTCOMES_UNDER_PROOF: [Outcome; 6] = [
+// What can happen under a proof in memory: a line that its target has no room for is the target's failure.
+const OUTCOMES_UNDER_PROOF: [Outcome; 7] = [
     ([3, 4, 4, 4], false, Some(false)),
     ([0, 3, 4, 4], false, Some(false)),
     ([0, 2, 4, 4], false, Some(false)),
     ([0, 0, 3, 4], false, Some(false)),
     ([0, 0, 2, 4], false, Some(false)),
     ([0, 0, 0, 0], true, Some(true)),
+    ([0, 0, 0, 0], true, None),
 ];
 
 // What happens under a proof, and its target, if it comes back.
@@ -141,119 +140,89 @@ fn whole_proof(alloc: Global, text: &str, deletion: &str) -> Option<Vec<u8>> {
     is_right.then_some(bytes)
 }
 
-// The place in the table of what happens on a heap of that many times 16 bytes, where the target has a beginning of the
+// The row of the table that happens where the growth of this number is refused, where the target has a beginning of the
 // whole proof then.
-fn place_under_proof_with(
-    alloc: Global,
-    room: u16,
+fn row_under_proof_with(
+    heap: Heap,
+    number: u64,
     is_checked: bool,
     text: &str,
     whole: &[u8],
-) -> Result<Option<usize>, AllocError> {
-    let heap = LocalHeap::new(alloc, 16 * usize::from(room))?;
-    let (outcome, target) = outcome_under_proof_in(&heap, is_checked, text);
+) -> Option<usize> {
+    heap.refuse(number);
+    let (outcome, target) = outcome_under_proof_in(heap, is_checked, text);
     let is_beginning = match &target {
         Some(target) => whole.starts_with(target.bytes()),
         None => false,
     };
-    let place = OUTCOMES_UNDER_PROOF.iter().position(|row| *row == outcome);
-    Ok(if is_beginning { place } else { None })
+    let row = OUTCOMES_UNDER_PROOF.iter().position(|row| *row == outcome);
+    if is_beginning { row } else { None }
 }
 
 #[test]
 fn each_growth_may_be_refused(rt: HostRuntime) {
+    let heap = CutHeap::new(rt.alloc());
     for is_checked in [false, true] {
         let mut reached = [false; 5];
         for text in TEXTS {
-            for room in 0..600 {
-                match place_with(rt.alloc(), room, is_checked, text) {
-                    Ok(Some(place)) if place < 5 => reached[place] = true,
-                    _ => panic!(rt; "with {room}, checked: {is_checked}"),
+            assert!(rt; row_with(&heap, 0, is_checked, text) == Some(3));
+            reached[3] = true;
+            for number in 1..heap.growths().saturating_add(1) {
+                match row_with(&heap, number, is_checked, text) {
+                    Some(row) if row < 5 => reached[row] = true,
+                    _ => panic!(rt; "growth {number}, checked: {is_checked}"),
                 }
             }
         }
-        // Whether at some size there is room for the search and none for the model is chance; a full heap shows it below.
-        assert!(rt; reached[..4] == [true; 4], "{reached:?}");
+        assert!(rt; reached == [true; 5], "{reached:?}");
     }
 }
 
 #[test]
 fn each_growth_under_a_proof_may_be_refused(rt: HostRuntime) {
+    let heap = CutHeap::new(rt.alloc());
     for is_checked in [false, true] {
-        let mut reached = [false; 6];
+        let mut reached = [false; 7];
         for (text, deletion) in TEXTS_UNDER_PROOF {
             let Some(whole) = whole_proof(rt.alloc(), text, deletion) else {
                 panic!(rt; "the whole proof");
             };
-            for room in 0..400 {
-                match place_under_proof_with(rt.alloc(), room, is_checked, text, &whole) {
-                    Ok(Some(place)) if place < 6 => reached[place] = true,
-                    _ => panic!(rt; "with {room}, checked: {is_checked}"),
+            let row = row_under_proof_with(&heap, 0, is_checked, text, &whole);
+            assert!(rt; row == Some(5));
+            reached[5] = true;
+            for number in 1..heap.growths().saturating_add(1) {
+                match row_under_proof_with(&heap, number, is_checked, text, &whole) {
+                    Some(row) if row < 7 => reached[row] = true,
+                    _ => panic!(rt; "growth {number}, checked: {is_checked}"),
                 }
             }
         }
-        // Whether at some size there is room for a clause and none for the line of its deletion is chance where no checker runs.
-        reached[2] |= !is_checked;
-        assert!(rt;
-            reached == [true, true, !is_checked, true, true, true],
-            "{reached:?}"
-        );
+        assert!(rt; reached == [true; 7], "{is_checked}: {reached:?}");
     }
 }
 
-// Blocks of a heap, until it has none left.
-fn filled<A: Allocator + Copy>(alloc: Global, heap: A) -> Result<Vec<Vec<u8, A>>, AllocError> {
-    let mut blocks = Vec::new(alloc);
-    for _ in 0..500 {
-        match Vec::with_capacity(heap, 8) {
-            Ok(block) => blocks.push(block)?,
-            Err(_) => return Ok(blocks),
-        }
-    }
-    Ok(blocks)
-}
-
-// What is said of a model on a full heap, whether the solver is valid then, and what is said once there is room again.
+// What is said of a model for which there is no memory, whether the solver is valid then, and what is said once there is
+// memory again.
 type Models = (Option<bool>, bool, Option<bool>);
 
-fn models_of<A: Allocator + Copy>(
-    alloc: Global,
-    heap: A,
-    solver: &mut Solver<MemoryTarget<A>, A>,
-) -> Result<Models, AllocError> {
+fn models_of<'a>(heap: Heap<'a>, solver: &mut HeapSolver<'a>) -> Models {
     let _ = outcome(solver, TEXTS[0]);
-    let told = model_when_full(alloc, heap, solver)?;
-    Ok((told, solver.is_valid(), has_model(solver)))
+    heap.refuse(1);
+    let refused = has_model(solver);
+    (refused, solver.is_valid(), has_model(solver))
 }
 
-fn models_in<A: Allocator + Copy>(
-    alloc: Global,
-    heap: A,
-    is_checked: bool,
-) -> Result<Models, AllocError> {
-    let mut solver = new_solver(heap, is_checked);
-    let models = models_of(alloc, heap, &mut solver);
+fn models(alloc: Global, is_checked: bool) -> Models {
+    let heap = CutHeap::new(alloc);
+    let mut solver = new_solver(&heap, is_checked);
+    let models = models_of(&heap, &mut solver);
     drop(solver);
     models
-}
-
-fn model_when_full<A: Allocator + Copy>(
-    alloc: Global,
-    heap: A,
-    solver: &Solver<MemoryTarget<A>, A>,
-) -> Result<Option<bool>, AllocError> {
-    let _blocks = filled(alloc, heap)?;
-    Ok(has_model(solver))
-}
-
-fn models(alloc: Global, is_checked: bool) -> Result<Models, AllocError> {
-    let heap = LocalHeap::new(alloc, 8000)?;
-    models_in(alloc, &heap, is_checked)
 }
 
 #[test]
 fn a_model_may_be_refused(rt: HostRuntime) {
     for is_checked in [false, true] {
-        assert!(rt; matches!(models(rt.alloc(), is_checked), Ok((None, true, Some(true)))));
+        assert!(rt; models(rt.alloc(), is_checked) == (None, true, Some(true)));
     }
 }

@@ -1,15 +1,15 @@
 -- Why a variable may be resolved away.
-use Rattle.std.proofs.Common.{◌≡◌, ℕ, zero, suc, ◌+◌, ◌/◌, ◌<◌, ◌≤◌, Bool, true, false, List, [], ◌∷◌, ◌++◌, ◌⊎◌, inl, inr, ⊎_elim, sym, ap, ◌∙◌, subst, refl, length, get_or, set, take, arith}
+use Rattle.std.proofs.Common.{◌≡◌, ℕ, zero, suc, ◌+◌, ◌/◌, ◌<◌, ◌≤◌, Bool, true, false, List, [], ◌∷◌, ◌++◌, ◌⊎◌, inl, inr, ⊎_elim, sym, ap, ◌∙◌, subst, refl, length, get_or, set, take, append-nil, arith}
 use Rattle.varisat_theory.specs.Membership.{◌∈◌}
 use Rattle.varisat_theory.specs.Literals.{Literal, Clause, Assignment, opposite, value, Satisfies, SatisfiesAll}
 use Rattle.varisat_theory.proofs.Members.{equal_or_not, ∈-or_not}
 use Rattle.varisat_theory.proofs.Places.{∈-get_or, ∈-take_more, ∈-take_all, place_in}
 use Rattle.varisat_theory.proofs.Values.{opposite_twice, true_or_opposite}
 use Rattle.varisat_simplify.specs.Stacks.{assignment_of, with_true, amended, extended, avoids}
-use Rattle.varisat_simplify.specs.Leading.{LeadsTo, IsNamedBy, AreNamedBy}
+use Rattle.varisat_simplify.specs.Leading.{AreNamedBy}
 use Rattle.varisat_simplify.proofs.LeadingLemmas.{leads_removed, told_removed, named_at}
 use Rattle.varisat_simplify.proofs.ExtendLemmas.{thawed_more}
-use Rattle.varisat_simplify.specs.States.{State, pushed, removed, saved, clause_at, IsLive, IsThawed, live_clauses, Models, Reduces, Becomes, ModelsRest, SatisfiesBut, Collects, IsResolved, Adds, Saves, Drops}
+use Rattle.varisat_simplify.specs.States.{State, pushed, removed, saved, clause_at, IsLive, IsThawed, Models, Reduces, Becomes, ModelsRest, SatisfiesBut, Collects, IsResolved, Adds, Saves, Drops}
 use Rattle.varisat_simplify.proofs.StateLemmas.{becomes_self, becomes_then, pushed_live, pushed_keeps, pushed_new, removed_live, removed_keeps, removed_even, pushed_even, satisfies_same, push_resolvent}
 use Rattle.varisat_simplify.proofs.ExtendLemmas.{extended_more, made_true, stays_true, amended_cases, amended_length}
 
@@ -239,6 +239,7 @@ pub saves_next : (s t : State) (l : Literal) (w g : List ℕ) (x : ℕ) (e : Cla
     Saves s t l w g x → Saves s (removed (saved t (l ∷ e)) (get_or w x 0)) l w g (x + 1)
 saves_next s t l w g x e h small thaw part whole r = record {
   becomes = becomes_then s t (removed (saved t (l ∷ e)) i) r.becomes (record {
+    more = ([], sym (append-nil t.clauses));
     count = refl;
     frozen = refl;
     reduces = λ P q. save_reduces P t l e i g small (r.each i iw) part whole r.others (λ j k. r.pairs i j iw k) thaw q;
@@ -299,7 +300,7 @@ drops_next s t m i h r = record {
     length-set (y ∷ xs) (suc i) x = ap suc (length-set xs i x)
 
 pub drops_end : (s t : State) (m : Literal) → m / 2 < s.var_count → IsThawed s m → ((k : ℕ) → IsLive s k → opposite m ∈ clause_at s k → ⊥) → Drops s t m → Becomes s t
-drops_end s t m small thaw pure r = record { count = r.count; frozen = r.frozen; reduces = λ P q. reduces P q }
+drops_end s t m small thaw pure r = record { more = ([], r.same ∙ sym (append-nil s.clauses)); count = r.count; frozen = r.frozen; reduces = λ P q. reduces P q }
   where
     at : (k : ℕ) → clause_at t k ≡ clause_at s k
     at k = ap (λ (cs : List Clause). get_or cs k []) r.same

@@ -1,13 +1,13 @@
 -- What the steps of a simplification make of a state.
-use Rattle.std.proofs.Common.{◌≡◌, ℕ, ◌+◌, ◌<◌, ◌≤◌, Bool, true, false, set, List, [], ◌∷◌, ◌++◌, ◌⊎◌, inl, inr, ⊎_elim, sym, ap, ◌∙◌, subst, refl, length, get_or, take, append_assoc, append-nil, arith}
+use Rattle.std.proofs.Common.{◌≡◌, ℕ, ◌+◌, ◌≤◌, Bool, true, false, set, List, [], ◌∷◌, ◌++◌, ◌⊎◌, inl, inr, ⊎_elim, sym, ap, ◌∙◌, subst, refl, length, get_or, take, append_assoc, append-nil, arith}
 use Rattle.varisat_theory.specs.Held.{SameClauses}
-use Rattle.varisat_theory.proofs.Held.{same_set-self, same_clauses-self}
-use Rattle.varisat_theory.specs.Derivations.{Line, Add, Delete, SpeakOf}
+use Rattle.varisat_theory.proofs.Held.{same_set-self, same_clauses-self, same_clauses-through}
+use Rattle.varisat_theory.specs.Derivations.{Delete, SpeakOf}
 use Rattle.varisat_simplify.specs.Leading.{LeadsTo, IsNamedBy, AreNamedBy}
 use Rattle.varisat_simplify.proofs.LeadingLemmas.{leads_self, leads_delete, leads_as, told_removed, named_more}
 use Rattle.varisat_theory.specs.Membership.{◌∈◌, ◌⊆◌, SameSet}
 use Rattle.varisat_theory.specs.Literals.{Literal, Clause, Assignment, opposite, Satisfies, SatisfiesAll}
-use Rattle.varisat_theory.proofs.Members.{equal_or_not, ∈-append_left, ∈-append_right, ∈-append_cases}
+use Rattle.varisat_theory.proofs.Members.{∈-append_left, ∈-append_right, ∈-append_cases}
 use Rattle.varisat_theory.proofs.Places.{∈-take_more, ∈-take_all}
 use Rattle.varisat_theory.proofs.Values.{true_or_opposite}
 use Rattle.varisat_simplify.specs.Stacks.{assignment_of, extended}
@@ -23,7 +23,7 @@ pub becomes_next : (s t u : State) → Becomes s t → u ≡ t → Becomes s u
 becomes_next s t u b e = subst (λ (v : State). Becomes s v) (sym e) b
 
 pub subsumed_becomes : (s t : State) (j i : ℕ) → t ≡ removed s i → IsLive s j → (j ≡ i → ⊥) → clause_at s j ⊆ clause_at s i → Becomes s t
-subsumed_becomes s t j i e live n part = becomes_next s (removed s i) t (record { count = refl; frozen = refl; reduces = λ P r. remove_reduces P s i j live n part r }) e
+subsumed_becomes s t j i e live n part = becomes_next s (removed s i) t (record { more = ([], sym (append-nil s.clauses)); count = refl; frozen = refl; reduces = λ P r. remove_reduces P s i j live n part r }) e
 
 pub strengthened_becomes : (s t u : State) (j i : ℕ) (l n : Literal) (c d e : Clause) → c ≡ clause_at s i → n ≡ opposite l → d ≡ e → t ≡ pushed s d → u ≡ removed t i →
     IsLive s j → IsLive s i → l ∈ clause_at s j → ((m : Literal) → m ∈ clause_at s j → (m ≡ l) ⊎ ((m ∈ clause_at s i) × (m ≡ opposite l → ⊥))) →
@@ -103,6 +103,7 @@ pub record Loads (P rest : List Clause) (n : ℕ) (frozen : List Bool) (s : Stat
   pub keeps : (a : Assignment) → SatisfiesAll a P → Models a s
   pub backs : (a : Assignment) → Models a s → SatisfiesAll a front
   pub leads : LeadsTo P s.lines (live_clauses s ++ rest)
+  pub same : SameClauses (s.clauses ++ rest) P
   pub named : AreNamedBy P s.clauses
   pub told : SpeakOf (IsNamedBy P) s.lines
   pub empty : s.stack ≡ []
@@ -117,6 +118,7 @@ loads_first P rest n frozen s e q = subst (λ (t : State). Loads P rest n frozen
   keeps = λ a h k live. absurd (let x = live in cc);
   backs = λ a m c h. absurd h;
   leads = subst (λ (l : List Clause). LeadsTo P [] l) (sym q) (leads_self P);
+  same = subst (λ (l : List Clause). SameClauses l P) (sym q) (same_clauses-self P);
   named = λ c l h m. absurd h;
   told = tt;
   empty = refl;
@@ -140,6 +142,11 @@ same_moved : (L tail : List Clause) (c e : Clause) → SameSet c e → SameClaus
 same_moved [] tail c e s = (tail, ([], c, tail, refl, s, refl), same_clauses-self tail)
 same_moved (d ∷ L) tail c e s = (L ++ c ∷ tail, ([], d, L ++ c ∷ tail, refl, same_set-self d, refl), same_moved L tail c e s)
 
+-- the next of the rest joins those that are there
+same_next : (P L rest tail : List Clause) (c e : Clause) → rest ≡ c ∷ tail → SameSet c e → SameClauses (L ++ rest) P → SameClauses ((L ++ e ∷ []) ++ tail) P
+same_next P L rest tail c e q s r = same_clauses-through ((L ++ e ∷ []) ++ tail) (L ++ c ∷ tail) P (same_moved L tail c e s)
+    (subst (λ (l : List Clause). SameClauses (L ++ l) P) q r)
+
 -- a tautology was loaded, and is gone
 pub loads_skip : (P rest tail : List Clause) (n : ℕ) (frozen : List Bool) (s t u : State) (c d : Clause) (i : ℕ) → rest ≡ c ∷ tail → IsTautology c → d ≡ c →
     i ≡ length s.clauses → t ≡ given s d → u ≡ removed t i → Loads P rest n frozen s → Loads P tail n frozen u
@@ -159,6 +166,7 @@ loads_skip P rest tail n frozen s t u c d i e x k q et eu r =
           (λ p. ⊎_elim (λ y. satisfies_same a f c y (satisfied_tautology a c x)) (λ z. absurd z) p)
           (∈-append_cases f r.front (c ∷ []) h);
       leads = gone;
+      same = same_next P s.clauses rest tail c c e (same_set-self c) r.same;
       named = named_more P s.clauses c own r.named;
       told = told_removed P s.lines (get_or (given s c).live (length s.clauses) false) (clause_at (given s c) (length s.clauses))
           (λ l h. own l (subst (λ (y : Clause). l ∈ y) (pushed_new s c r.even).1 h)) r.told;
@@ -213,6 +221,7 @@ loads_give P rest tail n frozen s t c e d q same eq qt r = subst (λ (u : State)
   leads = leads_as P s.lines (live_clauses s ++ rest) (live_clauses (given s e) ++ tail)
       (subst (λ (l : List Clause). SameClauses (l ++ tail) (live_clauses s ++ rest)) (sym (live_pushed s e r.even))
       (subst (λ (l : List Clause). SameClauses ((live_clauses s ++ e ∷ []) ++ tail) (live_clauses s ++ l)) (sym q) (same_moved (live_clauses s) tail c e same))) r.leads;
+  same = same_next P s.clauses rest tail c e q same r.same;
   named = named_more P s.clauses e (λ l h. (c, in_whole P r.front rest tail c r.whole q, same.1 l h)) r.named;
   told = r.told;
   empty = r.empty;
@@ -234,6 +243,9 @@ loads_end P rest n frozen s e r = record {
   where
     all : r.front ≡ P
     all = sym (append-nil r.front) ∙ ap (λ (x : List Clause). r.front ++ x) (sym e) ∙ r.whole
+
+pub loads_same : (P rest : List Clause) (n : ℕ) (frozen : List Bool) (s : State) → rest ≡ [] → Loads P rest n frozen s → SameClauses s.clauses P
+loads_same P rest n frozen s e r = subst (λ (l : List Clause). SameClauses l P) (ap (λ (l : List Clause). s.clauses ++ l) e ∙ append-nil s.clauses) r.same
 
 pub loads_count : (P rest : List Clause) (n : ℕ) (frozen : List Bool) (s : State) → Loads P rest n frozen s → s.var_count ≡ n
 loads_count P rest n frozen s r = r.count

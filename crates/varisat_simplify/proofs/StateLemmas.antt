@@ -1,6 +1,6 @@
 -- What pushing and removing make of a state.
-use Rattle.std.proofs.Common.{◌≡◌, ℕ, zero, suc, ◌+◌, ◌<◌, ◌≤◌, Bool, true, false, List, [], ◌∷◌, ◌++◌, ◌⊎◌, inl, inr, ⊎_elim, sym, ap, ◌∙◌, subst, refl, length, get_or, set, map, arith}
-use Rattle.std.proofs.lemmas.List.{get_or_append_left, map-append, length-append, append_assoc}
+use Rattle.std.proofs.Common.{◌≡◌, ℕ, zero, suc, ◌+◌, ◌<◌, ◌≤◌, Bool, true, false, List, [], ◌∷◌, ◌++◌, ◌⊎◌, inl, inr, ⊎_elim, sym, ap, ◌∙◌, subst, refl, length, get_or, set, append-nil, arith}
+use Rattle.std.proofs.lemmas.List.{get_or_append_left, length-append, append_assoc}
 use Rattle.varisat_theory.specs.Membership.{◌∈◌, ◌⊆◌}
 use Rattle.varisat_theory.specs.Literals.{Literal, Clause, Assignment, opposite, value, Satisfies}
 use Rattle.varisat_theory.specs.Propagation.{FalseClause, Propagate, Follows}
@@ -13,10 +13,18 @@ use Rattle.varisat_simplify.specs.Leading.{LeadsTo, IsNamedBy}
 use Rattle.varisat_simplify.proofs.LeadingLemmas.{flagged_pushed, flagged_has, leads_add, leads_removed, told_add, told_removed, named_more, named_at}
 
 pub becomes_self : (s : State) → Becomes s s
-becomes_self s = record { count = refl; frozen = refl; reduces = λ P r. r }
+becomes_self s = record { more = ([], sym (append-nil s.clauses)); count = refl; frozen = refl; reduces = λ P r. r }
 
 pub becomes_then : (s t u : State) → Becomes s t → Becomes t u → Becomes s u
-becomes_then s t u b d = record { count = d.count ∙ b.count; frozen = d.frozen ∙ b.frozen; reduces = λ P r. d.reduces P (b.reduces P r) }
+becomes_then s t u b d = record {
+  more = (
+    b.more.0 ++ d.more.0,
+    d.more.1 ∙ ap (λ (x : List Clause). x ++ d.more.0) b.more.1 ∙ append_assoc s.clauses b.more.0 d.more.0,
+  );
+  count = d.count ∙ b.count;
+  frozen = d.frozen ∙ b.frozen;
+  reduces = λ P r. d.reduces P (b.reduces P r);
+}
 
 -- what is read from a list with one more at its end
 get_or-pushed : {X : Type 0} (xs : List X) (x d : X) (k : ℕ) → ((k < length xs) × (get_or (xs ++ x ∷ []) k d ≡ get_or xs k d))
@@ -185,6 +193,7 @@ pub push_resolvent : (s : State) (i j : ℕ) (l : Literal) (e : Clause) → IsLi
     ((m : Literal) → m ∈ clause_at s i → (m ≡ l) ⊎ (m ∈ e)) → ((m : Literal) → m ∈ clause_at s j → (m ≡ opposite l) ⊎ (m ∈ e)) →
     ((m : Literal) → m ∈ e → (m ∈ clause_at s i) ⊎ (m ∈ clause_at s j)) → Becomes s (pushed s e)
 push_resolvent s i j l e li lj hl left right from = record {
+  more = (e ∷ [], refl);
   count = refl;
   frozen = refl;
   reduces = λ P r. push_reduces P s e
@@ -199,6 +208,7 @@ pub strengthened : (s : State) (j i : ℕ) (l : Literal) (e : Clause) → IsLive
     ((m : Literal) → m ∈ clause_at s j → (m ≡ l) ⊎ (m ∈ e)) → ((m : Literal) → m ∈ clause_at s i → (m ≡ opposite l) ⊎ (m ∈ e)) → e ⊆ clause_at s i →
     Becomes s (removed (pushed s e) i)
 strengthened s j i l e lj li hl left right part = record {
+  more = (e ∷ [], refl);
   count = refl;
   frozen = refl;
   reduces = λ P r.

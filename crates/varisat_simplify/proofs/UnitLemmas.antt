@@ -97,6 +97,7 @@ pub shortened : (s t u : State) (i : ℕ) (c d e : Clause) → c ≡ clause_at s
 shortened s t u i c d e ec ed et eu live out =
     becomes_next s (removed (pushed s e) i) u
     (record {
+      more = (e ∷ [], refl);
       count = refl;
       frozen = refl;
       reduces = λ P r.

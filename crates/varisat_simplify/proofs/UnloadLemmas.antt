@@ -1,13 +1,17 @@
 -- The live clauses as a formula.
-use Rattle.std.proofs.Common.{◌≡◌, ℕ, zero, suc, ◌+◌, ◌/◌, ◌<◌, ◌≤◌, Bool, true, false, List, [], ◌∷◌, ◌++◌, sym, ap, ◌∙◌, subst, refl, length, get_or, take, take_all, append-nil, add-one, arith}
+use Rattle.std.proofs.Common.{◌≡◌, ℕ, zero, suc, ◌+◌, ◌/◌, ◌<◌, ◌≤◌, Bool, true, false, List, [], ◌∷◌, ◌++◌, inl, inr, sym, ap, ◌∙◌, subst, refl, length, get_or, take, take_all, append-nil, add-one, arith}
 use Rattle.varisat_theory.specs.Membership.{◌∈◌}
-use Rattle.varisat_theory.specs.Literals.{Clause, Assignment, SatisfiesAll}
+use Rattle.std.proofs.lemmas.List.{length-append}
+use Rattle.varisat_theory.specs.Literals.{Clause}
+use Rattle.varisat_theory.specs.Derivations.{Line}
+use Rattle.varisat_theory.specs.Held.{SameClauses}
+use Rattle.varisat_theory.proofs.Held.{same_clauses_find, same_clauses-back}
 use Rattle.varisat_formula.specs.Formulas.{Formula, AllBelow, AreBelow, with_one_more}
-use Rattle.varisat_simplify.specs.Leading.{LeadsTo, IsNamedBy}
-use Rattle.varisat_simplify.specs.Stacks.{assignment_of, extended, KeepsFrozen}
-use Rattle.varisat_simplify.specs.States.{State, flagged, clause_at, live_clauses, Models, Reduces, Becomes}
-use Rattle.varisat_simplify.specs.Simplified.{Lists, IsMadeOf, DerivesBehind, RefutesBehind}
-use Rattle.varisat_simplify.proofs.StateLemmas.{clause_held, satisfies_same}
+use Rattle.varisat_simplify.specs.Leading.{LeadsTo}
+use Rattle.varisat_simplify.specs.Stacks.{assignment_of, KeepsFrozen}
+use Rattle.varisat_simplify.specs.States.{State, flagged, clause_at, Reduces, Becomes}
+use Rattle.varisat_simplify.specs.Simplified.{Lists, Finishes, IsReduced, IsMadeOf, DerivesBehind, RefutesBehind}
+use Rattle.varisat_simplify.proofs.StateLemmas.{clause_held, satisfies_more, satisfies_same}
 use Rattle.varisat_simplify.proofs.ExtendLemmas.{keeps_frozen}
 use Rattle.varisat_simplify.proofs.LeadingLemmas.{flagged_from, named_at, derives_behind, refutes_behind}
 
@@ -85,9 +89,66 @@ made f g s t o c b e =
       told = r.told;
     }
 
+-- a formula of the same clauses
+pub made_same : (f g : Formula) → SameClauses g.clauses f.clauses → IsMadeOf f g [] []
+made_same f g e = record {
+  keeps = λ a h c m. let d = same_clauses_find g.clauses f.clauses e c m in satisfies_more a d.0 c d.2.0 (h d.0 d.1);
+  extends = λ vs b h c m.
+      let d = same_clauses_find f.clauses g.clauses (same_clauses-back g.clauses f.clauses e) c m in satisfies_more (assignment_of vs) d.0 c d.2.0 (h d.0 d.1);
+  leads = record { present = f.clauses; steps = refl; same = e };
+  named = λ c l m h. let d = same_clauses_find g.clauses f.clauses e c m in (d.0, d.1, d.2.1 l h);
+  told = tt;
+}
+
+take_first : {X : Type 0} (xs ys : List X) → take (length xs) (xs ++ ys) ≡ xs
+take_first [] [] = refl
+take_first [] (y ∷ ys) = refl
+take_first (x ∷ xs) ys = ap (λ (l : List _). x ∷ l) (take_first xs ys)
+
+-- what is handed out is made of what was loaded
+pub finished : (f g : Formula) (n count : ℕ) (frozen : List Bool) (t : State) (stack : List Clause) (lines : List Line) → ((m : ℕ) → AreBelow m f.clauses → n ≤ m) →
+    IsReduced f.clauses n frozen count t → Finishes t count g stack lines → IsMadeOf f g stack lines
+finished f g n count frozen t stack lines least r (inl h) =
+    subst (λ (st : List Clause). IsMadeOf f g st lines) (sym h.1) (subst (λ (ls : List Line). IsMadeOf f g t.stack ls) (sym h.2)
+    (made f g r.loaded t r.reduces (λ m b. let v = r.vars in let l = least m b in omega (arith, v, l)) r.becomes h.0))
+finished f g n count frozen t stack lines least r (inr h) =
+    subst (λ (st : List Clause). IsMadeOf f g st lines) (sym h.1) (subst (λ (ls : List Line). IsMadeOf f g [] ls) (sym h.2)
+    (made_same f g (subst (λ (l : List Clause). SameClauses l f.clauses) (sym e) r.same)))
+  where
+    e : g.clauses ≡ r.loaded.clauses
+    e = h.0 ∙ ap (λ (l : List Clause). take count l) r.becomes.more.1 ∙ ap (λ k. take k (r.loaded.clauses ++ r.becomes.more.0)) r.whole
+        ∙ take_first r.loaded.clauses r.becomes.more.0
+
 -- no extension changes a frozen variable
 pub stays_frozen : (P : List Clause) (s t : State) (frozen : List Bool) → Reduces P s → s.frozen ≡ frozen → Becomes s t → KeepsFrozen frozen t.stack
 stays_frozen P s t frozen o e b = subst (λ (f : List Bool). KeepsFrozen f t.stack) (b.frozen ∙ e) (keeps_frozen t.frozen t.stack (b.reduces P o).thawed)
+
+-- none that what is handed out makes
+pub finished_frozen : (P : List Clause) (g : Formula) (n count : ℕ) (frozen : List Bool) (t : State) (stack : List Clause) (lines : List Line) →
+    IsReduced P n frozen count t → Finishes t count g stack lines → KeepsFrozen frozen stack
+finished_frozen P g n count frozen t stack lines r (inl h) =
+    subst (λ (st : List Clause). KeepsFrozen frozen st) (sym h.1) (stays_frozen P r.loaded t frozen r.reduces r.flags r.becomes)
+finished_frozen P g n count frozen t stack lines r (inr h) = subst (λ (st : List Clause). KeepsFrozen frozen st) (sym h.1) (λ vs v e. refl)
+
+-- the clauses that were loaded are among those of the state
+pub reduced_room : (P : List Clause) (n count : ℕ) (frozen : List Bool) (t : State) → IsReduced P n frozen count t → count ≤ length t.clauses
+reduced_room P n count frozen t r =
+    let e = ap length r.becomes.more.1 ∙ length-append r.loaded.clauses r.becomes.more.0 in let w = r.whole in omega (arith, e, w)
+
+-- one clause more of the first
+pub first_next : (f g : Formula) (cs : List Clause) (i : ℕ) (c : Clause) → i < length cs → g ≡ with_one_more f c → c ≡ get_or cs i [] → f.clauses ≡ take i cs →
+    g.clauses ≡ take (i + 1) cs
+first_next f g cs i c h e q r =
+    ap (λ (x : Formula). x.clauses) e ∙ ap (λ (l : List Clause). l ++ c ∷ []) r ∙ ap (λ (x : Clause). take i cs ++ x ∷ []) q ∙ sym (rw add-one (go cs i h))
+  where
+    go : (xs : List Clause) (k : ℕ) → k < length xs → take (suc k) xs ≡ take k xs ++ get_or xs k [] ∷ []
+    go [] k n = absurd (omega (arith, n))
+    go (x ∷ xs) zero n = ap (λ (l : List Clause). x ∷ l) (none xs)
+      where
+        none : (ys : List Clause) → take 0 ys ≡ []
+        none [] = refl
+        none (y ∷ ys) = refl
+    go (x ∷ xs) (suc k) n = ap (λ (l : List Clause). x ∷ l) (go xs k (omega (arith, n)))
 
 pub derives_made : DerivesBehind
 derives_made f g stack lines more m d = derives_behind f.clauses lines g.clauses more m.leads d

@@ -2,6 +2,7 @@ pub mod Cuts
 pub mod Flags
 pub mod Leading
 pub mod Lending
+pub mod Names
 pub mod Resolving
 pub mod Simplified
 pub mod Sound

@@ -1,16 +1,33 @@
 -- What a simplified formula is.
-use Rattle.std.specs.Prelude.{◌≡◌, ℕ, ◌≤◌, Bool, List, ◌++◌, length}
+use Rattle.std.specs.Prelude.{◌≡◌, ℕ, ◌≤◌, Bool, List, [], ◌++◌, ◌⊎◌, length, take}
 use Rattle.varisat_theory.specs.Literals.{Clause, Assignment, SatisfiesAll}
 use Rattle.varisat_theory.specs.Derivations.{Line, IsDerivation, Refutes, SpeakOf}
+use Rattle.varisat_theory.specs.Held.{SameClauses}
 use Rattle.varisat_formula.specs.Formulas.{Formula, AreBelow}
 use Rattle.varisat_simplify.specs.Leading.{LeadsTo, IsNamedBy, AreNamedBy}
 use Rattle.varisat_simplify.specs.Stacks.{assignment_of, extended}
-use Rattle.varisat_simplify.specs.States.{State, live_clauses}
+use Rattle.varisat_simplify.specs.States.{State, live_clauses, Reduces, Becomes}
 
 -- the formula has just the live clauses
 pub record Lists (s : State) (f : Formula) : Type 0 where
   pub count : s.var_count ≤ f.var_count
   pub same : f.clauses ≡ live_clauses s
+
+-- The clauses P were loaded, so many of them, and the state was made of that.
+pub record IsReduced (P : List Clause) (n : ℕ) (frozen : List Bool) (count : ℕ) (t : State) : Type 0 where
+  pub loaded : State
+  pub reduces : Reduces P loaded
+  pub same : SameClauses loaded.clauses P
+  pub becomes : Becomes loaded t
+  pub vars : loaded.var_count ≡ n
+  pub flags : loaded.frozen ≡ frozen
+  pub whole : count ≡ length loaded.clauses
+
+-- What is handed out is what is live, or the first clauses as they are.
+abbrev pub Finishes : State → ℕ → Formula → List Clause → List Line → Type 0
+Finishes s count g stack lines =
+    (Lists s g × (stack ≡ s.stack) × (lines ≡ s.lines)) ⊎
+    ((g.clauses ≡ take count s.clauses) × (stack ≡ []) × (lines ≡ []))
 
 -- The formula g was made of f. The stack extends its models, and the lines are a proof that leads to it.
 pub record IsMadeOf (f g : Formula) (stack : List Clause) (lines : List Line) : Type 0 where

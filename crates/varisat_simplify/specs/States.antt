@@ -1,5 +1,5 @@
 -- What a database of clauses holds, and what it has to do with the clauses that it was made of.
-use Rattle.std.specs.Prelude.{◌≡◌, ℕ, ◌/◌, ◌<◌, ◌≤◌, Bool, true, false, List, [], ◌∷◌, ◌++◌, ◌⊎◌, length, map, take, slice_index_or, slice_set}
+use Rattle.std.specs.Prelude.{◌≡◌, ℕ, ◌/◌, ◌<◌, ◌≤◌, Bool, true, false, List, [], ◌∷◌, ◌++◌, ◌⊎◌, length, take, slice_index_or, slice_set}
 use Rattle.varisat_theory.specs.Membership.{◌∈◌}
 use Rattle.varisat_theory.specs.Literals.{Literal, Clause, Assignment, opposite, value, Satisfies, SatisfiesAll}
 use Rattle.varisat_theory.specs.Derivations.{Line, Add, Delete, SpeakOf}
@@ -89,8 +89,9 @@ pub record Reduces (P : List Clause) (s : State) : Type 0 where
   -- the stack changes no frozen variable
   pub thawed : (c : Clause) → c ∈ s.stack → avoids s.frozen c ≡ true
 
--- What a state becomes says what it said.
+-- What a state becomes says what it said, and has its clauses first.
 pub record Becomes (s t : State) : Type 0 where
+  pub more : (rest : List Clause) × (t.clauses ≡ s.clauses ++ rest)
   pub count : t.var_count ≡ s.var_count
   pub frozen : t.frozen ≡ s.frozen
   pub reduces : (P : List Clause) → Reduces P s → Reduces P t

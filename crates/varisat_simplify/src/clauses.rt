@@ -1,15 +1,18 @@
 //! Clauses one behind the other in one buffer, none of which ever changes or leaves.
-ghost use Rattle.std.specs.Prelude.{◌≡◌, ℕ, List, ◌+◌, ◌∷◌, ◌++◌, [], ◌<◌, ◌≤◌, length, OnOk, OnErr, slice_index_or};
+ghost use Rattle.std.specs.Prelude.{◌≡◌, ℕ, List, ◌+◌, ◌∷◌, ◌++◌, [], ◌<◌, ◌^◌, length, IsTrue, OnOk, OnErr, slice_index_or};
 ghost use Rattle.varisat_simplify.specs.Cuts.{start_of};
 
 use std::alloc::{AllocError, Allocator};
 use std::marker::Model;
 use varisat_literals::Lit;
 
+/// The most literals that all clauses have.
+const MOST_LITERALS: usize = 0xffff_ffff;
+
 /// A list of clauses.
 #[derive(Drop)]
 pub struct ClauseList<A: Allocator + Copy> {
-    ends: Vec<usize, A>,
+    ends: Vec<u32, A>,
     literals: Vec<Lit, A>,
 }
 
@@ -25,14 +28,21 @@ impl<A: Allocator + Copy> Model for ClauseList<A> {
 }
 
 /// Where the clause at the index begins.
-fn start_of(ends: &[usize], index: usize) -> usize
+fn start_of(ends: &[u32], index: usize) -> usize
     requires { index < length ends.now }
     ensures { result ≡ start_of 0 ends.now index }
 {
     if index == 0 {
         return 0;
     }
-    ends[index - 1]
+    ends[index - 1] as usize
+}
+
+/// Whether so many literals more are not too many.
+fn has_room(literals: &[Lit], count: usize) -> bool
+    ensures { IsTrue result → length literals.now + count < 2 ^ 32 }
+{
+    count <= MOST_LITERALS && literals.len() <= MOST_LITERALS - count
 }
 
 impl<A: Allocator + Copy> ClauseList<A> {
@@ -72,10 +82,13 @@ impl<A: Allocator + Copy> ClauseList<A> {
         ensures ok { OnOk result (self.new ≡ self.old ++ clause.now ∷ []) }
         ensures err { OnErr result (self.new ≡ self.old) }
     {
+        if !has_room(&self.literals, clause.len()) {
+            return Err(AllocError);
+        }
         self.ends.reserve(1)?;
         self.literals.extend_from_slice(clause)?;
         let end = self.literals.len();
-        self.ends.push_reserved(end);
+        self.ends.push_reserved(end as u32);
         Ok(())
     }
 
@@ -86,6 +99,6 @@ impl<A: Allocator + Copy> ClauseList<A> {
     {
         let start = start_of(&self.ends, index);
         let end = self.ends[index];
-        &self.literals[start..end]
+        &self.literals[start..end as usize]
     }
 }

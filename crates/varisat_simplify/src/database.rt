@@ -7,17 +7,19 @@ ghost use Rattle.varisat_simplify.specs.Sound.{Grows, IsListed, AreListed};
 
 use crate::clauses::ClauseList;
 use crate::history::History;
+use crate::names::ShortNames;
 use crate::occurrences::{Occurrences, count_at};
 use std::alloc::{AllocError, Allocator};
 use std::marker::Model;
 use varisat_formula::formula::cnf::CnfFormula;
-use varisat_literals::Lit;
+use varisat_literals::{Lit, Var};
 
 /// The clauses, which of them are live, and by what models are extended once they are gone.
 #[derive(Drop)]
 pub struct Database<A: Allocator + Copy> {
     var_count: usize,
     frozen: Vec<bool, A>,
+    names: ShortNames<A>,
     history: History<A>,
     live: Vec<bool, A>,
     stack: ClauseList<A>,
@@ -25,7 +27,7 @@ pub struct Database<A: Allocator + Copy> {
     occurrences: Occurrences<A>,
     signatures: Vec<u32, A>,
     counts: Vec<u32, A>,
-    touched: Vec<u32, A>,
+    touched: Vec<Var, A>,
     is_touched: Vec<bool, A>,
 }
 
@@ -37,7 +39,7 @@ impl<A: Allocator + Copy> Model for Database<A> {
 
     ghost view = { λ d. record { var_count = d.var_count; frozen = d.frozen.items; clauses = d.history.clauses; live = d.live.items; lines = d.history.lines; stack = d.stack } };
 
-    ghost invariant = { λ d. IsSound d.var_count d.history.clauses d.live.items d.is_listed d.occurrences };
+    ghost invariant = { λ d. IsSound d.var_count d.history.clauses d.live.items d.is_listed d.names d.occurrences };
 }
 
 /// One bit for each variable of the clause, out of 32.
@@ -50,9 +52,14 @@ fn signature_of(clause: &[Lit]) -> u32 {
 }
 
 /// Counts one clause more, or fewer, for each of the literals.
-fn recount(counts: &mut [u32], clause: &[Lit], is_added: bool) {
+fn recount<A: Allocator + Copy>(
+    counts: &mut [u32],
+    names: &ShortNames<A>,
+    clause: &[Lit],
+    is_added: bool,
+) {
     for lit in clause {
-        if let Some(count) = counts.get_mut(lit.code()) {
+        if let Some(count) = counts.get_mut(names.of(*lit).code()) {
             *count = if is_added {
                 count.saturating_add(1)
             } else {
@@ -62,13 +69,19 @@ fn recount(counts: &mut [u32], clause: &[Lit], is_added: bool) {
     }
 }
 
-/// Notes that the clauses of the variable changed. It is forgotten where there is no memory.
-fn touch<A: Allocator + Copy>(touched: &mut Vec<u32, A>, flags: &mut [bool], var: usize) {
-    if var >= flags.len() || var >= 0xffff_ffff || flags[var] {
+/// Notes that the clauses of the literal's variable changed. It is forgotten where there is no memory.
+fn touch<A: Allocator + Copy>(
+    touched: &mut Vec<Var, A>,
+    flags: &mut [bool],
+    names: &ShortNames<A>,
+    lit: Lit,
+) {
+    let short = names.of(lit).index();
+    if short >= flags.len() || flags[short] {
         return;
     }
-    if touched.push(var as u32).is_ok() {
-        flags[var] = true;
+    if touched.push(lit.var()).is_ok() {
+        flags[short] = true;
     }
 }
 
@@ -76,57 +89,79 @@ fn touch<A: Allocator + Copy>(touched: &mut Vec<u32, A>, flags: &mut [bool], var
 fn note_change<A: Allocator + Copy>(
     is_listed: bool,
     counts: &mut [u32],
-    touched: &mut Vec<u32, A>,
+    touched: &mut Vec<Var, A>,
     flags: &mut [bool],
+    names: &ShortNames<A>,
     clause: &[Lit],
     is_added: bool,
 ) {
     if !is_listed {
         return;
     }
-    recount(counts, clause, is_added);
+    recount(counts, names, clause, is_added);
     for lit in clause {
-        touch(touched, flags, lit.index());
+        touch(touched, flags, names, *lit);
     }
 }
 
-/// Notes that the clauses of all variables changed.
-fn touch_all<A: Allocator + Copy>(touched: &mut Vec<u32, A>, flags: &mut [bool]) {
-    for var in 0..flags.len() {
-        touch(touched, flags, var);
+/// Notes the variables of a clause that is added, once clauses are listed. Room for it is there.
+fn sign<A: Allocator + Copy>(is_listed: bool, signatures: &mut Vec<u32, A>, clause: &[Lit]) {
+    if is_listed {
+        let _ = signatures.push(signature_of(clause));
     }
+}
+
+/// Notes the variables of each clause.
+fn sign_all<A: Allocator + Copy>(
+    signatures: &mut Vec<u32, A>,
+    history: &History<A>,
+) -> Result<(), AllocError> {
+    signatures.clear();
+    signatures.reserve_exact(history.len())?;
+    for place in 0..history.len() {
+        signatures.push(signature_of(history.clause(place)))?;
+    }
+    Ok(())
 }
 
 /// Lists a clause, if that is wanted.
 fn list_clause<A: Allocator + Copy>(
     occurrences: &mut Occurrences<A>,
+    names: &ShortNames<A>,
     clause: &[Lit],
     place: usize,
     is_wanted: bool,
 ) -> Result<(), AllocError>
     requires { place < 2 ^ 32 }
     ensures grows { Grows occurrences.old occurrences.new }
-    ensures ok { OnOk result (is_wanted ≡ true → IsListed occurrences.new clause.now place) }
+    ensures ok { OnOk result (is_wanted ≡ true → IsListed names.now occurrences.new clause.now place) }
 {
     if !is_wanted {
         return Ok(());
     }
-    occurrences.add_all(clause, place as u32)?;
+    occurrences.add_all(names, clause, place as u32)?;
     Ok(())
 }
 
 /// Lists each live clause.
 fn list_live<A: Allocator + Copy>(
     occurrences: &mut Occurrences<A>,
+    names: &ShortNames<A>,
     history: &History<A>,
     live: &[bool],
 ) -> Result<(), AllocError>
     requires { length live.now ≡ length history.now.clauses }
     ensures grows { Grows occurrences.old occurrences.new }
-    ensures ok { OnOk result (AreListed history.now.clauses live.now occurrences.new) }
+    ensures ok { OnOk result (AreListed names.now history.now.clauses live.now occurrences.new) }
 {
     for place in 0..history.len() {
-        list_clause(occurrences, history.clause(place), place, live[place])?;
+        list_clause(
+            occurrences,
+            names,
+            history.clause(place),
+            place,
+            live[place],
+        )?;
     }
     Ok(())
 }
@@ -144,17 +179,32 @@ pub(crate) fn filled<T: Copy, A: Allocator + Copy>(
     Ok(list)
 }
 
-/// Counts the literals of the live clauses one by one.
-fn count_live<A: Allocator + Copy>(counts: &mut [u32], history: &History<A>, live: &[bool]) {
+/// Notes each live clause as one more.
+fn note_live<A: Allocator + Copy>(
+    counts: &mut [u32],
+    touched: &mut Vec<Var, A>,
+    flags: &mut [bool],
+    names: &ShortNames<A>,
+    history: &History<A>,
+    live: &[bool],
+) {
     for place in 0..history.len() {
         if let Some(true) = live.get(place) {
-            recount(counts, history.clause(place), true);
+            note_change(
+                true,
+                counts,
+                touched,
+                flags,
+                names,
+                history.clause(place),
+                true,
+            );
         }
     }
 }
 
 /// How many literals the formula's clauses have.
-fn literals_in<A: Allocator + Copy>(formula: &CnfFormula<A>) -> usize {
+pub(crate) fn literals_in<A: Allocator + Copy>(formula: &CnfFormula<A>) -> usize {
     let mut literals: usize = 0;
     for clause in formula.iter() {
         literals = literals.saturating_add(clause.len());
@@ -163,19 +213,26 @@ fn literals_in<A: Allocator + Copy>(formula: &CnfFormula<A>) -> usize {
 }
 
 impl<A: Allocator + Copy> Database<A> {
-    /// No clauses, over so many variables, of which the flagged ones are frozen.
-    pub fn new_in(alloc: A, var_count: usize, frozen: &[bool]) -> Result<Database<A>, AllocError>
+    /// No clauses, over so many variables, of which the flagged ones are frozen. Tables are by their short names.
+    pub fn new_in(
+        alloc: A,
+        var_count: usize,
+        frozen: &[bool],
+        names: ShortNames<A>,
+    ) -> Result<Database<A>, AllocError>
         requires { var_count ≤ 2 ^ 31 }
         ensures { IfOk result (λ d. d ≡ no_clauses var_count frozen.now) }
     {
         let mut flags = Vec::new(alloc);
         flags.extend_from_slice(frozen)?;
-        let counts = filled(alloc, 2 * var_count, 0u32)?;
-        let is_touched = filled(alloc, var_count, false)?;
-        let occurrences = Occurrences::new_in(alloc, 2 * var_count)?;
+        let size = names.len();
+        let counts = filled(alloc, size.saturating_mul(2), 0u32)?;
+        let is_touched = filled(alloc, size, false)?;
+        let occurrences = Occurrences::new_in(alloc, size.saturating_mul(2))?;
         Ok(Database {
             var_count,
             frozen: flags,
+            names,
             history: History::new_in(alloc),
             live: Vec::new(alloc),
             stack: ClauseList::new_in(alloc),
@@ -194,7 +251,6 @@ impl<A: Allocator + Copy> Database<A> {
     {
         self.history.reserve(formula.len(), literals_in(formula))?;
         self.live.reserve_exact(formula.len())?;
-        self.signatures.reserve_exact(formula.len())?;
         Ok(())
     }
 
@@ -205,13 +261,38 @@ impl<A: Allocator + Copy> Database<A> {
         if self.is_listed {
             return Ok(());
         }
-        count_live(&mut self.counts, &self.history, &self.live);
+        sign_all(&mut self.signatures, &self.history)?;
+        note_live(
+            &mut self.counts,
+            &mut self.touched,
+            &mut self.is_touched,
+            &self.names,
+            &self.history,
+            &self.live,
+        );
         self.occurrences
-            .reserve_lists(self.var_count, &self.counts)?;
-        list_live(&mut self.occurrences, &self.history, &self.live)?;
+            .reserve_lists(self.names.len(), &self.counts)?;
+        list_live(
+            &mut self.occurrences,
+            &self.names,
+            &self.history,
+            &self.live,
+        )?;
         self.is_listed = true;
-        touch_all(&mut self.touched, &mut self.is_touched);
         Ok(())
+    }
+
+    /// Forgets the lists, and what else only serves to change clauses, so that its memory is there for what comes then.
+    pub fn unlist(&mut self)
+        ensures { self.new ≡ self.old }
+    {
+        let alloc = *self.live.allocator();
+        self.is_listed = false;
+        self.occurrences = Occurrences::none_in(alloc);
+        self.signatures = Vec::new(alloc);
+        self.counts = Vec::new(alloc);
+        self.touched = Vec::new(alloc);
+        self.is_touched = Vec::new(alloc);
     }
 
     /// How many variables there are.
@@ -245,6 +326,11 @@ impl<A: Allocator + Copy> Database<A> {
         self.history.literal_count()
     }
 
+    /// The short names of the variables.
+    pub fn names(&self) -> &ShortNames<A> {
+        &self.names
+    }
+
     /// Whether the clause at the place is there and live.
     pub fn is_live(&self, place: usize) -> bool
         ensures { result ≡ slice_index_or self.now.live place false }
@@ -275,7 +361,7 @@ impl<A: Allocator + Copy> Database<A> {
 
     /// How many live clauses have the literal.
     pub fn count(&self, lit: Lit) -> usize {
-        count_at(&self.counts, lit)
+        count_at(&self.counts, self.names.of(lit))
     }
 
     /// Places among which each live clause with the literal is. None if the clauses are not listed.
@@ -286,18 +372,22 @@ impl<A: Allocator + Copy> Database<A> {
         if !self.is_listed {
             return None;
         }
-        if lit.code() >= self.occurrences.len() {
+        let short = self.names.of(lit);
+        if short.code() >= self.occurrences.len() {
             return Some(&[]);
         }
-        Some(self.occurrences.list(lit))
+        Some(self.occurrences.list(short))
     }
 
     /// A variable whose clauses changed since it was last returned.
-    pub fn take_touched(&mut self) -> Option<usize>
+    pub fn take_touched(&mut self) -> Option<Var>
         ensures { self.new ≡ self.old }
     {
-        let var = self.touched.pop()? as usize;
-        if let Some(flag) = self.is_touched.get_mut(var) {
+        let var = self.touched.pop()?;
+        if let Some(flag) = self
+            .is_touched
+            .get_mut(self.names.of(var.positive()).index())
+        {
             *flag = false;
         }
         Some(var)
@@ -326,17 +416,24 @@ impl<A: Allocator + Copy> Database<A> {
         ensures err { OnErr result (self.new ≡ self.old) }
     {
         let place = self.history.len();
-        list_clause(&mut self.occurrences, clause, place, self.is_listed)?;
+        list_clause(
+            &mut self.occurrences,
+            &self.names,
+            clause,
+            place,
+            self.is_listed,
+        )?;
         self.live.reserve(1)?;
         self.signatures.reserve(1)?;
         self.history.push(clause, is_given)?;
         self.live.push_reserved(true);
-        self.signatures.push_reserved(signature_of(clause));
+        sign(self.is_listed, &mut self.signatures, clause);
         note_change(
             self.is_listed,
             &mut self.counts,
             &mut self.touched,
             &mut self.is_touched,
+            &self.names,
             clause,
             true,
         );
@@ -357,6 +454,7 @@ impl<A: Allocator + Copy> Database<A> {
             &mut self.counts,
             &mut self.touched,
             &mut self.is_touched,
+            &self.names,
             self.history.clause(place),
             false,
         );
@@ -367,12 +465,13 @@ impl<A: Allocator + Copy> Database<A> {
     pub fn tidy(&mut self, lit: Lit)
         ensures { self.new ≡ self.old }
     {
-        if lit.code() >= self.occurrences.len() {
+        let short = self.names.of(lit);
+        if short.code() >= self.occurrences.len() {
             return;
         }
         let count = self.count(lit).saturating_mul(2).saturating_add(8);
-        if self.occurrences.list(lit).len() > count {
-            self.occurrences.keep(lit, &self.live);
+        if self.occurrences.list(short).len() > count {
+            self.occurrences.keep(short, &self.live);
         }
     }
 

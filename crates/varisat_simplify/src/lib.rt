@@ -7,6 +7,7 @@ pub mod eliminate;
 pub mod history;
 pub mod laws;
 pub mod lists;
+pub mod names;
 pub mod occurrences;
 pub mod propagate;
 pub mod resolve;

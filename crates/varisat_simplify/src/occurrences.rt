@@ -5,9 +5,13 @@ ghost use Rattle.varisat_simplify.specs.Sound.{Grows, IsListed, KeepsLive};
 ghost use Rattle.varisat_simplify.specs.Flags.{is_flagged};
 
 use crate::lists::push_lists;
+use crate::names::ShortNames;
 use std::alloc::{AllocError, Allocator};
 use std::marker::Model;
 use varisat_literals::Lit;
+
+/// The most variables that there are.
+const MOST_VARIABLES: usize = 0x8000_0000;
 
 /// A list for each literal.
 #[derive(Drop)]
@@ -26,6 +30,13 @@ impl<A: Allocator + Copy> Model for Occurrences<A> {
 impl<A: Allocator + Copy> Occurrences<A> {
     ghost use Rattle.std.specs.Borrow.{sem};
     ghost use Rattle.varisat_simplify.specs.Lending.{lends_places};
+
+    /// No lists. It takes no memory.
+    pub fn none_in(alloc: A) -> Occurrences<A> {
+        Occurrences {
+            by_lit: Vec::new(alloc),
+        }
+    }
 
     /// So many empty lists.
     pub fn new_in(alloc: A, count: usize) -> Result<Occurrences<A>, AllocError>
@@ -73,10 +84,9 @@ impl<A: Allocator + Copy> Occurrences<A> {
 
     /// Makes room for so many more places of each literal of the first variables.
     pub fn reserve_lists(&mut self, var_count: usize, counts: &[u32]) -> Result<(), AllocError>
-        requires { var_count ≤ 2 ^ 31 }
         ensures { self.new ≡ self.old }
     {
-        for index in 0..var_count {
+        for index in 0..var_count.min(MOST_VARIABLES) {
             let lit = Lit::from_index(index, true);
             self.reserve(lit, count_at(counts, lit))?;
             self.reserve(!lit, count_at(counts, !lit))?;
@@ -103,16 +113,23 @@ impl<A: Allocator + Copy> Occurrences<A> {
         retain_flagged(list, flags);
     }
 
-    /// The place joins the list of each literal. A literal that has no list is refused as if there was no memory.
-    pub fn add_all(&mut self, lits: &[Lit], place: u32) -> Result<(), AllocError>
+    /// The place joins the list of each literal, under its short name. One that has no list is refused as if there was
+    /// no memory.
+    pub fn add_all(
+        &mut self,
+        names: &ShortNames<A>,
+        lits: &[Lit],
+        place: u32,
+    ) -> Result<(), AllocError>
         ensures grows { Grows self.old self.new }
-        ensures ok { OnOk result (IsListed self.new lits.now place) }
+        ensures ok { OnOk result (IsListed names.now self.new lits.now place) }
     {
         for lit in lits {
-            if lit.code() >= self.len() {
+            let short = names.of(*lit);
+            if short.code() >= self.len() {
                 return Err(AllocError);
             }
-            self.add(*lit, place)?;
+            self.add(short, place)?;
         }
         Ok(())
     }

@@ -4,6 +4,7 @@ ghost use Rattle.varisat_simplify.specs.States.{clause_at, Becomes};
 ghost use Rattle.varisat_simplify.specs.Resolving.{IsFixed, LeavesOutFalse};
 
 use crate::database::{Database, filled};
+use crate::names::ShortNames;
 use crate::resolve::holds;
 use crate::subsume::use_on;
 use std::alloc::{AllocError, Allocator};
@@ -13,19 +14,24 @@ use varisat_literals::Lit;
 const MOST_PASSES: usize = 4;
 
 /// One more than the place that was noted for the literal, or 0.
-fn noted(units: &[u32], lit: Lit) -> u32 {
-    match units.get(lit.code()) {
+fn noted<A: Allocator + Copy>(units: &[u32], names: &ShortNames<A>, lit: Lit) -> u32 {
+    match units.get(names.of(lit).code()) {
         Some(entry) => *entry,
         None => 0,
     }
 }
 
 /// Notes the place of a clause of one literal for which none was noted. Returns whether it did.
-fn note_unit(units: &mut [u32], clause: &[Lit], place: usize) -> bool {
+fn note_unit<A: Allocator + Copy>(
+    units: &mut [u32],
+    names: &ShortNames<A>,
+    clause: &[Lit],
+    place: usize,
+) -> bool {
     let [lit] = clause else {
         return false;
     };
-    let Some(entry) = units.get_mut(lit.code()) else {
+    let Some(entry) = units.get_mut(names.of(*lit).code()) else {
         return false;
     };
     if *entry != 0 || place >= 0xffff_ffff {
@@ -36,9 +42,9 @@ fn note_unit(units: &mut [u32], clause: &[Lit], place: usize) -> bool {
 }
 
 /// Whether a place was noted for a literal of the clause or its opposite.
-fn meets_unit(units: &[u32], clause: &[Lit]) -> bool {
+fn meets_unit<A: Allocator + Copy>(units: &[u32], names: &ShortNames<A>, clause: &[Lit]) -> bool {
     for lit in clause {
-        if noted(units, *lit) != 0 || noted(units, !*lit) != 0 {
+        if noted(units, names, *lit) != 0 || noted(units, names, !*lit) != 0 {
             return true;
         }
     }
@@ -46,9 +52,13 @@ fn meets_unit(units: &[u32], clause: &[Lit]) -> bool {
 }
 
 /// The place that was noted for the first literal of the clause for which one was.
-fn satisfied_by(units: &[u32], clause: &[Lit]) -> Option<usize> {
+fn satisfied_by<A: Allocator + Copy>(
+    units: &[u32],
+    names: &ShortNames<A>,
+    clause: &[Lit],
+) -> Option<usize> {
     for lit in clause {
-        let entry = noted(units, *lit);
+        let entry = noted(units, names, *lit);
         if entry != 0 {
             return Some(entry as usize - 1);
         }
@@ -60,7 +70,7 @@ fn satisfied_by(units: &[u32], clause: &[Lit]) -> Option<usize> {
 fn is_fixed<A: Allocator + Copy>(db: &Database<A>, units: &[u32], lit: Lit) -> bool
     ensures { IsTrue result → IsFixed db.now lit }
 {
-    let entry = noted(units, lit);
+    let entry = noted(units, db.names(), lit);
     if entry == 0 {
         return false;
     }
@@ -123,7 +133,7 @@ fn use_noted<A: Allocator + Copy>(
 ) -> Result<(), AllocError>
     ensures { OnOk result (Becomes db.old db.new) }
 {
-    match satisfied_by(units, db.clause(place)) {
+    match satisfied_by(units, db.names(), db.clause(place)) {
         Some(unit) => use_on(db, unit, place, scratch),
         None => shorten(db, place, units, scratch),
     }
@@ -142,10 +152,10 @@ fn settle<A: Allocator + Copy>(
         return Ok(false);
     }
     let clause = db.clause(place);
-    if note_unit(units, clause, place) {
+    if note_unit(units, db.names(), clause, place) {
         return Ok(true);
     }
-    if !meets_unit(units, clause) {
+    if !meets_unit(units, db.names(), clause) {
         return Ok(false);
     }
     use_noted(db, place, units, scratch)?;
@@ -177,7 +187,7 @@ fn pass<A: Allocator + Copy>(
 fn note_all<A: Allocator + Copy>(db: &Database<A>, units: &mut [u32]) -> bool {
     let mut is_noted = false;
     for place in 0..db.len() {
-        if db.is_live(place) && note_unit(units, db.clause(place), place) {
+        if db.is_live(place) && note_unit(units, db.names(), db.clause(place), place) {
             is_noted = true;
         }
     }
@@ -192,7 +202,7 @@ pub fn propagate<A: Allocator + Copy>(
 ) -> Result<(), AllocError>
     ensures { OnOk result (Becomes db.old db.new) }
 {
-    let count = db.var_count().saturating_mul(2);
+    let count = db.names().len().saturating_mul(2);
     let mut units = filled(alloc, count, 0u32)?;
     if !note_all(db, &mut units) {
         return Ok(());

@@ -1,15 +1,17 @@
 //! The simplification of a formula.
-ghost use Rattle.std.specs.Prelude.{◌≡◌, ℕ, ◌/◌, ◌<◌, ◌≤◌, ◌^◌, OnOk, IfOk, IfErr};
+ghost use Rattle.std.specs.Prelude.{◌≡◌, ℕ, ◌/◌, ◌<◌, ◌≤◌, ◌^◌, length, take, OnOk, IfOk, IfErr};
 ghost use Rattle.varisat_formula.specs.declared.formula.cnf.FormulaError.TheVariants.{Memory};
+ghost use Rattle.varisat_theory.specs.Held.{SameClauses};
 ghost use Rattle.varisat_formula.specs.Formulas.{AllBelow, AreBelow};
 ghost use Rattle.varisat_simplify.specs.States.{no_clauses, Reduces, Becomes};
 ghost use Rattle.varisat_simplify.specs.Stacks.{extended, KeepsFrozen};
-ghost use Rattle.varisat_simplify.specs.Simplified.{Lists, IsMadeOf};
+ghost use Rattle.varisat_simplify.specs.Simplified.{Lists, Finishes, IsReduced, IsMadeOf};
 
 use crate::clauses::ClauseList;
-use crate::database::Database;
+use crate::database::{Database, literals_in};
 use crate::eliminate::{Scratch, eliminate};
 use crate::history::History;
+use crate::names::ShortNames;
 use crate::propagate::propagate;
 use crate::resolve::normalize;
 use crate::stack::extend;
@@ -93,6 +95,7 @@ fn load<A: Allocator + Copy>(
 ) -> Result<(), AllocError>
     requires { db.old ≡ no_clauses db.old.var_count db.old.frozen }
     ensures reduces { OnOk result (Reduces formula.now.clauses db.new) }
+    ensures same { OnOk result (SameClauses db.new.clauses formula.now.clauses) }
     ensures count { OnOk result (db.new.var_count ≡ db.old.var_count) }
     ensures frozen { OnOk result (db.new.frozen ≡ db.old.frozen) }
 {
@@ -131,9 +134,7 @@ fn candidates<A: Allocator + Copy>(
         let Some(var) = db.take_touched() else {
             break;
         };
-        if var < most {
-            out.push(key_of(db, Var::from_index(var)))?;
-        }
+        out.push(key_of(db, var))?;
     }
     out.as_mut_slice().sort_unstable();
     Ok(())
@@ -197,33 +198,94 @@ fn unload<A: Allocator + Copy>(db: &Database<A>, alloc: A) -> Result<CnfFormula<
     Ok(formula)
 }
 
-/// Loads the formula, simplifies, and gives back what is left.
-fn simplify_in<A: Allocator + Copy>(
+/// The clauses at the first places, live or not.
+fn unload_first<A: Allocator + Copy>(
+    db: &Database<A>,
+    alloc: A,
+    count: usize,
+) -> Result<CnfFormula<A>, FormulaError>
+    requires { count ≤ length db.now.clauses }
+    ensures first { IfOk result (λ f. f.clauses ≡ take count db.now.clauses) }
+    ensures memory { IfErr result (λ e. e ≡ Memory) }
+{
+    let mut formula = CnfFormula::new_in(alloc);
+    formula.set_var_count(db.var_count());
+    for place in 0..count {
+        formula.add_clause(db.clause(place))?;
+    }
+    Ok(formula)
+}
+
+/// Loads the formula and simplifies. Returns how many clauses were loaded: those at the first places.
+fn reduce<A: Allocator + Copy>(
     alloc: A,
     db: &mut Database<A>,
     formula: CnfFormula<A>,
     order: &mut Vec<u64, A>,
     scratch: &mut Scratch<A>,
-) -> Result<CnfFormula<A>, FormulaError>
+) -> Result<usize, AllocError>
     requires empty { db.old ≡ no_clauses db.old.var_count db.old.frozen }
-    requires least { (n : ℕ) → AreBelow n formula.clauses → db.old.var_count ≤ n }
-    ensures made { IfOk result (λ g. IsMadeOf formula g db.new.stack db.new.lines) }
-    ensures frozen { IfOk result (λ _. KeepsFrozen db.old.frozen db.new.stack) }
-    ensures memory { IfErr result (λ e. e ≡ Memory) }
+    ensures reduced { IfOk result (λ count. IsReduced formula.clauses db.old.var_count db.old.frozen count db.new) }
+    ensures room { IfOk result (λ count. count ≤ length db.new.clauses) }
 {
     load(db, &formula, &mut scratch.literals)?;
     drop(formula);
+    let count = db.len();
     let size = db.literal_count() as u64;
     propagate(db, alloc, &mut scratch.literals)?;
     db.list_all()?;
     run(db, size, order, scratch)?;
-    let made = unload(db, alloc)?;
-    Ok(made)
+    db.unlist();
+    Ok(count)
 }
 
-/// Makes a formula that has a model just where the given one has, and whose models are extended to ones of it. Variables
-/// that are flagged in `frozen` are not resolved away, and no extension changes their values. The given formula's memory
-/// is given back early. The only error is out of memory.
+/// Whether the live clauses have at most 19 of 20 of the literals that the clauses at the first places have.
+fn is_shorter<A: Allocator + Copy>(db: &Database<A>, count: usize) -> bool {
+    let mut before: usize = 0;
+    let mut left: usize = 0;
+    for place in 0..db.len() {
+        let literals = db.clause(place).len();
+        if place < count {
+            before = before.saturating_add(literals);
+        }
+        if db.is_live(place) {
+            left = left.saturating_add(literals);
+        }
+    }
+    left <= before - before / 20
+}
+
+/// What is left, or what was loaded if that is hardly longer: a search of clauses that were only made others takes
+/// longer as often as not.
+fn finish<A: Allocator + Copy>(
+    alloc: A,
+    db: Database<A>,
+    count: usize,
+) -> Result<Simplified<A>, FormulaError>
+    requires { count ≤ length db.clauses }
+    ensures made { IfOk result (λ s. Finishes db count s.formula s.stack s.history.lines) }
+    ensures memory { IfErr result (λ e. e ≡ Memory) }
+{
+    if !is_shorter(&db, count) {
+        let formula = unload_first(&db, alloc, count)?;
+        return Ok(Simplified {
+            formula,
+            stack: ClauseList::new_in(alloc),
+            history: History::new_in(alloc),
+        });
+    }
+    let formula = unload(&db, alloc)?;
+    let (stack, history) = db.into_parts();
+    Ok(Simplified {
+        formula,
+        stack,
+        history,
+    })
+}
+
+/// Makes a formula that has a model just where the given one has, and whose models are extended to ones of it.
+/// Variables that are flagged in `frozen` are not resolved away, and no extension changes their values. A formula that
+/// would hardly become shorter stays. The given one's memory is given back early. The only error is out of memory.
 pub fn simplify<A: Allocator + Copy>(
     alloc: A,
     formula: CnfFormula<A>,
@@ -233,18 +295,18 @@ pub fn simplify<A: Allocator + Copy>(
     ensures frozen { IfOk result (λ s. KeepsFrozen frozen.now s.stack) }
     ensures memory { IfErr result (λ e. e ≡ Memory) }
 {
-    let mut db = Database::new_in(alloc, named_count(&formula), frozen)?;
+    let count = named_count(&formula);
+    let names = ShortNames::of_formula(alloc, &formula, count, literals_in(&formula))?;
+    let mut db = Database::new_in(alloc, count, frozen, names)?;
     let mut scratch = Scratch {
         literals: Vec::new(alloc),
         with: Vec::new(alloc),
         against: Vec::new(alloc),
     };
     let mut order = Vec::new(alloc);
-    let made = simplify_in(alloc, &mut db, formula, &mut order, &mut scratch)?;
-    let (stack, history) = db.into_parts();
-    Ok(Simplified {
-        formula: made,
-        stack,
-        history,
-    })
+    let given = reduce(alloc, &mut db, formula, &mut order, &mut scratch)?;
+    drop(order);
+    drop(scratch);
+    let made = finish(alloc, db, given)?;
+    Ok(made)
 }

@@ -45,6 +45,24 @@ fn a_variable_is_resolved_away_unless_it_is_frozen(rt: HostRuntime) {
     );
 }
 
+// By hand: without 1 there are two clauses of five literals, which are more than those of the three.
+#[test]
+fn a_formula_that_becomes_no_shorter_stays(rt: HostRuntime) {
+    let frozen = [false, true, true, true, true, true, true];
+    let alloc = rt.alloc();
+    let clauses = cnf![1, 2, 3, 4, 5; -1, 6; -1, 7];
+    assert!(rt; is_left(alloc, &clauses, &frozen, &clauses));
+}
+
+// By hand: 1 or 2000000, and not 2000000 or 3, resolve to 1 or 3.
+#[test]
+fn few_names_of_many_are_told_apart(rt: HostRuntime) {
+    let frozen = [true, false, true];
+    let alloc = rt.alloc();
+    let clauses = cnf![1, 2000000; -2000000, 3; 1999999, 3, 1];
+    assert!(rt; is_left(alloc, &clauses, &frozen, &cnf![3, 1]));
+}
+
 // By hand: 1 or 2 is part of 1 or 2 or 3; and takes 1 from not 1 or 2 or 4.
 #[test]
 fn clauses_are_subsumed_and_strengthened(rt: HostRuntime) {

@@ -5,5 +5,5 @@ use Rattle.varisat_simplify.proofs.database.list_live.Given as goal
 abbrev pub invariant-loop-place : goal.invariant-loop-place
 invariant-loop-place g l = record {
   grows : Grows l.fn.occurrences l.occurrences;
-  listed : ListedTo l.place l.history.clauses l.live l.occurrences;
+  listed : ListedTo l.place l.names l.history.clauses l.live l.occurrences;
 }

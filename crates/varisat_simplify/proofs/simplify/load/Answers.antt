@@ -1,6 +1,6 @@
 use Rattle.std.proofs.Common.{refl, ◌∙◌}
 use Rattle.varisat_simplify.proofs.EliminateSteps.{matched_true, matched_false}
-use Rattle.varisat_simplify.proofs.FlowLemmas.{loads_first, loads_give, loads_skip, loads_end, loads_count, loads_flags}
+use Rattle.varisat_simplify.proofs.FlowLemmas.{loads_first, loads_give, loads_skip, loads_end, loads_same, loads_count, loads_flags}
 use Rattle.varisat_simplify.proofs.simplify.load.Goals as goal
 
 pub loop-clause-init : goal.loop-clause-init
@@ -11,6 +11,11 @@ loop-clause-init g c =
 pub returns-clause-reduces : goal.returns-clause-reduces
 returns-clause-reduces g c =
     loads_end c.args.formula.now.clauses c.loop-clause.clause-iterator c.args.db.now.var_count c.args.db.now.frozen c.loop-clause.db
+    (c.in-None.ensures {u = tt}).steps.0 c.loop-clause.invariant
+
+pub returns-clause-same : goal.returns-clause-same
+returns-clause-same g c =
+    loads_same c.args.formula.now.clauses c.loop-clause.clause-iterator c.args.db.now.var_count c.args.db.now.frozen c.loop-clause.db
     (c.in-None.ensures {u = tt}).steps.0 c.loop-clause.invariant
 
 pub returns-clause-count : goal.returns-clause-count

@@ -1,4 +1,4 @@
-use Rattle.std.proofs.Common.{ℕ, List, ◌∙◌, sym, subst, arith}
+use Rattle.std.proofs.Common.{List, ◌∙◌, sym, subst, arith}
 use Rattle.varisat_theory.specs.Literals.{Clause}
 use Rattle.varisat_formula.specs.Formulas.{AreBelow}
 use Rattle.varisat_simplify.proofs.UnloadLemmas.{below_next}

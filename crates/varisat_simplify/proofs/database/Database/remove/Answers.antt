@@ -7,7 +7,7 @@ use Rattle.varisat_simplify.proofs.database.Database.remove.Goals as goal
 
 pub invariant_of-self-2 : goal.invariant_of-self-2
 invariant_of-self-2 g c =
-    subst (λ (cs : List Clause). IsSound c.self.inside.var_count cs (set c.self.inside.live.items c.args.place false) c.self.inside.is_listed c.self.inside.occurrences)
+    subst (λ (cs : List Clause). IsSound c.self.inside.var_count cs (set c.self.inside.live.items c.args.place false) c.self.inside.is_listed c.self.inside.names c.self.inside.occurrences)
     (sym (ap (λ (w : Written). w.clauses) (c.in_ok-delete.ensures {u = tt}).ok))
     (sound_removed c.self.inside.var_count c.self.inside.history.clauses c.self.inside.live.items (set c.self.inside.live.items c.args.place false)
-    c.self.inside.is_listed c.self.inside.occurrences c.args.place refl c.self.invariant)
+    c.self.inside.is_listed c.self.inside.names c.self.inside.occurrences c.args.place refl c.self.invariant)

@@ -10,7 +10,7 @@ invariant_of-self g c =
     let a = c.code.ensures.code in
     let b = c.len.ensures in
     let d = c.if-code-len.false in
-    let h : c.args.lit < length lists = omega (arith, a, b, d) in
-    sound_kept c.self.inside.var_count c.self.inside.history.clauses c.self.inside.live.items c.self.inside.is_listed lists c.keep.new.self c.args.lit h
-    (c.keep.ensures ∙ ap (λ (flags : List Bool). set lists c.args.lit (filter (is_flagged flags) (get_or lists c.args.lit []))) c.deref.ensures.value)
+    let h : c.of-short.result < length lists = omega (arith, a, b, d) in
+    sound_kept c.self.inside.var_count c.self.inside.history.clauses c.self.inside.live.items c.self.inside.is_listed c.self.inside.names lists c.keep.new.self c.of-short.result h
+    (c.keep.ensures ∙ ap (λ (flags : List Bool). set lists c.of-short.result (filter (is_flagged flags) (get_or lists c.of-short.result []))) c.deref.ensures.value)
     c.self.invariant

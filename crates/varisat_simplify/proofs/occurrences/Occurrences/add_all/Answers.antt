@@ -4,7 +4,7 @@ use Rattle.varisat_simplify.proofs.ListLemmas.{grows_self, grows_then, grows_add
 use Rattle.varisat_simplify.proofs.occurrences.Occurrences.add_all.Goals as goal
 
 pub loop-lit-init : goal.loop-lit-init
-loop-lit-init g c = record { grows = grows_self c.args.self.now; listed = listed_none c.args.self.now c.args.lits.now c.args.place }
+loop-lit-init g c = record { grows = grows_self c.args.self.now; listed = listed_none c.args.names.now c.args.self.now c.args.lits.now c.args.place }
 
 pub returns-then-code-len-clause-grows : goal.returns-then-code-len-clause-grows
 returns-then-code-len-clause-grows g c = c.loop-lit.invariant.grows
@@ -15,13 +15,13 @@ loop-lit-preserved g c =
     let a = c.code.ensures.code in
     let b = c.len.ensures in
     let d = c.if-code-len.false in
-    let h : c.lit-item.result < length c.loop-lit.self = omega (arith, a, b, d) in
+    let h : c.of-short.result < length c.loop-lit.self = omega (arith, a, b, d) in
     record {
       grows = grows_then c.args.self.now c.loop-lit.self c.add.new.self c.loop-lit.invariant.grows
-          (grows_added c.loop-lit.self c.add.new.self c.lit-item.result c.args.place h (c.in_ok-add.ensures {u = tt}).ok);
-      listed = listed_more c.loop-lit.self c.add.new.self c.args.lits.now c.loop-lit.lit-index c.lit-item.result c.args.place at h
+          (grows_added c.loop-lit.self c.add.new.self c.of-short.result c.args.place h (c.in_ok-add.ensures {u = tt}).ok);
+      listed = listed_more c.args.names.now c.loop-lit.self c.add.new.self c.args.lits.now c.loop-lit.lit-index c.lit-item.result c.of-short.result c.args.place at c.of-short.ensures h
           (c.in_ok-add.ensures {u = tt}).ok c.loop-lit.invariant.listed;
     }
 
 pub returns-clause-ok : goal.returns-clause-ok
-returns-clause-ok g c = listed_all c.loop-lit.self c.args.lits.now c.loop-lit.lit-index c.args.place c.loop-lit-test.false c.loop-lit.invariant.listed
+returns-clause-ok g c = listed_all c.args.names.now c.loop-lit.self c.args.lits.now c.loop-lit.lit-index c.args.place c.loop-lit-test.false c.loop-lit.invariant.listed

@@ -1,5 +1,6 @@
 -- What amending values does to the literals and clauses that they make true.
-use Rattle.std.proofs.Common.{◌≡◌, ℕ, zero, suc, ◌/◌, ◌%◌, ◌<◌, Bool, true, false, not, ◌||◌, nat_eq, if◌then◌else◌, List, [], ◌∷◌, ◌++◌, ◌⊎◌, inl, inr, ⊎_elim, sym, ap, ◌∙◌, subst, refl, length, get_or, set, arith}
+use Rattle.std.proofs.Common.{◌≡◌, ℕ, zero, suc, ◌-◌, ◌/◌, ◌%◌, ◌<◌, ◌≤◌, Bool, true, false, not, ◌||◌, nat_eq, if◌then◌else◌, List, [], ◌∷◌, ◌++◌, ◌⊎◌, inl, inr, ⊎_elim, sym, ap, ◌∙◌, subst, refl, length, get_or, set, drop, arith}
+use Rattle.std.proofs.Math.Seq.{drop-cons}
 use Rattle.std.specs.List.{list_any}
 use Rattle.varisat_theory.specs.Membership.{◌∈◌}
 use Rattle.varisat_theory.specs.Literals.{Literal, Clause, Assignment, opposite, value, Satisfies}
@@ -125,3 +126,12 @@ thawed_more frozen stack l e t h c m = ⊎_elim
     (h c)
     (λ k. ⊎_elim (λ q. ap (avoids frozen) q ∙ ap not t) (λ z. absurd z) k)
     (∈-append_cases c stack ((l ∷ e) ∷ []) m)
+
+-- one clause more of the stack, from its end
+pub extended_next : (stack : List Clause) (k : ℕ) (c : Clause) (vs old new : List Bool) → 0 < k → k ≤ length stack → c ≡ get_or stack (k - 1) [] →
+    vs ≡ extended (drop k stack) old → new ≡ amended c vs → new ≡ extended (drop (k - 1) stack) old
+extended_next stack k c vs old new n h q e r =
+    let next : suc (k - 1) ≡ k = omega (arith, n) in
+    r ∙ ap (λ (x : Clause). amended x vs) q ∙ ap (λ (y : List Bool). amended (get_or stack (k - 1) []) y) e
+    ∙ sym (ap (λ (s : List Clause). extended s old) (drop-cons stack (k - 1) [] (omega (arith, n, h))
+    ∙ ap (λ j. get_or stack (k - 1) [] ∷ drop j stack) next))

@@ -1,5 +1,5 @@
 # shellcheck shell=bash disable=SC2034
-# Read by the clients here. WORK: a folder for sources and builds. UNPROVED=1 takes the library without proofs.
+# Read by the clients here. WORK: a folder for sources and builds. UNPROVED=1 takes the library without proofs, PEER=1 what it stands in for.
 set -euo pipefail
 shopt -s inherit_errexit
 here=$(cd "$(dirname "$(readlink -f "${BASH_SOURCE[0]}")")" && pwd)
@@ -15,8 +15,18 @@ say() {
 
 # Builds the library where that is due, and installs it below WORK.
 build_library() {
+  [ -z "${PEER:-}" ] || return 0
   make -s -C "$root/contrib/c" install PREFIX="$work/varisat" UNPROVED="${UNPROVED:-}" >/dev/null
   library=$work/varisat/lib
+}
+
+# Runs COMMAND with its output in LOG; sets `status`, and `took`, the seconds of a processor.
+timed() { # LOG COMMAND..
+  local log=$1 TIMEFORMAT=%U
+  shift
+  status=0
+  { time "$@" >"$log" 2>&1; } 2>"$log.took" || status=$?
+  took=$(tail -n 1 "$log.took")
 }
 
 # Whether these commands are there.

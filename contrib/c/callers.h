@@ -52,6 +52,17 @@ int32_t client_value(struct handle *, int32_t number);
 bool client_has_failed(struct handle *, int32_t number);
 uint8_t client_refusal(struct handle *);
 
+/* Those of its module simplifier. */
+bool simplifier_open(struct handle *);
+void simplifier_close(struct handle *);
+uint8_t simplifier_add_clause(struct handle *, const int32_t *, size_t);
+uint8_t simplifier_freeze(struct handle *, int32_t variable);
+uint8_t simplifier_simplify(struct handle *);
+uint8_t simplifier_clauses(struct handle *);
+uint8_t simplifier_extend(struct handle *, const int32_t *, size_t);
+size_t simplifier_list_len(struct handle *);
+size_t simplifier_list_copy(struct handle *, int32_t *, size_t);
+
 /* What memory is charged to, if anything is. */
 struct account;
 extern _Thread_local struct account *charged;

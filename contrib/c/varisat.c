@@ -4,6 +4,7 @@
 #include "varisat.h"
 
 #include <errno.h>
+#include <limits.h>
 #include <stdatomic.h>
 #include <stdlib.h>
 #include <string.h>
@@ -57,14 +58,40 @@ void rattle_dealloc(void *old) {
     free(block);
 }
 
+/* What one call at a time uses, and what memory is charged to. */
+
+struct user {
+    struct account account, *outer;
+    atomic_int busy;
+};
+
+static void set_limit(struct user *user, size_t heap_limit) { user->account.limit = heap_limit ? heap_limit : SIZE_MAX; }
+
+/* Begins a call: 0, or that another one is under way. */
+static int begin(struct user *user) {
+    if (atomic_exchange_explicit(&user->busy, 1, memory_order_acquire))
+        return VARISAT_BUSY;
+    /* A callback of another solver may be what calls. */
+    user->outer = charged;
+    charged = &user->account;
+    return 0;
+}
+
+/* Ends it with this answer. */
+static int end(struct user *user, int answer) {
+    charged = user->outer;
+    atomic_store_explicit(&user->busy, 0, memory_order_release);
+    return answer;
+}
+
 /* Solvers. */
 
 enum { MOST_STEPS = 1000, PIECE = 1 << 14, TEXT = 200 };
 
 struct varisat {
     struct handle handle;
-    struct account account, *outer;
-    atomic_int busy, interrupted;
+    struct user user;
+    atomic_int interrupted;
     int error;
     char text[TEXT];
     int (*terminate)(void *);
@@ -107,21 +134,13 @@ static int leave(varisat *solver, int answer) {
             caller_refusal_copy(&solver->handle, (uint8_t *)solver->text, TEXT - 1);
         solver->error = answer;
     }
-    charged = solver->outer;
-    atomic_store_explicit(&solver->busy, 0, memory_order_release);
-    return answer;
+    return end(&solver->user, answer);
 }
 
 /* Begins a call, of which the other arguments are right or not: 0, or why it is refused. */
 static int enter(varisat *solver, bool is_right) {
-    if (!solver)
-        return VARISAT_BAD_ARGUMENT;
-    if (atomic_exchange_explicit(&solver->busy, 1, memory_order_acquire))
-        return VARISAT_BUSY;
-    /* A callback of another solver may be what calls. */
-    solver->outer = charged;
-    charged = &solver->account;
-    return is_right ? 0 : leave(solver, VARISAT_BAD_ARGUMENT);
+    int refused = solver ? begin(&solver->user) : VARISAT_BAD_ARGUMENT;
+    return refused || is_right ? refused : leave(solver, VARISAT_BAD_ARGUMENT);
 }
 
 /* Begins a call that changes the solver. */
@@ -163,7 +182,7 @@ varisat *varisat_new(size_t heap_limit) {
     varisat *solver = calloc(1, sizeof *solver);
     if (!solver)
         return NULL;
-    solver->account.limit = heap_limit ? heap_limit : SIZE_MAX;
+    set_limit(&solver->user, heap_limit);
     enter(solver, true);
     bool is_open = caller_open(&solver->handle);
     leave(solver, 0);
@@ -178,7 +197,7 @@ int varisat_free(varisat *solver) {
         return 0;
     BEGIN(enter(solver, true));
     caller_close(&solver->handle);
-    charged = solver->outer;
+    charged = solver->user.outer;
     free(solver);
     return 0;
 }
@@ -205,15 +224,22 @@ int varisat_add_clause(varisat *solver, const int32_t *literals, size_t count) {
     return changed(solver, caller_add_clause(&solver->handle, slice(literals), count));
 }
 
-int varisat_add_clauses(varisat *solver, const int32_t *numbers, size_t count) {
-    BEGIN(enter_change(solver, !count || (numbers && !numbers[count - 1])));
+static bool are_clauses(const int32_t *numbers, size_t count) { return !count || (numbers && !numbers[count - 1]); }
+
+/* Gives the clauses one by one. */
+static int add_each(uint8_t (*add)(struct handle *, const int32_t *, size_t), struct handle *handle, const int32_t *numbers, size_t count) {
     int number = 0;
-    for (size_t begin = 0, end = 0; end < count && !number; end++)
-        if (!numbers[end]) {
-            number = caller_add_clause(&solver->handle, numbers + begin, end - begin);
-            begin = end + 1;
+    for (size_t from = 0, to = 0; to < count && !number; to++)
+        if (!numbers[to]) {
+            number = add(handle, numbers + from, to - from);
+            from = to + 1;
         }
-    return changed(solver, number);
+    return number;
+}
+
+int varisat_add_clauses(varisat *solver, const int32_t *numbers, size_t count) {
+    BEGIN(enter_change(solver, are_clauses(numbers, count)));
+    return changed(solver, add_each(caller_add_clause, &solver->handle, numbers, count));
 }
 
 int varisat_add(varisat *solver, int32_t literal) {
@@ -343,7 +369,7 @@ int varisat_set_for_file(varisat *solver) {
 uint64_t varisat_count(varisat *solver, enum varisat_counter counter) {
     if (enter(solver, true))
         return 0;
-    uint64_t count = counter == VARISAT_BYTES   ? sizeof *solver + solver->account.used
+    uint64_t count = counter == VARISAT_BYTES   ? sizeof *solver + solver->user.account.used
                      : counter == VARISAT_STEPS ? caller_steps(&solver->handle)
                      : counter < VARISAT_STEPS  ? caller_counter(&solver->handle, (uint8_t)counter)
                                                 : 0;
@@ -406,4 +432,78 @@ int varisat_check_proof(enum varisat_format format, const char *text, size_t tex
     uint8_t number = caller_check(format, slice(text), text_size, slice(proof), proof_size, place ? place : &unused);
     charged = before;
     return number == VARISAT_UNSATISFIABLE ? number : -number;
+}
+
+/* Simplifiers. */
+
+struct varisat_simplifier {
+    struct handle handle;
+    struct user user;
+};
+
+static int enter_simplifier(varisat_simplifier *simplifier, bool is_right) {
+    int refused = simplifier ? begin(&simplifier->user) : VARISAT_BAD_ARGUMENT;
+    return refused || is_right ? refused : end(&simplifier->user, VARISAT_BAD_ARGUMENT);
+}
+
+varisat_simplifier *varisat_simplifier_new(size_t heap_limit) {
+    varisat_simplifier *simplifier = calloc(1, sizeof *simplifier);
+    if (!simplifier)
+        return NULL;
+    set_limit(&simplifier->user, heap_limit);
+    begin(&simplifier->user);
+    if (end(&simplifier->user, simplifier_open(&simplifier->handle)))
+        return simplifier;
+    free(simplifier);
+    return NULL;
+}
+
+int varisat_simplifier_free(varisat_simplifier *simplifier) {
+    if (!simplifier)
+        return 0;
+    BEGIN(enter_simplifier(simplifier, true));
+    simplifier_close(&simplifier->handle);
+    charged = simplifier->user.outer;
+    free(simplifier);
+    return 0;
+}
+
+int varisat_simplifier_add_clause(varisat_simplifier *simplifier, const int32_t *literals, size_t count) {
+    BEGIN(enter_simplifier(simplifier, literals || !count));
+    return end(&simplifier->user, -simplifier_add_clause(&simplifier->handle, slice(literals), count));
+}
+
+int varisat_simplifier_add_clauses(varisat_simplifier *simplifier, const int32_t *numbers, size_t count) {
+    BEGIN(enter_simplifier(simplifier, are_clauses(numbers, count)));
+    return end(&simplifier->user, -add_each(simplifier_add_clause, &simplifier->handle, numbers, count));
+}
+
+int varisat_simplifier_freeze(varisat_simplifier *simplifier, int32_t variable) {
+    BEGIN(enter_simplifier(simplifier, true));
+    return end(&simplifier->user, -simplifier_freeze(&simplifier->handle, variable));
+}
+
+int varisat_simplifier_simplify(varisat_simplifier *simplifier) {
+    BEGIN(enter_simplifier(simplifier, true));
+    return end(&simplifier->user, -simplifier_simplify(&simplifier->handle));
+}
+
+/* Ends a call that tells a list, by the library's number. */
+static int listed(varisat_simplifier *simplifier, int number, int32_t *numbers, size_t room) {
+    int32_t none;
+    if (number)
+        return end(&simplifier->user, -number);
+    simplifier_list_copy(&simplifier->handle, numbers ? numbers : &none, room);
+    size_t count = simplifier_list_len(&simplifier->handle);
+    return end(&simplifier->user, count > INT_MAX ? VARISAT_OUT_OF_MEMORY : (int)count);
+}
+
+int varisat_simplifier_clauses(varisat_simplifier *simplifier, int32_t *numbers, size_t room) {
+    BEGIN(enter_simplifier(simplifier, numbers || !room));
+    return listed(simplifier, simplifier_clauses(&simplifier->handle), numbers, room);
+}
+
+int varisat_simplifier_extend(varisat_simplifier *simplifier, const int32_t *model, size_t count, int32_t *literals, size_t room) {
+    BEGIN(enter_simplifier(simplifier, (model || !count) && (literals || !room)));
+    return listed(simplifier, simplifier_extend(&simplifier->handle, slice(model), count), literals, room);
 }

@@ -45,7 +45,8 @@ enum {
     VARISAT_NOTHING = -15,           /* there is no model, core or proof to tell of */
     VARISAT_WRONG_PROOF = -16,       /* a line of a proof is wrong */
     VARISAT_OTHER_CLAUSE = -17,      /* a marked proof was given a clause that the text has not */
-    VARISAT_BUSY = -18               /* another call of this solver is under way */
+    VARISAT_BUSY = -18,              /* another call of this solver is under way */
+    VARISAT_SIMPLIFIED = -19         /* the simplifier has simplified its clauses */
 };
 
 /* The name and the version. */
@@ -183,6 +184,32 @@ int varisat_self_check(varisat *solver);
  * be another solver's: a clause may be RAT on any of its literals, and a deletion that finds no clause, or one by which a literal is
  * implied, is passed over. */
 int varisat_check_proof(enum varisat_format format, const char *text, size_t text_size, const void *proof, size_t proof_size, uint64_t *place);
+
+/* Simplification. */
+
+/* A simplifier makes clauses fewer before a solver takes them. Where one of its calls is refused nothing changes. */
+typedef struct varisat_simplifier varisat_simplifier;
+
+/* A new simplifier, and its end, as those of a solver. */
+varisat_simplifier *varisat_simplifier_new(size_t heap_limit);
+int varisat_simplifier_free(varisat_simplifier *simplifier);
+
+/* Takes a clause of so many literals, or clauses, each of which a 0 ends, up to the first that is refused. */
+int varisat_simplifier_add_clause(varisat_simplifier *simplifier, const int32_t *literals, size_t count);
+int varisat_simplifier_add_clauses(varisat_simplifier *simplifier, const int32_t *numbers, size_t count);
+
+/* Freezes a variable that later clauses or assumptions name, or whose value is to stay: others may go. */
+int varisat_simplifier_freeze(varisat_simplifier *simplifier, int32_t variable);
+
+/* Simplifies all clauses, once. Behind that no clause and no frozen variable is taken. */
+int varisat_simplifier_simplify(varisat_simplifier *simplifier);
+
+/* The clauses that are left, each ended by a 0, as varisat_add_clauses takes them. VARISAT_NOTHING before the simplification. */
+int varisat_simplifier_clauses(varisat_simplifier *simplifier, int32_t *numbers, size_t room);
+
+/* Extends a model of the clauses that are left, in any order, to the variables of all clauses that were given, in their order. A variable
+ * that it does not name is taken for false, and one that no clause names is passed over. */
+int varisat_simplifier_extend(varisat_simplifier *simplifier, const int32_t *model, size_t count, int32_t *literals, size_t room);
 
 /* IPASIR, the ten functions of ipasir.h, is in the library too. Why a solver that ipasir_init returned does nothing and answers 0 from
  * some call on: an error above, or 0. */

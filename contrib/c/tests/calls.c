@@ -298,7 +298,35 @@ static void checking(void) {
     CHECK(varisat_free(s) == 0);
 }
 
+/* 1 or 2, and not 2 or 3: 2 is resolved away, and is true in a model in which 1 is false. */
+static void simplifiers(void) {
+    varisat_simplifier *s = varisat_simplifier_new(1 << 20);
+    CHECK(varisat_simplifier_add_clauses(s, LITS(1, 2, 0, -2, 3, 0)) == 0 && varisat_simplifier_add_clause(s, LITS(1, 3, -3)) == 0);
+    CHECK(varisat_simplifier_freeze(s, 1) == 0 && varisat_simplifier_freeze(s, 3) == 0 && varisat_simplifier_freeze(s, 3) == 0);
+    CHECK(varisat_simplifier_clauses(s, list, ROOM) == VARISAT_NOTHING && varisat_simplifier_extend(s, NULL, 0, list, ROOM) == VARISAT_NOTHING);
+    CHECK(varisat_simplifier_add_clause(s, LITS(1, 0)) == VARISAT_BAD_ARGUMENT && varisat_simplifier_add_clauses(s, LITS(1)) == VARISAT_BAD_ARGUMENT);
+    CHECK(varisat_simplifier_add_clause(s, NULL, 1) == VARISAT_BAD_ARGUMENT && varisat_simplifier_freeze(s, 0) == VARISAT_BAD_ARGUMENT);
+    CHECK(varisat_simplifier_add_clause(s, LITS(0x10000001)) == VARISAT_VARIABLE_LIMIT && varisat_simplifier_freeze(s, INT32_MIN) == VARISAT_BAD_ARGUMENT);
+    CHECK(varisat_simplifier_add_clause(s, LITS(INT32_MIN)) == VARISAT_VARIABLE_LIMIT && varisat_simplifier_freeze(s, 0x10000001) == VARISAT_VARIABLE_LIMIT);
+    CHECK(varisat_simplifier_simplify(s) == 0 && varisat_simplifier_simplify(s) == VARISAT_SIMPLIFIED);
+    CHECK(varisat_simplifier_add_clause(s, LITS(1)) == VARISAT_SIMPLIFIED && varisat_simplifier_freeze(s, 2) == VARISAT_SIMPLIFIED);
+    list[1] = 99;
+    CHECK(varisat_simplifier_clauses(s, NULL, 0) == 3 && varisat_simplifier_clauses(s, list, 1) == 3 && list[1] == 99);
+    CHECK(varisat_simplifier_clauses(s, list, ROOM) == 3 && list[0] + list[1] == 4 && list[2] == 0);
+    CHECK(is_list(varisat_simplifier_extend(s, LITS(3, -1), list, ROOM), 3, (int32_t[]){-1, 2, 3}));
+    CHECK(is_list(varisat_simplifier_extend(s, LITS(-3, 9, 1, INT32_MIN), list, ROOM), 3, (int32_t[]){1, -2, -3}));
+    CHECK(is_list(varisat_simplifier_extend(s, NULL, 0, list, 0), 3, list) && varisat_simplifier_extend(s, LITS(1, 0), list, ROOM) == VARISAT_BAD_ARGUMENT);
+    CHECK(varisat_simplifier_extend(s, NULL, 1, list, ROOM) == VARISAT_BAD_ARGUMENT && varisat_simplifier_clauses(s, NULL, 1) == VARISAT_BAD_ARGUMENT);
+    CHECK(varisat_simplifier_free(s) == 0 && varisat_simplifier_free(NULL) == 0 && varisat_simplifier_simplify(NULL) == VARISAT_BAD_ARGUMENT);
+    /* no clauses, and one without literals */
+    for (int empty = 0; empty < 2; empty++) {
+        CHECK((s = varisat_simplifier_new(0)) && (!empty || varisat_simplifier_add_clause(s, NULL, 0) == 0));
+        CHECK(varisat_simplifier_simplify(s) == 0 && varisat_simplifier_clauses(s, list, ROOM) == empty && (!empty || list[0] == 0));
+        CHECK(varisat_simplifier_extend(s, LITS(1), list, ROOM) == 0 && varisat_simplifier_free(s) == 0);
+    }
+}
+
 int main(void) {
-    right_calls(), lists(), modes(), wrong_calls(), texts(), proofs(), heaps(), interrupts(), threads(), checking();
+    right_calls(), lists(), modes(), wrong_calls(), texts(), proofs(), heaps(), interrupts(), threads(), checking(), simplifiers();
     puts("all passed");
 }

@@ -56,6 +56,46 @@ static int is_answered(varisat *solver, size_t *bytes) {
     return all;
 }
 
+static int simplified(varisat_simplifier *simplifier, int call) {
+    static int32_t list[8];
+    const int32_t rules[] = {-1, 2, 0, -2, -3, 0, 1, 3, 4, 0, -4, 5, 0}, model[] = {1, -3};
+    switch (call) {
+    case 0: return varisat_simplifier_add_clauses(simplifier, rules, 13);
+    case 1: return varisat_simplifier_freeze(simplifier, 3);
+    case 2: return varisat_simplifier_simplify(simplifier);
+    case 3: return varisat_simplifier_clauses(simplifier, list, 8);
+    }
+    int size = varisat_simplifier_extend(simplifier, model, 2, list, 8);
+    CHECK(size < 0 || (size == 5 && list[0] == 1 && list[1] == 2 && list[2] == -3));
+    return size;
+}
+
+/* How many calls of a simplifier were refused. Nothing changes there, so each is made again once there is memory. */
+static int count_refused(varisat_simplifier *simplifier) {
+    int refused = 0;
+    for (int call = 0; call < 5; call++) {
+        int answer = simplified(simplifier, call);
+        if (answer >= 0) continue;
+        CHECK(answer == VARISAT_OUT_OF_MEMORY);
+        refused++;
+        left = -1;
+        CHECK(simplified(simplifier, call) >= 0);
+    }
+    return refused;
+}
+
+static int refuse_simplifiers(void) {
+    int refused = 0;
+    for (long most = 0;; most++) {
+        left = most;
+        varisat_simplifier *simplifier = varisat_simplifier_new(0);
+        int more = simplifier ? count_refused(simplifier) : 1;
+        CHECK(varisat_simplifier_free(simplifier) == 0);
+        if (!more) return refused;
+        refused += more;
+    }
+}
+
 int main(void) {
     int unopened = 0, refused = 0;
     for (long most = 0;; most++) {
@@ -72,7 +112,8 @@ int main(void) {
         if (answered) break;
         refused++;
     }
-    left = -1;
     CHECK(unopened > 0 && refused > 20);
-    printf("%d refusals passed\n", unopened + refused);
+    int simplifiers = refuse_simplifiers();
+    CHECK(simplifiers > 20);
+    printf("%d refusals passed\n", unopened + refused + simplifiers);
 }

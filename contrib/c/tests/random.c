@@ -6,7 +6,7 @@
 
 #define CHECK(it) ((it) ? (void)0 : (printf("%s:%d: round %ld: %s\n", __FILE__, __LINE__, round_number, #it), exit(1)))
 
-enum { MOST_VARIABLES = 10, MOST_CLAUSES = 80, MOST_LITERALS = 4, MOST_ASSUMED = 4, TURNS = 12, ROOM = 16 };
+enum { MOST_VARIABLES = 10, MOST_CLAUSES = 80, MOST_LITERALS = 4, MOST_ASSUMED = 4, TURNS = 12, ROOM = 16, LEFT = 2000 };
 
 struct clause {
     int32_t literals[MOST_LITERALS];
@@ -126,8 +126,89 @@ static void play(void) {
     CHECK(varisat_is_valid(solver) == 1 && varisat_error(solver) != VARISAT_INVALID && varisat_free(solver) == 0);
 }
 
+/* What is left of the clauses, each ended by a 0. */
+static int32_t left[LEFT];
+static int left_size;
+
+static int satisfies_left(unsigned values) {
+    int some = 0;
+    for (int i = 0; i < left_size; i++) {
+        if (!left[i] && !some) return 0;
+        some = left[i] ? some | is_true(values, left[i]) : 0;
+    }
+    return 1;
+}
+
+/* Draws clauses for the simplifier and flags of its frozen variables, and simplifies. */
+static unsigned draw_simplified(varisat_simplifier *simplifier, int variables) {
+    unsigned frozen = 0;
+    clause_count = 0;
+    for (int more = draw(3 * variables); more > 0; more--) {
+        struct clause *clause = &clauses[clause_count];
+        draw_clause(clause, variables, MOST_LITERALS);
+        if (!clause->count && draw(20)) continue;
+        CHECK(varisat_simplifier_add_clause(simplifier, clause->literals, clause->count) == 0);
+        clause_count++;
+    }
+    for (int v = 1; v <= variables; v++)
+        if (!draw(3)) {
+            frozen |= 1u << (v - 1);
+            CHECK(varisat_simplifier_freeze(simplifier, v) == 0);
+        }
+    CHECK(varisat_simplifier_simplify(simplifier) == 0);
+    left_size = varisat_simplifier_clauses(simplifier, left, LEFT);
+    CHECK(left_size >= 0 && left_size <= LEFT);
+    return frozen;
+}
+
+/* Extends the model: the values satisfy the clauses, and those of frozen variables are the same. */
+static void check_extension(varisat_simplifier *simplifier, unsigned frozen, const int32_t *model, int count) {
+    int32_t list[ROOM];
+    unsigned values = 0;
+    int size = varisat_simplifier_extend(simplifier, model, (size_t)count, list, ROOM);
+    CHECK(size >= 0 && size <= ROOM);
+    for (int i = 0; i < size; i++) {
+        CHECK(abs(list[i]) == i + 1);
+        if (list[i] > 0) values |= 1u << i;
+    }
+    CHECK(satisfies(values));
+    for (int i = 0; i < count; i++) {
+        int v = abs(model[i]);
+        if (v <= size && frozen >> (v - 1) & 1) CHECK(list[v - 1] == model[i]);
+    }
+}
+
+/* Under each assignment of the frozen variables what is left is satisfiable just where the clauses are, and each of its models is extended,
+ * those that a solver finds too. */
+static void simplify(void) {
+    varisat_simplifier *simplifier = varisat_simplifier_new(0);
+    int variables = 2 + draw(MOST_VARIABLES - 3);
+    unsigned frozen = draw_simplified(simplifier, variables), all = 1u << variables;
+    static char given_there[1 << MOST_VARIABLES], left_there[1 << MOST_VARIABLES];
+    for (unsigned values = 0; values < all; values++) given_there[values] = left_there[values] = 0;
+    for (unsigned values = 0; values < all; values++) {
+        given_there[values & frozen] |= (char)satisfies(values);
+        if (!satisfies_left(values)) continue;
+        left_there[values & frozen] = 1;
+        int32_t model[ROOM];
+        int first = draw(variables);
+        for (int i = 0; i < variables; i++) {
+            int v = (first + i) % variables + 1;
+            model[i] = values >> (v - 1) & 1 ? v : -v;
+        }
+        check_extension(simplifier, frozen, model, variables);
+    }
+    for (unsigned values = 0; values < all; values++) CHECK(given_there[values] == left_there[values]);
+    varisat *solver = varisat_new(0);
+    int32_t model[ROOM];
+    CHECK(varisat_add_clauses(solver, left, (size_t)left_size) == 0);
+    if (varisat_solve(solver) == VARISAT_SATISFIABLE) check_extension(simplifier, frozen, model, varisat_model(solver, model, ROOM));
+    else CHECK(!is_satisfiable(variables, NULL, 0));
+    CHECK(varisat_free(solver) == 0 && varisat_simplifier_free(simplifier) == 0);
+}
+
 int main(int count, char **words) {
     long rounds = count > 1 ? atol(words[1]) : 1000;
-    for (round_number = 0; round_number < rounds; round_number++) play();
+    for (round_number = 0; round_number < rounds; round_number++) play(), simplify();
     printf("%ld random rounds passed\n", rounds);
 }

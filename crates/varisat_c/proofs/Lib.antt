@@ -1,4 +1,5 @@
 pub mod ClientHandleWords
 pub mod HandleWords
 pub mod SearchEnds
+pub mod SimplifierHandleWords
 pub mod SlotWords

@@ -1,5 +1,5 @@
 //! All calls of a solver for C programs: each takes a handle, behind which a caller stands. `contrib/c/varisat.c` calls
-//! them alone, and `contrib/c/ipasir.c` those of `client`.
+//! them and those of `simplifier`, and `contrib/c/ipasir.c` those of `client`.
 #![tactic(auto)]
 
 ghost use Rattle.std.specs.Prelude.{◌≡◌, ◌↔◌, ◌≤◌, min, length, take, drop, Some, None, IsSome, IsTrue, IfSome};
@@ -18,6 +18,8 @@ pub mod client_handle;
 pub mod codes;
 pub mod ends;
 pub mod handle;
+pub mod simplifier;
+pub mod simplifier_handle;
 pub mod slot;
 
 use codes::{count_answer, variable_answer};

@@ -1,0 +1,3 @@
+pub mod PassedOver
+pub mod Extending
+pub mod SimplifierSteps

@@ -1,0 +1,99 @@
+//! Lists of numbers: those of clauses, of flags and of values.
+ghost use Rattle.std.specs.Prelude.{◌≡◌, ◌≢◌, ◌<◌, ◌≤◌, ◌^◌, ◌/◌, ◌++◌, ◌∷◌, ◌↔◌, ℕ, [], pos, false, true, length, IsTrue, EachIndex, slice_index, slice_index_or, OnOk, OnErr, IfOk};
+ghost use Rattle.varisat_literals.specs.Numbers.{variable_limit};
+ghost use Rattle.varisat_calls.specs.Numbers.{told_numbers};
+ghost use Rattle.varisat_simplify_calls.specs.Lists.{AreInRange, clause_numbers, value_numbers, with_all_true, model_values};
+
+use std::alloc::{AllocError, Allocator};
+use varisat_calls::numbers::number_of;
+use varisat_formula::formula::CnfFormula;
+use varisat_literals::{Lit, Var};
+
+/// Whether all variables are below the limit that a solver has.
+pub fn are_in_range(literals: &[Lit]) -> bool
+    ensures { IsTrue result ↔ AreInRange literals.now }
+{
+    literals.iter().all(|lit| lit.index() < Var::max_count())
+}
+
+/// Puts the numbers of the clause and a 0 behind the list.
+fn put_clause<A: Allocator + Copy>(
+    list: &mut Vec<i32, A>,
+    clause: &[Lit],
+) -> Result<(), AllocError>
+    ensures { OnOk result (list.new.items ≡ list.old.items ++ (told_numbers clause.now ++ pos 0 ∷ [])) }
+{
+    for &lit in clause {
+        list.push(number_of(lit))?;
+    }
+    list.push(0)?;
+    Ok(())
+}
+
+/// Puts the numbers of the clauses, each of which a 0 ends, in place of those before.
+pub fn list_clauses<A: Allocator + Copy>(
+    list: &mut Vec<i32, A>,
+    formula: &CnfFormula<A>,
+) -> Result<(), AllocError>
+    ensures { OnOk result (list.new.items ≡ clause_numbers formula.now.clauses) }
+{
+    list.clear();
+    for clause in formula.iter() {
+        put_clause(list, clause)?;
+    }
+    Ok(())
+}
+
+/// Puts the numbers of the variables, negative where they are false, in place of those before.
+pub fn list_values<A: Allocator + Copy>(
+    list: &mut Vec<i32, A>,
+    values: &[bool],
+) -> Result<(), AllocError>
+    requires { length values.now ≤ 2 ^ 31 }
+    ensures { OnOk result (list.new.items ≡ value_numbers values.now) }
+{
+    list.clear();
+    for (index, &value) in values.iter().enumerate() {
+        list.push(number_of(Var::from_index(index).lit(value)))?;
+    }
+    Ok(())
+}
+
+/// Makes the literals true, of which the last of a variable counts. Those of no value are passed over.
+fn make_true(values: &mut [bool], literals: &[Lit])
+    ensures { values.new ≡ with_all_true literals.now values.old }
+{
+    for &lit in literals {
+        if lit.index() < values.len() {
+            values[lit.index()] = lit.is_positive();
+        }
+    }
+}
+
+/// The values of so many variables by the literals. A variable of none is false.
+pub fn values_of<A: Allocator + Copy>(
+    alloc: A,
+    count: usize,
+    literals: &[Lit],
+) -> Result<Vec<bool, A>, AllocError>
+    ensures { IfOk result (λ values. values.items ≡ model_values count literals.now) }
+{
+    let mut values = Vec::new(alloc);
+    values.resize(count, false)?;
+    make_true(&mut values, literals);
+    Ok(values)
+}
+
+/// Flags the place, for which the list grows where that is due. A refused growth changes nothing.
+pub fn flag<A: Allocator + Copy>(flags: &mut Vec<bool, A>, place: usize) -> Result<(), AllocError>
+    requires { place < 2 ^ 31 }
+    ensures flagged { OnOk result (slice_index_or flags.new.items place false ≡ true) }
+    ensures others { OnOk result ((k : ℕ) → k ≢ place → slice_index_or flags.new.items k false ≡ slice_index_or flags.old.items k false) }
+    ensures err { OnErr result (flags.new.items ≡ flags.old.items) }
+{
+    if place >= flags.len() {
+        flags.resize(place + 1, false)?;
+    }
+    flags[place] = true;
+    Ok(())
+}

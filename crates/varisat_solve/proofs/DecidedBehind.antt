@@ -1,5 +1,5 @@
 -- What a new solver concludes of the clauses that a text's formula was made into, as a conclusion for the text.
-use Rattle.std.proofs.Common.{◌≡◌, ◌≢◌, ℕ, ◌/◌, ◌^◌, ◌<◌, ◌≤◌, List, [], ◌∷◌, ◌++◌, Bool, true, false, refl, sym, ap, ◌∙◌, subst, length, inl, inr, arith, Option, Some, None, Ok, Err}
+use Rattle.std.proofs.Common.{◌≡◌, ℕ, ◌^◌, ◌<◌, List, [], ◌∷◌, Bool, true, false, refl, sym, ap, ◌∙◌, subst, length, inl, inr, arith, Option, Some, None, Ok, Err}
 use Rattle.varisat_theory.specs.Membership.{◌∈◌}
 use Rattle.varisat_theory.specs.Literals.{Literal, Clause}
 use Rattle.varisat_theory.specs.Derivations.{Line}
@@ -22,7 +22,7 @@ use Rattle.varisat_solver.specs.ClauseCalls.{AddsFormula, AddsDimacs}
 use Rattle.varisat_solver.specs.OpenProofs.{opened_state}
 use Rattle.varisat_solver.specs.ProofCalls.{IsProofIfOpen}
 use Rattle.varisat.specs.Decided.{Conclusion, IsConclusion, allowed_steps}
-use Rattle.varisat.specs.Proven.{prepared, Concludes, Reports, IsProven, IsProvenIf, DecidesProven}
+use Rattle.varisat.specs.Proven.{prepared, Concludes, Reports, IsProvenIf, DecidesProven}
 use Rattle.varisat_solver.specs.declared.solver.SolverError.{SolverError}
 use Rattle.varisat_solver.specs.declared.solver.SolverError.TheVariants.{Interrupted, ProofIoError, OutOfMemory, Invalid, ClauseStoreFull, WitnessVar, VariableLimit, AssumedVar, ClauseAfterSolve, ProofOpen, ProofTooLate, ConfigOutOfRange, Dimacs}
 use Rattle.varisat.proofs.ProgramProves.{proven}

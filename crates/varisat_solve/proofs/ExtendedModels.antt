@@ -1,11 +1,11 @@
 -- A model of what a formula was made into is extended to one of the formula.
-use Rattle.std.proofs.Common.{◌≡◌, ℕ, zero, suc, ◌+◌, ◌*◌, ◌/◌, ◌%◌, ◌^◌, ◌<◌, ◌≤◌, max, List, [], ◌∷◌, ◌++◌, map, Bool, true, false, not, nat_eq, if◌then◌else◌, refl, sym, ap, ◌∙◌, subst, ◌⊎◌, inl, inr, ⊎_elim, length, set, get_or, replicate, arith, Some, None}
+use Rattle.std.proofs.Common.{◌≡◌, ℕ, zero, suc, ◌+◌, ◌*◌, ◌/◌, ◌%◌, ◌^◌, ◌<◌, ◌≤◌, max, List, [], ◌∷◌, map, Bool, true, false, not, nat_eq, if◌then◌else◌, refl, sym, ap, ◌∙◌, subst, ◌⊎◌, inl, inr, ⊎_elim, length, set, get_or, replicate, arith, Some, None}
 use Rattle.std.proofs.Math.Pow.{pow_mono}
-use Rattle.varisat_theory.specs.Membership.{◌∈◌, ◌⊆◌, IsDistinct}
-use Rattle.varisat_theory.specs.Literals.{Literal, Clause, Assignment, variable_of, literal_of, opposite, value, Satisfies, SatisfiesAll, MakesTrue}
+use Rattle.varisat_theory.specs.Membership.{◌∈◌, IsDistinct}
+use Rattle.varisat_theory.specs.Literals.{Literal, Clause, Assignment, variable_of, literal_of, opposite, value, SatisfiesAll, MakesTrue}
 use Rattle.varisat_theory.proofs.Count.{length-distinct}
 use Rattle.varisat_theory.proofs.Values.{parity, not_both}
-use Rattle.varisat_formula.specs.Formulas.{Formula, variables_of, AllBelow, AreBelow}
+use Rattle.varisat_formula.specs.Formulas.{Formula, variables_of, AreBelow}
 use Rattle.varisat_formula.proofs.FormulaBuffers.{below_variables}
 use Rattle.varisat_simplify.specs.Stacks.{assignment_of, is_satisfied, with_true, amended, extended}
 use Rattle.varisat_simplify.specs.Simplified.{IsMadeOf}

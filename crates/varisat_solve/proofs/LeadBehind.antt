@@ -1,9 +1,9 @@
 -- A proof of what a formula was made into, behind the lines that lead to it, is a proof of the formula.
-use Rattle.std.proofs.Common.{◌≡◌, ◌≢◌, ℕ, ◌^◌, ◌<◌, List, [], ◌∷◌, ◌++◌, map, Bool, true, false, refl, sym, ap, ◌∙◌, subst, append_assoc, ◌⊎◌, inl, inr, ⊎_elim, None}
+use Rattle.std.proofs.Common.{◌≡◌, ◌^◌, ◌<◌, List, [], ◌∷◌, ◌++◌, true, false, refl, sym, ap, ◌∙◌, subst, append_assoc, ◌⊎◌, inl, inr, ⊎_elim, None}
 use Rattle.std.proofs.lemmas.List.{append-nil, map-append}
-use Rattle.std.specs.Prelude.{flat_map, length}
-use Rattle.varisat_theory.specs.Membership.{◌∈◌, ◌⊆◌}
-use Rattle.varisat_theory.specs.Literals.{Literal, Clause}
+use Rattle.std.specs.Prelude.{length}
+use Rattle.varisat_theory.specs.Membership.{◌∈◌}
+use Rattle.varisat_theory.specs.Literals.{Clause}
 use Rattle.varisat_theory.specs.Propagation.{Conflicts}
 use Rattle.varisat_theory.specs.Derivations.{Line, Add, Delete, Derives, IsDerivation, Refutes, SpeakOf}
 use Rattle.varisat_theory.specs.Held.{SameClauses}
@@ -19,14 +19,14 @@ use Rattle.varisat_formula.specs.Streams.{Taken}
 use Rattle.varisat_proof.specs.declared.proof.format.ProofFormat.{ProofFormat}
 use Rattle.varisat_proof.specs.declared.proof.format.ProofFormat.TheVariants.{Drat, BinaryDrat, Marked}
 use Rattle.varisat_proof.specs.declared.proof.format.Encoding.{Encoding}
-use Rattle.varisat_proof.specs.declared.proof.format.Encoding.TheVariants.{Text, Binary}
-use Rattle.varisat_proof.specs.Assumed.{CoresAreAssumed, assumed_behind, cores_of}
+use Rattle.varisat_proof.specs.declared.proof.format.Encoding.TheVariants.{Text}
+use Rattle.varisat_proof.specs.Assumed.{CoresAreAssumed, assumed_behind}
 use Rattle.varisat_proof.specs.Lines.{ProofLine, encoding_of, plain_line, plain_lines, has_marks}
 use Rattle.varisat_proof.specs.Marked.{MarkedTold, ProofState, state_of, nothing_told, TakesAll}
 use Rattle.varisat_proof.specs.Steps.{lines_written}
 use Rattle.varisat_proof.specs.Telling.{lines_told, bytes_told}
 use Rattle.varisat_proof.specs.Written.{AreInRange, line_written}
-use Rattle.varisat_proof.proofs.MarkedJournals.{IsTakenAs, journal_taken}
+use Rattle.varisat_proof.proofs.MarkedJournals.{journal_taken}
 use Rattle.varisat_simplify.specs.Leading.{LeadsTo, IsNamedBy}
 use Rattle.varisat_simplify.specs.Simplified.{IsMadeOf}
 use Rattle.varisat_simplify.proofs.LeadingLemmas.{derives_behind, refutes_behind}

@@ -1,12 +1,12 @@
 -- The bytes of lines that are written one after the other.
-use Rattle.std.proofs.Common.{◌≡◌, ℕ, zero, suc, ◌+◌, ◌<◌, ◌≤◌, List, [], ◌∷◌, ◌++◌, length, get_or, take, drop, flat_map, Err, refl, sym, ap, ◌∙◌, append_assoc, append-nil, take_all, arith}
+use Rattle.std.proofs.Common.{◌≡◌, ℕ, zero, suc, ◌+◌, ◌<◌, ◌≤◌, List, [], ◌∷◌, ◌++◌, length, get_or, take, drop, Err, ap, ◌∙◌, append_assoc, append-nil, take_all, arith}
 use Rattle.varisat_theory.specs.Derivations.{Line, Add}
 use Rattle.varisat_formula.specs.Streams.{Taken}
 use Rattle.varisat_formula.proofs.TargetParts.{begun_part}
 use Rattle.varisat_proof.specs.declared.proof.format.Encoding.{Encoding}
 use Rattle.varisat_proof.specs.declared.proof.writer.WriteError.{WriteError}
 use Rattle.varisat_proof.specs.declared.proof.writer.WriteError.TheVariants.{Memory, Target}
-use Rattle.varisat_proof.specs.Lines.{ProofLine, plain_line, plain_lines}
+use Rattle.varisat_proof.specs.Lines.{plain_line, plain_lines}
 use Rattle.varisat_proof.specs.Steps.{lines_written, PutsLines}
 use Rattle.varisat_proof.specs.Written.{line_written}
 

@@ -1,5 +1,5 @@
 -- The literals of a text's clauses are below the limit.
-use Rattle.std.proofs.Common.{◌≡◌, ℕ, zero, suc, ◌+◌, ◌-◌, ◌*◌, ◌/◌, ◌^◌, ◌<◌, ◌≤◌, List, [], ◌∷◌, ◌++◌, map, Bool, true, false, ◌||◌, ◌&&◌, ◌==◌, nat_lt, if◌then◌else◌, bytes_eq, codes, refl, sym, ap, ◌∙◌, subst, max, ◌⊎◌, inl, inr, ⊎_elim, arith, rules, Option, Some, None}
+use Rattle.std.proofs.Common.{◌≡◌, ℕ, zero, suc, ◌+◌, ◌-◌, ◌/◌, ◌^◌, ◌<◌, ◌≤◌, List, [], ◌∷◌, ◌++◌, Bool, true, false, ◌==◌, nat_lt, if◌then◌else◌, refl, sym, subst, max, ◌⊎◌, ⊎_elim, arith, rules, Option, Some, None}
 use Rattle.varisat_theory.specs.Literals.{Literal, Clause, literal_of}
 use Rattle.varisat_theory.specs.Membership.{◌∈◌}
 use Rattle.varisat_theory.proofs.Members.{∈-append_cases}
@@ -11,7 +11,7 @@ use Rattle.varisat_formula.specs.declared.dimacs.header.Heading.TheVariants.{Mal
 use Rattle.varisat_formula.specs.declared.dimacs.error.DimacsErrorKind.{DimacsErrorKind}
 use Rattle.varisat_formula.specs.declared.dimacs.error.DimacsErrorKind.TheVariants.{ClauseCount, VarCount, UnterminatedClause}
 use Rattle.varisat_formula.specs.declared.dimacs.error.DimacsError.{DimacsError}
-use Rattle.varisat_formula.specs.Dimacs.{in_range, positive, negative, number, meaning, Item, Header, Token, header_items, header_of, token_items, tokens, line_items, items, next, Reading, nothing, failed, is_one_too_many, is_above, after_token, is_started, after_header, after, step_by, step, read, is_none_open, is_short, at_end, close_by, Ends, lines, last_line, dimacs}
+use Rattle.varisat_formula.specs.Dimacs.{in_range, positive, negative, number, meaning, Item, Header, Token, header_items, header_of, token_items, tokens, line_items, items, next, Reading, nothing, failed, is_one_too_many, is_above, after_token, is_started, after_header, after, step_by, step, read, is_short, at_end, close_by, Ends, lines, last_line, dimacs}
 use Rattle.varisat_solve.specs.Solving.{AreLow}
 
 -- each literal is below the limit

@@ -1,6 +1,6 @@
 -- The calls of a new solver, each from the state that the one before leads to.
 use Rattle.std.proofs.Common.{sym, ap, ◌∙◌, subst}
-use Rattle.varisat_solver.specs.States.{State, Ledger}
+use Rattle.varisat_solver.specs.States.{Ledger}
 use Rattle.varisat_solver.specs.Summaries.{StandsFor}
 use Rattle.varisat.specs.Decided.{concluded}
 use Rattle.varisat.specs.Proven.{prepared}

@@ -1,5 +1,5 @@
 -- The line that is not written, or not whole, stands behind those before it.
-use Rattle.std.proofs.Common.{◌<◌, ◌≡◌, ℕ, length, get_or, [], refl, subst, sym}
+use Rattle.std.proofs.Common.{◌<◌, get_or, [], refl, subst}
 use Rattle.varisat_theory.specs.Derivations.{Add}
 use Rattle.varisat_proof.specs.Lines.{encoding_of}
 use Rattle.varisat_solve.proofs.LeadBytes.{lines-fail}

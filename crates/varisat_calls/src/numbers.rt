@@ -47,7 +47,7 @@ pub fn read_numbers<A: Allocator + Copy>(
 }
 
 /// The number of the literal.
-pub fn number_of(lit: Lit) -> i32
+fn number_of(lit: Lit) -> i32
     ensures { result ≡ told_number lit }
 {
     match i32::try_from(lit.to_dimacs()) {

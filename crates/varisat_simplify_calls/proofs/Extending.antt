@@ -83,7 +83,7 @@ extension g m ls s =
     let n = g.given.var_count in
     let vs = model_values n ls in
     let whole = λ (t : SatisfiesAll (assignment_of vs) m.left.clauses). s.made.1.extends vs
-        (subst (λ k. AreBelow k g.given.clauses) (sym (length-model n ls)) s.below) t in
+    (subst (λ k. AreBelow k g.given.clauses) (sym (length-model n ls)) s.below) t in
     record {
       extends = record { same = refl; satisfies = whole; frozen = λ v f. s.keeps vs v f };
       model = λ is. whole (model_satisfies n ls m.left.clauses

@@ -28,20 +28,13 @@ few_values stack n ls vs h e =
 
 pub simplified-now : (old : Option (List Clause)) (f left : Formula) (n count : ℕ) (before cs : List Clause) (frozen flags : List Bool)
     (list : List ℤ) (stack : List Clause) (lines : List Line) → is_some old ≡ false → count ≡ f.var_count → cs ≡ f.clauses →
-    IsMadeOf f left stack lines → flags ≡ frozen → KeepsFrozen flags stack → AreBelow f.var_count f.clauses → f.var_count ≤ 2 ^ 31 →
+    IsMadeOf f left stack lines → flags ≡ frozen → KeepsFrozen flags stack → AreBelow f.var_count f.clauses → count ≤ 2 ^ 31 →
     Simplifies (simplifier_of old f n before frozen list) 0 (simplifier_of (Some stack) left count cs frozen list)
 simplified-now (Some x) f left n count before cs frozen flags list stack lines none e q made same keeps below small = absurd (cc)
 simplified-now None f left n count before cs frozen flags list stack lines none e q made same keeps below small =
     Simplified (record { left = left; stack = stack })
-    (record { made = (lines, made); keeps = subst (λ fs. KeepsFrozen fs stack) same keeps; below = below; small = small })
+    (record { made = (lines, made); keeps = subst (λ fs. KeepsFrozen fs stack) same keeps; below = below; small = subst (λ k. k ≤ 2 ^ 31) e small })
     refl refl (λ i. simplifier_of (Some stack) left (e i) (q i) frozen list)
-
-pub right-now : (f left : Formula) (count : ℕ) (cs : List Clause) (frozen flags : List Bool) (stack : List Clause) (lines : List Line) →
-    count ≡ f.var_count → cs ≡ f.clauses → IsMadeOf f left stack lines → flags ≡ frozen → KeepsFrozen flags stack →
-    AreBelow f.var_count f.clauses → f.var_count ≤ 2 ^ 31 → IsRight (Some stack) left count cs frozen
-right-now f left count cs frozen flags stack lines e q made same keeps below small =
-    subst (λ (g : Formula). IsSimplified g frozen (record { left = left; stack = stack })) (λ i. record { var_count = sym e i; clauses = sym q i })
-    (record { made = (lines, made); keeps = subst (λ fs. KeepsFrozen fs stack) same keeps; below = below; small = small })
 
 pub listed-now : (stack : Option (List Clause)) (f : Formula) (n : ℕ) (cs : List Clause) (frozen : List Bool) (old new : List ℤ) (number : ℕ) →
     is_some stack ≡ true → IsRight stack f n cs frozen → number ≡ 0 → new ≡ clause_numbers f.clauses →
@@ -61,8 +54,3 @@ extended-now numbers (Some t) f n cs frozen old new number s ls absent are is ri
     let m : Made = record { left = f; stack = t } in
     Extended m (extended t (model_values n all)) absent (extension (simplifier_of (Some t) f n cs frozen old) m all right) refl z
     (ap (λ vs. simplifier_of (Some t) f n cs frozen vs) (put ∙ (λ i. value_numbers (extended (same i) (model_values n (are i))))))
-
-pub small-now : (stack : Option (List Clause)) (f : Formula) (n : ℕ) (cs : List Clause) (frozen : List Bool) (s : List Clause) → stack ≡ Some s →
-    IsRight stack f n cs frozen → n ≤ 2 ^ 31
-small-now None f n cs frozen s e right = absurd (cc)
-small-now (Some t) f n cs frozen s e right = right.small

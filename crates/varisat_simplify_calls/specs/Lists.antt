@@ -2,7 +2,7 @@
 use Rattle.std.specs.Prelude.{ℕ, ◌+◌, ◌/◌, ◌<◌, Bool, false, ℤ, pos, List, [], ◌∷◌, ◌++◌, length, replicate, EachIndex, slice_index}
 use Rattle.varisat_theory.specs.Literals.{Literal, Clause, literal_of}
 use Rattle.varisat_literals.specs.Numbers.{variable_limit}
-use Rattle.varisat_calls.specs.Numbers.{told_number, told_numbers}
+use Rattle.varisat_calls.specs.Numbers.{told_numbers}
 use Rattle.varisat_simplify.specs.Stacks.{with_true}
 
 -- no variable is above the limit that a solver has
@@ -14,14 +14,14 @@ abbrev pub clause_numbers : List Clause → List ℤ
 clause_numbers [] = []
 clause_numbers (c ∷ cs) = told_numbers c ++ pos 0 ∷ clause_numbers cs
 
--- the numbers of the variables from this one on, negative where they are false
-abbrev pub numbers_from : ℕ → List Bool → List ℤ
-numbers_from v [] = []
-numbers_from v (b ∷ bs) = told_number (literal_of v b) ∷ numbers_from (v + 1) bs
+-- the literals of the variables from this one on that are true
+abbrev pub literals_from : ℕ → List Bool → List Literal
+literals_from v [] = []
+literals_from v (b ∷ bs) = literal_of v b ∷ literals_from (v + 1) bs
 
--- those of all variables
+-- the numbers of all variables, negative where they are false
 abbrev pub value_numbers : List Bool → List ℤ
-value_numbers vs = numbers_from 0 vs
+value_numbers vs = told_numbers (literals_from 0 vs)
 
 -- the values where each literal was made true in turn
 abbrev pub with_all_true : List Literal → List Bool → List Bool

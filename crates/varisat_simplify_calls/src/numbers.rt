@@ -2,10 +2,10 @@
 ghost use Rattle.std.specs.Prelude.{◌≡◌, ◌≢◌, ◌<◌, ◌≤◌, ◌^◌, ◌/◌, ◌++◌, ◌∷◌, ◌↔◌, ℕ, [], pos, false, true, length, IsTrue, EachIndex, slice_index, slice_index_or, OnOk, OnErr, IfOk};
 ghost use Rattle.varisat_literals.specs.Numbers.{variable_limit};
 ghost use Rattle.varisat_calls.specs.Numbers.{told_numbers};
-ghost use Rattle.varisat_simplify_calls.specs.Lists.{AreInRange, clause_numbers, value_numbers, with_all_true, model_values};
+ghost use Rattle.varisat_simplify_calls.specs.Lists.{AreInRange, clause_numbers, literals_from, value_numbers, with_all_true, model_values};
 
 use std::alloc::{AllocError, Allocator};
-use varisat_calls::numbers::number_of;
+use varisat_calls::numbers::tell_numbers;
 use varisat_formula::formula::CnfFormula;
 use varisat_literals::{Lit, Var};
 
@@ -16,46 +16,59 @@ pub fn are_in_range(literals: &[Lit]) -> bool
     literals.iter().all(|lit| lit.index() < Var::max_count())
 }
 
-/// Puts the numbers of the clause and a 0 behind the list.
+/// Puts the numbers of the clause and a 0 behind the list, by way of the piece.
 fn put_clause<A: Allocator + Copy>(
     list: &mut Vec<i32, A>,
+    piece: &mut Vec<i32, A>,
     clause: &[Lit],
 ) -> Result<(), AllocError>
     ensures { OnOk result (list.new.items ≡ list.old.items ++ (told_numbers clause.now ++ pos 0 ∷ [])) }
 {
-    for &lit in clause {
-        list.push(number_of(lit))?;
-    }
-    list.push(0)?;
+    tell_numbers(piece, clause)?;
+    piece.push(0)?;
+    list.extend_from_slice(piece)?;
     Ok(())
 }
 
 /// Puts the numbers of the clauses, each of which a 0 ends, in place of those before.
 pub fn list_clauses<A: Allocator + Copy>(
+    alloc: A,
     list: &mut Vec<i32, A>,
     formula: &CnfFormula<A>,
 ) -> Result<(), AllocError>
     ensures { OnOk result (list.new.items ≡ clause_numbers formula.now.clauses) }
 {
     list.clear();
+    let mut piece = Vec::new(alloc);
     for clause in formula.iter() {
-        put_clause(list, clause)?;
+        put_clause(list, &mut piece, clause)?;
     }
     Ok(())
 }
 
+/// The literals that are true.
+fn literals_of<A: Allocator + Copy>(alloc: A, values: &[bool]) -> Result<Vec<Lit, A>, AllocError>
+    requires { length values.now ≤ 2 ^ 31 }
+    ensures { IfOk result (λ literals. literals.items ≡ literals_from 0 values.now) }
+{
+    let mut literals = Vec::new(alloc);
+    for (index, &value) in values.iter().enumerate() {
+        literals.push(Var::from_index(index).lit(value))?;
+    }
+    Ok(literals)
+}
+
 /// Puts the numbers of the variables, negative where they are false, in place of those before.
 pub fn list_values<A: Allocator + Copy>(
+    alloc: A,
     list: &mut Vec<i32, A>,
     values: &[bool],
 ) -> Result<(), AllocError>
     requires { length values.now ≤ 2 ^ 31 }
     ensures { OnOk result (list.new.items ≡ value_numbers values.now) }
 {
-    list.clear();
-    for (index, &value) in values.iter().enumerate() {
-        list.push(number_of(Var::from_index(index).lit(value)))?;
-    }
+    let literals = literals_of(alloc, values)?;
+    tell_numbers(list, &literals)?;
     Ok(())
 }
 

@@ -79,7 +79,7 @@ fn list_extended<A: Allocator + Copy>(
     ensures { OnOk result (list.new.items ≡ value_numbers (extended stack.now (model_values count literals.now))) }
 {
     let values = extended(alloc, count, stack, literals)?;
-    list_values(list, &values)?;
+    list_values(alloc, list, &values)?;
     Ok(())
 }
 
@@ -114,8 +114,8 @@ impl<A: Allocator + Copy> Model for Simplifier<A> {
     } };
 
     ghost invariant = { λ c.
-      IfSome (simplifiers.made_of c.stack c.formula)
-      (simplifiers.IsSimplified (simplifiers.given_of c.stack c.formula c.var_count c.given.clauses) c.frozen.items) };
+        IfSome (simplifiers.made_of c.stack c.formula)
+        (simplifiers.IsSimplified (simplifiers.given_of c.stack c.formula c.var_count c.given.clauses) c.frozen.items) };
 }
 
 impl<A: Allocator + Copy> Simplifier<A> {
@@ -206,7 +206,7 @@ impl<A: Allocator + Copy> Simplifier<A> {
         if self.stack.is_none() {
             return NOTHING;
         }
-        match list_clauses(&mut self.list, &self.formula) {
+        match list_clauses(self.alloc, &mut self.list, &self.formula) {
             Ok(()) => DONE,
             Err(_) => OUT_OF_MEMORY,
         }
@@ -224,7 +224,13 @@ impl<A: Allocator + Copy> Simplifier<A> {
         let Some(stack) = &self.stack else {
             return NOTHING;
         };
-        match list_extended(self.alloc, self.var_count, stack, &self.literals, &mut self.list) {
+        match list_extended(
+            self.alloc,
+            self.var_count,
+            stack,
+            &self.literals,
+            &mut self.list,
+        ) {
             Ok(()) => DONE,
             Err(_) => OUT_OF_MEMORY,
         }

@@ -4,7 +4,6 @@ use mir.Syntax.{Ty}
 use base.Fml.{Fml}
 use denote.RattleType.{RattleType}
 use denote.RawPtr.{Ptr}
-use Rattle.core.specs.contracts.clone.Clone+copy.TheImpl as copied
 use Rattle.std_heap.specs.contracts.Global as heap
 use Rattle.std_heap.specs.contracts.GlobalAllocator.TheImpl as impl
 use Rattle.varisat_simplify_calls.specs.Simplifiers.{Simplifier}
@@ -13,7 +12,7 @@ use Rattle.varisat_simplify_calls.specs.contracts.simplifier.Simplifier as simpl
 
 -- a simplifier, as it lies in memory
 abbrev pub simplifier_row : RattleType
-simplifier_row = simplifier.the_row heap.the_row impl.ghosts (copied.ghosts heap.the_row)
+simplifier_row = simplifier.the_row heap.the_row impl.ghosts
 
 -- the right to free a block of the C library's heap, which no value of the allocator decides
 abbrev pub may_free : Ty → Ptr → Fml

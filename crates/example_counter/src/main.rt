@@ -30,13 +30,13 @@ type CounterSolver = Solver<MemoryTarget<Global>, Global>;
 
 fn main(rt: HostRuntime) -> io::Result<()> {
     let mut solver = Solver::new_in(rt.alloc());
-    let written = tell(&rt, &mut solver);
+    let written = print_answer(&rt, &mut solver);
     drop(solver);
     written
 }
 
 /// Tells after how many steps the counter can be bad, and how it comes to that.
-fn tell(rt: &HostRuntime, solver: &mut CounterSolver) -> io::Result<()> {
+fn print_answer(rt: &HostRuntime, solver: &mut CounterSolver) -> io::Result<()> {
     match find_bad(solver) {
         Ok(Some(bound)) => {
             println!(rt; "{BAD} is reached after {bound} steps")?;

@@ -46,13 +46,13 @@ type UnrollingSolver = Solver<MemoryTarget<Global>, Global>;
 
 fn main(rt: HostRuntime) -> Result<()> {
     let mut solver = Solver::new_in(rt.alloc());
-    let told = tell(&rt, &mut solver);
+    let told = print_answer(&rt, &mut solver);
     drop(solver);
     told
 }
 
 /// Tells what is left of a step, after how many the counter can be bad, and by which.
-fn tell(rt: &HostRuntime, solver: &mut UnrollingSolver) -> Result<()> {
+fn print_answer(rt: &HostRuntime, solver: &mut UnrollingSolver) -> Result<()> {
     let step = step_formula(rt.alloc())?;
     let clauses = step.len();
     let simplified = simplify(rt.alloc(), step, &frozen())?;

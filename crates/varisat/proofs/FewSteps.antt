@@ -16,11 +16,11 @@ use Rattle.varisat_solver.specs.Usage as usage
 use Rattle.varisat_solver.specs.Budgets.{CountsSteps}
 use Rattle.varisat_solver.specs.OpenProofs.{BarsAssumptions}
 use Rattle.varisat_solver.specs.Calls as state
-use Rattle.varisat_solver.specs.Calls.{calling, Verdicts, Ignored, Accepted, Decided, Searched, IsValid, IsSolved, Invalidates, IsLikeButLeft, CountsCall}
-use Rattle.varisat.specs.Pasts.{empty_past, telling}
+use Rattle.varisat_solver.specs.Calls.{by_state, Verdicts, Ignored, Accepted, Decided, Searched, IsValid, IsSolved, Invalidates, IsLikeButLeft, CountsCall}
+use Rattle.varisat.specs.Pasts.{empty_past, by_answers}
 use Rattle.varisat_proof.specs.declared.proof.format.ProofFormat.{ProofFormat}
 use Rattle.varisat_solver.specs.ProofCalls.{OpensProof, EnablesChecking, Closes}
-use Rattle.varisat_solver.specs.Told.{told_list, told_vars}
+use Rattle.varisat_solver.specs.ReturnedLists.{returned_list, returned_variables}
 use Rattle.varisat.specs.Turns.{Makes}
 use Rattle.varisat.specs.Moments.{HasFewSteps, HasFewStepsAlong}
 use Rattle.varisat.specs.declared.session.Call.{Call}
@@ -107,7 +107,7 @@ refuse unbarred s t d (WitnessVar u) a h = same s t a.4 h
 refuse unbarred s t d e a h = absurd a
 
 tell-list : {V : Type 0} (may : Option (List Literal) → Type 0) (s t : Known V) (r : Result (Option (List Literal)) AllocError) →
-    state.TellsList may s r t → HasFewSteps s → HasFewSteps t
+    state.ReturnsList may s r t → HasFewSteps s → HasFewSteps t
 tell-list may s t (Ok m) a h = same s t a.1 h
 tell-list may s t (Err e) a h = same s t a.2 h
 
@@ -156,7 +156,7 @@ module _ {V : Type 0} (by : Verdicts V) where
   add-list s t P r (OneRefused v x e a) h = add-all s t P (Err x) a h
   add-list s t P r (RefusedAtOnce e (v, k)) h = same s t k h
 
-  tell-fault : (s t : Known V) (x : Option DimacsError) (r : Result (Unit {0}) SolverError) → additions.TellsFault by x s r t → HasFewSteps s →
+  tell-fault : (s t : Known V) (x : Option DimacsError) (r : Result (Unit {0}) SolverError) → additions.ReturnsFault by x s r t → HasFewSteps s →
       HasFewSteps t
   tell-fault s t x r (NoFault n e k) h = anew s t k
   tell-fault s t x r (MemoryFault y n m e b) h = no-way s t b
@@ -171,11 +171,11 @@ module _ {V : Type 0} (by : Verdicts V) where
   add-text s t old new r (RefusedEarly v ended g e k a) h = add-all s t ended (Err e) a h
   add-text s t old new r (Unread e (v, k) n) h = same s t k h
 
-  returned : (s t : Known V) (b : Bool) → state.TellsVerdict by s b t → HasFewSteps s → HasFewSteps t
+  returned : (s t : Known V) (b : Bool) → state.ReturnsVerdict by s b t → HasFewSteps s → HasFewSteps t
   returned s t b r h = go r.steps
     where
       go : state.CountsIf by s (Ok b) t → HasFewSteps t
-      go (Decided n e told) = unmoved t.verdict s t r.rest e h
+      go (Decided n e logged) = unmoved t.verdict s t r.rest e h
       go (Searched u c) = joined t.verdict s t (Ok b) r.rest c
 
   solve : (s t : Known V) (r : Result Bool SolverError) → state.Solves by s r t → HasFewSteps s → HasFewSteps t
@@ -197,11 +197,11 @@ module _ {V : Type 0} (by : Verdicts V) where
   call-keeps seen taken (call.SampleVar u) (answer.SampleVar r) s t m h = change-var false (usage.with_mode u Sample) u s t r refl m.0 h
   call-keeps seen taken (call.WitnessVar u) (answer.WitnessVar r) s t m h = change-var false (usage.with_mode u Witness) u s t r refl m.0 h
   call-keeps seen taken (call.HideVar u) (answer.HideVar r) s t m h = change-var true (usage.hide_name u) u s t r refl m h
-  call-keeps seen taken call.ObserveInternalVars (answer.ObserveInternalVars r) s t m h = observe s t (told_vars r) m h
+  call-keeps seen taken call.ObserveInternalVars (answer.ObserveInternalVars r) s t m h = observe s t (returned_variables r) m h
   call-keeps seen taken (call.Assume list) (answer.Assume r) s t m h = assume-list s t list.items r m h
   call-keeps seen taken call.Solve (answer.Solve r) s t m h = solve s t r m h
-  call-keeps seen taken call.Model (answer.Model r) s t m h = tell-list (by.model s) s t (told_list r) m h
-  call-keeps seen taken call.FailedCore (answer.FailedCore r) s t m h = tell-list (by.core s) s t (told_list r) m h
+  call-keeps seen taken call.Model (answer.Model r) s t m h = tell-list (by.model s) s t (returned_list r) m h
+  call-keeps seen taken call.FailedCore (answer.FailedCore r) s t m h = tell-list (by.core s) s t (returned_list r) m h
   call-keeps seen taken (call.Config u) (answer.Config r) s t m h = config s t u r m h
   call-keeps seen taken call.Steps (answer.Steps n) s t m h = same s t m.1 h
   call-keeps seen taken call.StepsSinceChange (answer.StepsSinceChange n) s t m h = same s t m.2 h
@@ -223,10 +223,10 @@ module _ {V : Type 0} (by : Verdicts V) where
 
 -- from a state with few steps on they stay few
 pub run-stays-few : {W S A : Type 0} (seen : S → Stand) (taken : W → Taken) (calls : List (Call W S A)) (answers : List (Answer W S A))
-    (s : State) → HasFewSteps s → HasFewStepsAlong calling seen taken s calls answers
-run-stays-few seen taken calls answers s h = along calling seen taken calls answers s h
+    (s : State) → HasFewSteps s → HasFewStepsAlong by_state seen taken s calls answers
+run-stays-few seen taken calls answers s h = along by_state seen taken calls answers s h
 
 -- from the first call on they are few
 pub answers-stay-few : {W S A : Type 0} (seen : S → Stand) (taken : W → Taken) (calls : List (Call W S A)) (answers : List (Answer W S A)) →
-    HasFewStepsAlong telling seen taken empty_past calls answers
-answers-stay-few seen taken calls answers = along telling seen taken calls answers empty_past (λ v. none-is-few 0 0 refl)
+    HasFewStepsAlong by_answers seen taken empty_past calls answers
+answers-stay-few seen taken calls answers = along by_answers seen taken calls answers empty_past (λ v. none-is-few 0 0 refl)

@@ -7,17 +7,17 @@ use Rattle.varisat.specs.declared.session.Answer.{Answer}
 use Rattle.varisat.specs.declared.session.Call.TheVariants as call
 use Rattle.varisat.specs.declared.session.Answer.TheVariants as answer
 use Rattle.varisat_solver.specs.States.{State, empty_state}
-use Rattle.varisat_solver.specs.Journals.{IsJournal, IsToldWithin}
+use Rattle.varisat_solver.specs.Journals.{IsJournal, IsLoggedWithin}
 use Rattle.varisat_solver.specs.Calls.{IsValid}
-use Rattle.varisat_solver.specs.Told.{told_list, told_vars}
+use Rattle.varisat_solver.specs.ReturnedLists.{returned_list, returned_variables}
 use Rattle.varisat_solver.specs.Names.{Sample, Witness}
 use Rattle.varisat.specs.Turns.{Makes}
 use Rattle.varisat.specs.Runs.{MakesCall, Run}
-use Rattle.varisat.specs.Pasts.{Findings, IsPastJournal, empty_past, telling}
+use Rattle.varisat.specs.Pasts.{Findings, IsPastJournal, empty_past, by_answers}
 use Rattle.varisat.specs.Histories.{AreTrue}
 use Rattle.varisat.proofs.Pasts.{Agrees, Leads, past_of, add-clause, add-formula, add-text, make-var, set-usage, hide, observe, assume-list, tell-model, tell-core, config, open-proof, close, enable-checking, stays, new-agrees}
 use Rattle.varisat.proofs.SolvedPasts.{solve}
-use Rattle.varisat.proofs.RunsTold.{call-within}
+use Rattle.varisat.proofs.RunsLogged.{call-within}
 
 -- what holds of each value with P
 pub of-ok : {X E : Type 0} (r : Result X E) (P Q : X → Type 0) → ((x : X) → P x → Q x) → IfOk r P → IfOk r Q
@@ -26,7 +26,7 @@ of-ok (Err e) P Q f h = tt
 
 -- a call moves the past and the state alike
 is-true : {W S A : Type 0} (seen : S → Stand) (taken : W → Taken) (c : Call W S A) (a : Answer W S A) (v : Findings) (s t : State) → Agrees v s →
-    MakesCall seen taken s c a t → Leads (Makes telling seen taken (past_of v s) c a) t
+    MakesCall seen taken s c a t → Leads (Makes by_answers seen taken (past_of v s) c a) t
 is-true seen taken (call.AddClause d) (answer.AddClause r) v s t g m = add-clause v s t d.items r g m
 is-true seen taken (call.AddFormula f) (answer.AddFormula r) v s t g m = add-formula v s t f.clauses r g m
 is-true seen taken (call.AddDimacsCnf source) (answer.AddDimacsCnf r back) v s t g m = add-text v s t (seen source) (seen back) r g m
@@ -34,11 +34,11 @@ is-true seen taken call.NewVar (answer.NewVar r) v s t g m = make-var v s t r g 
 is-true seen taken (call.SampleVar u) (answer.SampleVar r) v s t g m = set-usage Sample v s t u r g m
 is-true seen taken (call.WitnessVar u) (answer.WitnessVar r) v s t g m = set-usage Witness v s t u r g m
 is-true seen taken (call.HideVar u) (answer.HideVar r) v s t g m = hide v s t u r g m
-is-true seen taken call.ObserveInternalVars (answer.ObserveInternalVars r) v s t g m = observe v s t (told_vars r) g m
+is-true seen taken call.ObserveInternalVars (answer.ObserveInternalVars r) v s t g m = observe v s t (returned_variables r) g m
 is-true seen taken (call.Assume list) (answer.Assume r) v s t g m = assume-list v s t list.items r g m
 is-true seen taken call.Solve (answer.Solve r) v s t g m = solve v s t r g m
-is-true seen taken call.Model (answer.Model r) v s t g m = tell-model v s t (told_list r) g m
-is-true seen taken call.FailedCore (answer.FailedCore r) v s t g m = tell-core v s t (told_list r) g m
+is-true seen taken call.Model (answer.Model r) v s t g m = tell-model v s t (returned_list r) g m
+is-true seen taken call.FailedCore (answer.FailedCore r) v s t g m = tell-core v s t (returned_list r) g m
 is-true seen taken (call.Config u) (answer.Config r) v s t g m = config v s t u r g m
 is-true seen taken call.Steps (answer.Steps n) v s t g (e, k) = (v, (e, ap (past_of v) k), stays v s t k g)
 is-true seen taken call.StepsSinceChange (answer.StepsSinceChange n) v s t g (e, few, k) = (v, (e, few, ap (past_of v) k), stays v s t k g)
@@ -49,14 +49,14 @@ is-true seen taken call.EnableSelfChecking (answer.EnableSelfChecking r) v s t g
 is-true seen taken _ _ v s t g m = absurd m
 
 -- what was told is the past's journal, as it is the state's
-past-journal : (v : Findings) (s : State) → Agrees v s → (IsValid s → IsJournal s) → (IsValid s → IsToldWithin s.ledger.steps s.told) → IsValid s →
+past-journal : (v : Findings) (s : State) → Agrees v s → (IsValid s → IsJournal s) → (IsValid s → IsLoggedWithin s.ledger.steps s.logged) → IsValid s →
     IsPastJournal (past_of v s)
-past-journal v s g told within c =
+past-journal v s g logged within c =
     let k = g c in
-    let j = told c in
+    let j = logged c in
     record {
       within = within c;
-      enough = k.told.enough;
+      enough = k.logged.enough;
       accepted = j.accepted;
       lists = k.lists;
       assumed = j.assumed;
@@ -67,16 +67,16 @@ past-journal v s g told within c =
     }
 
 are-true : {W S A : Type 0} (seen : S → Stand) (taken : W → Taken) (calls : List (Call W S A)) (answers : List (Answer W S A)) (v : Findings)
-    (s t : State) → Agrees v s → (IsValid s → IsToldWithin s.ledger.steps s.told) → Run seen taken s calls answers t →
+    (s t : State) → Agrees v s → (IsValid s → IsLoggedWithin s.ledger.steps s.logged) → Run seen taken s calls answers t →
     AreTrue seen taken (past_of v s) calls answers
 are-true seen taken [] [] v s t g w r = (past_of v s, refl)
 are-true seen taken [] (a ∷ answers) v s t g w r = absurd r
 are-true seen taken (c ∷ calls) [] v s t g w r = absurd r
-are-true seen taken (c ∷ calls) (a ∷ answers) v s t g w (mid, m, told, r) =
+are-true seen taken (c ∷ calls) (a ∷ answers) v s t g w (mid, m, logged, r) =
     let (x, y, h) = is-true seen taken c a v s mid g m in
     let within = call-within seen taken c a s mid m w in
     let (last, rest) = are-true seen taken calls answers x mid t h within r in
-    (last, (past_of x mid, y, past-journal x mid h told within, rest))
+    (last, (past_of x mid, y, past-journal x mid h logged within, rest))
 
 -- each run of a new solver gives answers that are true
 pub run-is-true : {W S A : Type 0} (seen : S → Stand) (taken : W → Taken) (calls : List (Call W S A)) (answers : List (Answer W S A)) (t : State) →

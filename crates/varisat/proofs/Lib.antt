@@ -10,5 +10,5 @@ pub mod PrintedLists
 pub mod Pasts
 pub mod SolvedPasts
 pub mod ProgramProves
-pub mod RunsTold
+pub mod RunsLogged
 pub mod FewSteps

@@ -21,16 +21,16 @@ use Rattle.varisat_solver.specs.Models.{list_names, model_of, IsCompletable}
 use Rattle.varisat_solver.specs.Additions as additions
 use Rattle.varisat_solver.specs.Additions.{AllAdded, OneRefused, RefusedAtOnce, NoFault, MemoryFault, Fault, ClauseRefused, ClausesAdded, RefusedEarly, Read, Unread}
 use Rattle.varisat_solver.specs.Calls as state
-use Rattle.varisat_solver.specs.Calls.{calling, IsValid, Invalidates, IsLikeButLeft, IsLike, Ignored, Accepted, MayAccept, TakesOne, TakesList, TellsList, IsRefuted, RefusesNames, accept, count_anew, start, with_naming, answer_of, reopened_verdict, assumed_verdict, VerdictAfter}
+use Rattle.varisat_solver.specs.Calls.{by_state, IsValid, Invalidates, IsLikeButLeft, IsLike, Ignored, Accepted, MayAccept, TakesOne, TakesList, ReturnsList, IsRefuted, RefusesNames, accept, count_anew, start, with_naming, answer_of, reopened_verdict, assumed_verdict, VerdictAfter}
 use Rattle.varisat.specs.Pasts as past
-use Rattle.varisat.specs.Pasts.{Findings, Past, MayTellModel, MayTellCore, telling}
+use Rattle.varisat.specs.Pasts.{Findings, Past, MayReturnModel, MayReturnCore, by_answers}
 use Rattle.varisat_solver.specs.Usage as usage
 use Rattle.varisat_solver.specs.declared.solver.SolverError.{SolverError}
 use Rattle.varisat_solver.specs.declared.solver.SolverError.TheVariants.{ProofIoError, OutOfMemory, Invalid, ClauseStoreFull, WitnessVar, VariableLimit, AssumedVar, ClauseAfterSolve, ProofOpen, ProofTooLate, ConfigOutOfRange}
 use Rattle.varisat_solver.proofs.CallStates.{same-assumptions, same-clauses, same-counted, same-naming, same-verdict}
-use Rattle.varisat_solver.proofs.ToldEntries.{tells-through, tells, accepts-goes, assumes-goes, lists-append, lists-derived, lists-on}
-use Rattle.varisat.proofs.PastJournals.{KnowsTold, told-more}
-use Rattle.varisat_solver.proofs.SearchVerdicts.{told-fails, core-answer, no-core, reopened-core, assumed-no-core, reopened-not-true, reopened-false, right-reopened, assumed-not-true, right-assumed}
+use Rattle.varisat_solver.proofs.LoggedEntries.{logs-through, logs, accepts-goes, assumes-goes, lists-append, lists-derived, lists-on}
+use Rattle.varisat.proofs.PastJournals.{KnowsLogged, logged-more}
+use Rattle.varisat_solver.proofs.SearchVerdicts.{logged-fails, core-answer, no-core, reopened-core, assumed-no-core, reopened-not-true, reopened-false, right-reopened, assumed-not-true, right-assumed}
 use Rattle.varisat_solver.proofs.ModelsFit.{completable}
 
 -- 1. No name is in use from the watermark on.
@@ -82,7 +82,7 @@ past_of v s = record {
   counted = s.counted;
   verdict = v;
   ledger = s.ledger;
-  told = s.told;
+  logged = s.logged;
   variables = s.variables;
   proof = s.proof;
   words = s.words;
@@ -91,13 +91,13 @@ past_of v s = record {
 -- what the findings say of the state as long as it is valid
 pub record Knows (v : Findings) (s : State) : Type 0 where
   pub capped : IsCapped s.naming
-  pub lists : lists_of s.told ≡ v.lists
+  pub lists : lists_of s.logged ≡ v.lists
   pub model : v.has_model ≡ true → answer_of s.verdict ≡ Some true
   pub found : answer_of s.verdict ≡ Some true → v.has_model ≡ true
   pub failed : v.has_core ≡ true → answer_of s.verdict ≡ Some false
   pub core : (l : List Literal) → s.verdict ≡ UnsatUnderAssumptions l → v.has_core ≡ true
   pub some : (l : List Literal) → s.verdict ≡ UnsatUnderAssumptions l → l ≢ []
-  pub told : KnowsTold s.told v.interrupted_steps
+  pub logged : KnowsLogged s.logged v.interrupted_steps
   pub right : HasRightVerdict s
 
 -- they are those to which the calls lead
@@ -118,7 +118,7 @@ knows-still v s l u k = record {
   failed = k.failed;
   core = k.core;
   some = k.some;
-  told = k.told;
+  logged = k.logged;
   right = k.right;
 }
 
@@ -135,7 +135,7 @@ stays-but v s t l u e was g = subst (Agrees v) (sym e) (λ c. knows-still v s l 
 pub like-past : {may_leave : Bool} (v : Findings) (s t : State) → IsLikeButLeft may_leave s t → IsLikeButLeft may_leave (past_of v s) (past_of v t)
 like-past v s t e = record {
   same = ap (past_of v) e.same;
-  told = e.told;
+  logged = e.logged;
   derived = e.derived;
   stays = e.stays;
   alike = e.alike;
@@ -171,21 +171,21 @@ after-cases : (P : List Clause) (c : Clause) (v w : Verdict) → VerdictAfter P 
 after-cases P c v w (state.Refuted e u) = inl (e, u)
 after-cases P c v w (state.Reopened e u) = inr e
 
-accepted : (v : Findings) (s t : State) (d : Clause) → s.verdict ≢ Unsat → state.Accepts calling s d t → Knows v s →
+accepted : (v : Findings) (s t : State) (d : Clause) → s.verdict ≢ Unsat → state.Accepts by_state s d t → Knows v s →
     Knows (record v { has_model = false }) t
 accepted v s t d n (w, after, e) k =
     let c = map (through_names (name_all d s.naming)) d in
     let cases = after-cases s.clauses c s.verdict w after in
     record {
       capped = subst IsCapped (sym (same-naming e)) (capped-all d s.naming k.capped);
-      lists = lists-on (s.told ++ Accepts c ∷ []) t.told e.told (lists-derived e.told.entries e.derived) ∙ lists-append s.told (Accepts c ∷ [])
-          ∙ append-nil (lists_of s.told) ∙ k.lists;
+      lists = lists-on (s.logged ++ Accepts c ∷ []) t.logged e.logged (lists-derived e.logged.entries e.derived) ∙ lists-append s.logged (Accepts c ∷ [])
+          ∙ append-nil (lists_of s.logged) ∙ k.lists;
       model = λ h. absurd cc;
       found = λ h. absurd (⊎_elim
           (λ r. let z : Some false ≡ Some true = ap answer_of (sym ((same-verdict e) ∙ r.0)) ∙ h in let y : false ≡ true = cc in cc)
           (λ r. reopened-not-true s.verdict (ap answer_of (sym ((same-verdict e) ∙ r)) ∙ h)) cases);
-      told = told-more 0 s.told t.told v.interrupted_steps k.told
-          (tells-through 0 0 s.told (s.told ++ Accepts c ∷ []) t.told (tells 0 s.told (Accepts c ∷ []) (accepts-goes s.told c)) e.told);
+      logged = logged-more 0 s.logged t.logged v.interrupted_steps k.logged
+          (logs-through 0 0 s.logged (s.logged ++ Accepts c ∷ []) t.logged (logs 0 s.logged (Accepts c ∷ []) (accepts-goes s.logged c)) e.logged);
       failed = λ h. ⊎_elim
           (λ r. ap answer_of ((same-verdict e) ∙ r.0))
           (λ r. ap answer_of ((same-verdict e) ∙ r) ∙ reopened-false s.verdict (k.failed h))
@@ -207,7 +207,7 @@ accepted v s t d n (w, after, e) k =
 pub refuted : (v : Findings) (s : State) → Knows v s → s.verdict ≡ Unsat → IsSatisfiable s.clauses → ⊥
 refuted v s k u = subst (IsRight s.clauses s.assumptions s.counted) u k.right
 
-may-accept : (v : Findings) (s : State) → MayAccept calling s → MayAccept telling (past_of v s)
+may-accept : (v : Findings) (s : State) → MayAccept by_state s → MayAccept by_answers (past_of v s)
 may-accept v s n = record { unrefuted = tt; unbarred = n.unbarred }
 
 -- what it is refused for is the same for both
@@ -220,8 +220,8 @@ refuses-names A B f v s t d VariableLimit g (c, n, over, e) = (v, (c, f n, over,
 refuses-names A B f v s t d (WitnessVar u) g (c, n, within, is, e) = (v, (c, f n, within, is, ap (past_of v) e), stays v s t e g)
 refuses-names A B f v s t d e g a = absurd a
 
-pub add-clause : (v : Findings) (s t : State) (d : Clause) (r : Result (Unit {0}) SolverError) → Agrees v s → TakesOne calling s d r t →
-    Leads (TakesOne telling (past_of v s) d r) t
+pub add-clause : (v : Findings) (s t : State) (d : Clause) (r : Result (Unit {0}) SolverError) → Agrees v s → TakesOne by_state s d r t →
+    Leads (TakesOne by_answers (past_of v s) d r) t
 add-clause v s t d (Ok u) g (c, Ignored n e) =
     (v, (c, Ignored (refuted v s (g c) n) (ap (past_of v) e)), stays-but v s t _ s.proof e (λ h. h) g)
 add-clause v s t d (Ok u) g (c, Accepted n lim a) =
@@ -229,15 +229,15 @@ add-clause v s t d (Ok u) g (c, Accepted n lim a) =
     (w, (c, Accepted (may-accept v s n) lim (w, refl, like-past w (accept d a.0 s) t a.2)), λ _. accepted v s t d n.unrefuted a (g c))
 add-clause v s t d (Err ClauseStoreFull) g (n, lim, b, full) = (v, (may-accept v s n, lim, broken-past 0 v s t b, full), breaks v s t b)
 add-clause v s t d (Err ClauseAfterSolve) g (c, n, is, e) = (v, (c, tt, is, ap (past_of v) e), stays v s t e g)
-add-clause v s t d (Err e) g a = refuses-names (MayAccept calling s) (MayAccept telling (past_of v s)) (may-accept v s) v s t d e g a
+add-clause v s t d (Err e) g a = refuses-names (MayAccept by_state s) (MayAccept by_answers (past_of v s)) (may-accept v s) v s t d e g a
 
 -- 4. Formulas and texts.
 
 anew : (v : Findings) (s t : State) → t ≡ count_anew s → Agrees v s → Agrees v t
 anew v s t e g = stays-but v s t _ s.proof e (λ h. h) g
 
-add-all : (v : Findings) (s t : State) (P : List Clause) (r : Result (Unit {0}) SolverError) → Agrees v s → additions.AddsAll calling s P r t →
-    Leads (additions.AddsAll telling (past_of v s) P r) t
+add-all : (v : Findings) (s t : State) (P : List Clause) (r : Result (Unit {0}) SolverError) → Agrees v s → additions.AddsAll by_state s P r t →
+    Leads (additions.AddsAll by_answers (past_of v s) P r) t
 add-all v s t [] r g a = (v, (a.0, ap (past_of v) a.1), stays v s t a.1 g)
 add-all v s t (c ∷ P) r g (inl (mid, a, rest)) =
     let (w, b, h) = add-clause v s mid c (Ok tt) g a in
@@ -245,28 +245,28 @@ add-all v s t (c ∷ P) r g (inl (mid, a, rest)) =
 add-all v s t (c ∷ P) r g (inr (e, k, a)) =
     let (w, b, h) = add-clause v s t c (Err e) g a in (w, inr (e, k, b), h)
 
-pub add-formula : (v : Findings) (s t : State) (P : List Clause) (r : Result (Unit {0}) SolverError) → Agrees v s → additions.AddsList calling s P r t →
-    Leads (additions.AddsList telling (past_of v s) P r) t
+pub add-formula : (v : Findings) (s t : State) (P : List Clause) (r : Result (Unit {0}) SolverError) → Agrees v s → additions.AddsList by_state s P r t →
+    Leads (additions.AddsList by_answers (past_of v s) P r) t
 add-formula v s t P r g (AllAdded c mid a e k) =
     let (w, b, h) = add-all v s mid P (Ok tt) g a in (w, AllAdded c (past_of w mid) b e (ap (past_of w) k), anew w mid t k h)
 add-formula v s t P r g (OneRefused c x e a) = let (w, b, h) = add-all v s t P (Err x) g a in (w, OneRefused c x e b, h)
 add-formula v s t P r g (RefusedAtOnce e (c, k)) = (v, RefusedAtOnce e (c, ap (past_of v) k), stays v s t k g)
 
-tell-fault : (v : Findings) (s t : State) (x : Option DimacsError) (r : Result (Unit {0}) SolverError) → Agrees v s → additions.TellsFault calling x s r t →
-    Leads (additions.TellsFault telling x (past_of v s) r) t
+tell-fault : (v : Findings) (s t : State) (x : Option DimacsError) (r : Result (Unit {0}) SolverError) → Agrees v s → additions.ReturnsFault by_state x s r t →
+    Leads (additions.ReturnsFault by_answers x (past_of v s) r) t
 tell-fault v s t x r g (NoFault n e k) = (v, NoFault n e (ap (past_of v) k), anew v s t k g)
 tell-fault v s t x r g (MemoryFault y n m e b) = (v, MemoryFault y n m e (broken-past 0 v s t b), breaks v s t b)
 tell-fault v s t x r g (Fault y n m e k) = (v, Fault y n m e (ap (past_of v) k), stays v s t k g)
 
-add-reading : (v : Findings) (s t : State) (R : Reading) (r : Result (Unit {0}) SolverError) → Agrees v s → additions.AddsReading calling s R r t →
-    Leads (additions.AddsReading telling (past_of v s) R r) t
+add-reading : (v : Findings) (s t : State) (R : Reading) (r : Result (Unit {0}) SolverError) → Agrees v s → additions.AddsReading by_state s R r t →
+    Leads (additions.AddsReading by_answers (past_of v s) R r) t
 add-reading v s t R r g (ClauseRefused e k a) = let (w, b, h) = add-all v s t R.clauses (Err e) g a in (w, ClauseRefused e k b, h)
 add-reading v s t R r g (ClausesAdded mid a f) =
     let (w, b, h) = add-all v s mid R.clauses (Ok tt) g a in
     let (x, c, i) = tell-fault w mid t R.fault r h f in (x, ClausesAdded (past_of w mid) b c, i)
 
-pub add-text : (v : Findings) (s t : State) (old new : Stand) (r : Result (Unit {0}) SolverError) → Agrees v s → additions.AddsText calling s old r new t →
-    Leads (additions.AddsText telling (past_of v s) old r new) t
+pub add-text : (v : Findings) (s t : State) (old new : Stand) (r : Result (Unit {0}) SolverError) → Agrees v s → additions.AddsText by_state s old r new t →
+    Leads (additions.AddsText by_answers (past_of v s) old r new) t
 add-text v s t old new r g (Read c R y a) = let (w, b, h) = add-reading v s t R r g a in (w, Read c R y b, h)
 add-text v s t old new r g (RefusedEarly c ended y e k a) = let (w, b, h) = add-all v s t ended (Err e) g a in (w, RefusedEarly c ended y e k b, h)
 add-text v s t old new r g (Unread e (c, k) n) = (v, Unread e (c, ap (past_of v) k) n, stays v s t k g)
@@ -278,13 +278,13 @@ knows-like : {may_leave : Bool} (v : Findings) (s t : State) (m : Naming) (b : B
     IsLikeButLeft may_leave (record s { naming = m; ever_hidden = b; ledger = l }) t → IsCapped m → Knows v s → Knows v t
 knows-like v s t m b l e h k = record {
   capped = subst IsCapped (sym (same-naming e)) h;
-  lists = lists-on s.told t.told e.told (lists-derived e.told.entries e.derived) ∙ k.lists;
+  lists = lists-on s.logged t.logged e.logged (lists-derived e.logged.entries e.derived) ∙ k.lists;
   model = λ x. ap answer_of (same-verdict e) ∙ k.model x;
   found = λ x. k.found (sym (ap answer_of (same-verdict e)) ∙ x);
   failed = λ x. ap answer_of (same-verdict e) ∙ k.failed x;
   core = λ l h. k.core l (sym (same-verdict e) ∙ h);
   some = λ l h. k.some l (sym (same-verdict e) ∙ h);
-  told = told-more 0 s.told t.told v.interrupted_steps k.told e.told;
+  logged = logged-more 0 s.logged t.logged v.interrupted_steps k.logged e.logged;
   right = right-like t s.clauses s.assumptions s.counted s.verdict (same-clauses e) (same-assumptions e) (same-counted e) (same-verdict e) k.right;
 }
 
@@ -347,27 +347,27 @@ observe v s t (Err e) g a = absurd a
 abbrev listed : List Literal → Findings → Findings
 listed list v = record v { has_model = false; has_core = false; lists = v.lists ++ list ∷ [] }
 
-assumed-list : (v : Findings) (s t : State) (list : List Literal) → state.TakesAssumed calling s list t → Knows v s →
+assumed-list : (v : Findings) (s t : State) (list : List Literal) → state.TakesAssumed by_state s list t → Knows v s →
     Knows (listed (map (through_names (name_all list s.naming)) list) v) t
 assumed-list v s t list e k =
     let c = map (through_names (name_all list s.naming)) list in
     record {
       capped = subst IsCapped (sym (same-naming e)) (capped-all list s.naming k.capped);
-      lists = lists-on (s.told ++ Assumes c ∷ []) t.told e.told (lists-derived e.told.entries e.derived) ∙ lists-append s.told (Assumes c ∷ [])
+      lists = lists-on (s.logged ++ Assumes c ∷ []) t.logged e.logged (lists-derived e.logged.entries e.derived) ∙ lists-append s.logged (Assumes c ∷ [])
           ∙ ap (λ x. x ++ c ∷ []) k.lists;
       model = λ x. absurd cc;
       found = λ x. absurd (assumed-not-true s.verdict (sym (ap answer_of (same-verdict e)) ∙ x));
       failed = λ x. absurd cc;
       core = λ l h. absurd (assumed-no-core s.verdict l (sym (same-verdict e) ∙ h));
       some = λ l h. absurd (assumed-no-core s.verdict l (sym (same-verdict e) ∙ h));
-      told = told-more 0 s.told t.told v.interrupted_steps k.told
-          (tells-through 0 0 s.told (s.told ++ Assumes c ∷ []) t.told (tells 0 s.told (Assumes c ∷ []) (assumes-goes s.told c)) e.told);
+      logged = logged-more 0 s.logged t.logged v.interrupted_steps k.logged
+          (logs-through 0 0 s.logged (s.logged ++ Assumes c ∷ []) t.logged (logs 0 s.logged (Assumes c ∷ []) (assumes-goes s.logged c)) e.logged);
       right = right-like t s.clauses t.assumptions t.counted (assumed_verdict s.verdict) (same-clauses e) refl refl (same-verdict e)
           (right-assumed s.clauses s.assumptions t.assumptions s.counted t.counted s.verdict k.right);
     }
 
-pub assume-list : (v : Findings) (s t : State) (list : List Literal) (r : Result (Unit {0}) SolverError) → Agrees v s → TakesList calling s list r t →
-    Leads (TakesList telling (past_of v s) list r) t
+pub assume-list : (v : Findings) (s t : State) (list : List Literal) (r : Result (Unit {0}) SolverError) → Agrees v s → TakesList by_state s list r t →
+    Leads (TakesList by_answers (past_of v s) list r) t
 assume-list v s t list (Ok u) g (c, n, lim, e) =
     let w = listed (map (through_names (name_all list s.naming)) list) v in
     (w, (c, n, lim, like-past w (state.assume list (assumed_verdict s.verdict) s) t e), λ _. assumed-list v s t list e (g c))
@@ -393,7 +393,7 @@ open-proof taken target format v s t (Err (ProofTooLate, back)) g (h, c, n, b, e
 open-proof taken target format v s t (Err e) g a = absurd a
 
 -- what the past claims of the clauses the state does
-claimed : (v : Findings) (s : State) → Knows v s → (f : ProofFormat) → IsRefuted telling f (past_of v s) → IsRefuted calling f s
+claimed : (v : Findings) (s : State) → Knows v s → (f : ProofFormat) → IsRefuted by_answers f (past_of v s) → IsRefuted by_state f s
 claimed v s k f (c, alone) = (k.failed c, λ m. go (alone m) s.verdict refl)
   where
     nothing : (list : List Literal) → list ⊆ [] → list ≡ []
@@ -409,7 +409,7 @@ claimed v s k f (c, alone) = (k.failed c, λ m. go (alone m) s.verdict refl)
         absurd (k.some list e (nothing list (subst (λ A. list ⊆ A) none fails.0)))
 
 -- what is known of the bytes of an open proof
-proof-known : (v : Findings) (s : State) → Knows v s → IsProofIfOpen calling s → IsProofIfOpen telling (past_of v s)
+proof-known : (v : Findings) (s : State) → Knows v s → IsProofIfOpen by_state s → IsProofIfOpen by_answers (past_of v s)
 proof-known v s k has o e =
     let a = has o e in
     record {
@@ -434,7 +434,7 @@ proof-known v s k has o e =
 
 -- A proof closes.
 pub close : {W : Type 0} (taken : W → Taken) (v : Findings) (s t : State) (r : Result (Option W) (SolverError × W)) → Agrees v s →
-    Closes calling taken s r t → Leads (Closes telling taken (past_of v s) r) t
+    Closes by_state taken s r t → Leads (Closes by_answers taken (past_of v s) r) t
 close taken v s t (Ok back) g (closed, has, e) =
     (v, (closed, (λ c. proof-known v s (g c) (has c)), ap (past_of v) e), stays-but v s t _ None e (λ h. h) g)
 close taken v s t (Err (ProofIoError cause, target)) g (closed, has, b) =
@@ -464,7 +464,7 @@ no-model m (Sat a) e x = cc
 no-model m Unsat e x = let z : false ≡ true = cc in cc
 no-model m (UnsatUnderAssumptions core) e x = let z : false ≡ true = cc in cc
 
-may-tell-model : (v : Findings) (s : State) (m : Option (List Literal)) → Knows v s → calling.model s m → MayTellModel (past_of v s) m
+may-tell-model : (v : Findings) (s : State) (m : Option (List Literal)) → Knows v s → by_state.model s m → MayReturnModel (past_of v s) m
 may-tell-model v s None k e = false_from_ne_true v.has_model (λ h. no-model s.naming s.verdict e (k.model h))
 may-tell-model v s (Some model) k e =
     let (a, x, l) = model-sat s.naming s.verdict model e in
@@ -477,27 +477,27 @@ may-tell-model v s (Some model) k e =
 no-model-false : (v : Findings) (s : State) → Knows v s → answer_of s.verdict ≡ Some false → v.has_model ≡ false
 no-model-false v s k a = false_from_ne_true v.has_model (λ h. let z : Some false ≡ Some true = sym a ∙ k.model h in let y : false ≡ true = cc in cc)
 
-may-tell-core : (v : Findings) (s : State) (core : Option (List Literal)) → Knows v s → calling.core s core → MayTellCore (past_of v s) core
+may-tell-core : (v : Findings) (s : State) (core : Option (List Literal)) → Knows v s → by_state.core s core → MayReturnCore (past_of v s) core
 may-tell-core v s None k e = false_from_ne_true v.has_core (λ h. no-core s.verdict e (k.failed h))
 may-tell-core v s (Some core) k e =
-    (no-model-false v s k (core-answer s.verdict (map (through_names s.naming) core) e.1), e.0, told-fails s core k.right e)
+    (no-model-false v s k (core-answer s.verdict (map (through_names s.naming) core) e.1), e.0, logged-fails s core k.right e)
 
 -- what is told of a state is told of the past
 tell-list : (of-state : Option (List Literal) → Type 0) (of-past : Option (List Literal) → Type 0) (v : Findings) (s t : State)
     (r : Result (Option (List Literal)) AllocError) → Agrees v s → ((list : Option (List Literal)) → Knows v s → of-state list → of-past list) →
-    TellsList of-state s r t → Leads (TellsList of-past (past_of v s) r) t
+    ReturnsList of-state s r t → Leads (ReturnsList of-past (past_of v s) r) t
 tell-list of-state of-past v s t (Ok list) g to (inl (c, h), same) = (v, (inl (c, to list (g c) h), ap (past_of v) same), stays v s t same g)
 tell-list of-state of-past v s t (Ok list) g to (inr n, same) = (v, (inr n, ap (past_of v) same), stays v s t same g)
 tell-list of-state of-past v s t (Err e) g to (c, (list, h), same) =
     (v, (c, (list, to (Some list) (g c) h), ap (past_of v) same), stays v s t same g)
 
-pub tell-model : (v : Findings) (s t : State) (r : Result (Option (List Literal)) AllocError) → Agrees v s → TellsList (calling.model s) s r t →
-    Leads (TellsList (MayTellModel (past_of v s)) (past_of v s) r) t
-tell-model v s t r g a = tell-list (calling.model s) (MayTellModel (past_of v s)) v s t r g (may-tell-model v s) a
+pub tell-model : (v : Findings) (s t : State) (r : Result (Option (List Literal)) AllocError) → Agrees v s → ReturnsList (by_state.model s) s r t →
+    Leads (ReturnsList (MayReturnModel (past_of v s)) (past_of v s) r) t
+tell-model v s t r g a = tell-list (by_state.model s) (MayReturnModel (past_of v s)) v s t r g (may-tell-model v s) a
 
-pub tell-core : (v : Findings) (s t : State) (r : Result (Option (List Literal)) AllocError) → Agrees v s → TellsList (calling.core s) s r t →
-    Leads (TellsList (MayTellCore (past_of v s)) (past_of v s) r) t
-tell-core v s t r g a = tell-list (calling.core s) (MayTellCore (past_of v s)) v s t r g (may-tell-core v s) a
+pub tell-core : (v : Findings) (s t : State) (r : Result (Option (List Literal)) AllocError) → Agrees v s → ReturnsList (by_state.core s) s r t →
+    Leads (ReturnsList (MayReturnCore (past_of v s)) (past_of v s) r) t
+tell-core v s t r g a = tell-list (by_state.core s) (MayReturnCore (past_of v s)) v s t r g (may-tell-core v s) a
 
 -- 11. Before the first call.
 
@@ -510,6 +510,6 @@ new-agrees check = λ _. record {
   failed = λ e. absurd cc;
   core = λ l e. absurd cc;
   some = λ l e. absurd cc;
-  told = record { held = []; led = refl; enough = omega arith };
+  logged = record { held = []; led = refl; enough = omega arith };
   right = tt;
 }

@@ -25,9 +25,9 @@ use Rattle.varisat_solver.specs.Models.{IsCompletable}
 use Rattle.varisat.specs.Counts.{count_with}
 use Rattle.varisat_solver.specs.ClauseCalls.{AddsDimacs}
 use Rattle.varisat_solver.specs.OpenProofs.{OpenProof, first_proof}
-use Rattle.varisat_solver.specs.Calls.{calling, count_anew, Ignored, Accepted}
+use Rattle.varisat_solver.specs.Calls.{by_state, count_anew, Ignored, Accepted}
 use Rattle.varisat_solver.specs.Additions.{NoFault, MemoryFault, Fault, ClauseRefused, ClausesAdded, RefusedEarly, Read, Unread}
-use Rattle.varisat.specs.Pasts.{Findings, Past, empty_past, telling}
+use Rattle.varisat.specs.Pasts.{Findings, Past, empty_past, by_answers}
 use Rattle.varisat_solver.specs.Budgets.{CountsSteps}
 use Rattle.varisat.specs.Decided.{IsUpToHighest, IsModel, named_variables, allowed_steps, Conclusion, Decided, Unknown, IsConclusion, Decides, StatusIsTrue, conclusion_status}
 use Rattle.varisat_solver.specs.declared.solver.SolverError.{SolverError}
@@ -96,7 +96,7 @@ join-part xs known is h i m = ⊎_elim (λ k. join-more is known i (h i k)) (joi
 satisfies-one-more : (a : Assignment) (P Q : List Clause) (c : Clause) → SatisfiesAll a P → SatisfiesAll a (c ∷ Q) → SatisfiesAll a (P ++ c ∷ [])
 satisfies-one-more a P Q c x y d h = ⊎_elim (x d) (λ k. ⊎_elim (λ e. y d (inl e)) (λ z. absurd z) k) (∈-append_cases d P (c ∷ []) h)
 
-took : (n : ℕ) (p q : Past) (P : List Clause) → AreInOrder n p.naming → additions.AddsAll telling p P done q → Took n P p q
+took : (n : ℕ) (p q : Past) (P : List Clause) → AreInOrder n p.naming → additions.AddsAll by_answers p P done q → Took n P p q
 took n p q [] o (u, e) =
     subst (Took n [] p) (sym e) (record {
       more = λ a h. h;
@@ -128,7 +128,7 @@ took n p q (c ∷ P) o (inl (mid, (v, Accepted u l (w, is, e)), rest)) =
       assumptions = r.assumptions ∙ (same-assumptions e);
     }
 took n p q (c ∷ P) o (inl (mid, (v, Ignored u e), rest)) =
-    let r = took n (count_anew p) q P o (subst (λ (x : Past). additions.AddsAll telling x P done q) e rest) in
+    let r = took n (count_anew p) q P o (subst (λ (x : Past). additions.AddsAll by_answers x P done q) e rest) in
     record {
       more = r.more;
       part = λ a x y. r.part a x (λ d h. y d (inr h));
@@ -206,9 +206,9 @@ own-model P m assumptions counted model o k = record {
 
 -- all clauses were taken in, and then steps are counted anew
 abbrev AddsWhole : Past → List Clause → Past → Type 0
-AddsWhole p P q = (m : Past) × additions.AddsAll telling p P done m × (q ≡ count_anew m)
+AddsWhole p P q = (m : Past) × additions.AddsAll by_answers p P done m × (q ≡ count_anew m)
 
-reading-whole : (p q : Past) (R : Reading) → additions.AddsReading telling p R done q → (R.fault ≡ None) × AddsWhole p R.clauses q
+reading-whole : (p q : Past) (R : Reading) → additions.AddsReading by_answers p R done q → (R.fault ≡ None) × AddsWhole p R.clauses q
 reading-whole p q R (ClauseRefused e k a) = absurd cc
 reading-whole p q R (ClausesAdded m a (NoFault n k e)) = (n, (m, a, e))
 reading-whole p q R (ClausesAdded m a (MemoryFault y n k e b)) = absurd cc
@@ -222,7 +222,7 @@ record Takes (old new : Stand) (p q : Past) : Type 0 where
   fine : (dimacs text).fault ≡ None
   all : AddsWhole p (dimacs text).clauses q
 
-takes : (old new : Stand) (p q : Past) → additions.AddsText telling p old done new q → Takes old new p q
+takes : (old new : Stand) (p q : Past) → additions.AddsText by_answers p old done new q → Takes old new p q
 takes old new p q (Read v R g a) =
     let (fine, all) = reading-whole p q R a in
     let w = gives_whole old new R g fine in
@@ -306,7 +306,7 @@ no-target (Some target) h = absurd (h target refl)
 -- A new solver took a text in, and then is asked.
 module _ (check : Bool) (proof : Option OpenProof) (limit : Option ℕ) (old new : Stand) (s t : State) (is : s ≡ begun check proof limit)
     (adds : AddsDimacs s old done new t) where
-  text-taken : (v : Findings) × additions.AddsText telling (begun_past check proof limit) old done new (past_of v t) × Agrees v t
+  text-taken : (v : Findings) × additions.AddsText by_answers (begun_past check proof limit) old done new (past_of v t) × Agrees v t
   text-taken = add-text empty_past.verdict (begun check proof limit) t old new done (begun-agrees check proof limit)
       (subst (λ (x : State). AddsDimacs x old done new t) is adds)
 
@@ -314,7 +314,7 @@ module _ (check : Bool) (proof : Option OpenProof) (limit : Option ℕ) (old new
   abbrev pub Found : Conclusion → Type 0
   Found c = (d : Decides (allowed_steps limit) old new c) × Carries t.clauses (dimacs d.text).clauses
 
-  found-none : (u : State) → state.Solves calling t (Ok false) u → Found (Decided None)
+  found-none : (u : State) → state.Solves by_state t (Ok false) u → Found (Decided None)
   found-none u f =
       let (v, x, g) = text-taken in
       let q = past_of v t in
@@ -333,7 +333,7 @@ module _ (check : Bool) (proof : Option OpenProof) (limit : Option ℕ) (old new
         r.carries,
       )
 
-  found-unknown : (u : State) → state.Solves calling t (Err Interrupted) u → Found Unknown
+  found-unknown : (u : State) → state.Solves by_state t (Err Interrupted) u → Found Unknown
   found-unknown u f =
       let (v, x, g) = text-taken in
       let q = past_of v t in
@@ -355,8 +355,8 @@ module _ (check : Bool) (proof : Option OpenProof) (limit : Option ℕ) (old new
           let d = k.count in
           ⊎_elim (λ (s : k.made ≡ own). omega (arith, s, e, b)) (λ (s : after ≡ 2 ^ 64 - 1). omega (arith, s, d, z, b)) (k.spent refl)
 
-  found-model : (model : List Literal) (u v : State) → state.Solves calling t (Ok true) u →
-      state.TellsList (calling.model u) u (Ok (Some model)) v → Found (Decided (Some model))
+  found-model : (model : List Literal) (u v : State) → state.Solves by_state t (Ok true) u →
+      state.ReturnsList (by_state.model u) u (Ok (Some model)) v → Found (Decided (Some model))
   found-model model u y f d =
       let (v, x, g) = text-taken in
       let q = past_of v t in
@@ -380,8 +380,8 @@ module _ (check : Bool) (proof : Option OpenProof) (limit : Option ℕ) (old new
       outcome P (inr (clauses, order)) s z e same h =
           let (w, (may, still), j) = tell-model z u y (Ok (Some model)) h d in
           let o = ⊎_elim (λ x. x.1.1) (λ x. absurd (let none : Some model ≡ None = x.1 in cc)) may in
-          let told = subst (λ Q. IsCompletable u.naming Q u.assumptions u.counted model) (e ∙ clauses) o in
-          own-model P u.naming u.assumptions u.counted model (subst (AreInOrder (count-all 0 P)) (sym same) order) told
+          let logged = subst (λ Q. IsCompletable u.naming Q u.assumptions u.counted model) (e ∙ clauses) o in
+          own-model P u.naming u.assumptions u.counted model (subst (AreInOrder (count-all 0 P)) (sym same) order) logged
 
   pub found : (c : Conclusion) (u : State) → Concludes t c u → Found c
   found Unknown u f = found-unknown u f
@@ -393,7 +393,7 @@ module _ (check : Bool) (proof : Option OpenProof) (limit : Option ℕ) (old new
 pub outcome-is-true : (max_steps : ℕ) (old new : Stand) (outcome : Conclusion) (status : ℕ) → Decides max_steps old new outcome →
     status ≡ conclusion_status outcome → StatusIsTrue old new status
 outcome-is-true max_steps old new outcome status d e = record {
-  ended = λ n. d.ended.told;
+  ended = λ n. d.ended.reported;
   fine = λ text g n. subst (λ x. (dimacs x).fault ≡ None) (same text g) d.fine;
   satisfiable = λ text g t. subst (λ x. IsSatisfiable (dimacs x).clauses) (same text g) (found outcome (sym e ∙ t) d.found);
   unsatisfiable = λ text g t. subst (λ x. IsSatisfiable (dimacs x).clauses → ⊥) (same text g) (none outcome (sym e ∙ t) d.found);

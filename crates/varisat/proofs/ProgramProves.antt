@@ -9,7 +9,7 @@ use Rattle.varisat_solver.specs.States.{State, Unknown, Unsat, Ledger, Verdict, 
 use Rattle.varisat_solver.specs.Names.{AreInOrder}
 use Rattle.varisat.specs.Counts.{count_with}
 use Rattle.varisat_solver.specs.ClauseCalls.{AddsDimacs}
-use Rattle.varisat_solver.specs.Calls.{calling, IsValid, IsRefuted, TellsVerdict}
+use Rattle.varisat_solver.specs.Calls.{by_state, IsValid, IsRefuted, ReturnsVerdict}
 use Rattle.varisat_solver.specs.Additions.{AddsAll, NoFault, MemoryFault, Fault, ClauseRefused, ClausesAdded, RefusedEarly, Read, Unread}
 use Rattle.varisat.specs.Decided.{Conclusion, allowed_steps}
 use Rattle.varisat.specs.Proven.{Concludes, prepared, Reports, IsProven, IsProvenIf, DecidesProven, Fails, AsSearched, AsListed}
@@ -18,7 +18,7 @@ use Rattle.varisat.proofs.NameLaws.{stay-in-order, none-in-order}
 use Rattle.varisat.proofs.ProgramDecides.{done, Carries, prepared-begun, unsearched, found}
 use Rattle.varisat_theory.specs.Membership.{◌⊆◌}
 use Rattle.varisat_theory.specs.Journals.{lines_of}
-use Rattle.varisat_proof.specs.Telling.{bytes_told}
+use Rattle.varisat_proof.specs.Logging.{logged_bytes}
 use Rattle.varisat_proof.specs.declared.proof.format.ProofFormat.{ProofFormat}
 use Rattle.varisat_proof.specs.Proving.{OpenState, IsClosed}
 use Rattle.varisat_solver.specs.OpenProofs.{OpenProof, opened_state, GoesOnWriting, searched_under, first_proof}
@@ -40,7 +40,7 @@ pub record AreFirst (P : List Clause) (s t : State) : Type 0 where
   pub refuted : rest ≢ [] → t.verdict ≡ Unsat
 
 -- once they are known to be unsatisfiable no other joins
-all-ignored : (s t : State) (P : List Clause) → s.verdict ≡ Unsat → AddsAll calling s P done t → (t.clauses ≡ s.clauses) × (t.verdict ≡ Unsat)
+all-ignored : (s t : State) (P : List Clause) → s.verdict ≡ Unsat → AddsAll by_state s P done t → (t.clauses ≡ s.clauses) × (t.verdict ≡ Unsat)
 all-ignored s t [] u (x, e) = (ap (λ (y : State). y.clauses) e, ap (λ (y : State). y.verdict) e ∙ u)
 all-ignored s t (c ∷ P) u (inl (mid, (v, state.Ignored n e), more)) =
     let (same, known) = all-ignored mid t P (ap (λ (y : State). y.verdict) e ∙ u) more in
@@ -48,7 +48,7 @@ all-ignored s t (c ∷ P) u (inl (mid, (v, state.Ignored n e), more)) =
 all-ignored s t (c ∷ P) u (inl (mid, (v, state.Accepted n lim a), more)) = absurd (n.unrefuted u)
 all-ignored s t (c ∷ P) u (inr (e, k, a)) = absurd cc
 
-first-clauses : (n : ℕ) (s t : State) (P : List Clause) → AreInOrder n s.naming → AddsAll calling s P done t → AreFirst P s t
+first-clauses : (n : ℕ) (s t : State) (P : List Clause) → AreInOrder n s.naming → AddsAll by_state s P done t → AreFirst P s t
 first-clauses n s t [] o (x, e) = record {
   given = [];
   rest = [];
@@ -78,7 +78,7 @@ first-clauses n s t (c ∷ P) o (inl (mid, (v, state.Accepted x lim (w, after, e
     }
 first-clauses n s t (c ∷ P) o (inr (e, k, a)) = absurd cc
 
-first-read : (n : ℕ) (s t : State) (R : Reading) → AreInOrder n s.naming → additions.AddsReading state.calling s R done t →
+first-read : (n : ℕ) (s t : State) (R : Reading) → AreInOrder n s.naming → additions.AddsReading state.by_state s R done t →
     (R.fault ≡ None) × AreFirst R.clauses s t
 first-read n s t R o (ClauseRefused e k a) = absurd cc
 first-read n s t R o (ClausesAdded m a (NoFault none k e)) =
@@ -139,12 +139,12 @@ keeps-clause : (s t : State) (d : Clause) → state.AddsClause s d done t → Ke
 keeps-clause s t d (v, state.Ignored n e) = keeps-anew s t e
 keeps-clause s t d (v, state.Accepted n lim (w, after, e)) = record { proof = e.proof; assumptions = same-assumptions e; hidden = (same-hidden e) }
 
-keeps-clauses : (s t : State) (P : List Clause) → AddsAll calling s P done t → Keeps s t
+keeps-clauses : (s t : State) (P : List Clause) → AddsAll by_state s P done t → Keeps s t
 keeps-clauses s t [] (u, e) = subst (Keeps s) (sym e) (keeps-all-of s)
 keeps-clauses s t (c ∷ P) (inl (mid, a, rest)) = keeps-through s mid t (keeps-clause s mid c a) (keeps-clauses mid t P rest)
 keeps-clauses s t (c ∷ P) (inr (e, k, a)) = absurd cc
 
-keeps-reading : (s t : State) (R : Reading) → additions.AddsReading calling s R done t → Keeps s t
+keeps-reading : (s t : State) (R : Reading) → additions.AddsReading by_state s R done t → Keeps s t
 keeps-reading s t R (ClauseRefused e k a) = absurd cc
 keeps-reading s t R (ClausesAdded m a (NoFault n k e)) = keeps-through s m t (keeps-clauses s m R.clauses a) (keeps-anew m t e)
 keeps-reading s t R (ClausesAdded m a (MemoryFault y n k e b)) = absurd cc
@@ -164,8 +164,8 @@ record Asks (t u : State) : Type 0 where
   hidden : u.ever_hidden ≡ t.ever_hidden
   clauses : u.clauses ≡ t.clauses
 
-asks-told : (t u : State) (b : Bool) → TellsVerdict calling (state.once_searched t) b u → Asks t u
-asks-told t u b r = record {
+asks-logged : (t u : State) (b : Bool) → ReturnsVerdict by_state (state.once_searched t) b u → Asks t u
+asks-logged t u b r = record {
   valid = ap (λ (l : Ledger). l.valid) (same-ledger r.rest) ∙ r.valid;
   proof = r.rest.proof;
   assumptions = same-assumptions r.rest;
@@ -181,14 +181,14 @@ asks t u conclusion.Unknown r = record {
   hidden = same-hidden r.rest;
   clauses = same-clauses r.rest;
 }
-asks t u (conclusion.Decided None) r = asks-told t u false r
-asks t u (conclusion.Decided (Some model)) (r, m) = asks-told t u true r
+asks t u (conclusion.Decided None) r = asks-logged t u false r
+asks t u (conclusion.Decided (Some model)) (r, m) = asks-logged t u true r
 
 pub finds-valid : (t u : State) (c : Conclusion) → Concludes t c u → IsValid u
 finds-valid t u c f = (asks t u c f).valid
 
 -- where none was found the answer was false, and as nothing was assumed it speaks of the clauses
-finds-none : (t u : State) (c : Conclusion) (f : ProofFormat) → Concludes t c u → t.assumptions ≡ [] → c ≡ conclusion.Decided None → IsRefuted calling f u
+finds-none : (t u : State) (c : Conclusion) (f : ProofFormat) → Concludes t c u → t.assumptions ≡ [] → c ≡ conclusion.Decided None → IsRefuted by_state f u
 finds-none t u conclusion.Unknown f r n e = absurd cc
 finds-none t u (conclusion.Decided (Some model)) f r n e = let z : Some model ≡ None = cc in absurd cc
 finds-none t u (conclusion.Decided None) f r n e = (r.right.answer, λ _. go u.verdict refl)
@@ -225,20 +225,20 @@ closed-none taken None h = refl
 closed-none taken (Some w) h = absurd h
 
 proven-bytes : {W : Type 0} (taken : W → Taken) (format : ProofFormat) (target back : W) (u : State) (bytes : List ℕ) (P : List Clause) (c : Conclusion) →
-    u.proof ≡ Some (record (first_proof format (taken target)) { bytes = bytes; searched = true }) → u.ever_hidden ≡ false → IsProofIfOpen calling u →
+    u.proof ≡ Some (record (first_proof format (taken target)) { bytes = bytes; searched = true }) → u.ever_hidden ≡ false → IsProofIfOpen by_state u →
     u.assumptions ≡ [] → Carries u.clauses P → (given rest : List Clause) → P ≡ given ++ rest → u.clauses ≡ given →
-    (rest ≢ [] → c ≡ conclusion.Decided None) → (c ≡ conclusion.Decided None → IsRefuted calling format u) →
+    (rest ≢ [] → c ≡ conclusion.Decided None) → (c ≡ conclusion.Decided None → IsRefuted by_state format u) →
     taken back ≡ record { bytes = (taken target).bytes ++ bytes; faults = (taken target).faults } → IsProven format P c (taken target) (taken back)
 proven-bytes taken format target back u bytes P c e h has unassumed carries given rest begins joined whole none same =
     let b = has (record (first_proof format (taken target)) { bytes = bytes; searched = true }) e in
     record {
-      told = u.told;
-      bytes = ap (λ (x : Taken). x.bytes) same ∙ ap (λ xs. (taken target).bytes ++ xs) (b.written ∙ ap (bytes_told format) (b.plain h));
+      logged = u.logged;
+      bytes = ap (λ (x : Taken). x.bytes) same ∙ ap (λ xs. (taken target).bytes ++ xs) (b.written ∙ ap (logged_bytes format) (b.plain h));
       faults = ap (λ (x : Taken). x.faults) same;
       in_range = b.in_range h;
-      derives = carries.derives (lines_of u.told) (b.derives h);
-      refutes = λ n. carries.refutes (lines_of u.told) (b.refutes h (none n));
-      plain = λ n. plain-bytes format n u.told;
+      derives = carries.derives (lines_of u.logged) (b.derives h);
+      refutes = λ n. carries.refutes (lines_of u.logged) (b.refutes h (none n));
+      plain = λ n. plain-bytes format n u.logged;
       given = given;
       rest = rest;
       begins = begins;
@@ -256,7 +256,7 @@ proven-bytes taken format target back u bytes P c e h has unassumed carries give
 
 pub proven : {W : Type 0} (taken : W → Taken) (format : ProofFormat) (check : Bool) (limit : Option ℕ) (old new : Stand) (target back : Option W) (t u : State)
     (c : Conclusion) (opened : Option OpenState) → AddsDimacs (prepared taken format check limit target) old done new t → Concludes t c u →
-    IsProofIfOpen calling u → opened ≡ opened_state u.proof → IsClosed {E = SolverError} taken opened (Ok back) →
+    IsProofIfOpen by_state u → opened ≡ opened_state u.proof → IsClosed {E = SolverError} taken opened (Ok back) →
     DecidesProven taken format (allowed_steps limit) old new target back c
 proven {W = W} taken format check limit old new target back t u c opened adds finds has is closed =
     let s = prepared taken format check limit target in

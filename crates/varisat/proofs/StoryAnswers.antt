@@ -10,17 +10,17 @@ use Rattle.varisat_formula.specs.Streams.{Stand, Taken}
 use Rattle.varisat_proof.specs.declared.proof.format.ProofFormat.{ProofFormat}
 use Rattle.varisat_names.specs.declared.config.SolverConfigUpdate.{SolverConfigUpdate}
 use Rattle.varisat_solver.specs.OpenProofs.{OpenProof, BarsAssumptions}
-use Rattle.varisat_solver.specs.Journals.{retold}
+use Rattle.varisat_solver.specs.Journals.{with_entries}
 use Rattle.varisat_solver.specs.ProofCalls.{OpensProof, EnablesChecking, Closes}
 use Rattle.varisat_solver.specs.States.{State, Ledger, Verdict, Unsat, IsRight, HasRightVerdict, join_counted}
-use Rattle.varisat_solver.specs.Models.{IsCompletable, IsCoreToTell}
+use Rattle.varisat_solver.specs.Models.{IsCompletable, IsReturnedCore}
 use Rattle.varisat_solver.specs.Names.{Naming, Mode, Sample, Witness, name_one, name_all, through_names, set_mode, free_name, IsLeastFree, AreShown}
 use Rattle.varisat_solver.specs.Additions as additions
 use Rattle.varisat_solver.specs.Additions.{AllAdded, OneRefused, RefusedAtOnce, NoFault, MemoryFault, Fault, ClauseRefused, ClausesAdded, RefusedEarly, Read, Unread}
 use Rattle.varisat_solver.specs.Calls as state
-use Rattle.varisat_solver.specs.Calls.{is_valid, IsValid, Invalidates, IsRefusedInvalid, IsLikeButLeft, Ignored, Accepted, TakesClause, TakesOne, TakesList, TellsList, RefusesNames, TellsVerdict, IsSpent, Solves, VerdictAfter, answer_of, calling}
+use Rattle.varisat_solver.specs.Calls.{is_valid, IsValid, Invalidates, IsRefusedInvalid, IsLikeButLeft, Ignored, Accepted, TakesClause, TakesOne, TakesList, ReturnsList, RefusesNames, ReturnsVerdict, IsSpent, Solves, VerdictAfter, answer_of, by_state}
 use Rattle.varisat_solver.specs.Usage as usage
-use Rattle.varisat_solver.specs.Told.{told_list, told_vars}
+use Rattle.varisat_solver.specs.ReturnedLists.{returned_list, returned_variables}
 use Rattle.varisat.specs.Turns.{Makes}
 use Rattle.varisat_solver.specs.Summaries.{Summary, StandsFor}
 use Rattle.varisat.specs.Runs.{Run, found_in, story_now}
@@ -35,7 +35,7 @@ use Rattle.varisat_solver.proofs.CallStates.{same-counted, same-ledger, same-nam
 use Rattle.varisat_solver.proofs.Counted.{join-only}
 use Rattle.varisat_solver.proofs.ModelsFit.{completable}
 use Rattle.varisat.proofs.Pasts.{IsCapped, capped-one, capped-all, capped-freed, capped-shown, model-sat, no-model}
-use Rattle.varisat_solver.proofs.SearchVerdicts.{told-fails, no-core, reopened-false, right-reopened, right-assumed}
+use Rattle.varisat_solver.proofs.SearchVerdicts.{logged-fails, no-core, reopened-false, right-reopened, right-assumed}
 use Rattle.varisat.proofs.SolvedPasts.{some-with, none-with}
 
 -- 1. The story of a state.
@@ -93,7 +93,7 @@ same-but y p q l u e v h = subst (Sees y) (sym e) (sees-counted y p l u v h)
 sees-like : {may_leave : Bool} (y : Story) (p q : State) → Sees y p → IsLikeButLeft may_leave p q → Sees y q
 sees-like y p q h e = subst (Sees y) (sym e.same) (go h)
   where
-    go : Sees y p → Sees y (record p { told = q.told; variables = q.variables; proof = q.proof; words = q.words })
+    go : Sees y p → Sees y (record p { logged = q.logged; variables = q.variables; proof = q.proof; words = q.words })
     go (InStep m f e v k) = InStep m f e v (record { mentioned = k.mentioned; found = k.found; capped = k.capped; right = k.right })
     go (Over n e g) = Over n e g
 
@@ -137,7 +137,7 @@ right-after : (P : List Clause) (c : Clause) (A : List Literal) (C D : List ℕ)
 right-after P c A C D v w n (state.Refuted x u) r = subst (IsRight (P ++ c ∷ []) A D) (sym x) u
 right-after P c A C D v w n (state.Reopened x u) r = subst (IsRight (P ++ c ∷ []) A D) (sym x) (right-reopened P c A C D v n r)
 
-takes-clause : (m : List ℕ) (f : Option Bool) (p q : State) (d : Clause) → Fits m f p → IsValid p → TakesClause calling p d q →
+takes-clause : (m : List ℕ) (f : Option Bool) (p q : State) (d : Clause) → Fits m f p → IsValid p → TakesClause by_state p d q →
     Leads (λ z. (is_valid p ≡ true) × Accepts (story_of m f p) d z) q
 takes-clause m f p q d k c (Ignored n e) = (
   story_of m f p,
@@ -156,17 +156,17 @@ takes-clause m f p q d k c (Accepted n lim (w, after, e)) =
       })) e,
     )
 
-add-clause : (y : Story) (p q : State) (d : Clause) (r : Result (Unit {0}) SolverError) → Sees y p → TakesOne calling p d r q →
+add-clause : (y : Story) (p q : State) (d : Clause) (r : Result (Unit {0}) SolverError) → Sees y p → TakesOne by_state p d r q →
     Leads (Outcome (λ _. Accepts y d) y r) q
 add-clause y p q d (Ok u) h (c, t) =
     to-story y p h c (λ y. Leads (λ z. (y.valid ≡ true) × Accepts y d z) q) (λ m f k. takes-clause m f p q d k c t)
 add-clause y p q d (Err ClauseStoreFull) h (n, lim, b, full) = breaks y p q h b
 add-clause y p q d (Err ClauseAfterSolve) h (c, n, is, e) = stays y p q true h c e
-add-clause y p q d (Err e) h a = refuses-names (state.MayAccept calling p) y p q d e h a
+add-clause y p q d (Err e) h a = refuses-names (state.MayAccept by_state p) y p q d e h a
 
 -- 4. Formulas and texts.
 
-add-all : (y : Story) (p q : State) (P : List Clause) (r : Result (Unit {0}) SolverError) → Sees y p → additions.AddsAll calling p P r q →
+add-all : (y : Story) (p q : State) (P : List Clause) (r : Result (Unit {0}) SolverError) → Sees y p → additions.AddsAll by_state p P r q →
     Leads (AcceptsAll y P r) q
 add-all y p q [] r h a = (y, (a.0, refl), same y p q h a.1)
 add-all y p q (c ∷ P) r h (inl (mid, a, rest)) =
@@ -176,20 +176,20 @@ add-all y p q (c ∷ P) r h (inr (e, k, a)) = let (z, b, l) = add-clause y p q c
 
 -- the same where this is what is returned
 add-all-as : (y : Story) (p q : State) (P : List Clause) (r x : Result (Unit {0}) SolverError) → r ≡ x → Sees y p →
-    additions.AddsAll calling p P x q → Leads (AcceptsAll y P r) q
+    additions.AddsAll by_state p P x q → Leads (AcceptsAll y P r) q
 add-all-as y p q P r x e h a = let (z, b, k) = add-all y p q P x h a in (z, subst (λ s. AcceptsAll y P s z) (sym e) b, k)
 
 now-valid : (y : Story) (p : State) → Sees y p → IsValid p → y.valid ≡ true
 now-valid y p h c = valid-as y p h ∙ c
 
-add-formula : (y : Story) (p q : State) (P : List Clause) (r : Result (Unit {0}) SolverError) → Sees y p → additions.AddsList calling p P r q →
+add-formula : (y : Story) (p q : State) (P : List Clause) (r : Result (Unit {0}) SolverError) → Sees y p → additions.AddsList by_state p P r q →
     Leads (λ z. IfValid y r (AcceptsAll y P r z) z) q
 add-formula y p q P r h (AllAdded c mid a e k) =
     let (z, b, l) = add-all-as y p mid P r (Ok tt) e h a in (z, inl (now-valid y p h c, b), same-but z mid q _ mid.proof k refl l)
 add-formula y p q P r h (OneRefused c x e a) = let (z, b, l) = add-all-as y p q P r (Err x) e h a in (z, inl (now-valid y p h c, b), l)
 add-formula y p q P r h (RefusedAtOnce e (c, k)) = let (z, b, l) = stays y p q false h c k in (z, inr (e, b), l)
 
-tell-fault : (y : Story) (p q : State) (x : Option DimacsError) (r : Result (Unit {0}) SolverError) → Sees y p → additions.TellsFault calling x p r q →
+tell-fault : (y : Story) (p q : State) (x : Option DimacsError) (r : Result (Unit {0}) SolverError) → Sees y p → additions.ReturnsFault by_state x p r q →
     Leads (EndsText x y r) q
 tell-fault y p q x r h (NoFault n e k) =
     (y, subst (λ o. EndsText o y r y) (sym n) (e, refl), same-but y p q _ p.proof k refl h)
@@ -197,7 +197,7 @@ tell-fault y p q x r h (MemoryFault d n m e b) =
     (ended y, subst (λ o. EndsText o y r (ended y)) (sym n) (inr (e, refl)), Over (over p q b) refl refl)
 tell-fault y p q x r h (Fault d n m e k) = (y, subst (λ o. EndsText o y r y) (sym n) (inl (e, refl)), same y p q h k)
 
-add-text : (y : Story) (p q : State) (old new : Stand) (r : Result (Unit {0}) SolverError) → Sees y p → additions.AddsText calling p old r new q →
+add-text : (y : Story) (p q : State) (old new : Stand) (r : Result (Unit {0}) SolverError) → Sees y p → additions.AddsText by_state p old r new q →
     Leads (λ z. IfValid y r (AcceptsText y old r new z) z) q
 add-text y p q old new r h (Read c R g (ClauseRefused e k a)) =
     let (z, b, l) = add-all-as y p q R.clauses r (Err e) k h a in (z, inl (now-valid y p h c, ToARefusal R.clauses e (inl (R, g, refl)) k b), l)
@@ -262,7 +262,7 @@ hide y p q u (Ok x) h (c, small, free, e) =
     names y p q (λ n. free_name u (name_one u n)) true p.ledger.started (λ n i. capped-freed u (name_one u n) (capped-one u n i)) h c e
 hide y p q u (Err e) h a = changes-refused true y p q (usage.hide_name u) u e h a
 
-observe : {A : Type 0} (y : Story) (p q : State) (r : Result (Vec ℕ A) SolverError) → Sees y p → usage.Observes p (told_vars r) q →
+observe : {A : Type 0} (y : Story) (p q : State) (r : Result (Vec ℕ A) SolverError) → Sees y p → usage.Observes p (returned_variables r) q →
     Leads (Outcome (λ us x. (n : Naming) × AreShown us.items y.naming n × (x ≡ with_names n y)) y r) q
 observe y p q (Ok us) h (c, (n, shown, e)) =
     to-story y p h c (λ y. Leads (λ z. (y.valid ≡ true) × ((n : Naming) × AreShown us.items y.naming n × (z ≡ with_names n y))) q)
@@ -277,7 +277,7 @@ observe y p q (Err e) h a = absurd a
 
 -- 6. Assumptions, and what is found.
 
-assume-list : (y : Story) (p q : State) (list : List Literal) (r : Result (Unit {0}) SolverError) → Sees y p → TakesList calling p list r q →
+assume-list : (y : Story) (p q : State) (list : List Literal) (r : Result (Unit {0}) SolverError) → Sees y p → TakesList by_state p list r q →
     Leads (Outcome (λ _ x. x ≡ with_assumptions list y) y r) q
 assume-list y p q list (Ok u) h (c, n, lim, e) =
     let d : List Literal = map (through_names (name_all list p.naming)) list in
@@ -285,7 +285,7 @@ assume-list y p q list (Ok u) h (c, n, lim, e) =
     (λ m f k. (
       with_assumptions list (story_of m f p),
       (c, refl),
-      sees-like (with_assumptions list (story_of m f p)) (state.assume list (calling.assumed d p.verdict) p) q
+      sees-like (with_assumptions list (story_of m f p)) (state.assume list (by_state.assumed d p.verdict) p) q
           (InStep (m ++ map variable_of d) None refl c (record {
             mentioned = mentions p.counted m (map variable_of d) k.mentioned;
             found = λ b x. absurd (let z : None ≡ Some b = x in cc);
@@ -296,11 +296,11 @@ assume-list y p q list (Ok u) h (c, n, lim, e) =
 assume-list y p q list (Err ProofOpen) h (c, o, e) = stays y p q true h c e
 assume-list y p q list (Err e) h a = refuses-names (BarsAssumptions p.proof → ⊥) y p q list e h a
 
-true-answer : (m : List ℕ) (f : Option Bool) (p q : State) (b : Bool) → TellsVerdict calling (state.once_searched p) b q → IsTrueAnswer (story_of m f p) b
+true-answer : (m : List ℕ) (f : Option Bool) (p q : State) (b : Bool) → ReturnsVerdict by_state (state.once_searched p) b q → IsTrueAnswer (story_of m f p) b
 true-answer m f p q true r = some-with p q r
 true-answer m f p q false r = none-with p q r
 
-answered : (m : List ℕ) (f : Option Bool) (p q : State) (b : Bool) → Fits m f p → TellsVerdict calling (state.once_searched p) b q →
+answered : (m : List ℕ) (f : Option Bool) (p q : State) (b : Bool) → Fits m f p → ReturnsVerdict by_state (state.once_searched p) b q →
     Leads (λ z. (is_valid p ≡ true) × (IsTrueAnswer (story_of m f p) b × (z ≡ record (story_of m f p) { found = Some b }))) q
 answered m f p q b k r =
     let e = r.rest in (
@@ -314,18 +314,18 @@ answered m f p q b k r =
       }),
     )
 
-spent : (m : List ℕ) (f : Option Bool) (p q : State) → Fits m f p → IsSpent calling (state.once_searched p) q →
+spent : (m : List ℕ) (f : Option Bool) (p q : State) → Fits m f p → IsSpent by_state (state.once_searched p) q →
     Leads (λ z. (is_valid p ≡ true) × (z ≡ story_of m f p)) q
 spent m f p q k r = (
   story_of m f p,
   (r.valid, refl),
   sees-like (story_of m f p)
-      (retold q.told (state.with_verdict p.verdict
+      (with_entries q.logged (state.with_verdict p.verdict
       (state.with_steps q.ledger.steps (state.once_searched p)))) q
       (InStep m f refl r.valid (record { mentioned = k.mentioned; found = k.found; capped = k.capped; right = k.right })) r.rest,
 )
 
-solve : (y : Story) (p q : State) (r : Result Bool SolverError) → Sees y p → Solves calling p r q →
+solve : (y : Story) (p q : State) (r : Result Bool SolverError) → Sees y p → Solves by_state p r q →
     Leads (Outcome (λ b x. IsTrueAnswer y b × (x ≡ record y { found = Some b })) y r) q
 solve y p q (Ok b) h r =
     to-story y p h r.valid (λ y. Leads (λ z. (y.valid ≡ true) × (IsTrueAnswer y b × (z ≡ record y { found = Some b }))) q)
@@ -343,7 +343,7 @@ solve y p q (Err e) h a = absurd a
 no-answer : (f : Option Bool) (b : Bool) → f ≡ None → f ≢ Some b
 no-answer f b e h = let z : None ≡ Some b = sym e ∙ h in cc
 
-true-model : (m : List ℕ) (f : Option Bool) (p : State) → IsValid p → Fits m f p → (list : Option (List Literal)) → calling.model p list →
+true-model : (m : List ℕ) (f : Option Bool) (p : State) → IsValid p → Fits m f p → (list : Option (List Literal)) → by_state.model p list →
     IsTrueModel (story_of m f p) list
 true-model m f p c k None h = λ e. no-model p.naming p.verdict h (k.found true e)
 true-model m f p c k (Some model) h =
@@ -359,16 +359,16 @@ true-model m f p c k (Some model) h =
       }),
     )
 
-true-core : (m : List ℕ) (f : Option Bool) (p : State) → IsValid p → Fits m f p → (list : Option (List Literal)) → IsCoreToTell p list →
+true-core : (m : List ℕ) (f : Option Bool) (p : State) → IsValid p → Fits m f p → (list : Option (List Literal)) → IsReturnedCore p list →
     IsTrueCore (story_of m f p) list
 true-core m f p c k None h = λ e. no-core p.verdict h (k.found false e)
-true-core m f p c k (Some core) h = (c, h.0, told-fails p core k.right h)
+true-core m f p c k (Some core) h = (c, h.0, logged-fails p core k.right h)
 
 -- a list is told, or none
 tell-list : (of-state : Option (List Literal) → Type 0) (of-story : Story → Option (List Literal) → Type 0) (y : Story) (p q : State)
     (r : Result (Option (List Literal)) AllocError) → Sees y p → (y.found ≡ None → of-story y None) →
     (IsValid p → (m : List ℕ) (f : Option Bool) → Fits m f p → (list : Option (List Literal)) → of-state list → of-story (story_of m f p) list) →
-    TellsList of-state p r q → Leads (λ z. IfOk r (of-story y) × (z ≡ y)) q
+    ReturnsList of-state p r q → Leads (λ z. IfOk r (of-story y) × (z ≡ y)) q
 tell-list of-state of-story y p q (Ok list) h none to (inl (c, t), e) =
     (y, (to-story y p h c (λ y. of-story y list) (λ m f k. to c m f k list t), refl), same y p q h e)
 tell-list of-state of-story y p q (Ok list) h none to (inr (n, t), e) = (y, (subst (of-story y) (sym t) (go h), refl), same y p q h e)
@@ -402,14 +402,14 @@ open-refused taken target back format y p q ProofTooLate h (b, c, n, s, e) = sta
 open-refused taken target back format y p q e h a = absurd a
 
 close-refused : {W : Type 0} (taken : W → Taken) (target : W) (y : Story) (p q : State) (e : SolverError) → Sees y p →
-    Closes calling taken p (Err (e, target)) q → Leads (IsRefused y e) q
+    Closes by_state taken p (Err (e, target)) q → Leads (IsRefused y e) q
 close-refused taken target y p q (ProofIoError cause) h (closed, has, b) = (ended y, (valid-as y p h ∙ b.valid, refl), Over (over _ q b) refl refl)
 close-refused taken target y p q e h a = absurd a
 
 -- 9. Calls in turn.
 
 is-answered : {W S A : Type 0} (seen : S → Stand) (taken : W → Taken) (c : Call W S A) (a : Answer W S A) (y : Story) (p q : State) → Sees y p →
-    Makes calling seen taken p c a q → Leads (IsAnswered seen y c a) q
+    Makes by_state seen taken p c a q → Leads (IsAnswered seen y c a) q
 is-answered seen taken (call.AddClause d) (answer.AddClause r) y p q h m = add-clause y p q d.items r h m
 is-answered seen taken (call.AddFormula f) (answer.AddFormula r) y p q h m = add-formula y p q f.clauses r h m
 is-answered seen taken (call.AddDimacsCnf source) (answer.AddDimacsCnf r back) y p q h m = add-text y p q (seen source) (seen back) r h m
@@ -421,9 +421,9 @@ is-answered seen taken call.ObserveInternalVars (answer.ObserveInternalVars r) y
 is-answered seen taken (call.Assume list) (answer.Assume r) y p q h m = assume-list y p q list.items r h m
 is-answered seen taken call.Solve (answer.Solve r) y p q h m = solve y p q r h m
 is-answered seen taken call.Model (answer.Model r) y p q h m =
-    tell-list (calling.model p) IsTrueModel y p q (told_list r) h (no-answer y.found true) (λ c m f. true-model m f p c) m
+    tell-list (by_state.model p) IsTrueModel y p q (returned_list r) h (no-answer y.found true) (λ c m f. true-model m f p c) m
 is-answered seen taken call.FailedCore (answer.FailedCore r) y p q h m =
-    tell-list (IsCoreToTell p) IsTrueCore y p q (told_list r) h (no-answer y.found false) (λ c m f. true-core m f p c) m
+    tell-list (IsReturnedCore p) IsTrueCore y p q (returned_list r) h (no-answer y.found false) (λ c m f. true-core m f p c) m
 is-answered seen taken (call.Config u) (answer.Config r) y p q h m = config y p q u r h m
 is-answered seen taken call.Steps (answer.Steps n) y p q h (e, k) = (y, refl, same y p q h k)
 is-answered seen taken call.StepsSinceChange (answer.StepsSinceChange n) y p q h (e, few, k) = (y, refl, same y p q h k)
@@ -441,7 +441,7 @@ are-answered : {W S A : Type 0} (seen : S → Stand) (taken : W → Taken) (call
 are-answered seen taken [] [] y p q h r = tt
 are-answered seen taken [] (a ∷ answers) y p q h r = absurd r
 are-answered seen taken (c ∷ calls) [] y p q h r = absurd r
-are-answered seen taken (c ∷ calls) (a ∷ answers) y p q h (mid, m, told, r) =
+are-answered seen taken (c ∷ calls) (a ∷ answers) y p q h (mid, m, logged, r) =
     let (z, b, k) = is-answered seen taken c a y p mid h m in (z, b, are-answered seen taken calls answers z mid q k r)
 
 -- the story of a state that a solver stands for

@@ -10,7 +10,7 @@ use Rattle.varisat_formula.specs.Parsed.{GivesReading}
 use Rattle.varisat_formula.specs.TakenTexts.{GivesFirst}
 use Rattle.varisat_solver.specs.Names.{Naming, Sample, Witness, no_names, name_one, name_all, through_names, set_mode, free_name, IsLeastFree, AreShown}
 use Rattle.varisat_solver.specs.Models.{IsCompletable, AreNamesInUse}
-use Rattle.varisat_solver.specs.Told.{told_list}
+use Rattle.varisat_solver.specs.ReturnedLists.{returned_list}
 use Rattle.varisat_solver.specs.declared.solver.SolverError.{SolverError}
 use Rattle.varisat_solver.specs.declared.solver.SolverError.TheVariants.{OutOfMemory, Invalid, ClauseStoreFull, ProofIoError, Dimacs}
 use Rattle.varisat.specs.declared.session.Call.{Call}
@@ -137,8 +137,8 @@ IsAnswered seen s (call.AddFormula f) (answer.AddFormula r) t = IfValid s r (Acc
 IsAnswered seen s (call.AddDimacsCnf source) (answer.AddDimacsCnf r back) t = IfValid s r (AcceptsText s (seen source) r (seen back) t) t
 IsAnswered seen s (call.Assume list) (answer.Assume r) t = Outcome (λ _ u. u ≡ with_assumptions list.items s) s r t
 IsAnswered seen s call.Solve (answer.Solve r) t = Outcome (λ b u. IsTrueAnswer s b × (u ≡ record s { found = Some b })) s r t
-IsAnswered seen s call.Model (answer.Model r) t = IfOk (told_list r) (IsTrueModel s) × (t ≡ s)
-IsAnswered seen s call.FailedCore (answer.FailedCore r) t = IfOk (told_list r) (IsTrueCore s) × (t ≡ s)
+IsAnswered seen s call.Model (answer.Model r) t = IfOk (returned_list r) (IsTrueModel s) × (t ≡ s)
+IsAnswered seen s call.FailedCore (answer.FailedCore r) t = IfOk (returned_list r) (IsTrueCore s) × (t ≡ s)
 IsAnswered seen s call.NewVar (answer.NewVar r) t = Outcome (λ u x. IsLeastFree s.naming u × (x ≡ with_names (name_one u s.naming) s)) s r t
 IsAnswered seen s (call.SampleVar u) (answer.SampleVar r) t = Outcome (λ _ x. x ≡ with_names (set_mode u Sample (name_one u s.naming)) s) s r t
 IsAnswered seen s (call.WitnessVar u) (answer.WitnessVar r) t = Outcome (λ _ x. x ≡ with_names (set_mode u Witness (name_one u s.naming)) s) s r t

@@ -18,22 +18,22 @@ use Rattle.varisat_proof.specs.declared.checker.error.CheckerError.{CheckerError
 use Rattle.varisat_proof.specs.Lines.{line_of_kind, has_marks}
 use Rattle.varisat_proof.specs.Results.{IsResult, IsAccepted}
 use Rattle.varisat_proof.specs.Written.{line_text}
-use Rattle.varisat_proof.specs.Telling.{bytes_told}
-use Rattle.varisat_proof.specs.Marked.{nothing_told, ProofState, state_of, IsCheckOf}
+use Rattle.varisat_proof.specs.Logging.{logged_bytes}
+use Rattle.varisat_proof.specs.Marked.{nothing_logged, ProofState, state_of, IsCheckOf}
 use Rattle.varisat_proof.specs.Passing.{PassesWith}
 use Rattle.varisat_tracer.specs.Carried.{carry}
 use Rattle.varisat_solver.specs.OpenProofs.{OpenProof, entries_over}
 use Rattle.varisat.specs.Decided.{Conclusion}
 use Rattle.varisat.specs.Proven.{IsProven}
-use Rattle.varisat_solver.specs.Journals.{TellsMore, EndWithCore}
+use Rattle.varisat_solver.specs.Journals.{LogsMore, EndWithCore}
 use Rattle.varisat_solver.specs.StepEntries.{LeadsInSteps}
 use Rattle.varisat_solver.specs.Names.{Naming, no_names, name_one, name_all, through_names, IsLeastFree, AreInOrder}
 use Rattle.varisat_solver.specs.Models.{AreNamesInUse}
 use Rattle.varisat_solver.specs.ProofCalls.{IsProof}
-use Rattle.varisat_solver.specs.Calls.{IsPastLimit, IsCrowded, TellsVerdict, IsRefuted, accept, assume, calling}
+use Rattle.varisat_solver.specs.Calls.{IsPastLimit, IsCrowded, ReturnsVerdict, IsRefuted, accept, assume, by_state}
 use Rattle.varisat.specs.Counts.{count_with}
 use Rattle.varisat_solver.specs.States.{State, Unknown, UnsatUnderAssumptions}
-use Rattle.varisat.specs.Pasts.{Findings, Past, IsPastJournal, telling}
+use Rattle.varisat.specs.Pasts.{Findings, Past, IsPastJournal, by_answers}
 
 -- Before the first call names are in order. They stay so where those of a list of literals come into use, and where the least
 -- free one does, which is the one above them.
@@ -63,16 +63,16 @@ abbrev pub CrowdedIsPastLimit : Type 0
 CrowdedIsPastLimit = (n : ℕ) (m : Naming) (ls : List Literal) → AreInOrder n m → n ≤ variable_limit → IsCrowded (name_all ls m) → IsPastLimit ls
 
 -- Where a call of `solve` finds a core, propagation over what is held then conflicts with it: the core was told at last.
-abbrev pub CoresAreTold : Type 0
-CoresAreTold =
-    (s t : State) (b : Bool) (core : List Literal) (held : List Clause) → TellsVerdict calling s b t → s.verdict ≡ Unknown →
-    t.verdict ≡ UnsatUnderAssumptions core → Leads [] t.told held → Conflicts held core
+abbrev pub CoresAreLogged : Type 0
+CoresAreLogged =
+    (s t : State) (b : Bool) (core : List Literal) (held : List Clause) → ReturnsVerdict by_state s b t → s.verdict ≡ Unknown →
+    t.verdict ≡ UnsatUnderAssumptions core → Leads [] t.logged held → Conflicts held core
 
 -- Where a call tells a core at last, a marked proof of what was told ends with its line.
 abbrev pub CoresAreWritten : Type 0
 CoresAreWritten =
-    (n : ℕ) (before after : List Entry) (more : TellsMore n before after) (core : List Literal) (variables : ℕ → Option ℕ) (bytes : List ℕ)
-    → EndWithCore core more.entries → bytes ≡ bytes_told Marked (entries_over variables after)
+    (n : ℕ) (before after : List Entry) (more : LogsMore n before after) (core : List Literal) (variables : ℕ → Option ℕ) (bytes : List ℕ)
+    → EndWithCore core more.entries → bytes ≡ logged_bytes Marked (entries_over variables after)
     → (front : List ℕ) × (bytes ≡ front ++ line_text (line_of_kind Fails (map (carry variables) core)))
 
 -- Where nothing was ever hidden, a check of a marked proof from no clause finds no line wrong. It tells the accepted clauses and the
@@ -81,23 +81,23 @@ CoresAreWritten =
 abbrev pub MarkedProofsPass : Type 0
 MarkedProofsPass =
     (p : Past) (opened : OpenProof) (result : Result CheckVerdict CheckerError) (end : ProofState)
-    → IsPastJournal p → IsProof telling p opened → opened.format ≡ Marked → p.ever_hidden ≡ false
-    → IsCheckOf (Text true) (state_of [] nothing_told) opened.bytes result end
-    → PassesWith p.told result end.told × (IsRefuted telling Marked p → result ≡ Ok Refutation)
+    → IsPastJournal p → IsProof by_answers p opened → opened.format ≡ Marked → p.ever_hidden ≡ false
+    → IsCheckOf (Text true) (state_of [] nothing_logged) opened.bytes result end
+    → PassesWith p.logged result end.logged × (IsRefuted by_answers Marked p → result ≡ Ok Refutation)
 
 -- Where nothing was hidden a check of the bytes of an open proof over the accepted clauses finds that they refute, or that they are a
 -- derivation and do not; so it does of the bytes that the program leaves.
 pub record BytesAreAccepted : Type 0 where
   pub proof : (p : Past) (opened : OpenProof) (result : Result CheckVerdict CheckerError) (left : List Clause) →
-      IsProof telling p opened →
+      IsProof by_answers p opened →
       has_marks opened.format ≡ false →
       p.ever_hidden ≡ false →
       IsResult opened.format p.clauses opened.bytes result left →
-      IsAccepted p.clauses (lines_of p.told) result
+      IsAccepted p.clauses (lines_of p.logged) result
   pub program : (format : ProofFormat) (P : List Clause) (c : Conclusion) (old new : Taken) (bytes : List ℕ)
       (result : Result CheckVerdict CheckerError) (left : List Clause) →
       (proven : IsProven format P c old new) →
       has_marks format ≡ false →
       new.bytes ≡ old.bytes ++ bytes →
       IsResult format P bytes result left →
-      IsAccepted P (lines_of proven.told) result
+      IsAccepted P (lines_of proven.logged) result

@@ -10,7 +10,7 @@ use Rattle.varisat_names.specs.declared.config.ConfigField.{ConfigField}
 use Rattle.varisat_names.specs.declared.config.SolverConfigUpdate.{SolverConfigUpdate}
 use Rattle.varisat_names.specs.Settings.{field_text, update_of}
 use Rattle.varisat_solver.specs.Refusals.{refusal_number}
-use Rattle.varisat_solver.specs.Told.{told_list, told_vars}
+use Rattle.varisat_solver.specs.ReturnedLists.{returned_list, returned_variables}
 use Rattle.varisat.specs.declared.session.Call.{Call}
 use Rattle.varisat.specs.declared.session.Call.TheVariants as call
 use Rattle.varisat.specs.declared.session.Answer.{Answer}
@@ -226,10 +226,10 @@ answer_text (answer.NewVar made) = made_text made
 answer_text (answer.SampleVar done) = done_text done
 answer_text (answer.WitnessVar done) = done_text done
 answer_text (answer.HideVar done) = done_text done
-answer_text (answer.ObserveInternalVars names) = names_text (told_vars names)
+answer_text (answer.ObserveInternalVars names) = names_text (returned_variables names)
 answer_text (answer.Solve solved) = solved_text solved
-answer_text (answer.Model list) = list_text (told_list list)
-answer_text (answer.FailedCore list) = list_text (told_list list)
+answer_text (answer.Model list) = list_text (returned_list list)
+answer_text (answer.FailedCore list) = list_text (returned_list list)
 answer_text (answer.Config done) = done_text done
 answer_text (answer.Steps steps) = count_text steps
 answer_text (answer.StepsSinceChange steps) = count_text steps

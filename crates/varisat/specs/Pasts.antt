@@ -6,13 +6,13 @@ use Rattle.varisat_theory.specs.Counted.{added}
 use Rattle.varisat_theory.specs.Journals.{Entry, NoneLeaves, accepted_of, lines_of}
 use Rattle.varisat_proof.specs.declared.proof.format.Encoding.TheVariants.{Text}
 use Rattle.varisat_proof.specs.Assumed.{lists_of, assumed_behind, CoresAreAssumed}
-use Rattle.varisat_proof.specs.Passing.{ToldConflict}
-use Rattle.varisat_proof.specs.Telling.{lines_told}
+use Rattle.varisat_proof.specs.Passing.{LogsConflict}
+use Rattle.varisat_proof.specs.Logging.{logged_lines}
 use Rattle.varisat_proof.specs.Written.{AreInRange}
 use Rattle.varisat_solver.specs.Names.{through_names}
 use Rattle.varisat_solver.specs.OpenProofs.{entries_over}
 use Rattle.varisat_solver.specs.States.{Known, first_known}
-use Rattle.varisat_solver.specs.Journals.{IsToldWithin, AreDerived, EndWithCore}
+use Rattle.varisat_solver.specs.Journals.{IsLoggedWithin, AreDerived, EndWithCore}
 use Rattle.varisat_solver.specs.Models.{IsCompletable, AreNamesInUse}
 use Rattle.varisat_solver.specs.Calls.{IsValid, Verdicts}
 
@@ -39,50 +39,50 @@ empty_past = first_known (record { has_model = false; has_core = false; lists = 
 -- assumed. A reader takes the numbers of all lines that a proof of it has. Where nothing was ever hidden no variable left, and so it takes
 -- those of its own lines.
 pub record IsPastJournal (p : Past) : Type 0 where
-  pub within : IsToldWithin p.ledger.steps p.told
-  pub enough : p.verdict.interrupted_steps ≤ added (lines_of p.told)
-  pub accepted : accepted_of p.told ≡ p.clauses
-  pub lists : lists_of p.told ≡ p.verdict.lists
-  pub assumed : assumed_behind [] p.told ≡ p.assumptions
-  pub cores : CoresAreAssumed [] p.told
-  pub stays : p.ever_hidden ≡ false → NoneLeaves p.told
-  pub in_range : p.ever_hidden ≡ false → AreInRange (lines_told (Text true) p.told)
-  pub readable : AreInRange (lines_told (Text true) (entries_over p.variables p.told))
+  pub within : IsLoggedWithin p.ledger.steps p.logged
+  pub enough : p.verdict.interrupted_steps ≤ added (lines_of p.logged)
+  pub accepted : accepted_of p.logged ≡ p.clauses
+  pub lists : lists_of p.logged ≡ p.verdict.lists
+  pub assumed : assumed_behind [] p.logged ≡ p.assumptions
+  pub cores : CoresAreAssumed [] p.logged
+  pub stays : p.ever_hidden ≡ false → NoneLeaves p.logged
+  pub in_range : p.ever_hidden ≡ false → AreInRange (logged_lines (Text true) p.logged)
+  pub readable : AreInRange (logged_lines (Text true) (entries_over p.variables p.logged))
 
 -- What a call tells that returns false: nothing where a core was found last. Else propagation over what is held conflicts then, or it
 -- conflicts with a core that is told at last, and is one of the assumptions.
-pub data TellsFalse (p : Past) (told : List Entry) (q : Past) : Type 0 where
-  Again : p.verdict.has_core ≡ true → q.told ≡ p.told → TellsFalse p told q
-  Refuted : AreDerived told → ToldConflict q.told → TellsFalse p told q
-  Failed : (core : List Literal) → core ⊆ p.assumptions → EndWithCore core told → TellsFalse p told q
+pub data LogsFalse (p : Past) (logged : List Entry) (q : Past) : Type 0 where
+  Again : p.verdict.has_core ≡ true → q.logged ≡ p.logged → LogsFalse p logged q
+  Refuted : AreDerived logged → LogsConflict q.logged → LogsFalse p logged q
+  Failed : (core : List Literal) → core ⊆ p.assumptions → EndWithCore core logged → LogsFalse p logged q
 
 -- True is returned only if some assignment satisfies the clauses and the assumptions, and the call tells lines and which variables
 -- leave. False is returned only if none does, and where nothing is assumed propagation over what is held then conflicts.
 abbrev pub IsAnswer : Past → Bool → List Entry → Past → Type 0
-IsAnswer p true told q =
-    (q.verdict ≡ record p.verdict { has_model = true; has_core = false }) × IsSatisfiableWith p.clauses p.assumptions × AreDerived told
-IsAnswer p false told q =
-    (q.verdict ≡ record p.verdict { has_model = false; has_core = true }) × (IsSatisfiableWith p.clauses p.assumptions → ⊥) × TellsFalse p told q
-    × (p.assumptions ≡ [] → ToldConflict q.told)
+IsAnswer p true logged q =
+    (q.verdict ≡ record p.verdict { has_model = true; has_core = false }) × IsSatisfiableWith p.clauses p.assumptions × AreDerived logged
+IsAnswer p false logged q =
+    (q.verdict ≡ record p.verdict { has_model = false; has_core = true }) × (IsSatisfiableWith p.clauses p.assumptions → ⊥) × LogsFalse p logged q
+    × (p.assumptions ≡ [] → LogsConflict q.logged)
 
 -- A model is told where one was found last: exactly the names in use, such that some assignment agrees with it through the names and
 -- satisfies the clauses and the assumptions.
-abbrev pub MayTellModel : Past → Option (List Literal) → Type 0
-MayTellModel p None = p.verdict.has_model ≡ false
-MayTellModel p (Some model) = (p.verdict.has_model ≡ true) × IsCompletable p.naming p.clauses p.assumptions p.counted model
+abbrev pub MayReturnModel : Past → Option (List Literal) → Type 0
+MayReturnModel p None = p.verdict.has_model ≡ false
+MayReturnModel p (Some model) = (p.verdict.has_model ≡ true) × IsCompletable p.naming p.clauses p.assumptions p.counted model
 
 -- A core is told where `solve` returned false last: literals of names in use, which these carry to some of the assumptions that no
 -- assignment makes true together with the clauses.
-abbrev pub MayTellCore : Past → Option (List Literal) → Type 0
-MayTellCore p None = p.verdict.has_core ≡ false
-MayTellCore p (Some core) =
+abbrev pub MayReturnCore : Past → Option (List Literal) → Type 0
+MayReturnCore p None = p.verdict.has_core ≡ false
+MayReturnCore p (Some core) =
     (p.verdict.has_model ≡ false) × AreNamesInUse p.naming core × IsFailedCore p.clauses p.assumptions (map (through_names p.naming) core)
 
 -- What calls and answers say of verdicts. A clause is taken without a change only once no assignment satisfies those before it. A call
 -- of `solve` makes no step only where a model or a core was found last, or that is so. Behind each call what was told is a journal of
 -- the past, as long as that is valid.
-abbrev pub telling : Verdicts Findings
-telling = record {
+abbrev pub by_answers : Verdicts Findings
+by_answers = record {
   refuted = λ p. IsSatisfiable p.clauses → ⊥;
   unrefuted = λ p. Unit {0};
   undecided = λ p. (p.verdict.has_model ≡ false) × (p.verdict.has_core ≡ false);
@@ -90,8 +90,8 @@ telling = record {
   assumed = λ list v. record v { has_model = false; has_core = false; lists = v.lists ++ list ∷ [] };
   answers = IsAnswer;
   interrupted = λ steps v. record v { interrupted_steps = v.interrupted_steps + steps };
-  model = MayTellModel;
-  core = MayTellCore;
+  model = MayReturnModel;
+  core = MayReturnCore;
   fails = λ p. p.verdict.has_core ≡ true;
   alone = λ p. p.assumptions ≡ [];
   holds = λ p. IsValid p → IsPastJournal p;

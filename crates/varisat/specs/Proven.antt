@@ -10,7 +10,7 @@ use Rattle.varisat_names.specs.Settings.{no_update}
 use Rattle.varisat_proof.specs.declared.proof.format.Encoding.TheVariants.{Text}
 use Rattle.varisat_proof.specs.declared.proof.format.ProofFormat.{ProofFormat}
 use Rattle.varisat_proof.specs.Lines.{encoding_of, plain_lines, has_marks}
-use Rattle.varisat_proof.specs.Telling.{lines_told, bytes_told}
+use Rattle.varisat_proof.specs.Logging.{logged_lines, logged_bytes}
 use Rattle.varisat_proof.specs.Steps.{lines_written}
 use Rattle.varisat_proof.specs.Written.{AreInRange}
 use Rattle.varisat_proof.specs.Verified.{fault_status, EndsPrinting}
@@ -19,7 +19,7 @@ use Rattle.varisat_solver.specs.ProofBytes.{IsMarkedDerivation}
 use Rattle.varisat_solver.specs.ProofCalls.{with_proof, ClosesProof}
 use Rattle.varisat_solver.specs.States.{State, new_state}
 use Rattle.varisat_solver.specs.ClauseCalls.{AddsDimacs}
-use Rattle.varisat_solver.specs.Calls.{Solves, TellsList, with_update, count_anew, calling}
+use Rattle.varisat_solver.specs.Calls.{Solves, ReturnsList, with_update, count_anew, by_state}
 use Rattle.varisat_solver.specs.declared.solver.SolverError.{SolverError}
 use Rattle.varisat_solver.specs.declared.solver.SolverError.TheVariants.{Interrupted, OutOfMemory}
 use Rattle.varisat.specs.declared.deciding.Report.{Report}
@@ -50,34 +50,34 @@ prepared taken format check limit (Some target) = count_anew (with_proof (Some (
 
 -- What a solver in the state s comes to as it is asked: a model that it tells, that there is none, or that its steps are spent.
 abbrev pub Concludes : State → Conclusion → State → Type 0
-Concludes s Unknown t = Solves calling s (Err Interrupted) t
-Concludes s (Decided None) t = Solves calling s (Ok false) t
-Concludes s (Decided (Some model)) t = Solves calling s (Ok true) t × TellsList (calling.model t) t (Ok (Some model)) t
+Concludes s Unknown t = Solves by_state s (Err Interrupted) t
+Concludes s (Decided None) t = Solves by_state s (Ok false) t
+Concludes s (Decided (Some model)) t = Solves by_state s (Ok true) t × ReturnsList (by_state.model t) t (Ok (Some model)) t
 
 -- The same with the errors: those of the search, and out of memory also where a model was found that could not be listed.
 abbrev pub Reports : {A : Type 0} → State → Result (Report A) SolverError → State → Type 0
 Reports s (Ok report) t = Concludes s (concluded report) t
 Reports s (Err Interrupted) t = ⊥
-Reports s (Err OutOfMemory) t = Solves calling s (Err OutOfMemory) t ⊎ Solves calling s (Ok true) t
-Reports s (Err e) t = Solves calling s (Err e) t
+Reports s (Err OutOfMemory) t = Solves by_state s (Err OutOfMemory) t ⊎ Solves by_state s (Ok true) t
+Reports s (Err e) t = Solves by_state s (Err e) t
 
 -- The target took just the bytes of what was told, in numbers that a reader takes, and counted no fault. The lines are a derivation
 -- from the clauses, and refute them where the conclusion is that they have no model. DRAT has just these lines. Marked text gives
 -- clauses as they are, in order, and no assumptions, and is right from no clause. They are all, or the first ones where these have
 -- no model.
 pub record IsProven (format : ProofFormat) (clauses : List Clause) (conclusion : Conclusion) (old new : Taken) : Type 0 where
-  pub told : List Entry
-  pub bytes : new.bytes ≡ old.bytes ++ bytes_told format told
+  pub logged : List Entry
+  pub bytes : new.bytes ≡ old.bytes ++ logged_bytes format logged
   pub faults : new.faults ≡ old.faults
-  pub plain : has_marks format ≡ false → bytes_told format told ≡ lines_written (encoding_of format) (plain_lines (lines_of told))
-  pub in_range : AreInRange (lines_told (Text true) told)
-  pub derives : IsDerivation clauses (lines_of told)
-  pub refutes : conclusion ≡ Decided None → Refutes clauses (lines_of told)
+  pub plain : has_marks format ≡ false → logged_bytes format logged ≡ lines_written (encoding_of format) (plain_lines (lines_of logged))
+  pub in_range : AreInRange (logged_lines (Text true) logged)
+  pub derives : IsDerivation clauses (lines_of logged)
+  pub refutes : conclusion ≡ Decided None → Refutes clauses (lines_of logged)
   pub given : List Clause
   pub rest : List Clause
   pub begins : clauses ≡ given ++ rest
   pub whole : rest ≢ [] → conclusion ≡ Decided None
-  pub marked : IsMarkedDerivation told given [] (conclusion ≡ Decided None)
+  pub marked : IsMarkedDerivation logged given [] (conclusion ≡ Decided None)
 
 -- so it is of the target that comes back, which is none where there was none
 abbrev pub IsProvenIf : {W : Type 0} → (W → Taken) → ProofFormat → List Clause → Conclusion → Option W → Option W → Type 0
@@ -95,8 +95,8 @@ pub record DecidesProven {W : Type 0} (taken : W → Taken) (format : ProofForma
 -- lists the model that it found; or as its proof is closed.
 pub data Fails {W : Type 0} (taken : W → Taken) (s : State) (old new : Stand) (e : SolverError) : Type 0 where
   AsRead : (t : State) → AddsDimacs s old (Err e) new t → Fails taken s old new e
-  AsSearched : (t u : State) → AddsDimacs s old (Ok tt) new t → Solves calling t (Err e) u → e ≢ Interrupted → Fails taken s old new e
-  AsListed : (t u : State) → AddsDimacs s old (Ok tt) new t → Solves calling t (Ok true) u → e ≡ OutOfMemory → Fails taken s old new e
+  AsSearched : (t u : State) → AddsDimacs s old (Ok tt) new t → Solves by_state t (Err e) u → e ≢ Interrupted → Fails taken s old new e
+  AsListed : (t u : State) → AddsDimacs s old (Ok tt) new t → Solves by_state t (Ok true) u → e ≡ OutOfMemory → Fails taken s old new e
   AsClosed : (t u v : State) (c : Conclusion) (back : W) → AddsDimacs s old (Ok tt) new t → Concludes t c u → ClosesProof taken u (Err (e, back)) v →
       Fails taken s old new e
 

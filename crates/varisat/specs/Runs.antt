@@ -2,8 +2,8 @@
 use Rattle.std.specs.Prelude.{◌-◌, ◌^◌, ◌<◌, Bool, true, false, Option, None, List, [], ◌∷◌}
 use Rattle.varisat_formula.specs.Streams.{Stand, Taken}
 use Rattle.varisat_solver.specs.States.{State, Verdict}
-use Rattle.varisat_solver.specs.Journals.{IsJournal, IsToldWithin}
-use Rattle.varisat_solver.specs.Calls.{IsValid, calling, answer_of}
+use Rattle.varisat_solver.specs.Journals.{IsJournal, IsLoggedWithin}
+use Rattle.varisat_solver.specs.Calls.{IsValid, by_state, answer_of}
 use Rattle.varisat.specs.Answers.{Story}
 use Rattle.varisat.specs.Turns.{Makes, MakesInTurn}
 use Rattle.varisat.specs.declared.session.Call.{Call}
@@ -12,11 +12,11 @@ use Rattle.varisat.specs.declared.session.Call.TheVariants as call
 
 -- The call may get the answer, and leads from one state to the other.
 abbrev pub MakesCall : {W S A : Type 0} → (S → Stand) → (W → Taken) → State → Call W S A → Answer W S A → State → Type 0
-MakesCall seen taken s c a t = Makes calling seen taken s c a t
+MakesCall seen taken s c a t = Makes by_state seen taken s c a t
 
 -- The calls in turn may get the answers in turn, one each, and lead from one state to the other.
 abbrev pub Run : {W S A : Type 0} → (S → Stand) → (W → Taken) → State → List (Call W S A) → List (Answer W S A) → State → Type 0
-Run seen taken s calls answers t = MakesInTurn calling seen taken s calls answers t
+Run seen taken s calls answers t = MakesInTurn by_state seen taken s calls answers t
 
 -- what was found last, in a solver that is valid
 abbrev pub found_in : Bool → Verdict → Option Bool
@@ -35,8 +35,8 @@ story_now s = record {
 }
 
 -- As long as it is valid what was told is right, and at most as many of the clauses that its lines add count as steps were made.
-abbrev pub HasToldRight : State → Type 0
-HasToldRight s = IsValid s → IsJournal s × IsToldWithin s.ledger.steps s.told
+abbrev pub HasRightLog : State → Type 0
+HasRightLog s = IsValid s → IsJournal s × IsLoggedWithin s.ledger.steps s.logged
 
 -- What a call is given has counted fewer than 2^64-1 faults: a source that is read, and a target to which a proof is written.
 abbrev pub MayStillFail : {W S A : Type 0} → (S → Stand) → (W → Taken) → Call W S A → Type 0

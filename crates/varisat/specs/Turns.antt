@@ -3,11 +3,11 @@ use Rattle.std.specs.Prelude.{◌≡◌, List, [], ◌∷◌}
 use Rattle.varisat_formula.specs.Streams.{Stand, Taken}
 use Rattle.varisat_solver.specs.States.{Known}
 use Rattle.varisat_solver.specs.Names.{Sample, Witness}
-use Rattle.varisat_solver.specs.Calls.{Verdicts, TakesOne, TakesList, MakesVar, Solves, TellsList, Configures, TellsSteps, TellsSince, TellsValid}
+use Rattle.varisat_solver.specs.Calls.{Verdicts, TakesOne, TakesList, MakesVar, Solves, ReturnsList, Configures, ReturnsSteps, ReturnsSince, ReturnsValid}
 use Rattle.varisat_solver.specs.ProofCalls.{OpensProof, EnablesChecking, Closes}
 use Rattle.varisat_solver.specs.Additions.{AddsList, AddsText}
 use Rattle.varisat_solver.specs.Usage.{SetsMode, HidesVar, Observes}
-use Rattle.varisat_solver.specs.Told.{told_list, told_vars}
+use Rattle.varisat_solver.specs.ReturnedLists.{returned_list, returned_variables}
 use Rattle.varisat.specs.declared.session.Call.{Call}
 use Rattle.varisat.specs.declared.session.Answer.{Answer}
 use Rattle.varisat.specs.declared.session.Call.TheVariants as call
@@ -24,15 +24,15 @@ module _ {V : Type 0} (by : Verdicts V) where
   Makes seen taken s (call.SampleVar u) (answer.SampleVar r) t = SetsMode Sample s u r t
   Makes seen taken s (call.WitnessVar u) (answer.WitnessVar r) t = SetsMode Witness s u r t
   Makes seen taken s (call.HideVar u) (answer.HideVar r) t = HidesVar s u r t
-  Makes seen taken s call.ObserveInternalVars (answer.ObserveInternalVars r) t = Observes s (told_vars r) t
+  Makes seen taken s call.ObserveInternalVars (answer.ObserveInternalVars r) t = Observes s (returned_variables r) t
   Makes seen taken s (call.Assume list) (answer.Assume r) t = TakesList by s list.items r t
   Makes seen taken s call.Solve (answer.Solve r) t = Solves by s r t
-  Makes seen taken s call.Model (answer.Model r) t = TellsList (by.model s) s (told_list r) t
-  Makes seen taken s call.FailedCore (answer.FailedCore r) t = TellsList (by.core s) s (told_list r) t
+  Makes seen taken s call.Model (answer.Model r) t = ReturnsList (by.model s) s (returned_list r) t
+  Makes seen taken s call.FailedCore (answer.FailedCore r) t = ReturnsList (by.core s) s (returned_list r) t
   Makes seen taken s (call.Config u) (answer.Config r) t = Configures s u r t
-  Makes seen taken s call.Steps (answer.Steps n) t = TellsSteps s n t
-  Makes seen taken s call.StepsSinceChange (answer.StepsSinceChange n) t = TellsSince s n t
-  Makes seen taken s call.IsValid (answer.IsValid b) t = TellsValid s b t
+  Makes seen taken s call.Steps (answer.Steps n) t = ReturnsSteps s n t
+  Makes seen taken s call.StepsSinceChange (answer.StepsSinceChange n) t = ReturnsSince s n t
+  Makes seen taken s call.IsValid (answer.IsValid b) t = ReturnsValid s b t
   Makes seen taken s (call.WriteProof target format) (answer.WriteProof r) t = OpensProof taken target format s r t
   Makes seen taken s call.CloseProof (answer.CloseProof r) t = Closes by taken s r t
   Makes seen taken s call.EnableSelfChecking (answer.EnableSelfChecking r) t = EnablesChecking s r t

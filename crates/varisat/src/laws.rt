@@ -2,7 +2,7 @@
 //! check of a proof's bytes; and that `answers` of `answers_of` rules wrong answers out.
 ghost use Rattle.varisat.specs.Laws.{NamesStayInOrder, NamesAreIdentities, GivenIsAccepted, CrowdedIsPastLimit};
 ghost use Rattle.varisat.specs.WrongAnswers.{WrongAnswersFitNoStory};
-ghost use Rattle.varisat.specs.Laws.{AgainIsNoStep, CoresAreTold, CoresAreWritten, BytesAreAccepted, MarkedProofsPass};
+ghost use Rattle.varisat.specs.Laws.{AgainIsNoStep, CoresAreLogged, CoresAreWritten, BytesAreAccepted, MarkedProofsPass};
 
 /// Names come into use in order.
 pub fn names_stay_in_order()
@@ -30,8 +30,8 @@ pub fn again_is_no_step()
 {}
 
 /// A core that is found is told, and conflicts with what is held then.
-pub fn cores_are_told()
-    ensures { CoresAreTold }
+pub fn cores_are_logged()
+    ensures { CoresAreLogged }
 {}
 
 /// Under a marked proof its line is the last one then.

@@ -5,7 +5,7 @@ ghost use Rattle.std.specs.Io.KnownBytes.{Appends};
 ghost use Rattle.varisat_theory.specs.Literals.{Literal};
 ghost use Rattle.varisat_literals.specs.Numbers.{literal_text, variable_text};
 ghost use Rattle.varisat.specs.Lines.{Command, Add, Assume, Config, words, MeansCommand, BeginsList, MeansUpdate, MeansOneCommand, AsksFor, SetsUsage, Opens, words_of, literals_text, variables_text, names_text, refusal_text, done_text, list_text, made_text, solved_text, truth_text, count_text, hex_digit, hex_text, bytes_text, opened_text, closed_text, answer_text};
-ghost use Rattle.varisat_solver.specs.Told.{told_list, told_vars};
+ghost use Rattle.varisat_solver.specs.ReturnedLists.{returned_list, returned_variables};
 
 use crate::session::{Answer, Call};
 use itoa::Buffer;
@@ -370,7 +370,7 @@ fn write_list<W: Write, A: Allocator + Copy>(
     out: &mut W,
     list: &Result<Option<Vec<Lit, A>>, AllocError>,
 ) -> io::Result<()>
-    ensures { OnOk result (Appends (W.contents out.old) (W.contents out.new) (list_text (told_list list.now))) }
+    ensures { OnOk result (Appends (W.contents out.old) (W.contents out.new) (list_text (returned_list list.now))) }
 {
     match list {
         Ok(Some(literals)) => {
@@ -387,7 +387,7 @@ fn write_names<W: Write, A: Allocator + Copy>(
     out: &mut W,
     names: &Result<Vec<Var, A>, SolverError>,
 ) -> io::Result<()>
-    ensures { OnOk result (Appends (W.contents out.old) (W.contents out.new) (names_text (told_vars names.now))) }
+    ensures { OnOk result (Appends (W.contents out.old) (W.contents out.new) (names_text (returned_variables names.now))) }
 {
     match names {
         Ok(variables) => {

@@ -41,7 +41,7 @@ pub fn session_lines<A: Allocator + Copy, R: Read + Drop, W: Write, E: Write>(
 ) -> u8 {
     match answer_lines(alloc, input, out) {
         Ok(()) => STATUS_DONE,
-        Err(error) => tell_fault(err, &error),
+        Err(error) => print_fault(err, &error),
     }
 }
 
@@ -72,9 +72,9 @@ pub fn solve_lines<A: Allocator + Copy, S: ByteSource, P: ProofTarget, T: ProofT
     match decide_text(alloc, cnf, proof, options, err) {
         Ok(report) => match print_report(out, &report) {
             Ok(()) => status_of(&report),
-            Err(error) => tell_fault(err, &error),
+            Err(error) => print_fault(err, &error),
         },
-        Err(refusal) => tell_fault(err, &refusal),
+        Err(refusal) => print_fault(err, &refusal),
     }
 }
 
@@ -136,7 +136,7 @@ fn put_literal<T: ProofTarget>(out: &mut T, buffer: &mut Buffer, literal: Lit) -
 }
 
 /// Tells a fault, and returns the status for it.
-pub fn tell_fault<E: Write, F: Display>(err: &mut E, fault: &F) -> u8
+pub fn print_fault<E: Write, F: Display>(err: &mut E, fault: &F) -> u8
     ensures { result ≡ fault_status }
 {
     // Of a writer that fails here nothing is left to tell.
@@ -145,7 +145,7 @@ pub fn tell_fault<E: Write, F: Display>(err: &mut E, fault: &F) -> u8
 }
 
 /// Tells how the program is called, and returns the status for a bad command line.
-pub fn tell_usage<E: Write>(err: &mut E) -> u8
+pub fn print_usage<E: Write>(err: &mut E) -> u8
     ensures { result ≡ fault_status }
 {
     let _ = writeln!(err, "usage: varisat solve|check|session");

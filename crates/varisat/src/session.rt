@@ -2,9 +2,9 @@
 ghost use Rattle.std.specs.Prelude.{◌≡◌, [], IfOk, OnErr};
 ghost use Rattle.varisat_solver.specs.States.{State, empty_state};
 ghost use Rattle.varisat_solver.specs.Summaries.{StandsFor, StandsOnce};
-ghost use Rattle.varisat.specs.Runs.{MakesCall, Run, HasToldRight, MayStillFail, AreReady, story_now};
-ghost use Rattle.varisat_solver.specs.Calls.{calling};
-ghost use Rattle.varisat.specs.Pasts.{empty_past, telling};
+ghost use Rattle.varisat.specs.Runs.{MakesCall, Run, HasRightLog, MayStillFail, AreReady, story_now};
+ghost use Rattle.varisat_solver.specs.Calls.{by_state};
+ghost use Rattle.varisat.specs.Pasts.{empty_past, by_answers};
 ghost use Rattle.varisat.specs.Histories.{AreTrue};
 ghost use Rattle.varisat.specs.Answers.{AreAnswered, empty_story};
 ghost use Rattle.varisat.specs.Moments.{HasFewSteps, HasFewStepsAlong};
@@ -115,7 +115,7 @@ pub fn run<W: ProofTarget, S: ByteSource, A: Allocator + Copy>(
     ensures run { IfOk result (λ answers. StandsOnce solver.old (λ s t. Run S.stand W.taken s calls.items answers.items t) solver.new) }
     ensures answers { IfOk result (λ answers. (s : State) → StandsFor solver.old s → AreAnswered S.stand (story_now s) calls.items answers.items) }
     ensures few { IfOk result (λ answers. (s : State) → StandsFor solver.old s →
-        HasFewStepsAlong calling S.stand W.taken s calls.items answers.items) }
+        HasFewStepsAlong by_state S.stand W.taken s calls.items answers.items) }
     ensures err { OnErr result (solver.new ≡ solver.old) }
 {
     solver.prove_journal();
@@ -135,10 +135,10 @@ pub fn answers_of<W: ProofTarget, S: ByteSource, A: Allocator + Copy>(
     calls: Vec<Call<W, S, A>, A>,
 ) -> Result<Vec<Answer<W, S, A>, A>, AllocError>
     requires { AreReady S.stand W.taken calls.items }
-    ensures run { IfOk result (λ answers. (t : State) × Run S.stand W.taken empty_state calls.items answers.items t × HasToldRight t) }
+    ensures run { IfOk result (λ answers. (t : State) × Run S.stand W.taken empty_state calls.items answers.items t × HasRightLog t) }
     ensures answers { IfOk result (λ answers. AreAnswered S.stand empty_story calls.items answers.items) }
     ensures truth { IfOk result (λ answers. AreTrue S.stand W.taken empty_past calls.items answers.items) }
-    ensures few { IfOk result (λ answers. HasFewStepsAlong telling S.stand W.taken empty_past calls.items answers.items) }
+    ensures few { IfOk result (λ answers. HasFewStepsAlong by_answers S.stand W.taken empty_past calls.items answers.items) }
 {
     let mut solver: Solver<W, A> = Solver::new_in(*calls.allocator());
     let answers = run(&mut solver, calls);

@@ -16,7 +16,7 @@ use Rattle.varisat_prop.proofs.LiteralValues.{variable-opposite}
 use Rattle.varisat_prop.proofs.ViewGrowth.{append-nil}
 use Rattle.varisat_analysis.specs.Flags.{IsFlagged}
 use Rattle.varisat_analysis.specs.Marks.{Marking}
-use Rattle.varisat_analysis.specs.Redundancy.{IsImplied, IsReasoned, count_unmarked, ListsNew, Explores, TellsRedundancy}
+use Rattle.varisat_analysis.specs.Redundancy.{IsImplied, IsReasoned, count_unmarked, ListsNew, Explores, FindsRedundancy}
 use Rattle.varisat_analysis.proofs.AnalysisMarks.{fresh-before, marked-old, marked-new, IsAt}
 use Rattle.varisat_analysis.proofs.WellFormedViews.{true-same, has-clause, inside-true, names-clause, causes-false}
 
@@ -251,7 +251,7 @@ module _ {s : View} {l : Literal} {x y : Marking} (w : WellFormed s) (a : Search
   search-listed {z = z} n k = listed-trans x y z n a.list (listed-from y z left k.list)
 
 pub search-found : {s : View} {l : Literal} {x y : Marking} (left : List Literal) → y.stack ≡ [] → Search s l x y →
-    TellsRedundancy s l true x (record y { stack = left })
+    FindsRedundancy s l true x (record y { stack = left })
 search-found {s = s} {l = l} left e a = record {
   list = record {
     more = a.list.more;
@@ -311,7 +311,7 @@ is-since {x = x} {y = y} {top = top} {vars = vars} a t e = record {
 pub since-cleared : {x y : Marking} {top : ℕ} {vars part : List ℕ} (s : View) (l : Literal) (flags : List Bool) (to_clean : List ℕ) →
     IsSince x y top vars part → to_clean ≡ take top y.to_clean → ((v : ℕ) → v ∈ part → get_or flags v false ≡ false) →
     ((v : ℕ) → (v ∈ part → ⊥) → get_or flags v false ≡ get_or y.flags v false) →
-    TellsRedundancy s l false x (record y { flags = flags; to_clean = to_clean })
+    FindsRedundancy s l false x (record y { flags = flags; to_clean = to_clean })
 since-cleared {x = x} {y = y} {part = part} s l flags to_clean b q gone rest = record {
   flags = same;
   to_clean = q ∙ ap (λ k. take k y.to_clean) b.top_is ∙ ap (λ k. take (length x.to_clean) k) a.longer ∙ take-front x.to_clean a.since;

@@ -60,6 +60,6 @@ pub record IsAsBefore (x y : Marking) : Type 0 where
   pub met : y.met ≡ x.met
 
 -- What the search for the literal's redundancy leaves, by its result.
-abbrev pub TellsRedundancy : View → Literal → Bool → Marking → Marking → Type 0
-TellsRedundancy s l true x y = IsRedundant s l x y
-TellsRedundancy s l false x y = IsAsBefore x y
+abbrev pub FindsRedundancy : View → Literal → Bool → Marking → Marking → Type 0
+FindsRedundancy s l true x y = IsRedundant s l x y
+FindsRedundancy s l false x y = IsAsBefore x y

@@ -8,7 +8,7 @@ ghost use Rattle.varisat_prop.specs.Changes.{IsConflicting};
 ghost use Rattle.varisat_analysis.specs.Learned.{no_analysis, names_of, Shows, IsLevelOf, IsLearned, AreInvolved};
 ghost use Rattle.varisat_analysis.specs.Marks.{Sees, CanMark, IsPassedOver, IsToMark, marking, MayBegin, MarksAreListed, Marks, AddsMarks, AddsReason, IsResolved, Minimizes, Teaches};
 ghost use Rattle.varisat_analysis.specs.Bumps.{literals_among, AreVariablesAbove};
-ghost use Rattle.varisat_analysis.specs.Redundancy.{Explores, TellsRedundancy};
+ghost use Rattle.varisat_analysis.specs.Redundancy.{Explores, FindsRedundancy};
 
 use crate::glue::LevelAbstraction;
 use std::alloc::{AllocError, Allocator};
@@ -295,7 +295,7 @@ fn is_redundant<A: Allocator + Copy>(
     ghost s: { View }
     requires can { CanMark s parts var_flags.old }
     requires falsified { opposite lit ∈ s.trail }
-    ensures { IfOk result (λ redundant. TellsRedundancy s lit redundant (marking scratch.old var_flags.old) (marking scratch.new var_flags.new)) }
+    ensures { IfOk result (λ redundant. FindsRedundancy s lit redundant (marking scratch.old var_flags.old) (marking scratch.new var_flags.new)) }
 {
     if parts.impl_graph.reason(lit.var()).is_unit() {
         return Ok(false);

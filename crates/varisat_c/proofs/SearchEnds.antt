@@ -6,5 +6,5 @@ use Rattle.varisat_client.specs.Clients.{Client, Moves}
 use Rattle.varisat_c.specs.Ends.{end_code, SearchesBy}
 
 -- it moves the past as the end says
-pub told-by : (end : SearchEnd) (code : ℕ) (g h : Client) → code ≡ end_code end → Moves (IsSearchEnd end) g h → Moves (SearchesBy code) g h
-told-by end code g h e moves = λ p st. let (q, searches, stands) = moves p st in (q, (end, e, searches), stands)
+pub returned-by : (end : SearchEnd) (code : ℕ) (g h : Client) → code ≡ end_code end → Moves (IsSearchEnd end) g h → Moves (SearchesBy code) g h
+returned-by end code g h e moves = λ p st. let (q, searches, stands) = moves p st in (q, (end, e, searches), stands)

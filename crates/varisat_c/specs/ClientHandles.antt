@@ -30,6 +30,6 @@ MovesHeld R (Some g) (Some h) = Moves R g h
 MovesHeld R _ _ = ⊥
 
 -- What is told holds of all that the client behind the handle stands for.
-abbrev pub TellsHeld : (Past → Type 0) → Option Client → Type 0
-TellsHeld P (Some g) = (p : Past) → StandsForPast g p → P p
-TellsHeld P None = ⊥
+abbrev pub IsTrueBehind : (Past → Type 0) → Option Client → Type 0
+IsTrueBehind P (Some g) = (p : Past) → StandsForPast g p → P p
+IsTrueBehind P None = ⊥

@@ -32,9 +32,9 @@ MovesHeld R (Some g) (Some h) = R g h
 MovesHeld R _ _ = ⊥
 
 -- What is told holds of the caller behind the handle.
-abbrev pub TellsHeld : (Caller → Type 0) → Option Caller → Type 0
-TellsHeld P (Some g) = P g
-TellsHeld P None = ⊥
+abbrev pub IsTrueBehind : (Caller → Type 0) → Option Caller → Type 0
+IsTrueBehind P (Some g) = P g
+IsTrueBehind P None = ⊥
 
 -- some assignment satisfies the accepted clauses and makes the assumptions true
 abbrev pub IsSatisfiableNow : Caller → Type 0

@@ -28,6 +28,6 @@ MovesHeld R (Some g) (Some h) = R g h
 MovesHeld R _ _ = ⊥
 
 -- What is told holds of the simplifier behind the handle.
-abbrev pub TellsHeld : (Simplifier → Type 0) → Option Simplifier → Type 0
-TellsHeld P (Some g) = P g
-TellsHeld P None = ⊥
+abbrev pub IsTrueBehind : (Simplifier → Type 0) → Option Simplifier → Type 0
+IsTrueBehind P (Some g) = P g
+IsTrueBehind P None = ⊥

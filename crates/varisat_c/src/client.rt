@@ -1,9 +1,9 @@
 //! A client of the solver for C programs: each call takes a handle, behind which a client stands.
 ghost use Rattle.std.specs.Prelude.{◌≡◌, ◌↔◌, Some, None, IsSome, IsTrue, IfSome};
-ghost use Rattle.varisat_client.specs.Pasts.{empty_past, AddsNumber, AssumesNumber, Begins, LimitsSteps, TellsValue, TellsFailed};
+ghost use Rattle.varisat_client.specs.Pasts.{empty_past, AddsNumber, AssumesNumber, Begins, LimitsSteps, ReturnsValue, ReturnsFailed};
 ghost use Rattle.varisat_client.specs.Clients.{StandsForPast};
 ghost use Rattle.varisat_c.specs.Ends.{SearchesBy, refusal_code};
-ghost use Rattle.varisat_c.specs.ClientHandles.{MovesHeld, TellsHeld};
+ghost use Rattle.varisat_c.specs.ClientHandles.{MovesHeld, IsTrueBehind};
 
 use crate::client_handle::ClientHandle;
 use crate::ends::{end_code, refusal_code};
@@ -97,7 +97,7 @@ pub extern "C" fn client_search(alloc: Global, handle: &mut ClientHandle) -> u8
 pub extern "C" fn client_value(alloc: Global, handle: &mut ClientHandle, number: i32) -> i32
     requires { IsSome handle.old.held }
     ensures same { handle.new.held ≡ handle.old.held }
-    ensures value { TellsHeld (TellsValue number result) handle.old.held }
+    ensures value { IsTrueBehind (ReturnsValue number result) handle.old.held }
 {
     let client = handle.take(alloc);
     let value = client.value(number);
@@ -110,7 +110,7 @@ pub extern "C" fn client_value(alloc: Global, handle: &mut ClientHandle, number:
 pub extern "C" fn client_has_failed(alloc: Global, handle: &mut ClientHandle, number: i32) -> bool
     requires { IsSome handle.old.held }
     ensures same { handle.new.held ≡ handle.old.held }
-    ensures failed { TellsHeld (TellsFailed number result) handle.old.held }
+    ensures failed { IsTrueBehind (ReturnsFailed number result) handle.old.held }
 {
     let client = handle.take(alloc);
     let failed = client.has_failed(number);
@@ -124,7 +124,7 @@ pub extern "C" fn client_has_failed(alloc: Global, handle: &mut ClientHandle, nu
 pub extern "C" fn client_refusal(alloc: Global, handle: &mut ClientHandle) -> u8
     requires { IsSome handle.old.held }
     ensures same { handle.new.held ≡ handle.old.held }
-    ensures refusal { TellsHeld (λ p. result ≡ refusal_code p.refusal) handle.old.held }
+    ensures refusal { IsTrueBehind (λ p. result ≡ refusal_code p.refusal) handle.old.held }
 {
     let client = handle.take(alloc);
     let refusal = client.refusal();

@@ -4,14 +4,14 @@
 
 ghost use Rattle.std.specs.Prelude.{◌≡◌, ◌↔◌, ◌≤◌, min, length, take, drop, Some, None, IsSome, IsTrue, IfSome};
 ghost use Rattle.varisat_solver.specs.Summaries.{StandsOnce};
-ghost use Rattle.varisat_solver.specs.Calls.{AddsClause, Assumes, TellsList, TellsSteps, TellsValid, calling};
+ghost use Rattle.varisat_solver.specs.Calls.{AddsClause, Assumes, ReturnsList, ReturnsSteps, ReturnsValid, by_state};
 ghost use Rattle.varisat_solver.specs.ProofCalls.{EnablesChecking};
 ghost use Rattle.varisat_calls.specs.Codes.{field_numbered, format_numbered, mode_numbered};
-ghost use Rattle.varisat_calls.specs.Callers.{IsNew, MakesNumbered, MakesOver, AddsNumber, LimitsSteps, Searches, SetsField, SetsMode, TellsOf, Shows, Opens, Closes};
-ghost use Rattle.varisat_calls.specs.Lookups.{TellsValue, TellsFailed};
+ghost use Rattle.varisat_calls.specs.Callers.{IsNew, MakesNumbered, MakesOver, AddsNumber, LimitsSteps, Searches, SetsField, SetsMode, ReturnsListOf, Shows, Opens, Closes};
+ghost use Rattle.varisat_calls.specs.Lookups.{ReturnsValue, ReturnsFailed};
 ghost use Rattle.varisat_calls.specs.Texts.{Feeds, IsRefutedText};
 ghost use Rattle.varisat_c.specs.Codes.{NamesBy, EndsBy};
-ghost use Rattle.varisat_c.specs.Handles.{MovesHeld, TellsHeld, IsSatisfiableNow, IsUnsatisfiableNow};
+ghost use Rattle.varisat_c.specs.Handles.{MovesHeld, IsTrueBehind, IsSatisfiableNow, IsUnsatisfiableNow};
 
 pub mod client;
 pub mod client_handle;
@@ -156,8 +156,8 @@ pub extern "C" fn caller_limit_steps(alloc: Global, handle: &mut Handle, steps: 
 pub extern "C" fn caller_solve(alloc: Global, handle: &mut Handle) -> u8
     requires { IsSome handle.old.held }
     ensures call { MovesHeld (λ g h. Searches g result h) handle.old.held handle.new.held }
-    ensures satisfiable { result ≡ 10 → TellsHeld IsSatisfiableNow handle.old.held }
-    ensures unsatisfiable { result ≡ 20 → TellsHeld IsUnsatisfiableNow handle.old.held }
+    ensures satisfiable { result ≡ 10 → IsTrueBehind IsSatisfiableNow handle.old.held }
+    ensures unsatisfiable { result ≡ 20 → IsTrueBehind IsUnsatisfiableNow handle.old.held }
 {
     let mut caller = handle.take(alloc);
     let answer = caller.solve();
@@ -193,7 +193,7 @@ pub extern "C" fn caller_set_mode(alloc: Global, handle: &mut Handle, variable: 
 #[unsafe(no_mangle)]
 pub extern "C" fn caller_model(alloc: Global, handle: &mut Handle) -> u8
     requires { IsSome handle.old.held }
-    ensures { MovesHeld (λ g h. TellsOf (λ s r t. TellsList (calling.model s) s r t) g result h) handle.old.held handle.new.held }
+    ensures { MovesHeld (λ g h. ReturnsListOf (λ s r t. ReturnsList (by_state.model s) s r t) g result h) handle.old.held handle.new.held }
 {
     let mut caller = handle.take(alloc);
     let answer = caller.model();
@@ -205,7 +205,7 @@ pub extern "C" fn caller_model(alloc: Global, handle: &mut Handle) -> u8
 #[unsafe(no_mangle)]
 pub extern "C" fn caller_core(alloc: Global, handle: &mut Handle) -> u8
     requires { IsSome handle.old.held }
-    ensures { MovesHeld (λ g h. TellsOf (λ s r t. TellsList (calling.core s) s r t) g result h) handle.old.held handle.new.held }
+    ensures { MovesHeld (λ g h. ReturnsListOf (λ s r t. ReturnsList (by_state.core s) s r t) g result h) handle.old.held handle.new.held }
 {
     let mut caller = handle.take(alloc);
     let answer = caller.core();
@@ -218,7 +218,7 @@ pub extern "C" fn caller_core(alloc: Global, handle: &mut Handle) -> u8
 #[unsafe(no_mangle)]
 pub extern "C" fn caller_value(alloc: Global, handle: &mut Handle, number: i32) -> u8
     requires { IsSome handle.old.held }
-    ensures { MovesHeld (λ g h. TellsValue number g result h) handle.old.held handle.new.held }
+    ensures { MovesHeld (λ g h. ReturnsValue number g result h) handle.old.held handle.new.held }
 {
     let mut caller = handle.take(alloc);
     let answer = caller.value(number);
@@ -230,7 +230,7 @@ pub extern "C" fn caller_value(alloc: Global, handle: &mut Handle, number: i32) 
 #[unsafe(no_mangle)]
 pub extern "C" fn caller_is_failed(alloc: Global, handle: &mut Handle, number: i32) -> u8
     requires { IsSome handle.old.held }
-    ensures { MovesHeld (λ g h. TellsFailed number g result h) handle.old.held handle.new.held }
+    ensures { MovesHeld (λ g h. ReturnsFailed number g result h) handle.old.held handle.new.held }
 {
     let mut caller = handle.take(alloc);
     let answer = caller.is_failed(number);
@@ -316,7 +316,7 @@ pub extern "C" fn caller_take_written(alloc: Global, handle: &mut Handle) -> usi
 pub extern "C" fn caller_steps(alloc: Global, handle: &mut Handle) -> u64
     requires { IsSome handle.old.held }
     ensures same { handle.new.held ≡ handle.old.held }
-    ensures steps { TellsHeld (λ g. StandsOnce g.solver (λ s t. TellsSteps s result t) g.solver) handle.old.held }
+    ensures steps { IsTrueBehind (λ g. StandsOnce g.solver (λ s t. ReturnsSteps s result t) g.solver) handle.old.held }
 {
     let caller = handle.take(alloc);
     let answer = caller.steps();
@@ -341,7 +341,7 @@ pub extern "C" fn caller_counter(alloc: Global, handle: &mut Handle, number: u8)
 pub extern "C" fn caller_is_valid(alloc: Global, handle: &mut Handle) -> bool
     requires { IsSome handle.old.held }
     ensures same { handle.new.held ≡ handle.old.held }
-    ensures valid { TellsHeld (λ g. StandsOnce g.solver (λ s t. TellsValid s result t) g.solver) handle.old.held }
+    ensures valid { IsTrueBehind (λ g. StandsOnce g.solver (λ s t. ReturnsValid s result t) g.solver) handle.old.held }
 {
     let caller = handle.take(alloc);
     let answer = caller.is_valid();
@@ -354,10 +354,10 @@ pub extern "C" fn caller_is_valid(alloc: Global, handle: &mut Handle) -> bool
 pub extern "C" fn caller_told_len(alloc: Global, handle: &mut Handle) -> usize
     requires { IsSome handle.old.held }
     ensures same { handle.new.held ≡ handle.old.held }
-    ensures count { TellsHeld (λ g. result ≡ length g.told) handle.old.held }
+    ensures count { IsTrueBehind (λ g. result ≡ length g.returned) handle.old.held }
 {
     let caller = handle.take(alloc);
-    let answer = caller.told().len();
+    let answer = caller.returned().len();
     handle.put(alloc, caller);
     answer
 }
@@ -367,11 +367,11 @@ pub extern "C" fn caller_told_len(alloc: Global, handle: &mut Handle) -> usize
 pub extern "C" fn caller_told_copy(alloc: Global, handle: &mut Handle, out: &mut [i32]) -> usize
     requires { IsSome handle.old.held }
     ensures same { handle.new.held ≡ handle.old.held }
-    ensures count { TellsHeld (λ g. result ≡ min (length g.told) (length out.new)) handle.old.held }
-    ensures copied { TellsHeld (λ g. take result out.new ≡ take result g.told) handle.old.held }
+    ensures count { IsTrueBehind (λ g. result ≡ min (length g.returned) (length out.new)) handle.old.held }
+    ensures copied { IsTrueBehind (λ g. take result out.new ≡ take result g.returned) handle.old.held }
 {
     let caller = handle.take(alloc);
-    let answer = copy_numbers(caller.told(), out);
+    let answer = copy_numbers(caller.returned(), out);
     handle.put(alloc, caller);
     answer
 }
@@ -418,7 +418,7 @@ pub extern "C" fn caller_check(
 ) -> u8
     ensures { result ≡ 20 → IsRefutedText text.now }
 {
-    let told = check_texts(alloc, format, text, proof);
-    *place = told.place;
-    told.number
+    let returned = check_texts(alloc, format, text, proof);
+    *place = returned.place;
+    returned.number
 }

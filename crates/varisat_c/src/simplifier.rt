@@ -1,7 +1,7 @@
 //! A simplifier of clauses for C programs: each call takes a handle, behind which a simplifier stands.
 ghost use Rattle.std.specs.Prelude.{◌≡◌, ◌↔◌, min, length, take, Some, None, IsSome, IsTrue, IfSome};
 ghost use Rattle.varisat_simplify_calls.specs.Simplifiers.{nothing_given, Adds, Freezes, Simplifies, ListsClauses, Extends};
-ghost use Rattle.varisat_c.specs.SimplifierHandles.{MovesHeld, TellsHeld};
+ghost use Rattle.varisat_c.specs.SimplifierHandles.{MovesHeld, IsTrueBehind};
 
 use crate::copy_numbers;
 use crate::simplifier_handle::SimplifierHandle;
@@ -110,7 +110,7 @@ pub extern "C" fn simplifier_extend(
 pub extern "C" fn simplifier_list_len(alloc: Global, handle: &mut SimplifierHandle) -> usize
     requires { IsSome handle.old.held }
     ensures same { handle.new.held ≡ handle.old.held }
-    ensures count { TellsHeld (λ g. result ≡ length g.list) handle.old.held }
+    ensures count { IsTrueBehind (λ g. result ≡ length g.list) handle.old.held }
 {
     let simplifier = handle.take(alloc);
     let answer = simplifier.list().len();
@@ -127,8 +127,8 @@ pub extern "C" fn simplifier_list_copy(
 ) -> usize
     requires { IsSome handle.old.held }
     ensures same { handle.new.held ≡ handle.old.held }
-    ensures count { TellsHeld (λ g. result ≡ min (length g.list) (length out.new)) handle.old.held }
-    ensures copied { TellsHeld (λ g. take result out.new ≡ take result g.list) handle.old.held }
+    ensures count { IsTrueBehind (λ g. result ≡ min (length g.list) (length out.new)) handle.old.held }
+    ensures copied { IsTrueBehind (λ g. take result out.new ≡ take result g.list) handle.old.held }
 {
     let simplifier = handle.take(alloc);
     let answer = copy_numbers(simplifier.list(), out);

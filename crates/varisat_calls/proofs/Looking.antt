@@ -7,7 +7,7 @@ use Rattle.varisat_literals.specs.Numbers.{literal_numbered}
 use Rattle.varisat_client.specs.LiteralSets.{IsSetOf}
 use Rattle.varisat_solver.specs.Summaries.{Summary}
 use Rattle.varisat_calls.specs.Callers.{Caller}
-use Rattle.varisat_calls.specs.Lookups.{Lookups, IsKept, IsModel, IsCore, IsValueIn, IsMember, TellsValue, TellsFailed, True, False, Unknown, Yes, No, Failed, Unfailed}
+use Rattle.varisat_calls.specs.Lookups.{Lookups, IsKept, IsModel, IsCore, IsValueIn, IsMember, ReturnsValue, ReturnsFailed, True, False, Unknown, Yes, No, Failed, Unfailed}
 use Rattle.varisat_calls.specs.declared.lookups.Kept.TheVariants as kept
 
 -- the core is kept
@@ -18,18 +18,18 @@ core-kept c g m k is set = record {
 }
 
 -- a literal is looked up in the set of the model's
-pub value-told : (number : ℤ) (g h : Caller) (flags : List Bool) (l : Literal) (n : ℕ) (m : List Literal) → IsModel g.solver m → IsSetOf m flags →
-    l ≡ literal_numbered number → IsValueIn flags l n → h ≡ g → TellsValue number g n h
-value-told number g h flags l n m is set e (True k f) same = True m is (subst (λ x. x ∈ m) e ((set l).0 f)) k same
-value-told number g h flags l n m is set e (False k f) same = False m is (subst (λ x. opposite x ∈ m) e ((set (opposite l)).0 f)) k same
-value-told number g h flags l n m is set e (Unknown k f r) same =
+pub value-returned : (number : ℤ) (g h : Caller) (flags : List Bool) (l : Literal) (n : ℕ) (m : List Literal) → IsModel g.solver m → IsSetOf m flags →
+    l ≡ literal_numbered number → IsValueIn flags l n → h ≡ g → ReturnsValue number g n h
+value-returned number g h flags l n m is set e (True k f) same = True m is (subst (λ x. x ∈ m) e ((set l).0 f)) k same
+value-returned number g h flags l n m is set e (False k f) same = False m is (subst (λ x. opposite x ∈ m) e ((set (opposite l)).0 f)) k same
+value-returned number g h flags l n m is set e (Unknown k f r) same =
     Unknown m is
     (λ i. f ((set l).1 (subst (λ x. x ∈ m) (sym e) i)))
     (λ i. r ((set (opposite l)).1 (subst (λ x. opposite x ∈ m) (sym e) i)))
     k same
 
 -- a literal is looked up in the set of the core's
-pub failed-told : (number : ℤ) (g h : Caller) (flags : List Bool) (l : Literal) (n : ℕ) (m : List Literal) → IsCore g.solver m → IsSetOf m flags →
-    l ≡ literal_numbered number → IsMember flags l n → h ≡ g → TellsFailed number g n h
-failed-told number g h flags l n m is set e (Yes k f) same = Failed m is (subst (λ x. x ∈ m) e ((set l).0 f)) k same
-failed-told number g h flags l n m is set e (No k f) same = Unfailed m is (λ i. f ((set l).1 (subst (λ x. x ∈ m) (sym e) i))) k same
+pub failed-returned : (number : ℤ) (g h : Caller) (flags : List Bool) (l : Literal) (n : ℕ) (m : List Literal) → IsCore g.solver m → IsSetOf m flags →
+    l ≡ literal_numbered number → IsMember flags l n → h ≡ g → ReturnsFailed number g n h
+failed-returned number g h flags l n m is set e (Yes k f) same = Failed m is (subst (λ x. x ∈ m) e ((set l).0 f)) k same
+failed-returned number g h flags l n m is set e (No k f) same = Unfailed m is (λ i. f ((set l).1 (subst (λ x. x ∈ m) (sym e) i))) k same

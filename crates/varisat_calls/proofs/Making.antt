@@ -13,16 +13,16 @@ use Rattle.varisat_names.specs.declared.variables.data.SamplingMode.{SamplingMod
 use Rattle.varisat_proof.specs.declared.proof.format.ProofFormat.{ProofFormat}
 use Rattle.varisat_solver.specs.States.{State}
 use Rattle.varisat_solver.specs.Summaries.{Summary, StandsFor, StandsOnce}
-use Rattle.varisat_solver.specs.Calls.{Solves, Configures, calling}
+use Rattle.varisat_solver.specs.Calls.{Solves, Configures, by_state}
 use Rattle.varisat_solver.specs.ClauseCalls.{AddsFormula}
 use Rattle.varisat_solver.specs.ProofCalls.{OpensProof}
 use Rattle.varisat_solver.specs.Usage.{ChangesMode}
 use Rattle.varisat_solver.specs.Refusals.{refusal_number}
 use Rattle.varisat_solver.specs.declared.solver.SolverError.TheVariants as error
 use Rattle.varisat_solver.specs.declared.solver.SolverError.{SolverError}
-use Rattle.varisat_calls.specs.Numbers.{told_numbers, told_names}
+use Rattle.varisat_calls.specs.Numbers.{returned_numbers, returned_names}
 use Rattle.varisat_calls.specs.Codes.{answer_number}
-use Rattle.varisat_calls.specs.Callers.{Answer, Caller, Makes, MakesNumbered, MakesOver, Made, over, SetsField, SetsMode, changing, TellsOf, Told, Shows, ShowsNames, NoRoom, Opens, Opened, Refused, opening, no_bytes}
+use Rattle.varisat_calls.specs.Callers.{Answer, Caller, Makes, MakesNumbered, MakesOver, Made, over, SetsField, SetsMode, changing, ReturnsListOf, Returned, Shows, ShowsNames, NoRoom, Opens, Opened, Refused, opening, no_bytes}
 use Rattle.varisat_calls.specs.Texts.{ReadsPiece, AddsClauses, AddsRead, GoesOn, without_clauses}
 
 -- 1. Calls with an answer.
@@ -68,21 +68,21 @@ mode-set variable found mode u g mid h n answer is positive named number same ma
 -- 2. Lists that are told.
 
 -- the list is told that the solver told
-pub list-told : (R : State → Result (Option (List Literal)) AllocError → State → Type 0) (g h : Caller) (list : List Literal) →
-    StandsOnce g.solver (λ s t. R s (Ok (Some list)) t) h.solver → h.told ≡ told_numbers list → h ≡ record g { told = h.told } →
-    TellsOf R g 0 h
-list-told R g h list call told rest =
-    Told list refl call (rest ∙ ap (λ ts. let made : Caller = record g { told = ts } in made) told)
+pub list-returned : (R : State → Result (Option (List Literal)) AllocError → State → Type 0) (g h : Caller) (list : List Literal) →
+    StandsOnce g.solver (λ s t. R s (Ok (Some list)) t) h.solver → h.returned ≡ returned_numbers list → h ≡ record g { returned = h.returned } →
+    ReturnsListOf R g 0 h
+list-returned R g h list call returned rest =
+    Returned list refl call (rest ∙ ap (λ ts. let made : Caller = record g { returned = ts } in made) returned)
 
 -- the names are told under which hidden variables came back
-pub names-told : (g h : Caller) (us : List ℕ) → ShowsNames us g h → h.told ≡ told_names us →
-    h ≡ record g { solver = h.solver; told = h.told } → Shows g 0 h
-names-told g h us shows told rest =
-    Told us refl shows (rest ∙ ap (λ ts. let made : Caller = record g { solver = h.solver; told = ts } in made) told)
+pub names-returned : (g h : Caller) (us : List ℕ) → ShowsNames us g h → h.returned ≡ returned_names us →
+    h ≡ record g { solver = h.solver; returned = h.returned } → Shows g 0 h
+names-returned g h us shows returned rest =
+    Returned us refl shows (rest ∙ ap (λ ts. let made : Caller = record g { solver = h.solver; returned = ts } in made) returned)
 
 -- or there was no room for them
 pub no-room : (g mid h : Caller) (us : List ℕ) (n : ℕ) → n ≡ 3 → h ≡ mid → ShowsNames us g mid →
-    mid ≡ record g { solver = mid.solver; told = mid.told } → Shows g n h
+    mid ≡ record g { solver = mid.solver; returned = mid.returned } → Shows g n h
 no-room g mid h us n number same shows rest = subst (λ x. Shows g n x) (sym same) (NoRoom us number shows rest)
 
 -- 3. Proofs.
@@ -159,7 +159,7 @@ text-goes-on read left g mid last h taken adds fine behind rest =
 -- 5. Searches.
 
 -- `solve` is never refused by the number of an answer
-pub never-ten : (g h : Summary) (e : SolverError) → refusal_number e ≡ 10 → StandsOnce g (λ s t. Solves calling s (Err e) t) h → (s : State) → StandsFor g s → ⊥
+pub never-ten : (g h : Summary) (e : SolverError) → refusal_number e ≡ 10 → StandsOnce g (λ s t. Solves by_state s (Err e) t) h → (s : State) → StandsFor g s → ⊥
 never-ten g h error.Interrupted n call s st = absurd cc
 never-ten g h (error.ProofIoError x) n call s st = absurd cc
 never-ten g h error.OutOfMemory n call s st = absurd cc

@@ -15,11 +15,11 @@ use Rattle.varisat_proof.specs.declared.proof.format.ProofFormat.{ProofFormat}
 use Rattle.varisat_solver.specs.States.{State, empty_state}
 use Rattle.varisat_solver.specs.Summaries.{Summary, StandsFor, StandsOnce}
 use Rattle.varisat_solver.specs.Refusals.{refusal_number}
-use Rattle.varisat_solver.specs.Calls.{AddsClause, Solves, Configures, MakesVar, with_max_steps, calling}
+use Rattle.varisat_solver.specs.Calls.{AddsClause, Solves, Configures, MakesVar, with_max_steps, by_state}
 use Rattle.varisat_solver.specs.Usage.{ChangesMode, Observes}
 use Rattle.varisat_solver.specs.ProofCalls.{OpensProof, ClosesProof}
 use Rattle.varisat_solver.specs.declared.solver.SolverError.{SolverError}
-use Rattle.varisat_calls.specs.Numbers.{told_numbers, told_names}
+use Rattle.varisat_calls.specs.Numbers.{returned_numbers, returned_names}
 use Rattle.varisat_calls.specs.Codes.{answer_number, verdict_number, numbered}
 
 -- The solver; what was given of the clause that is given a literal at a time, unless one of its literals found no memory; the numbers
@@ -27,7 +27,7 @@ use Rattle.varisat_calls.specs.Codes.{answer_number, verdict_number, numbered}
 pub record Caller : Type 0 where
   pub solver : Summary
   pub clause : Option (List Literal)
-  pub told : List ℤ
+  pub returned : List ℤ
   pub text : Option Progress
 
 -- the clause, unless a literal of it is lost
@@ -39,7 +39,7 @@ clause_of false c = Some c
 pub record IsNew (g : Caller) : Type 0 where
   pub solver : StandsFor g.solver empty_state
   pub clause : g.clause ≡ Some []
-  pub told : g.told ≡ []
+  pub returned : g.returned ≡ []
   pub text : g.text ≡ None
 
 -- what a call answers that has nothing to tell but whether it was refused
@@ -91,7 +91,7 @@ pub record LimitsSteps (steps : ℕ) (g h : Caller) : Type 0 where
 
 -- the solver searched
 abbrev pub Searches : Caller → ℕ → Caller → Type 0
-Searches g n h = (answer : Result Bool SolverError) × (n ≡ verdict_number answer) × Makes (Solves calling) g answer h
+Searches g n h = (answer : Result Bool SolverError) × (n ≡ verdict_number answer) × Makes (Solves by_state) g answer h
 
 -- the least free variable came into use
 abbrev pub NamesNew : Caller → Result ℕ ℕ → Caller → Type 0
@@ -113,12 +113,12 @@ pub data SetsMode (variable : ℤ) (mode : Option SamplingMode) (g : Caller) (n 
       SetsMode variable mode g n h
 
 -- The list is told that the solver tells, if it does. It is 3 where there was no room for the list, and then another one may be told.
-pub data TellsOf (R : State → Result (Option (List Literal)) AllocError → State → Type 0) (g : Caller)
+pub data ReturnsListOf (R : State → Result (Option (List Literal)) AllocError → State → Type 0) (g : Caller)
     (n : ℕ) (h : Caller) : Type 0 where
-  Told : (list : List Literal) → n ≡ 0 → StandsOnce g.solver (λ s t. R s (Ok (Some list)) t) h.solver →
-      h ≡ record g { told = told_numbers list } → TellsOf R g n h
-  Nothing : n ≡ 15 → StandsOnce g.solver (λ s t. R s (Ok None) t) h.solver → h ≡ g → TellsOf R g n h
-  NoRoom : n ≡ 3 → h ≡ record g { told = h.told } → TellsOf R g n h
+  Returned : (list : List Literal) → n ≡ 0 → StandsOnce g.solver (λ s t. R s (Ok (Some list)) t) h.solver →
+      h ≡ record g { returned = returned_numbers list } → ReturnsListOf R g n h
+  Nothing : n ≡ 15 → StandsOnce g.solver (λ s t. R s (Ok None) t) h.solver → h ≡ g → ReturnsListOf R g n h
+  NoRoom : n ≡ 3 → h ≡ record g { returned = h.returned } → ReturnsListOf R g n h
 
 -- hidden variables come back under these names
 abbrev pub ShowsNames : List ℕ → Caller → Caller → Type 0
@@ -126,10 +126,10 @@ ShowsNames us g h = StandsOnce g.solver (λ s t. Observes s (Ok us) t) h.solver
 
 -- Hidden variables come back, and their names are told, or there is no room for that; or the call is refused.
 pub data Shows (g : Caller) (n : ℕ) (h : Caller) : Type 0 where
-  Told : (us : List ℕ) → n ≡ 0 → ShowsNames us g h →
-      h ≡ record g { solver = h.solver; told = told_names us } → Shows g n h
+  Returned : (us : List ℕ) → n ≡ 0 → ShowsNames us g h →
+      h ≡ record g { solver = h.solver; returned = returned_names us } → Shows g n h
   NoRoom : (us : List ℕ) → n ≡ 3 → ShowsNames us g h →
-      h ≡ record g { solver = h.solver; told = h.told } → Shows g n h
+      h ≡ record g { solver = h.solver; returned = h.returned } → Shows g n h
   Refused : (e : SolverError) → n ≡ refusal_number e → Makes Observes g (Err e) h → Shows g n h
 
 -- before a proof a target has no bytes

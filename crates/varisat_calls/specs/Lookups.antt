@@ -7,17 +7,17 @@ use Rattle.varisat_literals.specs.Numbers.{literal_numbered}
 use Rattle.varisat_client.specs.LiteralSets.{Has, IsSetOf}
 use Rattle.varisat_solver.specs.States.{State}
 use Rattle.varisat_solver.specs.Summaries.{Summary, StandsOnce}
-use Rattle.varisat_solver.specs.Calls.{TellsList, calling}
+use Rattle.varisat_solver.specs.Calls.{ReturnsList, by_state}
 use Rattle.varisat_calls.specs.Callers.{Caller, IsWrong}
 use Rattle.varisat_calls.specs.declared.lookups.Kept.{Kept}
 use Rattle.varisat_calls.specs.declared.lookups.Kept.TheVariants as kept
 
 -- what `model` and `failed_core` of the solver may answer
 abbrev pub TellsModel : State → Result (Option (List Literal)) AllocError → State → Type 0
-TellsModel s r t = TellsList (calling.model s) s r t
+TellsModel s r t = ReturnsList (by_state.model s) s r t
 
 abbrev pub TellsCore : State → Result (Option (List Literal)) AllocError → State → Type 0
-TellsCore s r t = TellsList (calling.core s) s r t
+TellsCore s r t = ReturnsList (by_state.core s) s r t
 
 -- the list is the one that `model` tells, or there is none
 abbrev pub IsModel : Summary → List Literal → Type 0
@@ -61,15 +61,15 @@ pub data FindsNone (none : Summary → Type 0) (number : ℤ) (g : Caller) (n : 
   NoRoom : n ≡ 3 → h ≡ g → FindsNone none number g n h
 
 -- Whether the literal of the number is true in the model: 1 and 0, and 15 where the model has no such variable.
-pub data TellsValue (number : ℤ) (g : Caller) (n : ℕ) (h : Caller) : Type 0 where
-  True : (m : List Literal) → IsModel g.solver m → literal_numbered number ∈ m → n ≡ 1 → h ≡ g → TellsValue number g n h
-  False : (m : List Literal) → IsModel g.solver m → opposite (literal_numbered number) ∈ m → n ≡ 0 → h ≡ g → TellsValue number g n h
+pub data ReturnsValue (number : ℤ) (g : Caller) (n : ℕ) (h : Caller) : Type 0 where
+  True : (m : List Literal) → IsModel g.solver m → literal_numbered number ∈ m → n ≡ 1 → h ≡ g → ReturnsValue number g n h
+  False : (m : List Literal) → IsModel g.solver m → opposite (literal_numbered number) ∈ m → n ≡ 0 → h ≡ g → ReturnsValue number g n h
   Unknown : (m : List Literal) → IsModel g.solver m → (literal_numbered number ∈ m → ⊥) → (opposite (literal_numbered number) ∈ m → ⊥) →
-      n ≡ 15 → h ≡ g → TellsValue number g n h
-  Unfound : FindsNone HasNoModel number g n h → TellsValue number g n h
+      n ≡ 15 → h ≡ g → ReturnsValue number g n h
+  Unfound : FindsNone HasNoModel number g n h → ReturnsValue number g n h
 
 -- Whether the literal of the number is one of the core: 1 and 0.
-pub data TellsFailed (number : ℤ) (g : Caller) (n : ℕ) (h : Caller) : Type 0 where
-  Failed : (m : List Literal) → IsCore g.solver m → literal_numbered number ∈ m → n ≡ 1 → h ≡ g → TellsFailed number g n h
-  Unfailed : (m : List Literal) → IsCore g.solver m → (literal_numbered number ∈ m → ⊥) → n ≡ 0 → h ≡ g → TellsFailed number g n h
-  Unfound : FindsNone HasNoCore number g n h → TellsFailed number g n h
+pub data ReturnsFailed (number : ℤ) (g : Caller) (n : ℕ) (h : Caller) : Type 0 where
+  Failed : (m : List Literal) → IsCore g.solver m → literal_numbered number ∈ m → n ≡ 1 → h ≡ g → ReturnsFailed number g n h
+  Unfailed : (m : List Literal) → IsCore g.solver m → (literal_numbered number ∈ m → ⊥) → n ≡ 0 → h ≡ g → ReturnsFailed number g n h
+  Unfound : FindsNone HasNoCore number g n h → ReturnsFailed number g n h

@@ -4,13 +4,13 @@ use Rattle.varisat_theory.specs.Literals.{Literal, literal_of}
 use Rattle.varisat_literals.specs.Numbers.{literal_number}
 
 -- A literal's number. That of the last variable of all is 2^31, which such a number can't be: it is told as 0, and no solver has it.
-abbrev pub told_number : Literal → ℤ
-told_number l = if nat_eq l (2 ^ 32 - 2) then pos 0 else literal_number l
+abbrev pub returned_number : Literal → ℤ
+returned_number l = if nat_eq l (2 ^ 32 - 2) then pos 0 else literal_number l
 
 -- the numbers of a list
-abbrev pub told_numbers : List Literal → List ℤ
-told_numbers ls = map told_number ls
+abbrev pub returned_numbers : List Literal → List ℤ
+returned_numbers ls = map returned_number ls
 
 -- the numbers of the variables of a list
-abbrev pub told_names : List ℕ → List ℤ
-told_names us = map (λ u. told_number (literal_of u true)) us
+abbrev pub returned_names : List ℕ → List ℤ
+returned_names us = map (λ u. returned_number (literal_of u true)) us

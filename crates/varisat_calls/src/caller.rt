@@ -6,7 +6,7 @@ ghost use Rattle.varisat_calls.specs.Codes.{answer_number};
 
 use crate::codes::{DONE, NOTHING, WRONG, field_of, format_of, mode_of};
 use crate::lookups::Lookups;
-use crate::numbers::{literal_of, put_number, read_numbers, tell_names, tell_numbers};
+use crate::numbers::{literal_of, put_number, read_numbers, list_names, list_numbers};
 use crate::stream::{self, Lines, StreamTarget};
 use std::alloc::Allocator;
 use std::marker::Model;
@@ -38,7 +38,7 @@ pub struct Caller<A: Allocator + Copy> {
     given: Vec<Lit, A>,
     lookups: Lookups<A>,
     // The list that was told last.
-    told: Vec<i32, A>,
+    returned: Vec<i32, A>,
     // The DIMACS text that is being given, if one is.
     text: Option<DimacsParser<A>>,
     // What an open proof wrote and was not taken out yet.
@@ -57,7 +57,7 @@ impl<A: Allocator + Copy> Model for Caller<A> {
     ghost view = { λ c. record {
       solver = c.solver;
       clause = callers.clause_of c.is_lost c.clause.items;
-      told = c.told.items;
+      returned = c.returned.items;
       text = c.text;
     } };
 
@@ -68,13 +68,13 @@ impl<A: Allocator + Copy> Caller<A> {
     ghost use Rattle.std.specs.Prelude.{Ok, Err};
     ghost use Rattle.varisat_solver.specs.States.{State};
     ghost use Rattle.varisat_solver.specs.Summaries.{StandsFor, StandsOnce};
-    ghost use Rattle.varisat_solver.specs.Calls.{AddsClause, Assumes, TellsList, TellsSteps, TellsValid, calling};
+    ghost use Rattle.varisat_solver.specs.Calls.{AddsClause, Assumes, ReturnsList, ReturnsSteps, ReturnsValid, by_state};
     ghost use Rattle.varisat_solver.specs.ProofCalls.{EnablesChecking};
     ghost use Rattle.varisat_solver.specs.Usage.{ChangesMode};
     ghost use Rattle.varisat_theory.specs.Literals.{IsSatisfiableWith};
     ghost use Rattle.varisat_calls.specs.Codes.{field_numbered, format_numbered, mode_numbered};
-    ghost use Rattle.varisat_calls.specs.Callers.{IsNew, Makes, MakesNumbered, MakesOver, AddsNumber, LimitsSteps, Searches, NamesNew, SetsField, SetsMode, TellsOf, Shows, Opens, Closes};
-    ghost use Rattle.varisat_calls.specs.Lookups.{TellsValue, TellsFailed};
+    ghost use Rattle.varisat_calls.specs.Callers.{IsNew, Makes, MakesNumbered, MakesOver, AddsNumber, LimitsSteps, Searches, NamesNew, SetsField, SetsMode, ReturnsListOf, Shows, Opens, Closes};
+    ghost use Rattle.varisat_calls.specs.Lookups.{ReturnsValue, ReturnsFailed};
     ghost use Rattle.varisat_calls.specs.Texts.{text_of, without_clauses, AddsClauses, Feeds, EndsText};
 
     /// A caller with a new solver. It takes no memory.
@@ -88,7 +88,7 @@ impl<A: Allocator + Copy> Caller<A> {
             is_lost: false,
             given: Vec::new(alloc),
             lookups: Lookups::new_in(alloc),
-            told: Vec::new(alloc),
+            returned: Vec::new(alloc),
             text: None,
             lines: None,
             written: Vec::new(alloc),
@@ -245,10 +245,10 @@ impl<A: Allocator + Copy> Caller<A> {
 
     /// Tells the model, or 15 where there is none.
     pub fn model(&mut self) -> u8
-        ensures { TellsOf (λ s r t. TellsList (calling.model s) s r t) self.old result self.new }
+        ensures { ReturnsListOf (λ s r t. ReturnsList (by_state.model s) s r t) self.old result self.new }
     {
         match self.solver.model() {
-            Ok(Some(lits)) => match tell_numbers(&mut self.told, &lits) {
+            Ok(Some(lits)) => match list_numbers(&mut self.returned, &lits) {
                 Ok(()) => DONE,
                 Err(_) => self.refuse(SolverError::OutOfMemory),
             },
@@ -259,10 +259,10 @@ impl<A: Allocator + Copy> Caller<A> {
 
     /// Tells the core, or 15 where there is none.
     pub fn core(&mut self) -> u8
-        ensures { TellsOf (λ s r t. TellsList (calling.core s) s r t) self.old result self.new }
+        ensures { ReturnsListOf (λ s r t. ReturnsList (by_state.core s) s r t) self.old result self.new }
     {
         match self.solver.failed_core() {
-            Some(core) => match tell_numbers(&mut self.told, core) {
+            Some(core) => match list_numbers(&mut self.returned, core) {
                 Ok(()) => DONE,
                 Err(_) => self.refuse(SolverError::OutOfMemory),
             },
@@ -273,7 +273,7 @@ impl<A: Allocator + Copy> Caller<A> {
     /// 1 where the literal of the number is true in the model, 0 where it is false, 15 where there is no model or it has no
     /// such variable.
     pub fn value(&mut self, number: i32) -> u8
-        ensures { TellsValue number self.old result self.new }
+        ensures { ReturnsValue number self.old result self.new }
     {
         if number == 0 {
             return WRONG;
@@ -287,7 +287,7 @@ impl<A: Allocator + Copy> Caller<A> {
 
     /// 1 where the literal of the number is one of the core, 0 where it is not, 15 where there is no core.
     pub fn is_failed(&mut self, number: i32) -> u8
-        ensures { TellsFailed number self.old result self.new }
+        ensures { ReturnsFailed number self.old result self.new }
     {
         if number == 0 {
             return WRONG;
@@ -305,7 +305,7 @@ impl<A: Allocator + Copy> Caller<A> {
     {
         self.lookups.forget();
         match self.solver.observe_internal_vars() {
-            Ok(vars) => match tell_names(&mut self.told, &vars) {
+            Ok(vars) => match list_names(&mut self.returned, &vars) {
                 Ok(()) => DONE,
                 Err(_) => self.refuse(SolverError::OutOfMemory),
             },
@@ -314,10 +314,10 @@ impl<A: Allocator + Copy> Caller<A> {
     }
 
     /// The list that was told last.
-    pub fn told(&self) -> &[i32]
-        ensures { result.now ≡ self.now.told }
+    pub fn returned(&self) -> &[i32]
+        ensures { result.now ≡ self.now.returned }
     {
-        &self.told
+        &self.returned
     }
 
     /// Sets the setting of this number.
@@ -334,7 +334,7 @@ impl<A: Allocator + Copy> Caller<A> {
 
     /// All steps made.
     pub fn steps(&self) -> u64
-        ensures { StandsOnce self.now.solver (λ s t. TellsSteps s result t) self.now.solver }
+        ensures { StandsOnce self.now.solver (λ s t. ReturnsSteps s result t) self.now.solver }
     {
         self.solver.steps()
     }
@@ -356,7 +356,7 @@ impl<A: Allocator + Copy> Caller<A> {
 
     /// Whether no refusal came from which there is no way back.
     pub fn is_valid(&self) -> bool
-        ensures { StandsOnce self.now.solver (λ s t. TellsValid s result t) self.now.solver }
+        ensures { StandsOnce self.now.solver (λ s t. ReturnsValid s result t) self.now.solver }
     {
         self.solver.is_valid()
     }

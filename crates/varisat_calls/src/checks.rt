@@ -28,13 +28,13 @@ pub const OTHER_CLAUSE: u8 = 17;
 
 /// What a check tells: a number, and the line of the proof, its byte or the line of the text that is wrong.
 #[derive(Clone, Copy)]
-pub struct Told {
+pub struct Returned {
     pub number: u8,
     pub place: u64,
 }
 
 /// What a refusal tells.
-fn told_error(error: &CheckerError) -> Told
+fn returned_error(error: &CheckerError) -> Returned
     ensures { result.number ≢ 20 }
 {
     let (number, place) = match error {
@@ -45,18 +45,18 @@ fn told_error(error: &CheckerError) -> Told
         CheckerError::Dimacs { cause } => (13, cause.line),
         CheckerError::Io { .. } | CheckerError::OutOfMemory | CheckerError::Spent => (3, 0),
     };
-    Told { number, place }
+    Returned { number, place }
 }
 
 /// What the end of a proof tells.
-fn told_verdict(verdict: CheckVerdict) -> Told
+fn returned_verdict(verdict: CheckVerdict) -> Returned
     ensures { result.number ≡ 20 → verdict ≡ Refutation }
 {
     let number = match verdict {
         CheckVerdict::Refutation => REFUTATION,
         CheckVerdict::Derivation => DERIVATION,
     };
-    Told { number, place: 0 }
+    Returned { number, place: 0 }
 }
 
 /// Adds the clauses of the text to a new checker.
@@ -86,21 +86,21 @@ fn check_marked<A: Allocator + Copy>(
     checker: &mut Checker<A>,
     given: &Checker<A>,
     proof: &[u8],
-) -> Told
+) -> Returned
     requires new { checker.old ≡ record { clauses = []; spent = false } }
     ensures { result.number ≡ 20 → IsSatisfiable given.now.clauses → ⊥ }
 {
     match checker.check_marked(&mut CutSource::new(proof)) {
         Ok(report) => {
             if !are_given(given, &report.inputs) {
-                return Told {
+                return Returned {
                     number: OTHER_CLAUSE,
                     place: 0,
                 };
             }
-            told_verdict(report.verdict)
+            returned_verdict(report.verdict)
         }
-        Err(error) => told_error(&error),
+        Err(error) => returned_error(&error),
     }
 }
 
@@ -110,13 +110,13 @@ fn check_drat<A: Allocator + Copy>(
     checker: &mut Checker<A>,
     format: ProofFormat,
     proof: &[u8],
-) -> Told
+) -> Returned
     ensures { result.number ≡ 20 → IsSatisfiable checker.old.clauses → ⊥ }
 {
     let mut counts = DratCounts::new();
     match checker.check_drat(&mut CutSource::new(proof), format, &mut counts) {
-        Ok(verdict) => told_verdict(verdict),
-        Err(error) => told_error(&error),
+        Ok(verdict) => returned_verdict(verdict),
+        Err(error) => returned_error(&error),
     }
 }
 
@@ -127,14 +127,14 @@ fn check_with<A: Allocator + Copy>(
     format: ProofFormat,
     text: &[u8],
     proof: &[u8],
-) -> Told
+) -> Returned
     requires given_new { given.old ≡ record { clauses = []; spent = false } }
     requires checker_new { checker.old ≡ record { clauses = []; spent = false } }
     ensures { result.number ≡ 20 → IsRefutedText text.now }
 {
     match add_text(given, text) {
         Ok(()) => {}
-        Err(error) => return told_error(&error),
+        Err(error) => return returned_error(&error),
     }
     match format {
         ProofFormat::Marked => check_marked(checker, given, proof),
@@ -143,19 +143,19 @@ fn check_with<A: Allocator + Copy>(
 }
 
 /// Checks the proof, in the format of this number, against the clauses of the text.
-pub fn check_texts<A: Allocator + Copy>(alloc: A, format: u8, text: &[u8], proof: &[u8]) -> Told
+pub fn check_texts<A: Allocator + Copy>(alloc: A, format: u8, text: &[u8], proof: &[u8]) -> Returned
     ensures { result.number ≡ 20 → IsRefutedText text.now }
 {
     let Some(format) = format_of(format) else {
-        return Told {
+        return Returned {
             number: WRONG,
             place: 0,
         };
     };
     let mut given = Checker::new_in(alloc);
     let mut checker = Checker::new_in(alloc);
-    let told = check_with(&mut given, &mut checker, format, text, proof);
+    let returned = check_with(&mut given, &mut checker, format, text, proof);
     drop(checker);
     drop(given);
-    told
+    returned
 }

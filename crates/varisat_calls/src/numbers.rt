@@ -2,7 +2,7 @@
 ghost use Rattle.std.specs.Prelude.{◌≡◌, ◌≢◌, ◌∷◌, ◌++◌, [], pos, map, true, false, Ok, OnOk};
 ghost use Rattle.varisat_theory.specs.Membership.{◌∈◌};
 ghost use Rattle.varisat_literals.specs.Numbers.{literal_numbered};
-ghost use Rattle.varisat_calls.specs.Numbers.{told_number, told_numbers, told_names};
+ghost use Rattle.varisat_calls.specs.Numbers.{returned_number, returned_numbers, returned_names};
 
 use std::alloc::{AllocError, Allocator};
 use varisat_literals::{Lit, Var};
@@ -48,7 +48,7 @@ pub fn read_numbers<A: Allocator + Copy>(
 
 /// The number of the literal.
 fn number_of(lit: Lit) -> i32
-    ensures { result ≡ told_number lit }
+    ensures { result ≡ returned_number lit }
 {
     match i32::try_from(lit.to_dimacs()) {
         Ok(number) => number,
@@ -57,29 +57,29 @@ fn number_of(lit: Lit) -> i32
 }
 
 /// Puts the numbers of the literals in place of those before.
-pub fn tell_numbers<A: Allocator + Copy>(
-    told: &mut Vec<i32, A>,
+pub fn list_numbers<A: Allocator + Copy>(
+    returned: &mut Vec<i32, A>,
     lits: &[Lit],
 ) -> Result<(), AllocError>
-    ensures { OnOk result (told.new.items ≡ told_numbers lits.now) }
+    ensures { OnOk result (returned.new.items ≡ returned_numbers lits.now) }
 {
-    told.clear();
+    returned.clear();
     for &lit in lits {
-        told.push(number_of(lit))?;
+        returned.push(number_of(lit))?;
     }
     Ok(())
 }
 
 /// Puts the numbers of the variables in place of those before.
-pub fn tell_names<A: Allocator + Copy>(
-    told: &mut Vec<i32, A>,
+pub fn list_names<A: Allocator + Copy>(
+    returned: &mut Vec<i32, A>,
     vars: &[Var],
 ) -> Result<(), AllocError>
-    ensures { OnOk result (told.new.items ≡ told_names vars.now) }
+    ensures { OnOk result (returned.new.items ≡ returned_names vars.now) }
 {
-    told.clear();
+    returned.clear();
     for &var in vars {
-        told.push(number_of(var.positive()))?;
+        returned.push(number_of(var.positive()))?;
     }
     Ok(())
 }

@@ -22,7 +22,7 @@ use varisat::io::{IoTarget, ProofTarget, ReadSource};
 use varisat::line::parse_number;
 use varisat::program::{
     STATUS_DONE, STATUS_FAULT, SolveOptions, check_drat_lines, check_lines, session_lines,
-    tell_fault, tell_usage,
+    print_fault, print_usage,
 };
 use varisat::proof::ProofFormat;
 use varisat::solver::SolverError;
@@ -38,9 +38,9 @@ fn run(rt: &HostRuntime) -> u8 {
     match read_words(rt) {
         Ok(words) => match run_words(rt, words.as_slice()) {
             Some(status) => status,
-            None => tell_usage(&mut err),
+            None => print_usage(&mut err),
         },
-        Err(error) => tell_words(&mut err, &error),
+        Err(error) => print_bad_words(&mut err, &error),
     }
 }
 
@@ -48,13 +48,13 @@ fn run(rt: &HostRuntime) -> u8 {
 const NOT_UTF8: &str = "a word of the command line is not UTF-8";
 
 // Tells why the command line cannot be read, and gives the status for it.
-fn tell_words<E: Write>(err: &mut E, error: &io::Error) -> u8
+fn print_bad_words<E: Write>(err: &mut E, error: &io::Error) -> u8
     ensures { result ≡ fault_status }
 {
     if error.kind() == ErrorKind::InvalidData {
-        tell_fault(err, &NOT_UTF8)
+        print_fault(err, &NOT_UTF8)
     } else {
-        tell_fault(err, error)
+        print_fault(err, error)
     }
 }
 
@@ -114,7 +114,7 @@ fn print(rt: &HostRuntime, text: &str) -> u8 {
     let mut err = rt.stderr();
     match print_text(&mut io::writer(rt), text) {
         Ok(()) => STATUS_DONE,
-        Err(error) => tell_fault(&mut err, &error),
+        Err(error) => print_fault(&mut err, &error),
     }
 }
 
@@ -273,7 +273,7 @@ fn session(rt: &HostRuntime) -> u8 {
     let mut err = rt.stderr();
     match BufWriter::new(rt.alloc(), io::writer(rt)) {
         Ok(mut out) => session_lines(rt.alloc(), rt.reader(), &mut out, &mut err),
-        Err(error) => tell_fault(&mut err, &error),
+        Err(error) => print_fault(&mut err, &error),
     }
 }
 
@@ -301,7 +301,7 @@ fn solve(rt: &HostRuntime, path: &str, words: &SolveWords<'_>) -> u8 {
             let found = cnf.metadata().ok();
             solve_from(rt, cnf, found, words)
         }
-        Err(error) => tell_file(&mut err, path, &error),
+        Err(error) => print_file_fault(&mut err, path, &error),
     }
 }
 
@@ -315,11 +315,11 @@ fn solve_from<R: Read + Drop>(
     let mut err = rt.stderr();
     let proof_path = words.proof.unwrap_or("");
     if is_written_over(rt, found, words.proof) {
-        return tell_file(&mut err, proof_path, &SAME_FILE);
+        return print_file_fault(&mut err, proof_path, &SAME_FILE);
     }
     match create_target(rt, words.proof) {
         Ok(mut proof) => decide_from(rt, cnf, &mut proof, words),
-        Err(error) => tell_file(&mut err, proof_path, &error),
+        Err(error) => print_file_fault(&mut err, proof_path, &error),
     }
 }
 
@@ -343,7 +343,7 @@ fn decide_from<R: Read + Drop>(
             &mut IoTarget::new(out),
             &mut err,
         ),
-        Err(error) => tell_fault(&mut err, &error),
+        Err(error) => print_fault(&mut err, &error),
     }
 }
 
@@ -413,7 +413,7 @@ fn decide_text<R: Read + Drop, T: ProofTarget, E: Write>(
         None => solve_lines(rt.alloc(), cnf, proof, options, rt, out, err),
         Some(size) => match LocalHeap::new(rt.alloc(), size) {
             Ok(heap) => solve_lines(&heap, cnf, proof, options, rt, out, err),
-            Err(_) => tell_fault(err, &SolverError::OutOfMemory),
+            Err(_) => print_fault(err, &SolverError::OutOfMemory),
         },
     }
 }
@@ -426,7 +426,7 @@ fn check(rt: &HostRuntime, words: &CheckWords<'_>) -> u8 {
     let mut err = rt.stderr();
     match open_text(rt, words.cnf) {
         Ok(cnf) => check_from(rt, cnf, words),
-        Err(error) => tell_file(&mut err, words.cnf, &error),
+        Err(error) => print_file_fault(&mut err, words.cnf, &error),
     }
 }
 
@@ -435,11 +435,11 @@ fn check_from<R: Read + Drop>(rt: &HostRuntime, cnf: R, words: &CheckWords<'_>) 
     let mut err = rt.stderr();
     let proof = match open_text(rt, words.proof) {
         Ok(proof) => proof,
-        Err(error) => return tell_file(&mut err, words.proof, &error),
+        Err(error) => return print_file_fault(&mut err, words.proof, &error),
     };
     let format = match found_format(rt, words) {
         Ok(format) => format,
-        Err(error) => return tell_file(&mut err, words.proof, &error),
+        Err(error) => return print_file_fault(&mut err, words.proof, &error),
     };
     let (mut cnf, mut proof) = (ReadSource::new(cnf), ReadSource::new(proof));
     match BufWriter::new(rt.alloc(), io::writer(rt)) {
@@ -451,7 +451,7 @@ fn check_from<R: Read + Drop>(rt: &HostRuntime, cnf: R, words: &CheckWords<'_>) 
                 check_texts(rt, &mut cnf, &mut proof, words.format, &mut out, &mut err)
             }
         }
-        Err(error) => tell_fault(&mut err, &error),
+        Err(error) => print_fault(&mut err, &error),
     }
 }
 
@@ -544,7 +544,7 @@ fn refuse_folder(found: &Metadata) -> io::Result<()>
 }
 
 // Tells why a file cannot be used, and gives the status for it.
-fn tell_file<E: Write, F: Display>(err: &mut E, path: &str, fault: &F) -> u8
+fn print_file_fault<E: Write, F: Display>(err: &mut E, path: &str, fault: &F) -> u8
     ensures { result ≡ fault_status }
 {
     // Of a writer that fails here nothing is left to tell.

@@ -240,7 +240,7 @@ fn formats_are_read(rt: HostRuntime) -> Result<(), Fail> {
 #[test]
 fn what_cannot_be_read_is_named(rt: HostRuntime) -> Result<(), Fail> {
     let mut err = Vec::new(rt.alloc());
-    let status = tell_file(
+    let status = print_file_fault(
         &mut err,
         "two words.cnf",
         &io::Error::from(ErrorKind::NotFound),
@@ -252,7 +252,7 @@ fn what_cannot_be_read_is_named(rt: HostRuntime) -> Result<(), Fail> {
     );
     err.clear();
     assert_eq!(rt;
-        tell_words(&mut err, &io::Error::from(ErrorKind::InvalidData)),
+        print_bad_words(&mut err, &io::Error::from(ErrorKind::InvalidData)),
         2
     );
     assert_eq!(rt;
@@ -260,7 +260,7 @@ fn what_cannot_be_read_is_named(rt: HostRuntime) -> Result<(), Fail> {
         b"error: a word of the command line is not UTF-8\n".as_slice()
     );
     err.clear();
-    assert_eq!(rt; tell_file(&mut err, "p", &SAME_FILE), 2);
+    assert_eq!(rt; print_file_fault(&mut err, "p", &SAME_FILE), 2);
     assert_eq!(rt;
         err.as_slice(),
         b"error: 'p': the formula is in this file, which a proof would overwrite\n".as_slice()

@@ -12,7 +12,7 @@ use Rattle.varisat_solver.specs.States.{State, join_counted, Verdict, Unsat, IsR
 use Rattle.varisat_solver.specs.Names.{Naming, name_all, through_names, AreInOrder}
 use Rattle.varisat_solver.specs.Models.{IsCompletable, AreNamesInUse}
 use Rattle.varisat.specs.Counts.{count_with}
-use Rattle.varisat_solver.specs.Calls.{IsPastLimit, IsCrowded, AddsClause, Ignored, Accepted, VerdictAfter, Refuted, Reopened, Assumes, Solves, Configures, CountsIf, Decided, Searched, once_searched, calling}
+use Rattle.varisat_solver.specs.Calls.{IsPastLimit, IsCrowded, AddsClause, Ignored, Accepted, VerdictAfter, Refuted, Reopened, Assumes, Solves, Configures, CountsIf, Decided, Searched, once_searched, by_state}
 use Rattle.varisat_names.specs.declared.config.SolverConfigUpdate.{SolverConfigUpdate}
 use Rattle.varisat_solver.specs.declared.solver.SolverError.TheVariants.{Interrupted}
 use Rattle.varisat_solver.specs.Budgets.{CountsSteps}
@@ -162,20 +162,20 @@ searched s t P A n most v m c a l u f = record {
   limit = ap (λ x. x.max_steps) l ∙ f.limit;
 }
 
-pub decided : (s t : State) (b : Bool) (P : List Clause) (A : List Literal) (n most : ℕ) → Solves calling s (Ok b) t → WasGiven s P A n most →
+pub decided : (s t : State) (b : Bool) (P : List Clause) (A : List Literal) (n most : ℕ) → Solves by_state s (Ok b) t → WasGiven s P A n most →
     WasGiven t P A t.ledger.steps most
 decided s t b P A n most r f =
     searched s t P A n most (ap (λ l. l.valid) (same-ledger r.rest) ∙ f.valid) (same-naming r.rest) (same-clauses r.rest) (same-assumptions r.rest)
     (ap (λ l. l.settings) (same-ledger r.rest)) (λ u h. subst (IsRight t.clauses t.assumptions t.counted) u r.right.right h) f
 
-pub interrupted : (s t : State) (P : List Clause) (A : List Literal) (n most : ℕ) → Solves calling s (Err Interrupted) t → WasGiven s P A n most →
+pub interrupted : (s t : State) (P : List Clause) (A : List Literal) (n most : ℕ) → Solves by_state s (Err Interrupted) t → WasGiven s P A n most →
     WasGiven t P A t.ledger.steps most
 interrupted s t P A n most r f =
     searched s t P A n most (ap (λ l. l.valid) (same-ledger r.rest) ∙ f.valid) (same-naming r.rest) (same-clauses r.rest) (same-assumptions r.rest)
     (ap (λ l. l.settings) (same-ledger r.rest)) (λ u h. f.refuted (sym (same-verdict r.rest) ∙ u) (subst IsSatisfiable (same-clauses r.rest) h)) f
 
 -- the steps are spent
-pub all-spent : (s t : State) (P : List Clause) (A : List Literal) (n most : ℕ) → Solves calling s (Err Interrupted) t → WasGiven s P A n most →
+pub all-spent : (s t : State) (P : List Clause) (A : List Literal) (n most : ℕ) → Solves by_state s (Err Interrupted) t → WasGiven s P A n most →
     (t.ledger.steps ≡ n + most) ⊎ (t.ledger.steps ≡ 2 ^ 64 - 1)
 all-spent s t P A n most r f =
     let k = r.steps in
@@ -230,17 +230,17 @@ counts-few s known own since before after answer k c =
     omega (arith, c.bounded.1, c.count, power)
 
 -- a search that came to an answer, or made none since it is known
-pub decided-few : (s t : State) (b : Bool) (known : List ℕ) (n : ℕ) → Solves calling s (Ok b) t → CountsAmong s known → s.ledger.steps ≡ n →
+pub decided-few : (s t : State) (b : Bool) (known : List ℕ) (n : ℕ) → Solves by_state s (Ok b) t → CountsAmong s known → s.ledger.steps ≡ n →
     t.ledger.steps < n + 2 ^ (2 * length known + 3)
 decided-few s t b known n r k e = go r.steps
   where
-    go : CountsIf calling (once_searched s) (Ok b) t → t.ledger.steps < n + 2 ^ (2 * length known + 3)
+    go : CountsIf by_state (once_searched s) (Ok b) t → t.ledger.steps < n + 2 ^ (2 * length known + 3)
     go (Decided h same told) =
         let any : 0 ≤ 2 * length known + 3 = omega arith in
         let some : 2 ^ 0 ≤ 2 ^ (2 * length known + 3) = pow_mono any in omega (arith, same, e, some)
     go (Searched u c) = let few = counts-few s known _ _ _ _ _ k c in omega (arith, few, e)
 
-pub spent-few : (s t : State) (known : List ℕ) (n : ℕ) → Solves calling s (Err Interrupted) t → CountsAmong s known → s.ledger.steps ≡ n →
+pub spent-few : (s t : State) (known : List ℕ) (n : ℕ) → Solves by_state s (Err Interrupted) t → CountsAmong s known → s.ledger.steps ≡ n →
     t.ledger.steps < n + 2 ^ (2 * length known + 3)
 spent-few s t known n r k e = let few = counts-few s known _ _ _ _ _ k r.steps in omega (arith, few, e)
 

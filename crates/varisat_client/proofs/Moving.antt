@@ -13,7 +13,7 @@ use Rattle.varisat_solver.specs.States.{State}
 use Rattle.varisat_solver.proofs.CallStates.{same-counted}
 use Rattle.varisat.specs.Proven.{configured}
 use Rattle.varisat.proofs.NameLaws.{none-in-order}
-use Rattle.varisat_solver.specs.Calls.{AddsClause, Assumes, Solves, Configures, calling}
+use Rattle.varisat_solver.specs.Calls.{AddsClause, Assumes, Solves, Configures, by_state}
 use Rattle.varisat_solver.specs.declared.solver.SolverError.{SolverError}
 use Rattle.varisat_solver.specs.declared.solver.SolverError.TheVariants as error
 use Rattle.varisat_solver.specs.Summaries.{Summary, StandsFor, HasFullStore}
@@ -23,7 +23,7 @@ use Rattle.varisat_client.specs.declared.refusal.Refusal.{Refusal}
 use Rattle.varisat_client.specs.declared.refusal.Refusal.TheVariants.{OutOfMemory, ClauseStoreFull}
 use Rattle.varisat_client.specs.Refusals.{refusal_for}
 use Rattle.varisat_client.specs.LiteralSets.{Has, IsSetOf}
-use Rattle.varisat_client.specs.Pasts.{Past, empty_past, refuse, count, Again, Memory, AddsNumber, AssumesNumber, Begins, LimitsSteps, IsSearchEnd, TellsFailed}
+use Rattle.varisat_client.specs.Pasts.{Past, empty_past, refuse, count, Again, Memory, AddsNumber, AssumesNumber, Begins, LimitsSteps, IsSearchEnd, ReturnsFailed}
 use Rattle.varisat_client.specs.Pasts as past
 use Rattle.varisat_client.specs.Clients.{Client, HoldsPast, StandsForPast, Moves, KeepsModel, KeepsCore}
 use Rattle.varisat_client.specs.Clients as client
@@ -136,7 +136,7 @@ begin-refused g h d e free own call why = refused-now Begins g h (refusal_for e)
 
 -- a search
 pub search-fails : (g h : Client) (e : SolverError) → is_some g.refusal ≡ false →
-    ((s : State) → StandsFor g.solver s → (t : State) × Solves calling s (Err e) t × StandsFor h.solver t) →
+    ((s : State) → StandsFor g.solver s → (t : State) × Solves by_state s (Err e) t × StandsFor h.solver t) →
     (e ≡ error.ClauseStoreFull → HasFullStore h.solver) → h.refusal ≡ Some (refusal_for e) → Moves (IsSearchEnd end.Refused) g h
 search-fails g h e free call full why = refused-now (IsSearchEnd end.Refused) g h (refusal_for e) free why (λ p st r.
     let k = st.holds r in
@@ -275,7 +275,7 @@ limit-refused steps u g h after e free given call p st =
 
 -- a search that found a model
 pub finds-model : (r : SearchEnd) (g m h : Client) → is_some g.refusal ≡ false → m ≡ record g { solver = m.solver } →
-    ((s : State) → StandsFor g.solver s → (t : State) × Solves calling s (Ok true) t × StandsFor m.solver t) → KeepsModel r m h → Moves (IsSearchEnd r) g h
+    ((s : State) → StandsFor g.solver s → (t : State) × Solves by_state s (Ok true) t × StandsFor m.solver t) → KeepsModel r m h → Moves (IsSearchEnd r) g h
 finds-model r g m h e q call (client.Refused x) = runs-out (IsSearchEnd r) g h e x.refusal (λ p free. past.Refused x.answer (Memory free refl))
 finds-model r g m h e q call (client.Kept list found tells set o) = λ p st.
     let free = not-refused g p st e in
@@ -300,7 +300,7 @@ finds-model r g m h e q call (client.Kept list found tells set o) = λ p st.
 
 -- a search that found that there is none
 pub finds-core : (r : SearchEnd) (g m h : Client) → is_some g.refusal ≡ false → m ≡ record g { solver = m.solver } →
-    ((s : State) → StandsFor g.solver s → (t : State) × Solves calling s (Ok false) t × StandsFor m.solver t) → KeepsCore r m h → Moves (IsSearchEnd r) g h
+    ((s : State) → StandsFor g.solver s → (t : State) × Solves by_state s (Ok false) t × StandsFor m.solver t) → KeepsCore r m h → Moves (IsSearchEnd r) g h
 finds-core r g m h e q call (client.Refused x) = runs-out (IsSearchEnd r) g h e x.refusal (λ p free. past.Refused x.answer (Memory free refl))
 finds-core r g m h e q call (client.Kept core found tells set o) = λ p st.
     let free = not-refused g p st e in
@@ -326,7 +326,7 @@ finds-core r g m h e q call (client.Kept core found tells set o) = λ p st.
 
 -- a search whose steps are spent
 pub spends-steps : (g h : Client) → is_some g.refusal ≡ false → h ≡ record g { solver = h.solver } →
-    ((s : State) → StandsFor g.solver s → (t : State) × Solves calling s (Err error.Interrupted) t × StandsFor h.solver t) →
+    ((s : State) → StandsFor g.solver s → (t : State) × Solves by_state s (Err error.Interrupted) t × StandsFor h.solver t) →
     Moves (IsSearchEnd end.Interrupted) g h
 spends-steps g h e q call p st =
     let free = not-refused g p st e in
@@ -357,7 +357,7 @@ in-model g p l k st e q = subst (λ x. Has g.model l ↔ (x ∈ p.model)) q ((st
 -- or in the core
 pub tells-failed : (n : ℤ) (b : Bool) (g : Client) (p : Past) (l : Literal) → n ≢ pos 0 → StandsForPast g p → is_some g.refusal ≡ false →
     l ≡ literal_numbered n →
-    IsTrue b ↔ Has g.core l → TellsFailed n b p
+    IsTrue b ↔ Has g.core l → ReturnsFailed n b p
 tells-failed n true g p l z st e q (f, h) =
     let r = not-refused g p st e in past.Failed refl r z (subst (λ x. x ∈ p.core) q (((st.holds r).core l).0 (f refl)))
 tells-failed n false g p l z st e q (f, h) =

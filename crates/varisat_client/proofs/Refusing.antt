@@ -4,7 +4,7 @@ use Rattle.varisat_theory.specs.Literals.{Literal, Clause}
 use Rattle.varisat_names.specs.Settings.{first_bad}
 use Rattle.varisat_names.specs.declared.config.SolverConfigUpdate.{SolverConfigUpdate}
 use Rattle.varisat_solver.specs.States.{State}
-use Rattle.varisat_solver.specs.Calls.{IsPastLimit, AddsClause, Assumes, Solves, Configures, calling}
+use Rattle.varisat_solver.specs.Calls.{IsPastLimit, AddsClause, Assumes, Solves, Configures, by_state}
 use Rattle.varisat_solver.specs.declared.solver.SolverError.{SolverError}
 use Rattle.varisat_solver.specs.declared.solver.SolverError.TheVariants as error
 use Rattle.varisat_client.specs.declared.refusal.Refusal.TheVariants.{OutOfMemory, VariableLimit, ClauseStoreFull}
@@ -72,9 +72,9 @@ pub list-stored : (e : SolverError) (s t : State) (d : List Literal) → Assumes
 list-stored e s t d assumes q = subst (λ x. Assumes s d (Err x) t) (is-full e q) assumes
 
 -- a search that comes to no end
-pub search-refused : (e : SolverError) (s t : State) (p : Past) → Solves calling s (Err e) t → p.refusal ≡ None → Refuses [] true p (refuse (refusal_for e) p)
+pub search-refused : (e : SolverError) (s t : State) (p : Past) → Solves by_state s (Err e) t → p.refusal ≡ None → Refuses [] true p (refuse (refusal_for e) p)
 search-refused e s t p solves free =
-    reason e [] true p free (λ v. absurd (subst (λ x. Solves calling s (Err x) t) v solves)) (λ _. refl)
+    reason e [] true p free (λ v. absurd (subst (λ x. Solves by_state s (Err x) t) v solves)) (λ _. refl)
 
 -- a limit of steps is never refused
 pub never-refused : (e : SolverError) (s t : State) (u : SolverConfigUpdate) → Configures s u (Err e) t → s.ledger.valid ≡ true → first_bad u ≡ None → ⊥

@@ -99,15 +99,15 @@ pub data IsSearchEnd (r : SearchEnd) (p q : Past) : Type 0 where
 
 -- A number is told where its literal is true in the last model, the opposite number where that is, and else 0: so it is for 0, for
 -- the number that has no opposite, and once a call was refused.
-pub data TellsValue (n r : ℤ) (p : Past) : Type 0 where
-  True : r ≡ n → p.refusal ≡ None → literal_numbered n ∈ p.model → TellsValue n r p
-  False : r ≡ pos 0 -ℤ n → p.refusal ≡ None → opposite (literal_numbered n) ∈ p.model → TellsValue n r p
-  Unknown : r ≡ pos 0 → (literal_numbered n ∈ p.model → ⊥) → (opposite (literal_numbered n) ∈ p.model → ⊥) → TellsValue n r p
-  Outside : r ≡ pos 0 → (n ≡ pos 0) ⊎ (n ≡ negsuc (2 ^ 31 - 1)) → TellsValue n r p
-  Refused : r ≡ pos 0 → p.refusal ≢ None → TellsValue n r p
+pub data ReturnsValue (n r : ℤ) (p : Past) : Type 0 where
+  True : r ≡ n → p.refusal ≡ None → literal_numbered n ∈ p.model → ReturnsValue n r p
+  False : r ≡ pos 0 -ℤ n → p.refusal ≡ None → opposite (literal_numbered n) ∈ p.model → ReturnsValue n r p
+  Unknown : r ≡ pos 0 → (literal_numbered n ∈ p.model → ⊥) → (opposite (literal_numbered n) ∈ p.model → ⊥) → ReturnsValue n r p
+  Outside : r ≡ pos 0 → (n ≡ pos 0) ⊎ (n ≡ negsuc (2 ^ 31 - 1)) → ReturnsValue n r p
+  Refused : r ≡ pos 0 → p.refusal ≢ None → ReturnsValue n r p
 
 -- Whether the literal of the number is one of the last core: neither 0 is, nor any number once a call was refused.
-pub data TellsFailed (n : ℤ) (r : Bool) (p : Past) : Type 0 where
-  Failed : r ≡ true → p.refusal ≡ None → n ≢ pos 0 → literal_numbered n ∈ p.core → TellsFailed n r p
-  Unfailed : r ≡ false → (literal_numbered n ∈ p.core → ⊥) → TellsFailed n r p
-  Outside : r ≡ false → (n ≡ pos 0) ⊎ (p.refusal ≢ None) → TellsFailed n r p
+pub data ReturnsFailed (n : ℤ) (r : Bool) (p : Past) : Type 0 where
+  Failed : r ≡ true → p.refusal ≡ None → n ≢ pos 0 → literal_numbered n ∈ p.core → ReturnsFailed n r p
+  Unfailed : r ≡ false → (literal_numbered n ∈ p.core → ⊥) → ReturnsFailed n r p
+  Outside : r ≡ false → (n ≡ pos 0) ⊎ (p.refusal ≢ None) → ReturnsFailed n r p

@@ -1,6 +1,6 @@
 -- Calls of a client in turn with their answers.
 use Rattle.std.specs.Prelude.{◌≡◌, List, [], ◌∷◌}
-use Rattle.varisat_client.specs.Pasts.{Past, AddsNumber, AssumesNumber, Begins, LimitsSteps, IsSearchEnd, TellsValue, TellsFailed}
+use Rattle.varisat_client.specs.Pasts.{Past, AddsNumber, AssumesNumber, Begins, LimitsSteps, IsSearchEnd, ReturnsValue, ReturnsFailed}
 use Rattle.varisat_client.specs.declared.session.Call.{Call}
 use Rattle.varisat_client.specs.declared.session.Answer.{Answer}
 use Rattle.varisat_client.specs.declared.session.Call.TheVariants as call
@@ -13,8 +13,8 @@ Makes p (call.Assume n) answer.Done q = AssumesNumber n p q
 Makes p call.Begin answer.Done q = Begins p q
 Makes p call.Search (answer.Search r) q = IsSearchEnd r p q
 Makes p (call.LimitSteps n) answer.Done q = LimitsSteps n p q
-Makes p (call.Value n) (answer.Value r) q = TellsValue n r p × (q ≡ p)
-Makes p (call.HasFailed n) (answer.HasFailed b) q = TellsFailed n b p × (q ≡ p)
+Makes p (call.Value n) (answer.Value r) q = ReturnsValue n r p × (q ≡ p)
+Makes p (call.HasFailed n) (answer.HasFailed b) q = ReturnsFailed n b p × (q ≡ p)
 Makes p call.Refusal (answer.Refusal why) q = (why ≡ p.refusal) × (q ≡ p)
 Makes p _ _ q = ⊥
 

@@ -90,7 +90,7 @@ impl<A: Allocator + Copy> Model for Client<A> {
 }
 
 impl<A: Allocator + Copy> Client<A> {
-    ghost use Rattle.varisat_client.specs.Pasts.{Past, empty_past, AddsNumber, AssumesNumber, Begins, LimitsSteps, IsSearchEnd, TellsValue, TellsFailed};
+    ghost use Rattle.varisat_client.specs.Pasts.{Past, empty_past, AddsNumber, AssumesNumber, Begins, LimitsSteps, IsSearchEnd, ReturnsValue, ReturnsFailed};
     ghost use Rattle.varisat_client.specs.Clients.{StandsForPast, Moves, RunsOutOfMemory, KeepsModel, KeepsCore};
 
     /// A client with a new solver. It takes no memory.
@@ -225,7 +225,7 @@ impl<A: Allocator + Copy> Client<A> {
 
     /// The number where its literal is true in the model that was found last, the opposite number where that is, else 0.
     pub fn value(&self, number: i32) -> i32
-        ensures { (p : Past) → StandsForPast self.now p → TellsValue number result p }
+        ensures { (p : Past) → StandsForPast self.now p → ReturnsValue number result p }
     {
         if self.refusal.is_some() {
             return 0;
@@ -245,7 +245,7 @@ impl<A: Allocator + Copy> Client<A> {
 
     /// Whether the literal of the number is in the core that was found last.
     pub fn has_failed(&self, number: i32) -> bool
-        ensures { (p : Past) → StandsForPast self.now p → TellsFailed number result p }
+        ensures { (p : Past) → StandsForPast self.now p → ReturnsFailed number result p }
     {
         if self.refusal.is_some() {
             return false;

@@ -31,7 +31,7 @@ module _ {S E : Type 0} (takes : S → List Clause → Result (Unit {0}) E → S
   takes_text old new s mid t front clauses R fault w g e f k = record {
     reading = with_front front R;
     gives = g;
-    told = f;
+    reported = f;
     takes_all = w R.clauses (Ok tt) t (InOne (subst (λ P. takes mid P (Ok tt) t) e k));
   }
 

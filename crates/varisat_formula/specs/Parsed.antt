@@ -50,15 +50,15 @@ pub data GivesReading (s : Stand) (reading : Reading) (t : Stand) : Type 0 where
       reading ≡ broken OutOfMemory front → GivesReading s reading t
 
 -- the formula or the fault is what was read
-abbrev pub TellsReading : Reading → Result Formula DimacsError → Type 0
-TellsReading reading (Ok f) = (f ≡ record { var_count = reading.highest; clauses = reading.clauses }) × (reading.fault ≡ None)
-TellsReading reading (Err e) = reading.fault ≡ Some e
+abbrev pub ReturnsReading : Reading → Result Formula DimacsError → Type 0
+ReturnsReading reading (Ok f) = (f ≡ record { var_count = reading.highest; clauses = reading.clauses }) × (reading.fault ≡ None)
+ReturnsReading reading (Err e) = reading.fault ≡ Some e
 
 -- the formula or the fault is what the text gives
 pub record Parses (s : Stand) (r : Result Formula DimacsError) (t : Stand) : Type 0 where
   pub reading : Reading
   pub gives : GivesReading s reading t
-  pub tells : TellsReading reading r
+  pub tells : ReturnsReading reading r
 
 -- how a source, a reader and a caller's function stand
 pub record Standing (F P : Type 0) : Type 0 where

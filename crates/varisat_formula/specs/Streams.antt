@@ -33,7 +33,7 @@ pub record Reads (s : Stand) (text : List ℕ) (t : Stand) : Type 0 where
 
 -- the source told its end, and no byte is left that is known
 pub record HasEnded (t : Stand) : Type 0 where
-  pub told : t.ended ≡ true
+  pub reported : t.ended ≡ true
   pub at_end : IsAtEnd t.left
 
 -- all the bytes that a target took, and how many faults there were

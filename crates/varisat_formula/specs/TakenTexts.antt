@@ -28,7 +28,7 @@ module _ {S E : Type 0} (takes : S → List Clause → Result (Unit {0}) E → S
   pub record TakesText (old : Stand) (s : S) (fault : Option DimacsError) (new : Stand) (t : S) : Type 0 where
     pub reading : Reading
     pub gives : GivesReading old reading new
-    pub told : fault ≡ reading.fault
+    pub reported : fault ≡ reading.fault
     pub takes_all : TakesInTurn s reading.clauses (Ok tt) t
 
   -- it refused one of these clauses, which are all that a text gives, or the first of them

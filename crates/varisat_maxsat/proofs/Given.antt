@@ -6,7 +6,7 @@ use Rattle.varisat_theory.specs.Membership.{◌∈◌}
 use Rattle.varisat_theory.specs.Literals.{Literal, Assignment, opposite, MakesTrue, IsFailedCore}
 use Rattle.varisat_theory.proofs.Values.{not_both}
 use Rattle.varisat_literals.specs.Numbers.{literal_numbered}
-use Rattle.varisat_client.specs.Pasts.{Past, refuse, Refuses, count, AddsNumber, AssumesNumber, Begins, IsSearchEnd, IsFoundModel, TellsFailed, TellsValue}
+use Rattle.varisat_client.specs.Pasts.{Past, refuse, Refuses, count, AddsNumber, AssumesNumber, Begins, IsSearchEnd, IsFoundModel, ReturnsFailed, ReturnsValue}
 use Rattle.varisat_client.specs.Pasts as past
 use Rattle.varisat_client.specs.Clients.{Client, StandsForPast}
 use Rattle.varisat_client.specs.declared.client.SearchEnd.{SearchEnd}
@@ -173,7 +173,7 @@ begun-fails t cs p g h r e b moves =
     search-fails r (record (count b.assumed p) { assumed = b.assumed }) q t cs h b.assumed e m st b.from refl b.ready.clause b.ready.assumptions
 
 -- what a core does not have
-has-not-failed : (n : ℤ) (b : Bool) (p : Past) → TellsFailed n b p → b ≡ false → n ≢ pos 0 → p.refusal ≡ None → literal_numbered n ∈ p.core → ⊥
+has-not-failed : (n : ℤ) (b : Bool) (p : Past) → ReturnsFailed n b p → b ≡ false → n ≢ pos 0 → p.refusal ≡ None → literal_numbered n ∈ p.core → ⊥
 has-not-failed n b p (past.Failed e r z i) f h k j = let z : true ≡ false = sym e ∙ f in cc
 has-not-failed n b p (past.Unfailed e g) f h k j = g j
 has-not-failed n b p (past.Outside e (inl z)) f h k j = h z
@@ -187,7 +187,7 @@ divides-failed g cs k c kept failed more b at e so p r =
     (subst (λ x. IsSplit p.core (take k cs ++ c ∷ []) kept x) (sym e) (splits-failed c (so p r)))
 
 pub divides-kept : (g : Client) (cs : List Charge) (k : ℕ) (c : Charge) (kept failed more : List Charge) (n : ℤ) (x : Bool) → k < length cs → c ≡ get_or cs k c →
-    more ≡ kept ++ c ∷ [] → literal_numbered n ≡ opposite c.literal → n ≢ pos 0 → ((p : Past) → StandsForPast g p → TellsFailed n x p) → x ≡ false →
+    more ≡ kept ++ c ∷ [] → literal_numbered n ≡ opposite c.literal → n ≢ pos 0 → ((p : Past) → StandsForPast g p → ReturnsFailed n x p) → x ≡ false →
     ((p : Past) → IsReady g p → IsSplit p.core (take k cs) kept failed) → (p : Past) → IsReady g p → IsSplit p.core (take (k + 1) cs) more failed
 divides-kept g cs k c kept failed more n x b at e l z tells f so p r =
     subst (λ y. IsSplit p.core y more failed) (sym (take-item cs k c b at))
@@ -205,7 +205,7 @@ zero-apart v e = let f : 0 ≡ v + 1 = cc in omega arith
 negative-apart : (v : ℕ) (r : ℤ) → r ≡ pos 0 -ℤ pos (v + 1) → r ≡ pos (v + 1) → ⊥
 negative-apart v r e f = omega (arith, ints)
 
-tells-positive : (v : ℕ) (r : ℤ) (p : Past) (a : Assignment) (n : ℤ) → n ≡ pos (v + 1) → TellsValue n r p → p.refusal ≡ None → MakesTrue a p.model →
+tells-positive : (v : ℕ) (r : ℤ) (p : Past) (a : Assignment) (n : ℤ) → n ≡ pos (v + 1) → ReturnsValue n r p → p.refusal ≡ None → MakesTrue a p.model →
     (r ≡ n) ↔ (literal_numbered n ∈ p.model)
 tells-positive v r p a n b (past.True e k i) f t = (λ _. i, λ _. e)
 tells-positive v r p a n b (past.False e k i) f t = (
@@ -241,7 +241,7 @@ pub values-start : (g : Client) (p : Past) → IsReady g p → (a : Assignment) 
 values-start g p r a t = record { each = refl; read = λ v h. absurd (omega arith) }
 
 pub values-next : (g : Client) (k : ℕ) (n r : ℤ) (x : Bool) (vs : List Bool) → literal_numbered n ≡ 2 * k → n ≢ pos 0 → (x ≡ true) ↔ (r ≡ n) →
-    ((p : Past) → StandsForPast g p → TellsValue n r p) → ((p : Past) → IsReady g p → (a : Assignment) → MakesTrue a p.model → AreValues k p.model vs) →
+    ((p : Past) → StandsForPast g p → ReturnsValue n r p) → ((p : Past) → IsReady g p → (a : Assignment) → MakesTrue a p.model → AreValues k p.model vs) →
     (p : Past) → IsReady g p → (a : Assignment) → MakesTrue a p.model → AreValues (k + 1) p.model (vs ++ x ∷ [])
 values-next g k n r x vs l z same tells so p d a t =
     let e = tells-positive k r p a n (number-positive n k l z) (tells p d.stands) d.refusal t in

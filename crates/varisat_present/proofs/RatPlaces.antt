@@ -14,7 +14,7 @@ use Rattle.varisat_theory.proofs.Growth.{conflicts_known}
 use Rattle.varisat_plain.proofs.Scans.{opposites_append, answers_true, answers_false}
 use Rattle.varisat_present.specs.Places.{present, present_at}
 use Rattle.varisat_present.specs.Knowing.{AreImplied, Asks, Settles}
-use Rattle.varisat_present.specs.Resolving.{IsForced, IsRatOnSome, TellsDeletion, ConflictsBut, AllConflict, TellsResolvent}
+use Rattle.varisat_present.specs.Resolving.{IsForced, IsRatOnSome, IsDeletionOf, ConflictsBut, AllConflict, IsResolventFound}
 use Rattle.varisat_present.specs.declared.present.Deletion.TheVariants.{Taken}
 use Rattle.varisat_present.proofs.KnownGrowth.{cut_back}
 use Rattle.varisat_present.proofs.KeptLiterals.{implied_is_known}
@@ -55,7 +55,7 @@ others_all start now c i l e w = w ∙ ap (λ x. start ++ opposites (but_for l x
 
 -- 2. One place.
 module _ {A : Type 0} (places : List (Option (Vec ℕ A))) (place : ℕ) (base : List Literal) (l : Literal) where
-  pub no_clause : (known : List Literal) → present_at places place ≡ None → TellsResolvent places place base l known true known
+  pub no_clause : (known : List Literal) → present_at places place ≡ None → IsResolventFound places place base l known true known
   no_clause known e = record {
     more = [];
     joined = sym (append-nil known);
@@ -66,7 +66,7 @@ module _ {A : Type 0} (places : List (Option (Vec ℕ A))) (place : ℕ) (base :
   same_there : (c d : Clause) → present_at places place ≡ Some c → present_at places place ≡ Some d → d ≡ c
   same_there c d e f = let h : Some c ≡ Some d = sym e ∙ f in let k : c ≡ d = cc in sym k
 
-  pub not_held : (known : List Literal) (c : Clause) → present_at places place ≡ Some c → (l ∈ c → ⊥) → TellsResolvent places place base l known true known
+  pub not_held : (known : List Literal) (c : Clause) → present_at places place ≡ Some c → (l ∈ c → ⊥) → IsResolventFound places place base l known true known
   not_held known c e n = record {
     more = [];
     joined = sym (append-nil known);
@@ -75,7 +75,7 @@ module _ {A : Type 0} (places : List (Option (Vec ℕ A))) (place : ℕ) (base :
   }
 
   pub asked : (old new : List Literal) (c : Clause) (both : List Literal) (found : Bool) → present_at places place ≡ Some c → l ∈ c →
-      both ≡ base ++ opposites (but_for l c) → Asks (present places) old both found new → TellsResolvent places place base l old found new
+      both ≡ base ++ opposites (but_for l c) → Asks (present places) old both found new → IsResolventFound places place base l old found new
   asked old new c both found e i q a = record {
     more = a.more;
     joined = a.joined;
@@ -103,12 +103,12 @@ conflict_all places i base l h w =
     answers_true _ (subst (λ (x : List Clause). AllConflict (present places) x base l) (present_all places i h) w)
 
 pub one_does_not : {A : Type 0} (places : List (Option (Vec ℕ A))) (i : ℕ) (base old : List Literal) (l : Literal) (found : Bool) (new : List Literal) →
-    found ≡ false → TellsResolvent places i base l old found new → IsTrue false ↔ AllConflict (present places) (present places) base l
+    found ≡ false → IsResolventFound places i base l old found new → IsTrue false ↔ AllConflict (present places) (present places) base l
 one_does_not places i base old l found new e t =
     answers_false _ (λ w. let h = t.no e in h.3 (w h.0 (at_in places i h.0 h.1) h.2))
 
 pub restored : {A : Type 0} (places : List (Option (Vec ℕ A))) (i : ℕ) (base first old : List Literal) (l : Literal) (found : Bool) (new : List Literal)
-    (n : ℕ) → n ≡ length first → old ≡ first → TellsResolvent places i base l old found new → take n new ≡ first
+    (n : ℕ) → n ≡ length first → old ≡ first → IsResolventFound places i base l old found new → take n new ≡ first
 restored places i base first old l found new n e q t =
     ap (λ k. take k new) e ∙ cut_back first new t.more (t.joined ∙ ap (λ x. x ++ t.more) q)
 
@@ -168,7 +168,7 @@ unforced P Q known c true e s f n h = absurd (n (subst (λ (x : List Clause). Co
 unforced P Q known c false e s f n h = subst (λ (x : List Clause). IsAbsent x c) e
     (not_forced P known c (s.keeps.saturated refl) f (subst (λ (x : List Clause). IsForced x c) (sym e) h))
 
-pub taken_told : (P R Q : List Clause) (c : Clause) → P ≡ R → TakesOut P c Q → (IsForced R c → IsAbsent R c) → TellsDeletion R c Taken Q
+pub taken_told : (P R Q : List Clause) (c : Clause) → P ≡ R → TakesOut P c Q → (IsForced R c → IsAbsent R c) → IsDeletionOf R c Taken Q
 taken_told P R Q c e t h =
     let u : TakesOut R c Q = subst (λ (x : List Clause). TakesOut x c Q) e t in
     (u, λ f. h f u.1 (subst (λ (x : List Clause). u.1 ∈ x) (sym u.3) (∈-append_right u.1 u.0 (u.1 ∷ u.2) (inl refl))) u.4)

@@ -16,10 +16,10 @@ abbrev pub IsForced : List Clause → Clause → Type 0
 IsForced P c = (l : Literal) × (l ∈ c) × ((m : Literal) → m ∈ c → (m ≡ l) ⊎ Implied P [] (opposite m))
 
 -- the clause was taken out, and is not forced; or it is there, and forced, and stays; or it is not there
-abbrev pub TellsDeletion : List Clause → Clause → Deletion → List Clause → Type 0
-TellsDeletion P c Taken Q = TakesOut P c Q × (IsForced P c → ⊥)
-TellsDeletion P c Kept Q = ((d : Clause) × (d ∈ P) × SameSet d c) × IsForced P c × (Q ≡ P)
-TellsDeletion P c Absent Q = IsAbsent P c × (Q ≡ P)
+abbrev pub IsDeletionOf : List Clause → Clause → Deletion → List Clause → Type 0
+IsDeletionOf P c Taken Q = TakesOut P c Q × (IsForced P c → ⊥)
+IsDeletionOf P c Kept Q = ((d : Clause) × (d ∈ P) × SameSet d c) × IsForced P c × (Q ≡ P)
+IsDeletionOf P c Absent Q = IsAbsent P c × (Q ≡ P)
 
 -- RAT on one of its literals
 abbrev pub IsRatOnSome : List Clause → Clause → Type 0
@@ -34,7 +34,7 @@ abbrev pub AllConflict : List Clause → List Clause → List Literal → Litera
 AllConflict P cs base l = (d : Clause) → d ∈ cs → l ∈ d → ConflictsBut P base l d
 
 -- so it is for the clause at the place, if that has the literal; the known literals from before are the first ones still
-pub record TellsResolvent {A : Type 0} (places : List (Option (Vec ℕ A))) (place : ℕ) (base : List Literal) (l : Literal)
+pub record IsResolventFound {A : Type 0} (places : List (Option (Vec ℕ A))) (place : ℕ) (base : List Literal) (l : Literal)
     (old : List Literal) (found : Bool) (new : List Literal) : Type 0 where
   pub more : List Literal
   pub joined : new ≡ old ++ more

@@ -10,7 +10,7 @@ ghost use Rattle.varisat_theory.specs.Membership.{◌∈◌, SameSet};
 ghost use Rattle.varisat_theory.specs.Propagation.{Conflicts, Follows, HasClash, IsComplete, IsFalse, LeavesOnly};
 ghost use Rattle.varisat_present.specs.Places.{present, present_at};
 ghost use Rattle.varisat_present.specs.Knowing.{IsSpare, Asks, Sees, AreImplied, Keeps, Settles};
-ghost use Rattle.varisat_present.specs.Resolving.{AllConflict, IsForced, IsRatOnSome, TellsDeletion, TellsResolvent};
+ghost use Rattle.varisat_present.specs.Resolving.{AllConflict, IsForced, IsRatOnSome, IsDeletionOf, IsResolventFound};
 
 use crate::clause::{holds, is_quiet, status_of};
 use crate::firsts::{UNSEEN, first_of, note_all};
@@ -243,7 +243,7 @@ fn resolvent_conflicts<A: Allocator + Copy>(
 ) -> Result<bool, AllocError>
     requires no_clash { HasClash known.old → ⊥ }
     requires implied { AreImplied (present places.now) [] known.old }
-    ensures { IfOk result (λ found. TellsResolvent places.now place base.now literal known.old found known.new) }
+    ensures { IfOk result (λ found. IsResolventFound places.now place base.now literal known.old found known.new) }
 {
     let clause = match clause_at(places, place) {
         None => return Ok(true),
@@ -424,7 +424,7 @@ impl<A: Allocator + Copy> PresentClauses<A> {
     /// Takes out one clause that is equal as a set, unless it may be why a literal is implied. Where propagation over
     /// the clauses conflicts any of them may be taken out.
     pub fn take_out_spare(&mut self, clause: &[Lit]) -> Result<Deletion, AllocError>
-        ensures told { IfOk result (λ deletion. (Conflicts self.old [] → ⊥) → TellsDeletion self.old clause.now deletion self.new) }
+        ensures told { IfOk result (λ deletion. (Conflicts self.old [] → ⊥) → IsDeletionOf self.old clause.now deletion self.new) }
         ensures err { OnErr result (self.new ≡ self.old) }
     {
         let is_forced = self.is_forced(clause)?;

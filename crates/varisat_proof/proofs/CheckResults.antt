@@ -10,7 +10,7 @@ use Rattle.varisat_proof.specs.declared.checker.error.CheckVerdict.TheVariants.{
 use Rattle.varisat_proof.specs.declared.checker.error.CheckerError.{CheckerError}
 use Rattle.varisat_proof.specs.declared.checker.marked.MarkedReport.{MarkedReport}
 use Rattle.varisat_proof.specs.Lines.{plain_encoding}
-use Rattle.varisat_proof.specs.Marked.{MarkedTold, ProofState, nothing_told, IsCheckOf, state_of}
+use Rattle.varisat_proof.specs.Marked.{MarkedLog, ProofState, nothing_logged, IsCheckOf, state_of}
 use Rattle.varisat_proof.specs.Results.{IsResult}
 use Rattle.varisat_proof.specs.Calls.{ChecksBytes, is_of_bytes, IsMarkedResult, IsTrueReport, core_lists}
 use Rattle.varisat_proof.proofs.CheckedSources.{checks_ok, checks_err, checks_exact, checks_right}
@@ -18,29 +18,29 @@ use Rattle.varisat_proof.proofs.PlainResults.{plain_right, result_sound}
 use Rattle.varisat_proof.proofs.MarkedReports.{report_true}
 
 -- 1. DRAT.
-plain_bytes : (format : ProofFormat) (e : Encoding) (P : List Clause) (told : MarkedTold) (t : ProofState) (r : Result CheckVerdict CheckerError)
+plain_bytes : (format : ProofFormat) (e : Encoding) (P : List Clause) (logged : MarkedLog) (t : ProofState) (r : Result CheckVerdict CheckerError)
     (Q : List Clause) (bytes : List ℕ) → e ≡ plain_encoding format → Q ≡ t.present →
-    IsCheckOf e (state_of P told) bytes r t → IsResult format P bytes r Q
-plain_bytes format e P told t r Q bytes g q k =
-    let s : ProofState = state_of P told in
-    subst (λ x. IsResult format P bytes r x) (sym q) (plain_right format P told t bytes r (subst (λ x. IsCheckOf x s bytes r t) g k))
+    IsCheckOf e (state_of P logged) bytes r t → IsResult format P bytes r Q
+plain_bytes format e P logged t r Q bytes g q k =
+    let s : ProofState = state_of P logged in
+    subst (λ x. IsResult format P bytes r x) (sym q) (plain_right format P logged t bytes r (subst (λ x. IsCheckOf x s bytes r t) g k))
 
-pub plain_ok : (format : ProofFormat) (e : Encoding) (P : List Clause) (told : MarkedTold) (t : ProofState) (v : CheckVerdict) (Q : List Clause)
+pub plain_ok : (format : ProofFormat) (e : Encoding) (P : List Clause) (logged : MarkedLog) (t : ProofState) (v : CheckVerdict) (Q : List Clause)
     (old new : Stand) → e ≡ plain_encoding format → Q ≡ t.present →
-    ChecksBytes (λ bytes. IsCheckOf e (state_of P told) bytes (Ok v) t) old (Ok v) new → ChecksBytes (λ bytes. IsResult format P bytes (Ok v) Q) old (Ok v) new
-plain_ok format e P told t v Q old new g q k =
-    let s : ProofState = state_of P told in
+    ChecksBytes (λ bytes. IsCheckOf e (state_of P logged) bytes (Ok v) t) old (Ok v) new → ChecksBytes (λ bytes. IsResult format P bytes (Ok v) Q) old (Ok v) new
+plain_ok format e P logged t v Q old new g q k =
+    let s : ProofState = state_of P logged in
     checks_ok (λ bytes. IsCheckOf e s bytes (Ok v) t) (λ bytes. IsResult format P bytes (Ok v) Q) old new v v
-    (λ bytes h. plain_bytes format e P told t (Ok v) Q bytes g q h) k
+    (λ bytes h. plain_bytes format e P logged t (Ok v) Q bytes g q h) k
 
-pub plain_err : (format : ProofFormat) (e : Encoding) (P : List Clause) (told : MarkedTold) (t : ProofState) (x : CheckerError) (Q : List Clause)
+pub plain_err : (format : ProofFormat) (e : Encoding) (P : List Clause) (logged : MarkedLog) (t : ProofState) (x : CheckerError) (Q : List Clause)
     (old new : Stand) → e ≡ plain_encoding format → Q ≡ t.present →
-    ChecksBytes {V = CheckVerdict} (λ bytes. IsCheckOf e (state_of P told) bytes (Err x) t) old (Err x) new →
+    ChecksBytes {V = CheckVerdict} (λ bytes. IsCheckOf e (state_of P logged) bytes (Err x) t) old (Err x) new →
     ChecksBytes {V = CheckVerdict} (λ bytes. IsResult format P bytes (Err x) Q) old (Err x) new
-plain_err format e P told t x Q old new g q k =
-    let s : ProofState = state_of P told in
+plain_err format e P logged t x Q old new g q k =
+    let s : ProofState = state_of P logged in
     checks_err (λ bytes. IsCheckOf e s bytes (Err x) t) (λ bytes. IsResult format P bytes (Err x) Q) old new x
-    (λ bytes h. plain_bytes format e P told t (Err x) Q bytes g q h) k
+    (λ bytes h. plain_bytes format e P logged t (Err x) Q bytes g q h) k
 
 pub check_sound : (format : ProofFormat) (P Q : List Clause) (v : CheckVerdict) (old new : Stand) →
     (let r : Result CheckVerdict CheckerError = Ok v in r) ≡ Ok Refutation → ChecksBytes (λ bytes. IsResult format P bytes (Ok v) Q) old (Ok v) new →
@@ -55,55 +55,55 @@ checks_sound format P Q (Ok v) old new e k = check_sound format P Q v old new e 
 checks_sound format P Q (Err x) old new e k = absurd cc
 
 -- 2. Marked proofs.
-abbrev by_builder : List Clause → MarkedTold → MarkedTold → CheckVerdict → List Clause → List ℕ → Type 0
-by_builder P none told v Q bytes = IsCheckOf (Text true) (state_of P none) bytes (Ok v) (state_of Q told)
+abbrev by_builder : List Clause → MarkedLog → MarkedLog → CheckVerdict → List Clause → List ℕ → Type 0
+by_builder P none logged v Q bytes = IsCheckOf (Text true) (state_of P none) bytes (Ok v) (state_of Q logged)
 
 -- the report of what was told
-pub record Reports {A : Type 0} (told : MarkedTold) (v : CheckVerdict) (report : MarkedReport A) : Type 0 where
+pub record Reports {A : Type 0} (logged : MarkedLog) (v : CheckVerdict) (report : MarkedReport A) : Type 0 where
   pub verdict : report.verdict ≡ v
-  pub inputs : report.inputs ≡ told.inputs
-  pub cores : core_lists report.cores.items ≡ told.cores
+  pub inputs : report.inputs ≡ logged.inputs
+  pub cores : core_lists report.cores.items ≡ logged.cores
 
-marked_bytes : {A : Type 0} (P Q : List Clause) (none told : MarkedTold) (v : CheckVerdict) (report : MarkedReport A) (bytes : List ℕ) →
-    none ≡ nothing_told → Reports told v report → by_builder P none told v Q bytes → IsMarkedResult P bytes (Ok report) Q
-marked_bytes P Q none told v report bytes n w k =
-    let one : by_builder P nothing_told told v Q bytes = subst (λ x. by_builder P x told v Q bytes) n k in
-    let two : by_builder P nothing_told told report.verdict Q bytes = subst (λ x. by_builder P nothing_told told x Q bytes) (sym w.verdict) one in
-    let made : MarkedTold = record { assumed = told.assumed; inputs = report.inputs; cores = core_lists report.cores.items } in
-    let same : told ≡ made = ap (λ x. let t : MarkedTold = record { assumed = told.assumed; inputs = x; cores = told.cores } in t) (sym w.inputs) ∙
-    ap (λ x. let t : MarkedTold = record { assumed = told.assumed; inputs = report.inputs; cores = x } in t) (sym w.cores) in
-    (told.assumed, subst (λ x. by_builder P nothing_told x report.verdict Q bytes) same two)
+marked_bytes : {A : Type 0} (P Q : List Clause) (none logged : MarkedLog) (v : CheckVerdict) (report : MarkedReport A) (bytes : List ℕ) →
+    none ≡ nothing_logged → Reports logged v report → by_builder P none logged v Q bytes → IsMarkedResult P bytes (Ok report) Q
+marked_bytes P Q none logged v report bytes n w k =
+    let one : by_builder P nothing_logged logged v Q bytes = subst (λ x. by_builder P x logged v Q bytes) n k in
+    let two : by_builder P nothing_logged logged report.verdict Q bytes = subst (λ x. by_builder P nothing_logged logged x Q bytes) (sym w.verdict) one in
+    let made : MarkedLog = record { assumed = logged.assumed; inputs = report.inputs; cores = core_lists report.cores.items } in
+    let same : logged ≡ made = ap (λ x. let t : MarkedLog = record { assumed = logged.assumed; inputs = x; cores = logged.cores } in t) (sym w.inputs) ∙
+    ap (λ x. let t : MarkedLog = record { assumed = logged.assumed; inputs = report.inputs; cores = x } in t) (sym w.cores) in
+    (logged.assumed, subst (λ x. by_builder P nothing_logged x report.verdict Q bytes) same two)
 
-pub marked_ok : {A : Type 0} (P Q : List Clause) (none told : MarkedTold) (v : CheckVerdict) (report : MarkedReport A) (old new : Stand) →
-    none ≡ nothing_told → Reports told v report →
-    ChecksBytes (λ bytes. IsCheckOf (Text true) (state_of P none) bytes (Ok v) (state_of Q told)) old (Ok v) new →
+pub marked_ok : {A : Type 0} (P Q : List Clause) (none logged : MarkedLog) (v : CheckVerdict) (report : MarkedReport A) (old new : Stand) →
+    none ≡ nothing_logged → Reports logged v report →
+    ChecksBytes (λ bytes. IsCheckOf (Text true) (state_of P none) bytes (Ok v) (state_of Q logged)) old (Ok v) new →
     ChecksBytes (λ bytes. IsMarkedResult P bytes (Ok report) Q) old (Ok report) new
-marked_ok P Q none told v report old new n w k =
-    checks_ok (λ bytes. by_builder P none told v Q bytes) (λ bytes. IsMarkedResult P bytes (Ok report) Q) old new v report
-    (λ bytes h. marked_bytes P Q none told v report bytes n w h) k
+marked_ok P Q none logged v report old new n w k =
+    checks_ok (λ bytes. by_builder P none logged v Q bytes) (λ bytes. IsMarkedResult P bytes (Ok report) Q) old new v report
+    (λ bytes h. marked_bytes P Q none logged v report bytes n w h) k
 
-pub marked_err : {A : Type 0} (P : List Clause) (none : MarkedTold) (t : ProofState) (x : CheckerError) (Q : List Clause) (old new : Stand) →
-    none ≡ nothing_told → Q ≡ t.present →
+pub marked_err : {A : Type 0} (P : List Clause) (none : MarkedLog) (t : ProofState) (x : CheckerError) (Q : List Clause) (old new : Stand) →
+    none ≡ nothing_logged → Q ≡ t.present →
     ChecksBytes {V = CheckVerdict} (λ bytes. IsCheckOf (Text true) (state_of P none) bytes (Err x) t) old (Err x) new →
     ChecksBytes {V = MarkedReport A} (λ bytes. IsMarkedResult {A = A} P bytes (Err x) Q) old (Err x) new
 marked_err {A} P none t x Q old new n q k =
-    let s : MarkedTold → ProofState = λ told. state_of P told in
+    let s : MarkedLog → ProofState = λ logged. state_of P logged in
     checks_err (λ bytes. IsCheckOf (Text true) (s none) bytes (Err x) t) (λ bytes. IsMarkedResult {A = A} P bytes (Err x) Q) old new x
     (λ bytes h. (
-      t.told,
-      subst (λ y. IsCheckOf (Text true) (s nothing_told) bytes (Err x) (state_of y t.told)) (sym q)
+      t.logged,
+      subst (λ y. IsCheckOf (Text true) (s nothing_logged) bytes (Err x) (state_of y t.logged)) (sym q)
           (subst (λ y. IsCheckOf (Text true) (s y) bytes (Err x) t) n h),
     )) k
 
-pub marked_err_exact : (P : List Clause) (none : MarkedTold) (t : ProofState) (x : CheckerError) (Q : List Clause) (old new : Stand) (bytes : List ℕ) →
-    none ≡ nothing_told → Q ≡ t.present → old.left ≡ Some bytes → is_of_bytes x ≡ true →
-    ChecksBytes {V = CheckVerdict} (λ bytes. IsCheckOf (Text true) (state_of P none) bytes (Err x) t) old (Err x) new → (told : MarkedTold)
-    × IsCheckOf (Text true) (state_of P nothing_told) bytes (Err x) (state_of Q told)
+pub marked_err_exact : (P : List Clause) (none : MarkedLog) (t : ProofState) (x : CheckerError) (Q : List Clause) (old new : Stand) (bytes : List ℕ) →
+    none ≡ nothing_logged → Q ≡ t.present → old.left ≡ Some bytes → is_of_bytes x ≡ true →
+    ChecksBytes {V = CheckVerdict} (λ bytes. IsCheckOf (Text true) (state_of P none) bytes (Err x) t) old (Err x) new → (logged : MarkedLog)
+    × IsCheckOf (Text true) (state_of P nothing_logged) bytes (Err x) (state_of Q logged)
 marked_err_exact P none t x Q old new bytes n q e i k =
-    let s : MarkedTold → ProofState = λ told. state_of P told in
+    let s : MarkedLog → ProofState = λ logged. state_of P logged in
     let h = checks_exact (λ bytes. IsCheckOf (Text true) (s none) bytes (Err x) t) old new bytes (Err x) e i k in (
-      t.told,
-      subst (λ y. IsCheckOf (Text true) (s nothing_told) bytes (Err x) (state_of y t.told)) (sym q)
+      t.logged,
+      subst (λ y. IsCheckOf (Text true) (s nothing_logged) bytes (Err x) (state_of y t.logged)) (sym q)
           (subst (λ y. IsCheckOf (Text true) (s y) bytes (Err x) t) n h),
     )
 

@@ -23,7 +23,7 @@ use Rattle.varisat_proof.specs.Lines.{ProofLine, line_of_kind, letter_kind, step
 use Rattle.varisat_proof.specs.Grammar.{Accepted, Faulty, tag_kind}
 use Rattle.varisat_proof.specs.Machine.{Place, Parsed, ReaderState, line_at, number_event, begin_event, event, begin_line, after_number, moved, last_symbol, put, at_end, happens, after, parsed, parsed_from, begin, last_event, last_place, last_offset}
 use Rattle.varisat_proof.specs.Means.{BytesMean, Means}
-use Rattle.varisat_proof.specs.Marked.{MarkedTold, ProofState, Rules, strict_rules, GoesBy, IsCheckBy, state_of}
+use Rattle.varisat_proof.specs.Marked.{MarkedLog, ProofState, Rules, strict_rules, GoesBy, IsCheckBy, state_of}
 use Rattle.varisat_proof.specs.Checks.{IsLineStatus, StandsBy, StandsAfterLines, LastIsWrong, IsWrongLast, with_lines, HasRead, CheckBreaksOff, EndsWith, result_at_end}
 use Rattle.varisat_proof.proofs.TokenLines.{parsed_means}
 
@@ -38,8 +38,8 @@ error_of Absent step = NoSuchClause step
 error_of Unassumed step = CoreNotAssumed step
 error_of status step = CheckFailed step
 
-pub state_is : (P P' : List Clause) (told told' : MarkedTold) → P' ≡ P → told' ≡ told → (let s : ProofState = state_of P' told' in s) ≡ state_of P told
-state_is P P' told told' e h = ap (λ x. let s : ProofState = state_of x told' in s) e ∙ ap (λ x. let s : ProofState = state_of P x in s) h
+pub state_is : (P P' : List Clause) (logged logged' : MarkedLog) → P' ≡ P → logged' ≡ logged → (let s : ProofState = state_of P' logged' in s) ≡ state_of P logged
+state_is P P' logged logged' e h = ap (λ x. let s : ProofState = state_of x logged' in s) e ∙ ap (λ x. let s : ProofState = state_of P x in s) h
 
 module _ (R : Rules) where
   pub goes_more : (lines : List ProofLine) (s t : ProofState) (line : ProofLine) (r : ProofState) → GoesBy R s lines t → (Conflicts t.present [] → ⊥) →

@@ -98,7 +98,7 @@ drat_determined : AreDetermined drat_rules
 drat_determined = record {
   taken = λ s s' line r r' w h k. record {
     present = taken s.present s'.present line.kind line.clause r.present r'.present w.present h.0 k.0;
-    told = h.1 ∙ w.told ∙ sym k.1;
+    logged = h.1 ∙ w.logged ∙ sym k.1;
   };
   refused = λ s s' line status r w h k. refused s.present s'.present line.kind line.clause status r.present w.present h k.0;
   status = λ s s' line a b w h k. same_status s.present s'.present line.kind line.clause a b h k;

@@ -22,4 +22,4 @@ pub mod AddedTexts
 pub mod VerifiedTexts
 pub mod PrintedTexts
 pub mod StepLines
-pub mod ToldSteps
+pub mod LoggedSteps

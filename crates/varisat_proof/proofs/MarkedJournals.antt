@@ -8,37 +8,37 @@ use Rattle.varisat_theory.specs.Journals.{Entry, Accepts, Writes, Assumes, Fails
 use Rattle.varisat_formula.specs.Formulas.{with_one_more}
 use Rattle.varisat_proof.specs.declared.proof.format.Encoding.TheVariants.{Text}
 use Rattle.varisat_proof.specs.Assumed.{assumed_behind, CoresAreAssumed, cores_of}
-use Rattle.varisat_proof.specs.Marked.{MarkedTold, state_of, TakesAll}
-use Rattle.varisat_proof.specs.Telling.{lines_told}
+use Rattle.varisat_proof.specs.Marked.{MarkedLog, state_of, TakesAll}
+use Rattle.varisat_proof.specs.Logging.{logged_lines}
 use Rattle.std.specs.Prelude.{length}
 
 -- what the lines lead to
-pub record IsTakenAs (P : List Clause) (m : MarkedTold) (es : List Entry) (Q : List Clause) : Type 0 where
-  pub told : MarkedTold
-  pub takes : TakesAll (state_of P m) (lines_told (Text true) es) (state_of Q told)
-  pub inputs : told.inputs.clauses ≡ m.inputs.clauses ++ accepted_of es
-  pub assumed : told.assumed ≡ assumed_behind m.assumed es
-  pub cores : told.cores ≡ m.cores ++ cores_of (length m.inputs.clauses) es
+pub record IsTakenAs (P : List Clause) (m : MarkedLog) (es : List Entry) (Q : List Clause) : Type 0 where
+  pub logged : MarkedLog
+  pub takes : TakesAll (state_of P m) (logged_lines (Text true) es) (state_of Q logged)
+  pub inputs : logged.inputs.clauses ≡ m.inputs.clauses ++ accepted_of es
+  pub assumed : logged.assumed ≡ assumed_behind m.assumed es
+  pub cores : logged.cores ≡ m.cores ++ cores_of (length m.inputs.clauses) es
 
 -- one more
 pub one_longer : (P : List Clause) (c : Clause) → length (P ++ c ∷ []) ≡ suc (length P)
 one_longer [] c = refl
 one_longer (d ∷ P) c = ap suc (one_longer P c)
 
-pub journal_taken : (P : List Clause) (m : MarkedTold) (es : List Entry) (Q : List Clause) → Leads P es Q → NoneLeaves es →
+pub journal_taken : (P : List Clause) (m : MarkedLog) (es : List Entry) (Q : List Clause) → Leads P es Q → NoneLeaves es →
     CoresAreAssumed m.assumed es → IsTakenAs P m es Q
 journal_taken P m [] Q d n c = record {
-  told = m;
+  logged = m;
   takes = ap (λ (X : List Clause). state_of X m) d;
   inputs = sym (append-nil m.inputs.clauses);
   assumed = refl;
   cores = sym (append-nil m.cores);
 }
 journal_taken P m (Accepts c ∷ es) Q (R, q, d) n a =
-    let next : MarkedTold = record m { inputs = with_one_more m.inputs c } in
+    let next : MarkedLog = record m { inputs = with_one_more m.inputs c } in
     let t = journal_taken R next es Q d n a in
     record {
-      told = t.told;
+      logged = t.logged;
       takes = (state_of R next, ap (λ (X : List Clause). state_of X next) q, t.takes);
       inputs = t.inputs ∙ append_assoc m.inputs.clauses (c ∷ []) (accepted_of es);
       assumed = t.assumed;
@@ -47,7 +47,7 @@ journal_taken P m (Accepts c ∷ es) Q (R, q, d) n a =
 journal_taken P m (Writes (Add c) ∷ es) Q (R, (f, q), d) n a =
     let t = journal_taken R m es Q d n a in
     record {
-      told = t.told;
+      logged = t.logged;
       takes = (state_of R m, (f, ap (λ (X : List Clause). state_of X m) q), t.takes);
       inputs = t.inputs;
       assumed = t.assumed;
@@ -55,22 +55,22 @@ journal_taken P m (Writes (Add c) ∷ es) Q (R, (f, q), d) n a =
     }
 journal_taken P m (Writes (Delete c) ∷ es) Q (R, o, d) n a =
     let t = journal_taken R m es Q d n a in
-    record { told = t.told; takes = (state_of R m, (R, o, refl), t.takes); inputs = t.inputs; assumed = t.assumed; cores = t.cores }
+    record { logged = t.logged; takes = (state_of R m, (R, o, refl), t.takes); inputs = t.inputs; assumed = t.assumed; cores = t.cores }
 journal_taken P m (Assumes list ∷ es) Q (R, q, d) n a =
-    let next : MarkedTold = record m { assumed = list } in
+    let next : MarkedLog = record m { assumed = list } in
     let t = journal_taken R next es Q d n a in
     record {
-      told = t.told;
+      logged = t.logged;
       takes = (state_of R next, ap (λ (X : List Clause). state_of X next) q, t.takes);
       inputs = t.inputs;
       assumed = t.assumed;
       cores = t.cores;
     }
 journal_taken P m (Fails core ∷ es) Q (R, (f, q), d) n (within, a) =
-    let next : MarkedTold = record m { cores = m.cores ++ (length m.inputs.clauses, core) ∷ [] } in
+    let next : MarkedLog = record m { cores = m.cores ++ (length m.inputs.clauses, core) ∷ [] } in
     let t = journal_taken R next es Q d n a in
     record {
-      told = t.told;
+      logged = t.logged;
       takes = (state_of R next, (within, f, ap (λ (X : List Clause). state_of X next) q), t.takes);
       inputs = t.inputs;
       assumed = t.assumed;

@@ -18,38 +18,38 @@ use Rattle.varisat_proof.specs.declared.checker.error.CheckerError.{CheckerError
 use Rattle.varisat_proof.specs.declared.checker.error.CheckerError.TheVariants.{CheckFailed, NoSuchClause, CoreNotAssumed, Parse}
 use Rattle.varisat_proof.specs.Lines.{ProofLine, step_number}
 use Rattle.varisat_proof.specs.Machine.{Parsed, parsed}
-use Rattle.varisat_proof.specs.Marked.{MarkedTold, ProofState, Rules, strict_rules, TakesKind, IsWrongKind, GoesBy, Goes, TakesAll, GoesThrough, StopsBeforeBy, StopsCheckBy, StopsCheck, CheckOnceBy, CheckOnce, CheckGoesThrough}
+use Rattle.varisat_proof.specs.Marked.{MarkedLog, ProofState, Rules, strict_rules, TakesKind, IsWrongKind, GoesBy, Goes, TakesAll, GoesThrough, StopsBeforeBy, StopsCheckBy, StopsCheck, CheckOnceBy, CheckOnce, CheckGoesThrough}
 use Rattle.varisat_proof.proofs.CheckedLines.{error_of}
 use Rattle.varisat_proof.proofs.TokenLines.{only_parsed}
 
 -- 1. The same but for the order of clauses and of their literals.
 pub record Same (s t : ProofState) : Type 0 where
   pub present : SameClauses s.present t.present
-  pub told : s.told ≡ t.told
+  pub logged : s.logged ≡ t.logged
 
 same_back : (s t : ProofState) → Same s t → Same t s
-same_back s t w = record { present = same_clauses-back s.present t.present w.present; told = sym w.told }
+same_back s t w = record { present = same_clauses-back s.present t.present w.present; logged = sym w.logged }
 
 same_by : (r r' s s' : ProofState) → r ≡ s → r' ≡ s' → Same s s' → Same r r'
 same_by r r' s s' e f w = subst (λ x. Same x r') (sym e) (subst (λ x. Same s x) (sym f) w)
 
 same_taken : (s s' : ProofState) (kind : LineKind) (c : Clause) (r r' : ProofState) → Same s s' → TakesKind s kind c r → TakesKind s' kind c r' → Same r r'
-same_taken s s' Adds c r r' w h k = same_by r r' _ _ h.1 k.1 (record { present = same_add s.present s'.present c c w.present (same_set-self c); told = w.told })
+same_taken s s' Adds c r r' w h k = same_by r r' _ _ h.1 k.1 (record { present = same_add s.present s'.present c c w.present (same_set-self c); logged = w.logged })
 same_taken s s' Deletes c r r' w h k = same_by r r' _ _ h.2 k.2
-    (record { present = takes_out_unique s.present s'.present c h.0 k.0 w.present h.1 k.1; told = w.told })
+    (record { present = takes_out_unique s.present s'.present c h.0 k.0 w.present h.1 k.1; logged = w.logged })
 same_taken s s' Accepts c r r' w h k =
     same_by r r' _ _ h k (record {
       present = same_add s.present s'.present c c w.present (same_set-self c);
-      told = ap (λ x. let t : MarkedTold = record { assumed = x.assumed; inputs = with_one_more x.inputs c; cores = x.cores } in t) w.told;
+      logged = ap (λ x. let t : MarkedLog = record { assumed = x.assumed; inputs = with_one_more x.inputs c; cores = x.cores } in t) w.logged;
     })
 same_taken s s' Assumes c r r' w h k = same_by r r' _ _ h k (record
-    { present = w.present; told = ap (λ x. let t : MarkedTold = record { assumed = c; inputs = x.inputs; cores = x.cores } in t) w.told })
+    { present = w.present; logged = ap (λ x. let t : MarkedLog = record { assumed = c; inputs = x.inputs; cores = x.cores } in t) w.logged })
 same_taken s s' Fails c r r' w h k =
     same_by r r' _ _ h.2 k.2
     (record {
       present = w.present;
-      told = ap (λ x. let t : MarkedTold = record
-          { assumed = x.assumed; inputs = x.inputs; cores = x.cores ++ (length x.inputs.clauses, c) ∷ [] } in t) w.told;
+      logged = ap (λ x. let t : MarkedLog = record
+          { assumed = x.assumed; inputs = x.inputs; cores = x.cores ++ (length x.inputs.clauses, c) ∷ [] } in t) w.logged;
     })
 
 -- a line that is wrong in the one is not taken in the other
@@ -60,7 +60,7 @@ wrong_taken s s' Deletes c Absent r w h k =
     let t = takes_from s'.present c k.0 k.1 in
     let u = same_clauses_find s'.present s.present (same_clauses-back s.present s'.present w.present) t.0 t.1 in
     h u.0 u.1 (same_set-through u.0 t.0 c u.2 t.2)
-wrong_taken s s' Fails c Unassumed r w h k = h (subst (λ (x : MarkedTold). c ⊆ x.assumed) (sym w.told) k.0)
+wrong_taken s s' Fails c Unassumed r w h k = h (subst (λ (x : MarkedLog). c ⊆ x.assumed) (sym w.logged) k.0)
 wrong_taken s s' Fails c Unproved r w h k = h.1 (conflicts_same s'.present s.present c (same_clauses-back s.present s'.present w.present) k.1)
 wrong_taken s s' kind c status r w h k = absurd h
 
@@ -73,8 +73,8 @@ deletes_status : (s : ProofState) (c : Clause) (a : LineStatus) → IsWrongKind 
 deletes_status s c Absent h = refl
 deletes_status s c a h = absurd h
 
-fails_status : (s : ProofState) (c : Clause) (a : LineStatus) → IsWrongKind s Fails c a → ((a ≡ Unproved) × (c ⊆ s.told.assumed))
-    ⊎ ((a ≡ Unassumed) × (c ⊆ s.told.assumed → ⊥))
+fails_status : (s : ProofState) (c : Clause) (a : LineStatus) → IsWrongKind s Fails c a → ((a ≡ Unproved) × (c ⊆ s.logged.assumed))
+    ⊎ ((a ≡ Unassumed) × (c ⊆ s.logged.assumed → ⊥))
 fails_status s c Unproved h = inl (refl, h.0)
 fails_status s c Unassumed h = inr (refl, h)
 fails_status s c a h = absurd h
@@ -84,8 +84,8 @@ same_status s s' Adds c a b w h k = adds_status s c a h ∙ sym (adds_status s' 
 same_status s s' Deletes c a b w h k = deletes_status s c a h ∙ sym (deletes_status s' c b k)
 same_status s s' Fails c a b w h k =
     ⊎_elim
-    (λ x. ⊎_elim (λ y. x.0 ∙ sym y.0) (λ y. absurd (y.1 (subst (λ (z : MarkedTold). c ⊆ z.assumed) w.told x.1))) (fails_status s' c b k))
-    (λ x. ⊎_elim (λ y. absurd (x.1 (subst (λ (z : MarkedTold). c ⊆ z.assumed) (sym w.told) y.1))) (λ y. x.0 ∙ sym y.0) (fails_status s' c b k))
+    (λ x. ⊎_elim (λ y. x.0 ∙ sym y.0) (λ y. absurd (y.1 (subst (λ (z : MarkedLog). c ⊆ z.assumed) w.logged x.1))) (fails_status s' c b k))
+    (λ x. ⊎_elim (λ y. absurd (x.1 (subst (λ (z : MarkedLog). c ⊆ z.assumed) (sym w.logged) y.1))) (λ y. x.0 ∙ sym y.0) (fails_status s' c b k))
     (fails_status s c a h)
 same_status s s' kind c a b w h k = absurd h
 
@@ -189,12 +189,12 @@ once rules d e = λ s bytes r q t u a b.
     (only_parsed e bytes b.lines b.fault b.means) in
     let x = halts rules a.fault (length a.front) t a.back r a.stops in
     let y = subst (λ f. Halts rules f (length b.front) u b.back q) (sym p.1) (halts rules b.fault (length b.front) u b.back q b.stops) in
-    let self : Same s s = record { present = same_clauses-self s.present; told = refl } in
+    let self : Same s s = record { present = same_clauses-self s.present; logged = refl } in
     let w = walk rules d a.fault (length a.front) (length b.front) a.front b.front a.back b.back r q s s t u self a.goes b.goes
     (sym a.splits ∙ p.0 ∙ b.splits) x y in
     let z = subst (λ k. Halts rules a.fault k u a.back q) (ap length (sym w.0))
     (subst (λ k. Halts rules a.fault (length b.front) u k q) (sym w.1) y) in
-    (return_same rules d a.fault (length a.front) t u a.back r q w.2 x z, w.2.told)
+    (return_same rules d a.fault (length a.front) t u a.back r q w.2 x z, w.2.logged)
 
 pub check_once : (e : Encoding) → CheckOnce e
 check_once e = once strict_rules strict_determined e
@@ -203,41 +203,41 @@ check_once e = once strict_rules strict_determined e
 
 at_end : (fault : Option ℕ) (n : ℕ) (back : List ProofLine) (r : Result CheckVerdict CheckerError) (t s u : ProofState) → Same t s →
     TakesAll s back u → Halts strict_rules fault n t back r → (r ≡ refuted_result fault)
-    ⊎ ((r ≡ ended_result fault) × (Conflicts u.present [] → ⊥) × (t.told ≡ u.told))
+    ⊎ ((r ≡ ended_result fault) × (Conflicts u.present [] → ⊥) × (t.logged ≡ u.logged))
 at_end fault n back r t s u w a (Refuted k e) = inl e
 at_end fault n back r t s u w a (AtEnd k z e) =
     let same : s ≡ u = subst (λ ls. TakesAll s ls u) z a in
     let back' = subst (λ (x : ProofState). SameClauses x.present t.present) same (same_clauses-back t.present s.present w.present) in
-    inr (e, (λ c. k (conflicts_same u.present t.present [] back' c)), w.told ∙ ap (λ (x : ProofState). x.told) same)
+    inr (e, (λ c. k (conflicts_same u.present t.present [] back' c)), w.logged ∙ ap (λ (x : ProofState). x.logged) same)
 at_end fault n back r t s u w a (AtLine k line lines z status i e) =
     let b : TakesAll s (line ∷ lines) u = subst (λ ls. TakesAll s ls u) z a in
     absurd (wrong_taken t s line.kind line.clause status b.0 w i b.1)
 
 taken_through : (fault : Option ℕ) (n : ℕ) (front back : List ProofLine) (r : Result CheckVerdict CheckerError) (s s' t u : ProofState) → Same s s' →
     Goes s front t → TakesAll s' (front ++ back) u → Halts strict_rules fault n t back r → (r ≡ refuted_result fault)
-    ⊎ ((r ≡ ended_result fault) × (Conflicts u.present [] → ⊥) × (t.told ≡ u.told))
+    ⊎ ((r ≡ ended_result fault) × (Conflicts u.present [] → ⊥) × (t.logged ≡ u.logged))
 taken_through fault n [] back r s s' t u w g a h = at_end fault n back r t s' u (same_by t s' s s' (sym g) refl w) a h
 taken_through fault n (l ∷ f) back r s s' t u w g a h =
     taken_through fault n f back r g.1 a.0 t u (same_taken s s' l.kind l.clause g.1 a.0 w g.2 a.1) g.3 a.2 h
 
 through : (s : ProofState) (lines front back : List ProofLine) (u : ProofState) (r : Result CheckVerdict CheckerError) (t : ProofState)
     (fault : Option ℕ) → lines ≡ front ++ back → Goes s front t → StopsCheck fault (length front) t back r →
-    ((r ≡ Ok Refutation) ⊎ ((r ≡ Ok Derivation) × (Conflicts u.present [] → ⊥) × (t.told ≡ u.told))) →
+    ((r ≡ Ok Refutation) ⊎ ((r ≡ Ok Derivation) × (Conflicts u.present [] → ⊥) × (t.logged ≡ u.logged))) →
     GoesThrough s lines r t × (Conflicts u.present [] → r ≡ Ok Refutation)
 through s lines front back u (Ok Refutation) t fault e g k x = ((front, back, e, g, k.1), λ _. refl)
 through s lines front back u (Ok Derivation) t fault e g k x = (
   (subst (λ ls. Goes s ls t) (sym (e ∙ ap (λ ls. front ++ ls) k.1 ∙ append-nil front)) g, k.2),
-  λ c. ⊎_elim (λ q. q) (λ (q, none, told). absurd (none c)) x,
+  λ c. ⊎_elim (λ q. q) (λ (q, none, logged). absurd (none c)) x,
 )
 through s lines front back u (Err error) t fault e g k x = absurd (⊎_elim
     (λ q. let z : Err error ≡ Ok Refutation = q in cc)
-    (λ (q, none, told). let z : Err error ≡ Ok Derivation = q in cc)
+    (λ (q, none, logged). let z : Err error ≡ Ok Derivation = q in cc)
     x)
 
 pub check_through : (e : Encoding) → CheckGoesThrough e
 check_through e = λ s bytes lines u r t m a k.
     let p = same_parsed lines k.lines None k.fault (parsed e bytes) (only_parsed e bytes lines None m) (only_parsed e bytes k.lines k.fault k.means) in
     let h = subst (λ f. Halts strict_rules f (length k.front) t k.back r) (sym p.1) (halts strict_rules k.fault (length k.front) t k.back r k.stops) in
-    let self : Same s s = record { present = same_clauses-self s.present; told = refl } in
+    let self : Same s s = record { present = same_clauses-self s.present; logged = refl } in
     through s lines k.front k.back u r t k.fault (p.0 ∙ k.splits) k.goes k.stops
     (taken_through None (length k.front) k.front k.back r s s t u self k.goes (subst (λ ls. TakesAll s ls u) (p.0 ∙ k.splits) a) h)

@@ -12,7 +12,7 @@ use Rattle.varisat_proof.specs.declared.checker.error.CheckVerdict.{CheckVerdict
 use Rattle.varisat_proof.specs.declared.checker.error.CheckVerdict.TheVariants.{Refutation}
 use Rattle.varisat_proof.specs.declared.checker.marked.MarkedReport.{MarkedReport}
 use Rattle.varisat_proof.specs.Lines.{ProofLine}
-use Rattle.varisat_proof.specs.Marked.{MarkedTold, ProofState, nothing_told, TakesKind, Goes, StopsCheck, IsCheckOf, state_of}
+use Rattle.varisat_proof.specs.Marked.{MarkedLog, ProofState, nothing_logged, TakesKind, Goes, StopsCheck, IsCheckOf, state_of}
 use Rattle.varisat_proof.specs.Calls.{core_lists, IsMarkedResult, IsTrueReport}
 
 -- what satisfies all of both lists satisfies each
@@ -33,11 +33,11 @@ take_front (suc n) (x ∷ cs) c h = ap (λ ys. x ∷ ys) (take_front n cs c (ome
 
 -- What satisfies the clauses at the start and those given satisfies what is present, and no core is satisfied together with those given before it.
 record IsSound (P : List Clause) (s : ProofState) : Type 0 where
-  present : (a : Assignment) → SatisfiesAll a P → SatisfiesAll a s.told.inputs.clauses → SatisfiesAll a s.present
-  before : (core : ℕ × List Literal) → core ∈ s.told.cores → core.0 ≤ length s.told.inputs.clauses
-  cores : (core : ℕ × List Literal) → core ∈ s.told.cores → IsSatisfiableWith (P ++ take core.0 s.told.inputs.clauses) core.1 → ⊥
+  present : (a : Assignment) → SatisfiesAll a P → SatisfiesAll a s.logged.inputs.clauses → SatisfiesAll a s.present
+  before : (core : ℕ × List Literal) → core ∈ s.logged.cores → core.0 ≤ length s.logged.inputs.clauses
+  cores : (core : ℕ × List Literal) → core ∈ s.logged.cores → IsSatisfiableWith (P ++ take core.0 s.logged.inputs.clauses) core.1 → ⊥
 
-sound_start : (P : List Clause) → IsSound P (state_of P nothing_told)
+sound_start : (P : List Clause) → IsSound P (state_of P nothing_logged)
 sound_start P = record { present = λ a s t. s; before = λ core m. absurd m; cores = λ core m. absurd m }
 
 sound_line : (P : List Clause) (s : ProofState) (kind : LineKind) (c : Clause) (t : ProofState) → IsSound P s → TakesKind s kind c t → IsSound P t
@@ -52,22 +52,22 @@ sound_line P s Deletes c t w h = subst (λ x. IsSound P x) (sym h.2) (record {
   cores = w.cores;
 })
 sound_line P s Accepts c t w h = subst (λ x. IsSound P x) (sym h) (record {
-  present = λ a p i. satisfies_more a s.present c (w.present a p (satisfies_left a s.told.inputs.clauses (c ∷ []) i))
-      (satisfies_right a s.told.inputs.clauses (c ∷ []) i c (inl refl));
-  before = λ core m. let e = length_more s.told.inputs.clauses c in let b = w.before core m in omega (arith, e, b);
-  cores = λ core m k. w.cores core m (subst (λ x. IsSatisfiableWith (P ++ x) core.1) (take_front core.0 s.told.inputs.clauses c (w.before core m)) k);
+  present = λ a p i. satisfies_more a s.present c (w.present a p (satisfies_left a s.logged.inputs.clauses (c ∷ []) i))
+      (satisfies_right a s.logged.inputs.clauses (c ∷ []) i c (inl refl));
+  before = λ core m. let e = length_more s.logged.inputs.clauses c in let b = w.before core m in omega (arith, e, b);
+  cores = λ core m k. w.cores core m (subst (λ x. IsSatisfiableWith (P ++ x) core.1) (take_front core.0 s.logged.inputs.clauses c (w.before core m)) k);
 })
 sound_line P s Assumes c t w h = subst (λ x. IsSound P x) (sym h) (record { present = w.present; before = w.before; cores = w.cores })
 sound_line P s Fails c t w h = subst (λ x. IsSound P x) (sym h.2) (record {
   present = w.present;
   before = λ core m. ⊎_elim (λ k. w.before core k) (λ k. ⊎_elim (λ e. let f = ap (λ x. x.0) e in omega (arith, f)) (λ z. absurd z) k)
-      (∈-append_cases core s.told.cores ((length s.told.inputs.clauses, c) ∷ []) m);
+      (∈-append_cases core s.logged.cores ((length s.logged.inputs.clauses, c) ∷ []) m);
   cores = λ core m. ⊎_elim (λ k. w.cores core k) (λ k. ⊎_elim (λ e. fails core e) (λ z. absurd z) k)
-      (∈-append_cases core s.told.cores ((length s.told.inputs.clauses, c) ∷ []) m);
+      (∈-append_cases core s.logged.cores ((length s.logged.inputs.clauses, c) ∷ []) m);
 })
   where
     all : List Clause
-    all = s.told.inputs.clauses
+    all = s.logged.inputs.clauses
 
     fails_here : IsSatisfiableWith (P ++ take (length all) all) c → ⊥
     fails_here k =
@@ -82,22 +82,22 @@ goes_sound P [] s t w g = subst (λ x. IsSound P x) g w
 goes_sound P (line ∷ lines) s t w g = goes_sound P lines g.1 t (sound_line P s line.kind line.clause g.1 w g.2) g.3
 
 -- a refutation is one of the clauses at the start and those that were given
-pub refutation_sound : (P Q : List Clause) (bytes : List ℕ) (told : MarkedTold) (v : CheckVerdict) → v ≡ Refutation →
-    IsCheckOf (Text true) (state_of P nothing_told) bytes (Ok v) (state_of Q told) → IsSatisfiable (P ++ told.inputs.clauses) → ⊥
-refutation_sound P Q bytes told v e k (a, i) =
-    let s : ProofState = state_of P nothing_told in
-    let t : ProofState = state_of Q told in
+pub refutation_sound : (P Q : List Clause) (bytes : List ℕ) (logged : MarkedLog) (v : CheckVerdict) → v ≡ Refutation →
+    IsCheckOf (Text true) (state_of P nothing_logged) bytes (Ok v) (state_of Q logged) → IsSatisfiable (P ++ logged.inputs.clauses) → ⊥
+refutation_sound P Q bytes logged v e k (a, i) =
+    let s : ProofState = state_of P nothing_logged in
+    let t : ProofState = state_of Q logged in
     let w = goes_sound P k.front s t (sound_start P) k.goes in
     let h = subst (λ v. StopsCheck k.fault (length k.front) t k.back (Ok v)) e k.stops in
-    conflicts_sound Q [] a (w.present a (satisfies_left a P told.inputs.clauses i) (satisfies_right a P told.inputs.clauses i)) (λ l m. absurd m) h.1
+    conflicts_sound Q [] a (w.present a (satisfies_left a P logged.inputs.clauses i) (satisfies_right a P logged.inputs.clauses i)) (λ l m. absurd m) h.1
 
 -- a report is true
 pub report_true : {A : Type 0} (P Q : List Clause) (bytes : List ℕ) (report : MarkedReport A) → IsMarkedResult P bytes (Ok report) Q → IsTrueReport P report
 report_true P Q bytes report (assumed, k) =
-    let s : ProofState = state_of P nothing_told in
-    let t : ProofState = record { present = Q; told = record { assumed = assumed; inputs = report.inputs; cores = core_lists report.cores.items } } in
+    let s : ProofState = state_of P nothing_logged in
+    let t : ProofState = record { present = Q; logged = record { assumed = assumed; inputs = report.inputs; cores = core_lists report.cores.items } } in
     let w = goes_sound P k.front s t (sound_start P) k.goes in
     record {
-      refutation = λ e i. refutation_sound P Q bytes t.told report.verdict e k i;
+      refutation = λ e i. refutation_sound P Q bytes t.logged report.verdict e k i;
       cores = w.cores;
     }

@@ -16,12 +16,12 @@ use Rattle.varisat_proof.specs.declared.checker.error.CheckVerdict.TheVariants.{
 use Rattle.varisat_proof.specs.declared.checker.error.CheckerError.{CheckerError}
 use Rattle.varisat_proof.specs.Assumed.{cores_of}
 use Rattle.varisat_proof.specs.Lines.{ProofLine, line_of_kind, plain_line, has_kind, HasKinds}
-use Rattle.varisat_proof.specs.Marked.{MarkedTold, nothing_told, ProofState, state_of, Goes, GoesThrough}
+use Rattle.varisat_proof.specs.Marked.{MarkedLog, nothing_logged, ProofState, state_of, Goes, GoesThrough}
 use Rattle.varisat_proof.specs.declared.proof.format.ProofFormat.TheVariants.{Marked}
 use Rattle.varisat_proof.specs.Grammar.{Accepted}
-use Rattle.varisat_proof.specs.Telling.{lines_told, bytes_told}
+use Rattle.varisat_proof.specs.Logging.{logged_lines, logged_bytes}
 use Rattle.varisat_proof.specs.Written.{AreInRange}
-use Rattle.varisat_proof.specs.Passing.{ToldConflict, TellsAllOf, PassesWith, JournalsPass}
+use Rattle.varisat_proof.specs.Passing.{LogsConflict, LogsAllOf, PassesWith, JournalsPass}
 use Rattle.varisat_proof.proofs.MarkedJournals.{journal_taken, one_longer}
 use Rattle.varisat_proof.proofs.MarkedOnce.{check_through}
 use Rattle.varisat_proof.proofs.WrittenLines.{written_accepted}
@@ -47,7 +47,7 @@ line_of (Assumes a) = line_of_kind kind.Assumes a
 line_of (Fails core) = line_of_kind kind.Fails core
 line_of (Leaves v) = line_of_kind kind.Adds []
 
-a_line_each : (es : List Entry) → NoneLeaves es → lines_told (Text true) es ≡ map line_of es
+a_line_each : (es : List Entry) → NoneLeaves es → logged_lines (Text true) es ≡ map line_of es
 unfolding line_of
 a_line_each [] n = refl
 a_line_each (Accepts c ∷ es) n = ap (λ ls. line_of_kind kind.Accepts c ∷ ls) (a_line_each es n)
@@ -77,20 +77,20 @@ first_entries (x ∷ es) (l ∷ front) back e =
     (x ∷ first, rest, ap (λ xs. x ∷ xs) joined, ap (λ y. y ∷ map line_of first) head ∙ ap (λ ys. l ∷ ys) lines)
 
 -- 2. A check goes through the lines of a journal.
-record IsWalk (P : List Clause) (m : MarkedTold) (es : List Entry) (t : ProofState) : Type 0 where
+record IsWalk (P : List Clause) (m : MarkedLog) (es : List Entry) (t : ProofState) : Type 0 where
   pub leads : Leads P es t.present
-  pub inputs : t.told.inputs.clauses ≡ m.inputs.clauses ++ accepted_of es
-  pub cores : t.told.cores ≡ m.cores ++ cores_of (length m.inputs.clauses) es
+  pub inputs : t.logged.inputs.clauses ≡ m.inputs.clauses ++ accepted_of es
+  pub cores : t.logged.cores ≡ m.cores ++ cores_of (length m.inputs.clauses) es
 
-walk : (P : List Clause) (m : MarkedTold) (es : List Entry) (t : ProofState) → NoneLeaves es → Goes (state_of P m) (map line_of es) t → IsWalk P m es t
+walk : (P : List Clause) (m : MarkedLog) (es : List Entry) (t : ProofState) → NoneLeaves es → Goes (state_of P m) (map line_of es) t → IsWalk P m es t
 unfolding line_of
 walk P m [] t n g = record {
   leads = ap (λ (x : ProofState). x.present) g;
-  inputs = ap (λ (x : ProofState). x.told.inputs.clauses) (sym g) ∙ sym (append-nil m.inputs.clauses);
-  cores = ap (λ (x : ProofState). x.told.cores) (sym g) ∙ sym (append-nil m.cores);
+  inputs = ap (λ (x : ProofState). x.logged.inputs.clauses) (sym g) ∙ sym (append-nil m.inputs.clauses);
+  cores = ap (λ (x : ProofState). x.logged.cores) (sym g) ∙ sym (append-nil m.cores);
 }
 walk P m (Accepts c ∷ es) t n (none, r, q, g) =
-    let next : MarkedTold = record m { inputs = with_one_more m.inputs c } in
+    let next : MarkedLog = record m { inputs = with_one_more m.inputs c } in
     let w = walk (P ++ c ∷ []) next es t n (subst (λ (x : ProofState). Goes x (map line_of es) t) q g) in
     record {
       leads = (P ++ c ∷ [], refl, w.leads);
@@ -104,11 +104,11 @@ walk P m (Writes (Delete c) ∷ es) t n (none, r, (R, o, q), g) =
     let w = walk R m es t n (subst (λ (x : ProofState). Goes x (map line_of es) t) q g) in
     record { leads = (R, o, w.leads); inputs = w.inputs; cores = w.cores }
 walk P m (Assumes a ∷ es) t n (none, r, q, g) =
-    let next : MarkedTold = record m { assumed = a } in
+    let next : MarkedLog = record m { assumed = a } in
     let w = walk P next es t n (subst (λ (x : ProofState). Goes x (map line_of es) t) q g) in
     record { leads = (P, refl, w.leads); inputs = w.inputs; cores = w.cores }
 walk P m (Fails core ∷ es) t n (none, r, (within, f, q), g) =
-    let next : MarkedTold = record m { cores = m.cores ++ (length m.inputs.clauses, core) ∷ [] } in
+    let next : MarkedLog = record m { cores = m.cores ++ (length m.inputs.clauses, core) ∷ [] } in
     let w = walk P next es t n (subst (λ (x : ProofState). Goes x (map line_of es) t) q g) in
     record {
       leads = (P, (f, refl), w.leads);
@@ -126,47 +126,47 @@ goes_before s (l ∷ front) line back t (none, r, k, g) =
     (u, (none, r, k, h), c)
 
 -- so no beginning of the entries leads to a conflict
-none_before : (es : List Entry) (t : ProofState) → NoneLeaves es → Goes (state_of [] nothing_told) (map line_of es) t →
-    (front : List Entry) (e : Entry) (back : List Entry) → es ≡ front ++ e ∷ back → ToldConflict front → ⊥
+none_before : (es : List Entry) (t : ProofState) → NoneLeaves es → Goes (state_of [] nothing_logged) (map line_of es) t →
+    (front : List Entry) (e : Entry) (back : List Entry) → es ≡ front ++ e ∷ back → LogsConflict front → ⊥
 none_before es t n g front e back j (held, d, k) =
     let lines = ap (map line_of) j ∙ map-append line_of front (e ∷ back) in
-    let (u, h, none) = goes_before (state_of [] nothing_told) (map line_of front) (line_of e) (map line_of back) t
-    (subst (λ ls. Goes (state_of [] nothing_told) ls t) lines g) in
-    let w = walk [] nothing_told front u (stay_first front (e ∷ back) (subst NoneLeaves j n)) h in
+    let (u, h, none) = goes_before (state_of [] nothing_logged) (map line_of front) (line_of e) (map line_of back) t
+    (subst (λ ls. Goes (state_of [] nothing_logged) ls t) lines g) in
+    let w = walk [] nothing_logged front u (stay_first front (e ∷ back) (subst NoneLeaves j n)) h in
     none (conflicts_same held u.present [] (leads_unique [] [] front held u.present refl d w.leads) k)
 
 -- nor do all, where it does not conflict at their end
-none_at_all : (es : List Entry) (t : ProofState) → NoneLeaves es → Goes (state_of [] nothing_told) (map line_of es) t → (Conflicts t.present [] → ⊥) →
-    (front back : List Entry) → es ≡ front ++ back → ToldConflict front → ⊥
+none_at_all : (es : List Entry) (t : ProofState) → NoneLeaves es → Goes (state_of [] nothing_logged) (map line_of es) t → (Conflicts t.present [] → ⊥) →
+    (front back : List Entry) → es ≡ front ++ back → LogsConflict front → ⊥
 none_at_all es t n g none front [] j (held, d, k) =
-    let w = walk [] nothing_told es t n g in
+    let w = walk [] nothing_logged es t n g in
     let all = subst (λ xs. Leads [] xs held) (sym (j ∙ append-nil front)) d in
     none (conflicts_same held t.present [] (leads_unique [] [] es held t.present refl all w.leads) k)
 none_at_all es t n g none front (e ∷ back) j c = none_before es t n g front e back j c
 
-told_all : (es : List Entry) (t : ProofState) → IsWalk [] nothing_told es t → TellsAllOf es t.told
+told_all : (es : List Entry) (t : ProofState) → IsWalk [] nothing_logged es t → LogsAllOf es t.logged
 told_all es t w = record { inputs = w.inputs; cores = w.cores }
 
-passes : (told : List Entry) (result : Result CheckVerdict CheckerError) (t : ProofState) → NoneLeaves told →
-    GoesThrough (state_of [] nothing_told) (map line_of told) result t → PassesWith told result t.told
-passes told (Ok Refutation) t n (front, back, e, g, k) =
-    let (first, rest, joined, lines) = first_entries told front back e in
+passes : (logged : List Entry) (result : Result CheckVerdict CheckerError) (t : ProofState) → NoneLeaves logged →
+    GoesThrough (state_of [] nothing_logged) (map line_of logged) result t → PassesWith logged result t.logged
+passes logged (Ok Refutation) t n (front, back, e, g, k) =
+    let (first, rest, joined, lines) = first_entries logged front back e in
     let stay = stay_first first rest (subst NoneLeaves joined n) in
-    let goes = subst (λ ls. Goes (state_of [] nothing_told) ls t) (sym lines) g in
-    let w = walk [] nothing_told first t stay goes in
+    let goes = subst (λ ls. Goes (state_of [] nothing_logged) ls t) (sym lines) g in
+    let w = walk [] nothing_logged first t stay goes in
     (first, rest, joined, record { conflicts = (t.present, w.leads, k); first = none_before first t stay goes }, told_all first t w)
-passes told (Ok Derivation) t n (g, none) = (none_at_all told t n g none, told_all told t (walk [] nothing_told told t n g))
-passes told (Err error) t n g = absurd g
+passes logged (Ok Derivation) t n (g, none) = (none_at_all logged t n g none, told_all logged t (walk [] nothing_logged logged t n g))
+passes logged (Err error) t n g = absurd g
 
 -- its bytes are read as its lines
-pub marked_accepted : (told : List Entry) → AreInRange (lines_told (Text true) told) → Accepted (Text true) (lines_told (Text true) told)
-    (bytes_told Marked told)
-marked_accepted told range = let lines = lines_told (Text true) told in written_accepted (Text true) lines (bytes_told Marked told) (has_kinds lines) range refl
+pub marked_accepted : (logged : List Entry) → AreInRange (logged_lines (Text true) logged) → Accepted (Text true) (logged_lines (Text true) logged)
+    (logged_bytes Marked logged)
+marked_accepted logged range = let lines = logged_lines (Text true) logged in written_accepted (Text true) lines (logged_bytes Marked logged) (has_kinds lines) range refl
 
 pub journals_pass : JournalsPass
-journals_pass = λ told held result t d n c range k.
-    let lines = lines_told (Text true) told in
-    let taken = journal_taken [] nothing_told told held d n c in
-    let (through, ends) = check_through (Text true) (state_of [] nothing_told) (bytes_told Marked told) lines (state_of held taken.told) result t
-    (marked_accepted told range) taken.takes k in
-    passes told result t n (subst (λ ls. GoesThrough (state_of [] nothing_told) ls result t) (a_line_each told n) through)
+journals_pass = λ logged held result t d n c range k.
+    let lines = logged_lines (Text true) logged in
+    let taken = journal_taken [] nothing_logged logged held d n c in
+    let (through, ends) = check_through (Text true) (state_of [] nothing_logged) (logged_bytes Marked logged) lines (state_of held taken.logged) result t
+    (marked_accepted logged range) taken.takes k in
+    passes logged result t n (subst (λ ls. GoesThrough (state_of [] nothing_logged) ls result t) (a_line_each logged n) through)

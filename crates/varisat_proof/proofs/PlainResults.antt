@@ -20,7 +20,7 @@ use Rattle.varisat_proof.specs.declared.checker.error.CheckerError.{CheckerError
 use Rattle.varisat_proof.specs.declared.checker.error.CheckerError.TheVariants.{CheckFailed, NoSuchClause, CoreNotAssumed, Parse}
 use Rattle.varisat_proof.specs.Lines.{ProofLine, line_of_kind, plain_line, plain_lines, plain_encoding, has_kind, HasKinds, step_number}
 use Rattle.varisat_proof.specs.Means.{BytesMean}
-use Rattle.varisat_proof.specs.Marked.{MarkedTold, ProofState, Takes, Goes, StopsBefore, StopsCheck, IsCheckOf, state_of}
+use Rattle.varisat_proof.specs.Marked.{MarkedLog, ProofState, Takes, Goes, StopsBefore, StopsCheck, IsCheckOf, state_of}
 use Rattle.varisat_proof.specs.Results.{result_of, StopsAt, IsResult}
 
 -- 1. Lines.
@@ -158,10 +158,10 @@ module _ (format : ProofFormat) (P : List Clause) (bytes : List ℕ) (ls : List 
       (λ k. derived (none_plain b k.0) k.1 (Err (Parse o)) (sym (ap (λ f. result_of f plain.Derivation) s.0))) s.1
   by_result n e (Err error) s = absurd s
 
-pub plain_right : (format : ProofFormat) (P : List Clause) (told : MarkedTold) (t : ProofState) (bytes : List ℕ) (r : Result CheckVerdict CheckerError) →
-    IsCheckOf (plain_encoding format) (state_of P told) bytes r t → IsResult format P bytes r t.present
-plain_right format P told t bytes r k =
-    let s : ProofState = state_of P told in
+pub plain_right : (format : ProofFormat) (P : List Clause) (logged : MarkedLog) (t : ProofState) (bytes : List ℕ) (r : Result CheckVerdict CheckerError) →
+    IsCheckOf (plain_encoding format) (state_of P logged) bytes r t → IsResult format P bytes r t.present
+plain_right format P logged t bytes r k =
+    let s : ProofState = state_of P logged in
     let ls = plain_of format k.lines (means_kinds (plain_encoding format) bytes k.lines k.fault k.means) in
     let w = plain_cut ls.0 k.front k.back (sym ls.1 ∙ k.splits) in
     let checked : Checked P w.a t.present = goes_checked P [] w.a s t (checked_start P P refl) (subst (λ x. Goes s x t) w.front_is k.goes) in

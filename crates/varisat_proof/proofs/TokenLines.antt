@@ -12,7 +12,7 @@ use Rattle.varisat_proof.specs.Lines.{ProofLine, line_of_kind, has_kind, HasKind
 use Rattle.varisat_proof.specs.Grammar.{Token, symbols, literal_symbols, begun_symbols, line_symbols, is_some, is_kind, tag_kind, fits, IsBegunLine, IsCutOff, WrongToken, EndsInside, tokens, end_of}
 use Rattle.varisat_proof.specs.Machine.{Place, Parsed, line_at, number_event, begin_event, begin_place, event, begin_line, after_number, moved, put, fault_offset, read, between, parsed}
 use Rattle.varisat_proof.specs.Means.{Means, BytesMean}
-use Rattle.varisat_proof.proofs.TokenSymbols.{code_event, code_place, at_place, Tells, sound_parsed}
+use Rattle.varisat_proof.proofs.TokenSymbols.{code_event, code_place, at_place, Logs, sound_parsed}
 use Rattle.varisat_proof.proofs.MachineTokens.{parsed_is}
 
 abbrev with_lines : List ProofLine → Parsed → Parsed
@@ -359,7 +359,7 @@ only_parsed f bytes lines (Some o) (inl w) = parsed_is f bytes ∙ parsed_wrong 
 only_parsed f bytes lines (Some o) (inr w) = parsed_is f bytes ∙ parsed_ends f (end_of 0 bytes) (tokens f bytes) lines w.0 ∙
     ap (λ x. parsing lines (Some x)) (sym w.1)
 
-same_so : (f : Encoding) (bytes : List ℕ) (lines : List ProofLine) (fault : Option ℕ) → Tells f (tokens f bytes) (end_of 0 bytes) lines fault →
+same_so : (f : Encoding) (bytes : List ℕ) (lines : List ProofLine) (fault : Option ℕ) → Logs f (tokens f bytes) (end_of 0 bytes) lines fault →
     BytesMean f bytes lines fault
 same_so f bytes lines None h = h
 same_so f bytes lines (Some o) h = h

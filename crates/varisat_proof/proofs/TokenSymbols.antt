@@ -337,12 +337,12 @@ sound f end (u ∷ us) p h =
     (symbol_does f p.inside p.kind p.clause u.symbol h) (λ k. sound f end us (moved f p u.symbol) k)
 
 -- what the definitions say of the tokens
-abbrev pub Tells : Encoding → List Token → ℕ → List ProofLine → Option ℕ → Type 0
-Tells f us end lines None = HasKinds f lines × (symbols us ≡ flat_map (line_symbols f) lines)
-Tells f us end lines (Some o) = WrongToken f us lines o ⊎ (EndsInside f us lines × (o ≡ end))
+abbrev pub Logs : Encoding → List Token → ℕ → List ProofLine → Option ℕ → Type 0
+Logs f us end lines None = HasKinds f lines × (symbols us ≡ flat_map (line_symbols f) lines)
+Logs f us end lines (Some o) = WrongToken f us lines o ⊎ (EndsInside f us lines × (o ≡ end))
 
 -- what is parsed of tokens is so
-so_means : (f : Encoding) (us : List Token) (end : ℕ) (lines : List ProofLine) (fault : Option ℕ) → SoFrom f end [] us lines fault → Tells f us end lines fault
+so_means : (f : Encoding) (us : List Token) (end : ℕ) (lines : List ProofLine) (fault : Option ℕ) → SoFrom f end [] us lines fault → Logs f us end lines fault
 so_means f us end lines None h = h
 so_means f us end lines (Some o) (inl w) = inl
     (record {
@@ -372,5 +372,5 @@ so_means f us end lines (Some o) (inr w) = inr (
   w.1,
 )
 
-pub sound_parsed : (f : Encoding) (us : List Token) (end : ℕ) → Tells f us end (read f end between us).lines (read f end between us).fault
+pub sound_parsed : (f : Encoding) (us : List Token) (end : ℕ) → Logs f us end (read f end between us).lines (read f end between us).fault
 sound_parsed f us end = let t = read f end between us in so_means f us end t.lines t.fault (sound f end us between (record { some = refl; has = refl }))

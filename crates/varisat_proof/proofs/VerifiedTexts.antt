@@ -16,7 +16,7 @@ use Rattle.varisat_proof.specs.declared.checker.error.CheckVerdict.TheVariants.{
 use Rattle.varisat_proof.specs.declared.checker.error.CheckerError.{CheckerError}
 use Rattle.varisat_proof.specs.declared.checker.error.CheckerError.TheVariants.{CheckFailed, NoSuchClause, CoreNotAssumed, Parse, Io, OutOfMemory, Dimacs, Spent}
 use Rattle.varisat_proof.specs.Calls.{CheckerState, Checks, ChecksBytes, ChecksMarked, IsMarkedResult, core_lists, AddsText, Added, ClauseRanOut, Unread, AtEnd, InText, SourceFailed, RanOut, is_of_bytes, is_io}
-use Rattle.varisat_proof.specs.Marked.{MarkedTold, nothing_told, IsCheckOf, state_of}
+use Rattle.varisat_proof.specs.Marked.{MarkedLog, nothing_logged, IsCheckOf, state_of}
 use Rattle.varisat_proof.specs.Results.{IsResult, result_of}
 use Rattle.varisat_plain.specs.declared.checker.PlainVerdict.{PlainVerdict}
 use Rattle.varisat_plain.specs.declared.checker.PlainVerdict.TheVariants as plain
@@ -87,23 +87,23 @@ pub marked_ok : {A : Type 0} (other new : CheckerState) (report : MarkedReport A
 marked_ok other new report p q e h =
     checks_ok (λ bytes. IsMarkedResult other.clauses bytes (Ok report) new.clauses)
     (λ bytes. IsMarkedCheck bytes (Ok report.verdict) report.inputs.clauses new.clauses) p q report report.verdict
-    (λ bytes k. let t : MarkedTold = record { assumed = k.0; inputs = report.inputs; cores = core_lists report.cores.items } in (
+    (λ bytes k. let t : MarkedLog = record { assumed = k.0; inputs = report.inputs; cores = core_lists report.cores.items } in (
       t,
       refl,
-      subst (λ (P : List Clause). IsCheckOf (Text true) (state_of P nothing_told) bytes (Ok report.verdict) (state_of new.clauses t))
+      subst (λ (P : List Clause). IsCheckOf (Text true) (state_of P nothing_logged) bytes (Ok report.verdict) (state_of new.clauses t))
           (ap (λ x. x.clauses) e) k.1,
     )) (h (ap (λ x. x.spent) e))
 
 pub marked_err : {A : Type 0} (other new : CheckerState) (x : CheckerError) (p q : Stand) → other ≡ record { clauses = []; spent = false } →
-    (other.spent ≡ false → ChecksBytes {V = MarkedReport A} (λ bytes. (told : MarkedTold)
-    × IsCheckOf (Text true) (state_of other.clauses nothing_told) bytes (Err x) (state_of new.clauses told)) p (Err x) q) →
+    (other.spent ≡ false → ChecksBytes {V = MarkedReport A} (λ bytes. (logged : MarkedLog)
+    × IsCheckOf (Text true) (state_of other.clauses nothing_logged) bytes (Err x) (state_of new.clauses logged)) p (Err x) q) →
     ChecksBytes {V = CheckVerdict} (λ bytes. IsMarkedCheck bytes (Err x) [] new.clauses) p (Err x) q
 marked_err other new x p q e h =
-    checks_err (λ bytes. (told : MarkedTold) × IsCheckOf (Text true) (state_of other.clauses nothing_told) bytes (Err x) (state_of new.clauses told))
+    checks_err (λ bytes. (logged : MarkedLog) × IsCheckOf (Text true) (state_of other.clauses nothing_logged) bytes (Err x) (state_of new.clauses logged))
     (λ bytes. IsMarkedCheck bytes (Err x) [] new.clauses) p q x
     (λ bytes k. (
       k.0,
-      subst (λ (P : List Clause). IsCheckOf (Text true) (state_of P nothing_told) bytes (Err x) (state_of new.clauses k.0))
+      subst (λ (P : List Clause). IsCheckOf (Text true) (state_of P nothing_logged) bytes (Err x) (state_of new.clauses k.0))
           (ap (λ x. x.clauses) e) k.1,
     )) (h (ap (λ x. x.spent) e))
 
@@ -178,8 +178,8 @@ has_verdict (Some offset) (plain.DeletesNothing number) = (false, refl)
 no_result : (f : ProofFormat) (P : List Clause) (bytes : List ℕ) (e : CheckerError) (Q : List Clause) → verdict_of (Err e) ≡ None →
     IsResult f P bytes (Err e) Q → ⊥
 no_result f P bytes e Q n i =
-    let (b, told) = has_verdict i.fault i.verdict in
-    let z : Some b ≡ None = sym told ∙ ap verdict_of (sym i.result_is) ∙ n in
+    let (b, logged) = has_verdict i.fault i.verdict in
+    let z : Some b ≡ None = sym logged ∙ ap verdict_of (sym i.result_is) ∙ n in
     cc
 
 pub fails_checking : (f : ProofFormat) (s t p q : Stand) (start mid new : CheckerState) (r : Result CheckVerdict CheckerError) (e : CheckerError) →
@@ -199,10 +199,10 @@ no_marked bytes (CheckFailed n) inputs Q f i = let z : true ≡ false = f in cc
 no_marked bytes (NoSuchClause n) inputs Q f i = let z : true ≡ false = f in cc
 no_marked bytes (CoreNotAssumed n) inputs Q f i = let z : true ≡ false = f in cc
 no_marked bytes (Parse o) inputs Q f i = let z : true ≡ false = f in cc
-no_marked bytes (Io x) inputs Q f (told, i) = i.stops
-no_marked bytes OutOfMemory inputs Q f (told, i) = i.stops
-no_marked bytes (Dimacs x) inputs Q f (told, i) = i.stops
-no_marked bytes Spent inputs Q f (told, i) = i.stops
+no_marked bytes (Io x) inputs Q f (logged, i) = i.stops
+no_marked bytes OutOfMemory inputs Q f (logged, i) = i.stops
+no_marked bytes (Dimacs x) inputs Q f (logged, i) = i.stops
+no_marked bytes Spent inputs Q f (logged, i) = i.stops
 
 pub fails_marked : (s t p q : Stand) (start mid : CheckerState) (e : CheckerError) (Q : List Clause) →
     start ≡ record { clauses = []; spent = false } →

@@ -22,7 +22,7 @@ use Rattle.varisat_proof.specs.declared.checker.error.CheckerError.{CheckerError
 use Rattle.varisat_proof.specs.declared.checker.error.CheckerError.TheVariants.{CheckFailed, NoSuchClause, CoreNotAssumed, Parse, Io, OutOfMemory, Dimacs, Spent}
 use Rattle.varisat_proof.specs.Steps.{step_lines}
 use Rattle.varisat_proof.specs.Results.{IsResult}
-use Rattle.varisat_proof.specs.Marked.{MarkedTold, nothing_told, state_of, IsCheckOf}
+use Rattle.varisat_proof.specs.Marked.{MarkedLog, nothing_logged, state_of, IsCheckOf}
 
 -- the present clauses, and whether the checker is spent
 pub record CheckerState : Type 0 where
@@ -144,15 +144,15 @@ abbrev pub core_lists : {A : Type 0} → List (ℕ × Vec ℕ A) → List (ℕ �
 core_lists cores = map (λ core. (core.0, core.1.items)) cores
 
 -- what a report tells, with the list that is assumed where the check stops
-abbrev pub reported : {A : Type 0} → List Literal → MarkedReport A → MarkedTold
+abbrev pub reported : {A : Type 0} → List Literal → MarkedReport A → MarkedLog
 reported assumed report = record { assumed = assumed; inputs = report.inputs; cores = core_lists report.cores.items }
 
 -- The one right result of a check of a marked proof: its report has the clauses that were given and the cores up to where it stops.
 abbrev pub IsMarkedResult : {A : Type 0} → List Clause → List ℕ → Result (MarkedReport A) CheckerError → List Clause → Type 0
 IsMarkedResult P bytes (Ok report) Q =
     (assumed : List Literal)
-    × IsCheckOf (Text true) (state_of P nothing_told) bytes (Ok report.verdict) (state_of Q (reported assumed report))
-IsMarkedResult P bytes (Err e) Q = (told : MarkedTold) × IsCheckOf (Text true) (state_of P nothing_told) bytes (Err e) (state_of Q told)
+    × IsCheckOf (Text true) (state_of P nothing_logged) bytes (Ok report.verdict) (state_of Q (reported assumed report))
+IsMarkedResult P bytes (Err e) Q = (logged : MarkedLog) × IsCheckOf (Text true) (state_of P nothing_logged) bytes (Err e) (state_of Q logged)
 
 -- what a check of a marked proof returns
 abbrev pub ChecksMarked : {A : Type 0} → CheckerStanding → Result (MarkedReport A) CheckerError → CheckerStanding → Type 0

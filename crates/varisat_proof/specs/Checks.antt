@@ -17,7 +17,7 @@ use Rattle.varisat_proof.specs.declared.checker.error.CheckerError.TheVariants.{
 use Rattle.varisat_proof.specs.declared.checker.check.Count.{Count}
 use Rattle.varisat_proof.specs.Lines.{ProofLine, line_of_kind, step_number}
 use Rattle.varisat_proof.specs.Machine.{Parsed, ReaderState, parsed, parsed_from}
-use Rattle.varisat_proof.specs.Marked.{ProofState, MarkedTold, Rules, state_of, GoesBy, IsCheckBy}
+use Rattle.varisat_proof.specs.Marked.{ProofState, MarkedLog, Rules, state_of, GoesBy, IsCheckBy}
 use Rattle.varisat_theory.specs.StepLaws.{unit_lines}
 use Rattle.varisat_proof.specs.Calls.{CheckerState, CheckerStanding, ChecksBytes, FailsAt}
 
@@ -28,9 +28,9 @@ IsLineStatus R s line Taken t = R.takes s line t
 IsLineStatus R s line status t = R.wrong s line status × (t ≡ s)
 
 -- the status tells it, unless memory ran out
-abbrev pub TellsStatus : {E : Type 0} → Rules → ProofState → ProofLine → Result LineStatus E → ProofState → Type 0
-TellsStatus R s line (Ok status) t = IsLineStatus R s line status t
-TellsStatus R s line (Err e) t = Unit {0}
+abbrev pub ReturnsStatus : {E : Type 0} → Rules → ProofState → ProofLine → Result LineStatus E → ProofState → Type 0
+ReturnsStatus R s line (Ok status) t = IsLineStatus R s line status t
+ReturnsStatus R s line (Err e) t = Unit {0}
 
 -- t is there behind a beginning of the lines, where propagation conflicts
 pub record HasRefuted (R : Rules) (s : ProofState) (lines : List ProofLine) (t : ProofState) : Type 0 where
@@ -93,8 +93,8 @@ pub record Position : Type 0 where
   pub progress : ReaderState
 
 -- all of these
-abbrev pub position_of : CheckerState → MarkedTold → Count → ReaderState → Position
-position_of checker told count progress = record { state = state_of checker.clauses told; count = count; progress = progress }
+abbrev pub position_of : CheckerState → MarkedLog → Count → ReaderState → Position
+position_of checker logged count progress = record { state = state_of checker.clauses logged; count = count; progress = progress }
 
 -- a check breaks off in the text, whatever comes behind it
 abbrev pub CheckBreaksOff : Rules → Encoding → ProofState → List ℕ → CheckerError → ProofState → Type 0
@@ -128,7 +128,7 @@ EndsBehind R old result t =
     → HasRead e text lines old.progress → StandsAfterLines R s lines old.state old.count → EndsWith R e s text result t
 
 -- a source is read as one proof
-abbrev pub ChecksFrom : Rules → Encoding → CheckerStanding → MarkedTold → Result CheckVerdict CheckerError → CheckerStanding → MarkedTold → Type 0
+abbrev pub ChecksFrom : Rules → Encoding → CheckerStanding → MarkedLog → Result CheckVerdict CheckerError → CheckerStanding → MarkedLog → Type 0
 ChecksFrom R encoding old before result new after =
     ChecksBytes (λ bytes. IsCheckBy R encoding (state_of old.checker.clauses before) bytes result (state_of new.checker.clauses after))
     old.source result new.source

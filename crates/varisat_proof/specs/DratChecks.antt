@@ -17,7 +17,7 @@ use Rattle.varisat_proof.specs.declared.checker.line.LineStatus.TheVariants.{Tak
 use Rattle.varisat_proof.specs.declared.checker.error.CheckVerdict.{CheckVerdict}
 use Rattle.varisat_proof.specs.declared.checker.error.CheckerError.{CheckerError}
 use Rattle.varisat_proof.specs.Lines.{plain_encoding}
-use Rattle.varisat_proof.specs.Marked.{Rules, strict_rules, state_of, nothing_told, IsCheckBy}
+use Rattle.varisat_proof.specs.Marked.{Rules, strict_rules, state_of, nothing_logged, IsCheckBy}
 use Rattle.varisat_proof.specs.Calls.{CheckerStanding, ChecksBytes}
 
 -- the clause neither follows nor is RAT
@@ -39,14 +39,14 @@ IsWrongDratKind P kind c status = ⊥
 -- the rules of these lines
 abbrev pub drat_rules : Rules
 drat_rules = record {
-  takes = λ s line t. TakesDratKind s.present line.kind line.clause t.present × (t.told ≡ s.told);
+  takes = λ s line t. TakesDratKind s.present line.kind line.clause t.present × (t.logged ≡ s.logged);
   wrong = λ s line status. IsWrongDratKind s.present line.kind line.clause status;
 }
 
 -- The one right result of a check of DRAT lines, over all bytes of a proof, and what is present where it stops.
 abbrev pub IsDratResult : ProofFormat → List Clause → List ℕ → Result CheckVerdict CheckerError → List Clause → Type 0
 IsDratResult format P bytes result Q =
-    IsCheckBy drat_rules (plain_encoding format) (state_of P nothing_told) bytes result (state_of Q nothing_told)
+    IsCheckBy drat_rules (plain_encoding format) (state_of P nothing_logged) bytes result (state_of Q nothing_logged)
 
 -- what a check of DRAT lines returns
 abbrev pub ChecksDrat : ProofFormat → CheckerStanding → Result CheckVerdict CheckerError → CheckerStanding → Type 0
@@ -59,12 +59,12 @@ rules_of mode.Strict = strict_rules
 rules_of mode.Drat = drat_rules
 
 -- why a clause may be added, or that it may not
-abbrev pub TellsRedundancy : List Clause → Clause → Redundancy → Type 0
-TellsRedundancy P c why.Follows = Follows P c
-TellsRedundancy P c (why.Rat place) = IsRatOnSome P c
-TellsRedundancy P c why.Neither = IsNeither P c
+abbrev pub IsRedundancyOf : List Clause → Clause → Redundancy → Type 0
+IsRedundancyOf P c why.Follows = Follows P c
+IsRedundancyOf P c (why.Rat place) = IsRatOnSome P c
+IsRedundancyOf P c why.Neither = IsNeither P c
 
 -- a line is taken, or it is wrong and nothing changes
-abbrev pub TellsDratLine : List Clause → LineKind → Clause → LineStatus → List Clause → Type 0
-TellsDratLine P kind c Taken Q = TakesDratKind P kind c Q
-TellsDratLine P kind c status Q = IsWrongDratKind P kind c status × (Q ≡ P)
+abbrev pub IsDratStatusOf : List Clause → LineKind → Clause → LineStatus → List Clause → Type 0
+IsDratStatusOf P kind c Taken Q = TakesDratKind P kind c Q
+IsDratStatusOf P kind c status Q = IsWrongDratKind P kind c status × (Q ≡ P)

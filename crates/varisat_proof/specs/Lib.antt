@@ -12,7 +12,7 @@ pub mod Checks
 pub mod DratChecks
 pub mod Mapping
 pub mod Verified
-pub mod Telling
+pub mod Logging
 pub mod Assumed
 pub mod Passing
 pub mod Present

@@ -20,34 +20,34 @@ use Rattle.varisat_proof.specs.Means.{BytesMean}
 
 -- 1. One line.
 -- What marked lines told: the list that is assumed, the clauses that were given, and the cores, each with the number of clauses before it.
-pub record MarkedTold : Type 0 where
+pub record MarkedLog : Type 0 where
   pub assumed : List Literal
   pub inputs : Formula
   pub cores : List (ℕ × List Literal)
 
 -- before the first line
-abbrev pub nothing_told : MarkedTold
-nothing_told = record { assumed = []; inputs = no_clauses; cores = [] }
+abbrev pub nothing_logged : MarkedLog
+nothing_logged = record { assumed = []; inputs = no_clauses; cores = [] }
 
 -- the clauses that are present, and what was told
 pub record ProofState : Type 0 where
   pub present : List Clause
-  pub told : MarkedTold
+  pub logged : MarkedLog
 
 -- both together
-abbrev pub state_of : List Clause → MarkedTold → ProofState
-state_of present told = record { present = present; told = told }
+abbrev pub state_of : List Clause → MarkedLog → ProofState
+state_of present logged = record { present = present; logged = logged }
 
 -- A line is taken, after which t is there: an added clause follows, a deletion takes a clause out, a given clause joins as it is,
 -- a list replaces the one before, a core is assumed and conflicts.
 abbrev pub TakesKind : ProofState → LineKind → Clause → ProofState → Type 0
 TakesKind s Adds c t = Follows s.present c × (t ≡ record s { present = s.present ++ c ∷ [] })
 TakesKind s Deletes c t = (R : List Clause) × TakesOut s.present c R × (t ≡ record s { present = R })
-TakesKind s Accepts c t = t ≡ state_of (s.present ++ c ∷ []) (record s.told { inputs = with_one_more s.told.inputs c })
-TakesKind s Assumes ls t = t ≡ state_of s.present (record s.told { assumed = ls })
+TakesKind s Accepts c t = t ≡ state_of (s.present ++ c ∷ []) (record s.logged { inputs = with_one_more s.logged.inputs c })
+TakesKind s Assumes ls t = t ≡ state_of s.present (record s.logged { assumed = ls })
 TakesKind s Fails ls t =
-    (ls ⊆ s.told.assumed) × Conflicts s.present ls
-    × (t ≡ state_of s.present (record s.told { cores = s.told.cores ++ (length s.told.inputs.clauses, ls) ∷ [] }))
+    (ls ⊆ s.logged.assumed) × Conflicts s.present ls
+    × (t ≡ state_of s.present (record s.logged { cores = s.logged.cores ++ (length s.logged.inputs.clauses, ls) ∷ [] }))
 
 -- the line is right, and leads from one state to the other
 abbrev pub Takes : ProofState → ProofLine → ProofState → Type 0
@@ -57,8 +57,8 @@ Takes s line t = TakesKind s line.kind line.clause t
 abbrev pub IsWrongKind : ProofState → LineKind → Clause → LineStatus → Type 0
 IsWrongKind s Adds c Unproved = Follows s.present c → ⊥
 IsWrongKind s Deletes c Absent = IsAbsent s.present c
-IsWrongKind s Fails ls Unassumed = ls ⊆ s.told.assumed → ⊥
-IsWrongKind s Fails ls Unproved = (ls ⊆ s.told.assumed) × (Conflicts s.present ls → ⊥)
+IsWrongKind s Fails ls Unassumed = ls ⊆ s.logged.assumed → ⊥
+IsWrongKind s Fails ls Unproved = (ls ⊆ s.logged.assumed) × (Conflicts s.present ls → ⊥)
 IsWrongKind s kind c status = ⊥
 
 -- the line is wrong, and in this way
@@ -135,7 +135,7 @@ IsCheckOf encoding s bytes result t = IsCheckBy strict_rules encoding s bytes re
 abbrev pub CheckOnceBy : Rules → Encoding → Type 0
 CheckOnceBy rules encoding =
     (s : ProofState) (bytes : List ℕ) (r q : Result CheckVerdict CheckerError) (t u : ProofState)
-    → IsCheckBy rules encoding s bytes r t → IsCheckBy rules encoding s bytes q u → (r ≡ q) × (t.told ≡ u.told)
+    → IsCheckBy rules encoding s bytes r t → IsCheckBy rules encoding s bytes q u → (r ≡ q) × (t.logged ≡ u.logged)
 
 -- so it is by the strict rules
 abbrev pub CheckOnce : Encoding → Type 0

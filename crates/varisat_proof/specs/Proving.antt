@@ -13,7 +13,7 @@ use Rattle.varisat_proof.specs.declared.proof.format.Encoding.{Encoding}
 use Rattle.varisat_proof.specs.Lines.{ProofLine, encoding_of, has_marks}
 use Rattle.varisat_proof.specs.declared.proof.writer.WriteError.{WriteError}
 use Rattle.varisat_proof.specs.Steps.{lines_written, PutsLines}
-use Rattle.varisat_proof.specs.Telling.{lines_told}
+use Rattle.varisat_proof.specs.Logging.{logged_lines}
 
 -- an open proof: its format, what its target took, and whether a search ran under it
 pub record OpenState : Type 0 where
@@ -32,8 +32,8 @@ is_there None = false
 is_there (Some x) = true
 
 -- whether a proof is open or a checker runs
-abbrev pub is_telling : ProofParts → Bool
-is_telling p = is_there p.opened || is_there p.checker
+abbrev pub is_logging : ProofParts → Bool
+is_logging p = is_there p.opened || is_there p.checker
 
 -- 1. A target.
 -- The target took these lines.
@@ -72,8 +72,8 @@ WritesLines old lines (Err Memory) new = IsBegunIf old lines 0 new
 WritesLines old lines (Err (Target cause)) new = IsBegunIf old lines 1 new
 
 -- the lines of the entries, by encoding
-abbrev pub told : List Entry → Encoding → List ProofLine
-told entries e = lines_told e entries
+abbrev pub logged : List Entry → Encoding → List ProofLine
+logged entries e = logged_lines e entries
 
 -- the checker took the entries
 abbrev pub IsCheckedIf : Option CheckerState → List Entry → Option CheckerState → Type 0
@@ -82,8 +82,8 @@ IsCheckedIf (Some old) entries None = ⊥
 IsCheckedIf (Some old) entries (Some new) = IsLeftAfter old.clauses entries new.clauses × (new.spent ≡ old.spent)
 
 -- The entries were told to both.
-pub record IsTold (old : ProofParts) (entries : List Entry) (new : ProofParts) : Type 0 where
-  pub written : IsWrittenIf old.opened (told entries) new.opened
+pub record IsLogged (old : ProofParts) (entries : List Entry) (new : ProofParts) : Type 0 where
+  pub written : IsWrittenIf old.opened (logged entries) new.opened
   pub checked : IsCheckedIf old.checker entries new.checker
 
 -- a checker that ran and runs ran out of memory
@@ -93,16 +93,16 @@ IsSpent _ _ = ⊥
 
 -- Memory ran out: for a line, so that a beginning of the lines was written and the checker was told nothing; or in the checker, behind all
 -- the lines.
-abbrev pub RunsOutTelling : ProofParts → List Entry → ProofParts → Type 0
-RunsOutTelling old entries new =
-    (IsBegunIf old.opened (told entries) 0 new.opened × (new.checker ≡ old.checker))
-    ⊎ (IsWrittenIf old.opened (told entries) new.opened × IsSpent old.checker new.checker)
+abbrev pub RunsOutLogging : ProofParts → List Entry → ProofParts → Type 0
+RunsOutLogging old entries new =
+    (IsBegunIf old.opened (logged entries) 0 new.opened × (new.checker ≡ old.checker))
+    ⊎ (IsWrittenIf old.opened (logged entries) new.opened × IsSpent old.checker new.checker)
 
 -- What telling entries returns and leaves. Where the target failed, a beginning of the lines was written and the checker was told nothing.
-abbrev pub Tells : ProofParts → List Entry → Result (Unit {0}) TraceError → ProofParts → Type 0
-Tells old entries (Ok u) new = IsTold old entries new
-Tells old entries (Err Memory) new = RunsOutTelling old entries new
-Tells old entries (Err (Target cause)) new = IsBegunIf old.opened (told entries) 1 new.opened × (new.checker ≡ old.checker)
+abbrev pub Logs : ProofParts → List Entry → Result (Unit {0}) TraceError → ProofParts → Type 0
+Logs old entries (Ok u) new = IsLogged old entries new
+Logs old entries (Err Memory) new = RunsOutLogging old entries new
+Logs old entries (Err (Target cause)) new = IsBegunIf old.opened (logged entries) 1 new.opened × (new.checker ≡ old.checker)
 
 -- 3. What can be told.
 -- a target can be used that may still count a fault

@@ -13,7 +13,7 @@ use Rattle.varisat_proof.specs.declared.checker.error.CheckVerdict.TheVariants.{
 use Rattle.varisat_proof.specs.declared.checker.error.CheckerError.{CheckerError}
 use Rattle.varisat_proof.specs.declared.checker.error.CheckerError.TheVariants.{CheckFailed, NoSuchClause, CoreNotAssumed, Parse, Io, OutOfMemory, Dimacs, Spent}
 use Rattle.varisat_proof.specs.Calls.{CheckerState, standing_of, AddsText, Checks, ChecksBytes, is_of_bytes, is_io}
-use Rattle.varisat_proof.specs.Marked.{MarkedTold, nothing_told, state_of, IsCheckOf}
+use Rattle.varisat_proof.specs.Marked.{MarkedLog, nothing_logged, state_of, IsCheckOf}
 use Rattle.varisat_proof.specs.DratChecks.{ChecksDrat}
 
 -- the source gave a whole text without a fault, which has these clauses
@@ -62,9 +62,9 @@ AreGiven P clauses = (c : Clause) → c ∈ clauses → (d : Clause) × (d ∈ P
 -- the right result of a check of a marked proof from no clause, with the clauses that it was given up to where it stops
 abbrev pub IsMarkedCheck : List ℕ → Result CheckVerdict CheckerError → List Clause → List Clause → Type 0
 IsMarkedCheck bytes (Ok v) inputs Q =
-    (told : MarkedTold) × (told.inputs.clauses ≡ inputs)
-    × IsCheckOf (Text true) (state_of [] nothing_told) bytes (Ok v) (state_of Q told)
-IsMarkedCheck bytes (Err e) inputs Q = (told : MarkedTold) × IsCheckOf (Text true) (state_of [] nothing_told) bytes (Err e) (state_of Q told)
+    (logged : MarkedLog) × (logged.inputs.clauses ≡ inputs)
+    × IsCheckOf (Text true) (state_of [] nothing_logged) bytes (Ok v) (state_of Q logged)
+IsMarkedCheck bytes (Err e) inputs Q = (logged : MarkedLog) × IsCheckOf (Text true) (state_of [] nothing_logged) bytes (Err e) (state_of Q logged)
 
 -- A marked proof is verified where it refutes and was given only clauses of the text; its wrong lines and bytes are none.
 abbrev pub IsMarkedVerdict : List Clause → Result CheckVerdict CheckerError → List Clause → Bool → Type 0

@@ -46,8 +46,8 @@ pub fn check_lines<A: Allocator + Copy, S: ByteSource, P: ByteSource, T: ProofTa
     ensures truth { result ≡ 0 → GivesUnsatisfiable (S.stand cnf.old) (S.stand cnf.new) }
 {
     match verify_by(alloc, cnf, proof, format) {
-        Ok(verified) => tell_verdict(out, err, verified),
-        Err(error) => tell_fault(err, &error),
+        Ok(verified) => print_verdict(out, err, verified),
+        Err(error) => print_fault(err, &error),
     }
 }
 
@@ -69,8 +69,8 @@ pub fn check_drat_lines<
     ensures truth { result ≡ 0 → GivesUnsatisfiable (S.stand cnf.old) (S.stand cnf.new) }
 {
     match verify_drat(alloc, cnf, proof, format, err) {
-        Ok(verified) => tell_verdict(out, err, verified),
-        Err(error) => tell_fault(err, &error),
+        Ok(verified) => print_verdict(out, err, verified),
+        Err(error) => print_fault(err, &error),
     }
 }
 
@@ -113,14 +113,14 @@ fn verify_drat_in<A: Allocator + Copy, S: ByteSource, P: ByteSource, E: Write>(
     }
     let mut counts = DratCounts::new();
     let checked = checker.check_drat(proof, format, &mut counts);
-    tell_refusal(err, &checked, &counts, checker.stopper());
+    print_refusal(err, &checked, &counts, checker.stopper());
     let verified = is_verified(checked)?;
-    tell_counts(err, &counts);
+    print_counts(err, &counts);
     Ok(verified)
 }
 
 /// Tells which line of a DRAT proof is wrong, which bytes it has, and for which clause it is not RAT on its first literal.
-fn tell_line<E: Write>(err: &mut E, step: u64, counts: &DratCounts, stopper: Option<&[Lit]>) {
+fn print_line<E: Write>(err: &mut E, step: u64, counts: &DratCounts, stopper: Option<&[Lit]>) {
     let (begin, end) = (counts.begin, counts.end);
     // Where this writer fails nothing is left to tell of it.
     let _ = write!(
@@ -139,14 +139,14 @@ fn tell_line<E: Write>(err: &mut E, step: u64, counts: &DratCounts, stopper: Opt
 }
 
 /// Tells which line of a DRAT proof, or which byte, is wrong, if one is.
-fn tell_refusal<E: Write>(
+fn print_refusal<E: Write>(
     err: &mut E,
     checked: &Result<CheckVerdict, CheckerError>,
     counts: &DratCounts,
     stopper: Option<&[Lit]>,
 ) {
     match checked {
-        Err(CheckerError::CheckFailed { step }) => tell_line(err, *step, counts, stopper),
+        Err(CheckerError::CheckFailed { step }) => print_line(err, *step, counts, stopper),
         Err(CheckerError::Parse { offset }) => {
             let _ = writeln!(err, "no line at byte {offset}");
         }
@@ -158,7 +158,7 @@ fn tell_refusal<E: Write>(
 }
 
 /// Tells how many lines of a DRAT proof were looked at, and of which kinds.
-fn tell_counts<E: Write>(err: &mut E, counts: &DratCounts) {
+fn print_counts<E: Write>(err: &mut E, counts: &DratCounts) {
     let (steps, rats, others) = (counts.steps, counts.rats, counts.others);
     let (kept, absent) = (counts.kept, counts.absent);
     let _ = write!(
@@ -335,13 +335,13 @@ fn verify_in<A: Allocator + Copy, S: ByteSource, P: ByteSource>(
 }
 
 /// Prints whether a proof was verified, and returns the status for it, or for a fault of `out`.
-fn tell_verdict<T: ProofTarget, E: Write>(out: &mut T, err: &mut E, verified: bool) -> u8
+fn print_verdict<T: ProofTarget, E: Write>(out: &mut T, err: &mut E, verified: bool) -> u8
     requires { (T.taken out.old).faults < 2 ^ 64 - 1 }
     ensures { PrintsVerdict verified result (T.taken out.old) (T.taken out.new) }
 {
     match print_text(out, text_of(verified)) {
         Ok(()) => status_of(verified),
-        Err(error) => tell_fault(err, &error),
+        Err(error) => print_fault(err, &error),
     }
 }
 
@@ -377,7 +377,7 @@ pub fn print_text<T: ProofTarget>(target: &mut T, text: &[u8]) -> io::Result<()>
 }
 
 /// Prints a fault, and returns the status for it.
-fn tell_fault<E: Write, F: Display>(err: &mut E, fault: &F) -> u8
+fn print_fault<E: Write, F: Display>(err: &mut E, fault: &F) -> u8
     ensures { result ≡ fault_status }
 {
     // Where this writer fails too, nothing is left to print to.

@@ -18,7 +18,7 @@ pub mod ReadElements
 pub mod SimplifiedClauses
 pub mod SimplifiedPairs
 pub mod SimplifiedView
-mod ToldValues
+mod LiteralStates
 pub mod TrailExtend
 pub mod TrailValues
 pub mod ViewGrowth

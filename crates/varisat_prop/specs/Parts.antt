@@ -40,8 +40,8 @@ negated lit_value.True = lit_value.False
 negated lit_value.False = lit_value.True
 
 -- the list tells of each literal its value
-abbrev pub TellsValues : List (Option Bool) → List LitValue → Type 0
-TellsValues values told = (l : Literal) → slice_index_or told l lit_value.Unknown ≡ literal_value (value_in values l)
+abbrev pub AreValuesOf : List (Option Bool) → List LitValue → Type 0
+AreValuesOf values told = (l : Literal) → slice_index_or told l lit_value.Unknown ≡ literal_value (value_in values l)
 
 -- the variable has a value, and is true
 abbrev pub is_true_value : Option Bool → Bool

@@ -15,7 +15,7 @@ ghost use Rattle.varisat_search.specs.Frames.{ChangesAnalysis, ChangesClauses, C
 ghost use Rattle.varisat_search.specs.Steps.{IsPropagatedToEnd, SavesSome};
 ghost use Rattle.varisat_search.specs.Seen.{search_of};
 ghost use Rattle.varisat_theory.specs.Journals.{Fails};
-ghost use Rattle.varisat_trace.specs.Traces.{TakesLines, TakesStep, TellsLines, BreaksOff, faults_of, CanTake, CanFail, HoldsFor};
+ghost use Rattle.varisat_trace.specs.Traces.{TakesLines, TakesStep, LogsLines, BreaksOff, faults_of, CanTake, CanFail, HoldsFor};
 ghost use Rattle.varisat_search.specs.AssumptionParts.{TakesOutImplied};
 ghost use Rattle.varisat_search.specs.Conflicts.{ComesToDecision, EndsOrStops, keeping_of, IsKeptAsReason, IsStoredAsReason, IsWatchedAsReason};
 ghost use Rattle.varisat_search.specs.Learning.{HasMet, BumpsVariables, BumpsAndStores};
@@ -187,7 +187,7 @@ fn trace_learned<A: Allocator + Copy, P: ProofTracer>(
     ctx: &Context<A>,
 ) -> Result<(), TraceError>
     requires { CanTake (P.holds proof.old) (Add ctx.now.analyze_conflict.clause ∷ []) }
-    ensures { TellsLines P.takes P.breaks_off proof.old (Add ctx.now.analyze_conflict.clause ∷ []) result proof.new }
+    ensures { LogsLines P.takes P.breaks_off proof.old (Add ctx.now.analyze_conflict.clause ∷ []) result proof.new }
 {
     let clause = ctx.analyze_conflict.clause();
     proof.add_step(&ProofStep::AtClause { clause })?;

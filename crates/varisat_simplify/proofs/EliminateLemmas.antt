@@ -186,7 +186,7 @@ save_reduces P s l e i g small hl part whole others pairs thaw r = record {
       (r.extends (amended (l ∷ e) vs) (let q = amended_length (l ∷ e) vs in omega (arith, q, n)) (holds vs n m));
   leads = leads_removed P s.lines s.live s.clauses i r.even r.leads;
   named = r.named;
-  told = told_removed P s.lines (get_or s.live i false) (clause_at s i) (named_at P s.clauses i r.named) r.told;
+  spoken = told_removed P s.lines (get_or s.live i false) (clause_at s i) (named_at P s.clauses i r.named) r.spoken;
   thawed = thawed_more s.frozen s.stack l e thaw r.thawed;
 }
   where
@@ -275,7 +275,7 @@ drops_first s m = record {
   even = refl;
   fewer = λ k h. h;
   kept = λ k h n. h;
-  tells = λ P q. (q.leads, q.told);
+  tells = λ P q. (q.leads, q.spoken);
 }
 
 pub drops_next : (s t : State) (m : Literal) (i : ℕ) → m ∈ clause_at s i → Drops s t m → Drops s (removed t i) m
@@ -314,7 +314,7 @@ drops_end s t m small thaw pure r = record { more = ([], r.same ∙ sym (append-
           (q.extends (amended (m ∷ []) vs) (let e = amended_length (m ∷ []) vs in let c = r.count in omega (arith, e, n, c)) (holds vs n h));
       leads = (r.tells P q).0;
       named = subst (λ (cs : List Clause). AreNamedBy P cs) (sym r.same) q.named;
-      told = (r.tells P q).1;
+      spoken = (r.tells P q).1;
       thawed = subst (λ (st : List Clause). (c : Clause) → c ∈ st → avoids t.frozen c ≡ true) (sym r.stack)
           (subst (λ (f : List Bool). (c : Clause) → c ∈ (s.stack ++ (m ∷ []) ∷ []) → avoids f c ≡ true) (sym r.frozen)
           (thawed_more s.frozen s.stack m [] thaw q.thawed));

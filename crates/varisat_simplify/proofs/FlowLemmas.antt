@@ -105,7 +105,7 @@ pub record Loads (P rest : List Clause) (n : ℕ) (frozen : List Bool) (s : Stat
   pub leads : LeadsTo P s.lines (live_clauses s ++ rest)
   pub same : SameClauses (s.clauses ++ rest) P
   pub named : AreNamedBy P s.clauses
-  pub told : SpeakOf (IsNamedBy P) s.lines
+  pub spoken : SpeakOf (IsNamedBy P) s.lines
   pub empty : s.stack ≡ []
   pub count : s.var_count ≡ n
   pub flags : s.frozen ≡ frozen
@@ -120,7 +120,7 @@ loads_first P rest n frozen s e q = subst (λ (t : State). Loads P rest n frozen
   leads = subst (λ (l : List Clause). LeadsTo P [] l) (sym q) (leads_self P);
   same = subst (λ (l : List Clause). SameClauses l P) (sym q) (same_clauses-self P);
   named = λ c l h m. absurd h;
-  told = tt;
+  spoken = tt;
   empty = refl;
   count = refl;
   flags = refl;
@@ -168,8 +168,8 @@ loads_skip P rest tail n frozen s t u c d i e x k q et eu r =
       leads = gone;
       same = same_next P s.clauses rest tail c c e (same_set-self c) r.same;
       named = named_more P s.clauses c own r.named;
-      told = told_removed P s.lines (get_or (given s c).live (length s.clauses) false) (clause_at (given s c) (length s.clauses))
-          (λ l h. own l (subst (λ (y : Clause). l ∈ y) (pushed_new s c r.even).1 h)) r.told;
+      spoken = told_removed P s.lines (get_or (given s c).live (length s.clauses) false) (clause_at (given s c) (length s.clauses))
+          (λ l h. own l (subst (λ (y : Clause). l ∈ y) (pushed_new s c r.even).1 h)) r.spoken;
       empty = r.empty;
       count = r.count;
       flags = r.flags;
@@ -223,7 +223,7 @@ loads_give P rest tail n frozen s t c e d q same eq qt r = subst (λ (u : State)
       (subst (λ (l : List Clause). SameClauses ((live_clauses s ++ e ∷ []) ++ tail) (live_clauses s ++ l)) (sym q) (same_moved (live_clauses s) tail c e same))) r.leads;
   same = same_next P s.clauses rest tail c e q same r.same;
   named = named_more P s.clauses e (λ l h. (c, in_whole P r.front rest tail c r.whole q, same.1 l h)) r.named;
-  told = r.told;
+  spoken = r.spoken;
   empty = r.empty;
   count = r.count;
   flags = r.flags;
@@ -237,7 +237,7 @@ loads_end P rest n frozen s e r = record {
       (subst (λ (Q : List Clause). SatisfiesAll (assignment_of vs) Q) all (r.backs (assignment_of vs) m));
   leads = subst (λ (l : List Clause). LeadsTo P s.lines l) (ap (λ (l : List Clause). live_clauses s ++ l) e ∙ append-nil (live_clauses s)) r.leads;
   named = r.named;
-  told = r.told;
+  spoken = r.spoken;
   thawed = λ c m. absurd (subst (λ (st : List Clause). c ∈ st) r.empty m);
 }
   where

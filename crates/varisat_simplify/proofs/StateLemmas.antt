@@ -145,7 +145,7 @@ push_reduces P s c entails f named r = record {
       satisfies_same (assignment_of vs) (clause_at s k) (clause_at (pushed s c) k) (sym g.1) (m k g.0));
   leads = subst (λ (Q : List Clause). LeadsTo P (s.lines ++ Add c ∷ []) Q) (sym (live_pushed s c r.even)) (leads_add P s.lines (live_clauses s) c f r.leads);
   named = named_more P s.clauses c named r.named;
-  told = told_add P s.lines c named r.told;
+  spoken = told_add P s.lines c named r.spoken;
   thawed = r.thawed;
 }
 
@@ -161,7 +161,7 @@ remove_reduces P s i j live n part r = record {
       (equal_or_not k i));
   leads = leads_removed P s.lines s.live s.clauses i r.even r.leads;
   named = r.named;
-  told = told_removed P s.lines (get_or s.live i false) (clause_at s i) (named_at P s.clauses i r.named) r.told;
+  spoken = told_removed P s.lines (get_or s.live i false) (clause_at s i) (named_at P s.clauses i r.named) r.spoken;
   thawed = r.thawed;
 }
 

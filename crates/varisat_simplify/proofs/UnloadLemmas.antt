@@ -86,7 +86,7 @@ made f g s t o c b e =
       named = λ x l m h.
           let k = flagged_from t.live t.clauses x (subst (λ (y : List Clause). x ∈ y) e.same m) in
           named_at f.clauses t.clauses k.0 r.named l (subst (λ (y : Clause). l ∈ y) (sym k.2) h);
-      told = r.told;
+      spoken = r.spoken;
     }
 
 -- a formula of the same clauses
@@ -97,7 +97,7 @@ made_same f g e = record {
       let d = same_clauses_find f.clauses g.clauses (same_clauses-back g.clauses f.clauses e) c m in satisfies_more (assignment_of vs) d.0 c d.2.0 (h d.0 d.1);
   leads = record { present = f.clauses; steps = refl; same = e };
   named = λ c l m h. let d = same_clauses_find g.clauses f.clauses e c m in (d.0, d.1, d.2.1 l h);
-  told = tt;
+  spoken = tt;
 }
 
 take_first : {X : Type 0} (xs ys : List X) → take (length xs) (xs ++ ys) ≡ xs

@@ -41,7 +41,7 @@ pub record IsMadeOf (f g : Formula) (stack : List Clause) (lines : List Line) : 
   pub leads : LeadsTo f.clauses lines g.clauses
   -- the literals of g and of the lines are some of f
   pub named : AreNamedBy f.clauses g.clauses
-  pub told : SpeakOf (IsNamedBy f.clauses) lines
+  pub spoken : SpeakOf (IsNamedBy f.clauses) lines
 
 -- Behind the lines each derivation from the clauses of g is one from those of f.
 abbrev pub DerivesBehind : Type 0

@@ -85,7 +85,7 @@ pub record Reduces (P : List Clause) (s : State) : Type 0 where
   pub leads : LeadsTo P s.lines (live_clauses s)
   -- no literal is new
   pub named : AreNamedBy P s.clauses
-  pub told : SpeakOf (IsNamedBy P) s.lines
+  pub spoken : SpeakOf (IsNamedBy P) s.lines
   -- the stack changes no frozen variable
   pub thawed : (c : Clause) → c ∈ s.stack → avoids s.frozen c ≡ true
 

@@ -2,7 +2,7 @@
 use Rattle.std.specs.Prelude.{ℕ, ◌+◌, ◌/◌, ◌<◌, Bool, false, ℤ, pos, List, [], ◌∷◌, ◌++◌, length, replicate, EachIndex, slice_index}
 use Rattle.varisat_theory.specs.Literals.{Literal, Clause, literal_of}
 use Rattle.varisat_literals.specs.Numbers.{variable_limit}
-use Rattle.varisat_calls.specs.Numbers.{told_numbers}
+use Rattle.varisat_calls.specs.Numbers.{returned_numbers}
 use Rattle.varisat_simplify.specs.Stacks.{with_true}
 
 -- no variable is above the limit that a solver has
@@ -12,7 +12,7 @@ AreInRange ls = EachIndex ls (λ k. slice_index ls k / 2 < variable_limit)
 -- the numbers of the clauses, each of which a 0 ends
 abbrev pub clause_numbers : List Clause → List ℤ
 clause_numbers [] = []
-clause_numbers (c ∷ cs) = told_numbers c ++ pos 0 ∷ clause_numbers cs
+clause_numbers (c ∷ cs) = returned_numbers c ++ pos 0 ∷ clause_numbers cs
 
 -- the literals of the variables from this one on that are true
 abbrev pub literals_from : ℕ → List Bool → List Literal
@@ -21,7 +21,7 @@ literals_from v (b ∷ bs) = literal_of v b ∷ literals_from (v + 1) bs
 
 -- the numbers of all variables, negative where they are false
 abbrev pub value_numbers : List Bool → List ℤ
-value_numbers vs = told_numbers (literals_from 0 vs)
+value_numbers vs = returned_numbers (literals_from 0 vs)
 
 -- the values where each literal was made true in turn
 abbrev pub with_all_true : List Literal → List Bool → List Bool

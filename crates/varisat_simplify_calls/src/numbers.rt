@@ -1,11 +1,11 @@
 //! Lists of numbers: those of clauses, of flags and of values.
 ghost use Rattle.std.specs.Prelude.{◌≡◌, ◌≢◌, ◌<◌, ◌≤◌, ◌^◌, ◌/◌, ◌++◌, ◌∷◌, ◌↔◌, ℕ, [], pos, false, true, length, IsTrue, EachIndex, slice_index, slice_index_or, OnOk, OnErr, IfOk};
 ghost use Rattle.varisat_literals.specs.Numbers.{variable_limit};
-ghost use Rattle.varisat_calls.specs.Numbers.{told_numbers};
+ghost use Rattle.varisat_calls.specs.Numbers.{returned_numbers};
 ghost use Rattle.varisat_simplify_calls.specs.Lists.{AreInRange, clause_numbers, literals_from, value_numbers, with_all_true, model_values};
 
 use std::alloc::{AllocError, Allocator};
-use varisat_calls::numbers::tell_numbers;
+use varisat_calls::numbers::list_numbers;
 use varisat_formula::formula::CnfFormula;
 use varisat_literals::{Lit, Var};
 
@@ -22,9 +22,9 @@ fn put_clause<A: Allocator + Copy>(
     piece: &mut Vec<i32, A>,
     clause: &[Lit],
 ) -> Result<(), AllocError>
-    ensures { OnOk result (list.new.items ≡ list.old.items ++ (told_numbers clause.now ++ pos 0 ∷ [])) }
+    ensures { OnOk result (list.new.items ≡ list.old.items ++ (returned_numbers clause.now ++ pos 0 ∷ [])) }
 {
-    tell_numbers(piece, clause)?;
+    list_numbers(piece, clause)?;
     piece.push(0)?;
     list.extend_from_slice(piece)?;
     Ok(())
@@ -68,7 +68,7 @@ pub fn list_values<A: Allocator + Copy>(
     ensures { OnOk result (list.new.items ≡ value_numbers values.now) }
 {
     let literals = literals_of(alloc, values)?;
-    tell_numbers(list, &literals)?;
+    list_numbers(list, &literals)?;
     Ok(())
 }
 

@@ -17,7 +17,7 @@ use Rattle.varisat_proof.specs.Proving.{OpenState, IsClosed}
 use Rattle.varisat_simplify.specs.Simplified.{IsMadeOf}
 use Rattle.varisat_solver.specs.States.{State}
 use Rattle.varisat_solver.specs.Additions.{AddsAll, AllAdded, OneRefused, RefusedAtOnce, Read, ClausesAdded, NoFault}
-use Rattle.varisat_solver.specs.Calls.{calling}
+use Rattle.varisat_solver.specs.Calls.{by_state}
 use Rattle.varisat_solver.specs.ClauseCalls.{AddsFormula, AddsDimacs}
 use Rattle.varisat_solver.specs.OpenProofs.{opened_state}
 use Rattle.varisat_solver.specs.ProofCalls.{IsProofIfOpen}
@@ -55,8 +55,8 @@ adds-text : (s : State) (P : List Clause) (t : State) → AreLow P → length P 
 adds-text s P t low few (AllAdded v mid a r e) =
     let back = reads_back (record { var_count = variable_limit; clauses = P }) (omega arith) few (are-below P low) in
     let same : (dimacs (spelled P)).clauses ≡ P = ap (λ (x : Reading). x.clauses) back in (
-      Read v (dimacs (spelled P)) (Whole (spelled P) (record { gave = refl; consumed = tt; no_more = omega arith }) (record { told = refl; at_end = tt }) refl refl)
-          (ClausesAdded mid (subst (λ Q. AddsAll calling s Q (Ok tt) mid) (sym same) a) (NoFault (ap (λ (x : Reading). x.fault) back) refl e)),
+      Read v (dimacs (spelled P)) (Whole (spelled P) (record { gave = refl; consumed = tt; no_more = omega arith }) (record { logged = refl; at_end = tt }) refl refl)
+          (ClausesAdded mid (subst (λ Q. AddsAll by_state s Q (Ok tt) mid) (sym same) a) (NoFault (ap (λ (x : Reading). x.fault) back) refl e)),
       same,
     )
 adds-text s P t low few (OneRefused v e r a) = absurd cc
@@ -65,7 +65,7 @@ adds-text s P t low few (RefusedAtOnce r a) = absurd cc
 -- 2. What the solver concludes of the clauses.
 pub concluded-of : {W : Type 0} (taken : W → Taken) (format : ProofFormat) (check : Bool) (limit : Option ℕ) (P : List Clause) (target back : Option W)
     (t u : State) (c : Conclusion) (opened : Option OpenState) → AreLow P → length P < 2 ^ 64 →
-    AddsFormula (prepared taken format check limit target) P (Ok tt) t → Concludes t c u → IsProofIfOpen calling u → opened ≡ opened_state u.proof →
+    AddsFormula (prepared taken format check limit target) P (Ok tt) t → Concludes t c u → IsProofIfOpen by_state u → opened ≡ opened_state u.proof →
     IsClosed {E = SolverError} taken opened (Ok back) → Concluded taken format (allowed_steps limit) P target back c
 concluded-of {W = W} taken format check limit P target back t u c opened low few adds finds has is closed =
     let (text, same) = adds-text (prepared taken format check limit target) P t low few adds in

@@ -22,9 +22,9 @@ use Rattle.varisat_proof.specs.declared.proof.format.Encoding.{Encoding}
 use Rattle.varisat_proof.specs.declared.proof.format.Encoding.TheVariants.{Text}
 use Rattle.varisat_proof.specs.Assumed.{CoresAreAssumed, assumed_behind}
 use Rattle.varisat_proof.specs.Lines.{ProofLine, encoding_of, plain_line, plain_lines, has_marks}
-use Rattle.varisat_proof.specs.Marked.{MarkedTold, ProofState, state_of, nothing_told, TakesAll}
+use Rattle.varisat_proof.specs.Marked.{MarkedLog, ProofState, state_of, nothing_logged, TakesAll}
 use Rattle.varisat_proof.specs.Steps.{lines_written}
-use Rattle.varisat_proof.specs.Telling.{lines_told, bytes_told}
+use Rattle.varisat_proof.specs.Logging.{logged_lines, logged_bytes}
 use Rattle.varisat_proof.specs.Written.{AreInRange, line_written}
 use Rattle.varisat_proof.proofs.MarkedJournals.{journal_taken}
 use Rattle.varisat_simplify.specs.Leading.{LeadsTo, IsNamedBy}
@@ -72,11 +72,11 @@ own-leads A (c ∷ P) ls Q d =
     (A ++ c ∷ [], refl, own-leads (A ++ c ∷ []) P ls Q (subst (λ X. Derives X ls Q) (sym (append_assoc A (c ∷ []) P)) d))
 
 -- 2. Their bytes where the format has no marks.
-lines-bytes : (e : Encoding) (ls : List Line) → lines_told e (written ls) ≡ plain_lines ls
+lines-bytes : (e : Encoding) (ls : List Line) → logged_lines e (written ls) ≡ plain_lines ls
 lines-bytes e [] = refl
 lines-bytes e (l ∷ ls) = ap (λ xs. plain_line l ∷ xs) (lines-bytes e ls)
 
-own-bytes : (f : ProofFormat) (P : List Clause) (ls : List Line) → has_marks f ≡ false → lines_told (encoding_of f) (own P ls) ≡ plain_lines ls
+own-bytes : (f : ProofFormat) (P : List Clause) (ls : List Line) → has_marks f ≡ false → logged_lines (encoding_of f) (own P ls) ≡ plain_lines ls
 own-bytes f [] ls n = lines-bytes (encoding_of f) ls
 own-bytes Drat (c ∷ P) ls n = own-bytes Drat P ls n
 own-bytes BinaryDrat (c ∷ P) ls n = own-bytes BinaryDrat P ls n
@@ -95,16 +95,16 @@ plain-low (Delete c ∷ ls) s line l (inl e) i = s.0 l (subst (λ (x : ProofLine
 plain-low (Add c ∷ ls) s line l (inr h) i = plain-low ls s.1 line l h i
 plain-low (Delete c ∷ ls) s line l (inr h) i = plain-low ls s.1 line l h i
 
-told-plain : (es : List Entry) (line : ProofLine) → line ∈ plain_lines (lines_of es) → line ∈ lines_told (Text true) es
-told-plain [] line h = absurd h
-told-plain (Accepts c ∷ es) line h = inr (told-plain es line h)
-told-plain (Writes l ∷ es) line (inl e) = inl e
-told-plain (Writes l ∷ es) line (inr h) = inr (told-plain es line h)
-told-plain (Assumes a ∷ es) line h = inr (told-plain es line h)
-told-plain (Fails core ∷ es) line h = inr (told-plain es line h)
-told-plain (Leaves v ∷ es) line h = told-plain es line h
+logged-plain : (es : List Entry) (line : ProofLine) → line ∈ plain_lines (lines_of es) → line ∈ logged_lines (Text true) es
+logged-plain [] line h = absurd h
+logged-plain (Accepts c ∷ es) line h = inr (logged-plain es line h)
+logged-plain (Writes l ∷ es) line (inl e) = inl e
+logged-plain (Writes l ∷ es) line (inr h) = inr (logged-plain es line h)
+logged-plain (Assumes a ∷ es) line h = inr (logged-plain es line h)
+logged-plain (Fails core ∷ es) line h = inr (logged-plain es line h)
+logged-plain (Leaves v ∷ es) line h = logged-plain es line h
 
-own-range : (P : List Clause) (ls : List Line) → AreLow P → AreInRange (plain_lines ls) → AreInRange (lines_told (Text true) (own P ls))
+own-range : (P : List Clause) (ls : List Line) → AreLow P → AreInRange (plain_lines ls) → AreInRange (logged_lines (Text true) (own P ls))
 own-range [] ls p r line l h i = r line l (subst (λ xs. line ∈ xs) (lines-bytes (Text true) ls) h) i
 own-range (c ∷ P) ls p r line l (inl e) i = p c l (inl refl) (subst (λ (x : ProofLine). l ∈ x.clause) e i)
 own-range (c ∷ P) ls p r line l (inr h) i = own-range P ls (λ d m j k. p d m (inr j) k) r line l h i
@@ -135,32 +135,32 @@ staying-lines (Assumes a ∷ es) = staying-lines es
 staying-lines (Fails core ∷ es) = staying-lines es
 staying-lines (Leaves v ∷ es) = staying-lines es
 
-record Walks (P : List Clause) (m : MarkedTold) (es : List Entry) (t : ProofState) : Type 0 where
+record Walks (P : List Clause) (m : MarkedLog) (es : List Entry) (t : ProofState) : Type 0 where
   leads : Leads P (staying es) t.present
-  inputs : t.told.inputs.clauses ≡ m.inputs.clauses ++ accepted_of (staying es)
+  inputs : t.logged.inputs.clauses ≡ m.inputs.clauses ++ accepted_of (staying es)
 
-walks : (P : List Clause) (m : MarkedTold) (es : List Entry) (t : ProofState) → TakesAll (state_of P m) (lines_told (Text true) es) t → Walks P m es t
+walks : (P : List Clause) (m : MarkedLog) (es : List Entry) (t : ProofState) → TakesAll (state_of P m) (logged_lines (Text true) es) t → Walks P m es t
 walks P m [] t g = record {
   leads = ap (λ (x : ProofState). x.present) g;
-  inputs = ap (λ (x : ProofState). x.told.inputs.clauses) (sym g) ∙ sym (append-nil m.inputs.clauses);
+  inputs = ap (λ (x : ProofState). x.logged.inputs.clauses) (sym g) ∙ sym (append-nil m.inputs.clauses);
 }
 walks P m (Accepts c ∷ es) t (r, q, g) =
-    let next : MarkedTold = record m { inputs = with_one_more m.inputs c } in
-    let w = walks (P ++ c ∷ []) next es t (subst (λ (x : ProofState). TakesAll x (lines_told (Text true) es) t) q g) in
+    let next : MarkedLog = record m { inputs = with_one_more m.inputs c } in
+    let w = walks (P ++ c ∷ []) next es t (subst (λ (x : ProofState). TakesAll x (logged_lines (Text true) es) t) q g) in
     record { leads = (P ++ c ∷ [], refl, w.leads); inputs = w.inputs ∙ append_assoc m.inputs.clauses (c ∷ []) (accepted_of (staying es)) }
 walks P m (Writes (Add c) ∷ es) t (r, (f, q), g) =
-    let w = walks (P ++ c ∷ []) m es t (subst (λ (x : ProofState). TakesAll x (lines_told (Text true) es) t) q g) in
+    let w = walks (P ++ c ∷ []) m es t (subst (λ (x : ProofState). TakesAll x (logged_lines (Text true) es) t) q g) in
     record { leads = (P ++ c ∷ [], (f, refl), w.leads); inputs = w.inputs }
 walks P m (Writes (Delete c) ∷ es) t (r, (R, o, q), g) =
-    let w = walks R m es t (subst (λ (x : ProofState). TakesAll x (lines_told (Text true) es) t) q g) in
+    let w = walks R m es t (subst (λ (x : ProofState). TakesAll x (logged_lines (Text true) es) t) q g) in
     record { leads = (R, o, w.leads); inputs = w.inputs }
 walks P m (Assumes a ∷ es) t (r, q, g) =
-    let next : MarkedTold = record m { assumed = a } in
-    let w = walks P next es t (subst (λ (x : ProofState). TakesAll x (lines_told (Text true) es) t) q g) in
+    let next : MarkedLog = record m { assumed = a } in
+    let w = walks P next es t (subst (λ (x : ProofState). TakesAll x (logged_lines (Text true) es) t) q g) in
     record { leads = (P, refl, w.leads); inputs = w.inputs }
 walks P m (Fails core ∷ es) t (r, (within, f, q), g) =
-    let next : MarkedTold = record m { cores = m.cores ++ (length m.inputs.clauses, core) ∷ [] } in
-    let w = walks P next es t (subst (λ (x : ProofState). TakesAll x (lines_told (Text true) es) t) q g) in
+    let next : MarkedLog = record m { cores = m.cores ++ (length m.inputs.clauses, core) ∷ [] } in
+    let w = walks P next es t (subst (λ (x : ProofState). TakesAll x (logged_lines (Text true) es) t) q g) in
     record { leads = (P, (f, refl), w.leads); inputs = w.inputs }
 walks P m (Leaves v ∷ es) t g = let w = walks P m es t g in record { leads = w.leads; inputs = w.inputs }
 
@@ -174,15 +174,15 @@ record EndsWith (P : List Clause) (ls : List Line) (t : ProofState) : Type 0 whe
   steps : Derives P ls present
   conflicts : Conflicts t.present [] → Conflicts present []
 
-ends-with : (P : List Clause) (first : List Line) (Q given rest : List Clause) (told : List Entry) (t : ProofState) → LeadsTo P first Q →
-    Q ≡ given ++ rest → TakesAll (state_of [] nothing_told) (lines_told (Text true) told) t → t.told.inputs.clauses ≡ given →
-    EndsWith P (first ++ lines_of told) t
-ends-with P first Q given rest told t l e takes inputs =
-    let w = walks [] nothing_told told t takes in
-    let lines = lines_of told in
-    let (S, d, s) = leads_derives [] (staying told) t.present (staying-none told) w.leads in
-    let d1 : Derives given lines S = subst (λ ls. Derives given ls S) (staying-lines told)
-    (subst (λ X. Derives X (lines_of (staying told)) S) (sym w.inputs ∙ inputs) d) in
+ends-with : (P : List Clause) (first : List Line) (Q given rest : List Clause) (logged : List Entry) (t : ProofState) → LeadsTo P first Q →
+    Q ≡ given ++ rest → TakesAll (state_of [] nothing_logged) (logged_lines (Text true) logged) t → t.logged.inputs.clauses ≡ given →
+    EndsWith P (first ++ lines_of logged) t
+ends-with P first Q given rest logged t l e takes inputs =
+    let w = walks [] nothing_logged logged t takes in
+    let lines = lines_of logged in
+    let (S, d, s) = leads_derives [] (staying logged) t.present (staying-none logged) w.leads in
+    let d1 : Derives given lines S = subst (λ ls. Derives given ls S) (staying-lines logged)
+    (subst (λ X. Derives X (lines_of (staying logged)) S) (sym w.inputs ∙ inputs) d) in
     let d2 : Derives (rest ++ given) lines (rest ++ S) = derives_beside rest given lines S d1 in
     let same : SameClauses (rest ++ given) l.present =
     same_clauses-through (rest ++ given) (given ++ rest) l.present (swapped rest given) (subst (λ X. SameClauses X l.present) e l.same) in
@@ -201,32 +201,32 @@ pub proven-behind : (format : ProofFormat) (f g : Formula) (stack : List Clause)
     (led.bytes ≡ old.bytes ++ lines_written (encoding_of format) (plain_lines lines)) × (led.faults ≡ old.faults) →
     IsProven format g.clauses c led back → IsProven format f.clauses d old back
 proven-behind format f g stack lines c d old led back plain low made none (bytes, faults) p =
-    let all = lines ++ lines_of p.told in
-    let e = ends-with f.clauses lines g.clauses p.given p.rest p.told p.marked.after made.leads p.begins p.marked.takes p.marked.inputs in
-    let taken = journal_taken [] nothing_told (own f.clauses all) e.present (own-leads [] f.clauses all e.present e.steps) (own-stays f.clauses all)
+    let all = lines ++ lines_of p.logged in
+    let e = ends-with f.clauses lines g.clauses p.given p.rest p.logged p.marked.after made.leads p.begins p.marked.takes p.marked.inputs in
+    let taken = journal_taken [] nothing_logged (own f.clauses all) e.present (own-leads [] f.clauses all e.present e.steps) (own-stays f.clauses all)
     (own-assumed f.clauses all) in
     let lead-low : AreInRange (plain_lines lines) =
-    plain-low lines (spoken_wider (IsNamedBy f.clauses) (λ l. l < 2 ^ 29) lines (λ l (e, m, i). low e l m i) made.told) in
+    plain-low lines (spoken_wider (IsNamedBy f.clauses) (λ l. l < 2 ^ 29) lines (λ l (e, m, i). low e l m i) made.spoken) in
     record {
-      told = own f.clauses all;
-      bytes = p.bytes ∙ ap (λ xs. xs ++ bytes_told format p.told) bytes
-          ∙ append_assoc old.bytes (lines_written (encoding_of format) (plain_lines lines)) (bytes_told format p.told)
+      logged = own f.clauses all;
+      bytes = p.bytes ∙ ap (λ xs. xs ++ logged_bytes format p.logged) bytes
+          ∙ append_assoc old.bytes (lines_written (encoding_of format) (plain_lines lines)) (logged_bytes format p.logged)
           ∙ ap (λ xs. old.bytes ++ xs) (ap (λ xs. lines_written (encoding_of format) (plain_lines lines) ++ xs) (p.plain plain)
-          ∙ sym (written-more (encoding_of format) (plain_lines lines) (plain_lines (lines_of p.told)))
-          ∙ ap (lines_written (encoding_of format)) (sym (map-append plain_line lines (lines_of p.told)) ∙ sym (own-bytes format f.clauses all plain)));
+          ∙ sym (written-more (encoding_of format) (plain_lines lines) (plain_lines (lines_of p.logged)))
+          ∙ ap (lines_written (encoding_of format)) (sym (map-append plain_line lines (lines_of p.logged)) ∙ sym (own-bytes format f.clauses all plain)));
       faults = p.faults ∙ faults;
       plain = λ n. ap (lines_written (encoding_of format)) (own-bytes format f.clauses all n ∙ ap plain_lines (sym (own-lines f.clauses all)));
-      in_range = own-range f.clauses all low (subst AreInRange (sym (map-append plain_line lines (lines_of p.told)))
-          (λ line l h i. ⊎_elim (λ k. lead-low line l k i) (λ k. p.in_range line l (told-plain p.told line k) i)
-          (∈-append_cases line (plain_lines lines) (plain_lines (lines_of p.told)) h)));
-      derives = subst (IsDerivation f.clauses) (sym (own-lines f.clauses all)) (derives_behind f.clauses lines g.clauses (lines_of p.told) made.leads p.derives);
-      refutes = λ n. subst (Refutes f.clauses) (sym (own-lines f.clauses all)) (refutes_behind f.clauses lines g.clauses (lines_of p.told) made.leads (p.refutes (none n)));
+      in_range = own-range f.clauses all low (subst AreInRange (sym (map-append plain_line lines (lines_of p.logged)))
+          (λ line l h i. ⊎_elim (λ k. lead-low line l k i) (λ k. p.in_range line l (logged-plain p.logged line k) i)
+          (∈-append_cases line (plain_lines lines) (plain_lines (lines_of p.logged)) h)));
+      derives = subst (IsDerivation f.clauses) (sym (own-lines f.clauses all)) (derives_behind f.clauses lines g.clauses (lines_of p.logged) made.leads p.derives);
+      refutes = λ n. subst (Refutes f.clauses) (sym (own-lines f.clauses all)) (refutes_behind f.clauses lines g.clauses (lines_of p.logged) made.leads (p.refutes (none n)));
       given = f.clauses;
       rest = [];
       begins = sym (append-nil f.clauses);
       whole = λ some. absurd (some refl);
       marked = record {
-        after = state_of e.present taken.told;
+        after = state_of e.present taken.logged;
         takes = taken.takes;
         inputs = taken.inputs ∙ own-accepted f.clauses all;
         assumed = taken.assumed ∙ own-behind f.clauses all;

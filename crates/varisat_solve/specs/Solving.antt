@@ -16,7 +16,7 @@ use Rattle.varisat_proof.specs.Steps.{PutsLines}
 use Rattle.varisat_proof.specs.Verified.{fault_status}
 use Rattle.varisat_simplify.specs.Simplified.{IsMadeOf}
 use Rattle.varisat_solver.specs.States.{State}
-use Rattle.varisat_solver.specs.Calls.{Solves, calling}
+use Rattle.varisat_solver.specs.Calls.{Solves, by_state}
 use Rattle.varisat_solver.specs.ClauseCalls.{AddsFormula}
 use Rattle.varisat_solver.specs.ProofCalls.{ClosesProof}
 use Rattle.varisat.specs.Decided.{Conclusion, IsConclusion, IsModel}
@@ -64,8 +64,8 @@ pub record Concluded {W : Type 0} (taken : W → Taken) (format : ProofFormat) (
 -- as a model is listed; or as its proof is closed.
 pub data FailsOver {W : Type 0} (taken : W → Taken) (s : State) (P : List Clause) (e : SolverError) : Type 0 where
   AsAdded : (t : State) → AddsFormula s P (Err e) t → FailsOver taken s P e
-  AsSearched : (t u : State) → AddsFormula s P (Ok tt) t → Solves calling t (Err e) u → e ≢ Interrupted → FailsOver taken s P e
-  AsListed : (t u : State) → AddsFormula s P (Ok tt) t → Solves calling t (Ok true) u → e ≡ OutOfMemory → FailsOver taken s P e
+  AsSearched : (t u : State) → AddsFormula s P (Ok tt) t → Solves by_state t (Err e) u → e ≢ Interrupted → FailsOver taken s P e
+  AsListed : (t u : State) → AddsFormula s P (Ok tt) t → Solves by_state t (Ok true) u → e ≡ OutOfMemory → FailsOver taken s P e
   AsClosed : (t u v : State) (c : Conclusion) (back : W) → AddsFormula s P (Ok tt) t → Concludes t c u → ClosesProof taken u (Err (e, back)) v →
       FailsOver taken s P e
 

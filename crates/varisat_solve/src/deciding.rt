@@ -97,7 +97,7 @@ fn decide_simplified<W: ProofTarget, A: Allocator + Copy, S: ByteSource, E: Writ
         Err(fault) => return Err(refuse_text(fault)),
     };
     let count = named_count(&formula);
-    let made = simplify_told(alloc, formula, options.progress.is_some(), clock, err)?;
+    let made = simplify_reporting(alloc, formula, options.progress.is_some(), clock, err)?;
     let Simplified {
         formula,
         stack,
@@ -110,10 +110,10 @@ fn decide_simplified<W: ProofTarget, A: Allocator + Copy, S: ByteSource, E: Writ
 }
 
 /// Simplifies a formula, of which no variable is frozen. What is left of it is told on `err`, if that is wanted.
-fn simplify_told<A: Allocator + Copy, E: Write, C: Clock>(
+fn simplify_reporting<A: Allocator + Copy, E: Write, C: Clock>(
     alloc: A,
     formula: CnfFormula<A>,
-    is_told: bool,
+    is_reported: bool,
     clock: &C,
     err: &mut E,
 ) -> Result<Simplified<A>, SolverError>
@@ -126,8 +126,8 @@ fn simplify_told<A: Allocator + Copy, E: Write, C: Clock>(
     match simplify(alloc, formula, &[]) {
         Ok(made) => {
             let left = made.formula.len();
-            if is_told {
-                tell_made(
+            if is_reported {
+                print_simplified(
                     err,
                     clauses,
                     left,
@@ -153,7 +153,7 @@ fn milliseconds_since<C: Clock>(start: io::Result<Instant>, clock: &C) -> u128 {
 }
 
 /// Tells how many of so many clauses are left, how many are saved, by which models are extended, and how long that took.
-fn tell_made<E: Write>(err: &mut E, clauses: usize, left: usize, saved: usize, milliseconds: u128) {
+fn print_simplified<E: Write>(err: &mut E, clauses: usize, left: usize, saved: usize, milliseconds: u128) {
     // Of a writer that fails here nothing is left to tell.
     let _ = writeln!(
         err,

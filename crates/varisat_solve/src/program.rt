@@ -11,7 +11,7 @@ use std::io::Write;
 use std::time::Clock;
 use varisat::io::{ByteSource, ProofTarget};
 pub use varisat::program::SolveOptions;
-use varisat::program::{print_report, status_of, tell_fault};
+use varisat::program::{print_report, status_of, print_fault};
 
 /// Reads a DIMACS CNF text and decides it, as `varisat::program::solve_lines` does, but that the text's formula is simplified
 /// before it is searched, where that is wanted. A model is one of the text's formula, and a proof one from the text's clauses.
@@ -44,8 +44,8 @@ pub fn solve_lines<
     match decide(alloc, cnf, proof, options, clock, err) {
         Ok(report) => match print_report(out, &report) {
             Ok(()) => status_of(&report),
-            Err(error) => tell_fault(err, &error),
+            Err(error) => print_fault(err, &error),
         },
-        Err(refusal) => tell_fault(err, &refusal),
+        Err(refusal) => print_fault(err, &refusal),
     }
 }

@@ -28,7 +28,7 @@ use Rattle.varisat_prop.proofs.DistinctPlaces.{distinct-below}
 use Rattle.varisat_solver.specs.States.{State, with_variables, with_words, Ledger, join_counted, Verdict, Unknown, Sat, Unsat, UnsatUnderAssumptions, IsRight}
 use Rattle.varisat_solver.specs.Names.{Naming, bring, bring_next, bring_if_free, name_one, through_names}
 use Rattle.varisat_solver.specs.Calls.{with_naming, VerdictAfter, Refuted, Reopened, append_clause, reopened_verdict, with_verdict}
-use Rattle.varisat_tracer.specs.Carried.{carry, told_as}
+use Rattle.varisat_tracer.specs.Carried.{carry, logged_as}
 use Rattle.varisat_solver.specs.Carried.{value_or}
 use Rattle.varisat_solver.specs.Spaces.{Spaces, Carrying, translation, SearchHolds, CoreFits, without_core, VerdictFits, Links, SpacesFit, FitWithNew}
 use Rattle.varisat_solver.specs.Usage.{IsWide}
@@ -37,13 +37,13 @@ use Rattle.varisat_proof.specs.Calls.{CheckerState}
 use Rattle.varisat_proof.specs.Proving.{IsCheckedIf}
 use Rattle.varisat_tracer.specs.Tracing.{global_literal}
 use Rattle.varisat_solver.specs.OpenProofs.{OpenProof}
-use Rattle.varisat_solver.specs.Journals.{retold, TellsStaying}
+use Rattle.varisat_solver.specs.Journals.{with_entries, LogsStaying}
 use Rattle.varisat_solver.specs.Summaries.{Summary, spaces, spaces_of, StandsFor}
 use Rattle.varisat_solver.specs.Accepting.{HasSolver, AreJoined}
 use Rattle.varisat_solver.proofs.SpacesAgree.{give, take_solver, count, solver_literal, accept}
 use Rattle.varisat_solver.proofs.VariableMoves.{given-near}
 use Rattle.varisat_solver.proofs.NewNames.{given}
-use Rattle.varisat_solver.proofs.ToldProofs.{AreToldAs}
+use Rattle.varisat_solver.proofs.LoggedProofs.{AreLoggedAs}
 use Rattle.varisat_solver.proofs.Counted.{counted, join-more, join-only, join-once}
 use Rattle.varisat_solver.proofs.AcceptSolverVariables.{taken}
 use Rattle.varisat_solver.proofs.SearchLinks.{relinked, view-long}
@@ -170,8 +170,8 @@ raised g s t (w, k) none seen few =
       w,
       relinked w p q s s k (record {
         solvers = k.solvers;
-        holds = subst (λ y. SearchHolds s.clauses (translation w p s.told) (search_of t) (without_core y)) (sym o)
-            (subst (λ y. SearchHolds s.clauses (translation w p s.told) y (without_core p.outcome)) (sym seen) k.holds);
+        holds = subst (λ y. SearchHolds s.clauses (translation w p s.logged) (search_of t) (without_core y)) (sym o)
+            (subst (λ y. SearchHolds s.clauses (translation w p s.logged) y (without_core p.outcome)) (sym seen) k.holds);
         assumptions = k.assumptions;
         working = k.working;
         verdict = subst (λ y. VerdictFits w.identity q.model y s.verdict) (sym o)
@@ -179,7 +179,7 @@ raised g s t (w, k) none seen few =
         core = k.core;
         right = k.right;
         few = few;
-        told = k.told;
+        logged = k.logged;
         checked = k.checked;
       }),
     )
@@ -200,7 +200,7 @@ links-free w p s l proof words k =
       core = k.core;
       right = k.right;
       few = k.few;
-      told = k.told;
+      logged = k.logged;
       checked = k.checked;
     })
 
@@ -340,14 +340,14 @@ pub record Steps (g : Summary) (d : Clause) (joined : Tables) (new : View) (part
 -- the identities of the clause are counted before it is loaded
 pub clause-accepted : (g : Summary) (n : State) (d : Clause) (joined : Tables) (new : View) (parts : AssumptionParts) (after : SatState)
     (checker : Option CheckerState) (t : Steps g d joined new parts after) →
-    IsCheckedIf g.checker (told_as (global_literal g.tables)
+    IsCheckedIf g.checker (logged_as (global_literal g.tables)
     (Accepts (map (carry (chain (at joined.users.forward) (at joined.solvers.forward))) d) ∷ written t.lines)) checker →
     SpacesFit (spaces g) (count (join_counted n.counted (map variable_of (map (through_names n.naming) d))) n) →
-    (x : Verdict) × (told : List Entry) × VerdictAfter n.clauses (map (through_names n.naming) d) n.verdict x
-    × TellsStaying 0 (n.told ++ Accepts (map (through_names n.naming) d) ∷ []) told
-    × AreToldAs n.variables n.told told (told_as (global_literal g.tables)
+    (x : Verdict) × (logged : List Entry) × VerdictAfter n.clauses (map (through_names n.naming) d) n.verdict x
+    × LogsStaying 0 (n.logged ++ Accepts (map (through_names n.naming) d) ∷ []) logged
+    × AreLoggedAs n.variables n.logged logged (logged_as (global_literal g.tables)
     (Accepts (map (carry (chain (at joined.users.forward) (at joined.solvers.forward))) d) ∷ written t.lines))
-    × SpacesFit (spaces_of joined checker new parts after) (retold told (append_clause (map (through_names n.naming) d) x n))
+    × SpacesFit (spaces_of joined checker new parts after) (with_entries logged (append_clause (map (through_names n.naming) d) x n))
 clause-accepted g n d joined new parts after checker t checks (w1, k1) =
     let c = map (through_names n.naming) d in
     let p1 = spaces g in
@@ -361,21 +361,21 @@ clause-accepted g n d joined new parts after checker t checks (w1, k1) =
     let same-literals : map (carry (chain (at joined.users.forward) (at joined.solvers.forward))) d ≡ map (solver_literal p) d =
     ap₂ (λ (a b : BiMap). map (carry (chain (at a.forward) (at b.forward))) d) j.users j.solvers in
     let q = spaces_of joined checker new parts after in
-    let (x, told, v, more, told-as, k6) = loaded w1 p s3 d k5 t.all (kept_at joined.kept)
+    let (x, logged, v, more, logged-as, k6) = loaded w1 p s3 d k5 t.all (kept_at joined.kept)
     (record { rest = j.rest; fallen = j.fallen; wide = λ wide l x h e. j.joined (several d wide) l x h e })
     (search_of new) (loaded_outcome after) q.model checker t.lines
-    (subst (λ e. IsCheckedIf g.checker (told_as (global_literal g.tables) (Accepts e ∷ written t.lines)) checker) same-literals checks) refl
+    (subst (λ e. IsCheckedIf g.checker (logged_as (global_literal g.tables) (Accepts e ∷ written t.lines)) checker) same-literals checks) refl
     (view-long g.search t.well_before) (view-long new t.well_new) t.in_use
     (subst (λ e. Loads (search_of g.search) (search_of new) e (loaded_outcome after) t.lines) same-literals t.loads) in
     let p6 = record p { kept = kept_at joined.kept; search = search_of new; model = q.model; checker = checker } in
-    let (y, u, k7) = settled w1 p6 (retold told s3) c new g.search parts.failed_core g.assumed.failed_core w1.identity p1.model g.sat_state after
+    let (y, u, k7) = settled w1 p6 (with_entries logged s3) c new g.search parts.failed_core g.assumed.failed_core w1.identity p1.model g.sat_state after
     n.verdict x k6 v k1.verdict t.verdict k1.core k1.right in (
       y,
-      told,
+      logged,
       u,
       more,
-      subst (λ e. AreToldAs n.variables n.told told (told_as (global_literal g.tables) (Accepts e ∷ written t.lines))) (sym same-literals) told-as,
-      spaces-same (record p6 { outcome = outcome_of new parts.failed_core after }) q (retold told (append_clause c y n)) (record {
+      subst (λ e. AreLoggedAs n.variables n.logged logged (logged_as (global_literal g.tables) (Accepts e ∷ written t.lines))) (sym same-literals) logged-as,
+      spaces-same (record p6 { outcome = outcome_of new parts.failed_core after }) q (with_entries logged (append_clause c y n)) (record {
         maps = record {
           global_from_user = λ u. ap (λ m. at m.forward u) j.users;
           user_from_global = λ y. ap (λ m. at m.backward y) j.users;

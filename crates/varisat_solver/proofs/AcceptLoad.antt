@@ -5,7 +5,7 @@ use Rattle.varisat_theory.specs.Literals.{Literal, Clause, variable_of, opposite
 use Rattle.varisat_theory.specs.Derivations.{Line, SpeakOf}
 use Rattle.varisat_theory.specs.Renaming.{rename_line}
 use Rattle.varisat_theory.specs.Journals.{Entry, Accepts, Assumes, GoesOn, written}
-use Rattle.varisat_solver.specs.Journals.{retold, TellsStaying}
+use Rattle.varisat_solver.specs.Journals.{with_entries, LogsStaying}
 use Rattle.varisat_theory.specs.Searches.{Search, Covers, CoversBy, IsLiteralOf, IsCoveredBySearch, Tautology, KnownTrue, FixedTrue, Kept}
 use Rattle.varisat_theory.specs.Outcomes.{Outcome, Loads, IsLiteralOfEither}
 use Rattle.varisat_theory.specs.Outcomes as outcome
@@ -23,9 +23,9 @@ use Rattle.varisat_names.specs.declared.variables.data.VarData.{VarData}
 use Rattle.varisat_solver.specs.States.{State, Verdict, Unknown, Unsat, IsRight}
 use Rattle.varisat_solver.specs.Names.{through_names}
 use Rattle.varisat_solver.specs.Calls.{ContradictsUnit, VerdictAfter, Refuted, Reopened}
-use Rattle.varisat_tracer.specs.Carried.{carry, told_as}
+use Rattle.varisat_tracer.specs.Carried.{carry, logged_as}
 use Rattle.varisat_solver.specs.Carried.{is_forced}
-use Rattle.varisat_solver.specs.Spaces.{Spaces, Carrying, IsolationCase, NotIsolated, Apart, Forced, IsolationFits, Translation, translation, CheckerFits, SharesHeld, IsCounted, IsGone, TellsWhole, SearchHolds, CoreFits, without_core, VerdictFits, Links}
+use Rattle.varisat_solver.specs.Spaces.{Spaces, Carrying, IsolationCase, NotIsolated, Apart, Forced, IsolationFits, Translation, translation, CheckerFits, SharesHeld, IsCounted, IsGone, IsWholeLog, SearchHolds, CoreFits, without_core, VerdictFits, Links}
 use Rattle.varisat_solver.specs.Usage.{IsWide, IsApart}
 use Rattle.varisat_solver.proofs.SpacesAgree.{AreTaken, solver_literal, IsTouched, IsMarkedFor, accept, AreLong, AreInUse, map-map, holds-same, isolation-same, marks-same}
 use Rattle.varisat_names.proofs.Maps.{chain-some, chain-through}
@@ -33,17 +33,17 @@ use Rattle.varisat_solver.proofs.SearchLinks.{relinked-marks, answers-covers, fi
 use Rattle.varisat_solver.proofs.Carried.{carry-at, carry-sign, map-empty, satisfied-carried, forced-value, wide-back}
 use Rattle.varisat_tracer.specs.RenamedEntries.{carry-opposites}
 use Rattle.varisat_solver.proofs.AcceptSolverVariables.{one-literal}
-use Rattle.varisat_solver.proofs.ReachedHeld.{told_lines, with_told, IsInUse, lines-lead, shares-after, shares-joined, told-quiet, counted-literal}
-use Rattle.varisat_solver.proofs.ToldEntries.{written-derived, told-written, told-accepted, told-assumed, spoken-renamed}
+use Rattle.varisat_solver.proofs.ReachedHeld.{lines_logged, with_told, IsInUse, lines-lead, shares-after, shares-joined, logged-quiet, counted-literal}
+use Rattle.varisat_solver.proofs.LoggedEntries.{written-derived, logged-written, logged-accepted, logged-assumed, spoken-renamed}
 use Rattle.varisat_proof.specs.Calls.{CheckerState}
 use Rattle.varisat_proof.specs.Proving.{IsCheckedIf}
-use Rattle.varisat_solver.proofs.CheckedHeld.{checker-on, checker-still, told-carried, global-carried}
+use Rattle.varisat_solver.proofs.CheckedHeld.{checker-on, checker-still, logged-carried, global-carried}
 use Rattle.varisat_theory.proofs.Journals.{written_stays}
-use Rattle.varisat_solver.proofs.ToldProofs.{AreToldAs}
+use Rattle.varisat_solver.proofs.LoggedProofs.{AreLoggedAs}
 
 module _ (w : Carrying) (p : Spaces) (s : State) (d : Clause) (k : Links w p s) (taken : AreTaken p d) where
   r : Translation
-  r = translation w p s.told
+  r = translation w p s.logged
 
   c : Clause
   c = map (through_names s.naming) d
@@ -186,14 +186,14 @@ module _ (w : Carrying) (p : Spaces) (s : State) (d : Clause) (k : Links w p s) 
         loads.verdict
 
     -- the clause joins, and then come the lines
-    joins : SharesHeld (with_told (r.told ++ Accepts c ∷ []) r) p.search.fixed (h.held ++ e ∷ [])
-    joins = shares-joined r h.held c e same-clause of-clause h.told
+    joins : SharesHeld (with_told (r.logged ++ Accepts c ∷ []) r) p.search.fixed (h.held ++ e ∷ [])
+    joins = shares-joined r h.held c e same-clause of-clause h.logged
 
-    goes-more : GoesOn 0 (r.told ++ Accepts c ∷ []) (told_lines r lines)
+    goes-more : GoesOn 0 (r.logged ++ Accepts c ∷ []) (lines_logged r lines)
     goes-more = let (last, g, o) = loads.holds h.held h.holds in
-        (lines-lead 0 (with_told (r.told ++ Accepts c ∷ []) r) (h.held ++ e ∷ []) lines last joins g).goes
+        (lines-lead 0 (with_told (r.logged ++ Accepts c ∷ []) r) (h.held ++ e ∷ []) lines last joins g).goes
 
-    holds-more : SearchHolds (s.clauses ++ c ∷ []) (with_told ((r.told ++ Accepts c ∷ []) ++ told_lines r lines) r) t v
+    holds-more : SearchHolds (s.clauses ++ c ∷ []) (with_told ((r.logged ++ Accepts c ∷ []) ++ lines_logged r lines) r) t v
     holds-more =
         let (last, g, o) = loads.holds h.held h.holds in
         let all = by_derives 0 (h.held ++ e ∷ []) lines last g in
@@ -209,7 +209,7 @@ module _ (w : Carrying) (p : Spaces) (s : State) (d : Clause) (k : Links w p s) 
           fixed = λ n l i a b. fixed-on s.clauses r p.search t v h long in-covers n l
               (h.fixed (λ q. let z : outcome.Unknown ≡ outcome.Unsat = q in cc) l i a b);
           covered = covers-more;
-          told = shares-after (with_told (r.told ++ Accepts c ∷ []) r) (h.held ++ e ∷ []) 0 lines last joins g t v
+          logged = shares-after (with_told (r.logged ++ Accepts c ∷ []) r) (h.held ++ e ∷ []) 0 lines last joins g t v
               (fixed-on s.clauses r p.search t v h long in-covers)
               (spoken_wider (IsLiteralOfEither p.search e) (IsInUse r) lines
               (λ l. elim [ inl a ↦ h.within l a | inr a ↦ of-clause l a ]) loads.speaks) plain o;
@@ -257,15 +257,15 @@ module _ (w : Carrying) (p : Spaces) (s : State) (d : Clause) (k : Links w p s) 
             (∈-or_not i (map variable_of (map (through_names s.naming) d)))
         go (Forced b e) = Forced b e
 
-    stands : (told : List Entry) → TellsWhole told (s.clauses ++ c ∷ []) s.assumptions s.counted s.ever_hidden (IsGone w s) →
+    stands : (logged : List Entry) → IsWholeLog logged (s.clauses ++ c ∷ []) s.assumptions s.counted s.ever_hidden (IsGone w s) →
         (t : Search) (v : Outcome) (m : ℕ → Bool) (checker : Option CheckerState) (x : Verdict) →
-        CheckerFits w.global told checker →
-        SearchHolds (s.clauses ++ c ∷ []) (with_told told r) t (without_core v) → VerdictFits w.identity m v x →
+        CheckerFits w.global logged checker →
+        SearchHolds (s.clauses ++ c ∷ []) (with_told logged r) t (without_core v) → VerdictFits w.identity m v x →
         CoreFits s.naming.names p.core x → IsRight (s.clauses ++ c ∷ []) s.assumptions s.counted x →
-        Links w (record p { kept = after; search = t; outcome = v; model = m; checker = checker }) (retold told (accept c x s))
+        Links w (record p { kept = after; search = t; outcome = v; model = m; checker = checker }) (with_entries logged (accept c x s))
     unfolding r c
-    stands told is-told t v m checker x checks holds fits core right =
-        relinked-marks w p (record p { kept = after; search = t; outcome = v; model = m; checker = checker }) s (retold told (accept c x s)) k
+    stands logged is-logged t v m checker x checks holds fits core right =
+        relinked-marks w p (record p { kept = after; search = t; outcome = v; model = m; checker = checker }) s (with_entries logged (accept c x s)) k
         (record {
           deleted = λ x. ap (λ y. y.deleted) (touched.rest x);
           sampling_mode = λ x. ap (λ y. y.sampling_mode) (touched.rest x);
@@ -293,113 +293,113 @@ module _ (w : Carrying) (p : Spaces) (s : State) (d : Clause) (k : Links w p s) 
           core = core;
           right = right;
           few = k.few;
-          told = is-told;
+          logged = is-logged;
           checked = checks;
         })
 
     -- the clause and the lines, by any map that gives live identities their global variables
     clause-carried : (m : ℕ → Option ℕ) → ((i x : ℕ) → w.global i ≡ Some x → m i ≡ Some x) → (lines : List Line) →
         SpeakOf (IsLiteralOfEither p.search (map (solver_literal p) d)) lines →
-        told_as (carry m) (Accepts (map (through_names s.naming) d) ∷ told_lines (translation w p s.told) lines) ≡ told_as
+        logged_as (carry m) (Accepts (map (through_names s.naming) d) ∷ lines_logged (translation w p s.logged) lines) ≡ logged_as
         (carry p.global_from_solver) (Accepts (map (solver_literal p) d) ∷ written lines)
     unfolding c e r
     clause-carried m leads lines speaks =
-        let to = carry (translation w p s.told).identity in
+        let to = carry (translation w p s.logged).identity in
         let g = carry m in
         let h = carry p.global_from_solver in
-        let ls = told_lines (translation w p s.told) lines in
+        let ls = lines_logged (translation w p s.logged) lines in
         let one : map g (map (through_names s.naming) d) ≡ map h (map (solver_literal p) d) = ap (map g) (sym same-clause)
         ∙ map-map g to h (map (solver_literal p) d) (λ l i. global-carried w p s k m leads l (of-clause l i)) in
-        ap (λ (y : Clause). Accepts y ∷ told_as g ls) one
+        ap (λ (y : Clause). Accepts y ∷ logged_as g ls) one
         ∙ ap (λ es. Accepts (map h (map (solver_literal p) d)) ∷ es)
-        (told-carried to g h (IsLiteralOfEither p.search (map (solver_literal p) d)) lines
+        (logged-carried to g h (IsLiteralOfEither p.search (map (solver_literal p) d)) lines
         (λ l. elim [
           | inl a ↦ global-carried w p s k m leads l (k.holds.within l a)
           | inr a ↦ global-carried w p s k m leads l (of-clause l a)
         ]) speaks)
 
     -- what a proof is told of them
-    clause-told-as : (lines : List Line) → SpeakOf (IsLiteralOfEither p.search (map (solver_literal p) d)) lines →
-        AreToldAs s.variables s.told ((s.told ++ Accepts (map (through_names s.naming) d) ∷ []) ++ told_lines (translation w p s.told) lines)
-        (told_as (carry p.global_from_solver) (Accepts (map (solver_literal p) d) ∷ written lines))
+    clause-logged-as : (lines : List Line) → SpeakOf (IsLiteralOfEither p.search (map (solver_literal p) d)) lines →
+        AreLoggedAs s.variables s.logged ((s.logged ++ Accepts (map (through_names s.naming) d) ∷ []) ++ lines_logged (translation w p s.logged) lines)
+        (logged_as (carry p.global_from_solver) (Accepts (map (solver_literal p) d) ∷ written lines))
     unfolding c e r
-    clause-told-as lines speaks =
-        let ls = told_lines (translation w p s.told) lines in
+    clause-logged-as lines speaks =
+        let ls = lines_logged (translation w p s.logged) lines in
         record {
           entries = Accepts (map (through_names s.naming) d) ∷ ls;
-          joined = append_assoc s.told (Accepts (map (through_names s.naming) d) ∷ []) ls;
-          stays = written_stays (map (rename_line (carry (translation w p s.told).identity)) lines);
+          joined = append_assoc s.logged (Accepts (map (through_names s.naming) d) ∷ []) ls;
+          stays = written_stays (map (rename_line (carry (translation w p s.logged).identity)) lines);
           same = clause-carried s.variables k.variables lines speaks;
         }
 
     -- the checker took the clause and the lines
     clause-checked : (checker : Option CheckerState) (lines : List Line) →
-        IsCheckedIf p.checker (told_as (carry p.global_from_solver) (Accepts (map (solver_literal p) d) ∷ written lines)) checker →
+        IsCheckedIf p.checker (logged_as (carry p.global_from_solver) (Accepts (map (solver_literal p) d) ∷ written lines)) checker →
         p.outcome ≡ outcome.Unknown → SpeakOf (IsLiteralOfEither p.search (map (solver_literal p) d)) lines →
-        CheckerFits w.global ((s.told ++ Accepts (map (through_names s.naming) d) ∷ []) ++ told_lines (translation w p s.told) lines) checker
+        CheckerFits w.global ((s.logged ++ Accepts (map (through_names s.naming) d) ∷ []) ++ lines_logged (translation w p s.logged) lines) checker
     unfolding c e r
     clause-checked checker lines checks o speaks =
-        let to = carry (translation w p s.told).identity in
-        let ls = told_lines (translation w p s.told) lines in
+        let to = carry (translation w p s.logged).identity in
+        let ls = lines_logged (translation w p s.logged) lines in
         let all = clause-carried w.global (λ i x q. q) lines speaks in
-        subst (λ es. CheckerFits w.global es checker) (sym (append_assoc s.told (Accepts (map (through_names s.naming) d) ∷ []) ls))
-        (checker-on w.global s.told (Accepts (map (through_names s.naming) d) ∷ ls) p.checker checker (written_stays (map (rename_line to) lines))
+        subst (λ es. CheckerFits w.global es checker) (sym (append_assoc s.logged (Accepts (map (through_names s.naming) d) ∷ []) ls))
+        (checker-on w.global s.logged (Accepts (map (through_names s.naming) d) ∷ ls) p.checker checker (written_stays (map (rename_line to) lines))
         (subst (λ es. IsCheckedIf p.checker es checker) (sym all) checks)
         k.checked)
 
     pub loaded : (t : Search) (v : Outcome) (m : ℕ → Bool) (checker : Option CheckerState) (lines : List Line) →
-        IsCheckedIf p.checker (told_as (carry p.global_from_solver) (Accepts (map (solver_literal p) d) ∷ written lines)) checker →
+        IsCheckedIf p.checker (logged_as (carry p.global_from_solver) (Accepts (map (solver_literal p) d) ∷ written lines)) checker →
         p.outcome ≡ outcome.Unknown → AreLong p.search → AreLong t → AreInUse p t → Loads p.search t (map (solver_literal p) d) v lines →
-        (x : Verdict) × (told : List Entry) × VerdictAfter s.clauses (map (through_names s.naming) d) Unknown x
-        × TellsStaying 0 (s.told ++ Accepts (map (through_names s.naming) d) ∷ []) told
-        × AreToldAs s.variables s.told told (told_as (carry p.global_from_solver) (Accepts (map (solver_literal p) d) ∷ written lines))
+        (x : Verdict) × (logged : List Entry) × VerdictAfter s.clauses (map (through_names s.naming) d) Unknown x
+        × LogsStaying 0 (s.logged ++ Accepts (map (through_names s.naming) d) ∷ []) logged
+        × AreLoggedAs s.variables s.logged logged (logged_as (carry p.global_from_solver) (Accepts (map (solver_literal p) d) ∷ written lines))
         × Links w
         (record p { kept = after; search = t; outcome = v; model = m; checker = checker })
-        (retold told (accept (map (through_names s.naming) d) x s))
+        (with_entries logged (accept (map (through_names s.naming) d) x s))
     unfolding c e r
     loaded t v m checker lines checks o long-before long in-use loads =
-        let h = subst (SearchHolds s.clauses (translation w p s.told) p.search) (ap without_core o) k.holds in
-        let ls = told_lines (translation w p s.told) lines in
-        let told = (s.told ++ Accepts (map (through_names s.naming) d) ∷ []) ++ ls in
-        let after' = translation w p told in
+        let h = subst (SearchHolds s.clauses (translation w p s.logged) p.search) (ap without_core o) k.holds in
+        let ls = lines_logged (translation w p s.logged) lines in
+        let logged = (s.logged ++ Accepts (map (through_names s.naming) d) ∷ []) ++ ls in
+        let after' = translation w p logged in
         let more = holds-more h t v lines loads long in-use in
-        let tells' : TellsStaying 0 (s.told ++ Accepts (map (through_names s.naming) d) ∷ []) told = (
+        let logs' : LogsStaying 0 (s.logged ++ Accepts (map (through_names s.naming) d) ∷ []) logged = (
           record { entries = ls; joined = refl; goes = goes-more h t v lines loads long in-use },
           written_stays
-              (map (rename_line (carry (translation w p s.told).identity)) lines),
-          written-derived (map (rename_line (carry (translation w p s.told).identity)) lines),
+              (map (rename_line (carry (translation w p s.logged).identity)) lines),
+          written-derived (map (rename_line (carry (translation w p s.logged).identity)) lines),
         ) in
-        let told-as = clause-told-as lines loads.speaks in
-        let to = (translation w p s.told).identity in
+        let logged-as = clause-logged-as lines loads.speaks in
+        let to = (translation w p s.logged).identity in
         let spoken = spoken-renamed (IsLiteralOfEither p.search (map (solver_literal p) d)) (IsCounted s.counted) (carry to) lines
         (λ l. elim [
           | inl a ↦ let (i, b) = h.within l a in counted-literal w p s k l i b
           | inr a ↦ let (i, b) = of-clause l a in
               counted-literal w p s k l i b
         ]) loads.speaks in
-        let is-told = told-written (s.told ++ Accepts (map (through_names s.naming) d) ∷ [])
+        let is-logged = logged-written (s.logged ++ Accepts (map (through_names s.naming) d) ∷ [])
         (s.clauses ++ map (through_names s.naming) d ∷ []) s.assumptions s.counted s.ever_hidden (map (rename_line (carry to)) lines) spoken
-        (told-accepted s.told s.clauses s.assumptions s.counted s.ever_hidden (map (through_names s.naming) d) counted-clause k.told) in
+        (logged-accepted s.logged s.clauses s.assumptions s.counted s.ever_hidden (map (through_names s.naming) d) counted-clause k.logged) in
         let follows = clause-checked checker lines checks o loads.speaks in
         ⊎_elim
         (λ (q, u). let none = refuted (s.clauses ++ map (through_names s.naming) d ∷ []) after' t
         (subst (SearchHolds (s.clauses ++ map (through_names s.naming) d ∷ []) after' t) u more) in (
           Unsat,
-          told,
+          logged,
           Refuted refl none,
-          tells',
-          told-as,
-          stands told is-told t v m checker Unsat follows
+          logs',
+          logged-as,
+          stands logged is-logged t v m checker Unsat follows
               (subst (SearchHolds (s.clauses ++ map (through_names s.naming) d ∷ []) after' t) (u ∙ sym (ap without_core u)) more)
               (subst (λ y. VerdictFits w.identity m y Unsat) (sym u) tt) tt none,
         ))
         (λ (q, u). (
           Unknown,
-          told,
+          logged,
           Reopened refl (λ z. q (contradicted h long-before z)),
-          tells',
-          told-as,
-          stands told is-told t v m checker Unknown
+          logs',
+          logged-as,
+          stands logged is-logged t v m checker Unknown
               follows (subst (SearchHolds (s.clauses ++ map (through_names s.naming) d ∷ []) after' t) (u ∙ sym (ap without_core u)) more)
               (subst (λ y. VerdictFits w.identity m y Unknown) (sym u) tt) tt tt,
         ))
@@ -409,18 +409,18 @@ module _ (w : Carrying) (p : Spaces) (s : State) (d : Clause) (k : Links w p s) 
   pub list-carried : map (carry s.variables) (map (through_names s.naming) d) ≡ map (carry p.global_from_solver) (map (solver_literal p) d)
   unfolding c e r
   list-carried = ap (map (carry s.variables)) (sym same-clause)
-      ∙ map-map (carry s.variables) (carry (translation w p s.told).identity) (carry p.global_from_solver) (map (solver_literal p) d)
+      ∙ map-map (carry s.variables) (carry (translation w p s.logged).identity) (carry p.global_from_solver) (map (solver_literal p) d)
       (λ l i. global-carried w p s k s.variables k.variables l (of-clause l i))
 
   -- The list is assumed, of which the search has the literals. No verdict on the assumptions before is left.
   module _ (after : ℕ → VarData) (marks : IsMarkedFor p d after) where
-    pub assumed : (told : List Literal) → (s.verdict ≡ Unknown) ⊎ (s.verdict ≡ Unsat) →
-        Links w (record p { kept = after; assumptions = d; core = told; working = map (solver_literal p) d })
-        (record s { assumptions = map (through_names s.naming) d; told = s.told ++ Assumes (map (through_names s.naming) d) ∷ [] })
+    pub assumed : (logged : List Literal) → (s.verdict ≡ Unknown) ⊎ (s.verdict ≡ Unsat) →
+        Links w (record p { kept = after; assumptions = d; core = logged; working = map (solver_literal p) d })
+        (record s { assumptions = map (through_names s.naming) d; logged = s.logged ++ Assumes (map (through_names s.naming) d) ∷ [] })
     unfolding c e r
-    assumed told cases =
-        relinked-marks w p (record p { kept = after; assumptions = d; core = told; working = map (solver_literal p) d }) s
-        (record s { assumptions = map (through_names s.naming) d; told = s.told ++ Assumes (map (through_names s.naming) d) ∷ [] }) k
+    assumed logged cases =
+        relinked-marks w p (record p { kept = after; assumptions = d; core = logged; working = map (solver_literal p) d }) s
+        (record s { assumptions = map (through_names s.naming) d; logged = s.logged ++ Assumes (map (through_names s.naming) d) ∷ [] }) k
         (record {
           deleted = λ x. ap (λ y. y.deleted) (marks.rest x);
           sampling_mode = λ x. ap (λ y. y.sampling_mode) (marks.rest x);
@@ -440,9 +440,9 @@ module _ (w : Carrying) (p : Spaces) (s : State) (d : Clause) (k : Links w p s) 
         })
         (record {
           solvers = k.solvers;
-          holds = holds-same s.clauses (translation w p s.told) (translation w p (s.told ++ Assumes (map (through_names s.naming) d) ∷ [])) p.search
+          holds = holds-same s.clauses (translation w p s.logged) (translation w p (s.logged ++ Assumes (map (through_names s.naming) d) ∷ [])) p.search
               (without_core p.outcome) (λ v. refl) (λ i. refl)
-              (λ share q. told-quiet (translation w p s.told) (Assumes (map (through_names s.naming) d)) (λ held _. refl) p.search.fixed share
+              (λ share q. logged-quiet (translation w p s.logged) (Assumes (map (through_names s.naming) d)) (λ held _. refl) p.search.fixed share
               (without_core p.outcome) q) k.holds;
           assumptions = record { agree = refl; taken = taken };
           working = record {
@@ -451,12 +451,12 @@ module _ (w : Carrying) (p : Spaces) (s : State) (d : Clause) (k : Links w p s) 
             implied = λ a m t. subst (MakesTrue a) same-clause t;
           };
           verdict = k.verdict;
-          core = ⊎_elim (λ q. subst (CoreFits s.naming.names told) (sym q) tt) (λ q. subst (CoreFits s.naming.names told) (sym q) tt) cases;
+          core = ⊎_elim (λ q. subst (CoreFits s.naming.names logged) (sym q) tt) (λ q. subst (CoreFits s.naming.names logged) (sym q) tt) cases;
           right = ⊎_elim
               (λ q. subst (IsRight s.clauses (map (through_names s.naming) d) s.counted) (sym q) tt)
               (λ q. subst (IsRight s.clauses (map (through_names s.naming) d) s.counted) (sym q) (subst (IsRight s.clauses s.assumptions s.counted) q k.right))
               cases;
           few = k.few;
-          told = told-assumed s.told s.clauses s.assumptions s.counted s.ever_hidden (map (through_names s.naming) d) counted-clause k.told;
-          checked = checker-still w.global s.told (map (through_names s.naming) d) p.checker k.checked;
+          logged = logged-assumed s.logged s.clauses s.assumptions s.counted s.ever_hidden (map (through_names s.naming) d) counted-clause k.logged;
+          checked = checker-still w.global s.logged (map (through_names s.naming) d) p.checker k.checked;
         })

@@ -26,8 +26,8 @@ use Rattle.varisat_solver.proofs.SearchLinks.{with-model, without-model, relinke
 use Rattle.varisat_solver.proofs.NewNames.{linked}
 
 -- no two solver variables stand for one identity
-pub one-solver : (w : Carrying) (p : Spaces) (s : State) (k : Links w p s) (v v' i : ℕ) → (translation w p s.told).identity v ≡ Some i →
-    (translation w p s.told).identity v' ≡ Some i → v' ≡ v
+pub one-solver : (w : Carrying) (p : Spaces) (s : State) (k : Links w p s) (v v' i : ℕ) → (translation w p s.logged).identity v ≡ Some i →
+    (translation w p s.logged).identity v' ≡ Some i → v' ≡ v
 one-solver w p s k v v' i a b =
     let (x, e, f) = chain-through p.global_from_solver w.identity v i a in
     let (y, g, h) = chain-through p.global_from_solver w.identity v' i b in
@@ -36,10 +36,10 @@ one-solver w p s k v v' i a b =
     cc
 
 -- and no two of their literals for one literal
-pub one-literal : (w : Carrying) (p : Spaces) (s : State) (k : Links w p s) (l m : Literal) → IsInUse (translation w p s.told) l →
-    IsInUse (translation w p s.told) m → carry (translation w p s.told).identity l ≡ carry (translation w p s.told).identity m → l ≡ m
+pub one-literal : (w : Carrying) (p : Spaces) (s : State) (k : Links w p s) (l m : Literal) → IsInUse (translation w p s.logged) l →
+    IsInUse (translation w p s.logged) m → carry (translation w p s.logged).identity l ≡ carry (translation w p s.logged).identity m → l ≡ m
 one-literal w p s k l m (i, a) (j, b) q =
-    let to = (translation w p s.told).identity in
+    let to = (translation w p s.logged).identity in
     let z : j ≡ i = sym (carry-at to m j b) ∙ ap variable_of (sym q) ∙ carry-at to l i a in
     same-literal l m (sym (one-solver w p s k (variable_of l) (variable_of m) i a (b ∙ ap Some z))) (sym (carry-sign to l) ∙ ap polarity_of q ∙ carry-sign to m)
 
@@ -53,10 +53,10 @@ module _ (w : Carrying) (p : Spaces) (s : State) (x i v : ℕ) (k : Links w p s)
   to' = chain (updated p.global_from_solver v (Some x)) w.identity
 
   r : Translation
-  r = translation w p s.told
+  r = translation w p s.logged
 
   r' : Translation
-  r' = translation w (take_solver x v p) s.told
+  r' = translation w (take_solver x v p) s.logged
 
   pub to-new : chain (updated p.global_from_solver v (Some x)) w.identity v ≡ Some i
   to-new = chain-some (updated p.global_from_solver v (Some x)) w.identity v x (updated-at p.global_from_solver v (Some x)) ∙ is
@@ -87,15 +87,15 @@ module _ (w : Carrying) (p : Spaces) (s : State) (x i v : ℕ) (k : Links w p s)
 
   -- what says nothing more says nothing more after that, and so does what is held and mentions v
   pub settled-on : (held : List Clause) → Fits held p.search → (F : List Clause) →
-      ((c : Clause) → c ∈ F → IsSettledBy (translation w p s.told) p.search.fixed c) → (c : Clause) →
+      ((c : Clause) → c ∈ F → IsSettledBy (translation w p s.logged) p.search.fixed c) → (c : Clause) →
       c ∈ (F ++ rename (carry (chain p.global_from_solver w.identity)) (only v held)) →
-      IsSettledBy (translation w (take_solver x v p) s.told) p.search.fixed c
+      IsSettledBy (translation w (take_solver x v p) s.logged) p.search.fixed c
   unfolding to to'
   settled-on held f F settled c h =
-      settled-through (translation w p s.told) (translation w (take_solver x v p) s.told) p.search.fixed p.search.fixed
+      settled-through (translation w p s.logged) (translation w (take_solver x v p) s.logged) p.search.fixed p.search.fixed
       (λ l k. ⊎_elim (λ e. inl e) (λ (m, a, e). inr (m, a, sym (same m (inl a)) ∙ e)) k)
       c
-      (⊎_elim (settled c) (settled-with (translation w p s.told) v held p.search f
+      (⊎_elim (settled c) (settled-with (translation w p s.logged) v held p.search f
       (λ d a. unmentioned v d.clause (λ l b. other l (inr (d, a, b)))) c)
       (∈-append_cases c F (rename (carry (chain p.global_from_solver w.identity)) (only v held)) h))
 
@@ -120,7 +120,7 @@ module _ (w : Carrying) (p : Spaces) (s : State) (x i v : ℕ) (k : Links w p s)
   }
 
   -- the links, once the search of the variables after is known
-  pub taken-with : (t : Search) → SearchHolds s.clauses (translation w (take_solver x v p) s.told) t (without_core p.outcome) →
+  pub taken-with : (t : Search) → SearchHolds s.clauses (translation w (take_solver x v p) s.logged) t (without_core p.outcome) →
       Links w (record (take_solver x v p) { search = t }) s
   taken-with t holds =
       relinked w p (record (take_solver x v p) { search = t }) s s k (record {
@@ -140,7 +140,7 @@ module _ (w : Carrying) (p : Spaces) (s : State) (x i v : ℕ) (k : Links w p s)
         core = k.core;
         right = k.right;
         few = k.few;
-        told = k.told;
+        logged = k.logged;
         checked = k.checked;
       })
 
@@ -160,17 +160,17 @@ module _ (w : Carrying) (p : Spaces) (s : State) (x i v : ℕ) (k : Links w p s)
         (λ n. h.fixed o l j (sym (to-other (variable_of l) n) ∙ a) b)
         (equal_or_not (variable_of l) v);
     covered = λ o c a. in-both c (h.covered o c a);
-    told =
-        let q = h.told in
+    logged =
+        let q = h.logged in
         let old = rename (carry (chain p.global_from_solver w.identity)) (only v h.held) in
         record {
           held = q.held;
           led = q.led;
           forgotten = q.forgotten ++ old;
-          same = same-apart (translation w p s.told) (translation w (take_solver x v p) s.told) v h.held to-other q;
-          inside = inside-apart (translation w p s.told) (translation w (take_solver x v p) s.told) v h.held to-other q;
+          same = same-apart (translation w p s.logged) (translation w (take_solver x v p) s.logged) v h.held to-other q;
+          inside = inside-apart (translation w p s.logged) (translation w (take_solver x v p) s.logged) v h.held to-other q;
           units = λ j b y e g n. let (c, a, u) = q.units j b y e g (λ u z. n u (stays u j z)) in (c, ∈-append_left c q.forgotten old a, u);
-          live = live-apart (translation w p s.told) v h.held (in-use-lives w p s k) q;
+          live = live-apart (translation w p s.logged) v h.held (in-use-lives w p s k) q;
           settled = settled-on h.held h.holds q.forgotten q.settled;
         };
   }
@@ -186,7 +186,7 @@ module _ (w : Carrying) (p : Spaces) (s : State) (x i v : ℕ) (k : Links w p s)
     known = h.known;
     fixed = λ o. absurd (o refl);
     covered = λ o. absurd (o refl);
-    told = h.told;
+    logged = h.logged;
   }
 
   module _ (unfixed : ((p.kept x).unit ≡ None) ⊎ (p.outcome ≡ outcome.Unsat)) where
@@ -209,7 +209,7 @@ module _ (w : Carrying) (p : Spaces) (s : State) (x i v : ℕ) (k : Links w p s)
 -- where all solver variables below m are in use, m is at most the number of counted identities
 pub solvers-few : (w : Carrying) (p : Spaces) (s : State) (m : ℕ) → Links w p s → ((v : ℕ) → v < m → p.global_from_solver v ≢ None) → m ≤ length s.counted
 solvers-few w p s m k used =
-    few (translation w p s.told).identity s.counted (λ v u i. one-solver w p s k v u i) m (λ v b.
+    few (translation w p s.logged).identity s.counted (λ v u i. one-solver w p s k v u i) m (λ v b.
     ⊎_elim
     (λ e. absurd (used v b e))
     (λ (x, e). let r = k.solvers.live v x e in (r.0, chain-some p.global_from_solver w.identity v x e ∙ r.1, r.2))

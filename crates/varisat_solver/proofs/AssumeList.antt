@@ -18,7 +18,7 @@ use Rattle.varisat_solver.specs.Names.{through_names}
 use Rattle.varisat_solver.specs.Calls.{assumed_verdict, with_assumptions, with_verdict}
 use Rattle.varisat_tracer.specs.Carried.{carry}
 use Rattle.varisat_theory.specs.Journals.{Assumes}
-use Rattle.varisat_solver.specs.Journals.{retold}
+use Rattle.varisat_solver.specs.Journals.{with_entries}
 use Rattle.varisat_solver.specs.Spaces.{Carrying, MarksFit, Links, SpacesFit}
 use Rattle.varisat_solver.specs.Summaries.{Summary, spaces, spaces_of}
 use Rattle.varisat_solver.specs.Accepting.{HasSolver, AreMarked}
@@ -96,12 +96,12 @@ pub record Assuming (g : Summary) (list : List Literal) (cleared marked : Tables
   pub verdict : after ≡ assumed_state g.sat_state
 
 -- a proof is told of it over global variables
-pub list-told : (g : Summary) (n : State) (list : List Literal) (cleared marked : Tables) (new : View) (parts : AssumptionParts)
+pub list-logged : (g : Summary) (n : State) (list : List Literal) (cleared marked : Tables) (new : View) (parts : AssumptionParts)
     (after : SatState) → Assuming g list cleared marked new parts after →
     SpacesFit (spaces g) (count (join_counted n.counted (map variable_of (map (through_names n.naming) list))) n) →
     map (carry n.variables) (map (through_names n.naming) list) ≡ map (carry (at g.tables.solvers.backward))
     (map (carry (chain (at g.tables.users.forward) (at g.tables.solvers.forward))) list)
-list-told g n list cleared marked new parts after t (w, k) =
+list-logged g n list cleared marked new parts after t (w, k) =
     list-carried w (spaces g) (count (join_counted n.counted (map variable_of (map (through_names n.naming) list))) n) list k t.all
 
 -- the identities of the list are counted before it is assumed
@@ -109,7 +109,7 @@ pub list-assumed : (g : Summary) (n : State) (list : List Literal) (cleared mark
     (after : SatState) → Assuming g list cleared marked new parts after →
     SpacesFit (spaces g) (count (join_counted n.counted (map variable_of (map (through_names n.naming) list))) n) →
     SpacesFit (spaces_of marked g.checker new parts after)
-    (retold (n.told ++ Assumes (map (through_names n.naming) list) ∷ []) (with_assumptions (map (through_names n.naming) list) n))
+    (with_entries (n.logged ++ Assumes (map (through_names n.naming) list) ∷ []) (with_assumptions (map (through_names n.naming) list) n))
 list-assumed g n list cleared marked new parts after t (w1, k1) =
     let n1 = count (join_counted n.counted (map variable_of (map (through_names n.naming) list))) n in
     let g2 : Summary = record g { sat_state = assumed_state g.sat_state } in
@@ -126,7 +126,7 @@ list-assumed g n list cleared marked new parts after t (w1, k1) =
     let k6 = assumed w1 p5 (with_verdict (assumed_verdict n.verdict) n1) list k5 t.all (kept_at marked.kept) marks [] (forgotten-cases n.verdict) in
     let p6 = record p5 { kept = kept_at marked.kept; assumptions = list; core = []; working = map (solver_literal p5) list } in
     let g6 : Summary = record g { tables = marked; assumed = parts; sat_state = assumed_state g.sat_state } in
-    let s6 = retold (n.told ++ Assumes (map (through_names n.naming) list) ∷ []) (with_assumptions (map (through_names n.naming) list) n) in
+    let s6 = with_entries (n.logged ++ Assumes (map (through_names n.naming) list) ∷ []) (with_assumptions (map (through_names n.naming) list) n) in
     let f6 : SpacesFit (spaces g6) s6 = spaces-same p6 (spaces g6) s6 (record {
       maps = record {
         global_from_user = λ u. ap (λ m. at m.forward u) users;

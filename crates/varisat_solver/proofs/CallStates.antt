@@ -3,17 +3,17 @@ use Rattle.std.proofs.Common.{◌≡◌, ℕ, Bool, List, ap, ◌∙◌, ◌≢�
 use Rattle.varisat_theory.specs.Literals.{Literal, Clause}
 use Rattle.varisat_solver.specs.Names.{Naming, name_all}
 use Rattle.varisat_solver.specs.States.{Known, Ledger, State, with_variables, with_words, IsWellFormed, FlagsFit, Unknown}
-use Rattle.varisat_solver.specs.Calls.{IsLikeButLeft, IsLike, IsValid, Invalidates, IsStoreFull, MayConstrain, MayAccept, calling, AddsClause, CountsCall, Searches, with_steps, Assumes}
+use Rattle.varisat_solver.specs.Calls.{IsLikeButLeft, IsLike, IsValid, Invalidates, IsStoreFull, MayConstrain, MayAccept, by_state, AddsClause, CountsCall, Searches, with_steps, Assumes}
 use Rattle.varisat_search.specs.declared.error.StepError.{StepError}
 use Rattle.varisat_names.specs.Settings.{Settings}
 use Rattle.varisat_search.specs.StepErrors.{step_faults}
 use Rattle.varisat_solver.specs.Refusals.{step_refusal}
 use Rattle.varisat_theory.specs.Journals.{Entry}
-use Rattle.varisat_solver.specs.Journals.{TellsMore, TellsStaying, AreDerived}
+use Rattle.varisat_solver.specs.Journals.{LogsMore, LogsStaying, AreDerived}
 use Rattle.varisat_solver.specs.OpenProofs.{OpenProof, IsOpen, lines_over, GoesOnWriting, GoesOnFailing, ProofFits, BarsAssumptions}
 use Rattle.varisat_solver.proofs.OpenProofs.{goes-on-none, goes-on-unfailed, barred-before}
 use Rattle.varisat_proof.specs.Assumed.{lists_of}
-use Rattle.varisat_solver.proofs.ToldEntries.{stays-nothing}
+use Rattle.varisat_solver.proofs.LoggedEntries.{stays-nothing}
 use Rattle.varisat_solver.specs.Spaces.{SpacesFit}
 use Rattle.varisat_solver.specs.Summaries.{Summary, spaces, StandsFor}
 use Rattle.varisat_search.specs.declared.error.StepError.TheVariants as step
@@ -44,24 +44,24 @@ same-ledger {V} e = ap (λ (x : Known V). x.ledger) e.same
 -- the same from all of these
 pub same-by : {V : Type 0} (s t : Known V) → t.naming ≡ s.naming → t.ever_hidden ≡ s.ever_hidden → t.clauses ≡ s.clauses →
     t.assumptions ≡ s.assumptions → t.counted ≡ s.counted → t.verdict ≡ s.verdict → t.ledger ≡ s.ledger →
-    t ≡ record s { told = t.told; variables = t.variables; proof = t.proof; words = t.words }
+    t ≡ record s { logged = t.logged; variables = t.variables; proof = t.proof; words = t.words }
 same-by {V} s t n h c a k v l =
     ap (λ (x : Naming). record t { naming = x }) n ∙ ap (λ (x : Bool). record t { naming = s.naming; ever_hidden = x }) h
     ∙ ap (λ (x : List Clause). record t { naming = s.naming; ever_hidden = s.ever_hidden; clauses = x }) c
     ∙ ap (λ (x : List Literal). record t { naming = s.naming; ever_hidden = s.ever_hidden; clauses = s.clauses; assumptions = x }) a
-    ∙ ap (λ (x : List ℕ). record (record s { told = t.told; variables = t.variables; proof = t.proof; words = t.words })
+    ∙ ap (λ (x : List ℕ). record (record s { logged = t.logged; variables = t.variables; proof = t.proof; words = t.words })
     { counted = x; verdict = t.verdict; ledger = t.ledger }) k
-    ∙ ap (λ (x : V). record (record s { told = t.told; variables = t.variables; proof = t.proof; words = t.words }) { verdict = x; ledger = t.ledger }) v
-    ∙ ap (λ (x : Ledger). record (record s { told = t.told; variables = t.variables; proof = t.proof; words = t.words }) { ledger = x }) l
+    ∙ ap (λ (x : V). record (record s { logged = t.logged; variables = t.variables; proof = t.proof; words = t.words }) { verdict = x; ledger = t.ledger }) v
+    ∙ ap (λ (x : Ledger). record (record s { logged = t.logged; variables = t.variables; proof = t.proof; words = t.words }) { ledger = x }) l
 
 -- the same, but that more was told, identities have other variables than before, as which no line was written, an open proof has further
 -- bytes, and the clause store another size
-pub like-told : (s : State) (told : List Entry) (variables : ℕ → Option ℕ) (proof : Option OpenProof) (words : ℕ) → TellsStaying 0 s.told told →
-    lines_over variables s.told ≡ lines_over s.variables s.told → GoesOnWriting s.proof proof →
-    IsLike s (record s { told = told; variables = variables; proof = proof; words = words })
-like-told s told variables proof words (m, n, d) same g = record {
+pub like-logged : (s : State) (logged : List Entry) (variables : ℕ → Option ℕ) (proof : Option OpenProof) (words : ℕ) → LogsStaying 0 s.logged logged →
+    lines_over variables s.logged ≡ lines_over s.variables s.logged → GoesOnWriting s.proof proof →
+    IsLike s (record s { logged = logged; variables = variables; proof = proof; words = words })
+like-logged s logged variables proof words (m, n, d) same g = record {
   same = refl;
-  told = m;
+  logged = m;
   derived = d;
   stays = λ _. n;
   alike = same;
@@ -69,24 +69,24 @@ like-told s told variables proof words (m, n, d) same g = record {
 }
 
 pub like-refl : (s : State) → IsLike s s
-like-refl s = like-told s s.told s.variables s.proof s.words (stays-nothing s.told) refl (goes-on-none s.proof)
+like-refl s = like-logged s s.logged s.variables s.proof s.words (stays-nothing s.logged) refl (goes-on-none s.proof)
 
 -- where the open proof and the clause store alone have changed
 pub like-grown : (s : State) (proof : Option OpenProof) (words : ℕ) → GoesOnWriting s.proof proof → IsLike s (record s { proof = proof; words = words })
-like-grown s proof words g = like-told s s.told s.variables proof words (stays-nothing s.told) refl g
+like-grown s proof words g = like-logged s s.logged s.variables proof words (stays-nothing s.logged) refl g
 
 -- and where the variables and the clause store alone have
-pub like-varied : (s : State) (variables : ℕ → Option ℕ) (words : ℕ) → lines_over variables s.told ≡ lines_over s.variables s.told →
+pub like-varied : (s : State) (variables : ℕ → Option ℕ) (words : ℕ) → lines_over variables s.logged ≡ lines_over s.variables s.logged →
     IsLike s (with_words words (with_variables variables s))
-like-varied s variables words same = like-told s s.told variables s.proof words (stays-nothing s.told) same (goes-on-none s.proof)
+like-varied s variables words same = like-logged s s.logged variables s.proof words (stays-nothing s.logged) same (goes-on-none s.proof)
 
 -- so it is where variables may have left
-pub like-retold : (s : State) (told : List Entry) (variables : ℕ → Option ℕ) (proof : Option OpenProof) → (m : TellsMore 0 s.told told) →
-    AreDerived m.entries → lines_over variables s.told ≡ lines_over s.variables s.told → GoesOnWriting s.proof proof →
-    IsLikeButLeft true s (record s { told = told; variables = variables; proof = proof })
-like-retold s told variables proof m d same g = record {
+pub like-with_entries : (s : State) (logged : List Entry) (variables : ℕ → Option ℕ) (proof : Option OpenProof) → (m : LogsMore 0 s.logged logged) →
+    AreDerived m.entries → lines_over variables s.logged ≡ lines_over s.variables s.logged → GoesOnWriting s.proof proof →
+    IsLikeButLeft true s (record s { logged = logged; variables = variables; proof = proof })
+like-with_entries s logged variables proof m d same g = record {
   same = refl;
-  told = m;
+  logged = m;
   derived = d;
   stays = λ e. absurd (let z : true ≡ false = e in cc);
   alike = same;
@@ -122,9 +122,9 @@ like-still s = record {
   same = same-by (with_steps s.ledger.steps s) s refl refl refl refl refl refl
       (ledger-is s.ledger s.ledger.valid s.ledger.started s.ledger.steps (s.ledger.since + (s.ledger.steps - s.ledger.steps)) s.ledger.settings
       s.ledger.checking refl refl refl (none-more s.ledger.since s.ledger.steps) refl refl);
-  told = (stays-nothing s.told).0;
-  derived = (stays-nothing s.told).2;
-  stays = λ _. (stays-nothing s.told).1;
+  logged = (stays-nothing s.logged).0;
+  derived = (stays-nothing s.logged).2;
+  stays = λ _. (stays-nothing s.logged).1;
   alike = refl;
   proof = goes-on-none s.proof;
 }
@@ -138,7 +138,7 @@ pub stands-valid : (g : Summary) (s : State) → StandsFor g s → g.ledger.vali
 stands-valid g s st v = ap (λ x. x.valid) st.ledger ∙ v
 
 -- its proof fits what is known of it
-pub proof-fits : {g : Summary} {s : State} → StandsFor g s → g.ledger.valid ≡ true → ProofFits g.opened s.variables s.told s.proof
+pub proof-fits : {g : Summary} {s : State} → StandsFor g s → g.ledger.valid ≡ true → ProofFits g.opened s.variables s.logged s.proof
 proof-fits st v = record { same = st.same; written = st.written v }
 
 -- What is known as a call begins on a solver that is valid.
@@ -147,7 +147,7 @@ pub record Begins (g : Summary) (s : State) : Type 0 where
   pub ledger : s.ledger ≡ g.ledger
   pub words : s.words ≡ g.words
   pub fits : SpacesFit (spaces g) s
-  pub proof : ProofFits g.opened s.variables s.told s.proof
+  pub proof : ProofFits g.opened s.variables s.logged s.proof
   pub flags : FlagsFit s
 
 pub begins : {g : Summary} {s : State} → StandsFor g s → g.ledger.valid ≡ true → Begins g s
@@ -164,7 +164,7 @@ begins {g} {s} st v = record {
 -- What two flags say of a state, they say of one with the same clauses and assumptions, to which nothing more was told, and whose
 -- proof bars no other assumptions.
 pub flags-alike : (s t : State) → FlagsFit s → t.ledger.started ≡ s.ledger.started → t.clauses ≡ s.clauses → t.assumptions ≡ s.assumptions →
-    t.counted ≡ s.counted → t.told ≡ s.told → (BarsAssumptions t.proof → BarsAssumptions s.proof) → FlagsFit t
+    t.counted ≡ s.counted → t.logged ≡ s.logged → (BarsAssumptions t.proof → BarsAssumptions s.proof) → FlagsFit t
 flags-alike s t f b p a c n o = record {
   clauses = λ e. p ∙ f.clauses (sym b ∙ e);
   assumptions = λ e. a ∙ f.assumptions (sym b ∙ e);
@@ -194,11 +194,11 @@ flags-assumed t b n = record {
 }
 
 -- the state, with the verdict, the flags, what was told, the open proof and the words of another
-abbrev pub told_as : State → State → State
-told_as t s = record s { verdict = t.verdict; ledger = t.ledger; told = t.told; proof = t.proof; words = t.words }
+abbrev pub logged_as : State → State → State
+logged_as t s = record s { verdict = t.verdict; ledger = t.ledger; logged = t.logged; proof = t.proof; words = t.words }
 
-pub told-well : (s t : State) → IsWellFormed s → IsWellFormed (told_as t s)
-told-well s t w = record {
+pub logged-well : (s t : State) → IsWellFormed s → IsWellFormed (logged_as t s)
+logged-well s t w = record {
   one_to_one = w.one_to_one;
   free = w.free;
   named = w.named;
@@ -218,11 +218,11 @@ pub broken-invalid : (faults : ℕ) (s : State) (proof : Option OpenProof) (word
 broken-invalid faults s proof words v o = record { valid = v; ledger = refl; proof = o }
 
 -- so it is where memory ran out before the proof was told anything
-pub broken-untold : (s : State) (words : ℕ) → s.ledger.valid ≡ true → Invalidates 0 s (broken s.proof words s)
-broken-untold s words v = broken-invalid 0 s s.proof words v (goes-on-unfailed s.proof)
+pub broken-unlogged : (s : State) (words : ℕ) → s.ledger.valid ≡ true → Invalidates 0 s (broken s.proof words s)
+broken-unlogged s words v = broken-invalid 0 s s.proof words v (goes-on-unfailed s.proof)
 
 -- a clause could not be kept
-pub adds-broken : (e : StepError) (s t : State) (d : Clause) → (step_faults e ≡ 1 → IsOpen s.proof) → MayAccept calling s → MayConstrain s.naming d →
+pub adds-broken : (e : StepError) (s t : State) (d : Clause) → (step_faults e ≡ 1 → IsOpen s.proof) → MayAccept by_state s → MayConstrain s.naming d →
     Invalidates (step_faults e) s t → (e ≡ step.Full → IsStoreFull (name_all d s.naming).made t) → AddsClause s d (Err (step_refusal e)) t
 adds-broken step.Full s t d o n l i f = (n, l, i, f refl)
 adds-broken step.Memory s t d o n l i f = (n, l, i)

@@ -3,7 +3,7 @@ use Rattle.std.proofs.Common.{◌≡◌, ◌∙◌, ◌-◌, ℕ, Bool, true, fa
 use Rattle.varisat_names.specs.Variables.{Tables}
 use Rattle.varisat_proof.specs.Proving.{ProofParts, is_there}
 use Rattle.varisat_search.specs.declared.context.Context.{Context}
-use Rattle.varisat_tracer.specs.Tracing.{TracerState, CanTell}
+use Rattle.varisat_tracer.specs.Tracing.{TracerState, CanLog}
 use Rattle.varisat_solver.specs.Calls.{is_valid}
 use Rattle.varisat_solver.specs.Changes.{invalidated, CountsAnew}
 use Rattle.varisat_solver.specs.Accepting.{AreBounded}
@@ -13,7 +13,7 @@ use Rattle.varisat_solver.specs.States.{State, Ledger, FlagsFit}
 use Rattle.varisat_solver.specs.Summaries.{Summary, IsKept, IsKeptSince, StandsFor, StandsForSome, spaces_with}
 use Rattle.varisat_solver.specs.declared.solver.SolverError.{SolverError}
 use Rattle.varisat_solver.specs.declared.solver.SolverError.TheVariants.{Invalid}
-use Rattle.varisat_solver.proofs.Additions.{told-error}
+use Rattle.varisat_solver.proofs.Additions.{logged-error}
 use Rattle.varisat_solver.proofs.CallStates.{ledger-is, none-since, broken}
 use Rattle.varisat_solver.proofs.SettingsCalls.{summary_of, stands-same}
 use Rattle.varisat_solver.proofs.SinceSteps.{since-now}
@@ -21,17 +21,17 @@ use Rattle.varisat_solver.proofs.SinceSteps.{since-now}
 -- 1. The change came to a value.
 
 pub kept-changed : {A : Type 0} (tables : Tables) (proof : ProofParts) (x y : Context A) (started : Bool) (changed_at : ℕ) → CountsAnew x y changed_at →
-    IsKept tables x → CanTell proof → StandsForSome (spaces_with tables proof.checker x) started → IsKeptSince tables proof y started changed_at
+    IsKept tables x → CanLog proof → StandsForSome (spaces_with tables proof.checker x) started → IsKeptSince tables proof y started changed_at
 kept-changed {A} tables proof x y started changed_at c k t s =
     subst (λ (z : Context A). IsKeptSince tables proof z started changed_at) (sym c.same)
-    (record { kept = k; tells = t; counts = since-now changed_at x c.steps k.ready c.plan; stands = s })
+    (record { kept = k; logs = t; counts = since-now changed_at x c.steps k.ready c.plan; stands = s })
 
 -- It stands for the state that the change comes to, where steps are counted anew.
 pub stands-changed : {A : Type 0} (p q : TracerState) (started : Bool) (before changed_at : ℕ) (x y z : Context A) (s t : State) →
     StandsFor (summary_of p started before x) s → CountsAnew y z changed_at → y.solver_state.state_is_invalid ≡ x.solver_state.state_is_invalid →
     y.schedule.steps ≡ x.schedule.steps → y.solver_config ≡ x.solver_config → is_there q.proof.checker ≡ is_there p.proof.checker →
     t.ledger ≡ record s.ledger { started = true; since = 0 } → t.words ≡ length y.clause_alloc.words →
-    SpacesFit (spaces_with q.tables q.proof.checker y) t → ProofFits q.proof.opened t.variables t.told t.proof → FlagsFit t →
+    SpacesFit (spaces_with q.tables q.proof.checker y) t → ProofFits q.proof.opened t.variables t.logged t.proof → FlagsFit t →
     AreBounded q.tables → StandsFor (summary_of q true changed_at z) t
 stands-changed {A} p q started before changed_at x y z s t st counted valid steps config checking ledger size fits proof flags bounded =
     stands-same q true changed_at y z t counted.same (record {
@@ -77,5 +77,5 @@ stands-broken {A} p q started before changed_at x y z s proof st e n steps confi
 pub stands-invalid : (g : Summary) (s : State) → StandsFor g s → g.ledger.valid ≡ false → is_valid s ≡ false
 stands-invalid g s st f = ap (λ (l : Ledger). l.valid) st.ledger ∙ f
 
-pub invalid-told : {X : Type 0} (r : Result X SolverError) (e : SolverError) → IsErr r × IsErrAnd r (λ x. x ≡ e) → e ≡ Invalid → r ≡ Err Invalid
-invalid-told r e h i = told-error r e h ∙ ap Err i
+pub invalid-logged : {X : Type 0} (r : Result X SolverError) (e : SolverError) → IsErr r × IsErrAnd r (λ x. x ≡ e) → e ≡ Invalid → r ≡ Err Invalid
+invalid-logged r e h i = logged-error r e h ∙ ap Err i

@@ -26,14 +26,14 @@ use Rattle.varisat_search.specs.Seen.{search_of}
 use Rattle.varisat_search.specs.declared.state.SatState.{SatState}
 use Rattle.varisat_search.specs.declared.state.SatState.TheVariants as verdict
 use Rattle.varisat_trace.specs.Traces.{HoldsFor}
-use Rattle.varisat_tracer.specs.Carried.{carry, told_as}
-use Rattle.varisat_tracer.specs.Tracing.{Relies, CanTell}
+use Rattle.varisat_tracer.specs.Carried.{carry, logged_as}
+use Rattle.varisat_tracer.specs.Tracing.{Relies, CanLog}
 use Rattle.varisat_solver.specs.Searches.{ComesOn, Turn}
 use Rattle.varisat_solver.specs.Spaces.{Spaces, Carrying, translation, without_core, AreLive, SharesHeld, CheckerFits, Links, FitSome}
 use Rattle.varisat_solver.specs.States.{State}
 use Rattle.varisat_solver.specs.Summaries.{spaces_of}
 use Rattle.varisat_solver.proofs.Carried.{carry-at, carry-sign}
-use Rattle.varisat_solver.proofs.ReachedHeld.{left-apart, told-live}
+use Rattle.varisat_solver.proofs.ReachedHeld.{left-apart, logged-live}
 use Rattle.varisat_solver.proofs.SpacesAgree.{map-map, carry-same, rename-same}
 
 -- 1. Entries that are told, under other names for the variables.
@@ -47,7 +47,7 @@ one-more f held after P c s e =
 
 -- What is left after entries is what they lead to, as long as no variable leaves.
 pub left-as : (f : Literal → Literal) (es : List Entry) (held after P Q : List Clause) → NoneLeaves es → SameClauses (rename f held) P →
-    Leads held es after → IsLeftAfter P (told_as f es) Q → SameClauses (rename f after) Q
+    Leads held es after → IsLeftAfter P (logged_as f es) Q → SameClauses (rename f after) Q
 left-as f [] held after P Q n s d e = subst (λ (X : List Clause). SameClauses (rename f after) X) e
     (subst (λ (X : List Clause). SameClauses (rename f X) P) d s)
 left-as f (Accepts c ∷ es) held after P Q n s (R, e, d) l = left-as f es R after (P ++ map f c ∷ []) Q n (one-more f held R P c s e) d l
@@ -60,24 +60,24 @@ left-as f (Fails core ∷ es) held after P Q n s (R, (g, e), d) l =
 left-as f (Leaves v ∷ es) held after P Q n s d l = absurd n
 
 may-hold-on : (f : Literal → Literal) (k k' : Option CheckerState) (es : List Entry) (held after : List Clause) → NoneLeaves es →
-    IsCheckedIf k (told_as f es) k' → Leads held es after → MayBeHeld k (rename f held) → MayBeHeld k' (rename f after)
+    IsCheckedIf k (logged_as f es) k' → Leads held es after → MayBeHeld k (rename f held) → MayBeHeld k' (rename f after)
 may-hold-on f None k' es held after n e d h = subst (λ o. MayBeHeld o (rename f after)) (sym e) tt
 may-hold-on f (Some a) None es held after n e d h = absurd e
 may-hold-on f (Some a) (Some b) es held after n (l, e) d (s, u) = (left-as f es held after a.clauses b.clauses n s d l, e ∙ u)
 
 -- The checker goes on with what is told.
-pub checker-on : (global : ℕ → Option ℕ) (told es : List Entry) (k k' : Option CheckerState) → NoneLeaves es →
-    IsCheckedIf k (told_as (carry global) es) k' → CheckerFits global told k → CheckerFits global (told ++ es) k'
-checker-on global told es k k' n c fits after led =
-    let (held, first, rest) = leads_cut [] told es after led in
+pub checker-on : (global : ℕ → Option ℕ) (logged es : List Entry) (k k' : Option CheckerState) → NoneLeaves es →
+    IsCheckedIf k (logged_as (carry global) es) k' → CheckerFits global logged k → CheckerFits global (logged ++ es) k'
+checker-on global logged es k k' n c fits after led =
+    let (held, first, rest) = leads_cut [] logged es after led in
     may-hold-on (carry global) k k' es held after n c rest (fits held first)
 
 -- A list of assumptions changes nothing of it.
-pub checker-still : (global : ℕ → Option ℕ) (told : List Entry) (a : List Literal) (k : Option CheckerState) → CheckerFits global told k →
-    CheckerFits global (told ++ Assumes a ∷ []) k
-checker-still global told a k fits = checker-on global told (Assumes a ∷ []) k k tt (go k) fits
+pub checker-still : (global : ℕ → Option ℕ) (logged : List Entry) (a : List Literal) (k : Option CheckerState) → CheckerFits global logged k →
+    CheckerFits global (logged ++ Assumes a ∷ []) k
+checker-still global logged a k fits = checker-on global logged (Assumes a ∷ []) k k tt (go k) fits
   where
-    go : (k : Option CheckerState) → IsCheckedIf k (told_as (carry global) (Assumes a ∷ [])) k
+    go : (k : Option CheckerState) → IsCheckedIf k (logged_as (carry global) (Assumes a ∷ [])) k
     go None = refl
     go (Some c) = (refl, refl)
 
@@ -94,10 +94,10 @@ checked-assumed (Some x) None a e = absurd e
 checked-assumed (Some x) (Some y) a (c, u) = checked-nothing (Some x) (Some y) (c, u)
 
 -- Other names for the variables make no difference where they agree on what is held.
-pub checker-alike : (f g : ℕ → Option ℕ) (told : List Entry) (k : Option CheckerState) →
-    ((held : List Clause) → Leads [] told held → (c : Clause) (l : Literal) → c ∈ held → l ∈ c → f (variable_of l) ≡ g (variable_of l)) →
-    CheckerFits f told k → CheckerFits g told k
-checker-alike f g told k same fits held led = subst (MayBeHeld k)
+pub checker-alike : (f g : ℕ → Option ℕ) (logged : List Entry) (k : Option CheckerState) →
+    ((held : List Clause) → Leads [] logged held → (c : Clause) (l : Literal) → c ∈ held → l ∈ c → f (variable_of l) ≡ g (variable_of l)) →
+    CheckerFits f logged k → CheckerFits g logged k
+checker-alike f g logged k same fits held led = subst (MayBeHeld k)
     (rename-same (carry f) (carry g) held (λ c l h i. carry-same f g l (same held led c l h i))) (fits held led)
 
 -- a clause mentions the one variable just where it mentions the other under the other name
@@ -124,12 +124,12 @@ without-alike f x i (c ∷ P) same =
     out false = refl
 
 -- The variable of an identity is gone for good, and of what is held other literals are of other variables.
-pub checker-without : (f g : ℕ → Option ℕ) (told : List Entry) (i x : ℕ) (k k' : Option CheckerState) →
-    ((held : List Clause) → Leads [] told held → (c : Clause) (l : Literal) → c ∈ held → l ∈ c →
+pub checker-without : (f g : ℕ → Option ℕ) (logged : List Entry) (i x : ℕ) (k k' : Option CheckerState) →
+    ((held : List Clause) → Leads [] logged held → (c : Clause) (l : Literal) → c ∈ held → l ∈ c →
     (variable_of (carry f l) ≡ x) ↔ (variable_of l ≡ i)) → ((j : ℕ) → j ≢ i → f j ≡ g j) → IsCheckedIf k (Leaves x ∷ []) k' →
-    CheckerFits f told k → CheckerFits g (told ++ Leaves i ∷ []) k'
-checker-without f g told i x k k' same other c fits after led =
-    let (held, first, (R, e, d)) = leads_cut [] told (Leaves i ∷ []) after led in
+    CheckerFits f logged k → CheckerFits g (logged ++ Leaves i ∷ []) k'
+checker-without f g logged i x k k' same other c fits after led =
+    let (held, first, (R, e, d)) = leads_cut [] logged (Leaves i ∷ []) after led in
     subst (λ (X : List Clause). MayBeHeld k' (rename (carry g) X)) (sym e ∙ d)
     (subst (MayBeHeld k') (rename-same (carry f) (carry g) (without i held) (λ d l h j. carry-same f g l (other (variable_of l) (left-apart i held d l h j))))
     (go k k' c held (λ d l h j. same held first d l h j) (fits held first)))
@@ -147,23 +147,23 @@ checker-without f g told i x k k' same other c fits after led =
 
 -- 2. What is told over identities is what the tracer tells over global variables.
 
-pub told-carried : (f g h : Literal → Literal) (are : Literal → Type 0) (lines : List Line) → ((l : Literal) → are l → g (f l) ≡ h l) →
-    SpeakOf are lines → told_as g (written (map (rename_line f) lines)) ≡ told_as h (written lines)
-told-carried f g h are [] e w = refl
-told-carried f g h are (Add c ∷ lines) e (s, w) =
-    ap (λ (d : Clause). Writes (Add d) ∷ told_as g (written (map (rename_line f) lines))) (map-map g f h c (λ l i. e l (s l i)))
-    ∙ ap (λ es. Writes (Add (map h c)) ∷ es) (told-carried f g h are lines e w)
-told-carried f g h are (Delete c ∷ lines) e (s, w) =
-    ap (λ (d : Clause). Writes (Delete d) ∷ told_as g (written (map (rename_line f) lines))) (map-map g f h c (λ l i. e l (s l i)))
-    ∙ ap (λ es. Writes (Delete (map h c)) ∷ es) (told-carried f g h are lines e w)
+pub logged-carried : (f g h : Literal → Literal) (are : Literal → Type 0) (lines : List Line) → ((l : Literal) → are l → g (f l) ≡ h l) →
+    SpeakOf are lines → logged_as g (written (map (rename_line f) lines)) ≡ logged_as h (written lines)
+logged-carried f g h are [] e w = refl
+logged-carried f g h are (Add c ∷ lines) e (s, w) =
+    ap (λ (d : Clause). Writes (Add d) ∷ logged_as g (written (map (rename_line f) lines))) (map-map g f h c (λ l i. e l (s l i)))
+    ∙ ap (λ es. Writes (Add (map h c)) ∷ es) (logged-carried f g h are lines e w)
+logged-carried f g h are (Delete c ∷ lines) e (s, w) =
+    ap (λ (d : Clause). Writes (Delete d) ∷ logged_as g (written (map (rename_line f) lines))) (map-map g f h c (λ l i. e l (s l i)))
+    ∙ ap (λ es. Writes (Delete (map h c)) ∷ es) (logged-carried f g h are lines e w)
 
 module _ (w : Carrying) (p : Spaces) (s : State) (k : Links w p s) where
   -- a literal over a solver variable in use, by any map that gives live identities their global variables
   pub global-carried : (m : ℕ → Option ℕ) → ((i x : ℕ) → w.global i ≡ Some x → m i ≡ Some x) → (l : Literal) →
-      (i : ℕ) × ((translation w p s.told).identity (variable_of l) ≡ Some i) →
-      carry m (carry (translation w p s.told).identity l) ≡ carry p.global_from_solver l
+      (i : ℕ) × ((translation w p s.logged).identity (variable_of l) ≡ Some i) →
+      carry m (carry (translation w p s.logged).identity l) ≡ carry p.global_from_solver l
   global-carried m leads l (i, e) =
-      let to = (translation w p s.told).identity in
+      let to = (translation w p s.logged).identity in
       let (x, f, g) = chain-through p.global_from_solver w.identity (variable_of l) i e in
       let there : m (variable_of (carry to l)) ≡ Some x = ap m (carry-at to l i e) ∙ leads i x (k.identities.one_to_one.there x i g) in
       same-literal (carry m (carry to l)) (carry p.global_from_solver l)
@@ -173,10 +173,10 @@ module _ (w : Carrying) (p : Spaces) (s : State) (k : Links w p s) where
   -- 3. What a search may rely on.
 
   -- Clauses that it shares are, with those that were forgotten, what the checker has.
-  pub shared-held : {fixed : List Literal} (share : List Clause) → SharesHeld (translation w p s.told) fixed share →
-      CheckerFits w.global s.told p.checker → (others : List Clause) × MayBeHeld p.checker (others ++ rename (carry p.global_from_solver) share)
+  pub shared-held : {fixed : List Literal} (share : List Clause) → SharesHeld (translation w p s.logged) fixed share →
+      CheckerFits w.global s.logged p.checker → (others : List Clause) × MayBeHeld p.checker (others ++ rename (carry p.global_from_solver) share)
   shared-held share q fits =
-      let f = carry (translation w p s.told).identity in
+      let f = carry (translation w p s.logged).identity in
       let g = carry w.global in
       let names : rename g (q.forgotten ++ rename f share) ≡ rename g q.forgotten ++ rename (carry p.global_from_solver) share =
       map-append (map g) q.forgotten (rename f share) ∙ ap (λ xs. rename g q.forgotten ++ xs) (renamed share q.inside) in (
@@ -191,47 +191,47 @@ module _ (w : Carrying) (p : Spaces) (s : State) (k : Links w p s) where
       held-as (Some c) P Q same (h, u) = (same_clauses-through Q P c.clauses (same_clauses-back P Q same) h, u)
 
       renamed : (P : List Clause) → ((c : Clause) (l : Literal) → c ∈ P → l ∈ c → (i : ℕ)
-          × ((translation w p s.told).identity (variable_of l) ≡ Some i)) →
-          rename (carry w.global) (rename (carry (translation w p s.told).identity) P) ≡ rename (carry p.global_from_solver) P
+          × ((translation w p s.logged).identity (variable_of l) ≡ Some i)) →
+          rename (carry w.global) (rename (carry (translation w p s.logged).identity) P) ≡ rename (carry p.global_from_solver) P
       renamed [] inside = refl
       renamed (c ∷ P) inside =
-          let one = map-map (carry w.global) (carry (translation w p s.told).identity) (carry p.global_from_solver) c
+          let one = map-map (carry w.global) (carry (translation w p s.logged).identity) (carry p.global_from_solver) c
           (λ l i. global-carried w.global (λ j x e. e) l (inside c l (inl refl) i)) in
-          ap (λ (d : Clause). d ∷ rename (carry w.global) (rename (carry (translation w p s.told).identity) P)) one
+          ap (λ (d : Clause). d ∷ rename (carry w.global) (rename (carry (translation w p s.logged).identity) P)) one
           ∙ ap (λ ds. map (carry p.global_from_solver) c ∷ ds) (renamed P (λ d l h i. inside d l (inr h) i))
 
 -- What a solver's journal leads to is over live identities, unless it is known to be unsatisfiable.
 pub all-live : (w : Carrying) (p : Spaces) (s : State) → Links w p s → without_core p.outcome ≢ outcome.Unsat → (held : List Clause) →
-    Leads [] s.told held → AreLive (translation w p s.told) held
+    Leads [] s.logged held → AreLive (translation w p s.logged) held
 all-live w p s k n held led c l h i =
-    let (all, first, live) = told-live w p s k n in
-    let (d, j, same) = same_clauses_find held all (leads_unique [] [] s.told held all refl led first) c h in
+    let (all, first, live) = logged-live w p s k n in
+    let (d, j, same) = same_clauses_find held all (leads_unique [] [] s.logged held all refl led first) c h in
     live d l j (same.1 l i)
 
 -- A search may rely on clauses that fit it and that it shares of what the checker has.
 relied-by : {fixed : List Literal} (t : Tables) (p : ProofParts) (seen : View) (assumed : AssumptionParts) (sat : SatState) (w : Carrying)
-    (s : State) (k : Links w (spaces_of t p.checker seen assumed sat) s) → CanTell p → Fits k.holds.held (search_of seen) →
-    SharesHeld (translation w (spaces_of t p.checker seen assumed sat) s.told) fixed k.holds.held → CheckerFits w.global s.told p.checker →
+    (s : State) (k : Links w (spaces_of t p.checker seen assumed sat) s) → CanLog p → Fits k.holds.held (search_of seen) →
+    SharesHeld (translation w (spaces_of t p.checker seen assumed sat) s.logged) fixed k.holds.held → CheckerFits w.global s.logged p.checker →
     HoldsFor (Relies (record { tables = t; proof = p })) (search_of seen)
 relied-by t p seen assumed sat w s k can fits shares checked =
     let (others, h) = shared-held w (spaces_of t p.checker seen assumed sat) s k k.holds.held shares checked in
     (k.holds.held, record { room = can.room; usable = can.usable; others = others; holds = h }, fits)
 
 -- Unless the clauses are known to be unsatisfiable there are such.
-pub relied-open : (t : Tables) (p : ProofParts) (seen : View) (assumed : AssumptionParts) (sat : SatState) → sat ≢ verdict.Unsat → CanTell p →
+pub relied-open : (t : Tables) (p : ProofParts) (seen : View) (assumed : AssumptionParts) (sat : SatState) → sat ≢ verdict.Unsat → CanLog p →
     FitSome (spaces_of t p.checker seen assumed sat) → HoldsFor (Relies (record { tables = t; proof = p })) (search_of seen)
 relied-open t p seen assumed verdict.Unknown n can (s, (w, k)) =
-    relied-by t p seen assumed verdict.Unknown w s k can k.holds.holds k.holds.told k.checked
+    relied-by t p seen assumed verdict.Unknown w s k can k.holds.holds k.holds.logged k.checked
 relied-open t p seen assumed verdict.Sat n can (s, (w, k)) =
-    relied-by t p seen assumed verdict.Sat w s k can k.holds.holds k.holds.told
+    relied-by t p seen assumed verdict.Sat w s k can k.holds.holds k.holds.logged
     k.checked
 relied-open t p seen assumed verdict.Unsat n can f = absurd (n refl)
 relied-open t p seen assumed verdict.UnsatUnderAssumptions n can (s, (w, k)) =
-    relied-by t p seen assumed verdict.UnsatUnderAssumptions w s k can k.holds.holds k.holds.told
+    relied-by t p seen assumed verdict.UnsatUnderAssumptions w s k can k.holds.holds k.holds.logged
     k.checked
 
 -- so it is as long as no verdict is known
-pub relied : (t : Tables) (p : ProofParts) (seen : View) (assumed : AssumptionParts) → CanTell p →
+pub relied : (t : Tables) (p : ProofParts) (seen : View) (assumed : AssumptionParts) → CanLog p →
     FitSome (spaces_of t p.checker seen assumed verdict.Unknown) → HoldsFor (Relies (record { tables = t; proof = p })) (search_of seen)
 relied t p seen assumed can f = relied-open t p seen assumed verdict.Unknown (λ e. let z : verdict.Unknown ≡ verdict.Unsat = e in cc) can f
 

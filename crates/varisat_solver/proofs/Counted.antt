@@ -7,7 +7,7 @@ use Rattle.varisat_theory.proofs.Count.{length-distinct}
 use Rattle.varisat_solver.specs.States.{State, is_member, join_one, join_counted, Verdict, Unknown, Sat, Unsat, UnsatUnderAssumptions, IsRight}
 use Rattle.varisat_solver.specs.Spaces.{Spaces, Carrying, Links}
 use Rattle.varisat_solver.proofs.SpacesAgree.{count}
-use Rattle.varisat_solver.proofs.ToldEntries.{told-counted}
+use Rattle.varisat_solver.proofs.LoggedEntries.{logged-counted}
 
 member-is : (i : ℕ) (xs : List ℕ) → is_member i xs ≡ true → i ∈ xs
 member-is i [] e = absurd (let z : false ≡ true = e in cc)
@@ -106,6 +106,6 @@ counted w p s is k m b d = record {
   plain = k.plain;
   variables = k.variables;
   numbered = k.numbered;
-  told = told-counted s.told s.clauses s.assumptions s.counted is s.ever_hidden m k.told;
+  logged = logged-counted s.logged s.clauses s.assumptions s.counted is s.ever_hidden m k.logged;
   checked = k.checked;
 }

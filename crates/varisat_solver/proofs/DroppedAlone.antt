@@ -16,8 +16,8 @@ use Rattle.varisat_names.proofs.Maps.{updated-at, updated-other, updated-all}
 use Rattle.varisat_names.proofs.VarMap.{at-inside}
 use Rattle.varisat_names.proofs.Tables.{live-inside}
 use Rattle.varisat_theory.specs.Journals.{Entry}
-use Rattle.varisat_proof.specs.Proving.{IsTold}
-use Rattle.varisat_tracer.specs.Told.{told-none, told-more}
+use Rattle.varisat_proof.specs.Proving.{IsLogged}
+use Rattle.varisat_tracer.specs.Logged.{logged-none, logged-more}
 use Rattle.varisat_tracer.specs.Tracing.{TracerState, leaves_if_deleted}
 use Rattle.varisat_solver.specs.Dropping.{fixed_to, IsDroppedAlone, FlagsVariables, AreDroppedAlone, LeavesTables}
 use Rattle.varisat_solver.proofs.DroppedTables.{IsLeft, AreLeft, kept-twice}
@@ -117,12 +117,12 @@ left-alone known (l ∷ ls) p q k (mid, a, rest) =
     (mid, subst (λ o. IsLeft o p mid (variable_of l)) (sym (k l (inl refl))) a, left-alone known ls mid q (λ m h. k m (inr h)) rest)
 
 -- what the proof was told meanwhile
-pub dropped-told : (ls : List Literal) (p q : TracerState) → AreDroppedAlone ls p q → (given : List Entry) × IsTold p.proof given q.proof
-dropped-told [] p q e = ([], subst (λ (t : TracerState). IsTold p.proof [] t.proof) (sym e) (told-none p.proof))
-dropped-told (l ∷ ls) p q (mid, (x, t, c, loses), rest) =
-    let (given, told) = dropped-told ls mid q rest in
+pub dropped-logged : (ls : List Literal) (p q : TracerState) → AreDroppedAlone ls p q → (given : List Entry) × IsLogged p.proof given q.proof
+dropped-logged [] p q e = ([], subst (λ (t : TracerState). IsLogged p.proof [] t.proof) (sym e) (logged-none p.proof))
+dropped-logged (l ∷ ls) p q (mid, (x, t, c, loses), rest) =
+    let (given, logged) = dropped-logged ls mid q rest in
     let first = leaves_if_deleted mid.tables x in
-    (first ++ given, told-more p.proof mid.proof q.proof first given loses.told told)
+    (first ++ given, logged-more p.proof mid.proof q.proof first given loses.logged logged)
 
 -- none of the first ones is over the variable of a later one
 pub distinct-after : (front : List Literal) (l : Literal) (rest : List Literal) → IsDistinct (map variable_of (front ++ (l ∷ rest))) →

@@ -34,7 +34,7 @@ use Rattle.varisat_search.proofs.ForgottenViews.{trail-distinct, distinct-left}
 use Rattle.varisat_solver.specs.States.{State}
 use Rattle.varisat_theory.specs.Journals.{Entry}
 use Rattle.varisat_tracer.specs.Tracing.{TracerState, leaves_if_deleted}
-use Rattle.varisat_solver.specs.Journals.{retold, TellsLeaving}
+use Rattle.varisat_solver.specs.Journals.{with_entries, LogsRetired}
 use Rattle.varisat_solver.specs.Spaces.{SpacesFit}
 use Rattle.varisat_solver.proofs.DroppedAlone.{left-alone}
 use Rattle.varisat_solver.proofs.DroppedTables.{AreWithout, variables-left, AreLeft}
@@ -42,11 +42,11 @@ use Rattle.varisat_solver.proofs.Carried.{literal-parts}
 use Rattle.varisat_solver.proofs.SearchLinks.{of-kept}
 use Rattle.varisat_theory.proofs.Members.{equal_or_not, ∈-append_cases, ∈-append_left, ∈-append_right}
 use Rattle.varisat_solver.proofs.Counted.{distinct-push}
-use Rattle.varisat_proof.specs.Proving.{IsTold}
-use Rattle.varisat_tracer.specs.Told.{told-none, told-more}
+use Rattle.varisat_proof.specs.Proving.{IsLogged}
+use Rattle.varisat_tracer.specs.Logged.{logged-none, logged-more}
 use Rattle.varisat_names.proofs.Maps.{chain-some}
 use Rattle.varisat_names.proofs.VarMap.{at-inside}
-use Rattle.varisat_solver.proofs.ToldProofs.{leaving-nothing}
+use Rattle.varisat_solver.proofs.LoggedProofs.{leaving-nothing}
 use Rattle.varisat_prop.specs.declared.prop.graph.Reason.TheVariants as reason
 use Rattle.varisat_search.specs.declared.state.SatState.TheVariants as verdict
 
@@ -302,13 +302,13 @@ module _ {A : Type 0} {p q : TracerState} {x y : Context A} {gone : List Bool}
   pub stands-dropped : IsSettledDown (view x) → AreDroppedAlone (unassumed_among p.tables x.trail.literals) p q →
       search_of (view y) ≡ search_without gone (search_of (view x)) → (s : State) →
       SpacesFit (spaces_of p.tables p.proof.checker (view x) x.assumptions verdict.Unknown) s →
-      (told : List Entry) × TellsLeaving s.variables s.told told p.proof q.proof
-      × SpacesFit (spaces_of q.tables q.proof.checker (view y) y.assumptions verdict.Unknown) (retold told s)
+      (logged : List Entry) × LogsRetired s.variables s.logged logged p.proof q.proof
+      × SpacesFit (spaces_of q.tables q.proof.checker (view y) y.assumptions verdict.Unknown) (with_entries logged s)
   stands-dropped d a seen s fit =
       let m = p.tables in
       let known : ℕ → Option Bool = (λ v. slice_index_or x.assignment.current v None) in
-      subst (λ (as' : AssumptionParts). (told : List Entry) × TellsLeaving s.variables s.told told p.proof q.proof
-      × SpacesFit (spaces_of q.tables q.proof.checker (view y) as' verdict.Unknown) (retold told s)) (sym h.assumptions)
+      subst (λ (as' : AssumptionParts). (logged : List Entry) × LogsRetired s.variables s.logged logged p.proof q.proof
+      × SpacesFit (spaces_of q.tables q.proof.checker (view y) as' verdict.Unknown) (with_entries logged s)) (sym h.assumptions)
       (variables-left known (map variable_of (unassumed_among m x.trail.literals)) p q (view x) (view y) x.assumptions s
       (left-alone known (unassumed_among m x.trail.literals) p q
       (λ l i. on-value (view x) h.kept.ready.well d l
@@ -350,9 +350,9 @@ none-leaves p x k = record {
   kept = k;
   within = λ c q b. b;
   count = refl;
-  given = ([], told-none p.proof);
+  given = ([], logged-none p.proof);
   stands =
-      λ s fit. (s.told, leaving-nothing s.variables s.told p.proof, fit);
+      λ s fit. (s.logged, leaving-nothing s.variables s.logged p.proof, fit);
 }
 
 -- several were dropped in turn, and then one more
@@ -362,12 +362,12 @@ released-push [] l p mid q e d = (q, subst (λ t. (x : ℕ) × LosesSolverVar x 
 released-push (m ∷ ls) l p mid q (t, a, rest) d = (t, a, released-push ls l t mid q rest d)
 
 -- what the proof was told meanwhile
-pub released-told : (ls : List Literal) (p q : TracerState) → AreReleased ls p q → (given : List Entry) × IsTold p.proof given q.proof
-released-told [] p q e = ([], subst (λ (t : TracerState). IsTold p.proof [] t.proof) (sym e) (told-none p.proof))
-released-told (l ∷ ls) p q (mid, (x, loses), rest) =
-    let (given, told) = released-told ls mid q rest in
+pub released-logged : (ls : List Literal) (p q : TracerState) → AreReleased ls p q → (given : List Entry) × IsLogged p.proof given q.proof
+released-logged [] p q e = ([], subst (λ (t : TracerState). IsLogged p.proof [] t.proof) (sym e) (logged-none p.proof))
+released-logged (l ∷ ls) p q (mid, (x, loses), rest) =
+    let (given, logged) = released-logged ls mid q rest in
     let first = leaves_if_deleted mid.tables x in
-    (first ++ given, told-more p.proof mid.proof q.proof first given loses.told told)
+    (first ++ given, logged-more p.proof mid.proof q.proof first given loses.logged logged)
 
 -- as the laws of dropping say it, where no value is fixed
 released-left : (ls : List Literal) (p q : TracerState) → AreReleased ls p q → AreLeft (λ v. None) (map variable_of ls) p q
@@ -474,8 +474,8 @@ module _ {A : Type 0} {p q : TracerState} {x y : Context A} {mentioned gone : Li
     (h : HaveLeft p.tables q.tables x y gone ls (length mentioned)) where
   pub stands-released : AreReleased ls p q → search_of (view y) ≡ search_without gone (search_of (view x)) → (s : State) →
       SpacesFit (spaces_of p.tables p.proof.checker (view x) x.assumptions verdict.Unknown) s →
-      (told : List Entry) × TellsLeaving s.variables s.told told p.proof q.proof
-      × SpacesFit (spaces_of q.tables q.proof.checker (view y) y.assumptions verdict.Unknown) (retold told s)
+      (logged : List Entry) × LogsRetired s.variables s.logged logged p.proof q.proof
+      × SpacesFit (spaces_of q.tables q.proof.checker (view y) y.assumptions verdict.Unknown) (with_entries logged s)
   stands-released a seen s (c, links) =
       let m = p.tables in
       let free : (v z : ℕ) → v ∈ map variable_of ls → at m.solvers.backward v ≡ Some z →
@@ -483,8 +483,8 @@ module _ {A : Type 0} {p q : TracerState} {x y : Context A} {mentioned gone : Li
       let (l, g, r) = links.marks.only z t in
       let (j, k, o) = map-∈ variable_of v ls i in
       not-named m mentioned ls u j z (variable_of l) k (ap (at m.solvers.backward) (sym o) ∙ e) (h.linked.users.there (variable_of l) z r))) in
-      subst (λ (as' : AssumptionParts). (told : List Entry) × TellsLeaving s.variables s.told told p.proof q.proof
-      × SpacesFit (spaces_of q.tables q.proof.checker (view y) as' verdict.Unknown) (retold told s)) (sym h.assumptions)
+      subst (λ (as' : AssumptionParts). (logged : List Entry) × LogsRetired s.variables s.logged logged p.proof q.proof
+      × SpacesFit (spaces_of q.tables q.proof.checker (view y) as' verdict.Unknown) (with_entries logged s)) (sym h.assumptions)
       (variables-left (λ v. None) (map variable_of ls) p q (view x) (view y) x.assumptions s (released-left ls p q a)
       (without-unneeded m mentioned ls u (view x) gone f h.flags (view y) over free seen) (values-left h) free (c, links))
 

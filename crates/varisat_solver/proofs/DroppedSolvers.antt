@@ -109,10 +109,10 @@ module _ (w : Carrying) (p : Spaces) (s : State) (v x i : ℕ) (known : Option B
   forced' = updated w.forced i known
 
   r' : Translation
-  r' = record { identity = to'; global = w.global; forced = forced'; told = s.told }
+  r' = record { identity = to'; global = w.global; forced = forced'; logged = s.logged }
 
-  h : SearchHolds s.clauses (translation w p s.told) p.search outcome.Unknown
-  h = subst (SearchHolds s.clauses (translation w p s.told) p.search) (ap without_core unknown) k.holds
+  h : SearchHolds s.clauses (translation w p s.logged) p.search outcome.Unknown
+  h = subst (SearchHolds s.clauses (translation w p s.logged) p.search) (ap without_core unknown) k.holds
 
   -- the variable leads to its identity, and then nowhere; the others lead where they led
   to-at : to v ≡ Some i
@@ -223,7 +223,7 @@ module _ (w : Carrying) (p : Spaces) (s : State) (v x i : ℕ) (known : Option B
       (c, subst (λ n. c ∈ rename (carry to) (only n h.held)) (variable-literal v b) y, subst (λ m. IsUnit m c) (unit-literal b) z)
 
   -- what was true for good stays so
-  known-on : (l : Literal) → IsKnownTrue (translation w p s.told) p.search.fixed l → IsKnownTrue r' t.fixed l
+  known-on : (l : Literal) → IsKnownTrue (translation w p s.logged) p.search.fixed l → IsKnownTrue r' t.fixed l
   unfolding to to' forced' r'
   known-on l (inl e) = inl (forced-true forced' l (forced-on (variable_of l) (polarity_of l) (forced-value w.forced l e)))
   known-on l (inr (m, a, e)) =
@@ -236,14 +236,14 @@ module _ (w : Carrying) (p : Spaces) (s : State) (v x i : ℕ) (known : Option B
   forgotten-on : SharesHeld r' t.fixed (without v h.held)
   unfolding to to' forced' r'
   forgotten-on =
-      let before = h.told in
+      let before = h.logged in
       let gone = rename (carry to) (only v h.held) in
       record {
         held = before.held;
         led = before.led;
         forgotten = before.forgotten ++ gone;
-        same = same-apart (translation w p s.told) r' v h.held to-other before;
-        inside = inside-apart (translation w p s.told) r' v h.held to-other before;
+        same = same-apart (translation w p s.logged) r' v h.held to-other before;
+        inside = inside-apart (translation w p s.logged) r' v h.held to-other before;
         units = λ j b y e g none.
             ⊎_elim
             (λ q. let (c, a, u) = unit-of b (sym (updated-at w.forced i known) ∙ ap forced' (sym q) ∙ e) in
@@ -251,16 +251,16 @@ module _ (w : Carrying) (p : Spaces) (s : State) (v x i : ℕ) (known : Option B
             (λ n. let (c, a, u) = before.units j b y (sym (updated-other w.forced i known j n) ∙ e) g (none-before j n none) in
             (c, ∈-append_left c before.forgotten gone a, u))
             (equal_or_not j i);
-        live = live-apart (translation w p s.told) v h.held (in-use-lives w p s k) before;
+        live = live-apart (translation w p s.logged) v h.held (in-use-lives w p s k) before;
         settled = λ c e.
-            settled-through (translation w p s.told) r' p.search.fixed t.fixed known-on c
-            (⊎_elim (before.settled c) (settled-with (translation w p s.told) v h.held p.search h.holds f.unmentioned c)
+            settled-through (translation w p s.logged) r' p.search.fixed t.fixed known-on c
+            (⊎_elim (before.settled c) (settled-with (translation w p s.logged) v h.held p.search h.holds f.unmentioned c)
             (∈-append_cases c before.forgotten gone e));
       }
 
   -- All assignments agree on the value, and what is kept of the global variable tells it.
   module _ (d : VarData) (sure : (a : Assignment) → SatisfiesAll a s.clauses → (b : Bool) → known ≡ Some b → a i ≡ b)
-      (told : d ≡ record (p.kept x) { unit = known; isolated = d.isolated })
+      (logged : d ≡ record (p.kept x) { unit = known; isolated = d.isolated })
       (alone : (d.isolated ≡ (p.kept x).isolated) ⊎ ((b : Bool) × (known ≡ Some b))) where
     kept' : ℕ → VarData
     kept' = updated p.kept x d
@@ -292,14 +292,14 @@ module _ (w : Carrying) (p : Spaces) (s : State) (v x i : ℕ) (known : Option B
           (λ l a. ⊎_elim inl (λ (q, z). inr (fixed-forced l q z)) (f.stays l a))
           (λ l e. forced-true forced' l (forced-on (variable_of l) (polarity_of l) (forced-value w.forced l e)))
           (h.covered n) c e);
-      told = forgotten-on;
+      logged = forgotten-on;
     }
 
     units-on : UnitsFit w.identity forced' kept' s.counted
     unfolding forced' kept'
     units-on = record {
       unit = λ y j. updated-all (λ y a. w.identity y ≡ Some j → forced' j ≡ a.unit) p.kept x d
-          (λ e. let z : Some i ≡ Some j = sym at ∙ e in let q : j ≡ i = cc in ap forced' q ∙ updated-at w.forced i known ∙ sym (ap (λ a. a.unit) told))
+          (λ e. let z : Some i ≡ Some j = sym at ∙ e in let q : j ≡ i = cc in ap forced' q ∙ updated-at w.forced i known ∙ sym (ap (λ a. a.unit) logged))
           y
           (λ n e. updated-other w.forced i known j (λ q. n (same-variable y (e ∙ ap Some q))) ∙ k.units.unit y j e);
       is_counted = λ j b. updated-all (λ j o. o ≡ Some b → j ∈ s.counted) w.forced i known (λ _. is-counted) j (λ n e. k.units.is_counted j b e);
@@ -341,10 +341,10 @@ module _ (w : Carrying) (p : Spaces) (s : State) (v x i : ℕ) (known : Option B
     unfolding to to' forced' kept' r'
     left = record {
       identities = identities-same w.identity w.global p.kept kept' s.naming.made
-          (field-same (λ a. a.deleted) p.kept x d (ap (λ a. a.deleted) told)) k.identities;
+          (field-same (λ a. a.deleted) p.kept x d (ap (λ a. a.deleted) logged)) k.identities;
       names = k.names;
       modes = modes-same w.identity p.global_from_user p.user_from_global p.global_from_user p.user_from_global p.kept kept' s.naming.modes
-          (λ u. refl) (λ y. refl) (field-same (λ a. a.sampling_mode) p.kept x d (ap (λ a. a.sampling_mode) told)) k.modes;
+          (λ u. refl) (λ y. refl) (field-same (λ a. a.sampling_mode) p.kept x d (ap (λ a. a.sampling_mode) logged)) k.modes;
       watermark = k.watermark;
       globals = k.globals;
       units = units-on;
@@ -357,17 +357,17 @@ module _ (w : Carrying) (p : Spaces) (s : State) (v x i : ℕ) (known : Option B
       holds = subst (SearchHolds s.clauses r' t) (sym (ap without_core unknown)) holds-on;
       assumptions = assumptions-on;
       marks = marks-same p.global_from_user p.global_from_user p.kept kept' p.assumptions (λ u. refl)
-          (field-same (λ a. a.assumed) p.kept x d (ap (λ a. a.assumed) told)) k.marks;
+          (field-same (λ a. a.assumed) p.kept x d (ap (λ a. a.assumed) logged)) k.marks;
       working = working-same s.clauses to to' s.assumptions p.working (λ l m. to-other (variable_of l) (not-working l m)) k.working;
       verdict = k.verdict;
       core = k.core;
       right = k.right;
       well_formed = k.well_formed;
       few = k.few;
-      shown = λ e y m. field-same (λ a. a.deleted) p.kept x d (ap (λ a. a.deleted) told) y ∙ k.shown e y m;
+      shown = λ e y m. field-same (λ a. a.deleted) p.kept x d (ap (λ a. a.deleted) logged) y ∙ k.shown e y m;
       plain = k.plain;
       variables = k.variables;
       numbered = k.numbered;
-      told = k.told;
+      logged = k.logged;
       checked = k.checked;
     }

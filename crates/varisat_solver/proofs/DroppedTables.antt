@@ -20,9 +20,9 @@ use Rattle.varisat_solver.proofs.Carried.{true-value}
 use Rattle.varisat_solver.proofs.SearchLinks.{agrees-through, relinked}
 use Rattle.varisat_solver.proofs.SolveVerdict.{maps-alike, maps-same, recount}
 use Rattle.varisat_proof.specs.Calls.{CheckerState}
-use Rattle.varisat_proof.specs.Proving.{IsCheckedIf, ProofParts, IsTold}
+use Rattle.varisat_proof.specs.Proving.{IsCheckedIf, ProofParts, IsLogged}
 use Rattle.varisat_theory.specs.Journals.{Leaves, Entry}
-use Rattle.varisat_solver.specs.Journals.{retold, TellsLeaving}
+use Rattle.varisat_solver.specs.Journals.{with_entries, LogsRetired}
 use Rattle.varisat_solver.proofs.VariableMoves.{leave_search, leave_all, recycle, kept-most}
 use Rattle.varisat_solver.proofs.RecycledGlobals.{recycled}
 use Rattle.varisat_solver.proofs.DroppedSolvers.{IsWithout, left, still-forced}
@@ -39,7 +39,7 @@ use Rattle.varisat_solver.proofs.CheckedHeld.{checked-nothing}
 use Rattle.varisat_tracer.specs.Tracing.{TracerState, leaves_if_deleted}
 use Rattle.varisat_tracer.specs.Carried.{carry}
 use Rattle.varisat_solver.specs.Carried.{is_forced}
-use Rattle.varisat_solver.proofs.ToldProofs.{leaving-none, leaving-nothing, leaving-one, leaving-through}
+use Rattle.varisat_solver.proofs.LoggedProofs.{leaving-none, leaving-nothing, leaving-one, leaving-through}
 use Rattle.varisat_solver.specs.Summaries.{spaces_of}
 use Rattle.varisat_solver.proofs.SpacesAgree.{with_search}
 use Rattle.varisat_solver.proofs.ReachedHeld.{shares-more}
@@ -55,7 +55,7 @@ proved-value : (w : Carrying) (p : Spaces) (s : State) (v x i : ℕ) (l : Litera
 proved-value w p s v x i l k unknown pair at over proved a m =
     let to = chain p.global_from_solver w.identity in
     let read : Assignment = λ u. a (identity_of (to u)) in
-    let h = subst (SearchHolds s.clauses (translation w p s.told) p.search) (ap without_core unknown) k.holds in
+    let h = subst (SearchHolds s.clauses (translation w p s.logged) p.search) (ap without_core unknown) k.holds in
     let (d, e, unit) = h.holds.units l proved in
     let all = same_satisfied read h.held _ h.holds.same (h.implied a read m (agrees-through to a)) in
     let (n, y, z) = all d (∈-append_right d (clauses_of p.search.kept) h.holds.others e) in
@@ -67,13 +67,13 @@ proved-value w p s v x i l k unknown pair at over proved a m =
 pub record IsGone (x : ℕ) (p : Spaces) (s : State) : Type 0 where
   pub identity : ℕ
   pub variable : s.variables identity ≡ Some x
-  pub fits : SpacesFit p (retold (s.told ++ Leaves identity ∷ []) s)
+  pub fits : SpacesFit p (with_entries (s.logged ++ Leaves identity ∷ []) s)
 
 -- whatever is kept in between of the isolated global variable
 pub left-recycled : (w : Carrying) (p : Spaces) (s : State) (v x i : ℕ) (t : Search) (d : VarData) → Links w (leave_search v x t d p) s →
     p.outcome ≡ outcome.Unknown → w.identity x ≡ Some i → p.user_from_global x ≡ None → d.isolated ≡ true → (checker : Option CheckerState) →
     IsCheckedIf p.checker (Leaves x ∷ []) checker → IsGone x (record (leave_all v x t p) { checker = checker }) s
-left-recycled w p s v x i t d k unknown at unnamed alone checker told =
+left-recycled w p s v x i t d k unknown at unnamed alone checker logged =
     let mid = leave_search v x t d p in
     let unsolved = updated-at p.solver_from_global x None in
     let isolated = ap (λ (a : VarData). a.isolated) (updated-at p.kept x d) ∙ alone in
@@ -82,13 +82,13 @@ left-recycled w p s v x i t d k unknown at unnamed alone checker told =
       variable = k.variables i x (k.identities.one_to_one.there x i at);
       fits =
           maps-same (record (recycle x mid) { checker = checker }) (record (leave_all v x t p) { checker = checker })
-          (retold (s.told ++ Leaves i ∷ []) s)
+          (with_entries (s.logged ++ Leaves i ∷ []) s)
           (maps-alike (record (recycle x mid) { checker = checker }) (record (leave_all v x t p) { checker = checker }) refl
           (λ y. updated-all (λ y a. a ≡ updated (updated p.kept x d) x dead y) p.kept x dead (sym (updated-at (updated p.kept x d) x dead)) y
           (λ n. sym (updated-other (updated p.kept x d) x dead y n ∙ updated-other p.kept x d y n)))
           (λ a e y. refl)) refl
           (recycled w mid s x i k at unnamed unsolved isolated
-          (λ e. let z : outcome.Unknown ≡ outcome.Unsat = sym (ap without_core unknown) ∙ e in cc) checker told);
+          (λ e. let z : outcome.Unknown ≡ outcome.Unsat = sym (ap without_core unknown) ∙ e in cc) checker logged);
     }
 
 -- The variable is not assumed, and its value is fixed at level 0.
@@ -109,10 +109,10 @@ module _ (w : Carrying) (p : Spaces) (s : State) (v x : ℕ) (b : Bool) (t : Sea
   -- a hidden one may be used again
   pub fixed-left : p.user_from_global x ≡ None → (checker : Option CheckerState) → IsCheckedIf p.checker (Leaves x ∷ []) checker →
       IsGone x (record (leave_all v x t p) { checker = checker }) s
-  fixed-left unnamed checker told =
+  fixed-left unnamed checker logged =
       let (i, at, c) = k.solvers.live v x pair in
       left-recycled (record w { forced = updated w.forced i (Some b) }) p s v x i t (fixed_to b (p.kept x))
-      (links-left i at c) unknown at unnamed refl checker told
+      (links-left i at c) unknown at unnamed refl checker logged
 
 -- A variable without a value that no kept clause mentions leaves the search. Where it has no name and is isolated, its global variable may be used again.
 
@@ -138,10 +138,10 @@ pub apart-recycled : (w : Carrying) (p : Spaces) (s : State) (v x : ℕ) (t : Se
     p.global_from_solver v ≡ Some x → (p.kept x).assumed ≡ false → p.user_from_global x ≡ None → (p.kept x).isolated ≡ true →
     IsWithout v None p.search t → (checker : Option CheckerState) → IsCheckedIf p.checker (Leaves x ∷ []) checker →
     IsGone x (record (leave_all v x t p) { checker = checker }) s
-apart-recycled w p s v x t k unknown pair unassumed unnamed alone f checker told =
+apart-recycled w p s v x t k unknown pair unassumed unnamed alone f checker logged =
     let (i, at, c) = k.solvers.live v x pair in
     left-recycled (record w { forced = updated w.forced i None }) p s v x i t (p.kept x)
-    (links-apart w p s v x i t k unknown pair at c unassumed f) unknown at unnamed alone checker told
+    (links-apart w p s v x i t k unknown pair at c unassumed f) unknown at unnamed alone checker logged
 
 -- The solver variable was dropped. Before that its global variable was kept with its value and as isolated, where the value is fixed.
 abbrev pub IsLeft : Option Bool → TracerState → TracerState → ℕ → Type 0
@@ -195,8 +195,8 @@ kept-twice old mid new x d e a b =
 -- what dropping a solver variable does to the tables, whether its value is fixed or not
 loses : (known : Option Bool) (p q : TracerState) (v : ℕ) → IsLeft known p q v → (x : ℕ)
     × LosesSolver p.tables q.tables x v (unless_unused (at p.tables.users.backward x) (with_known known (kept_at p.tables.kept x)))
-    × IsTold p.proof (leaves_if_deleted q.tables x) q.proof
-loses None p q v (x, l) = let n = l.dropped in (x, record { taken = n.taken; users = n.users; solvers = n.solvers; kept = n.kept }, l.told)
+    × IsLogged p.proof (leaves_if_deleted q.tables x) q.proof
+loses None p q v (x, l) = let n = l.dropped in (x, record { taken = n.taken; users = n.users; solvers = n.solvers; kept = n.kept }, l.logged)
 loses (Some b) p q v (x, mid, c, l) =
     let old = p.tables in
     let new = q.tables in
@@ -213,19 +213,19 @@ loses (Some b) p q v (x, mid, c, l) =
         kept = kept-twice old.kept mid.kept new.kept x d (unless_unused (at old.users.backward x) d) c.kept
             (subst (λ d. IsKeptAs mid.kept x d new.kept) after n.kept);
       },
-      l.told,
+      l.logged,
     )
 
 module _ (old new : Tables) (p q : ProofParts) (search : View) (assumed : AssumptionParts) (s : State) (u t : Search) (x v : ℕ) (d : VarData)
     (w : Carrying) (k : Links w (between old p.checker search assumed u) s) where
   -- whatever is kept of the variable
-  moved : (told : List Entry) (e : VarData) (m : ℕ → Bool) (checker : Option CheckerState) → LosesSolver old new x v e →
-      SpacesFit (record (leave_search v x t e (between old p.checker search assumed u)) { model = m; checker = checker }) (retold told s) →
-      SpacesFit (between new checker search assumed t) (retold told s)
-  moved told e m checker n f =
+  moved : (logged : List Entry) (e : VarData) (m : ℕ → Bool) (checker : Option CheckerState) → LosesSolver old new x v e →
+      SpacesFit (record (leave_search v x t e (between old p.checker search assumed u)) { model = m; checker = checker }) (with_entries logged s) →
+      SpacesFit (between new checker search assumed t) (with_entries logged s)
+  moved logged e m checker n f =
       let live : (kept_at old.kept x).deleted ≡ false = (let (i, is, c) = k.solvers.live v x n.taken in k.identities.live x i is) in
       maps-same (record (leave_search v x t e (between old p.checker search assumed u)) { model = m; checker = checker })
-      (between new checker search assumed t) (retold told s) (record {
+      (between new checker search assumed t) (with_entries logged s) (record {
         global_from_user = λ y. ap (λ (b : BiMap). at b.forward y) n.users;
         user_from_global = λ y. ap (λ (b : BiMap). at b.backward y) n.users;
         watermark = ap (λ (b : BiMap). length b.forward) n.users;
@@ -237,50 +237,50 @@ module _ (old new : Tables) (p q : ProofParts) (search : View) (assumed : Assump
       }) refl f
 
   -- where it is live still, the proof is told nothing
-  none-told : LosesSolver old new x v d → d.deleted ≡ false → leaves_if_deleted new x ≡ []
-  none-told n live = ap (λ (b : Bool). if b then Leaves x ∷ [] else [])
+  none-logged : LosesSolver old new x v d → d.deleted ≡ false → leaves_if_deleted new x ≡ []
+  none-logged n live = ap (λ (b : Bool). if b then Leaves x ∷ [] else [])
       (ap (λ (e : VarData). e.deleted) (n.kept.at_each x ∙ updated-at (kept_at old.kept) x d) ∙ live)
 
   -- where it is not, the proof is told so
-  one-told : LosesSolver old new x v dead → leaves_if_deleted new x ≡ Leaves x ∷ []
-  one-told n = ap (λ (b : Bool). if b then Leaves x ∷ [] else []) (ap (λ (e : VarData). e.deleted) (n.kept.at_each x ∙ updated-at (kept_at old.kept) x dead))
+  one-logged : LosesSolver old new x v dead → leaves_if_deleted new x ≡ Leaves x ∷ []
+  one-logged n = ap (λ (b : Bool). if b then Leaves x ∷ [] else []) (ap (λ (e : VarData). e.deleted) (n.kept.at_each x ∙ updated-at (kept_at old.kept) x dead))
 
   -- Where it has no name and is isolated it is gone, and else it stays.
-  gone : LosesSolver old new x v (unless_unused (at old.users.backward x) d) → IsTold p (leaves_if_deleted new x) q → d.deleted ≡ false →
+  gone : LosesSolver old new x v (unless_unused (at old.users.backward x) d) → IsLogged p (leaves_if_deleted new x) q → d.deleted ≡ false →
       SpacesFit (leave_search v x t d (between old p.checker search assumed u)) s →
       (at old.users.backward x ≡ None → d.isolated ≡ true → (checker : Option CheckerState) → IsCheckedIf p.checker (Leaves x ∷ []) checker →
       IsGone x (record (leave_all v x t (between old p.checker search assumed u)) { checker = checker }) s) →
-      (told : List Entry) × TellsLeaving s.variables s.told told p q × SpacesFit (between new q.checker search assumed t) (retold told s)
+      (logged : List Entry) × LogsRetired s.variables s.logged logged p q × SpacesFit (between new q.checker search assumed t) (with_entries logged s)
   gone n h live stays recycled = go (at old.users.backward x) d.isolated refl refl
     where
-      stay : LosesSolver old new x v d → (told : List Entry) × TellsLeaving s.variables s.told told p q
-          × SpacesFit (between new q.checker search assumed t) (retold told s)
+      stay : LosesSolver old new x v d → (logged : List Entry) × LogsRetired s.variables s.logged logged p q
+          × SpacesFit (between new q.checker search assumed t) (with_entries logged s)
       stay l = (
-        s.told,
-        leaving-none s.variables s.told p q (leaves_if_deleted new x) (none-told l live) h,
-        moved s.told d
+        s.logged,
+        leaving-none s.variables s.logged p q (leaves_if_deleted new x) (none-logged l live) h,
+        moved s.logged d
             (between old p.checker search assumed u).model q.checker l
             (subst (λ o. SpacesFit (record (leave_search v x t d (between old p.checker search assumed u)) { checker = o }) s)
-            (sym (checked-nothing p.checker q.checker (subst (λ es. IsCheckedIf p.checker es q.checker) (none-told l live) h.checked))) stays),
+            (sym (checked-nothing p.checker q.checker (subst (λ es. IsCheckedIf p.checker es q.checker) (none-logged l live) h.checked))) stays),
       )
 
-      go : (o : Option ℕ) (b : Bool) → at old.users.backward x ≡ o → d.isolated ≡ b → (told : List Entry)
-          × TellsLeaving s.variables s.told told p q × SpacesFit (between new q.checker search assumed t) (retold told s)
+      go : (o : Option ℕ) (b : Bool) → at old.users.backward x ≡ o → d.isolated ≡ b → (logged : List Entry)
+          × LogsRetired s.variables s.logged logged p q × SpacesFit (between new q.checker search assumed t) (with_entries logged s)
       go (Some y) b e i = stay (subst (λ o. LosesSolver old new x v (unless_unused o d)) e n)
       go None true e i =
           let lost : LosesSolver old new x v dead = subst (λ c. LosesSolver old new x v (if c then dead else d)) i
           (subst (λ o. LosesSolver old new x v (unless_unused o d)) e n) in
-          let r = recycled e i q.checker (subst (λ es. IsCheckedIf p.checker es q.checker) (one-told lost) h.checked) in (
-            s.told ++ Leaves r.identity ∷ [],
-            leaving-one s.variables s.told r.identity x p q (leaves_if_deleted new x) r.variable (one-told lost) h,
-            moved (s.told ++ Leaves r.identity ∷ []) dead (leave_all v x t (between old p.checker search assumed u)).model q.checker lost r.fits,
+          let r = recycled e i q.checker (subst (λ es. IsCheckedIf p.checker es q.checker) (one-logged lost) h.checked) in (
+            s.logged ++ Leaves r.identity ∷ [],
+            leaving-one s.variables s.logged r.identity x p q (leaves_if_deleted new x) r.variable (one-logged lost) h,
+            moved (s.logged ++ Leaves r.identity ∷ []) dead (leave_all v x t (between old p.checker search assumed u)).model q.checker lost r.fits,
           )
       go None false e i = stay (subst (λ c. LosesSolver old new x v (if c then dead else d)) i (subst (λ o. LosesSolver old new x v (unless_unused o d)) e n))
 
 one-left : (known : Option Bool) (v : ℕ) (a b : TracerState) (search : View) (assumed : AssumptionParts) (s : State) (u t : Search) →
     IsLeft known a b v → IsWithout v known u t → ((x : ℕ) → at a.tables.solvers.backward v ≡ Some x → (kept_at a.tables.kept x).assumed ≡ false) →
     SpacesFit (between a.tables a.proof.checker search assumed u) s →
-    (told : List Entry) × TellsLeaving s.variables s.told told a.proof b.proof × SpacesFit (between b.tables b.proof.checker search assumed t) (retold told s)
+    (logged : List Entry) × LogsRetired s.variables s.logged logged a.proof b.proof × SpacesFit (between b.tables b.proof.checker search assumed t) (with_entries logged s)
 one-left (Some b) v p q search assumed s u t a f free (w, k) =
     let (x, n, h) = loses (Some b) p q v a in
     let old = between p.tables p.proof.checker search assumed u in
@@ -349,9 +349,9 @@ pair-before old new v u x y d p e =
 taken-before : (known : ℕ → Option Bool) (vs : List ℕ) (p q : TracerState) → AreLeft known vs p q → (v : ℕ) → v ∈ vs → (x : ℕ)
     × (at p.tables.solvers.backward v ≡ Some x)
 taken-before known [] p q e v h = absurd h
-taken-before known (u ∷ vs) p q (mid, a, rest) v (inl e) = let (x, n, told) = loses (known u) p mid u a in (x, ap (at p.tables.solvers.backward) e ∙ n.taken)
+taken-before known (u ∷ vs) p q (mid, a, rest) v (inl e) = let (x, n, logged) = loses (known u) p mid u a in (x, ap (at p.tables.solvers.backward) e ∙ n.taken)
 taken-before known (u ∷ vs) p q (mid, a, rest) v (inr h) =
-    let (y, n, told) = loses (known u) p mid u a in
+    let (y, n, logged) = loses (known u) p mid u a in
     let (x, e) = taken-before known vs mid q rest v h in
     (x, (pair-before p.tables mid.tables u v x y (unless_unused (at p.tables.users.backward y) (with_known (known u) (kept_at p.tables.kept y))) n e).0)
 
@@ -388,7 +388,7 @@ same-holds P r s t f h = record {
   known = h.known;
   fixed = λ n l i e z. on l (h.fixed n l i e z);
   covered = λ n. dropped_are_covered s t (carry r.identity) (is_forced r.forced) (is_forced r.forced) P f.kept (λ l a. inl (on l a)) (λ l e. e) (h.covered n);
-  told = shares-more on h.told;
+  logged = shares-more on h.logged;
 }
   where
     on : (l : Literal) → l ∈ s.fixed → l ∈ t.fixed
@@ -402,7 +402,7 @@ all-left : (known : ℕ → Option Bool) (vs : List ℕ) (p q : TracerState) (se
     AreLeft known vs p q → AreWithout known vs u t →
     ((v x : ℕ) → v ∈ vs → at p.tables.solvers.backward v ≡ Some x → (kept_at p.tables.kept x).assumed ≡ false) →
     SpacesFit (between p.tables p.proof.checker search assumed u) s →
-    (told : List Entry) × TellsLeaving s.variables s.told told p.proof q.proof × SpacesFit (between q.tables q.proof.checker search assumed t) (retold told s)
+    (logged : List Entry) × LogsRetired s.variables s.logged logged p.proof q.proof × SpacesFit (between q.tables q.proof.checker search assumed t) (with_entries logged s)
 all-left known [] p q search assumed s u t e f free (w, k) =
     let old = between p.tables p.proof.checker search assumed u in
     let same : AreWithout (λ v. None) [] u t =
@@ -415,20 +415,20 @@ all-left known [] p q search assumed s u t e f free (w, k) =
           f.proved;
       units = λ v b i. absurd i;
     } in (
-      s.told,
-      subst (λ (a : TracerState). TellsLeaving s.variables s.told s.told p.proof a.proof) (sym e) (leaving-nothing s.variables s.told p.proof),
+      s.logged,
+      subst (λ (a : TracerState). LogsRetired s.variables s.logged s.logged p.proof a.proof) (sym e) (leaving-nothing s.variables s.logged p.proof),
       subst (λ (a : TracerState). SpacesFit (between a.tables a.proof.checker search assumed t) s) (sym e) (
         w,
         relinked w old (between p.tables p.proof.checker search assumed t) s s k (record {
           solvers = k.solvers;
-          holds = same-holds s.clauses (translation w old s.told) u t same k.holds;
+          holds = same-holds s.clauses (translation w old s.logged) u t same k.holds;
           assumptions = k.assumptions;
           working = k.working;
           verdict = k.verdict;
           core = k.core;
           right = k.right;
           few = k.few;
-          told = k.told;
+          logged = k.logged;
           checked = k.checked;
         }),
       ),
@@ -440,27 +440,27 @@ all-left known (v ∷ vs) p q search assumed s u t (mid, a, rest) f free fit =
     let once = λ (i : v ∈ vs). let (x, e) = taken-before known vs mid q rest v i in (pair-before old mid.tables v v x g d n e).1 refl in
     let (first, more, mid-fits) = one-left (known v) v p mid search assumed s u (forget_variable v u) a (without-first known v vs u t f)
     (λ x e. free v x (inl refl) e) fit in
-    let (last, further, fits) = all-left known vs mid q search assumed (retold first s) (forget_variable v u) t rest (without-others known v vs u t once f)
+    let (last, further, fits) = all-left known vs mid q search assumed (with_entries first s) (forget_variable v u) t rest (without-others known v vs u t once f)
     (λ y x i e. still-free (known v) old mid.tables v g n x (free y x (inr i) (pair-before old mid.tables v y x g d n e).0))
     mid-fits in
-    (last, leaving-through s.variables s.told first last p.proof mid.proof q.proof more further, fits)
+    (last, leaving-through s.variables s.logged first last p.proof mid.proof q.proof more further, fits)
 
 -- Variables that are not assumed left the search, and their solver variables the tables: what is held stands for the same state as before.
 pub variables-left : (known : ℕ → Option Bool) (vs : List ℕ) (p q : TracerState) (search after : View) (assumed : AssumptionParts) (s : State) →
     AreLeft known vs p q → AreWithout known vs (search_of search) (search_of after) → length after.values ≡ length search.values →
     ((v x : ℕ) → v ∈ vs → at p.tables.solvers.backward v ≡ Some x → (kept_at p.tables.kept x).assumed ≡ false) →
     SpacesFit (spaces_of p.tables p.proof.checker search assumed verdict.Unknown) s →
-    (told : List Entry) × TellsLeaving s.variables s.told told p.proof q.proof
-    × SpacesFit (spaces_of q.tables q.proof.checker after assumed verdict.Unknown) (retold told s)
+    (logged : List Entry) × LogsRetired s.variables s.logged logged p.proof q.proof
+    × SpacesFit (spaces_of q.tables q.proof.checker after assumed verdict.Unknown) (with_entries logged s)
 variables-left known vs p q search after assumed s a f count free fit =
     let new = q.tables in
     let last = between new q.proof.checker search assumed (search_of after) in
-    let (told, more, fits) = all-left known vs p q search assumed s (search_of search) (search_of after) a f free fit in
+    let (logged, more, fits) = all-left known vs p q search assumed s (search_of search) (search_of after) a f free fit in
     let (w, k) = fits in (
-      told,
+      logged,
       more,
-      maps-same (record last { var_count = length after.values }) (spaces_of new q.proof.checker after assumed verdict.Unknown) (retold told s)
+      maps-same (record last { var_count = length after.values }) (spaces_of new q.proof.checker after assumed verdict.Unknown) (with_entries logged s)
           (maps-alike (record last { var_count = length after.values }) (spaces_of new q.proof.checker after assumed verdict.Unknown) refl
           (λ x. refl) (λ b e y. absurd (let z : outcome.Unknown ≡ outcome.Sat b = e in cc)))
-          refl (w, recount w last (length search.values) (length after.values) (retold told s) count k),
+          refl (w, recount w last (length search.values) (length after.values) (with_entries logged s) count k),
     )

@@ -12,7 +12,7 @@ use Rattle.varisat_search.specs.declared.state.SatState.TheVariants as verdict
 use Rattle.varisat_search.specs.Contexts.{IsReady}
 use Rattle.varisat_schedule.specs.Plans.{Plan, IsPlan, next_plan}
 use Rattle.varisat_schedule.specs.CallSteps.{steps_since}
-use Rattle.varisat_solver.specs.Budgets.{told_verdict, CountsSteps}
+use Rattle.varisat_solver.specs.Budgets.{returned_verdict, CountsSteps}
 use Rattle.varisat_solver.specs.SinceChange.{call_from, HasComeSince, GoesOnSince, CountsSince}
 use Rattle.varisat_solver.specs.declared.solver.SolverError.{SolverError}
 use Rattle.varisat_solver.specs.declared.solver.SolverError.TheVariants.{Interrupted}
@@ -124,9 +124,9 @@ module _ {A : Type 0} {x y : Context A} {max_steps : ℕ} (d : Searching x y max
     counts-refused error steps e n h = refused-counts n max_steps (x.schedule.steps - changed_at) x.schedule.steps steps
         (steps_since x.schedule y.schedule) error (e ∙ so-far) d.made.budget (few-now n h)
 
-pub told-refused : (r : Result (Option Bool) StepError) → IsErr r → (e : StepError) × (told_verdict r ≡ Err (step_refusal e))
-told-refused (Ok x) h = absurd (let z : false ≡ true = h in cc)
-told-refused (Err e) h = (e, refl)
+pub logged-refused : (r : Result (Option Bool) StepError) → IsErr r → (e : StepError) × (returned_verdict r ≡ Err (step_refusal e))
+logged-refused (Ok x) h = absurd (let z : false ≡ true = h in cc)
+logged-refused (Err e) h = (e, refl)
 
 -- the tests at the loop's head
 pub not-spent : (p q : Plan) (max_steps first steps : ℕ) → first ≡ p.steps → steps ≡ q.steps → (steps - first ≡ max_steps → ⊥) → steps_since p q ≢ max_steps

@@ -21,14 +21,14 @@ use Rattle.varisat_solver.proofs.ReachedHeld.{IsInUse}
 -- 1. Variables and literals.
 
 -- the identity of the solver variable leads back to it
-pub there-back : (w : Carrying) (p : Spaces) (s : State) (k : Links w p s) (v i : ℕ) → (translation w p s.told).identity v ≡ Some i →
+pub there-back : (w : Carrying) (p : Spaces) (s : State) (k : Links w p s) (v i : ℕ) → (translation w p s.logged).identity v ≡ Some i →
     chain w.global p.solver_from_global i ≡ Some v
 there-back w p s k v i e =
     let (x, f, g) = chain-through p.global_from_solver w.identity v i e in
     chain-some w.global p.solver_from_global i x (k.identities.one_to_one.there x i g) ∙ k.solvers.one_to_one.back x v f
 
 pub back-there : (w : Carrying) (p : Spaces) (s : State) (k : Links w p s) (v i : ℕ) → chain w.global p.solver_from_global i ≡ Some v →
-    ((translation w p s.told).identity v ≡ Some i) × (i ∈ s.counted)
+    ((translation w p s.logged).identity v ≡ Some i) × (i ∈ s.counted)
 back-there w p s k v i e =
     let (x, f, g) = chain-through w.global p.solver_from_global i v e in
     let h = k.solvers.one_to_one.there x v g in
@@ -38,10 +38,10 @@ back-there w p s k v i e =
 
 module _ (w : Carrying) (p : Spaces) (s : State) (k : Links w p s) where
   -- some literal in in-use stands for the literal, or none does
-  literal-back : (l : Literal) → ((m : Literal) × IsInUse (translation w p s.told) m × (carry (translation w p s.told).identity m ≡ l))
-      ⊎ ((m : Literal) → IsInUse (translation w p s.told) m → carry (translation w p s.told).identity m ≡ l → ⊥)
+  literal-back : (l : Literal) → ((m : Literal) × IsInUse (translation w p s.logged) m × (carry (translation w p s.logged).identity m ≡ l))
+      ⊎ ((m : Literal) → IsInUse (translation w p s.logged) m → carry (translation w p s.logged).identity m ≡ l → ⊥)
   literal-back l =
-      let to = (translation w p s.told).identity in
+      let to = (translation w p s.logged).identity in
       ⊎_elim
       (λ e. inr (λ m (i, a) q.
       let leads : variable_of l ≡ i = ap variable_of (sym q) ∙ carry-at to m i a in
@@ -56,17 +56,17 @@ module _ (w : Carrying) (p : Spaces) (s : State) (k : Links w p s) where
   -- 2. Clauses.
 
   -- the clause is one over literals in in-use, or it has a literal for which none stands
-  clause-back : (d : Clause) → ((e : Clause) × ((l : Literal) → l ∈ e → IsInUse (translation w p s.told) l)
-      × (map (carry (translation w p s.told).identity) e ≡ d))
-      ⊎ ((l : Literal) × (l ∈ d) × ((m : Literal) → IsInUse (translation w p s.told) m → carry (translation w p s.told).identity m ≡ l → ⊥))
+  clause-back : (d : Clause) → ((e : Clause) × ((l : Literal) → l ∈ e → IsInUse (translation w p s.logged) l)
+      × (map (carry (translation w p s.logged).identity) e ≡ d))
+      ⊎ ((l : Literal) × (l ∈ d) × ((m : Literal) → IsInUse (translation w p s.logged) m → carry (translation w p s.logged).identity m ≡ l → ⊥))
   clause-back [] = inl ([], (λ l h. absurd h), refl)
   clause-back (l ∷ d) =
-      let to = carry (translation w p s.told).identity in
+      let to = carry (translation w p s.logged).identity in
       ⊎_elim
       (λ (m, u, q). ⊎_elim
       (λ (e, v, z). inl (
         m ∷ e,
-        (λ x. elim [ inl o ↦ subst (IsInUse (translation w p s.told)) (sym o) u | inr h ↦ v x h ]),
+        (λ x. elim [ inl o ↦ subst (IsInUse (translation w p s.logged)) (sym o) u | inr h ↦ v x h ]),
         ap (λ y. y ∷ map to e) q
             ∙ ap (λ y. l ∷ y) z,
       ))
@@ -75,12 +75,12 @@ module _ (w : Carrying) (p : Spaces) (s : State) (k : Links w p s) where
       (λ n. inr (l, inl refl, n))
       (literal-back l)
 
-  module _ (h : SearchHolds s.clauses (translation w p s.told) p.search outcome.Unknown) where
+  module _ (h : SearchHolds s.clauses (translation w p s.logged) p.search outcome.Unknown) where
     -- what says nothing more over identities says nothing more in the search
-    settled-back : (e : Clause) → ((l : Literal) → l ∈ e → IsInUse (translation w p s.told) l) →
-        IsSettledBy (translation w p s.told) p.search.fixed (map (carry (translation w p s.told).identity) e) → IsSettled p.search e
+    settled-back : (e : Clause) → ((l : Literal) → l ∈ e → IsInUse (translation w p s.logged) l) →
+        IsSettledBy (translation w p s.logged) p.search.fixed (map (carry (translation w p s.logged).identity) e) → IsSettled p.search e
     settled-back e in-use (inl (l, a, b)) =
-        let to = (translation w p s.told).identity in
+        let to = (translation w p s.logged).identity in
         let (m, i, q) = map-∈ (carry to) l e a in
         let (n, j, o) = map-∈ (carry to) (opposite l) e b in
         let (x, u) = in-use m i in
@@ -88,7 +88,7 @@ module _ (w : Carrying) (p : Spaces) (s : State) (k : Links w p s) where
         (carry-opposites to m ∙ ap opposite (sym q) ∙ o) in
         inl (m, i, subst (λ y. y ∈ e) (sym same) j)
     settled-back e in-use (inr (l, a, known)) =
-        let to = (translation w p s.told).identity in
+        let to = (translation w p s.logged).identity in
         let (m, i, q) = map-∈ (carry to) l e a in
         let (x, u) = in-use m i in
         inr (
@@ -106,44 +106,44 @@ module _ (w : Carrying) (p : Spaces) (s : State) (k : Links w p s) where
     pub record Copies (F : List Clause) : Type 0 where
       pub list : List Clause
       pub settled : (e : Clause) → e ∈ list → IsSettled p.search e
-      pub copied : (d c : Clause) → d ∈ F → ((l : Literal) → l ∈ c → IsInUse (translation w p s.told) l) →
-          d ⊆ map (carry (translation w p s.told).identity) c → (e : Clause) × (e ∈ list) × (e ⊆ c)
+      pub copied : (d c : Clause) → d ∈ F → ((l : Literal) → l ∈ c → IsInUse (translation w p s.logged) l) →
+          d ⊆ map (carry (translation w p s.logged).identity) c → (e : Clause) × (e ∈ list) × (e ⊆ c)
 
-    with-copy : (d e : Clause) (F : List Clause) → ((l : Literal) → l ∈ e → IsInUse (translation w p s.told) l) →
-        map (carry (translation w p s.told).identity) e ≡ d → IsSettledBy (translation w p s.told) p.search.fixed d → Copies F → Copies (d ∷ F)
+    with-copy : (d e : Clause) (F : List Clause) → ((l : Literal) → l ∈ e → IsInUse (translation w p s.logged) l) →
+        map (carry (translation w p s.logged).identity) e ≡ d → IsSettledBy (translation w p s.logged) p.search.fixed d → Copies F → Copies (d ∷ F)
     with-copy d e F in-use q settled rest = record {
       list = e ∷ rest.list;
       settled = λ x. elim [
         | inl o ↦ subst (IsSettled p.search) (sym o)
-            (settled-back e in-use (subst (IsSettledBy (translation w p s.told) p.search.fixed) (sym q) settled))
+            (settled-back e in-use (subst (IsSettledBy (translation w p s.logged) p.search.fixed) (sym q) settled))
         | inr i ↦ rest.settled x i
       ];
       copied = λ x c i of part. ⊎_elim
-          (λ o. (e, inl refl, inside c of (subst (λ y. y ⊆ map (carry (translation w p s.told).identity) c) (o ∙ sym q) part)))
+          (λ o. (e, inl refl, inside c of (subst (λ y. y ⊆ map (carry (translation w p s.logged).identity) c) (o ∙ sym q) part)))
           (λ a. let (y, b, z) = rest.copied x c a of part in (y, inr b, z))
           i;
     }
       where
-        inside : (c : Clause) → ((l : Literal) → l ∈ c → IsInUse (translation w p s.told) l) →
-            map (carry (translation w p s.told).identity) e ⊆ map (carry (translation w p s.told).identity) c → e ⊆ c
+        inside : (c : Clause) → ((l : Literal) → l ∈ c → IsInUse (translation w p s.logged) l) →
+            map (carry (translation w p s.logged).identity) e ⊆ map (carry (translation w p s.logged).identity) c → e ⊆ c
         inside c of part m i =
-            let to = carry (translation w p s.told).identity in
+            let to = carry (translation w p s.logged).identity in
             let (n, j, o) = map-∈ to (to m) c (part (to m) (∈-map to m e i)) in
             subst (λ y. y ∈ c) (sym (one-literal w p s k m n (in-use m i) (of n j) o)) j
 
     without-copy : (d : Clause) (F : List Clause) (l : Literal) → l ∈ d →
-        ((m : Literal) → IsInUse (translation w p s.told) m → carry (translation w p s.told).identity m ≡ l → ⊥) → Copies F → Copies (d ∷ F)
+        ((m : Literal) → IsInUse (translation w p s.logged) m → carry (translation w p s.logged).identity m ≡ l → ⊥) → Copies F → Copies (d ∷ F)
     without-copy d F l on none rest = record {
       list = rest.list;
       settled = rest.settled;
       copied = λ x c i of part. ⊎_elim
-          (λ o. let (m, j, q) = map-∈ (carry (translation w p s.told).identity) l c (part l (subst (λ y. l ∈ y) (sym o) on)) in
+          (λ o. let (m, j, q) = map-∈ (carry (translation w p s.logged).identity) l c (part l (subst (λ y. l ∈ y) (sym o) on)) in
           absurd (none m (of m j) (sym q)))
           (λ a. rest.copied x c a of part)
           i;
     }
 
-    pub copies : (F : List Clause) → ((c : Clause) → c ∈ F → IsSettledBy (translation w p s.told) p.search.fixed c) → Copies F
+    pub copies : (F : List Clause) → ((c : Clause) → c ∈ F → IsSettledBy (translation w p s.logged) p.search.fixed c) → Copies F
     copies [] settled = record { list = []; settled = λ e a. absurd a; copied = λ d c a. absurd a }
     copies (d ∷ F) settled =
         let rest = copies F (λ c a. settled c (inr a)) in

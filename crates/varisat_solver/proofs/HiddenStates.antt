@@ -43,19 +43,19 @@ free-well u s f = record {
 }
 
 -- the literals of a core that is told have other names
-core-left : (names after : ℕ → Option ℕ) (P : List Clause) (assumptions : List Literal) (C : List ℕ) (told : List Literal) (v : Verdict) →
+core-left : (names after : ℕ → Option ℕ) (P : List Clause) (assumptions : List Literal) (C : List ℕ) (logged : List Literal) (v : Verdict) →
     ((l : Literal) (i : ℕ) → carry names l ∈ assumptions → names (variable_of l) ≡ Some i → after (variable_of l) ≡ Some i) →
-    IsRight P assumptions C v → CoreFits names told v → CoreFits after told v
-core-left names after P assumptions C told Unknown n r f = tt
-core-left names after P assumptions C told (Sat a) n r f = tt
-core-left names after P assumptions C told Unsat n r f = tt
-core-left names after P assumptions C told (UnsatUnderAssumptions core) n r (named, e) = (
+    IsRight P assumptions C v → CoreFits names logged v → CoreFits after logged v
+core-left names after P assumptions C logged Unknown n r f = tt
+core-left names after P assumptions C logged (Sat a) n r f = tt
+core-left names after P assumptions C logged Unsat n r f = tt
+core-left names after P assumptions C logged (UnsatUnderAssumptions core) n r (named, e) = (
   λ l h. let (i, q, z) = stays l h in (i, z),
-  e ∙ map-same (carry names) (carry after) told (λ l h. let (i, q, z) = stays l h in carry-same names after l (q ∙ sym z)),
+  e ∙ map-same (carry names) (carry after) logged (λ l h. let (i, q, z) = stays l h in carry-same names after l (q ∙ sym z)),
 )
   where
-    stays : (l : Literal) → l ∈ told → (i : ℕ) × (names (variable_of l) ≡ Some i) × (after (variable_of l) ≡ Some i)
-    stays l h = let (i, q) = named l h in (i, q, n l i (r.0 (carry names l) (subst (λ c. carry names l ∈ c) (sym e) (∈-map (carry names) l told h))) q)
+    stays : (l : Literal) → l ∈ logged → (i : ℕ) × (names (variable_of l) ≡ Some i) × (after (variable_of l) ≡ Some i)
+    stays l h = let (i, q) = named l h in (i, q, n l i (r.0 (carry names l) (subst (λ c. carry names l ∈ c) (sym e) (∈-map (carry names) l logged h))) q)
 
 module _ (w : Carrying) (p : Spaces) (s : State) (u x : ℕ) (k : Links w p s) (at : p.global_from_user u ≡ Some x) (unassumed : (p.kept x).assumed ≡ false) where
   d : VarData
@@ -146,12 +146,12 @@ module _ (w : Carrying) (p : Spaces) (s : State) (u x : ℕ) (k : Links w p s) (
     plain = λ e. absurd cc;
     variables = k.variables;
     numbered = k.numbered;
-    told = record {
-      accepted = k.told.accepted;
-      assumed = k.told.assumed;
-      cores = k.told.cores;
-      spoken = k.told.spoken;
-      left = k.told.left;
+    logged = record {
+      accepted = k.logged.accepted;
+      assumed = k.logged.assumed;
+      cores = k.logged.cores;
+      spoken = k.logged.spoken;
+      left = k.logged.left;
       stays = λ e. absurd cc;
     };
     checked = k.checked;

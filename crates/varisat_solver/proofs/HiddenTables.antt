@@ -24,12 +24,12 @@ use Rattle.varisat_tracer.specs.Carried.{carry}
 use Rattle.varisat_solver.specs.Carried.{value_or}
 use Rattle.varisat_theory.specs.Journals.{Entry, Leaves}
 use Rattle.varisat_prop.specs.View.{View}
-use Rattle.varisat_proof.specs.Proving.{ProofParts, IsCheckedIf, IsTold}
+use Rattle.varisat_proof.specs.Proving.{ProofParts, IsCheckedIf, IsLogged}
 use Rattle.varisat_tracer.specs.Tracing.{leaves_if_deleted}
 use Rattle.varisat_search.specs.Seen.{outcome_of}
 use Rattle.varisat_search.specs.declared.state.SatState.{SatState}
-use Rattle.varisat_solver.specs.Journals.{retold, TellsLeaving}
-use Rattle.varisat_solver.proofs.ToldProofs.{leaving-none, leaving-one}
+use Rattle.varisat_solver.specs.Journals.{with_entries, LogsRetired}
+use Rattle.varisat_solver.proofs.LoggedProofs.{leaving-none, leaving-one}
 use Rattle.varisat_solver.specs.Summaries.{Summary, spaces}
 use Rattle.varisat_solver.proofs.Carried.{carry-at}
 use Rattle.varisat_solver.proofs.SolveVerdict.{maps-same}
@@ -111,7 +111,7 @@ module _ (w : Carrying) (p : Spaces) (s : State) (u x : ℕ) (k : Links w p s) (
         plain = k.plain;
         variables = k.variables;
         numbered = k.numbered;
-        told = k.told;
+        logged = k.logged;
         checked = k.checked;
       }
 
@@ -249,7 +249,7 @@ undecided search core verdict.UnsatUnderAssumptions n e = let z : outcome.Unknow
 
 module _ (g : Summary) (s : State) (new : Tables) (x : ℕ) (w : Carrying) (k : Links w (spaces g) s)
     (live : (kept_at g.tables.kept x).deleted ≡ false) (unnamed : at g.tables.users.backward x ≡ None) (unsettled : g.sat_state ≢ verdict.Unsat)
-    (n : IsDeletedIfUnused g.tables new x) (p q : ProofParts) (same : p.checker ≡ g.checker) (told : IsTold p (leaves_if_deleted new x) q) where
+    (n : IsDeletedIfUnused g.tables new x) (p q : ProofParts) (same : p.checker ≡ g.checker) (logged : IsLogged p (leaves_if_deleted new x) q) where
   same-users : new.users ≡ g.tables.users
   same-users = ap (λ (t : Tables). t.users) n.rest
 
@@ -273,15 +273,15 @@ module _ (g : Summary) (s : State) (new : Tables) (x : ℕ) (w : Carrying) (k : 
     kept = λ y. l.at_each y ∙ updated-all (λ y a. a ≡ kept_at g.tables.kept y) (kept_at g.tables.kept) x (kept_at g.tables.kept x) refl y (λ m. refl);
     model = λ a e y. model-kept g new x (kept_at g.tables.kept x) l refl same-solvers y;
   }) refl (subst (λ o. SpacesFit (record (spaces g) { checker = o }) s)
-      (sym (checked-nothing p.checker q.checker (subst (λ es. IsCheckedIf p.checker es q.checker) none told.checked) ∙ same)) (w, k))
+      (sym (checked-nothing p.checker q.checker (subst (λ es. IsCheckedIf p.checker es q.checker) none logged.checked) ∙ same)) (w, k))
 
   goes : IsKeptAs g.tables.kept x dead new.kept → leaves_if_deleted new x ≡ Leaves x ∷ [] → at g.tables.solvers.forward x ≡ None →
       (kept_at g.tables.kept x).isolated ≡ true → (i : ℕ) → w.identity x ≡ Some i →
-      SpacesFit (spaces (with_checker q.checker (with_tables new g))) (retold (s.told ++ Leaves i ∷ []) s)
+      SpacesFit (spaces (with_checker q.checker (with_tables new g))) (with_entries (s.logged ++ Leaves i ∷ []) s)
   goes l one unsolved alone i is =
       let f = assignment_of g.search in
       maps-same (record (recycle x (spaces g)) { checker = q.checker }) (spaces (with_checker q.checker (with_tables new g)))
-      (retold (s.told ++ Leaves i ∷ []) s) (record {
+      (with_entries (s.logged ++ Leaves i ∷ []) s) (record {
         global_from_user = λ v. ap (λ (b : BiMap). at b.forward v) same-users;
         user_from_global = λ y. ap (λ (b : BiMap). at b.backward y) same-users;
         watermark = ap (λ (b : BiMap). length b.forward) same-users;
@@ -297,7 +297,7 @@ module _ (g : Summary) (s : State) (new : Tables) (x : ℕ) (w : Carrying) (k : 
             (l.at_each y ∙ updated-other (kept_at g.tables.kept) x dead y m)
             ∙ ap (λ (b : BiMap). value_or (kept_at g.tables.kept y).unit f (at b.forward y)) same-solvers);
       }) refl (recycled w (spaces g) s x i k is unnamed unsolved alone (undecided g.search g.assumed.failed_core g.sat_state unsettled) q.checker
-      (subst (λ o. IsCheckedIf o (Leaves x ∷ []) q.checker) same (subst (λ es. IsCheckedIf p.checker es q.checker) one told.checked)))
+      (subst (λ o. IsCheckedIf o (Leaves x ∷ []) q.checker) same (subst (λ es. IsCheckedIf p.checker es q.checker) one logged.checked)))
 
   -- the proof is told so
   gone : unused (at g.tables.solvers.forward x) (kept_at g.tables.kept x) ≡ true → leaves_if_deleted new x ≡ Leaves x ∷ []
@@ -305,26 +305,26 @@ module _ (g : Summary) (s : State) (new : Tables) (x : ℕ) (w : Carrying) (k : 
       (ap (λ (d : VarData). d.deleted) ((kept-as true e).at_each x ∙ updated-at (kept_at g.tables.kept) x dead))
 
   by-use : (b : Bool) → unused (at g.tables.solvers.forward x) (kept_at g.tables.kept x) ≡ b → (after : List Entry)
-      × TellsLeaving s.variables s.told after p q × SpacesFit (spaces (with_checker q.checker (with_tables new g))) (retold after s)
+      × LogsRetired s.variables s.logged after p q × SpacesFit (spaces (with_checker q.checker (with_tables new g))) (with_entries after s)
   by-use true e =
       let (unsolved, alone) = is-unused (at g.tables.solvers.forward x) (kept_at g.tables.kept x) e in
       let (i, is) = linked w (spaces g) s x k live in (
-        s.told ++ Leaves i ∷ [],
-        leaving-one s.variables s.told i x p q (leaves_if_deleted new x) (k.variables i x (k.identities.one_to_one.there x i is)) (gone e) told,
+        s.logged ++ Leaves i ∷ [],
+        leaving-one s.variables s.logged i x p q (leaves_if_deleted new x) (k.variables i x (k.identities.one_to_one.there x i is)) (gone e) logged,
         goes (kept-as true e) (gone e) unsolved alone i is,
       )
   by-use false e =
       let kept = kept-as false e in
       let none = ap (λ (b : Bool). if b then Leaves x ∷ [] else [])
       (ap (λ (d : VarData). d.deleted) (kept.at_each x ∙ updated-at (kept_at g.tables.kept) x (kept_at g.tables.kept x)) ∙ live) in
-      (s.told, leaving-none s.variables s.told p q (leaves_if_deleted new x) none told, stays-live kept none)
+      (s.logged, leaving-none s.variables s.logged p q (leaves_if_deleted new x) none logged, stays-live kept none)
 
-  links-left : (after : List Entry) × TellsLeaving s.variables s.told after p q
-      × SpacesFit (spaces (with_checker q.checker (with_tables new g))) (retold after s)
+  links-left : (after : List Entry) × LogsRetired s.variables s.logged after p q
+      × SpacesFit (spaces (with_checker q.checker (with_tables new g))) (with_entries after s)
   links-left = by-use (unused (at g.tables.solvers.forward x) (kept_at g.tables.kept x)) refl
 
 pub left-spaces : (g : Summary) (s : State) (new : Tables) (x : ℕ) (p q : ProofParts) → SpacesFit (spaces g) s →
     (kept_at g.tables.kept x).deleted ≡ false → at g.tables.users.backward x ≡ None → g.sat_state ≢ verdict.Unsat →
-    IsDeletedIfUnused g.tables new x → p.checker ≡ g.checker → IsTold p (leaves_if_deleted new x) q →
-    (after : List Entry) × TellsLeaving s.variables s.told after p q × SpacesFit (spaces (with_checker q.checker (with_tables new g))) (retold after s)
-left-spaces g s new x p q (w, k) live unnamed unsettled n same told = links-left g s new x w k live unnamed unsettled n p q same told
+    IsDeletedIfUnused g.tables new x → p.checker ≡ g.checker → IsLogged p (leaves_if_deleted new x) q →
+    (after : List Entry) × LogsRetired s.variables s.logged after p q × SpacesFit (spaces (with_checker q.checker (with_tables new g))) (with_entries after s)
+left-spaces g s new x p q (w, k) live unnamed unsettled n same logged = links-left g s new x w k live unnamed unsettled n p q same logged

@@ -26,8 +26,8 @@ pub mod NamesComing
 pub mod NamingStates
 pub mod NewNames
 pub mod TableMarks
-pub mod ToldEntries
-pub mod ToldProofs
+pub mod LoggedEntries
+pub mod LoggedProofs
 pub mod OpenProofs
 pub mod ReachedHeld
 pub mod ReadPlaces
@@ -44,7 +44,7 @@ pub mod VariableStates
 pub mod SolveVerdict
 pub mod SolverCalls
 pub mod SolverSteps
-pub mod ToldJournals
+pub mod LoggedJournals
 pub mod SpacesAgree
 pub mod VariableChanges
 pub mod SolversInTurn

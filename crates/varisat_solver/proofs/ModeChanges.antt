@@ -7,11 +7,11 @@ use Rattle.varisat_names.specs.declared.variables.data.SamplingMode.{SamplingMod
 use Rattle.varisat_names.specs.declared.variables.data.SamplingMode.TheVariants as sampling
 use Rattle.varisat_proof.specs.Proving.{ProofParts}
 use Rattle.varisat_search.specs.declared.state.SatState.{SatState}
-use Rattle.varisat_tracer.specs.Tracing.{TracerState, CanTell}
-use Rattle.varisat_tracer.proofs.Telling.{tells-told}
+use Rattle.varisat_tracer.specs.Tracing.{TracerState, CanLog}
+use Rattle.varisat_tracer.proofs.Logging.{logs-logged}
 use Rattle.varisat_solver.specs.Names.{Mode, Sample, Witness, Naming, name_one, set_mode, free_name}
 use Rattle.varisat_solver.specs.Calls.{is_valid, IsValid, Invalidates, count_anew}
-use Rattle.varisat_solver.specs.Journals.{retold, TellsLeaving}
+use Rattle.varisat_solver.specs.Journals.{with_entries, LogsRetired}
 use Rattle.varisat_solver.specs.OpenProofs.{OpenProof, lines_over, GoesOnWriting}
 use Rattle.varisat_solver.specs.Spaces.{KeepVariables, ModeFits, SpacesFit}
 use Rattle.varisat_solver.specs.States.{State, with_variables}
@@ -22,11 +22,11 @@ use Rattle.varisat_solver.specs.declared.solver.SolverError.{SolverError}
 use Rattle.varisat_solver.specs.declared.solver.SolverError.TheVariants.{OutOfMemory, Invalid}
 use Rattle.varisat_solver.proofs.StepEntries.{leaving-derived}
 use Rattle.varisat_solver.proofs.AcceptClause.{with_tables}
-use Rattle.varisat_solver.proofs.CallStates.{Begins, like-told, like-retold}
+use Rattle.varisat_solver.proofs.CallStates.{Begins, like-logged, like-with_entries}
 use Rattle.varisat_solver.proofs.HiddenTables.{with_checker}
-use Rattle.varisat_solver.proofs.ToldEntries.{stays-nothing}
-use Rattle.varisat_solver.proofs.ToldProofs.{leaving-nothing}
-use Rattle.varisat_solver.proofs.VariableChanges.{hides-stay, hides-told}
+use Rattle.varisat_solver.proofs.LoggedEntries.{stays-nothing}
+use Rattle.varisat_solver.proofs.LoggedProofs.{leaving-nothing}
+use Rattle.varisat_solver.proofs.VariableChanges.{hides-stay, hides-logged}
 use Rattle.varisat_solver.proofs.VariableStates.{mode-state, hide-state, free-state, mode-refused, change-refused}
 
 -- 1. The tables and the proof.
@@ -36,10 +36,10 @@ changed-stays u sampling.Sample v p q h = let (x, set) = h.sets (λ e. cc) in se
 changed-stays u sampling.Witness v p q h = let (x, set) = h.sets (λ e. cc) in set.stays
 changed-stays u sampling.Hide v p q h = hides-stay u v p q (h.hides refl)
 
-pub changed-tells : (u : ℕ) (m : SamplingMode) (v : SatState) (p q : TracerState) → ChangesNamed u m v p q → CanTell p.proof → CanTell q.proof
-changed-tells u sampling.Sample v p q h t = subst CanTell (sym (h.untold (λ e. cc))) t
-changed-tells u sampling.Witness v p q h t = subst CanTell (sym (h.untold (λ e. cc))) t
-changed-tells u sampling.Hide v p q h t = let (given, told, opened) = hides-told u v p q (h.hides refl) in tells-told p.proof q.proof given told t
+pub changed-logs : (u : ℕ) (m : SamplingMode) (v : SatState) (p q : TracerState) → ChangesNamed u m v p q → CanLog p.proof → CanLog q.proof
+changed-logs u sampling.Sample v p q h t = subst CanLog (sym (h.unlogged (λ e. cc))) t
+changed-logs u sampling.Witness v p q h t = subst CanLog (sym (h.unlogged (λ e. cc))) t
+changed-logs u sampling.Hide v p q h t = let (given, logged, opened) = hides-logged u v p q (h.hides refl) in logs-logged p.proof q.proof given logged t
 
 -- 2. The state.
 
@@ -62,24 +62,24 @@ with_changed m u s = record (count_anew s) { naming = renamed m u (name_one u s.
 -- What the solver holds stands for that state, to which more was told, and the call may lead there.
 pub record ModeChanged (m : SamplingMode) (g : Summary) (s : State) (u : ℕ) (p : ProofParts) (q : TracerState) : Type 0 where
   pub variables : ℕ → Option ℕ
-  pub told : List Entry
+  pub logged : List Entry
   pub keep : KeepVariables s.naming.made s.variables variables
-  pub more : TellsLeaving variables s.told told p q.proof
-  pub fits : SpacesFit (spaces (with_checker q.proof.checker (with_tables q.tables g))) (with_variables variables (retold told (with_changed m u s)))
-  pub leads : (proof : Option OpenProof) → lines_over variables s.told ≡ lines_over s.variables s.told → GoesOnWriting s.proof proof → IsValid s →
+  pub more : LogsRetired variables s.logged logged p q.proof
+  pub fits : SpacesFit (spaces (with_checker q.proof.checker (with_tables q.tables g))) (with_variables variables (with_entries logged (with_changed m u s)))
+  pub leads : (proof : Option OpenProof) → lines_over variables s.logged ≡ lines_over s.variables s.logged → GoesOnWriting s.proof proof → IsValid s →
       u < variable_limit → (IsAssumed s u → ⊥) →
-      ChangesMode m s u (Ok tt) (record (with_changed m u s) { told = told; variables = variables; proof = proof })
+      ChangesMode m s u (Ok tt) (record (with_changed m u s) { logged = logged; variables = variables; proof = proof })
 
 module _ (g : Summary) (s : State) (u : ℕ) (p : ProofParts) (q : TracerState) (same : p.checker ≡ g.checker) (b : SpacesFit (spaces g) s) where
   set-changed : (m : SamplingMode) (n : Mode) → ModeFits m n → (x : ℕ) → SetsNamedMode u m g.tables x q.tables → q.proof ≡ p →
-      (variables : ℕ → Option ℕ) × KeepVariables s.naming.made s.variables variables × TellsLeaving variables s.told s.told p q.proof
+      (variables : ℕ → Option ℕ) × KeepVariables s.naming.made s.variables variables × LogsRetired variables s.logged s.logged p q.proof
       × SpacesFit (spaces (with_checker q.proof.checker (with_tables q.tables g))) (with_variables variables (with_mode u n (name_var u s)))
   set-changed m n fit x set e =
       let (variables, keep, fits) = mode-state g s q.tables u x m n b fit set in
       let t = with_variables variables (with_mode u n (name_var u s)) in (
         variables,
         keep,
-        subst (TellsLeaving variables s.told s.told p) (sym e) (leaving-nothing variables s.told p),
+        subst (LogsRetired variables s.logged s.logged p) (sym e) (leaving-nothing variables s.logged p),
         subst (λ (o : ProofParts). SpacesFit (spaces (with_checker o.checker (with_tables q.tables g))) t) (sym e)
             (subst (λ o. SpacesFit (spaces (with_checker o (with_tables q.tables g))) t) (sym same) fits),
       )
@@ -87,42 +87,42 @@ module _ (g : Summary) (s : State) (u : ℕ) (p : ProofParts) (q : TracerState) 
   pub mode-changed : (m : SamplingMode) → ChangesNamed u m g.sat_state (record { tables = g.tables; proof = p }) q → ModeChanged m g s u p q
   mode-changed sampling.Sample h =
       let (x, set) = h.sets (λ e. cc) in
-      let (variables, keep, more, fits) = set-changed sampling.Sample Sample tt x set (h.untold (λ e. cc)) in
+      let (variables, keep, more, fits) = set-changed sampling.Sample Sample tt x set (h.unlogged (λ e. cc)) in
       record {
         variables = variables;
-        told = s.told;
+        logged = s.logged;
         keep = keep;
         more = more;
         fits = fits;
         leads = λ proof alike grows v i n. (
-          (v, i, n, like-told (with_mode u Sample (name_var u s)) s.told variables proof s.words (stays-nothing s.told) alike grows),
+          (v, i, n, like-logged (with_mode u Sample (name_var u s)) s.logged variables proof s.words (stays-nothing s.logged) alike grows),
           λ e. absurd cc,
         );
       }
   mode-changed sampling.Witness h =
       let (x, set) = h.sets (λ e. cc) in
-      let (variables, keep, more, fits) = set-changed sampling.Witness Witness tt x set (h.untold (λ e. cc)) in
+      let (variables, keep, more, fits) = set-changed sampling.Witness Witness tt x set (h.unlogged (λ e. cc)) in
       record {
         variables = variables;
-        told = s.told;
+        logged = s.logged;
         keep = keep;
         more = more;
         fits = fits;
         leads = λ proof alike grows v i n. (
-          (v, i, n, like-told (with_mode u Witness (name_var u s)) s.told variables proof s.words (stays-nothing s.told) alike grows),
+          (v, i, n, like-logged (with_mode u Witness (name_var u s)) s.logged variables proof s.words (stays-nothing s.logged) alike grows),
           λ e. absurd cc,
         );
       }
   mode-changed sampling.Hide h =
-      let (variables, told, keep, more, fits) = hide-state g s u p q same b (h.hides refl) in
+      let (variables, logged, keep, more, fits) = hide-state g s u p q same b (h.hides refl) in
       record {
         variables = variables;
-        told = told;
+        logged = logged;
         keep = keep;
         more = more;
         fits = fits;
         leads = λ proof alike grows v i n.
-            (v, i, n, like-retold (hide_name u (name_var u s)) told variables proof more.more (leaving-derived more.more.entries more.leaving) alike grows);
+            (v, i, n, like-with_entries (hide_name u (name_var u s)) logged variables proof more.more (leaving-derived more.more.entries more.leaving) alike grows);
       }
 
 -- 3. The call is refused, or runs out of memory.

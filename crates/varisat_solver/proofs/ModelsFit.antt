@@ -133,10 +133,10 @@ list-same w p s a k f (suc n) u = ap (put_name u (s.naming.names u) a) (list-sam
         ∙ ap (λ b. literal_of u b ∷ list_globals p (suc u) n) (f x i h) ∙ ap (λ o. put_name u o p.model (list_globals p (suc u) n)) (sym e)
 
 -- under Sat the list by global variables is the model to tell, and it can be completed
-pub told : (w : Carrying) (p : Spaces) (s : State) (found : Assignment) → Links w p s → p.outcome ≡ outcome.Sat found →
+pub logged : (w : Carrying) (p : Spaces) (s : State) (found : Assignment) → Links w p s → p.outcome ≡ outcome.Sat found →
     (model_of s.naming s.verdict ≡ Some (list_globals p 0 p.watermark))
     × IsCompletable s.naming s.clauses s.assumptions s.counted (list_globals p 0 p.watermark)
-told w p s found k e =
+logged w p s found k e =
     let (a, v, f) = is-sat w.identity p.model found s.verdict (subst (λ y. VerdictFits w.identity p.model y s.verdict) e k.verdict) in
     let same : list_names s.naming a 0 s.naming.watermark ≡ list_globals p 0 p.watermark = list-same w p s a k f s.naming.watermark 0
     ∙ ap (list_globals p 0) k.watermark in (

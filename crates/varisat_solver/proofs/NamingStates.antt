@@ -7,7 +7,7 @@ use Rattle.varisat_names.specs.declared.variables.data.SamplingMode.{SamplingMod
 use Rattle.varisat_names.proofs.Maps.{chain-none, chain-some, is-some}
 use Rattle.varisat_solver.specs.States.{State}
 use Rattle.varisat_solver.specs.Names.{Mode, Sample, Witness, name_all, IsWitness, NameNoWitness, IsFirstWitness}
-use Rattle.varisat_solver.specs.Calls.{IsCrowded, IsPastLimit, MayConstrain, MayAccept, AddsClause, Assumes, calling}
+use Rattle.varisat_solver.specs.Calls.{IsCrowded, IsPastLimit, MayConstrain, MayAccept, AddsClause, Assumes, by_state}
 use Rattle.varisat_solver.specs.Spaces.{Carrying, ModeFits, Links}
 use Rattle.varisat_solver.specs.Summaries.{Summary, spaces, StandsFor}
 use Rattle.varisat_solver.specs.Accepting.{mode_of, naming_of, CanBeNamed, ChecksNames}
@@ -82,7 +82,7 @@ module _ (g : Summary) (s : State) (st : StandsFor g s) (valid : g.ledger.valid 
   limit-passed : IsPastLimit d ⊎ IsCrowded (name_all d (naming_of g.tables)) → IsPastLimit d ⊎ IsCrowded (name_all d s.naming)
   limit-passed c = let (w, k) = st.fits valid in ⊎_elim (λ a. inl a) (λ b. inr (crowded-state w g s k d b)) c
 
-  pub clause-refused : MayAccept calling s → (e : SolverError) → ChecksNames g.tables d (Err e) → AddsClause s d (Err e) s
+  pub clause-refused : MayAccept by_state s → (e : SolverError) → ChecksNames g.tables d (Err e) → AddsClause s d (Err e) s
   clause-refused n VariableLimit c = (stands-valid g s st valid, n, limit-passed c, refl)
   clause-refused n (WitnessVar u) c = let (w, k) = st.fits valid in (stands-valid g s st valid, n, c.0.in_range, witness-state w g s k d u c.1, refl)
   clause-refused n e c = absurd c

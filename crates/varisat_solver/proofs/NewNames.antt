@@ -15,8 +15,8 @@ use Rattle.varisat_solver.specs.Calls.{with_naming}
 use Rattle.varisat_tracer.specs.Carried.{carry}
 use Rattle.varisat_solver.specs.Spaces.{Spaces, Carrying, IsCounted, ModeFits, IdentitiesFit, NamesFit, ModesFit, UnitsFit, IsolationCase, NotIsolated, Apart, Forced, IsolationFits, AssumptionsFit, MarksFit, without_core, translation, IsPlain, Links, SpacesFit}
 use Rattle.varisat_solver.proofs.CheckedHeld.{checker-alike}
-use Rattle.varisat_solver.proofs.ToldEntries.{held-spoken}
-use Rattle.varisat_solver.proofs.SpacesAgree.{give, carry-same, map-same, working-same, core-same, holds-same, told-same, verdict-moved}
+use Rattle.varisat_solver.proofs.LoggedEntries.{held-spoken}
+use Rattle.varisat_solver.proofs.SpacesAgree.{give, carry-same, map-same, working-same, core-same, holds-same, logged-same, verdict-moved}
 use Rattle.varisat_names.proofs.Maps.{updated-at, updated-other, updated-all, joined, chain-same, chain-some, chain-none, chain-through, is-some}
 
 -- what follows from the links
@@ -243,17 +243,17 @@ module _ (w : Carrying) (p : Spaces) (s : State) (u x : ℕ) (k : Links w p s) (
   identity-same v = chain-same p.global_from_solver id' w.identity v (λ y h. let r = k.solvers.live v y h in stays y r.0 r.1 ∙ sym r.1)
 
   -- no identity is gone that was not before
-  new-gone : (i : ℕ) → (Leaves i ∈ s.told) ↔ ((i < s.naming.made + 1) × (updated w.global s.naming.made (Some x) i ≡ None))
+  new-gone : (i : ℕ) → (Leaves i ∈ s.logged) ↔ ((i < s.naming.made + 1) × (updated w.global s.naming.made (Some x) i ≡ None))
   new-gone i = (
     λ h.
-        let (b, e) = (k.told.left i).0 h in
+        let (b, e) = (k.logged.left i).0 h in
         let apart : i ≡ s.naming.made → ⊥ = (λ q. omega (arith, b, q)) in
         (omega (arith, b), updated-other w.global s.naming.made (Some x) i apart ∙ e),
     λ (h, e).
         let apart : i ≡ s.naming.made →
         ⊥ = (λ q. let z : Some x ≡ None = sym (updated-at w.global s.naming.made (Some x))
         ∙ ap (updated w.global s.naming.made (Some x)) (sym q) ∙ e in cc) in
-        (k.told.left i).1 (omega (arith, h, apart), sym (updated-other w.global s.naming.made (Some x) i apart) ∙ e),
+        (k.logged.left i).1 (omega (arith, h, apart), sym (updated-other w.global s.naming.made (Some x) i apart) ∙ e),
   )
 
   pub given : SpacesFit (give u x p) (with_variables (updated s.variables s.naming.made (Some x)) (with_naming (bring u s.naming) s))
@@ -269,17 +269,17 @@ module _ (w : Carrying) (p : Spaces) (s : State) (u x : ℕ) (k : Links w p s) (
       units = new-units;
       isolation = new-isolation;
       solvers = record { one_to_one = k.solvers.one_to_one; live = λ v y h. let r = k.solvers.live v y h in (r.0, stays y r.0 r.1, r.2) };
-      holds = holds-same s.clauses (translation w p s.told)
-          (record { identity = chain p.global_from_solver id'; global = updated w.global s.naming.made (Some x); forced = w.forced; told = s.told })
+      holds = holds-same s.clauses (translation w p s.logged)
+          (record { identity = chain p.global_from_solver id'; global = updated w.global s.naming.made (Some x); forced = w.forced; logged = s.logged })
           p.search (without_core p.outcome)
           identity-same (λ i. refl)
-          (λ share q. told-same (translation w p s.told)
+          (λ share q. logged-same (translation w p s.logged)
           (record {
             identity = chain p.global_from_solver id';
             global = updated w.global s.naming.made (Some x);
             forced = w.forced;
-            told =
-                s.told;
+            logged =
+                s.logged;
           }) p.search.fixed share (without_core p.outcome) identity-same (λ i. refl)
           (λ i y b e g. (
             y,
@@ -310,17 +310,17 @@ module _ (w : Carrying) (p : Spaces) (s : State) (u x : ℕ) (k : Links w p s) (
           (λ e. updated-at s.variables s.naming.made (Some x) ∙ e) i (λ n e. updated-other s.variables s.naming.made (Some x) i n ∙ k.variables i y e);
       numbered = λ i y. updated-all (λ i o. o ≡ Some y → y < max p.globals (x + 1)) s.variables s.naming.made (Some x)
           (λ e. let q : x ≡ y = cc in omega (arith, q)) i (λ n e. let b = k.numbered i y e in omega (arith, b));
-      told = record {
-        accepted = k.told.accepted;
-        assumed = k.told.assumed;
-        cores = k.told.cores;
-        spoken = k.told.spoken;
+      logged = record {
+        accepted = k.logged.accepted;
+        assumed = k.logged.assumed;
+        cores = k.logged.cores;
+        spoken = k.logged.spoken;
         left = new-gone;
-        stays = k.told.stays;
+        stays = k.logged.stays;
       };
-      checked = checker-alike w.global (updated w.global s.naming.made (Some x)) s.told p.checker
+      checked = checker-alike w.global (updated w.global s.naming.made (Some x)) s.logged p.checker
           (λ held led c l h i. sym (updated-other w.global s.naming.made (Some x) (variable_of l) (λ q.
-          let b = k.well_formed.counted (variable_of l) (held-spoken (IsCounted s.counted) [] s.told held (λ d m j. absurd j) led k.told.spoken c l h i) in
+          let b = k.well_formed.counted (variable_of l) (held-spoken (IsCounted s.counted) [] s.logged held (λ d m j. absurd j) led k.logged.spoken c l h i) in
           absurd (omega (arith, b, q))))) k.checked;
     },
   )

@@ -15,7 +15,7 @@ use Rattle.varisat_solver.specs.OpenProofs.{entries_over, IsThere, OpenProof, op
 use Rattle.varisat_solver.specs.Spaces.{Spaces, Carrying, IsCounted, AllSpeakOf, KeepVariables, Links}
 use Rattle.varisat_solver.proofs.Carried.{carry-at, carry-sign}
 use Rattle.varisat_solver.proofs.SpacesAgree.{carry-same, map-same}
-use Rattle.varisat_solver.proofs.ToldEntries.{none-in, OnlyLeave}
+use Rattle.varisat_solver.proofs.LoggedEntries.{none-in, OnlyLeave}
 use Rattle.varisat_theory.specs.Renaming.{rename_line}
 use Rattle.varisat_theory.proofs.Journals.{lines_append}
 use Rattle.varisat_formula.specs.Streams.{Taken}
@@ -25,11 +25,11 @@ use Rattle.varisat_proof.specs.declared.proof.format.Encoding.{Encoding}
 use Rattle.varisat_proof.specs.Lines.{encoding_of, plain_line, plain_lines, has_marks}
 use Rattle.varisat_proof.specs.Steps.{lines_written}
 use Rattle.varisat_proof.specs.Written.{line_written}
-use Rattle.varisat_proof.specs.Telling.{lines_told, entry_lines, bytes_told}
-use Rattle.varisat_proof.specs.Proving.{OpenState, ProofParts, told, marked_searched, Flushes, bars_clauses, bars_assumptions}
+use Rattle.varisat_proof.specs.Logging.{logged_lines, entry_lines, logged_bytes}
+use Rattle.varisat_proof.specs.Proving.{OpenState, ProofParts, logged, marked_searched, Flushes, bars_clauses, bars_assumptions}
 use Rattle.varisat_tracer.specs.Tracing.{BreaksProof}
-use Rattle.varisat_tracer.proofs.Telling.{unopened-unbroken}
-use Rattle.varisat_solver.specs.Journals.{TellsProof}
+use Rattle.varisat_tracer.proofs.Logging.{unopened-unbroken}
+use Rattle.varisat_solver.specs.Journals.{LogsToProof}
 use Rattle.varisat_proof.specs.Proving as proving
 
 -- As which variables that is written which was told.
@@ -80,24 +80,24 @@ entries-themselves (Leaves i ∷ es) = ap (λ n. Leaves n ∷ map (rename_entry 
 
 module _ (w : Carrying) (p : Spaces) (s : State) (k : Links w p s) where
   -- what was told is written as it was, whatever variables identities get that are made from now on
-  pub written-alike : (variables : ℕ → Option ℕ) → KeepVariables s.naming.made s.variables variables → entries_over variables s.told ≡ entries_over
-      s.variables s.told
-  written-alike variables keep = entries-alike (carry variables) (carry s.variables) (IsCounted s.counted) s.told
+  pub written-alike : (variables : ℕ → Option ℕ) → KeepVariables s.naming.made s.variables variables → entries_over variables s.logged ≡ entries_over
+      s.variables s.logged
+  written-alike variables keep = entries-alike (carry variables) (carry s.variables) (IsCounted s.counted) s.logged
       (λ l h. carry-same variables s.variables l (keep (variable_of l) (k.well_formed.counted (variable_of l) h)))
-      (λ i h. carry-same variables s.variables (2 * i) (keep (variable_of (2 * i)) (below i h))) k.told.spoken
+      (λ i h. carry-same variables s.variables (2 * i) (keep (variable_of (2 * i)) (below i h))) k.logged.spoken
     where
-      below : (i : ℕ) → Leaves i ∈ s.told → variable_of (2 * i) < s.naming.made
-      below i h = let m = ((k.told.left i).0 h).0 in omega (arith, m)
+      below : (i : ℕ) → Leaves i ∈ s.logged → variable_of (2 * i) < s.naming.made
+      below i h = let m = ((k.logged.left i).0 h).0 in omega (arith, m)
 
   -- an identity that has not left is live
-  there-live : (i : ℕ) → IsThere s.naming.made s.told i → (x : ℕ) × (w.global i ≡ Some x)
-  there-live i (h, n) = ⊎_elim (λ e. absurd (n ((k.told.left i).1 (h, e)))) (λ r. r) (is-some (w.global i))
+  there-live : (i : ℕ) → IsThere s.naming.made s.logged i → (x : ℕ) × (w.global i ≡ Some x)
+  there-live i (h, n) = ⊎_elim (λ e. absurd (n ((k.logged.left i).1 (h, e)))) (λ r. r) (is-some (w.global i))
 
-  pub there-present : (i : ℕ) → IsThere s.naming.made s.told i → (x : ℕ) × (s.variables i ≡ Some x)
+  pub there-present : (i : ℕ) → IsThere s.naming.made s.logged i → (x : ℕ) × (s.variables i ≡ Some x)
   there-present i t = let (x, e) = there-live i t in (x, k.variables i x e)
 
   -- live ones have different variables
-  pub there-apart : (i j x : ℕ) → IsThere s.naming.made s.told i → IsThere s.naming.made s.told j → s.variables i ≡ Some x → s.variables j ≡ Some x → i ≡ j
+  pub there-apart : (i j x : ℕ) → IsThere s.naming.made s.logged i → IsThere s.naming.made s.logged j → s.variables i ≡ Some x → s.variables j ≡ Some x → i ≡ j
   there-apart i j x t u a b =
       let (y, e) = there-live i t in
       let (z, f) = there-live j u in
@@ -108,42 +108,42 @@ module _ (w : Carrying) (p : Spaces) (s : State) (k : Links w p s) where
       cc
 
   -- where nothing was ever hidden it is written as it is
-  pub written-plain : s.ever_hidden ≡ false → entries_over s.variables s.told ≡ s.told
+  pub written-plain : s.ever_hidden ≡ false → entries_over s.variables s.logged ≡ s.logged
   written-plain shown =
-      entries-alike (carry s.variables) (λ l. l) (IsCounted s.counted) s.told (λ l h.
+      entries-alike (carry s.variables) (λ l. l) (IsCounted s.counted) s.logged (λ l h.
       let i = variable_of l in
       let at = k.variables i i (k.identities.one_to_one.there i i ((k.plain shown).all i (k.well_formed.counted i h))) in
       same-literal (carry s.variables l) l (carry-at s.variables l i at) (carry-sign s.variables l))
-      (λ i h. absurd (none-in s.told i (k.told.stays shown) h)) k.told.spoken
-      ∙ entries-themselves s.told
+      (λ i h. absurd (none-in s.logged i (k.logged.stays shown) h)) k.logged.spoken
+      ∙ entries-themselves s.logged
 
 -- 1. Bytes of entries.
 flat-append : {X Y : Type 0} (f : X → List Y) (xs ys : List X) → flat_map f (xs ++ ys) ≡ flat_map f xs ++ flat_map f ys
 flat-append f [] ys = refl
 flat-append f (x ∷ xs) ys = ap (λ zs. f x ++ zs) (flat-append f xs ys) ∙ sym (append_assoc (f x) (flat_map f xs) (flat_map f ys))
 
-pub bytes-more : (f : ProofFormat) (first more : List Entry) → bytes_told f (first ++ more) ≡ bytes_told f first ++ bytes_told f more
+pub bytes-more : (f : ProofFormat) (first more : List Entry) → logged_bytes f (first ++ more) ≡ logged_bytes f first ++ logged_bytes f more
 bytes-more f first more = ap (λ ls. flat_map (line_written (encoding_of f)) ls) (flat-append (entry_lines (encoding_of f)) first more)
-    ∙ flat-append (line_written (encoding_of f)) (lines_told (encoding_of f) first) (lines_told (encoding_of f) more)
+    ∙ flat-append (line_written (encoding_of f)) (logged_lines (encoding_of f) first) (logged_lines (encoding_of f) more)
 
 -- in DRAT entries have no lines but those that add or delete a clause
-plainly-told : (f : ProofFormat) → has_marks f ≡ false → (es : List Entry) → lines_told (encoding_of f) es ≡ plain_lines (lines_of es)
-plainly-told f d [] = refl
-plainly-told f d (Writes l ∷ es) = ap (λ ls. plain_line l ∷ ls) (plainly-told f d es)
-plainly-told Drat d (Accepts c ∷ es) = plainly-told Drat d es
-plainly-told Drat d (Assumes a ∷ es) = plainly-told Drat d es
-plainly-told Drat d (Fails core ∷ es) = plainly-told Drat d es
-plainly-told Drat d (Leaves v ∷ es) = plainly-told Drat d es
-plainly-told BinaryDrat d (Accepts c ∷ es) = plainly-told BinaryDrat d es
-plainly-told BinaryDrat d (Assumes a ∷ es) = plainly-told BinaryDrat d es
-plainly-told BinaryDrat d (Fails core ∷ es) = plainly-told BinaryDrat d es
-plainly-told BinaryDrat d (Leaves v ∷ es) = plainly-told BinaryDrat d es
-plainly-told Marked d (e ∷ es) = absurd (let z : true ≡ false = d in cc)
+plainly-logged : (f : ProofFormat) → has_marks f ≡ false → (es : List Entry) → logged_lines (encoding_of f) es ≡ plain_lines (lines_of es)
+plainly-logged f d [] = refl
+plainly-logged f d (Writes l ∷ es) = ap (λ ls. plain_line l ∷ ls) (plainly-logged f d es)
+plainly-logged Drat d (Accepts c ∷ es) = plainly-logged Drat d es
+plainly-logged Drat d (Assumes a ∷ es) = plainly-logged Drat d es
+plainly-logged Drat d (Fails core ∷ es) = plainly-logged Drat d es
+plainly-logged Drat d (Leaves v ∷ es) = plainly-logged Drat d es
+plainly-logged BinaryDrat d (Accepts c ∷ es) = plainly-logged BinaryDrat d es
+plainly-logged BinaryDrat d (Assumes a ∷ es) = plainly-logged BinaryDrat d es
+plainly-logged BinaryDrat d (Fails core ∷ es) = plainly-logged BinaryDrat d es
+plainly-logged BinaryDrat d (Leaves v ∷ es) = plainly-logged BinaryDrat d es
+plainly-logged Marked d (e ∷ es) = absurd (let z : true ≡ false = d in cc)
 
 -- so the bytes of a DRAT proof are those of these lines
-pub plain-bytes : (f : ProofFormat) → has_marks f ≡ false → (es : List Entry) → bytes_told f es ≡ lines_written (encoding_of f)
+pub plain-bytes : (f : ProofFormat) → has_marks f ≡ false → (es : List Entry) → logged_bytes f es ≡ lines_written (encoding_of f)
     (plain_lines (lines_of es))
-plain-bytes f d es = ap (lines_written (encoding_of f)) (plainly-told f d es)
+plain-bytes f d es = ap (lines_written (encoding_of f)) (plainly-logged f d es)
 
 -- 2. Further bytes.
 pub goes-on-none : (p : Option OpenProof) → GoesOnWriting p p
@@ -193,20 +193,20 @@ entries-behind : (variables : ℕ → Option ℕ) (before entries : List Entry) 
 entries-behind variables before entries = map-append (rename_entry (carry variables)) before entries
 
 -- where entries are told as they were, so are lines
-pub lines-of-entries : (old new : ℕ → Option ℕ) (told : List Entry) → entries_over new told ≡ entries_over old told → lines_over new told ≡ lines_over
-    old told
-lines-of-entries old new told e = sym (lines-renamed (carry new) told) ∙ ap lines_of e ∙ lines-renamed (carry old) told
+pub lines-of-entries : (old new : ℕ → Option ℕ) (logged : List Entry) → entries_over new logged ≡ entries_over old logged → lines_over new logged ≡ lines_over
+    old logged
+lines-of-entries old new logged e = sym (lines-renamed (carry new) logged) ∙ ap lines_of e ∙ lines-renamed (carry old) logged
 
 -- entries were told to it
-on-told : (variables : ℕ → Option ℕ) (before after entries : List Entry) (proof : Option OpenProof) (new : Option OpenState) →
+on-logged : (variables : ℕ → Option ℕ) (before after entries : List Entry) (proof : Option OpenProof) (new : Option OpenState) →
     IsWrittenWhereOpen variables before proof →
-    proving.IsWrittenIf (opened_state proof) (told (map (rename_entry (carry variables)) entries)) new → after ≡ before ++ entries →
+    proving.IsWrittenIf (opened_state proof) (logged (map (rename_entry (carry variables)) entries)) new → after ≡ before ++ entries →
     (now : Option OpenProof) × GoesOnWriting proof now × ProofFits new variables after now
-on-told variables before after entries None new w e joined = (None, refl, record { same = e; written = tt })
-on-told variables before after entries (Some p) None w e joined = absurd e
-on-told variables before after entries (Some p) (Some o) w e joined =
+on-logged variables before after entries None new w e joined = (None, refl, record { same = e; written = tt })
+on-logged variables before after entries (Some p) None w e joined = absurd e
+on-logged variables before after entries (Some p) (Some o) w e joined =
     let given = entries_over variables entries in
-    let more = bytes_told p.format given in
+    let more = logged_bytes p.format given in
     let now : OpenProof = record p { bytes = p.bytes ++ more } in (
       Some now,
       (more, refl),
@@ -217,58 +217,58 @@ on-told variables before after entries (Some p) (Some o) w e joined =
             (ap (λ (xs : List ℕ). let t : Taken = record { bytes = xs; faults = o.taken.faults } in t) (e.bytes ∙ append_assoc p.first p.bytes more)
             ∙ ap (λ (n : ℕ). let t : Taken = record { bytes = p.first ++ (p.bytes ++ more); faults = n } in t) e.faults);
         written = ap (λ xs. xs ++ more) w ∙ sym (bytes-more p.format (entries_over variables before) given)
-            ∙ ap (bytes_told p.format) (sym (ap (entries_over variables) joined ∙ entries-behind variables before entries));
+            ∙ ap (logged_bytes p.format) (sym (ap (entries_over variables) joined ∙ entries-behind variables before entries));
       },
     )
 
 -- what was told before is written as it was
-other-told : (old new : ℕ → Option ℕ) (told : List Entry) (proof : Option OpenProof) → entries_over new told ≡ entries_over old told →
-    IsWrittenWhereOpen old told proof → IsWrittenWhereOpen new told proof
-other-told old new told None e w = tt
-other-told old new told (Some p) e w = w ∙ ap (bytes_told p.format) (sym e)
+other-logged : (old new : ℕ → Option ℕ) (logged : List Entry) (proof : Option OpenProof) → entries_over new logged ≡ entries_over old logged →
+    IsWrittenWhereOpen old logged proof → IsWrittenWhereOpen new logged proof
+other-logged old new logged None e w = tt
+other-logged old new logged (Some p) e w = w ∙ ap (logged_bytes p.format) (sym e)
 
-pub fits-alike : (o : Option OpenState) (old new : ℕ → Option ℕ) (told : List Entry) (proof : Option OpenProof) →
-    entries_over new told ≡ entries_over old told → ProofFits o old told proof → ProofFits o new told proof
-fits-alike o old new told proof e f = record { same = f.same; written = other-told old new told proof e f.written }
+pub fits-alike : (o : Option OpenState) (old new : ℕ → Option ℕ) (logged : List Entry) (proof : Option OpenProof) →
+    entries_over new logged ≡ entries_over old logged → ProofFits o old logged proof → ProofFits o new logged proof
+fits-alike o old new logged proof e f = record { same = f.same; written = other-logged old new logged proof e f.written }
 
 pub proof-goes-on : (p q : ProofParts) (old new : ℕ → Option ℕ) (before after : List Entry) (proof : Option OpenProof) →
-    ProofFits p.opened old before proof → entries_over new before ≡ entries_over old before → TellsProof new before after p q →
+    ProofFits p.opened old before proof → entries_over new before ≡ entries_over old before → LogsToProof new before after p q →
     (now : Option OpenProof) × GoesOnWriting proof now × ProofFits q.opened new after now
 proof-goes-on p q old new before after proof f same t =
-    on-told new before after t.entries proof q.opened (other-told old new before proof same f.written)
-    (subst (λ (o : Option OpenState). proving.IsWrittenIf o (told (map (rename_entry (carry new)) t.entries)) q.opened) f.same t.told.written) t.joined
+    on-logged new before after t.entries proof q.opened (other-logged old new before proof same f.written)
+    (subst (λ (o : Option OpenState). proving.IsWrittenIf o (logged (map (rename_entry (carry new)) t.entries)) q.opened) f.same t.logged.written) t.joined
 
 -- no line was told
-pub lines-assumed : (variables : ℕ → Option ℕ) (told : List Entry) (a : List Literal) → lines_over variables (told ++ Assumes a ∷ []) ≡ lines_over
-    variables told
-lines-assumed variables told a = ap (map (rename_line (carry variables))) (lines_append told (Assumes a ∷ []) ∙ append-nil (lines_of told))
+pub lines-assumed : (variables : ℕ → Option ℕ) (logged : List Entry) (a : List Literal) → lines_over variables (logged ++ Assumes a ∷ []) ≡ lines_over
+    variables logged
+lines-assumed variables logged a = ap (map (rename_line (carry variables))) (lines_append logged (Assumes a ∷ []) ∙ append-nil (lines_of logged))
 
-pub lines-accepted : (variables : ℕ → Option ℕ) (told : List Entry) (c : Clause) → lines_over variables (told ++ Accepts c ∷ []) ≡ lines_over
-    variables told
-lines-accepted variables told c = ap (map (rename_line (carry variables))) (lines_append told (Accepts c ∷ []) ∙ append-nil (lines_of told))
+pub lines-accepted : (variables : ℕ → Option ℕ) (logged : List Entry) (c : Clause) → lines_over variables (logged ++ Accepts c ∷ []) ≡ lines_over
+    variables logged
+lines-accepted variables logged c = ap (map (rename_line (carry variables))) (lines_append logged (Accepts c ∷ []) ∙ append-nil (lines_of logged))
 
 -- where something holds a proof, one is open
-pub open-there : (o : Option OpenState) (variables : ℕ → Option ℕ) (told : List Entry) (proof : Option OpenProof) (b : Bool) →
-    ProofFits o variables told proof →
+pub open-there : (o : Option OpenState) (variables : ℕ → Option ℕ) (logged : List Entry) (proof : Option OpenProof) (b : Bool) →
+    ProofFits o variables logged proof →
     b ≡ is_some o → b ≡ true → IsOpen proof
-open-there o variables told None b f e t = let z : true ≡ false = sym t ∙ e ∙ ap (λ (x : Option OpenState). is_some x) f.same in absurd cc
-open-there o variables told (Some p) b f e t = (p, refl)
+open-there o variables logged None b f e t = let z : true ≡ false = sym t ∙ e ∙ ap (λ (x : Option OpenState). is_some x) f.same in absurd cc
+open-there o variables logged (Some p) b f e t = (p, refl)
 
 -- so it is where a target failed
-pub broken-open : (p q : ProofParts) (variables : ℕ → Option ℕ) (told : List Entry) (proof : Option OpenProof) → ProofFits p.opened variables told proof →
+pub broken-open : (p q : ProofParts) (variables : ℕ → Option ℕ) (logged : List Entry) (proof : Option OpenProof) → ProofFits p.opened variables logged proof →
     BreaksProof p 1 q → IsOpen proof
-broken-open p q variables told None f b = absurd (let z = unopened-unbroken p q 1 f.same b in omega (arith, z))
-broken-open p q variables told (Some o) f b = (o, refl)
+broken-open p q variables logged None f b = absurd (let z = unopened-unbroken p q 1 f.same b in omega (arith, z))
+broken-open p q variables logged (Some o) f b = (o, refl)
 
 -- what holds the proof, where it broke off in entries that it was told, is that of a proof with further bytes and so many faults more
 begun-on : (entries : List Entry) (faults : ℕ) (proof : Option OpenProof) (new : Option OpenState) →
-    proving.IsBegunIf (opened_state proof) (told entries) faults new → (now : Option OpenProof) × GoesOnFailing faults proof now
+    proving.IsBegunIf (opened_state proof) (logged entries) faults new → (now : Option OpenProof) × GoesOnFailing faults proof now
     × (new ≡ opened_state now)
 begun-on entries faults None new (e, n) = (None, (refl, n), e)
 begun-on entries faults (Some p) None b = absurd b
 begun-on entries faults (Some p) (Some o) b =
     let (n, e) = b.bytes in
-    let more = take n (lines_written (encoding_of p.format) (told entries (encoding_of p.format))) in
+    let more = take n (lines_written (encoding_of p.format) (logged entries (encoding_of p.format))) in
     let now : OpenProof = record p { bytes = p.bytes ++ more; faults = p.faults + faults } in (
       Some now,
       (more, refl),
@@ -281,7 +281,7 @@ begun-on entries faults (Some p) (Some o) b =
 pub broken-on : (p q : ProofParts) (faults : ℕ) (proof : Option OpenProof) → p.opened ≡ opened_state proof → BreaksProof p faults q →
     (now : Option OpenProof) × GoesOnFailing faults proof now × (q.opened ≡ opened_state now)
 broken-on p q faults proof e (entries, b, _) =
-    begun-on entries faults proof q.opened (subst (λ (o : Option OpenState). proving.IsBegunIf o (told entries) faults q.opened) e b)
+    begun-on entries faults proof q.opened (subst (λ (o : Option OpenState). proving.IsBegunIf o (logged entries) faults q.opened) e b)
 
 -- 4. How a proof opens and closes.
 
@@ -291,7 +291,7 @@ first-same f t = ap (λ (xs : List ℕ). let o : OpenState =
     record { format = f; taken = record { bytes = xs; faults = t.faults }; searched = false } in Some o) (sym (append-nil t.bytes))
 
 -- that variables leave has no line
-pub leaves-unwritten : (variables : ℕ → Option ℕ) (e : Encoding) (told : List Entry) → OnlyLeave told → lines_told e (entries_over variables told) ≡ []
+pub leaves-unwritten : (variables : ℕ → Option ℕ) (e : Encoding) (logged : List Entry) → OnlyLeave logged → logged_lines e (entries_over variables logged) ≡ []
 leaves-unwritten variables e [] o = refl
 leaves-unwritten variables e (Accepts c ∷ es) o = absurd o
 leaves-unwritten variables e (Writes line ∷ es) o = absurd o
@@ -299,9 +299,9 @@ leaves-unwritten variables e (Assumes a ∷ es) o = absurd o
 leaves-unwritten variables e (Fails core ∷ es) o = absurd o
 leaves-unwritten variables e (Leaves v ∷ es) o = leaves-unwritten variables e es o
 
-pub first-written : (variables : ℕ → Option ℕ) (f : ProofFormat) (t : Taken) (told : List Entry) → OnlyLeave told →
-    IsWrittenWhereOpen variables told (Some (first_proof f t))
-first-written variables f t told o = ap (lines_written (encoding_of f)) (sym (leaves-unwritten variables (encoding_of f) told o))
+pub first-written : (variables : ℕ → Option ℕ) (f : ProofFormat) (t : Taken) (logged : List Entry) → OnlyLeave logged →
+    IsWrittenWhereOpen variables logged (Some (first_proof f t))
+first-written variables f t logged o = ap (lines_written (encoding_of f)) (sym (leaves-unwritten variables (encoding_of f) logged o))
 
 -- what comes back as a proof closes, whatever errors may be
 pub closed-back : {W : Type 0} (D E : Type 0) (taken : W → Taken) (opened : Option OpenState) (back : Option W) →
@@ -331,23 +331,23 @@ pub searched-state : (o : Option OpenProof) → marked_searched (opened_state o)
 searched-state None = refl
 searched-state (Some p) = refl
 
-pub searched-written : (variables : ℕ → Option ℕ) (told : List Entry) (o : Option OpenProof) → IsWrittenWhereOpen variables told o →
-    IsWrittenWhereOpen variables told (searched_under o)
-searched-written variables told None w = tt
-searched-written variables told (Some p) w = w
+pub searched-written : (variables : ℕ → Option ℕ) (logged : List Entry) (o : Option OpenProof) → IsWrittenWhereOpen variables logged o →
+    IsWrittenWhereOpen variables logged (searched_under o)
+searched-written variables logged None w = tt
+searched-written variables logged (Some p) w = w
 
-pub searched-fits : (o : Option OpenState) (variables : ℕ → Option ℕ) (told : List Entry) (proof : Option OpenProof) → ProofFits o variables told proof →
-    ProofFits (marked_searched o) variables told (searched_under proof)
-searched-fits o variables told proof f =
-    record { same = ap marked_searched f.same ∙ searched-state proof; written = searched-written variables told proof f.written }
+pub searched-fits : (o : Option OpenState) (variables : ℕ → Option ℕ) (logged : List Entry) (proof : Option OpenProof) → ProofFits o variables logged proof →
+    ProofFits (marked_searched o) variables logged (searched_under proof)
+searched-fits o variables logged proof f =
+    record { same = ap marked_searched f.same ∙ searched-state proof; written = searched-written variables logged proof f.written }
 
 -- some proof fitted before it was marked
-pub fitted-before : (o : Option OpenState) (variables : ℕ → Option ℕ) (told : List Entry) (proof : Option OpenProof) →
-    ProofFits (marked_searched o) variables told proof → (before : Option OpenProof) × ProofFits o variables told before
-fitted-before o variables told proof f = go o proof f.same f.written
+pub fitted-before : (o : Option OpenState) (variables : ℕ → Option ℕ) (logged : List Entry) (proof : Option OpenProof) →
+    ProofFits (marked_searched o) variables logged proof → (before : Option OpenProof) × ProofFits o variables logged before
+fitted-before o variables logged proof f = go o proof f.same f.written
   where
-    go : (o : Option OpenState) (proof : Option OpenProof) → marked_searched o ≡ opened_state proof → IsWrittenWhereOpen variables told proof →
-        (before : Option OpenProof) × ProofFits o variables told before
+    go : (o : Option OpenState) (proof : Option OpenProof) → marked_searched o ≡ opened_state proof → IsWrittenWhereOpen variables logged proof →
+        (before : Option OpenProof) × ProofFits o variables logged before
     go None proof e w = (None, record { same = refl; written = tt })
     go (Some a) None e w = absurd cc
     go (Some a) (Some p) e w =
@@ -415,9 +415,9 @@ state-bars (Some p) e = (p, refl, go (has_marks p.format) e)
     go false n = refl
 
 -- an open proof that was not marked yet is one that was
-pub barred-fitted : (o : Option OpenState) (variables : ℕ → Option ℕ) (told : List Entry) (before proof : Option OpenProof) →
-    ProofFits o variables told before → ProofFits (marked_searched o) variables told proof → BarsAssumptions before → BarsAssumptions proof
-barred-fitted o variables told before proof f g b =
+pub barred-fitted : (o : Option OpenState) (variables : ℕ → Option ℕ) (logged : List Entry) (before proof : Option OpenProof) →
+    ProofFits o variables logged before → ProofFits (marked_searched o) variables logged proof → BarsAssumptions before → BarsAssumptions proof
+barred-fitted o variables logged before proof f g b =
     state-bars proof (ap bars_assumptions (sym g.same) ∙ marked o ∙ ap bars_assumptions f.same ∙ bars-state before b)
   where
     marked : (o : Option OpenState) → bars_assumptions (marked_searched o) ≡ bars_assumptions o
@@ -425,13 +425,13 @@ barred-fitted o variables told before proof f g b =
     marked (Some p) = refl
 
 -- what holds the proof bars what it bars
-pub barred-there : (o : Option OpenState) (variables : ℕ → Option ℕ) (told : List Entry) (proof : Option OpenProof) (b : Bool) →
-    ProofFits o variables told proof → b ≡ bars_assumptions o → b ≡ true → BarsAssumptions proof
-barred-there o variables told proof b f e t = state-bars proof (ap bars_assumptions (sym f.same) ∙ sym e ∙ t)
+pub barred-there : (o : Option OpenState) (variables : ℕ → Option ℕ) (logged : List Entry) (proof : Option OpenProof) (b : Bool) →
+    ProofFits o variables logged proof → b ≡ bars_assumptions o → b ≡ true → BarsAssumptions proof
+barred-there o variables logged proof b f e t = state-bars proof (ap bars_assumptions (sym f.same) ∙ sym e ∙ t)
 
-pub unbarred-there : (o : Option OpenState) (variables : ℕ → Option ℕ) (told : List Entry) (proof : Option OpenProof) (b : Bool) →
-    ProofFits o variables told proof → b ≡ bars_assumptions o → b ≡ false → BarsAssumptions proof → ⊥
-unbarred-there o variables told proof b f e n s = let z : false ≡ true = sym n ∙ e ∙ ap bars_assumptions f.same ∙ bars-state proof s in cc
+pub unbarred-there : (o : Option OpenState) (variables : ℕ → Option ℕ) (logged : List Entry) (proof : Option OpenProof) (b : Bool) →
+    ProofFits o variables logged proof → b ≡ bars_assumptions o → b ≡ false → BarsAssumptions proof → ⊥
+unbarred-there o variables logged proof b f e n s = let z : false ≡ true = sym n ∙ e ∙ ap bars_assumptions f.same ∙ bars-state proof s in cc
 
 closed-state : (proof : Option OpenProof) → BarsClauses proof → bars_clauses (opened_state proof) ≡ true
 closed-state proof (o, e, s, b) = ap (λ (x : Option OpenProof). bars_clauses (opened_state x)) e ∙ ap (λ x. x && not (has_marks o.format)) s ∙ ap not b
@@ -445,10 +445,10 @@ state-closed (Some p) e = let (s, b) = go p.searched (has_marks p.format) e in (
     go true false n = (refl, refl)
     go false b n = let z : false ≡ true = n in absurd cc
 
-pub closed-there : (o : Option OpenState) (variables : ℕ → Option ℕ) (told : List Entry) (proof : Option OpenProof) (b : Bool) →
-    ProofFits o variables told proof → b ≡ bars_clauses o → b ≡ true → BarsClauses proof
-closed-there o variables told proof b f e t = state-closed proof (ap bars_clauses (sym f.same) ∙ sym e ∙ t)
+pub closed-there : (o : Option OpenState) (variables : ℕ → Option ℕ) (logged : List Entry) (proof : Option OpenProof) (b : Bool) →
+    ProofFits o variables logged proof → b ≡ bars_clauses o → b ≡ true → BarsClauses proof
+closed-there o variables logged proof b f e t = state-closed proof (ap bars_clauses (sym f.same) ∙ sym e ∙ t)
 
-pub unclosed-there : (o : Option OpenState) (variables : ℕ → Option ℕ) (told : List Entry) (proof : Option OpenProof) (b : Bool) →
-    ProofFits o variables told proof → b ≡ bars_clauses o → b ≡ false → BarsClauses proof → ⊥
-unclosed-there o variables told proof b f e n s = let z : false ≡ true = sym n ∙ e ∙ ap bars_clauses f.same ∙ closed-state proof s in cc
+pub unclosed-there : (o : Option OpenState) (variables : ℕ → Option ℕ) (logged : List Entry) (proof : Option OpenProof) (b : Bool) →
+    ProofFits o variables logged proof → b ≡ bars_clauses o → b ≡ false → BarsClauses proof → ⊥
+unclosed-there o variables logged proof b f e n s = let z : false ≡ true = sym n ∙ e ∙ ap bars_clauses f.same ∙ closed-state proof s in cc

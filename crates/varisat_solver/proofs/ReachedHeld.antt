@@ -26,7 +26,7 @@ use Rattle.varisat_names.proofs.Maps.{chain-through}
 use Rattle.varisat_tracer.specs.Carried.{carry}
 use Rattle.varisat_solver.specs.States.{State}
 use Rattle.varisat_solver.specs.Spaces.{Carrying, Spaces, Translation, IsCounted, AreLive, SharesHeld, HeldFits, without_core, translation, Links}
-use Rattle.varisat_proof.specs.Passing.{ToldConflict}
+use Rattle.varisat_proof.specs.Passing.{LogsConflict}
 use Rattle.varisat_search.proofs.StepOutcome.{variable-literal}
 use Rattle.varisat_solver.proofs.Carried.{carry-at}
 use Rattle.varisat_tracer.specs.RenamedEntries.{carry-opposites}
@@ -144,15 +144,15 @@ shares-more {r} {fixed} {more} stay q =
     }
 
 -- the lines over identities, as entries
-abbrev pub told_lines : Translation → List Line → List Entry
-told_lines r lines = written (map (rename_line (carry r.identity)) lines)
+abbrev pub lines_logged : Translation → List Line → List Entry
+lines_logged r lines = written (map (rename_line (carry r.identity)) lines)
 
 -- what the entries of lines lead to, from what is held
 pub record LinesLead (n : ℕ) (r : Translation) (F share : List Clause) (lines : List Line) (after : List Clause) : Type 0 where
   pub held : List Clause
-  pub led : Leads [] (r.told ++ told_lines r lines) held
+  pub led : Leads [] (r.logged ++ lines_logged r lines) held
   pub same : SameClauses held (F ++ rename (carry r.identity) after)
-  pub goes : GoesOn n r.told (told_lines r lines)
+  pub goes : GoesOn n r.logged (lines_logged r lines)
 
 pub lines-lead : {fixed : List Literal} (n : ℕ) (r : Translation) (share : List Clause) (lines : List Line) (after : List Clause)
     (q : SharesHeld r fixed share) → DerivesBy n share lines after → LinesLead n r q.forgotten share lines after
@@ -165,14 +165,14 @@ lines-lead n r share lines after q d =
     (written_by n (q.forgotten ++ rename f share) ls (q.forgotten ++ rename f after) on) in
     record {
       held = H;
-      led = leads_append [] r.told q.held (written ls) H q.led (by_leads n q.held (written ls) H by);
+      led = leads_append [] r.logged q.held (written ls) H q.led (by_leads n q.held (written ls) H by);
       same = same_clauses-back (q.forgotten ++ rename f after) H s;
-      goes = goes_on n r.told (written ls) q.held H q.led by;
+      goes = goes_on n r.logged (written ls) q.held H q.led by;
     }
 
 -- told once more
 abbrev pub with_told : List Entry → Translation → Translation
-with_told told r = record r { told = told }
+with_told logged r = record r { logged = logged }
 
 -- a literal of a solver variable in use
 abbrev pub IsInUse : Translation → Literal → Type 0
@@ -180,7 +180,7 @@ IsInUse r l = (i : ℕ) × (r.identity (variable_of l) ≡ Some i)
 
 module _ {fixed : List Literal} (r : Translation) (share : List Clause) (n : ℕ) (lines : List Line) (after : List Clause)
     (q : SharesHeld r fixed share) (d : DerivesBy n share lines after) where
-  shares-fits : (more : List Literal) → fixed ⊆ more → SpeakOf (IsInUse r) lines → SharesHeld (with_told (r.told ++ told_lines r lines) r) more after
+  shares-fits : (more : List Literal) → fixed ⊆ more → SpeakOf (IsInUse r) lines → SharesHeld (with_told (r.logged ++ lines_logged r lines) r) more after
   shares-fits more stay speaks =
       let on = lines-lead n r share lines after q d in
       shares-more stay (record {
@@ -195,8 +195,8 @@ module _ {fixed : List Literal} (r : Translation) (share : List Clause) (n : ℕ
         settled = q.settled;
       })
 
-  told-conflict : Conflicts after [] → ToldConflict (r.told ++ told_lines r lines)
-  told-conflict k =
+  logged-conflict : Conflicts after [] → LogsConflict (r.logged ++ lines_logged r lines)
+  logged-conflict k =
       let on = lines-lead n r share lines after q d in
       let f = carry r.identity in
       let all = q.forgotten ++ rename f after in (
@@ -209,16 +209,16 @@ module _ {fixed : List Literal} (r : Translation) (share : List Clause) (n : ℕ
 
   -- what a search shares after lines over variables in use
   pub shares-after : (t : Search) (v : Outcome) → (v ≢ outcome.Unsat → fixed ⊆ t.fixed) → SpeakOf (IsInUse r) lines →
-      ((core : List Literal) → v ≡ outcome.UnsatUnder core → ⊥) → Holds after t v → HeldFits (with_told (r.told ++ told_lines r lines) r) t.fixed after v
+      ((core : List Literal) → v ≡ outcome.UnsatUnder core → ⊥) → Holds after t v → HeldFits (with_told (r.logged ++ lines_logged r lines) r) t.fixed after v
   shares-after t outcome.Unknown stay speaks plain h = shares-fits t.fixed (stay (λ e. let z : outcome.Unknown ≡ outcome.Unsat = e in cc)) speaks
   shares-after t (outcome.Sat found) stay speaks plain h = shares-fits t.fixed (stay (λ e. let z : outcome.Sat found ≡ outcome.Unsat = e in cc)) speaks
-  shares-after t outcome.Unsat stay speaks plain h = told-conflict h
+  shares-after t outcome.Unsat stay speaks plain h = logged-conflict h
   shares-after t (outcome.UnsatUnder core) stay speaks plain h = absurd (plain core refl)
 
 -- an accepted clause joins what is held
 pub shares-joined : {fixed : List Literal} (r : Translation) (share : List Clause) (c d : Clause) → map (carry r.identity) d ≡ c →
     ((l : Literal) → l ∈ d → (i : ℕ) × (r.identity (variable_of l) ≡ Some i)) → SharesHeld r fixed share →
-    SharesHeld (with_told (r.told ++ Accepts c ∷ []) r) fixed (share ++ d ∷ [])
+    SharesHeld (with_told (r.logged ++ Accepts c ∷ []) r) fixed (share ++ d ∷ [])
 shares-joined r share c d e in-use q =
     let f = carry r.identity in
     let names : (q.forgotten ++ rename f share) ++ c ∷ [] ≡ q.forgotten ++ rename f (share ++ d ∷ []) =
@@ -226,7 +226,7 @@ shares-joined r share c d e in-use q =
     ∙ ap (λ x. q.forgotten ++ x) (sym (map-append (map f) share (d ∷ []))) in
     record {
       held = q.held ++ c ∷ [];
-      led = leads_append [] r.told q.held (Accepts c ∷ []) (q.held ++ c ∷ []) q.led (q.held ++ c ∷ [], refl, refl);
+      led = leads_append [] r.logged q.held (Accepts c ∷ []) (q.held ++ c ∷ []) q.led (q.held ++ c ∷ [], refl, refl);
       forgotten = q.forgotten;
       same = subst (SameClauses (q.held ++ c ∷ [])) names (same_add q.held (q.forgotten ++ rename f share) c c q.same (same_set-self c));
       inside = λ x l h i. ⊎_elim (λ a. q.inside x l a i) (λ a. ⊎_elim (λ z. in-use l (subst (λ y. l ∈ y) z i)) (λ z. absurd z) a)
@@ -301,25 +301,25 @@ in-use-lives w p s k v i e = let (x, f, g) = chain-through p.global_from_solver 
 
 -- a literal over a solver variable is of a counted identity
 pub counted-literal : (w : Carrying) (p : Spaces) (s : State) (k : Links w p s) (l : Literal) (i : ℕ) →
-    (translation w p s.told).identity (variable_of l) ≡ Some i → IsCounted s.counted (carry (translation w p s.told).identity l)
+    (translation w p s.logged).identity (variable_of l) ≡ Some i → IsCounted s.counted (carry (translation w p s.logged).identity l)
 counted-literal w p s k l i e =
     let (x, f, g) = chain-through p.global_from_solver w.identity (variable_of l) i e in
     let (j, h, m) = k.solvers.live (variable_of l) x f in
     let q : Some j ≡ Some i = sym h ∙ g in
     let same : j ≡ i = cc in
-    subst (λ v. v ∈ s.counted) (same ∙ sym (carry-at (translation w p s.told).identity l i e)) m
+    subst (λ v. v ∈ s.counted) (same ∙ sym (carry-at (translation w p s.logged).identity l i e)) m
 
 -- What a solver's journal leads to is over live identities, unless it is known to be unsatisfiable.
-pub told-live : (w : Carrying) (p : Spaces) (s : State) → Links w p s → without_core p.outcome ≢ outcome.Unsat → (held : List Clause)
-    × Leads [] s.told held × AreLive (translation w p s.told) held
-told-live w p s k n = go (without_core p.outcome) n k.holds.told
+pub logged-live : (w : Carrying) (p : Spaces) (s : State) → Links w p s → without_core p.outcome ≢ outcome.Unsat → (held : List Clause)
+    × Leads [] s.logged held × AreLive (translation w p s.logged) held
+logged-live w p s k n = go (without_core p.outcome) n k.holds.logged
   where
-    shares : SharesHeld (translation w p s.told) p.search.fixed k.holds.held → (held : List Clause) × Leads [] s.told held
-        × AreLive (translation w p s.told) held
-    shares q = (q.held, q.led, held-live (translation w p s.told) k.holds.held (in-use-lives w p s k) q)
+    shares : SharesHeld (translation w p s.logged) p.search.fixed k.holds.held → (held : List Clause) × Leads [] s.logged held
+        × AreLive (translation w p s.logged) held
+    shares q = (q.held, q.led, held-live (translation w p s.logged) k.holds.held (in-use-lives w p s k) q)
 
-    go : (v : Outcome) → v ≢ outcome.Unsat → HeldFits (translation w p s.told) p.search.fixed k.holds.held v → (held : List Clause)
-        × Leads [] s.told held × AreLive (translation w p s.told) held
+    go : (v : Outcome) → v ≢ outcome.Unsat → HeldFits (translation w p s.logged) p.search.fixed k.holds.held v → (held : List Clause)
+        × Leads [] s.logged held × AreLive (translation w p s.logged) held
     go outcome.Unknown n q = shares q
     go (outcome.Sat found) n q = shares q
     go outcome.Unsat n q = absurd (n refl)
@@ -335,11 +335,11 @@ taken-behind F A R d out =
     (same-more F (d ∷ R) A (same_clauses-back (d ∷ R) F (R, out, same_clauses-self R))) moved)
 
 -- An entry is told that changes nothing of what is held.
-module _ (r : Translation) (e : Entry) (quiet : (held : List Clause) → Leads [] r.told held → Follow held e held) where
-  led-on : (held : List Clause) → Leads [] r.told held → Leads [] (r.told ++ e ∷ []) held
-  led-on held d = leads_append [] r.told held (e ∷ []) held d (held, quiet held d, refl)
+module _ (r : Translation) (e : Entry) (quiet : (held : List Clause) → Leads [] r.logged held → Follow held e held) where
+  led-on : (held : List Clause) → Leads [] r.logged held → Leads [] (r.logged ++ e ∷ []) held
+  led-on held d = leads_append [] r.logged held (e ∷ []) held d (held, quiet held d, refl)
 
-  shares-quiet : {fixed : List Literal} (share : List Clause) → SharesHeld r fixed share → SharesHeld (with_told (r.told ++ e ∷ []) r) fixed share
+  shares-quiet : {fixed : List Literal} (share : List Clause) → SharesHeld r fixed share → SharesHeld (with_told (r.logged ++ e ∷ []) r) fixed share
   shares-quiet share q = record {
     held = q.held;
     led = led-on q.held q.led;
@@ -352,12 +352,12 @@ module _ (r : Translation) (e : Entry) (quiet : (held : List Clause) → Leads [
     settled = q.settled;
   }
 
-  pub told-quiet : (fixed : List Literal) (share : List Clause) (v : Outcome) → HeldFits r fixed share v →
-      HeldFits (with_told (r.told ++ e ∷ []) r) fixed share v
-  told-quiet fixed share outcome.Unknown q = shares-quiet share q
-  told-quiet fixed share (outcome.Sat found) q = shares-quiet share q
-  told-quiet fixed share outcome.Unsat (held, d, c) = (held, led-on held d, c)
-  told-quiet fixed share (outcome.UnsatUnder core) q = shares-quiet share q
+  pub logged-quiet : (fixed : List Literal) (share : List Clause) (v : Outcome) → HeldFits r fixed share v →
+      HeldFits (with_told (r.logged ++ e ∷ []) r) fixed share v
+  logged-quiet fixed share outcome.Unknown q = shares-quiet share q
+  logged-quiet fixed share (outcome.Sat found) q = shares-quiet share q
+  logged-quiet fixed share outcome.Unsat (held, d, c) = (held, led-on held d, c)
+  logged-quiet fixed share (outcome.UnsatUnder core) q = shares-quiet share q
 
 -- 6. An identity is gone for good.
 
@@ -379,7 +379,7 @@ still-there v (d ∷ P) c (inr h) e = go (mentions v d) (still-there v P c h e)
 module _ (r r' : Translation) (i : ℕ) (none : (v : ℕ) → r.identity v ≡ Some i → ⊥) (same : (v : ℕ) → r'.identity v ≡ r.identity v)
     (forced : (j : ℕ) → r'.forced j ≡ r.forced j) (live : (j x : ℕ) → r'.global j ≡ Some x → (j ≡ i → ⊥) × (r.global j ≡ Some x))
     (still : (j x : ℕ) → (j ≡ i → ⊥) → r.global j ≡ Some x → r'.global j ≡ Some x) where
-  shares-gone : {fixed : List Literal} (share : List Clause) → r'.told ≡ r.told ++ Leaves i ∷ [] → SharesHeld r fixed share → SharesHeld r' fixed share
+  shares-gone : {fixed : List Literal} (share : List Clause) → r'.logged ≡ r.logged ++ Leaves i ∷ [] → SharesHeld r fixed share → SharesHeld r' fixed share
   shares-gone share e q =
       let f = carry r.identity in
       let R = rename f share in
@@ -394,7 +394,7 @@ module _ (r r' : Translation) (i : ℕ) (none : (v : ℕ) → r.identity v ≡ S
       record {
         held = without i q.held;
         led = subst (λ es. Leads [] es (without i q.held)) (sym e)
-            (leads_append [] r.told q.held (Leaves i ∷ []) (without i q.held) q.led (without i q.held, refl, refl));
+            (leads_append [] r.logged q.held (Leaves i ∷ []) (without i q.held) q.led (without i q.held, refl, refl));
         forgotten = without i q.forgotten;
         same = subst (λ x. SameClauses (without i q.held) (without i q.forgotten ++ x))
             (rename-same f (carry r'.identity) share (λ c l h a. sym (carry-same r'.identity r.identity l (same (variable_of l))))) left;
@@ -407,9 +407,9 @@ module _ (r r' : Translation) (i : ℕ) (none : (v : ℕ) → r.identity v ≡ S
         settled = λ c h. settled-alike r r' _ same forced c (q.settled c (without_less i q.forgotten c h));
       }
 
-  pub told-gone : (fixed : List Literal) (share : List Clause) (v : Outcome) → v ≢ outcome.Unsat → r'.told ≡ r.told ++ Leaves i ∷ [] →
+  pub logged-gone : (fixed : List Literal) (share : List Clause) (v : Outcome) → v ≢ outcome.Unsat → r'.logged ≡ r.logged ++ Leaves i ∷ [] →
       HeldFits r fixed share v → HeldFits r' fixed share v
-  told-gone fixed share outcome.Unknown n e q = shares-gone share e q
-  told-gone fixed share (outcome.Sat found) n e q = shares-gone share e q
-  told-gone fixed share outcome.Unsat n e q = absurd (n refl)
-  told-gone fixed share (outcome.UnsatUnder core) n e q = shares-gone share e q
+  logged-gone fixed share outcome.Unknown n e q = shares-gone share e q
+  logged-gone fixed share (outcome.Sat found) n e q = shares-gone share e q
+  logged-gone fixed share outcome.Unsat n e q = absurd (n refl)
+  logged-gone fixed share (outcome.UnsatUnder core) n e q = shares-gone share e q

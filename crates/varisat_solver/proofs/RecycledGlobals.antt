@@ -18,11 +18,11 @@ use Rattle.varisat_solver.specs.Spaces.{Spaces, Carrying, ModeFits, IdentitiesFi
 use Rattle.varisat_solver.proofs.SpacesAgree.{working-same, holds-same, verdict-moved}
 use Rattle.varisat_theory.specs.Journals.{Leaves, Leads}
 use Rattle.varisat_theory.specs.Outcomes as outcome
-use Rattle.varisat_solver.specs.Journals.{retold}
+use Rattle.varisat_solver.specs.Journals.{with_entries}
 use Rattle.varisat_solver.proofs.VariableMoves.{recycle}
-use Rattle.varisat_solver.proofs.CallStates.{told-well}
-use Rattle.varisat_solver.proofs.ReachedHeld.{told-gone}
-use Rattle.varisat_solver.proofs.ToldEntries.{told-left}
+use Rattle.varisat_solver.proofs.CallStates.{logged-well}
+use Rattle.varisat_solver.proofs.ReachedHeld.{logged-gone}
+use Rattle.varisat_solver.proofs.LoggedEntries.{logged-left}
 
 module _ (w : Carrying) (p : Spaces) (s : State) (x i : ℕ) (k : Links w p s) (at : w.identity x ≡ Some i) (unnamed : p.user_from_global x ≡ None)
     (unsolved : p.solver_from_global x ≡ None) (alone : (p.kept x).isolated ≡ true) where
@@ -115,7 +115,7 @@ module _ (w : Carrying) (p : Spaces) (s : State) (x i : ℕ) (k : Links w p s) (
   was-hidden e = let z : true ≡ false = sym (k.shown e x unnamed) ∙ k.identities.live x i at in cc
 
   -- a literal of what is held is of the variable just where it is of the identity
-  same-left : without_core p.outcome ≢ outcome.Unsat → (held : List Clause) → Leads [] s.told held → (c : Clause) (l : Literal) → c ∈ held → l ∈ c →
+  same-left : without_core p.outcome ≢ outcome.Unsat → (held : List Clause) → Leads [] s.logged held → (c : Clause) (l : Literal) → c ∈ held → l ∈ c →
       (variable_of (carry w.global l) ≡ x) ↔ (variable_of l ≡ i)
   same-left n held led c l h j =
       let (y, e) = all-live w p s k n held led c l h j in
@@ -136,16 +136,16 @@ module _ (w : Carrying) (p : Spaces) (s : State) (x i : ℕ) (k : Links w p s) (
 
   -- It is gone from each state, under no verdict that lets nothing more be told.
   pub recycled : without_core p.outcome ≢ outcome.Unsat → (checker : Option CheckerState) → IsCheckedIf p.checker (Leaves x ∷ []) checker →
-      SpacesFit (record (recycle x p) { checker = checker }) (retold (s.told ++ Leaves i ∷ []) s)
+      SpacesFit (record (recycle x p) { checker = checker }) (with_entries (s.logged ++ Leaves i ∷ []) s)
   unfolding id' kept'
   recycled undecided checker gone =
-      let before = translation w p s.told in
+      let before = translation w p s.logged in
       let after : Translation = record {
         identity = chain p.global_from_solver id';
         global = updated w.global i None;
         forced = w.forced;
-        told =
-            s.told ++ Leaves i ∷ [];
+        logged =
+            s.logged ++ Leaves i ∷ [];
       } in (
         record { identity = id'; global = updated w.global i None; forced = w.forced },
         record {
@@ -162,7 +162,7 @@ module _ (w : Carrying) (p : Spaces) (s : State) (x i : ℕ) (k : Links w p s) (
                 (j, left y j e (solver-other v y h), c);
           };
           holds = holds-same s.clauses before after p.search (without_core p.outcome) identity-same (λ j. refl)
-              (λ share q. told-gone before after i none-for identity-same (λ j. refl)
+              (λ share q. logged-gone before after i none-for identity-same (λ j. refl)
               (λ j y. updated-all (λ j o. o ≡ Some y → (j ≡ i → ⊥) × (w.global j ≡ Some y)) w.global i None (λ e. absurd cc) j (λ n e. (n, e)))
               (λ j y n e. updated-other w.global i None j n ∙ e) p.search.fixed share (without_core p.outcome) undecided refl q)
               k.holds;
@@ -176,14 +176,14 @@ module _ (w : Carrying) (p : Spaces) (s : State) (x i : ℕ) (k : Links w p s) (
               k.verdict;
           core = k.core;
           right = k.right;
-          well_formed = told-well s (retold (s.told ++ Leaves i ∷ []) s) k.well_formed;
+          well_formed = logged-well s (with_entries (s.logged ++ Leaves i ∷ []) s) k.well_formed;
           few = k.few;
           shown = λ e y. updated-all (λ y d. p.user_from_global y ≡ None → d.deleted ≡ true) p.kept x dead (λ _. refl) y (λ n h. k.shown e y h);
           plain = λ e. absurd (was-hidden e);
           variables = λ j y e. k.variables j y (updated-all (λ j o. o ≡ Some y → w.global j ≡ Some y) w.global i None (λ q. absurd cc) j (λ n q. q) e);
           numbered = k.numbered;
-          checked = checker-without w.global (updated w.global i None) s.told i x p.checker checker (same-left undecided)
+          checked = checker-without w.global (updated w.global i None) s.logged i x p.checker checker (same-left undecided)
               (λ j o. sym (updated-other w.global i None j o)) gone k.checked;
-          told = told-left s.told s.clauses s.assumptions s.counted s.ever_hidden i was-hidden gone-too k.told;
+          logged = logged-left s.logged s.clauses s.assumptions s.counted s.ever_hidden i was-hidden gone-too k.logged;
         },
       )

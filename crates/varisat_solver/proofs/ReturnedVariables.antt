@@ -59,8 +59,8 @@ module _ (w : Carrying) (p : Spaces) (s : State) (x i v : ℕ) (b : Bool) (t : S
     (unknown : without_core p.outcome ≡ outcome.Unknown) (long : AreLong t)
     (in-use : (l : Literal) → IsLiteralOf t l → (y : ℕ) × (updated p.global_from_solver v (Some x) (variable_of l) ≡ Some y))
     (loads : Loads p.search t (literal_of v b ∷ []) outcome.Unknown []) where
-  h : SearchHolds s.clauses (translation w p s.told) p.search outcome.Unknown
-  h = subst (SearchHolds s.clauses (translation w p s.told) p.search) unknown k.holds
+  h : SearchHolds s.clauses (translation w p s.logged) p.search outcome.Unknown
+  h = subst (SearchHolds s.clauses (translation w p s.logged) p.search) unknown k.holds
 
   forced : w.forced i ≡ Some b
   forced = k.units.unit x i is ∙ unit
@@ -91,8 +91,8 @@ module _ (w : Carrying) (p : Spaces) (s : State) (x i v : ℕ) (b : Bool) (t : S
       cc
 
   -- The unit clause comes back from what was forgotten.
-  back : SharesHeld (translation w p s.told) p.search.fixed h.held →
-      SharesHeld (translation w (take_solver x v p) s.told) t.fixed (without v h.held ++ (literal_of v b ∷ []) ∷ [])
+  back : SharesHeld (translation w p s.logged) p.search.fixed h.held →
+      SharesHeld (translation w (take_solver x v p) s.logged) t.fixed (without v h.held ++ (literal_of v b ∷ []) ∷ [])
   back q =
       let f = carry (chain p.global_from_solver w.identity) in
       let g = carry (chain (updated p.global_from_solver v (Some x)) w.identity) in
@@ -101,7 +101,7 @@ module _ (w : Carrying) (p : Spaces) (s : State) (x i v : ℕ) (b : Bool) (t : S
       let (c, m, u) = q.units i b x forced (k.identities.one_to_one.there x i is) none-there in
       let alone : SameSet c d = ((λ y j. inl (u.1 y j ∙ sym carried)), (λ y. elim [ inl e ↦ subst (λ z. z ∈ c) (sym (e ∙ carried)) u.0 | inr z ↦ absurd z ])) in
       let (R, out) = takes_out_member (q.forgotten ++ old) c d (∈-append_left c q.forgotten old m) alone in
-      let apart = same-apart (translation w p s.told) (translation w (take_solver x v p) s.told) v h.held (to-other w p s x i v k is spoken unsolved free) q in
+      let apart = same-apart (translation w p s.logged) (translation w (take_solver x v p) s.logged) v h.held (to-other w p s x i v k is spoken unsolved free) q in
       let A = rename g (without v h.held) in
       record {
         held = q.held;
@@ -110,7 +110,7 @@ module _ (w : Carrying) (p : Spaces) (s : State) (x i v : ℕ) (b : Bool) (t : S
         same = subst (λ y. SameClauses q.held (R ++ y)) (sym (map-append (map g) (without v h.held) ((literal_of v b ∷ []) ∷ [])))
             (same_clauses-through q.held ((q.forgotten ++ old) ++ A) (R ++ (A ++ d ∷ [])) apart (taken-behind (q.forgotten ++ old) A R d out));
         inside = λ y l h' j. ⊎_elim
-            (λ a. inside-apart (translation w p s.told) (translation w (take_solver x v p) s.told) v h.held
+            (λ a. inside-apart (translation w p s.logged) (translation w (take_solver x v p) s.logged) v h.held
             (to-other w p s x i v k is spoken unsolved free) q y l a j)
             (λ a. ⊎_elim (λ e. ⊎_elim (λ o.
             (i, subst (λ z. chain (updated p.global_from_solver v (Some x)) w.identity (variable_of z) ≡ Some i) (sym o) at-v)) (λ z. absurd z)
@@ -124,9 +124,9 @@ module _ (w : Carrying) (p : Spaces) (s : State) (x i v : ℕ) (b : Bool) (t : S
                   absurd (n v (to-new w p s x i v k is spoken unsolved free ∙ ap Some (sym same)))) stays-there,
               u',
             );
-        live = λ y l a j. live-apart (translation w p s.told) v h.held (in-use-lives w p s k) q y l (taken_less (q.forgotten ++ old) d R out y a) j;
-        settled = λ y a. settled-more (translation w (take_solver x v p) s.told) p.search.fixed t.fixed
-            (fixed-on s.clauses (translation w p s.told) p.search t outcome.Unknown h long covers (λ e. let z : outcome.Unknown ≡ outcome.Unsat = e in cc))
+        live = λ y l a j. live-apart (translation w p s.logged) v h.held (in-use-lives w p s k) q y l (taken_less (q.forgotten ++ old) d R out y a) j;
+        settled = λ y a. settled-more (translation w (take_solver x v p) s.logged) p.search.fixed t.fixed
+            (fixed-on s.clauses (translation w p s.logged) p.search t outcome.Unknown h long covers (λ e. let z : outcome.Unknown ≡ outcome.Unsat = e in cc))
             y
             (settled-on w p s x i v k is spoken unsolved free h.held h.holds q.forgotten q.settled y (taken_less (q.forgotten ++ old) d R out y a));
       }
@@ -145,7 +145,7 @@ module _ (w : Carrying) (p : Spaces) (s : State) (x i v : ℕ) (b : Bool) (t : S
           u
           (λ n e. let z = k.solvers.live u y e in (z.0, z.1))
 
-  holds-on : SearchHolds s.clauses (translation w (take_solver x v p) s.told) t outcome.Unknown
+  holds-on : SearchHolds s.clauses (translation w (take_solver x v p) s.logged) t outcome.Unknown
   holds-on =
       let (after, d, o) = loads.holds (without v h.held) (fits-apart w p s x i v k is spoken unsolved free h.held h.holds) in
       record {
@@ -168,7 +168,7 @@ module _ (w : Carrying) (p : Spaces) (s : State) (x i v : ℕ) (b : Bool) (t : S
             let z : Some b ≡ Some (polarity_of l) = sym forced ∙ ap w.forced (let o : i ≡ j = cc in o) ∙ f in
             subst (λ m. m ∈ t.fixed) (same-literal (literal_of v b) l (variable-literal v b ∙ sym q)
             (polarity-literal v b ∙ (let o : b ≡ polarity_of l = cc in o))) now-fixed)
-            (λ q. fixed-on s.clauses (translation w p s.told) p.search t outcome.Unknown h long covers n l
+            (λ q. fixed-on s.clauses (translation w p s.logged) p.search t outcome.Unknown h long covers n l
             (h.fixed n l j (sym (to-other w p s x i v k is spoken unsolved free (variable_of l) q) ∙ e) f))
             (equal_or_not (variable_of l) v);
         covered = λ n c a.
@@ -180,12 +180,12 @@ module _ (w : Carrying) (p : Spaces) (s : State) (x i v : ℕ) (b : Bool) (t : S
               | inr z ↦ absurd z
             ]) d (inl refl))
             c (in-both w p s x i v k is spoken unsolved free c (h.covered n c a));
-        told = subst (SharesHeld (translation w (take_solver x v p) s.told) t.fixed) d (back h.told);
+        logged = subst (SharesHeld (translation w (take_solver x v p) s.logged) t.fixed) d (back h.logged);
       }
 
   pub resurrected : Links w (record (take_solver x v p) { search = t }) s
   resurrected = taken-with w p s x i v k is spoken unsolved free t
-      (subst (SearchHolds s.clauses (translation w (take_solver x v p) s.told) t) (sym unknown) holds-on)
+      (subst (SearchHolds s.clauses (translation w (take_solver x v p) s.logged) t) (sym unknown) holds-on)
 
 -- 1. What the solver stands for.
 
@@ -240,13 +240,13 @@ module _ (g : Summary) (s : State) (new : Tables) (x v : ℕ) (b : Bool) (t : Vi
             (λ full. let n = solvers-few w moved s (length new.solvers.backward) k
             (λ u h e. full u h (r.is_taken.solvers.backward.at_each u ∙ e)) in omega (arith, n, r.count))
             (taken-full g.tables new x v r.is_taken);
-        told = k.told;
+        logged = k.logged;
         checked = k.checked;
       })
 
-  told : SpacesFit (record moved { var_count = length t.values }) s → SpacesFit (spaces_of new g.checker t parts g.sat_state) s
+  logged : SpacesFit (record moved { var_count = length t.values }) s → SpacesFit (spaces_of new g.checker t parts g.sat_state) s
   unfolding moved
-  told = spaces-same (record moved { var_count = length t.values }) (spaces_of new g.checker t parts g.sat_state) s (record {
+  logged = spaces-same (record moved { var_count = length t.values }) (spaces_of new g.checker t parts g.sat_state) s (record {
     maps = record {
       global_from_user = λ u. ap (λ m. at m.forward u) r.is_taken.users;
       user_from_global = λ y. ap (λ m. at m.backward y) r.is_taken.users;
@@ -273,7 +273,7 @@ module _ (g : Summary) (s : State) (new : Tables) (x v : ℕ) (b : Bool) (t : Vi
       let (i, is) = linked w (spaces g) s x k r.live in
       let forced : w.forced i ≡ Some b = k.units.unit x i is ∙ r.unit in
       let known = k.units.is_counted i b forced in
-      told (
+      logged (
         w,
         counted-on w (⊎_elim
             (λ (a, e). subst (λ y. Links w (record (take_solver x v (spaces g)) { search = y }) s) (sym (r.unsat a))

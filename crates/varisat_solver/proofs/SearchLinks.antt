@@ -15,13 +15,13 @@ use Rattle.varisat_prop.proofs.LiteralValues.{own-opposite}
 use Rattle.varisat_solver.specs.Names.{identity_of}
 use Rattle.varisat_tracer.specs.Carried.{carry}
 use Rattle.varisat_solver.specs.Carried.{AgreesAlong, is_forced}
-use Rattle.varisat_solver.specs.Spaces.{Translation, SearchHolds, Spaces, Carrying, translation, CheckerFits, SolversFit, IsGone, TellsWhole, AssumptionsFit, IsolationFits, MarksFit, WorkingFits, CoreFits, VerdictFits, without_core, Links}
+use Rattle.varisat_solver.specs.Spaces.{Translation, SearchHolds, Spaces, Carrying, translation, CheckerFits, SolversFit, IsGone, IsWholeLog, AssumptionsFit, IsolationFits, MarksFit, WorkingFits, CoreFits, VerdictFits, without_core, Links}
 use Rattle.varisat_solver.proofs.SpacesAgree.{AreLong, identities-same, modes-same, units-same}
 use Rattle.varisat_tracer.specs.RenamedEntries.{carry-opposites}
-use Rattle.varisat_solver.proofs.ReachedHeld.{told_lines, with_told, IsInUse, lines-lead, shares-after}
+use Rattle.varisat_solver.proofs.ReachedHeld.{lines_logged, with_told, IsInUse, lines-lead, shares-after}
 use Rattle.varisat_names.specs.declared.variables.data.VarData.{VarData}
 use Rattle.varisat_solver.specs.States.{State, HasRightVerdict, IsWellFormed}
-use Rattle.varisat_solver.proofs.CallStates.{told_as, told-well}
+use Rattle.varisat_solver.proofs.CallStates.{logged_as, logged-well}
 use Rattle.varisat_literals.specs.Numbers.{polarity_of}
 use Rattle.varisat_theory.proofs.SearchFits.{clause_in}
 use Rattle.varisat_prop.specs.View.{View, kept, WellFormed}
@@ -76,7 +76,7 @@ module _ (P : List Clause) (r : Translation) (s t : Search) (v : Outcome) (h : S
   -- the clauses that a proof holds after some lines, which it was told
   pub held-on : (n : ℕ) (lines : List Line) (after : List Clause) → DerivesBy n h.held lines after → Holds after t v →
       SpeakOf (IsLiteralOf s) lines → ((core : List Literal) → v ≡ outcome.UnsatUnder core → ⊥) →
-      ((l : Literal) → IsLiteralOf t l → (i : ℕ) × (r.identity (variable_of l) ≡ Some i)) → SearchHolds P (with_told (r.told ++ told_lines r lines) r) t v
+      ((l : Literal) → IsLiteralOf t l → (i : ℕ) × (r.identity (variable_of l) ≡ Some i)) → SearchHolds P (with_told (r.logged ++ lines_logged r lines) r) t v
   held-on n lines after d holds speaks plain within =
       record {
         held = after;
@@ -86,11 +86,11 @@ module _ (P : List Clause) (r : Translation) (s t : Search) (v : Outcome) (h : S
         known = h.known;
         fixed = λ n l i e f. fixed-on n l (h.fixed (λ e. let q : outcome.Unknown ≡ outcome.Unsat = e in cc) l i e f);
         covered = covered-on;
-        told = shares-after r h.held n lines after h.told d t v fixed-on (spoken_wider (IsLiteralOf s) (IsInUse r) lines h.within speaks) plain holds;
+        logged = shares-after r h.held n lines after h.logged d t v fixed-on (spoken_wider (IsLiteralOf s) (IsInUse r) lines h.within speaks) plain holds;
       }
 
-  pub held-goes : (n : ℕ) (lines : List Line) (after : List Clause) → DerivesBy n h.held lines after → GoesOn n r.told (told_lines r lines)
-  held-goes n lines after d = (lines-lead n r h.held lines after h.told d).goes
+  pub held-goes : (n : ℕ) (lines : List Line) (after : List Clause) → DerivesBy n h.held lines after → GoesOn n r.logged (lines_logged r lines)
+  held-goes n lines after d = (lines-lead n r h.held lines after h.logged d).goes
 
 -- A model that was found says nothing of what is held.
 pub without-model : (P : List Clause) (r : Translation) (t : Search) (found : Assignment) → SearchHolds P r t (outcome.Sat found) →
@@ -106,7 +106,7 @@ without-model P r t found h =
       fixed = λ _. h.fixed o;
       covered =
           λ _. h.covered o;
-      told = h.told;
+      logged = h.logged;
     }
 
 pub with-model : (P : List Clause) (r : Translation) (t : Search) (found : Assignment) → SearchHolds P r t outcome.Unknown →
@@ -122,7 +122,7 @@ with-model P r t found h =
       fixed = λ _. h.fixed o;
       covered =
           λ _. h.covered o;
-      told = h.told;
+      logged = h.logged;
     }
 
 -- under Unsat no assignment satisfies the accepted clauses
@@ -149,18 +149,18 @@ with_search_side q p = record p {
 -- What links the search to the state.
 pub record SearchLinks (w : Carrying) (p : Spaces) (s : State) : Type 0 where
   pub solvers : SolversFit w.identity p.solver_from_global p.global_from_solver s.counted
-  pub holds : SearchHolds s.clauses (translation w p s.told) p.search (without_core p.outcome)
+  pub holds : SearchHolds s.clauses (translation w p s.logged) p.search (without_core p.outcome)
   pub assumptions : AssumptionsFit p.global_from_user p.solver_from_global s.naming.names p.assumptions s.assumptions
-  pub working : WorkingFits s.clauses (translation w p s.told).identity s.assumptions p.working
+  pub working : WorkingFits s.clauses (translation w p s.logged).identity s.assumptions p.working
   pub verdict : VerdictFits w.identity p.model p.outcome s.verdict
   pub core : CoreFits s.naming.names p.core s.verdict
   pub right : HasRightVerdict s
   pub few : p.var_count ≤ length s.counted
-  pub told : TellsWhole s.told s.clauses s.assumptions s.counted s.ever_hidden (IsGone w s)
-  pub checked : CheckerFits w.global s.told p.checker
+  pub logged : IsWholeLog s.logged s.clauses s.assumptions s.counted s.ever_hidden (IsGone w s)
+  pub checked : CheckerFits w.global s.logged p.checker
 
-pub relinked : (w : Carrying) (p q : Spaces) (s t : State) → Links w p s → SearchLinks w (with_search_side q p) (told_as t s) →
-    Links w (with_search_side q p) (told_as t s)
+pub relinked : (w : Carrying) (p q : Spaces) (s t : State) → Links w p s → SearchLinks w (with_search_side q p) (logged_as t s) →
+    Links w (with_search_side q p) (logged_as t s)
 relinked w p q s t k l = record {
   identities = k.identities;
   names = k.names;
@@ -177,13 +177,13 @@ relinked w p q s t k l = record {
   verdict = l.verdict;
   core = l.core;
   right = l.right;
-  well_formed = told-well s t k.well_formed;
+  well_formed = logged-well s t k.well_formed;
   few = l.few;
   shown = k.shown;
   plain = k.plain;
   variables = k.variables;
   numbered = k.numbered;
-  told = l.told;
+  logged = l.logged;
   checked = l.checked;
 }
 
@@ -199,7 +199,7 @@ with_marks q p = record (with_search_side q p) { kept = q.kept; assumptions = q.
 
 -- the state, with the clauses, the assumptions, the verdict and what was told of another
 abbrev pub asked_as : State → State → State
-asked_as t s = record s { clauses = t.clauses; assumptions = t.assumptions; verdict = t.verdict; told = t.told }
+asked_as t s = record s { clauses = t.clauses; assumptions = t.assumptions; verdict = t.verdict; logged = t.logged }
 
 -- Marks changed too, and what the state was asked: what was said of the names and the units stays.
 pub relinked-marks : (w : Carrying) (p q : Spaces) (s t : State) → Links w p s → AreRemarked p.kept q.kept →
@@ -228,7 +228,7 @@ relinked-marks w p q s t k a isolation marks well l = record {
   plain = k.plain;
   variables = k.variables;
   numbered = k.numbered;
-  told = l.told;
+  logged = l.logged;
   checked = l.checked;
 }
 

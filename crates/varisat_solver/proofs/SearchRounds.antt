@@ -9,7 +9,7 @@ use Rattle.varisat_solver.specs.OpenProofs.{OpenProof, opened_state, IsOpen, Goe
 use Rattle.varisat_solver.specs.States.{State, Ledger, Unknown, Unsat}
 use Rattle.varisat_solver.specs.ProofCalls.{with_proof}
 use Rattle.varisat_solver.specs.Summaries.{Summary, StandsFor, EndsSearch, spaces}
-use Rattle.varisat_solver.specs.Calls.{IsLike, IsValid, is_valid, Invalidates, CountsCall, CountsIf, Decided, Searched, HasVerdict, Searches, Solves, with_steps, once_searched, calling, TellsVerdict, IsSpent, FailsStep, IsStoreFull, with_max_steps, with_verdict}
+use Rattle.varisat_solver.specs.Calls.{IsLike, IsValid, is_valid, Invalidates, CountsCall, CountsIf, Decided, Searched, HasVerdict, Searches, Solves, with_steps, once_searched, by_state, ReturnsVerdict, IsSpent, FailsStep, IsStoreFull, with_max_steps, with_verdict}
 use Rattle.varisat_solver.specs.declared.solver.SolverError.{SolverError}
 use Rattle.varisat_solver.specs.declared.solver.SolverError.TheVariants.{Interrupted, ProofIoError, OutOfMemory, Invalid, ClauseStoreFull, WitnessVar, VariableLimit, AssumedVar, ClauseAfterSolve, ProofOpen, ProofTooLate, ConfigOutOfRange, Dimacs}
 use Rattle.varisat_solver.proofs.CallStates.{same-ledger, stands-valid, proof-fits, flags-alike, broken, same-assumptions, same-by, same-clauses, same-counted, same-hidden, same-naming, same-verdict, ledger-is}
@@ -22,10 +22,10 @@ use Rattle.varisat_solver.specs.StepEntries.{GoesOnInSteps}
 use Rattle.varisat_solver.proofs.StepEntries.{no-steps, steps-further}
 use Rattle.varisat_names.specs.Settings.{Settings}
 use Rattle.varisat_solver.specs.Budgets.{CountsSteps}
-use Rattle.varisat_solver.specs.Journals.{retold, TellsMore, BeginsInSteps, AreDerived}
+use Rattle.varisat_solver.specs.Journals.{with_entries, LogsMore, BeginsInSteps, AreDerived}
 use Rattle.varisat_solver.proofs.BegunSteps.{begins-further}
 use Rattle.varisat_solver.specs.Names.{Naming}
-use Rattle.varisat_solver.proofs.ToldEntries.{tells-nothing, nothing-derived, stays-nothing, derived-through, ends-through}
+use Rattle.varisat_solver.proofs.LoggedEntries.{logs-nothing, nothing-derived, stays-nothing, derived-through, ends-through}
 
 -- How a call of `solve` ends, once its steps came to something: an open proof is marked and flushed.
 
@@ -37,7 +37,7 @@ invalid-valid n s t b v = let z : false ≡ true = sym (ap (λ (l : Ledger). l.v
 like-searched : (s t : State) → IsLike s t → IsLike (once_searched s) (once_searched t)
 like-searched s t k = record {
   same = ap once_searched k.same;
-  told = k.told;
+  logged = k.logged;
   derived = k.derived;
   stays = k.stays;
   alike = k.alike;
@@ -45,21 +45,21 @@ like-searched s t k = record {
 }
 
 -- the steps are counted alike once it is marked
-counts-searched : (s t : State) (r : Result Bool SolverError) → CountsIf calling s r t → CountsIf calling (once_searched s) r (once_searched t)
+counts-searched : (s t : State) (r : Result Bool SolverError) → CountsIf by_state s r t → CountsIf by_state (once_searched s) r (once_searched t)
 counts-searched s t r (Searched u k) = Searched u k
-counts-searched s t r (Decided n e told) = Decided n e told
+counts-searched s t r (Decided n e logged) = Decided n e logged
 
-right-searched : (s t : State) (b : Bool) (told : List Entry) → HasVerdict s b told t → HasVerdict (once_searched s) b told (once_searched t)
-right-searched s t b told r = record { known = r.known; answer = r.answer; right = r.right; ends = r.ends; refuted = r.refuted; core = r.core }
+right-searched : (s t : State) (b : Bool) (logged : List Entry) → HasVerdict s b logged t → HasVerdict (once_searched s) b logged (once_searched t)
+right-searched s t b logged r = record { known = r.known; answer = r.answer; right = r.right; ends = r.ends; refuted = r.refuted; core = r.core }
 
 -- an open proof was marked and flushed
-pub ends-well : (s t : State) (r : Result Bool SolverError) → Searches s r t → IsValid t → Solves calling s r (once_searched t)
+pub ends-well : (s t : State) (r : Result Bool SolverError) → Searches s r t → IsValid t → Solves by_state s r (once_searched t)
 ends-well s t (Ok b) h v = record {
   valid = h.valid;
   steps = counts-searched s t (Ok b) h.steps;
-  told = h.told;
+  logged = h.logged;
   adds = h.adds;
-  right = right-searched s t b h.told.entries h.right;
+  right = right-searched s t b h.logged.entries h.right;
   rest = like-searched _ t h.rest;
 }
 ends-well s t (Err Interrupted) h v = record {
@@ -68,7 +68,7 @@ ends-well s t (Err Interrupted) h v = record {
   steps = h.steps;
   rest = like-searched _ t h.rest;
   variables = h.variables;
-  told = h.told;
+  logged = h.logged;
   adds = h.adds;
   derived = h.derived;
   still = λ e. ap once_searched (h.still e);
@@ -80,7 +80,7 @@ ends-well s t (Err (ProofIoError cause)) (o, h) v = absurd (invalid-valid _ _ t 
 ends-well s t (Err e) h v = absurd h
 
 -- no way led back from a step, or the solver was invalid
-pub ends-early : (s t : State) (r : Result Bool SolverError) → Searches s r t → is_valid t ≡ false → Solves calling s r t
+pub ends-early : (s t : State) (r : Result Bool SolverError) → Searches s r t → is_valid t ≡ false → Solves by_state s r t
 ends-early s t (Ok b) h v = let z : true ≡ false = sym h.valid ∙ ap (λ (l : Ledger). l.valid) (sym (same-ledger h.rest)) ∙ v in absurd cc
 ends-early s t (Err Interrupted) h v = let z : true ≡ false = sym h.valid ∙ ap (λ (l : Ledger). l.valid) (sym (same-ledger h.rest)) ∙ v in absurd cc
 ends-early s t (Err Invalid) h v = h
@@ -100,10 +100,10 @@ counts-otherwise s t r cause k = record {
   spent = λ e. absurd cc;
 }
 
-counts-broken : (s t : State) (r : Result Bool SolverError) (cause : Error) (now : Option OpenProof) → CountsIf calling s r t →
-    CountsIf calling s (Err (ProofIoError cause)) (broken now t.words t)
+counts-broken : (s t : State) (r : Result Bool SolverError) (cause : Error) (now : Option OpenProof) → CountsIf by_state s r t →
+    CountsIf by_state s (Err (ProofIoError cause)) (broken now t.words t)
 counts-broken s t r cause now (Searched u k) = Searched u (counts-otherwise s t r cause k)
-counts-broken s t r cause now (Decided n e told) = Decided n e (λ v. absurd (let z : false ≡ true = v in cc))
+counts-broken s t r cause now (Decided n e logged) = Decided n e (λ v. absurd (let z : false ≡ true = v in cc))
 
 broken-after : (s t : State) (now : Option OpenProof) → IsValid s → t.ledger ≡ (with_steps t.ledger.steps s).ledger →
     GoesOnWriting (searched_under s.proof) (searched_under t.proof) → GoesOnFailing 1 (searched_under t.proof) now →
@@ -116,7 +116,7 @@ broken-after s t now v e more f = record {
 
 -- the open proof could not be flushed
 pub ends-badly : (s t : State) (r : Result Bool SolverError) (cause : Error) (now : Option OpenProof) → Searches s r t → IsValid t → IsOpen t.proof →
-    GoesOnFailing 1 (searched_under t.proof) now → Solves calling s (Err (ProofIoError cause)) (broken now t.words t)
+    GoesOnFailing 1 (searched_under t.proof) now → Solves by_state s (Err (ProofIoError cause)) (broken now t.words t)
 ends-badly s t (Ok b) cause now h v o f = (
   open-before s.proof t.proof h.rest.proof o,
   inr (
@@ -147,7 +147,7 @@ stands-searched g s st = record {
   bounded = st.bounded;
   same = ap marked_searched st.same ∙ searched-state s.proof;
   fits = λ v. let (w, k) = st.fits v in (w, proof-free w (spaces g) s (searched_under s.proof) k);
-  written = λ v. searched-written s.variables s.told s.proof (st.written v);
+  written = λ v. searched-written s.variables s.logged s.proof (st.written v);
   flags = λ v. flags-alike s (once_searched s) (st.flags v) refl refl refl refl refl (barred-marked s.proof);
 }
 
@@ -155,7 +155,7 @@ stands-searched g s st = record {
 pub stood-before : (g : Summary) (s : State) → g.ledger.valid ≡ true → StandsFor (record g { opened = marked_searched g.opened }) s →
     (proof : Option OpenProof) × StandsFor g (with_proof proof s)
 stood-before g s v st =
-    let (before, f) = fitted-before g.opened s.variables s.told s.proof (proof-fits st v) in (
+    let (before, f) = fitted-before g.opened s.variables s.logged s.proof (proof-fits st v) in (
       before,
       record {
         ledger = st.ledger;
@@ -165,7 +165,7 @@ stood-before g s v st =
         fits = λ v. let (w, k) = st.fits v in (w, proof-free w (spaces g) s before k);
         written = λ _. f.written;
         flags = λ v. flags-alike s (with_proof before s) (st.flags v) refl refl refl refl refl
-            (λ o. barred-fitted g.opened s.variables s.told before s.proof f (proof-fits st v) o);
+            (λ o. barred-fitted g.opened s.variables s.logged before s.proof f (proof-fits st v) o);
       },
     )
 
@@ -186,17 +186,17 @@ stands-broken g h s now e opened st =
     }
 
 pub solve-ends : (g h : Summary) (s t : State) (r : Result Bool SolverError) → Searches s r t → StandsFor g t → g.ledger.valid ≡ true →
-    EndsSearch g (Ok tt) h → (u : State) × Solves calling s r u × StandsFor h u
+    EndsSearch g (Ok tt) h → (u : State) × Solves by_state s r u × StandsFor h u
 solve-ends g h s t r k st v e =
     (once_searched t, ends-well s t r k (stands-valid g t st v), subst (λ (x : Summary). StandsFor x (once_searched t)) (sym e) (stands-searched g t st))
 
 pub solve-fails : (g h : Summary) (s t : State) (r : Result Bool SolverError) (e : SolverError) → Searches s r t → StandsFor g t →
-    g.ledger.valid ≡ true → EndsSearch g (Err e) h → (u : State) × Solves calling s (Err e) u × StandsFor h u
+    g.ledger.valid ≡ true → EndsSearch g (Err e) h → (u : State) × Solves by_state s (Err e) u × StandsFor h u
 solve-fails g h s t r (ProofIoError cause) k st v (o, e) =
     let (now, f, same) = flushed-on g.opened h.opened cause t.proof st.same o in (
       broken now t.words t,
       ends-badly s t r cause now k (stands-valid g t st v)
-          (open-there g.opened t.variables t.told t.proof true (proof-fits st v) (sym (flushed-open g.opened h.opened cause o)) refl)
+          (open-there g.opened t.variables t.logged t.proof true (proof-fits st v) (sym (flushed-open g.opened h.opened cause o)) refl)
           f,
       stands-broken g h t now e same st,
     )
@@ -227,9 +227,9 @@ pub record WentOn (limit : ℕ) (s m : State) : Type 0 where
   pub count : m.ledger.steps ≡ s.ledger.steps + made
   pub budget : made ≤ limit
   pub spent : (made ≡ limit) ⊎ (m.ledger.steps ≡ 2 ^ 64 - 1)
-  pub told : TellsMore made s.told m.told
-  pub adds : GoesOnInSteps s.ledger.settings.reduce_locals_interval s.ledger.steps made s.told told.entries
-  pub derived : AreDerived told.entries
+  pub logged : LogsMore made s.logged m.logged
+  pub adds : GoesOnInSteps s.ledger.settings.reduce_locals_interval s.ledger.steps made s.logged logged.entries
+  pub derived : AreDerived logged.entries
   pub proof : GoesOnWriting s.proof m.proof
   -- where no step was made nothing changed, and where the verdict was known or the solver invalid no search was interrupted
   pub still : made ≡ 0 → with_max_steps 0 m ≡ with_max_steps 0 s
@@ -256,8 +256,8 @@ went-nowhere s =
       count = omega arith;
       budget = omega arith;
       spent = inl refl;
-      told = record { entries = []; joined = sym (append-nil s.told); goes = λ held d. (held, refl) };
-      adds = no-steps s.ledger.settings.reduce_locals_interval s.ledger.steps s.told;
+      logged = record { entries = []; joined = sym (append-nil s.logged); goes = λ held d. (held, refl) };
+      adds = no-steps s.ledger.settings.reduce_locals_interval s.ledger.steps s.logged;
       derived = tt;
       proof = goes-on-none s.proof;
       still = λ e. refl;
@@ -302,17 +302,17 @@ same-interval : (a : ℕ) (s m : State) → WentOn a s m → m.ledger.settings.r
 same-interval a s m w = ap (λ (c : Settings). c.reduce_locals_interval) w.settings
 
 adds-on : (a k : ℕ) (s m : State) (w : WentOn a s m) (es : List Entry) →
-    GoesOnInSteps m.ledger.settings.reduce_locals_interval m.ledger.steps k m.told es →
-    GoesOnInSteps s.ledger.settings.reduce_locals_interval s.ledger.steps (w.made + k) s.told (w.told.entries ++ es)
+    GoesOnInSteps m.ledger.settings.reduce_locals_interval m.ledger.steps k m.logged es →
+    GoesOnInSteps s.ledger.settings.reduce_locals_interval s.ledger.steps (w.made + k) s.logged (w.logged.entries ++ es)
 adds-on a k s m w es h =
     let interval = s.ledger.settings.reduce_locals_interval in
-    steps-further interval s.ledger.steps w.made k s.told w.told.entries es w.adds
-    (subst (λ x. GoesOnInSteps interval (s.ledger.steps + w.made) k x es) w.told.joined
-    (subst (λ j. GoesOnInSteps interval j k m.told es) w.count
-    (subst (λ i. GoesOnInSteps i m.ledger.steps k m.told es) (same-interval a s m w) h)))
+    steps-further interval s.ledger.steps w.made k s.logged w.logged.entries es w.adds
+    (subst (λ x. GoesOnInSteps interval (s.ledger.steps + w.made) k x es) w.logged.joined
+    (subst (λ j. GoesOnInSteps interval j k m.logged es) w.count
+    (subst (λ i. GoesOnInSteps i m.ledger.steps k m.logged es) (same-interval a s m w) h)))
 
 -- One more was interrupted.
-pub goes-on : (k a : ℕ) (s m t : State) → WentOn a s m → IsSpent calling (with_max_steps k m) t → t.ledger.steps < 2 ^ 64 → WentOn (a + k) s t
+pub goes-on : (k a : ℕ) (s m t : State) → WentOn a s m → IsSpent by_state (with_max_steps k m) t → t.ledger.steps < 2 ^ 64 → WentOn (a + k) s t
 unfolding counts-on
 goes-on k a s m t w e small =
     let c = e.steps in
@@ -338,15 +338,15 @@ goes-on k a s m t w e small =
       count = omega (arith, count, first);
       budget = all.budget;
       spent = all.spent refl;
-      told = record {
-        entries = w.told.entries ++ e.told.entries;
-        joined = e.told.joined ∙ ap (λ x. x ++ e.told.entries) w.told.joined ∙ append_assoc s.told w.told.entries e.told.entries;
-        goes = goes_on_further w.made c.made s.told w.told.entries e.told.entries w.told.goes
-            (subst (λ x. GoesOn c.made x e.told.entries) w.told.joined (subst (λ j. GoesOn j m.told e.told.entries) same e.told.goes));
+      logged = record {
+        entries = w.logged.entries ++ e.logged.entries;
+        joined = e.logged.joined ∙ ap (λ x. x ++ e.logged.entries) w.logged.joined ∙ append_assoc s.logged w.logged.entries e.logged.entries;
+        goes = goes_on_further w.made c.made s.logged w.logged.entries e.logged.entries w.logged.goes
+            (subst (λ x. GoesOn c.made x e.logged.entries) w.logged.joined (subst (λ j. GoesOn j m.logged e.logged.entries) same e.logged.goes));
       };
-      adds = adds-on a c.made s m w e.told.entries
-          (subst (λ j. GoesOnInSteps m.ledger.settings.reduce_locals_interval m.ledger.steps j m.told e.told.entries) same e.adds);
-      derived = derived-through w.told.entries e.told.entries w.derived e.derived;
+      adds = adds-on a c.made s m w e.logged.entries
+          (subst (λ j. GoesOnInSteps m.ledger.settings.reduce_locals_interval m.ledger.steps j m.logged e.logged.entries) same e.adds);
+      derived = derived-through w.logged.entries e.logged.entries w.derived e.derived;
       proof = goes-on-through s.proof m.proof t.proof w.proof e.rest.proof;
       still = λ z. ap (λ (x : State). with_max_steps 0 x) (e.still (omega (arith, count, z))) ∙ w.still (omega (arith, z));
       known = λ n. absurd (n (sym w.verdict ∙ e.unknown));
@@ -387,7 +387,7 @@ counts-low n k since before after r c = let x = c.count in omega (arith, x)
 -- all of them were interrupted, and there was one
 all-interrupted : (n : ℕ) (s t : State) → WentOn n s t → s.ledger.valid ≡ true → s.verdict ≡ Unknown →
     CountsSteps (length s.counted) n s.ledger.since s.ledger.steps t.ledger.steps (Err Interrupted) →
-    IsSpent calling (with_max_steps n s) (with_max_steps n t)
+    IsSpent by_state (with_max_steps n s) (with_max_steps n t)
 all-interrupted n s t w valid unknown counts =
     let count = w.count in
     let same : w.made ≡ t.ledger.steps - s.ledger.steps = omega (arith, count) in
@@ -396,47 +396,47 @@ all-interrupted n s t w valid unknown counts =
       unknown = unknown;
       steps = counts;
       rest = record {
-        same = same-by (retold t.told (with_steps t.ledger.steps (with_max_steps n s))) (with_max_steps n t) w.naming w.ever_hidden w.clauses
+        same = same-by (with_entries t.logged (with_steps t.ledger.steps (with_max_steps n s))) (with_max_steps n t) w.naming w.ever_hidden w.clauses
             w.assumptions w.counted w.verdict
             (ledger-is (with_max_steps n t).ledger s.ledger.valid s.ledger.started t.ledger.steps
             (s.ledger.since + (t.ledger.steps - s.ledger.steps)) (record s.ledger.settings { max_steps = n }) s.ledger.checking w.valid w.started
             refl w.since (ap (λ (c : Settings). record c { max_steps = n }) w.settings) w.checking);
-        told = (stays-nothing t.told).0;
-        derived = (stays-nothing t.told).2;
-        stays = λ _. (stays-nothing t.told).1;
-        alike = ap (λ v. lines_over v t.told) w.variables;
+        logged = (stays-nothing t.logged).0;
+        derived = (stays-nothing t.logged).2;
+        stays = λ _. (stays-nothing t.logged).1;
+        alike = ap (λ v. lines_over v t.logged) w.variables;
         proof = w.proof;
       };
       variables = w.variables;
-      told = record { entries = w.told.entries; joined = w.told.joined; goes = subst (λ j. GoesOn j s.told w.told.entries) same w.told.goes };
-      adds = subst (λ j. GoesOnInSteps s.ledger.settings.reduce_locals_interval s.ledger.steps j s.told w.told.entries) same w.adds;
+      logged = record { entries = w.logged.entries; joined = w.logged.joined; goes = subst (λ j. GoesOn j s.logged w.logged.entries) same w.logged.goes };
+      adds = subst (λ j. GoesOnInSteps s.ledger.settings.reduce_locals_interval s.ledger.steps j s.logged w.logged.entries) same w.adds;
       derived = w.derived;
       still = λ e. ap (λ (x : State). with_max_steps n x) (w.still (omega (arith, count, e)));
     }
 
 -- the steps are counted alike
 steps-on : (k n a : ℕ) (s m t : State) (r : Result Bool SolverError) → WentOn a s m → a + k ≤ n → (r ≡ Err Interrupted → a + k ≡ n) → t.ledger.steps < 2 ^ 64 →
-    CountsIf calling (with_max_steps k m) r t → CountsIf calling (with_max_steps n s) r (with_max_steps n t)
+    CountsIf by_state (with_max_steps k m) r t → CountsIf by_state (with_max_steps n s) r (with_max_steps n t)
 steps-on k n a s m t r w least all small (Searched u c) =
     Searched (sym w.verdict ∙ u) (counts-on k a n s m t.ledger.steps r w c least all small)
-steps-on k n a s m t r w least all small (Decided x e told) =
+steps-on k n a s m t r w least all small (Decided x e logged) =
     let none = w.known (was x) in
     let count = w.count in
-    Decided (inl (was x)) (omega (arith, e, none, count)) (λ v. told v ∙ ap (λ (y : State). y.told) (w.still none))
+    Decided (inl (was x)) (omega (arith, e, none, count)) (λ v. logged v ∙ ap (λ (y : State). y.logged) (w.still none))
   where
     was : (m.verdict ≢ Unknown) ⊎ (m.verdict ≡ Unsat) → s.verdict ≢ Unknown
     was (inl d) u = d (w.verdict ∙ u)
     was (inr d) u = let z : Unsat ≡ Unknown = sym d ∙ w.verdict ∙ u in cc
 
-steps-low : (s t : State) (r : Result Bool SolverError) → CountsIf calling s r t → s.ledger.steps ≤ t.ledger.steps
+steps-low : (s t : State) (r : Result Bool SolverError) → CountsIf by_state s r t → s.ledger.steps ≤ t.ledger.steps
 steps-low s t r (Searched u c) = counts-low _ _ _ _ _ r c
-steps-low s t r (Decided n e told) = omega (arith, e)
+steps-low s t r (Decided n e logged) = omega (arith, e)
 
 -- where the last search made no step, no search before it made one
-made-before : (k a : ℕ) (s m t : State) (b : Bool) (w : WentOn a s m) → CountsIf calling (with_max_steps k m) (Ok b) t →
+made-before : (k a : ℕ) (s m t : State) (b : Bool) (w : WentOn a s m) → CountsIf by_state (with_max_steps k m) (Ok b) t →
     t.ledger.steps - m.ledger.steps ≡ 0 → w.made ≡ 0
 made-before k a s m t b w (Searched u c) e = let one = c.found b refl in let sum = c.count in absurd (omega (arith, one, sum, e))
-made-before k a s m t b w (Decided x same told) e = w.known (was x)
+made-before k a s m t b w (Decided x same logged) e = w.known (was x)
   where
     was : (m.verdict ≢ Unknown) ⊎ (m.verdict ≡ Unsat) → s.verdict ≢ Unknown
     was (inl d) u = d (w.verdict ∙ u)
@@ -444,7 +444,7 @@ made-before k a s m t b w (Decided x same told) e = w.known (was x)
 
 -- a verdict is returned
 verdict-on : (k n a : ℕ) (s m t : State) (b : Bool) → WentOn a s m → a + k ≤ n → t.ledger.steps < 2 ^ 64 →
-    TellsVerdict calling (with_max_steps k m) b t → TellsVerdict calling (with_max_steps n s) b (with_max_steps n t)
+    ReturnsVerdict by_state (with_max_steps k m) b t → ReturnsVerdict by_state (with_max_steps n s) b (with_max_steps n t)
 verdict-on k n a s m t b w least small v =
     let low = steps-low (with_max_steps k m) t (Ok b) v.steps in
     record {
@@ -454,42 +454,42 @@ verdict-on k n a s m t b w least small v =
         known = λ z. v.right.known (λ u. z (sym w.verdict ∙ u)) ∙ w.verdict;
         answer = v.right.answer;
         right = v.right.right;
-        ends = λ u. ends-through w.told.entries v.told.entries t.verdict w.derived (v.right.ends (w.verdict ∙ u));
+        ends = λ u. ends-through w.logged.entries v.logged.entries t.verdict w.derived (v.right.ends (w.verdict ∙ u));
         refuted = v.right.refuted;
         core = v.right.core;
       };
       rest = record {
-        same = same-by (retold t.told (with_verdict t.verdict (with_steps t.ledger.steps (with_max_steps n s)))) (with_max_steps n t)
+        same = same-by (with_entries t.logged (with_verdict t.verdict (with_steps t.ledger.steps (with_max_steps n s)))) (with_max_steps n t)
             (same-naming v.rest ∙ w.naming) (same-hidden v.rest ∙ w.ever_hidden) (same-clauses v.rest ∙ w.clauses)
             (same-assumptions v.rest ∙ w.assumptions) (same-counted v.rest ∙ w.counted) (same-verdict v.rest)
             (ledger-on k n a s m t s.ledger.valid w low
             (same-ledger v.rest ∙ ap (λ x. record (with_steps t.ledger.steps (with_max_steps k m)).ledger { valid = x }) w.valid));
-        told = v.rest.told;
+        logged = v.rest.logged;
         derived = v.rest.derived;
         stays = v.rest.stays;
-        alike = v.rest.alike ∙ ap (λ f. lines_over f t.told) w.variables;
+        alike = v.rest.alike ∙ ap (λ f. lines_over f t.logged) w.variables;
         proof = goes-on-through s.proof m.proof t.proof w.proof v.rest.proof;
       };
-      told = record {
-        entries = w.told.entries ++ v.told.entries;
-        joined = v.told.joined ∙ ap (λ x. x ++ v.told.entries) w.told.joined ∙ append_assoc s.told w.told.entries v.told.entries;
-        goes = subst (λ j. GoesOn j s.told (w.told.entries ++ v.told.entries)) (let x = w.count in omega (arith, x, low))
-            (goes_on_further w.made (t.ledger.steps - m.ledger.steps) s.told w.told.entries v.told.entries w.told.goes
-            (subst (λ x. GoesOn (t.ledger.steps - m.ledger.steps) x v.told.entries) w.told.joined v.told.goes));
+      logged = record {
+        entries = w.logged.entries ++ v.logged.entries;
+        joined = v.logged.joined ∙ ap (λ x. x ++ v.logged.entries) w.logged.joined ∙ append_assoc s.logged w.logged.entries v.logged.entries;
+        goes = subst (λ j. GoesOn j s.logged (w.logged.entries ++ v.logged.entries)) (let x = w.count in omega (arith, x, low))
+            (goes_on_further w.made (t.ledger.steps - m.ledger.steps) s.logged w.logged.entries v.logged.entries w.logged.goes
+            (subst (λ x. GoesOn (t.ledger.steps - m.ledger.steps) x v.logged.entries) w.logged.joined v.logged.goes));
       };
       adds =
           let interval = s.ledger.settings.reduce_locals_interval in
           let more = t.ledger.steps - m.ledger.steps in
-          subst (λ j. BeginsInSteps interval s.ledger.steps (j - 1) s.told (w.told.entries ++ v.told.entries)) (let x = w.count in omega (arith, x, low))
-          (begins-further interval s.ledger.steps w.made more s.told w.told.entries v.told.entries (made-before k a s m t b w v.steps) w.adds
-          (subst (λ x. BeginsInSteps interval (s.ledger.steps + w.made) (more - 1) x v.told.entries) w.told.joined
-          (subst (λ j. BeginsInSteps interval j (more - 1) m.told v.told.entries) w.count
-          (subst (λ i. BeginsInSteps i m.ledger.steps (more - 1) m.told v.told.entries) (same-interval a s m w) v.adds))));
+          subst (λ j. BeginsInSteps interval s.ledger.steps (j - 1) s.logged (w.logged.entries ++ v.logged.entries)) (let x = w.count in omega (arith, x, low))
+          (begins-further interval s.ledger.steps w.made more s.logged w.logged.entries v.logged.entries (made-before k a s m t b w v.steps) w.adds
+          (subst (λ x. BeginsInSteps interval (s.ledger.steps + w.made) (more - 1) x v.logged.entries) w.logged.joined
+          (subst (λ j. BeginsInSteps interval j (more - 1) m.logged v.logged.entries) w.count
+          (subst (λ i. BeginsInSteps i m.ledger.steps (more - 1) m.logged v.logged.entries) (same-interval a s m w) v.adds))));
     }
 
 -- a step fails
 step-on : (faults k n a : ℕ) (s m t : State) (e : SolverError) → WentOn a s m → a + k ≤ n → (e ≡ Interrupted → a + k ≡ n) →
-    t.ledger.steps < 2 ^ 64 → FailsStep calling faults (with_max_steps k m) e t → FailsStep calling faults (with_max_steps n s) e (with_max_steps n t)
+    t.ledger.steps < 2 ^ 64 → FailsStep by_state faults (with_max_steps k m) e t → FailsStep by_state faults (with_max_steps n s) e (with_max_steps n t)
 step-on faults k n a s m t e w least all small (u, c, i) = (
   sym w.verdict ∙ u,
   counts-on k a n s m t.ledger.steps (Err e) w c least (λ z. let same : e ≡ Interrupted = cc in all same) small,

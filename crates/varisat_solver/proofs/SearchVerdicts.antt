@@ -5,7 +5,7 @@ use Rattle.varisat_theory.proofs.Members.{∈-append_left}
 use Rattle.varisat_theory.proofs.Sound.{core_stays, not_both_answers}
 use Rattle.varisat_solver.specs.States.{State, Verdict, Unknown, Sat, Unsat, UnsatUnderAssumptions, IsRight, HasRightVerdict}
 use Rattle.varisat_solver.specs.Names.{through_names}
-use Rattle.varisat_solver.specs.Models.{core_of, IsCoreToTell}
+use Rattle.varisat_solver.specs.Models.{core_of, IsReturnedCore}
 use Rattle.varisat_solver.specs.Calls.{answer_of, reopened_verdict, assumed_verdict}
 use Rattle.varisat_theory.specs.Membership.{◌∈◌}
 use Rattle.varisat_theory.specs.Derivations.{Line}
@@ -68,9 +68,9 @@ right-core P A C Unsat q r = ([], refl, ((λ l h. absurd h), λ (a, m, n). r (a,
 right-core P A C (UnsatUnderAssumptions core) q r = (core, refl, r)
 
 -- a core that is told is a failed one
-pub told-fails : (s : State) (core : List Literal) → HasRightVerdict s → IsCoreToTell s (Some core) →
+pub logged-fails : (s : State) (core : List Literal) → HasRightVerdict s → IsReturnedCore s (Some core) →
     IsFailedCore s.clauses s.assumptions (map (through_names s.naming) core)
-told-fails s core r (named, e) = go s.verdict r e
+logged-fails s core r (named, e) = go s.verdict r e
   where
     go : (v : Verdict) → IsRight s.clauses s.assumptions s.counted v → core_of v ≡ Some (map (through_names s.naming) core) →
         IsFailedCore s.clauses s.assumptions (map (through_names s.naming) core)

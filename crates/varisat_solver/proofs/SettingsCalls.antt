@@ -5,7 +5,7 @@ use Rattle.varisat_theory.specs.Membership.{◌∈◌}
 use Rattle.varisat_names.specs.Settings.{no_update, first_bad, updated_settings}
 use Rattle.varisat_names.specs.declared.config.ConfigError.{ConfigError}
 use Rattle.varisat_names.specs.Variables.{Tables}
-use Rattle.varisat_tracer.specs.Tracing.{TracerState, CanTell}
+use Rattle.varisat_tracer.specs.Tracing.{TracerState, CanLog}
 use Rattle.varisat_names.specs.declared.config.SolverConfigUpdate.{SolverConfigUpdate}
 use Rattle.varisat_search.specs.declared.context.Context.{Context}
 use Rattle.varisat_clause.specs.ClauseActivities.{ActivityScale}
@@ -25,7 +25,7 @@ use Rattle.varisat_solver.specs.ProofCalls.{with_proof}
 use Rattle.varisat_solver.proofs.AcceptClause.{ledger-free, proof-free}
 use Rattle.varisat_solver.proofs.CallStates.{ledger_of, none-since}
 use Rattle.varisat_solver.proofs.VariableMoves.{same-in-use}
-use Rattle.varisat_solver.proofs.ToldJournals.{checking-begins}
+use Rattle.varisat_solver.proofs.LoggedJournals.{checking-begins}
 
 -- A solver whose settings changed.
 
@@ -180,7 +180,7 @@ stands-anew parts started changed_at anew x s n st = record {
 -- the same solver with another proof, or none, and the same checker
 pub stands-with-proof : {A : Type 0} (tables : Tables) (p q : ProofParts) (started : Bool) (changed_at : ℕ) (x : Context A) (s : State)
     (proof : Option OpenProof) → q.checker ≡ p.checker → q.opened ≡ opened_state proof →
-    (not x.solver_state.state_is_invalid ≡ true → IsWrittenWhereOpen s.variables s.told proof) → (BarsAssumptions proof → s.assumptions ≡ []) →
+    (not x.solver_state.state_is_invalid ≡ true → IsWrittenWhereOpen s.variables s.logged proof) → (BarsAssumptions proof → s.assumptions ≡ []) →
     StandsFor (summary_of (record { tables = tables; proof = p }) started changed_at x) s →
     StandsFor (summary_of (record { tables = tables; proof = q }) started changed_at x) (with_proof proof s)
 stands-with-proof tables p q started changed_at x s proof checker e f unassumed st = record {
@@ -239,9 +239,9 @@ same-opened : (p q : ProofParts) → Checks p q → q.opened ≡ p.opened
 same-opened p q (inl e) = ap (λ (r : ProofParts). r.opened) e
 same-opened p q (inr e) = ap (λ (r : ProofParts). r.opened) e
 
-pub tells-checking : (p q : ProofParts) → Checks p q → CanTell p → CanTell q
-tells-checking p q (inl e) t = subst CanTell (sym e) (record { room = t.room; usable = refl })
-tells-checking p q (inr e) t = subst CanTell (sym e) t
+pub logs-checking : (p q : ProofParts) → Checks p q → CanLog p → CanLog q
+logs-checking p q (inl e) t = subst CanLog (sym e) (record { room = t.room; usable = refl })
+logs-checking p q (inr e) t = subst CanLog (sym e) t
 
 -- What the solver holds stands for the same states.
 pub spaces-checking : {A : Type 0} (tables : Tables) (p q : ProofParts) (x : Context A) (s : State) → Checks p q → s.clauses ≡ [] → s.counted ≡ [] →

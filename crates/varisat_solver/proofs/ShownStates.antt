@@ -139,7 +139,7 @@ module _ (w : Carrying) (p : Spaces) (s : State) (u x i : ℕ) (k : Links w p s)
     plain = k.plain;
     variables = k.variables;
     numbered = k.numbered;
-    told = k.told;
+    logged = k.logged;
     checked = k.checked;
   }
 

@@ -29,13 +29,13 @@ use Rattle.varisat_solver.specs.Budgets.{CountsSteps}
 use Rattle.varisat_solver.specs.declared.solver.SolverError.{SolverError}
 use Rattle.varisat_solver.specs.States.{State, Ledger, Verdict, Unknown, Sat, Unsat, UnsatUnderAssumptions, IsRight, empty_state}
 use Rattle.varisat_solver.specs.Names.{Naming, bring, bring_next, bring_if_free, name_one, IsLeastFree}
-use Rattle.varisat_solver.specs.Models.{put_name, model_of, IsCompletable, core_of, IsCoreToTell}
-use Rattle.varisat_solver.specs.Calls.{calling, with_naming, IsValid, Decided, TellsList, TellsVerdict, answer_of, with_verdict}
-use Rattle.varisat_solver.specs.Told.{told_list}
+use Rattle.varisat_solver.specs.Models.{put_name, model_of, IsCompletable, core_of, IsReturnedCore}
+use Rattle.varisat_solver.specs.Calls.{by_state, with_naming, IsValid, Decided, ReturnsList, ReturnsVerdict, answer_of, with_verdict}
+use Rattle.varisat_solver.specs.ReturnedLists.{returned_list}
 use Rattle.std.specs.Option.{IsSome}
 use Rattle.std.specs.Result.{IsErr}
 use Rattle.std.specs.declared.alloc.AllocError.{AllocError}
-use Rattle.varisat_tracer.specs.Carried.{carry, told_as}
+use Rattle.varisat_tracer.specs.Carried.{carry, logged_as}
 use Rattle.varisat_solver.specs.Carried.{value_or}
 use Rattle.varisat_solver.specs.Accepting.{HasUser}
 use Rattle.varisat_proof.specs.Calls.{CheckerState}
@@ -46,18 +46,18 @@ use Rattle.varisat_solver.proofs.BegunSteps.{begins-nothing}
 use Rattle.std.proofs.lemmas.List.{append-nil}
 use Rattle.varisat_theory.specs.Journals.{Entry, Fails, written}
 use Rattle.varisat_trace.specs.Traces.{TakesStep}
-use Rattle.varisat_solver.proofs.ToldProofs.{proof-told}
-use Rattle.varisat_proof.specs.Passing.{ToldConflict}
-use Rattle.varisat_solver.specs.Journals.{retold, TellsMore}
-use Rattle.varisat_solver.proofs.ToldEntries.{tells-nothing}
+use Rattle.varisat_solver.proofs.LoggedProofs.{proof-logged}
+use Rattle.varisat_proof.specs.Passing.{LogsConflict}
+use Rattle.varisat_solver.specs.Journals.{with_entries, LogsMore}
+use Rattle.varisat_solver.proofs.LoggedEntries.{logs-nothing}
 use Rattle.varisat_solver.specs.Spaces.{Carrying, Translation, HeldFits, translation, without_core, CoreFits, VerdictFits, Links, SpacesFit, FitWithNew, list_globals}
 use Rattle.varisat_solver.specs.Summaries.{Summary, IsKept, StandsFor, spaces, spaces_of, list_tables}
 use Rattle.varisat_solver.proofs.SpacesAgree.{map-map, AreInUse}
 use Rattle.varisat_solver.proofs.CallStates.{like-still}
 use Rattle.varisat_solver.proofs.SearchVerdicts.{right-false, right-core}
 use Rattle.varisat_solver.proofs.Carried.{carry-at, carry-sign}
-use Rattle.varisat_solver.proofs.SolveVerdict.{told-with, LinesInSteps, steps-tell, steps-derived, steps-in-turn, steps-stayed, core-ends, steps-told-as, core-tells, core-told-as, maps-alike, recount, spaces-same, sat-found, unsat-found, core-found, found, went-on}
-use Rattle.varisat_solver.proofs.ModelsFit.{told, is-sat, is-unsat, is-core, is-unknown}
+use Rattle.varisat_solver.proofs.SolveVerdict.{logged-with, LinesInSteps, steps-tell, steps-derived, steps-in-turn, steps-stayed, core-ends, steps-logged-as, core-logs, core-logged-as, maps-alike, recount, spaces-same, sat-found, unsat-found, core-found, found, went-on}
+use Rattle.varisat_solver.proofs.ModelsFit.{logged, is-sat, is-unsat, is-core, is-unknown}
 use Rattle.varisat_solver.proofs.AcceptClause.{with_tables, name-below, name-above, given-spaces}
 use Rattle.varisat_solver.proofs.SearchLinks.{view-long}
 
@@ -124,7 +124,7 @@ first-spaces s e n =
           known = λ a m i b e. absurd (let z : None ≡ Some b = e in cc);
           fixed = λ o l i e. absurd (let z : None ≡ Some i = e in cc);
           covered = λ o c h. absurd h;
-          told = record {
+          logged = record {
             held = [];
             led = refl;
             forgotten = [];
@@ -157,7 +157,7 @@ first-spaces s e n =
         plain = λ o. record { all = λ i h. absurd (omega (arith, h)); only = λ x i e. absurd (let z : None ≡ Some i = e in cc) };
         variables = λ i x e. absurd (let z : None ≡ Some x = e in cc);
         numbered = λ i x e. absurd (let z : None ≡ Some x = e in cc);
-        told = record {
+        logged = record {
           accepted = refl;
           assumed = refl;
           cores = tt;
@@ -265,7 +265,7 @@ module _ (g : Summary) (s : State) (w : Carrying) (k : Links w (spaces g) s)
   -- where a solver variable leads
   core-leads : (m : Literal) → m ∈ g.assumed.working → (u i : ℕ)
       × (chain (at g.tables.solvers.backward) (at g.tables.users.backward) (variable_of m) ≡ Some u)
-      × ((translation w (spaces g) s.told).identity (variable_of m) ≡ Some i) × (s.naming.names u ≡ Some i)
+      × ((translation w (spaces g) s.logged).identity (variable_of m) ≡ Some i) × (s.naming.names u ≡ Some i)
   core-leads m a =
       let (i, t) = k.working.used m a in
       let (x, b, c) = chain-through (at g.tables.solvers.backward) w.identity (variable_of m) i t in
@@ -276,19 +276,19 @@ module _ (g : Summary) (s : State) (w : Carrying) (k : Links w (spaces g) s)
       let used = k.names.one_to_one.back u x (ap (at g.tables.users.backward) (sym same) ∙ n) in
       (u, i, e, t, k.names.agree u ∙ chain-some (at g.tables.users.forward) w.identity u x used ∙ c)
 
-  names-carried : (core told : List Literal) → ((l : Literal) → l ∈ core → l ∈ g.assumed.working) →
-      told ≡ map (carry (chain (at g.tables.solvers.backward) (at g.tables.users.backward))) core →
-      ((l : Literal) → l ∈ told → (i : ℕ) × (s.naming.names (variable_of l) ≡ Some i))
-      × (map (carry s.naming.names) told ≡ map (carry (translation w (spaces g) s.told).identity) core)
-  names-carried core told part e = (
+  names-carried : (core logged : List Literal) → ((l : Literal) → l ∈ core → l ∈ g.assumed.working) →
+      logged ≡ map (carry (chain (at g.tables.solvers.backward) (at g.tables.users.backward))) core →
+      ((l : Literal) → l ∈ logged → (i : ℕ) × (s.naming.names (variable_of l) ≡ Some i))
+      × (map (carry s.naming.names) logged ≡ map (carry (translation w (spaces g) s.logged).identity) core)
+  names-carried core logged part e = (
     λ l h.
         let (m, a, q) = map-∈ (carry (chain (at g.tables.solvers.backward) (at g.tables.users.backward))) l core (subst (λ xs. l ∈ xs) e h) in
         let (u, i, r, t, n) = core-leads m (part m a) in
         (i, ap s.naming.names (ap variable_of q ∙ carry-at (chain (at g.tables.solvers.backward) (at g.tables.users.backward)) m u r) ∙ n),
     ap (map (carry s.naming.names)) e ∙ map-map (carry s.naming.names) (carry (chain (at g.tables.solvers.backward) (at g.tables.users.backward)))
-        (carry (translation w (spaces g) s.told).identity) core (λ m a.
+        (carry (translation w (spaces g) s.logged).identity) core (λ m a.
         let f = chain (at g.tables.solvers.backward) (at g.tables.users.backward) in
-        let to = (translation w (spaces g) s.told).identity in
+        let to = (translation w (spaces g) s.logged).identity in
         let (u, i, r, t, n) = core-leads m (part m a) in
         same-literal (carry s.naming.names (carry f m)) (carry to m)
         (carry-at s.naming.names (carry f m) i (ap s.naming.names (carry-at f m u r) ∙ n) ∙ sym (carry-at to m i t))
@@ -310,9 +310,9 @@ searching p search assumed s = record {
 }
 
 -- what the checker took
-checked-lines : (p q : TracerState) (es : List Entry) → IsCheckedIf p.proof.checker (told_as (global_literal p.tables) (es ++ [])) q.proof.checker →
-    IsCheckedIf p.proof.checker (told_as (global_literal p.tables) es) q.proof.checker
-checked-lines p q es c = subst (λ xs. IsCheckedIf p.proof.checker (told_as (global_literal p.tables) xs) q.proof.checker) (append-nil es) c
+checked-lines : (p q : TracerState) (es : List Entry) → IsCheckedIf p.proof.checker (logged_as (global_literal p.tables) (es ++ [])) q.proof.checker →
+    IsCheckedIf p.proof.checker (logged_as (global_literal p.tables) es) q.proof.checker
+checked-lines p q es c = subst (λ xs. IsCheckedIf p.proof.checker (logged_as (global_literal p.tables) xs) q.proof.checker) (append-nil es) c
 
 -- what the state is then
 pub comes-made : (at : Turn) (p q : TracerState) (search : View) (assumed : AssumptionParts) (s : State) (t : View) (y z : AssumptionParts) (after : SatState)
@@ -324,81 +324,81 @@ pub comes-made : (at : Turn) (p q : TracerState) (search : View) (assumed : Assu
 comes-made at p q search assumed s t y z verdict.Unknown n lines (w, k) one v how takes =
     let g = searching p search assumed s in
     let long = view-long t v.well in
-    let told = told-with w (spaces g) s lines in
+    let logged = logged-with w (spaces g) s lines in
     let links = went-on w (spaces g) s k refl (search_of t) outcome.Unknown n lines v.steps long v.in_use assumed y refl v.assumes q.proof.checker
-    (spaces (after_steps g q.proof.checker t z verdict.Unknown)).model z.user_core (checked-lines p q (written lines) takes.told.checked) refl in
+    (spaces (after_steps g q.proof.checker t z verdict.Unknown)).model z.user_core (checked-lines p q (written lines) takes.logged.checked) refl in
     record {
       verdict = Unknown;
-      told = told;
+      logged = logged;
       more = steps-tell w (spaces g) s k refl (search_of t) outcome.Unknown n lines v.steps long v.in_use;
-      begins = begins-nothing at.interval at.number (n - 1) s.told _ (omega (arith, one));
+      begins = begins-nothing at.interval at.number (n - 1) s.logged _ (omega (arith, one));
       adds = λ e. steps-in-turn w (spaces g) s k refl (search_of t) outcome.Unknown n lines v.steps long v.in_use at.interval at.number refl (how refl);
       stayed = λ e. steps-stayed w (spaces g) s k refl (search_of t) outcome.Unknown n lines v.steps long v.in_use;
       ends = steps-derived w (spaces g) s k refl (search_of t) outcome.Unknown n lines v.steps long v.in_use;
-      proof = proof-told p q (written lines ++ []) s.variables s.told told takes
-          (steps-told-as w (spaces g) s k refl (search_of t) outcome.Unknown n lines v.steps long v.in_use);
-      fits = left-spaces g q.proof.checker (retold told (with_verdict Unknown s)) t y z verdict.Unknown v (w, links);
+      proof = proof-logged p q (written lines ++ []) s.variables s.logged logged takes
+          (steps-logged-as w (spaces g) s k refl (search_of t) outcome.Unknown n lines v.steps long v.in_use);
+      fits = left-spaces g q.proof.checker (with_entries logged (with_verdict Unknown s)) t y z verdict.Unknown v (w, links);
     }
 comes-made at p q search assumed s t y z verdict.Sat n lines (w, k) one v how takes =
     let g = searching p search assumed s in
     let long = view-long t v.well in
-    let told = told-with w (spaces g) s lines in
+    let logged = logged-with w (spaces g) s lines in
     let a = found w (spaces g) s k refl (search_of t) (assignment_of t) n lines v.steps long v.in_use in
     let links = sat-found w (spaces g) s k refl (search_of t) (assignment_of t) n lines v.steps long v.in_use assumed y refl v.assumes z.user_core
-    q.proof.checker (checked-lines p q (written lines) takes.told.checked) in
+    q.proof.checker (checked-lines p q (written lines) takes.logged.checked) in
     record {
       verdict = Sat a;
-      told = told;
+      logged = logged;
       more = steps-tell w (spaces g) s k refl (search_of t) (outcome.Sat (assignment_of t)) n lines v.steps long v.in_use;
       adds = λ e. absurd (let z : Sat a ≡ Unknown = e in cc);
       stayed = λ e. absurd (let z : Sat a ≡ Unknown = e in cc);
-      begins = begins-nothing at.interval at.number (n - 1) s.told _ (omega (arith, one));
+      begins = begins-nothing at.interval at.number (n - 1) s.logged _ (omega (arith, one));
       ends = steps-derived w (spaces g) s k refl (search_of t) (outcome.Sat (assignment_of t)) n lines v.steps long v.in_use;
-      proof = proof-told p q (written lines ++ []) s.variables s.told told takes
-          (steps-told-as w (spaces g) s k refl (search_of t) (outcome.Sat (assignment_of t)) n lines v.steps long v.in_use);
-      fits = left-spaces g q.proof.checker (retold told (with_verdict (Sat a) s)) t y z verdict.Sat v (w, links);
+      proof = proof-logged p q (written lines ++ []) s.variables s.logged logged takes
+          (steps-logged-as w (spaces g) s k refl (search_of t) (outcome.Sat (assignment_of t)) n lines v.steps long v.in_use);
+      fits = left-spaces g q.proof.checker (with_entries logged (with_verdict (Sat a) s)) t y z verdict.Sat v (w, links);
     }
 comes-made at p q search assumed s t y z verdict.Unsat n lines (w, k) one v how takes =
     let g = searching p search assumed s in
     let long = view-long t v.well in
-    let told = told-with w (spaces g) s lines in
+    let logged = logged-with w (spaces g) s lines in
     let links = unsat-found w (spaces g) s k refl (search_of t) outcome.Unsat n lines v.steps long v.in_use assumed y refl v.assumes q.proof.checker
-    (spaces (after_steps g q.proof.checker t z verdict.Unsat)).model z.user_core (checked-lines p q (written lines) takes.told.checked) refl in
+    (spaces (after_steps g q.proof.checker t z verdict.Unsat)).model z.user_core (checked-lines p q (written lines) takes.logged.checked) refl in
     record {
       verdict = Unsat;
-      told = told;
+      logged = logged;
       more = steps-tell w (spaces g) s k refl (search_of t) outcome.Unsat n lines v.steps long v.in_use;
       adds = λ e. absurd (let z : Unsat ≡ Unknown = e in cc);
       stayed = λ e. absurd (let z : Unsat ≡ Unknown = e in cc);
-      begins = begins-nothing at.interval at.number (n - 1) s.told _ (omega (arith, one));
+      begins = begins-nothing at.interval at.number (n - 1) s.logged _ (omega (arith, one));
       ends = steps-derived w (spaces g) s k refl (search_of t) outcome.Unsat n lines v.steps long v.in_use;
-      proof = proof-told p q (written lines ++ []) s.variables s.told told takes
-          (steps-told-as w (spaces g) s k refl (search_of t) outcome.Unsat n lines v.steps long v.in_use);
-      fits = left-spaces g q.proof.checker (retold told (with_verdict Unsat s)) t y z verdict.Unsat v (w, links);
+      proof = proof-logged p q (written lines ++ []) s.variables s.logged logged takes
+          (steps-logged-as w (spaces g) s k refl (search_of t) outcome.Unsat n lines v.steps long v.in_use);
+      fits = left-spaces g q.proof.checker (with_entries logged (with_verdict Unsat s)) t y z verdict.Unsat v (w, links);
     }
 comes-made at p q search assumed s t y z verdict.UnsatUnderAssumptions n lines (w, k) one v how takes =
     let g = searching p search assumed s in
     let long = view-long t v.well in
     let (named, same) = names-carried g s w k v.working y.failed_core z.user_core (v.assumes.core y.failed_core refl).0 (v.named refl) in
     let core = map (carry s.naming.names) z.user_core in
-    let told = told-with w (spaces g) s lines ++ Fails core ∷ [] in
+    let logged = logged-with w (spaces g) s lines ++ Fails core ∷ [] in
     let links = core-found w (spaces g) s k refl (search_of t) (outcome.UnsatUnder y.failed_core) n lines v.steps long v.in_use assumed y refl
     v.assumes q.proof.checker (spaces (after_steps g q.proof.checker t z verdict.UnsatUnderAssumptions)).model y.failed_core z.user_core
-    takes.told.checked refl named same in
+    takes.logged.checked refl named same in
     record {
       verdict = UnsatUnderAssumptions core;
-      told = told;
-      more = core-tells w (spaces g) s k refl (search_of t) (outcome.UnsatUnder y.failed_core) n lines v.steps long v.in_use assumed y refl
+      logged = logged;
+      more = core-logs w (spaces g) s k refl (search_of t) (outcome.UnsatUnder y.failed_core) n lines v.steps long v.in_use assumed y refl
           v.assumes q.proof.checker y.failed_core z.user_core refl same;
       adds = λ e. absurd (let z : UnsatUnderAssumptions core ≡ Unknown = e in cc);
       stayed = λ e. absurd (let z : UnsatUnderAssumptions core ≡ Unknown = e in cc);
-      begins = begins-nothing at.interval at.number (n - 1) s.told _ (omega (arith, one));
+      begins = begins-nothing at.interval at.number (n - 1) s.logged _ (omega (arith, one));
       ends = core-ends w (spaces g) s k refl (search_of t) (outcome.UnsatUnder y.failed_core) n lines v.steps long v.in_use assumed y refl
           v.assumes q.proof.checker y.failed_core z.user_core refl same;
-      proof = proof-told p q (written lines ++ Fails y.failed_core ∷ []) s.variables s.told told takes
-          (core-told-as w (spaces g) s k refl (search_of t) (outcome.UnsatUnder y.failed_core) n lines v.steps long v.in_use assumed y refl
+      proof = proof-logged p q (written lines ++ Fails y.failed_core ∷ []) s.variables s.logged logged takes
+          (core-logged-as w (spaces g) s k refl (search_of t) (outcome.UnsatUnder y.failed_core) n lines v.steps long v.in_use assumed y refl
           v.assumes q.proof.checker y.failed_core z.user_core refl same);
-      fits = left-spaces g q.proof.checker (retold told (with_verdict (UnsatUnderAssumptions core) s)) t y z verdict.UnsatUnderAssumptions v (w, links);
+      fits = left-spaces g q.proof.checker (with_entries logged (with_verdict (UnsatUnderAssumptions core) s)) t y z verdict.UnsatUnderAssumptions v (w, links);
     }
 
 pub not-valid : (b : Bool) → not b ≡ true → b ≡ false
@@ -441,7 +441,7 @@ pub sat-model : (g : Summary) (s : State) → StandsFor g s → g.ledger.valid �
     × IsCompletable s.naming s.clauses s.assumptions s.counted (list_tables g.tables g.search.values 0 (length g.tables.users.forward))
 sat-model g s st v e =
     let (w, k) = st.fits v in
-    let (a, b) = told w (spaces g) s (assignment_of g.search) k (ap (outcome_of g.search g.assumed.failed_core) e) in
+    let (a, b) = logged w (spaces g) s (assignment_of g.search) k (ap (outcome_of g.search g.assumed.failed_core) e) in
     let q = sym (tables-listed g (length g.tables.users.forward) 0) in
     (a ∙ ap Some q, subst (IsCompletable s.naming s.clauses s.assumptions s.counted) q b)
 
@@ -473,10 +473,10 @@ sat-right g s st valid e =
     (a, r.0, r.1)
 
 -- a list that is refused, where there is one
-pub tells-error : {A : Type 0} (may : Option (List Literal) → Type 0) (s : State) (list : List Literal) (r : Result (Option (Vec Literal A)) AllocError) →
-    IsErr r → IsValid s → may (Some list) → TellsList may s (told_list r) s
-tells-error may s list (Ok m) h v a = absurd (let z : false ≡ true = h in cc)
-tells-error may s list (Err e) h v a = (v, (list, a), refl)
+pub logs-error : {A : Type 0} (may : Option (List Literal) → Type 0) (s : State) (list : List Literal) (r : Result (Option (Vec Literal A)) AllocError) →
+    IsErr r → IsValid s → may (Some list) → ReturnsList may s (returned_list r) s
+logs-error may s list (Ok m) h v a = absurd (let z : false ≡ true = h in cc)
+logs-error may s list (Err e) h v a = (v, (list, a), refl)
 
 -- 6. The core.
 
@@ -494,7 +494,7 @@ answers-alike g s st v = let (w, k) = st.fits v in answers-fit w.identity (space
 
 -- under assumptions that failed the core is told that is kept over names
 pub core-to-tell : (g : Summary) (s : State) → StandsFor g s → g.ledger.valid ≡ true → g.sat_state ≡ verdict.UnsatUnderAssumptions →
-    IsCoreToTell s (Some g.assumed.user_core)
+    IsReturnedCore s (Some g.assumed.user_core)
 core-to-tell g s st v e =
     let (w, k) = st.fits v in
     let (core, q) = is-core w.identity (spaces g).model g.assumed.failed_core s.verdict
@@ -508,7 +508,7 @@ unsat-known g s st v e =
     is-unsat w.identity (spaces g).model s.verdict
     (subst (λ y. VerdictFits w.identity (spaces g).model y s.verdict) (ap (outcome_of g.search g.assumed.failed_core) e) k.verdict)
 
-pub unsat-to-tell : (g : Summary) (s : State) → StandsFor g s → g.ledger.valid ≡ true → g.sat_state ≡ verdict.Unsat → IsCoreToTell s (Some [])
+pub unsat-to-tell : (g : Summary) (s : State) → StandsFor g s → g.ledger.valid ≡ true → g.sat_state ≡ verdict.Unsat → IsReturnedCore s (Some [])
 unsat-to-tell g s st v e =
     let (w, k) = st.fits v in
     let q = is-unsat w.identity (spaces g).model s.verdict
@@ -516,7 +516,7 @@ unsat-to-tell g s st v e =
     ((λ l h. absurd h), ap core_of q)
 
 -- no answer false, no core
-pub none-to-tell : (s : State) → (answer_of s.verdict ≡ Some false → ⊥) → IsCoreToTell s None
+pub none-to-tell : (s : State) → (answer_of s.verdict ≡ Some false → ⊥) → IsReturnedCore s None
 none-to-tell s n = go s.verdict n
   where
     go : (v : Verdict) → (answer_of v ≡ Some false → ⊥) → core_of v ≡ None
@@ -528,16 +528,16 @@ none-to-tell s n = go s.verdict n
 -- 7. What is told where the verdict is known.
 
 -- under Unsat what was told leads to a conflict
-pub unsat-told : (id : ℕ → Option ℕ) (m : ℕ → Bool) (r : Translation) (fixed : List Literal) (share : List Clause) (o : Outcome) (x : Verdict) →
-    x ≡ Unsat → VerdictFits id m o x → HeldFits r fixed share (without_core o) → ToldConflict r.told
-unsat-told id m r fixed share outcome.Unsat x e f h = h
-unsat-told id m r fixed share outcome.Unknown x e f h = absurd (subst (VerdictFits id m outcome.Unknown) e f)
-unsat-told id m r fixed share (outcome.Sat found) x e f h = absurd (subst (VerdictFits id m (outcome.Sat found)) e f)
-unsat-told id m r fixed share (outcome.UnsatUnder core) x e f h = absurd (subst (VerdictFits id m (outcome.UnsatUnder core)) e f)
+pub unsat-logged : (id : ℕ → Option ℕ) (m : ℕ → Bool) (r : Translation) (fixed : List Literal) (share : List Clause) (o : Outcome) (x : Verdict) →
+    x ≡ Unsat → VerdictFits id m o x → HeldFits r fixed share (without_core o) → LogsConflict r.logged
+unsat-logged id m r fixed share outcome.Unsat x e f h = h
+unsat-logged id m r fixed share outcome.Unknown x e f h = absurd (subst (VerdictFits id m outcome.Unknown) e f)
+unsat-logged id m r fixed share (outcome.Sat found) x e f h = absurd (subst (VerdictFits id m (outcome.Sat found)) e f)
+unsat-logged id m r fixed share (outcome.UnsatUnder core) x e f h = absurd (subst (VerdictFits id m (outcome.UnsatUnder core)) e f)
 
-pub told-refuted : (g : Summary) (s : State) → StandsFor g s → g.ledger.valid ≡ true → s.verdict ≡ Unsat → ToldConflict s.told
-told-refuted g s st v e = let (w, k) = st.fits v in unsat-told w.identity (spaces g).model (translation w (spaces g) s.told)
-    (spaces g).search.fixed k.holds.held (spaces g).outcome s.verdict e k.verdict k.holds.told
+pub logged-refuted : (g : Summary) (s : State) → StandsFor g s → g.ledger.valid ≡ true → s.verdict ≡ Unsat → LogsConflict s.logged
+logged-refuted g s st v e = let (w, k) = st.fits v in unsat-logged w.identity (spaces g).model (translation w (spaces g) s.logged)
+    (spaces g).search.fixed k.holds.held (spaces g).outcome s.verdict e k.verdict k.holds.logged
 
 -- a core is not empty
 pub core-not-empty : (id : ℕ → Option ℕ) (m : ℕ → Bool) (o : Outcome) (x : Verdict) (list : List Literal) → x ≡ UnsatUnderAssumptions list →
@@ -547,20 +547,20 @@ core-not-empty id m (outcome.Sat found) x list e f = absurd (subst (VerdictFits 
 core-not-empty id m outcome.Unsat x list e f = absurd (subst (VerdictFits id m outcome.Unsat) e f)
 core-not-empty id m (outcome.UnsatUnder found) x list e f = subst (VerdictFits id m (outcome.UnsatUnder found)) e f
 
-pub known-told : (g : Summary) (s : State) (b : Bool) → StandsFor g s → g.ledger.valid ≡ true → answer_at g.sat_state ≡ Some b → TellsVerdict calling s b s
-known-told g s b st v e =
+pub known-logged : (g : Summary) (s : State) (b : Bool) → StandsFor g s → g.ledger.valid ≡ true → answer_at g.sat_state ≡ Some b → ReturnsVerdict by_state s b s
+known-logged g s b st v e =
     let a = answers-alike g s st v ∙ e in
     record {
       valid = ap (λ (l : Ledger). l.valid) st.ledger ∙ v;
       steps = Decided (inl (λ u. let z : None ≡ Some b = ap answer_of (sym u) ∙ a in cc)) refl (λ _. refl);
-      told = let z : 0 ≡ s.ledger.steps - s.ledger.steps = omega arith in subst (λ n. TellsMore n s.told s.told) z (tells-nothing s.told);
-      adds = begins-nothing s.ledger.settings.reduce_locals_interval s.ledger.steps (s.ledger.steps - s.ledger.steps - 1) s.told _ (omega arith);
+      logged = let z : 0 ≡ s.ledger.steps - s.ledger.steps = omega arith in subst (λ n. LogsMore n s.logged s.logged) z (logs-nothing s.logged);
+      adds = begins-nothing s.ledger.settings.reduce_locals_interval s.ledger.steps (s.ledger.steps - s.ledger.steps - 1) s.logged _ (omega arith);
       right = record {
         known = λ n. refl;
         answer = a;
         right = (st.fits v).1.right;
         ends = λ u. absurd (let z : None ≡ Some b = ap answer_of (sym u) ∙ a in cc);
-        refuted = told-refuted g s st v;
+        refuted = logged-refuted g s st v;
         core = λ list h. let (w, k) = st.fits v in core-not-empty w.identity (spaces g).model (spaces g).outcome s.verdict list h k.verdict;
       };
       rest = like-still s;
@@ -591,7 +591,7 @@ answered-false x (inl e) = ap answer_at e
 answered-false x (inr e) = ap answer_at e
 
 -- a copy of the core that is refused
-pub told-refused-core : {A : Type 0} (s t : State) (core : List Literal) (r : Result (Option (Vec Literal A)) AllocError) → IsErr r →
-    TellsList (calling.core s) s (Ok (Some core)) t → TellsList (calling.core s) s (told_list r) s
-told-refused-core s t core r h (inl (v, x), same) = tells-error (calling.core s) s core r h v x
-told-refused-core s t core r h (inr (v, x), same) = absurd cc
+pub logged-refused-core : {A : Type 0} (s t : State) (core : List Literal) (r : Result (Option (Vec Literal A)) AllocError) → IsErr r →
+    ReturnsList (by_state.core s) s (Ok (Some core)) t → ReturnsList (by_state.core s) s (returned_list r) s
+logged-refused-core s t core r h (inl (v, x), same) = logs-error (by_state.core s) s core r h v x
+logged-refused-core s t core r h (inr (v, x), same) = absurd cc

@@ -14,9 +14,9 @@ use Rattle.varisat_trace.specs.Traces.{TakesLines}
 use Rattle.varisat_trace.proofs.Traced.{step-lines}
 use Rattle.varisat_proof.specs.Calls.{CheckerState}
 use Rattle.varisat_proof.specs.Proving.{ProofParts}
-use Rattle.varisat_tracer.specs.Told.{told-none, told-more}
-use Rattle.varisat_tracer.specs.Tracing.{TracerState, TakesGlobally, CanTell}
-use Rattle.varisat_tracer.proofs.Telling.{tells-on}
+use Rattle.varisat_tracer.specs.Logged.{logged-none, logged-more}
+use Rattle.varisat_tracer.specs.Tracing.{TracerState, TakesGlobally, CanLog}
+use Rattle.varisat_tracer.proofs.Logging.{logs-on}
 use Rattle.varisat_names.specs.Variables.{Tables}
 use Rattle.varisat_names.specs.Settings.{Settings}
 use Rattle.varisat_search.specs.declared.context.Context.{Context}
@@ -33,14 +33,14 @@ use Rattle.varisat_search.proofs.DueReductions.{keeps-are}
 use Rattle.varisat_search.proofs.RestartSteps.{Begun, begun-view}
 use Rattle.varisat_search.proofs.SolverVariables.{in-use-all}
 use Rattle.varisat_solver.specs.Budgets.{CountsSteps}
-use Rattle.varisat_solver.specs.Calls.{calling, IsValid, Searched, TellsVerdict, IsSpent, CountsCall, answer_of, with_verdict, with_steps}
+use Rattle.varisat_solver.specs.Calls.{by_state, IsValid, Searched, ReturnsVerdict, IsSpent, CountsCall, answer_of, with_verdict, with_steps}
 use Rattle.varisat_solver.specs.declared.solver.SolverError.TheVariants.{Interrupted}
-use Rattle.varisat_proof.specs.Passing.{ToldConflict}
-use Rattle.varisat_solver.specs.Journals.{retold, TellsMore, TellsLeaving, BeginsInSteps}
+use Rattle.varisat_proof.specs.Passing.{LogsConflict}
+use Rattle.varisat_solver.specs.Journals.{with_entries, LogsMore, LogsRetired, BeginsInSteps}
 use Rattle.varisat_solver.specs.OpenProofs.{OpenProof, GoesOnWriting}
-use Rattle.varisat_solver.specs.Searches.{answer_at, TellsSome, Turn, turn_of, ComesTo, ComesOn, MakesNamedStep}
+use Rattle.varisat_solver.specs.Searches.{answer_at, LogsSome, Turn, turn_of, ComesTo, ComesOn, MakesNamedStep}
 use Rattle.varisat_solver.specs.Dropping.{IsCalm}
-use Rattle.varisat_solver.specs.StepEntries.{GoesOnInSteps, KeepsParts, GoesOnKeeping, TellsInSteps, HasStayed, SpeakOfAdded}
+use Rattle.varisat_solver.specs.StepEntries.{GoesOnInSteps, KeepsParts, GoesOnKeeping, LogsInSteps, HasStayed, SpeakOfAdded}
 use Rattle.varisat_solver.proofs.StepEntries.{keeps-all, keeping-nothing, keeping-through, keeping-leaving, no-steps, one-more-step, added-append, added-wider, leaving-added, leaving-derived}
 use Rattle.varisat_solver.proofs.SolveVerdict.{LinesInSteps}
 use Rattle.varisat_solver.specs.Spaces.{Spaces, translation, VerdictFits, SpacesFit}
@@ -51,18 +51,18 @@ use Rattle.varisat_solver.proofs.AcceptClause.{ledger-free, proof-free, words-fr
 use Rattle.varisat_solver.proofs.ModelsFit.{is-sat, is-unknown}
 use Rattle.varisat_solver.proofs.OpenProofs.{barred-before}
 use Rattle.varisat_solver.proofs.TableMarks.{assumed-named}
-use Rattle.varisat_solver.proofs.ToldProofs.{proof-quiet, proof-through}
+use Rattle.varisat_solver.proofs.LoggedProofs.{proof-quiet, proof-through}
 use Rattle.varisat_solver.proofs.SearchVerdicts.{kept-on, right-false}
 use Rattle.varisat_solver.proofs.BegunSteps.{begins-nothing, begins-one-more}
-use Rattle.varisat_solver.proofs.SolverCalls.{comes-made, answers-fit, unsat-told, core-not-empty}
-use Rattle.varisat_solver.proofs.ToldEntries.{stays-nothing, ends-through, ends-derived, derived-ends}
+use Rattle.varisat_solver.proofs.SolverCalls.{comes-made, answers-fit, unsat-logged, core-not-empty}
+use Rattle.varisat_solver.proofs.LoggedEntries.{stays-nothing, ends-through, ends-derived, derived-ends}
 use Rattle.varisat_proof.specs.Assumed.{lists_of}
 use Rattle.varisat_solver.proofs.VariableMoves.{same-in-use}
 
 -- 1. In turn.
 
-further-told : (n m k : ℕ) (a b c : List Entry) → n + m ≡ k → TellsMore n a b → TellsMore m b c → TellsMore k a c
-further-told n m k a b c sum s t = record {
+further-logged : (n m k : ℕ) (a b c : List Entry) → n + m ≡ k → LogsMore n a b → LogsMore m b c → LogsMore k a c
+further-logged n m k a b c sum s t = record {
   entries = s.entries ++ t.entries;
   joined = t.joined ∙ ap (λ xs. xs ++ t.entries) s.joined ∙ append_assoc a s.entries t.entries;
   goes = subst (λ j. GoesOn j a (s.entries ++ t.entries)) sum
@@ -96,36 +96,36 @@ pub comes-nowhere : (at : Turn) (n : ℕ) (s : State) (p : ProofParts) (after : 
     ComesTo at n s p p after
 comes-nowhere at n s p after e u f = record {
   verdict = s.verdict;
-  told = s.told;
-  more = record { entries = []; joined = sym (append-nil s.told); goes = subst (λ j. GoesOn j s.told []) (sym e) (λ held d. (held, refl)) };
-  adds = λ _. subst (λ j. TellsInSteps at.interval at.number j s.told []) (sym e) (λ due. keeping-nothing s.told);
+  logged = s.logged;
+  more = record { entries = []; joined = sym (append-nil s.logged); goes = subst (λ j. GoesOn j s.logged []) (sym e) (λ held d. (held, refl)) };
+  adds = λ _. subst (λ j. LogsInSteps at.interval at.number j s.logged []) (sym e) (λ due. keeping-nothing s.logged);
   stayed = λ _. tt;
-  begins = begins-nothing at.interval at.number (n - 1) s.told [] (omega (arith, e));
+  begins = begins-nothing at.interval at.number (n - 1) s.logged [] (omega (arith, e));
   ends = derived-ends [] s.verdict u tt;
-  proof = proof-quiet s.variables s.told p;
+  proof = proof-quiet s.variables s.logged p;
   fits = f;
 }
 
 -- More is told, and then what comes of that: one part of a step after another.
 pub comes-through : (at : Turn) (p q r : ProofParts) (before mid last : Spaces) → ((t : State) → SpacesFit mid t → t.verdict ≡ Unknown) →
     ComesOn at 0 before mid p q → ComesOn at 0 mid last q r → ComesOn at 0 before last p r
-unfolding further-told
+unfolding further-logged
 comes-through at p q r before mid last unknown first second s fit =
     let a = first s fit in
-    let t = retold a.told (with_verdict a.verdict s) in
+    let t = with_entries a.logged (with_verdict a.verdict s) in
     let b = second t a.fits in
     let es = a.more.entries in
     let more = b.more.entries in
     let was = unknown t a.fits in
     record {
       verdict = b.verdict;
-      told = b.told;
-      more = further-told 0 0 0 s.told a.told b.told refl a.more b.more;
-      adds = λ e due. keeping-through s.told es more (a.adds was due) (subst (λ xs. GoesOnKeeping xs more) a.more.joined (b.adds e due));
-      stayed = λ e. added-through s.told a.told es more a.more.joined (a.stayed was) (b.stayed e);
-      begins = begins-nothing at.interval at.number (0 - 1) s.told (es ++ more) (omega arith);
+      logged = b.logged;
+      more = further-logged 0 0 0 s.logged a.logged b.logged refl a.more b.more;
+      adds = λ e due. keeping-through s.logged es more (a.adds was due) (subst (λ xs. GoesOnKeeping xs more) a.more.joined (b.adds e due));
+      stayed = λ e. added-through s.logged a.logged es more a.more.joined (a.stayed was) (b.stayed e);
+      begins = begins-nothing at.interval at.number (0 - 1) s.logged (es ++ more) (omega arith);
       ends = ends-through es more b.verdict (ends-derived es a.verdict was a.ends) b.ends;
-      proof = proof-through s.variables s.told a.told b.told p q r a.proof b.proof;
+      proof = proof-through s.variables s.logged a.logged b.logged p q r a.proof b.proof;
       fits = b.fits;
     }
 
@@ -133,52 +133,52 @@ comes-through at p q r before mid last unknown first second s fit =
 pub comes-one-more : (at : Turn) (n k : ℕ) (p q r : ProofParts) (before mid last : Spaces) → n + 1 ≡ k →
     ((t : State) → SpacesFit mid t → t.verdict ≡ Unknown) → ComesOn at n before mid p q → ComesOn (later n at) 1 mid last q r →
     ComesOn at k before last p r
-unfolding further-told
+unfolding further-logged
 comes-one-more at n k p q r before mid last sum unknown first second s fit =
     let a = first s fit in
-    let t = retold a.told (with_verdict a.verdict s) in
+    let t = with_entries a.logged (with_verdict a.verdict s) in
     let b = second t a.fits in
     let es = a.more.entries in
     let more = b.more.entries in
     let was = unknown t a.fits in
     record {
       verdict = b.verdict;
-      told = b.told;
-      more = further-told n 1 k s.told a.told b.told sum a.more b.more;
-      adds = λ e. one-more-step at.interval at.number n k s.told es more sum a.more.goes (a.adds was)
+      logged = b.logged;
+      more = further-logged n 1 k s.logged a.logged b.logged sum a.more b.more;
+      adds = λ e. one-more-step at.interval at.number n k s.logged es more sum a.more.goes (a.adds was)
           (subst (λ xs. SpeakOfAdded (HasStayed xs) more) a.more.joined (b.stayed e))
-          (subst (λ xs. TellsInSteps at.interval (at.number + n) 1 xs more) a.more.joined (b.adds e));
-      stayed = λ e. added-through s.told a.told es more a.more.joined (a.stayed was) (b.stayed e);
-      begins = begins-one-more at.interval at.number n k s.told es more sum (a.adds was);
+          (subst (λ xs. LogsInSteps at.interval (at.number + n) 1 xs more) a.more.joined (b.adds e));
+      stayed = λ e. added-through s.logged a.logged es more a.more.joined (a.stayed was) (b.stayed e);
+      begins = begins-one-more at.interval at.number n k s.logged es more sum (a.adds was);
       ends = ends-through es more b.verdict (ends-derived es a.verdict was a.ends) b.ends;
-      proof = proof-through s.variables s.told a.told b.told p q r a.proof b.proof;
+      proof = proof-through s.variables s.logged a.logged b.logged p q r a.proof b.proof;
       fits = b.fits;
     }
 
 -- variables leave, and what is gone is told
 pub leaving-comes : (at : Turn) (p q : ProofParts) (before after : Spaces) → ((s : State) → SpacesFit before s → s.verdict ≡ Unknown) →
-    ((s : State) → SpacesFit before s → (told : List Entry) × TellsLeaving s.variables s.told told p q × SpacesFit after (retold told s)) →
+    ((s : State) → SpacesFit before s → (logged : List Entry) × LogsRetired s.variables s.logged logged p q × SpacesFit after (with_entries logged s)) →
     ComesOn at 0 before after p q
 leaving-comes at p q before after unknown leave s fit =
-    let (told, t, f) = leave s fit in
+    let (logged, t, f) = leave s fit in
     record {
       verdict = s.verdict;
-      told = told;
+      logged = logged;
       more = t.more;
-      adds = λ e due. keeping-leaving s.told t.more.entries t.leaving;
-      stayed = λ e. leaving-added (HasStayed s.told) t.more.entries t.leaving;
-      begins = begins-nothing at.interval at.number (0 - 1) s.told t.more.entries (omega arith);
+      adds = λ e due. keeping-leaving s.logged t.more.entries t.leaving;
+      stayed = λ e. leaving-added (HasStayed s.logged) t.more.entries t.leaving;
+      begins = begins-nothing at.interval at.number (0 - 1) s.logged t.more.entries (omega arith);
       ends = derived-ends t.more.entries s.verdict (unknown s fit) (leaving-derived t.more.entries t.leaving);
       proof = t.proof;
       fits = f;
     }
 
 -- the same of the proof alone
-pub some-none : (p : ProofParts) → TellsSome p p
-some-none p = ([], told-none p)
+pub some-none : (p : ProofParts) → LogsSome p p
+some-none p = ([], logged-none p)
 
-pub some-through : (p q r : ProofParts) → TellsSome p q → TellsSome q r → TellsSome p r
-some-through p q r (first, h) (second, k) = (first ++ second, told-more p q r first second h k)
+pub some-through : (p q r : ProofParts) → LogsSome p q → LogsSome q r → LogsSome p r
+some-through p q r (first, h) (second, k) = (first ++ second, logged-more p q r first second h k)
 
 -- 2. Parts of a step.
 
@@ -252,15 +252,15 @@ begins-any x z b = record {
   rest = b.rest;
 }
 
-pub begin-told : {A : Type 0} (p q : TracerState) (x z : Context A) → BeginsStep (λ lines. TakesLines TakesGlobally p lines q) x z → TellsSome p.proof q.proof
-begin-told p q x z b = let (lines, k, (r, takes)) = b.reduces.proves in (_, takes.told)
+pub begin-logged : {A : Type 0} (p q : TracerState) (x z : Context A) → BeginsStep (λ lines. TakesLines TakesGlobally p lines q) x z → LogsSome p.proof q.proof
+begin-logged p q x z b = let (lines, k, (r, takes)) = b.reduces.proves in (_, takes.logged)
 
 pub begin-tables : {A : Type 0} (p q : TracerState) (x z : Context A) → BeginsStep (λ lines. TakesLines TakesGlobally p lines q) x z → q.tables ≡ p.tables
 begin-tables p q x z b = let (lines, k, (r, takes)) = b.reduces.proves in takes.tables
 
-pub begin-tells : {A : Type 0} (p q : TracerState) (x z : Context A) → BeginsStep (λ lines. TakesLines TakesGlobally p lines q) x z →
-    CanTell p.proof → CanTell q.proof
-begin-tells p q x z b t = let (lines, k, (r, takes)) = b.reduces.proves in tells-on p q _ takes t
+pub begin-logs : {A : Type 0} (p q : TracerState) (x z : Context A) → BeginsStep (λ lines. TakesLines TakesGlobally p lines q) x z →
+    CanLog p.proof → CanLog q.proof
+begin-logs p q x z b t = let (lines, k, (r, takes)) = b.reduces.proves in logs-on p q _ takes t
 
 pub begin-comes : {A : Type 0} (p q : TracerState) (x z : Context A) → IsKept p.tables x → z.schedule.steps ≡ x.schedule.steps →
     BeginsStep (λ lines. TakesLines TakesGlobally p lines q) x z →
@@ -321,10 +321,10 @@ module _ {A : Type 0} {at : Turn} {n : ℕ} {s : State} {p q : ProofParts} (m : 
   comes-right : HasRightVerdict (with_verdict c.verdict s)
   comes-right = let (w, k) = c.fits in k.right
 
-  comes-refuted : c.verdict ≡ Unsat → ToldConflict c.told
-  comes-refuted e = let (w, k) = c.fits in unsat-told w.identity (spaces_with m q.checker y).model
-      (translation w (spaces_with m q.checker y) c.told) (spaces_with m q.checker y).search.fixed k.holds.held
-      (spaces_with m q.checker y).outcome c.verdict e k.verdict k.holds.told
+  comes-refuted : c.verdict ≡ Unsat → LogsConflict c.logged
+  comes-refuted e = let (w, k) = c.fits in unsat-logged w.identity (spaces_with m q.checker y).model
+      (translation w (spaces_with m q.checker y) c.logged) (spaces_with m q.checker y).search.fixed k.holds.held
+      (spaces_with m q.checker y).outcome c.verdict e k.verdict k.holds.logged
 
   pub comes-satisfiable : y.solver_state.sat_state ≡ verdict.Sat → IsSatisfiableWith s.clauses s.assumptions
   comes-satisfiable e =
@@ -338,19 +338,19 @@ module _ {A : Type 0} {at : Turn} {n : ℕ} {s : State} {p q : ProofParts} (m : 
   comes-unsatisfiable e = right-false s.clauses s.assumptions s.counted c.verdict (comes-answer ∙ e) comes-right
 
 -- where steps were made, what is told is told in steps
-moved-steps : (interval number k : ℕ) (told es : List Entry) → (k ≡ 0 → ⊥) → TellsInSteps interval number k told es → GoesOnInSteps interval number k told es
-moved-steps interval number zero told es n a = absurd (n refl)
-moved-steps interval number (suc k) told es n a = a
+moved-steps : (interval number k : ℕ) (logged es : List Entry) → (k ≡ 0 → ⊥) → LogsInSteps interval number k logged es → GoesOnInSteps interval number k logged es
+moved-steps interval number zero logged es n a = absurd (n refl)
+moved-steps interval number (suc k) logged es n a = a
 
 -- the state once a verdict was found or none, more was told, an open proof has more bytes and the clause store another size
 abbrev pub after-solve : List Entry → Verdict → ℕ → Option OpenProof → ℕ → State → State
-after-solve told v n proof words s = record s
-    { verdict = v; ledger = record s.ledger { steps = n; since = s.ledger.since + (n - s.ledger.steps) }; told = told; proof = proof; words = words }
+after-solve logged v n proof words s = record s
+    { verdict = v; ledger = record s.ledger { steps = n; since = s.ledger.since + (n - s.ledger.steps) }; logged = logged; proof = proof; words = words }
 
 -- what two flags say of it
-pub flags-after : (s : State) (told : List Entry) (v : Verdict) (n : ℕ) (now : Option OpenProof) (words : ℕ) → FlagsFit s → lists_of told ≡ lists_of s.told →
-    GoesOnWriting s.proof now → FlagsFit (after-solve told v n now words s)
-flags-after s told v n now words f m g = record {
+pub flags-after : (s : State) (logged : List Entry) (v : Verdict) (n : ℕ) (now : Option OpenProof) (words : ℕ) → FlagsFit s → lists_of logged ≡ lists_of s.logged →
+    GoesOnWriting s.proof now → FlagsFit (after-solve logged v n now words s)
+flags-after s logged v n now words f m g = record {
   clauses = f.clauses;
   assumptions = f.assumptions;
   counted = f.counted;
@@ -360,14 +360,14 @@ flags-after s told v n now words f m g = record {
 
 module _ {A : Type 0} {at : Turn} {k : ℕ} {s : State} {p q : ProofParts} (m : Tables) (y : Context A) (c : ComesTo at k s p q (spaces_with m q.checker y))
     (n : ℕ) (now : Option OpenProof) (words : ℕ) where
-  pub comes-fits : SpacesFit (spaces_with m q.checker y) (after-solve c.told c.verdict n now words s)
+  pub comes-fits : SpacesFit (spaces_with m q.checker y) (after-solve c.logged c.verdict n now words s)
   comes-fits =
       let (w, l) = c.fits in
-      let u = after-solve c.told c.verdict n now words s in (
+      let u = after-solve c.logged c.verdict n now words s in (
         w,
-        ledger-free w (spaces_with m q.checker y) (record s { verdict = c.verdict; told = c.told; proof = now; words = words }) u.ledger
-            (words-free w (spaces_with m q.checker y) (record s { verdict = c.verdict; told = c.told; proof = now }) words
-            (proof-free w (spaces_with m q.checker y) (retold c.told (with_verdict c.verdict s)) now l)),
+        ledger-free w (spaces_with m q.checker y) (record s { verdict = c.verdict; logged = c.logged; proof = now; words = words }) u.ledger
+            (words-free w (spaces_with m q.checker y) (record s { verdict = c.verdict; logged = c.logged; proof = now }) words
+            (proof-free w (spaces_with m q.checker y) (with_entries c.logged (with_verdict c.verdict s)) now l)),
       )
 
   -- the steps are numbered as the state counts them
@@ -377,14 +377,14 @@ module _ {A : Type 0} {at : Turn} {k : ℕ} {s : State} {p q : ProofParts} (m : 
   pub comes-verdict : (b : Bool) → IsValid s → s.verdict ≡ Unknown → IsTurnOf →
       CountsSteps (length s.counted) s.ledger.settings.max_steps s.ledger.since s.ledger.steps n (Ok b) →
       answer_at y.solver_state.sat_state ≡ Some b → k ≡ n - s.ledger.steps → GoesOnWriting s.proof now →
-      TellsVerdict calling s b (after-solve c.told c.verdict n now words s)
+      ReturnsVerdict by_state s b (after-solve c.logged c.verdict n now words s)
   comes-verdict b valid was turn counts answer made grows = record {
     valid = valid;
     steps = Searched was counts;
-    told = record { entries = c.more.entries; joined = c.more.joined; goes = subst (λ j. GoesOn j s.told c.more.entries) made c.more.goes };
-    adds = subst (λ i. BeginsInSteps i s.ledger.steps (n - s.ledger.steps - 1) s.told c.more.entries) turn.0
-        (subst (λ j. BeginsInSteps at.interval j (n - s.ledger.steps - 1) s.told c.more.entries) turn.1
-        (subst (λ j. BeginsInSteps at.interval at.number (j - 1) s.told c.more.entries) made c.begins));
+    logged = record { entries = c.more.entries; joined = c.more.joined; goes = subst (λ j. GoesOn j s.logged c.more.entries) made c.more.goes };
+    adds = subst (λ i. BeginsInSteps i s.ledger.steps (n - s.ledger.steps - 1) s.logged c.more.entries) turn.0
+        (subst (λ j. BeginsInSteps at.interval j (n - s.ledger.steps - 1) s.logged c.more.entries) turn.1
+        (subst (λ j. BeginsInSteps at.interval at.number (j - 1) s.logged c.more.entries) made c.begins));
     right = record {
       known = λ z. absurd (z was);
       answer = comes-answer m y c ∙ answer;
@@ -394,42 +394,42 @@ module _ {A : Type 0} {at : Turn} {k : ℕ} {s : State} {p q : ProofParts} (m : 
       core = λ list e. let (w, l) = c.fits in
           core-not-empty w.identity (spaces_with m q.checker y).model (spaces_with m q.checker y).outcome c.verdict list e l.verdict;
     };
-    rest = like-grown (after-solve c.told c.verdict n s.proof s.words s) now words grows;
+    rest = like-grown (after-solve c.logged c.verdict n s.proof s.words s) now words grows;
   }
 
   pub comes-interrupted : IsValid s → s.verdict ≡ Unknown → IsTurnOf → CountsSteps
       (length s.counted) s.ledger.settings.max_steps s.ledger.since s.ledger.steps n (Err Interrupted) → c.verdict ≡ Unknown →
-      k ≡ n - s.ledger.steps → (n ≡ s.ledger.steps → ⊥) → GoesOnWriting s.proof now → IsSpent calling s (after-solve c.told c.verdict n now words s)
+      k ≡ n - s.ledger.steps → (n ≡ s.ledger.steps → ⊥) → GoesOnWriting s.proof now → IsSpent by_state s (after-solve c.logged c.verdict n now words s)
   comes-interrupted valid was turn counts unknown made moved grows = record {
     valid = valid;
     unknown = was;
     steps = counts;
     rest = record {
-      same = same-by (retold c.told (with_verdict s.verdict (with_steps n s))) (after-solve c.told c.verdict n now words s) refl refl refl refl refl
+      same = same-by (with_entries c.logged (with_verdict s.verdict (with_steps n s))) (after-solve c.logged c.verdict n now words s) refl refl refl refl refl
           (unknown ∙ sym was) refl;
-      told = (stays-nothing c.told).0;
-      derived = (stays-nothing c.told).2;
-      stays = λ _. (stays-nothing c.told).1;
+      logged = (stays-nothing c.logged).0;
+      derived = (stays-nothing c.logged).2;
+      stays = λ _. (stays-nothing c.logged).1;
       alike = refl;
       proof = grows;
     };
     variables = refl;
-    told = record {
+    logged = record {
       entries = c.more.entries;
       joined = c.more.joined;
-      goes = subst (λ j. GoesOn j s.told c.more.entries) made c.more.goes;
+      goes = subst (λ j. GoesOn j s.logged c.more.entries) made c.more.goes;
     };
-    adds = subst (λ i. GoesOnInSteps i s.ledger.steps (n - s.ledger.steps) s.told c.more.entries) turn.0
-        (subst (λ j. GoesOnInSteps at.interval j (n - s.ledger.steps) s.told c.more.entries) turn.1
-        (moved-steps at.interval at.number (n - s.ledger.steps) s.told c.more.entries
+    adds = subst (λ i. GoesOnInSteps i s.ledger.steps (n - s.ledger.steps) s.logged c.more.entries) turn.0
+        (subst (λ j. GoesOnInSteps at.interval j (n - s.ledger.steps) s.logged c.more.entries) turn.1
+        (moved-steps at.interval at.number (n - s.ledger.steps) s.logged c.more.entries
         (λ z. absurd (moved (let low = counts.count in omega (arith, z, low))))
-        (subst (λ j. TellsInSteps at.interval at.number j s.told c.more.entries) made (c.adds unknown))));
+        (subst (λ j. LogsInSteps at.interval at.number j s.logged c.more.entries) made (c.adds unknown))));
     derived = ends-derived c.more.entries c.verdict unknown c.ends;
     still = λ e. absurd (moved e);
   }
 
 -- no step could be made
-pub interrupted-still : (s : State) → IsValid s → s.verdict ≡ Unknown → CountsCall s (Err Interrupted) s → IsSpent calling s s
+pub interrupted-still : (s : State) → IsValid s → s.verdict ≡ Unknown → CountsCall s (Err Interrupted) s → IsSpent by_state s s
 interrupted-still s valid was counts =
     let none : 0 ≡ s.ledger.steps - s.ledger.steps = omega arith in
     record {
@@ -438,9 +438,9 @@ interrupted-still s valid was counts =
       steps = counts;
       rest = like-still s;
       variables = refl;
-      told = record { entries = []; joined = sym (append-nil s.told); goes = subst (λ j. GoesOn j s.told []) none (λ held d. (held, refl)) };
-      adds = subst (λ j. GoesOnInSteps s.ledger.settings.reduce_locals_interval s.ledger.steps j s.told []) none
-          (no-steps s.ledger.settings.reduce_locals_interval s.ledger.steps s.told);
+      logged = record { entries = []; joined = sym (append-nil s.logged); goes = subst (λ j. GoesOn j s.logged []) none (λ held d. (held, refl)) };
+      adds = subst (λ j. GoesOnInSteps s.ledger.settings.reduce_locals_interval s.ledger.steps j s.logged []) none
+          (no-steps s.ledger.settings.reduce_locals_interval s.ledger.steps s.logged);
       derived = tt;
       still = λ e. refl;
     }

@@ -169,8 +169,8 @@ module _ {A : Type 0} (checker : Option CheckerState) (l : Literal) (x : ℕ) (o
   abbrev counting : State
   counting = count (join_counted n.counted (map variable_of (map (through_names n.naming) (l ∷ [])))) n
 
-  nothing-told : HasNoModel (summary old)
-  nothing-told = no-model (view old.context) old.context.assumptions.failed_core old.context.solver_state.sat_state none
+  nothing-logged : HasNoModel (summary old)
+  nothing-logged = no-model (view old.context) old.context.assumptions.failed_core old.context.solver_state.sat_state none
 
   counted-at : (y : Searched A) → at y.tables.users.forward (variable_of l) ≡ Some x → SpacesFit (spaces (summary y)) n →
       SpacesFit (spaces (summary y)) counting
@@ -187,7 +187,7 @@ module _ {A : Type 0} (checker : Option CheckerState) (l : Literal) (x : ℕ) (o
       let named = links.names.agree (variable_of l) ∙ chain-some (at old.tables.users.forward) w.identity (variable_of l) x leads ∙ is in
       let spoken = subst (λ j. j ∈ counting.counted) (carry-at n.naming.names l i named)
       (join-has (map variable_of (map (through_names n.naming) (l ∷ []))) n.counted (variable_of (through_names n.naming l)) (inl refl)) in
-      let taken = taken-one (summary old) counting new.tables x v i w links nothing-told unit is spoken left t in
+      let taken = taken-one (summary old) counting new.tables x v i w links nothing-logged unit is spoken left t in
       let few = ⊎_elim
       (λ same. let j = taken.1.few in omega (arith, j, after.count, same, before))
       (λ full. let j = solvers-few taken.0 (spaces (with_tables new.tables (summary old))) counting
@@ -195,7 +195,7 @@ module _ {A : Type 0} (checker : Option CheckerState) (l : Literal) (x : ℕ) (o
       (taken-full old.tables new.tables x v t) in
       subst (λ (a : AssumptionParts). SpacesFit (spaces_of new.tables checker (view new.context) a old.context.solver_state.sat_state) counting)
       (sym k.assumptions)
-      (raised (with_tables new.tables (summary old)) counting (view new.context) taken nothing-told k.seen few)
+      (raised (with_tables new.tables (summary old)) counting (view new.context) taken nothing-logged k.seen few)
   case-spaces (CameBack b left t unit k) f =
       let back = returned (summary old) n new.tables x v b (view new.context) new.context.assumptions (record {
         no_model = none;

@@ -18,7 +18,7 @@ use Rattle.varisat_literals.specs.Numbers.{polarity_of}
 use Rattle.varisat_names.proofs.Maps.{inverse-same}
 use Rattle.varisat_solver.specs.Names.{Mode, identity_of}
 use Rattle.varisat_solver.specs.Carried.{is_value, is_forced}
-use Rattle.varisat_proof.specs.Passing.{ToldConflict}
+use Rattle.varisat_proof.specs.Passing.{LogsConflict}
 use Rattle.varisat_theory.specs.Outcomes as outcome
 
 -- What the parts of a call do to the spaces, and to the state.
@@ -159,14 +159,14 @@ working-same P id id' as' ws a f =
       implied = λ x m t. f.implied x m (subst (MakesTrue x) (sym same) t);
     }
 
-pub core-same : (ns ns' : ℕ → Option ℕ) (told : List Literal) (v : Verdict) → ((u i : ℕ) → ns u ≡ Some i → ns' u ≡ Some i) → CoreFits ns told v →
-    CoreFits ns' told v
-core-same ns ns' told Unknown m f = tt
-core-same ns ns' told (Sat a) m f = tt
-core-same ns ns' told Unsat m f = tt
-core-same ns ns' told (UnsatUnderAssumptions core) m (named, e) = (
+pub core-same : (ns ns' : ℕ → Option ℕ) (logged : List Literal) (v : Verdict) → ((u i : ℕ) → ns u ≡ Some i → ns' u ≡ Some i) → CoreFits ns logged v →
+    CoreFits ns' logged v
+core-same ns ns' logged Unknown m f = tt
+core-same ns ns' logged (Sat a) m f = tt
+core-same ns ns' logged Unsat m f = tt
+core-same ns ns' logged (UnsatUnderAssumptions core) m (named, e) = (
   λ l h. let (i, q) = named l h in (i, m (variable_of l) i q),
-  e ∙ map-same (carry ns) (carry ns') told (λ l h. let (i, q) = named l h in carry-same ns ns' l (q ∙ sym (m (variable_of l) i q))),
+  e ∙ map-same (carry ns) (carry ns') logged (λ l h. let (i, q) = named l h in carry-same ns ns' l (q ∙ sym (m (variable_of l) i q))),
 )
 
 pub verdict-moved : (id id' : ℕ → Option ℕ) (m m' : ℕ → Bool) (o : Outcome) (v : Verdict) →
@@ -229,7 +229,7 @@ settled-alike r r' fixed same forced = settled-through r r' fixed fixed
 
 pub shares-same : {fixed : List Literal} (r r' : Translation) (share : List Clause) → ((x : ℕ) → r'.identity x ≡ r.identity x) →
     ((i : ℕ) → r'.forced i ≡ r.forced i) → ((i x : ℕ) (b : Bool) → r.forced i ≡ Some b → r'.global i ≡ Some x → (y : ℕ) × (r.global i ≡ Some y)) →
-    ((i x : ℕ) → r.global i ≡ Some x → (y : ℕ) × (r'.global i ≡ Some y)) → r'.told ≡ r.told → SharesHeld r fixed share → SharesHeld r' fixed share
+    ((i x : ℕ) → r.global i ≡ Some x → (y : ℕ) × (r'.global i ≡ Some y)) → r'.logged ≡ r.logged → SharesHeld r fixed share → SharesHeld r' fixed share
 shares-same r r' share a f g still n q = record {
   held = q.held;
   led = subst (λ es. Leads [] es q.held) (sym n) q.led;
@@ -242,13 +242,13 @@ shares-same r r' share a f g still n q = record {
   settled = λ c h. settled-alike r r' _ a f c (q.settled c h);
 }
 
-pub told-same : (r r' : Translation) (fixed : List Literal) (share : List Clause) (v : Outcome) → ((x : ℕ) → r'.identity x ≡ r.identity x) →
+pub logged-same : (r r' : Translation) (fixed : List Literal) (share : List Clause) (v : Outcome) → ((x : ℕ) → r'.identity x ≡ r.identity x) →
     ((i : ℕ) → r'.forced i ≡ r.forced i) → ((i x : ℕ) (b : Bool) → r.forced i ≡ Some b → r'.global i ≡ Some x → (y : ℕ) × (r.global i ≡ Some y)) →
-    ((i x : ℕ) → r.global i ≡ Some x → (y : ℕ) × (r'.global i ≡ Some y)) → r'.told ≡ r.told → HeldFits r fixed share v → HeldFits r' fixed share v
-told-same r r' fixed share outcome.Unknown a f g still n q = shares-same r r' share a f g still n q
-told-same r r' fixed share (outcome.Sat found) a f g still n q = shares-same r r' share a f g still n q
-told-same r r' fixed share outcome.Unsat a f g still n q = subst ToldConflict (sym n) q
-told-same r r' fixed share (outcome.UnsatUnder core) a f g still n q = shares-same r r' share a f g still n q
+    ((i x : ℕ) → r.global i ≡ Some x → (y : ℕ) × (r'.global i ≡ Some y)) → r'.logged ≡ r.logged → HeldFits r fixed share v → HeldFits r' fixed share v
+logged-same r r' fixed share outcome.Unknown a f g still n q = shares-same r r' share a f g still n q
+logged-same r r' fixed share (outcome.Sat found) a f g still n q = shares-same r r' share a f g still n q
+logged-same r r' fixed share outcome.Unsat a f g still n q = subst LogsConflict (sym n) q
+logged-same r r' fixed share (outcome.UnsatUnder core) a f g still n q = shares-same r r' share a f g still n q
 
 pub holds-same : (P : List Clause) (r r' : Translation) (s : Search) (v : Outcome) → ((x : ℕ) → r'.identity x ≡ r.identity x) →
     ((i : ℕ) → r'.forced i ≡ r.forced i) → ((share : List Clause) → HeldFits r s.fixed share v → HeldFits r' s.fixed share v) →
@@ -264,5 +264,5 @@ holds-same P r r' s v a f n h =
       fixed = λ o l i e g. h.fixed o l i (sym (a (variable_of l)) ∙ e) (sym (f i) ∙ g);
       covered = λ o c i. covered-same s (carry r.identity) (carry r'.identity) (is_forced r.forced) (is_forced r'.forced) c (λ l j. to l)
           (λ d l j w. to l) (λ l e. ap (λ y. is_value y (polarity_of l)) (f (variable_of l)) ∙ e) (h.covered o c i);
-      told = n h.held h.told;
+      logged = n h.held h.logged;
     }

@@ -13,7 +13,7 @@ use Rattle.varisat_theory.proofs.Members.{∈-append_left, ∈-append_right, ∈
 use Rattle.varisat_theory.proofs.Journals.{leads_append, leads_cut, leads_same, by_leads, leads_unique}
 use Rattle.varisat_theory.proofs.StepCounts.{new_same, among_same}
 use Rattle.varisat_solver.specs.Journals.{AreDerived, AreLeaving}
-use Rattle.varisat_solver.specs.StepEntries.{LeadsInStep, LeadsInSteps, GoesOnInSteps, KeepsParts, GoesOnKeeping, TellsInSteps, HasStayed, SpeakOfAdded}
+use Rattle.varisat_solver.specs.StepEntries.{LeadsInStep, LeadsInSteps, GoesOnInSteps, KeepsParts, GoesOnKeeping, LogsInSteps, HasStayed, SpeakOfAdded}
 
 -- 1. Clauses of which a part is kept.
 
@@ -30,13 +30,13 @@ keeps-through es fs P Q R f g c h =
     (λ (l, i, x). inr (l, i, ∈-append_left (Leaves (variable_of l)) es fs x))
     (f c h)
 
-pub keeping-through : (told es fs : List Entry) → GoesOnKeeping told es → GoesOnKeeping (told ++ es) fs → GoesOnKeeping told (es ++ fs)
-keeping-through told es fs g h held after d e =
+pub keeping-through : (logged es fs : List Entry) → GoesOnKeeping logged es → GoesOnKeeping (logged ++ es) fs → GoesOnKeeping logged (es ++ fs)
+keeping-through logged es fs g h held after d e =
     let (mid, a, b) = leads_cut held es fs after e in
-    keeps-through es fs held mid after (g held mid d a) (h mid after (leads_append [] told held es mid d a) b)
+    keeps-through es fs held mid after (g held mid d a) (h mid after (leads_append [] logged held es mid d a) b)
 
-pub keeping-nothing : (told : List Entry) → GoesOnKeeping told []
-keeping-nothing told held after d e = subst (KeepsParts [] held) e (keeps-all held)
+pub keeping-nothing : (logged : List Entry) → GoesOnKeeping logged []
+keeping-nothing logged held after d e = subst (KeepsParts [] held) e (keeps-all held)
 
 -- a clause that does not mention the variable stays as it leaves
 stays-or-mentions : (v : ℕ) (P : List Clause) (c : Clause) → c ∈ P → (c ∈ without v P) ⊎ (mentions v c ≡ true)
@@ -92,8 +92,8 @@ leaving-keeps (Writes line ∷ es) a P Q d = absurd a
 leaving-keeps (Assumes list ∷ es) a P Q d = absurd a
 leaving-keeps (Fails core ∷ es) a P Q d = absurd a
 
-pub keeping-leaving : (told es : List Entry) → AreLeaving es → GoesOnKeeping told es
-keeping-leaving told es a held after d e = leaving-keeps es a held after e
+pub keeping-leaving : (logged es : List Entry) → AreLeaving es → GoesOnKeeping logged es
+keeping-leaving logged es a held after d e = leaving-keeps es a held after e
 
 -- 2. Steps in turn.
 
@@ -101,11 +101,11 @@ pub in-steps-adding : (interval number k : ℕ) (P : List Clause) (es : List Ent
 in-steps-adding interval number zero P es Q (e, d) = subst (λ xs. Leads P xs Q) (sym e) d
 in-steps-adding interval number (suc k) P es Q (first, last, R, e, a, n) = (first, last, R, e, in-steps-adding interval number k P first R a, n.adds)
 
-pub goes-adding : (interval number k : ℕ) (told es : List Entry) → GoesOnInSteps interval number k told es → GoesOnAdding k told es
-goes-adding interval number k told es g held d = let (after, a) = g held d in (after, in-steps-adding interval number k held es after a)
+pub goes-adding : (interval number k : ℕ) (logged es : List Entry) → GoesOnInSteps interval number k logged es → GoesOnAdding k logged es
+goes-adding interval number k logged es g held d = let (after, a) = g held d in (after, in-steps-adding interval number k held es after a)
 
-pub no-steps : (interval number : ℕ) (told : List Entry) → GoesOnInSteps interval number 0 told []
-no-steps interval number told held d = (held, (refl, refl))
+pub no-steps : (interval number : ℕ) (logged : List Entry) → GoesOnInSteps interval number 0 logged []
+no-steps interval number logged held d = (held, (refl, refl))
 
 pub in-steps-append : (interval number k m : ℕ) (P : List Clause) (es : List Entry) (Q : List Clause) (fs : List Entry) (R : List Clause) →
     LeadsInSteps interval number k P es Q → LeadsInSteps interval (number + k) m Q fs R → LeadsInSteps interval number (k + m) P (es ++ fs) R
@@ -121,12 +121,12 @@ in-steps-append interval number k (suc m) P es Q fs R a (first, last, S, e, b, n
     subst (λ j. LeadsInSteps interval number j P (es ++ fs) R) sum
     (es ++ first, last, S, split, in-steps-append interval number k m P es Q first S a b, subst (λ j. LeadsInStep interval j S last R) place n)
 
-pub steps-further : (interval number k m : ℕ) (told es fs : List Entry) → GoesOnInSteps interval number k told es →
-    GoesOnInSteps interval (number + k) m (told ++ es) fs → GoesOnInSteps interval number (k + m) told (es ++ fs)
-steps-further interval number k m told es fs g h held d =
+pub steps-further : (interval number k m : ℕ) (logged es fs : List Entry) → GoesOnInSteps interval number k logged es →
+    GoesOnInSteps interval (number + k) m (logged ++ es) fs → GoesOnInSteps interval number (k + m) logged (es ++ fs)
+steps-further interval number k m logged es fs g h held d =
     let (mid, a) = g held d in
     let leads = leads-of interval number k held es mid a in
-    let (last, b) = h mid (leads_append [] told held es mid d leads) in
+    let (last, b) = h mid (leads_append [] logged held es mid d leads) in
     (last, in-steps-append interval number k m held es mid fs last a b)
   where
     to-new : (P : List Clause) (es : List Entry) (Q : List Clause) → LeadsToNew P es Q → Leads P es Q
@@ -171,10 +171,10 @@ in-steps-same interval number (suc k) P P' es Q s (first, last, R, e, a, n) =
     (Q', (first, last, R', e, b, m), u)
 
 -- what is told leads to the same clauses, whichever of them stand for it
-pub goes-in-steps : (interval number k : ℕ) (told es : List Entry) (held after : List Clause) → Leads [] told held →
-    LeadsInSteps interval number k held es after → GoesOnInSteps interval number k told es
-goes-in-steps interval number k told es held after d a other f =
-    let (Q, g, _) = in-steps-same interval number k held other es after (leads_unique [] [] told held other refl d f) a in
+pub goes-in-steps : (interval number k : ℕ) (logged es : List Entry) (held after : List Clause) → Leads [] logged held →
+    LeadsInSteps interval number k held es after → GoesOnInSteps interval number k logged es
+goes-in-steps interval number k logged es held after d a other f =
+    let (Q, g, _) = in-steps-same interval number k held other es after (leads_unique [] [] logged held other refl d f) a in
     (Q, g)
 
 -- 3. A part of a step before its clause is added.
@@ -241,33 +241,33 @@ step-after interval number P es Q fs R d keeps spoken n =
           );
     }
 
-pub step-begun : (interval number : ℕ) (told es fs : List Entry) → GoesOn 0 told es → TellsInSteps interval number 0 told es →
-    SpeakOfAdded (HasStayed (told ++ es)) fs → TellsInSteps interval number 1 (told ++ es) fs → TellsInSteps interval number 1 told (es ++ fs)
-step-begun interval number told es fs g keeps spoken h held d =
+pub step-begun : (interval number : ℕ) (logged es fs : List Entry) → GoesOn 0 logged es → LogsInSteps interval number 0 logged es →
+    SpeakOfAdded (HasStayed (logged ++ es)) fs → LogsInSteps interval number 1 (logged ++ es) fs → LogsInSteps interval number 1 logged (es ++ fs)
+step-begun interval number logged es fs g keeps spoken h held d =
     let (mid, b) = g held d in
     let leads = by_leads 0 held es mid b in
-    let (last, (first, rest, S, e, (z, q), n)) = h mid (leads_append [] told held es mid d leads) in
+    let (last, (first, rest, S, e, (z, q), n)) = h mid (leads_append [] logged held es mid d leads) in
     let same : fs ≡ rest = e ∙ ap (λ xs. xs ++ rest) z in
     let place : number + 0 ≡ number = omega arith in
     let step : LeadsInStep interval number mid fs last =
     subst (λ j. LeadsInStep interval j mid fs last) place
     (subst (λ (X : List Clause). LeadsInStep interval (number + 0) X fs last) (sym q)
     (subst (λ (xs : List Entry). LeadsInStep interval (number + 0) S xs last) (sym same) n)) in
-    let stayed = added-wider (HasStayed (told ++ es)) (HasStayed es) fs (λ l f i. f (∈-append_right (Leaves (variable_of l)) told es i)) spoken in
+    let stayed = added-wider (HasStayed (logged ++ es)) (HasStayed es) fs (λ l f i. f (∈-append_right (Leaves (variable_of l)) logged es i)) spoken in
     let all = step-after interval number held es mid fs last leads (λ due. keeps due held mid d leads) stayed step in
     (last, ([], es ++ fs, held, refl, (refl, refl), subst (λ j. LeadsInStep interval j held (es ++ fs) last) (sym place) all))
 
 -- n steps were made, or a part of one, and then comes one more
-pub one-more-step : (interval number n k : ℕ) (told es fs : List Entry) → n + 1 ≡ k → GoesOn n told es → TellsInSteps interval number n told es →
-    SpeakOfAdded (HasStayed (told ++ es)) fs → TellsInSteps interval (number + n) 1 (told ++ es) fs → TellsInSteps interval number k told (es ++ fs)
-one-more-step interval number zero k told es fs e g a spoken b =
-    subst (λ j. TellsInSteps interval number j told (es ++ fs)) (let z : 1 ≡ k = omega (arith, e) in z)
-    (step-begun interval number told es fs g a spoken
-    (subst (λ j. TellsInSteps interval j 1 (told ++ es) fs) (let z : number + 0 ≡ number = omega arith in z) b))
-one-more-step interval number (suc n) k told es fs e g a spoken b =
-    let all : GoesOnInSteps interval number (suc n + 1) told (es ++ fs) = steps-further interval number (suc n) 1 told es fs a b in
-    subst (λ j. TellsInSteps interval number j told (es ++ fs)) (let z : suc (suc n) ≡ k = omega (arith, e) in z)
-    (subst (λ j. GoesOnInSteps interval number j told (es ++ fs)) (let z : suc n + 1 ≡ suc (suc n) = omega arith in z) all)
+pub one-more-step : (interval number n k : ℕ) (logged es fs : List Entry) → n + 1 ≡ k → GoesOn n logged es → LogsInSteps interval number n logged es →
+    SpeakOfAdded (HasStayed (logged ++ es)) fs → LogsInSteps interval (number + n) 1 (logged ++ es) fs → LogsInSteps interval number k logged (es ++ fs)
+one-more-step interval number zero k logged es fs e g a spoken b =
+    subst (λ j. LogsInSteps interval number j logged (es ++ fs)) (let z : 1 ≡ k = omega (arith, e) in z)
+    (step-begun interval number logged es fs g a spoken
+    (subst (λ j. LogsInSteps interval j 1 (logged ++ es) fs) (let z : number + 0 ≡ number = omega arith in z) b))
+one-more-step interval number (suc n) k logged es fs e g a spoken b =
+    let all : GoesOnInSteps interval number (suc n + 1) logged (es ++ fs) = steps-further interval number (suc n) 1 logged es fs a b in
+    subst (λ j. LogsInSteps interval number j logged (es ++ fs)) (let z : suc (suc n) ≡ k = omega (arith, e) in z)
+    (subst (λ j. GoesOnInSteps interval number j logged (es ++ fs)) (let z : suc n + 1 ≡ suc (suc n) = omega arith in z) all)
 
 -- 4. A step that adds a clause by its only line.
 

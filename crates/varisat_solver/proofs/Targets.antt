@@ -6,15 +6,15 @@ use Rattle.std.specs.declared.io.Error.{Error}
 use Rattle.varisat_theory.specs.Journals.{Entry}
 use Rattle.varisat_proof.specs.Lines.{ProofLine}
 use Rattle.varisat_proof.specs.declared.proof.format.Encoding.{Encoding}
-use Rattle.varisat_proof.specs.Proving.{OpenState, ProofParts, IsWrittenIf, IsBegunIf, Flushes, marked_searched, with_fault, told}
-use Rattle.varisat_tracer.specs.Told.{told-none, told-more, begun-none, begun-behind}
+use Rattle.varisat_proof.specs.Proving.{OpenState, ProofParts, IsWrittenIf, IsBegunIf, Flushes, marked_searched, with_fault, logged}
+use Rattle.varisat_tracer.specs.Logged.{logged-none, logged-more, begun-none, begun-behind}
 use Rattle.varisat_tracer.specs.Tracing.{BreaksProof}
 use Rattle.varisat_search.specs.StepErrors.{step_faults}
 use Rattle.varisat_search.specs.declared.error.StepError.{StepError}
 use Rattle.varisat_search.specs.declared.error.StepError.TheVariants as step
 use Rattle.varisat_solver.specs.Accepting.{ChecksNames}
-use Rattle.varisat_solver.specs.Refusals.{step_refusal, told_faults}
-use Rattle.varisat_solver.specs.Searches.{TellsSome}
+use Rattle.varisat_solver.specs.Refusals.{step_refusal, returned_faults}
+use Rattle.varisat_solver.specs.Searches.{LogsSome}
 use Rattle.varisat_solver.specs.Summaries.{Summary, EndsSearch, HasFullStore}
 use Rattle.varisat_solver.specs.Targets.{WritesAll, WritesUpTo, WritesOn}
 use Rattle.varisat_solver.specs.declared.solver.SolverError.{SolverError}
@@ -28,16 +28,16 @@ use Rattle.varisat_theory.specs.Literals.{Literal}
 abbrev alone : Option OpenState → ProofParts
 alone o = record { opened = o; checker = None }
 
-written-through : (o p q : Option OpenState) (first second : List Entry) → IsWrittenIf o (told first) p → IsWrittenIf p (told second) q →
-    IsWrittenIf o (told (first ++ second)) q
+written-through : (o p q : Option OpenState) (first second : List Entry) → IsWrittenIf o (logged first) p → IsWrittenIf p (logged second) q →
+    IsWrittenIf o (logged (first ++ second)) q
 written-through o p q first second h k =
-    (told-more (alone o) (alone p) (alone q) first second (record { written = h; checked = refl }) (record { written = k; checked = refl })).written
+    (logged-more (alone o) (alone p) (alone q) first second (record { written = h; checked = refl }) (record { written = k; checked = refl })).written
 
 pub writes-nothing : (o : Option OpenState) → WritesAll o o
-writes-nothing o = ([], (told-none (alone o)).written)
+writes-nothing o = ([], (logged-none (alone o)).written)
 
-pub refused-unwritten : (o : Option OpenState) (e : SolverError) → told_faults e ≡ 0 → WritesUpTo (told_faults e) o o
-refused-unwritten o e h = ([], subst (λ n. IsBegunIf o (told []) n o) (sym h) (begun-none o))
+pub refused-unwritten : (o : Option OpenState) (e : SolverError) → returned_faults e ≡ 0 → WritesUpTo (returned_faults e) o o
+refused-unwritten o e h = ([], subst (λ n. IsBegunIf o (logged []) n o) (sym h) (begun-none o))
 
 pub all-then : (o p q : Option OpenState) → WritesAll o p → WritesAll p q → WritesAll o q
 all-then o p q (first, h) (second, k) = (first ++ second, written-through o p q first second h k)
@@ -47,23 +47,23 @@ up-to-then o p q faults (first, h) (second, k) = (first ++ second, begun-behind 
 
 pub writes-then : {X : Type 0} (o p q : Option OpenState) (r : Result X SolverError) → WritesAll o p → WritesOn p r q → WritesOn o r q
 writes-then o p q (Ok x) w k = all-then o p q w k
-writes-then o p q (Err e) w k = up-to-then o p q (told_faults e) w k
+writes-then o p q (Err e) w k = up-to-then o p q (returned_faults e) w k
 
 -- 2. What the parts of a call tell.
-pub tells-writes : (p q : ProofParts) → TellsSome p q → WritesAll p.opened q.opened
-tells-writes p q (entries, t) = (entries, t.written)
+pub logs-writes : (p q : ProofParts) → LogsSome p q → WritesAll p.opened q.opened
+logs-writes p q (entries, t) = (entries, t.written)
 
 -- a search that is interrupted
-pub tells-refused : (p q : ProofParts) (e : SolverError) → told_faults e ≡ 0 → TellsSome p q → WritesUpTo (told_faults e) p.opened q.opened
-tells-refused p q e h t = up-to-then p.opened q.opened q.opened (told_faults e) (tells-writes p q t) (refused-unwritten q.opened e h)
+pub logs-refused : (p q : ProofParts) (e : SolverError) → returned_faults e ≡ 0 → LogsSome p q → WritesUpTo (returned_faults e) p.opened q.opened
+logs-refused p q e h t = up-to-then p.opened q.opened q.opened (returned_faults e) (logs-writes p q t) (refused-unwritten q.opened e h)
 
-pub breaks-writes : (p q : ProofParts) (e : StepError) → BreaksProof p (step_faults e) q → WritesUpTo (told_faults (step_refusal e)) p.opened q.opened
+pub breaks-writes : (p q : ProofParts) (e : StepError) → BreaksProof p (step_faults e) q → WritesUpTo (returned_faults (step_refusal e)) p.opened q.opened
 breaks-writes p q step.Full (entries, b, _) = (entries, b)
 breaks-writes p q step.Memory (entries, b, _) = (entries, b)
 breaks-writes p q (step.Target cause) (entries, b, _) = (entries, b)
 
 -- names are refused before anything is told
-pub names-unwritten : (o : Option OpenState) (t : Tables) (d : List Literal) (e : SolverError) → ChecksNames t d (Err e) → WritesUpTo (told_faults e) o o
+pub names-unwritten : (o : Option OpenState) (t : Tables) (d : List Literal) (e : SolverError) → ChecksNames t d (Err e) → WritesUpTo (returned_faults e) o o
 names-unwritten o t d VariableLimit h = refused-unwritten o VariableLimit refl
 names-unwritten o t d (WitnessVar u) h = refused-unwritten o (WitnessVar u) refl
 names-unwritten o t d e h = absurd h
@@ -109,8 +109,8 @@ begun-marked (Some a) (Some b) lines more h =
     record { rest = ap (λ (x : OpenState). let y : OpenState = record x { searched = true } in y) h.rest; bytes = h.bytes; faults = h.faults }
 
 pub writes-marked : {X : Type 0} (o p : Option OpenState) (r : Result X SolverError) → WritesOn o r p → WritesOn (marked_searched o) r (marked_searched p)
-writes-marked o p (Ok x) (entries, h) = (entries, written-marked o p (told entries) h)
-writes-marked o p (Err e) (entries, h) = (entries, begun-marked o p (told entries) (told_faults e) h)
+writes-marked o p (Ok x) (entries, h) = (entries, written-marked o p (logged entries) h)
+writes-marked o p (Err e) (entries, h) = (entries, begun-marked o p (logged entries) (returned_faults e) h)
 
 marked-twice : (o : Option OpenState) → marked_searched (marked_searched o) ≡ marked_searched o
 marked-twice None = refl
@@ -133,9 +133,9 @@ flush-fails (Some a) h cause f =
     ([], record { rest = refl; bytes = (0, sym (append-nil b.taken.bytes)); faults = refl })
 
 pub fails-writing : (o : Option OpenState) (g h : Summary) (e : SolverError) → WritesAll o g.opened → EndsSearch g (Err e) h →
-    WritesUpTo (told_faults e) (marked_searched o) (marked_searched h.opened)
+    WritesUpTo (returned_faults e) (marked_searched o) (marked_searched h.opened)
 fails-writing o g h (ProofIoError cause) (entries, w) (f, e) =
-    up-to-then (marked_searched o) (marked_searched g.opened) (marked_searched h.opened) 1 (entries, written-marked o g.opened (told entries) w)
+    up-to-then (marked_searched o) (marked_searched g.opened) (marked_searched h.opened) 1 (entries, written-marked o g.opened (logged entries) w)
     (flush-fails g.opened h.opened cause f)
 fails-writing o g h e w f = absurd f
 

@@ -16,8 +16,8 @@ use Rattle.varisat_names.proofs.VarMap.{at-inside}
 use Rattle.varisat_names.proofs.Tables.{live-inside, named-inside}
 use Rattle.varisat_names.proofs.Linked.{join-users, keep-live, same-tables}
 use Rattle.varisat_theory.specs.Journals.{Entry}
-use Rattle.varisat_proof.specs.Proving.{IsTold}
-use Rattle.varisat_tracer.specs.Told.{told-none}
+use Rattle.varisat_proof.specs.Proving.{IsLogged}
+use Rattle.varisat_tracer.specs.Logged.{logged-none}
 use Rattle.varisat_tracer.specs.Tracing.{TracerState, leaves_if_deleted}
 use Rattle.varisat_search.specs.declared.state.SatState.{SatState}
 use Rattle.varisat_search.specs.declared.state.SatState.TheVariants as verdict
@@ -242,7 +242,7 @@ hidden-stays mid new u x l b e unmarked n =
 -- The mode of the variable of a name was set.
 pub set-named : (u x : ℕ) (mode : SamplingMode) (old mid new : Tables) (returned : Option ℕ) → IsNamedAs u old mid x → AreLinked mid →
     SetsModeOf x mode mid new returned → SetsNamedMode u mode old x new
-set-named u x mode old mid new returned n l (LosesName v hide at-x gone told) =
+set-named u x mode old mid new returned n l (LosesName v hide at-x gone logged) =
     let q : Some v ≡ Some u = sym at-x ∙ l.users.there u x n.leads in
     let same : v ≡ u = cc in
     let hidden = subst (λ w. IsHidden mid new w x) same gone in
@@ -253,10 +253,10 @@ set-named u x mode old mid new returned n l (LosesName v hide at-x gone told) =
       changed = λ m. absurd (m hide);
       stays = stays-on old mid new n.stays (hidden-stays mid new u x l n.stays.bounded n.leads n.unassumed hidden);
     }
-set-named u x mode old mid new returned n l (GetsName v m at-x shown told) =
+set-named u x mode old mid new returned n l (GetsName v m at-x shown logged) =
     let z : None ≡ Some u = sym at-x ∙ l.users.there u x n.leads in
     absurd cc
-set-named u x mode old mid new returned n l (OtherwiseSet stays changed told) = record {
+set-named u x mode old mid new returned n l (OtherwiseSet stays changed logged) = record {
   mid = mid;
   named = n;
   hidden = λ e. absurd (stays (subst (MovesName mode) (sym (l.users.there u x n.leads)) e));
@@ -327,11 +327,11 @@ module _ (u : ℕ) (v : SatState) (p q : TracerState) (h : HidesNamed u v p q) w
       (unsat-or-not v)
 
   -- what the proof was told
-  pub hides-told : (given : List Entry) × IsTold p.proof given q.proof × (q.proof.opened ≡ p.proof.opened)
-  hides-told = ⊎_elim
-      (λ e. subst (λ (t : TracerState). (given : List Entry) × IsTold p.proof given t.proof × (t.proof.opened ≡ p.proof.opened)) (sym (h.stays e))
-      ([], told-none p.proof, refl))
-      (λ n. let l = h.left n in (leaves_if_deleted q.tables h.global, l.told, l.opened))
+  pub hides-logged : (given : List Entry) × IsLogged p.proof given q.proof × (q.proof.opened ≡ p.proof.opened)
+  hides-logged = ⊎_elim
+      (λ e. subst (λ (t : TracerState). (given : List Entry) × IsLogged p.proof given t.proof × (t.proof.opened ≡ p.proof.opened)) (sym (h.stays e))
+      ([], logged-none p.proof, refl))
+      (λ n. let l = h.left n in (leaves_if_deleted q.tables h.global, l.logged, l.opened))
       (unsat-or-not v)
 
 -- 6. Hidden variables come back.

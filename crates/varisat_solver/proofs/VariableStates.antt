@@ -27,8 +27,8 @@ use Rattle.varisat_theory.specs.Journals.{Entry}
 use Rattle.varisat_names.specs.declared.variables.data.VarData.{VarData}
 use Rattle.varisat_proof.specs.Proving.{ProofParts}
 use Rattle.varisat_tracer.specs.Tracing.{TracerState}
-use Rattle.varisat_solver.specs.Journals.{retold, TellsLeaving}
-use Rattle.varisat_solver.proofs.ToldProofs.{leaving-nothing}
+use Rattle.varisat_solver.specs.Journals.{with_entries, LogsRetired}
+use Rattle.varisat_solver.proofs.LoggedProofs.{leaving-nothing}
 use Rattle.varisat_solver.specs.declared.solver.SolverError.{SolverError}
 use Rattle.varisat_solver.specs.declared.solver.SolverError.TheVariants.{OutOfMemory, VariableLimit, AssumedVar}
 use Rattle.varisat_solver.proofs.AcceptClause.{with_tables, named-one}
@@ -118,36 +118,36 @@ module _ (g : Summary) (s : State) (u : ℕ) (p : ProofParts) (q : TracerState) 
   freed = let c = h.set in hidden-spaces (with_tables c.mid g) (with_variables variables (with_naming (name_one u s.naming) s)) h.mid u h.global
       b c.named.leads c.named.unassumed (c.hidden refl)
 
-  gone : g.sat_state ≢ verdict.Unsat → (told : List Entry) × TellsLeaving variables s.told told p q.proof
-      × SpacesFit (spaces (with_checker q.proof.checker (with_tables q.tables g))) (retold told after)
+  gone : g.sat_state ≢ verdict.Unsat → (logged : List Entry) × LogsRetired variables s.logged logged p q.proof
+      × SpacesFit (spaces (with_checker q.proof.checker (with_tables q.tables g))) (with_entries logged after)
   unfolding after
   gone n =
       let l = h.left n in
       let hides = h.set.hidden refl in
       left-spaces (with_tables h.mid g) after q.tables h.global p q.proof freed
       (hidden-keeps (λ (d : VarData). d.deleted) h.set.mid h.mid u h.global refl hides ∙ h.set.named.live)
-      (hidden-unnamed h.set.mid h.mid u h.global hides) n l.deleted same l.told
+      (hidden-unnamed h.set.mid h.mid u h.global hides) n l.deleted same l.logged
 
-  left-or-not : (told : List Entry) × TellsLeaving variables s.told told p q.proof
+  left-or-not : (logged : List Entry) × LogsRetired variables s.logged logged p q.proof
       × SpacesFit (spaces (with_checker q.proof.checker (with_tables q.tables g)))
-      (with_variables variables (retold told (hide_name u (name_var u s))))
+      (with_variables variables (with_entries logged (hide_name u (name_var u s))))
   unfolding after
   left-or-not = ⊎_elim
-      (λ e. subst (λ (t : TracerState). (told : List Entry) × TellsLeaving variables s.told told p t.proof
-      × SpacesFit (spaces (with_checker t.proof.checker (with_tables t.tables g))) (retold told after)) (sym (h.stays e))
-      (s.told, leaving-nothing variables s.told p, subst (λ o. SpacesFit (spaces (with_checker o (with_tables h.mid g))) after) (sym same) freed))
+      (λ e. subst (λ (t : TracerState). (logged : List Entry) × LogsRetired variables s.logged logged p t.proof
+      × SpacesFit (spaces (with_checker t.proof.checker (with_tables t.tables g))) (with_entries logged after)) (sym (h.stays e))
+      (s.logged, leaving-nothing variables s.logged p, subst (λ o. SpacesFit (spaces (with_checker o (with_tables h.mid g))) after) (sym same) freed))
       (λ n. gone n)
       (unsat-or-not g.sat_state)
 
 pub hide-state : (g : Summary) (s : State) (u : ℕ) (p : ProofParts) (q : TracerState) → p.checker ≡ g.checker → SpacesFit (spaces g) s →
     HidesNamed u g.sat_state (record { tables = g.tables; proof = p }) q →
-    (variables : ℕ → Option ℕ) × (told : List Entry) × KeepVariables s.naming.made s.variables variables × TellsLeaving variables s.told told p q.proof
+    (variables : ℕ → Option ℕ) × (logged : List Entry) × KeepVariables s.naming.made s.variables variables × LogsRetired variables s.logged logged p q.proof
     × SpacesFit (spaces (with_checker q.proof.checker (with_tables q.tables g)))
-    (with_variables variables (retold told (hide_name u (name_var u s))))
+    (with_variables variables (with_entries logged (hide_name u (name_var u s))))
 hide-state g s u p q same b h =
     let (variables, keep, fits) = named-one g s h.set.mid u b h.set.named.named in
-    let (told, more, all) = left-or-not g s u p q same h variables fits in
-    (variables, told, keep, more, all)
+    let (logged, more, all) = left-or-not g s u p q same h variables fits in
+    (variables, logged, keep, more, all)
 
 turns-state : (us : List ℕ) (g : Summary) (s : State) (new : Tables) → SpacesFit (spaces g) s → AreShownInTurn us g.tables new →
     HaveShown us (with_tables new g) s

@@ -8,7 +8,7 @@ use Rattle.varisat_tracer.specs.Tracing.{TracerState}
 use Rattle.varisat_solver.specs.States.{State, with_variables, Verdict}
 use Rattle.varisat_solver.specs.Names.{name_all, through_names}
 use Rattle.varisat_solver.specs.Calls.{with_naming, VerdictAfter, append_clause, with_assumptions}
-use Rattle.varisat_solver.specs.Journals.{retold, TellsStaying, TellsProof}
+use Rattle.varisat_solver.specs.Journals.{with_entries, LogsStaying, LogsToProof}
 use Rattle.varisat_solver.specs.Spaces.{SpacesFit, KeepVariables}
 use Rattle.varisat_solver.specs.Summaries.{spaces_with}
 
@@ -30,11 +30,11 @@ IsWithinIdentities d p x y =
 abbrev pub StandsOnceAccepted : {A : Type 0} → Clause → TracerState → Context A → TracerState → Context A → Type 0
 StandsOnceAccepted d p x q y =
     (s : State) → SpacesFit (spaces_with p.tables p.proof.checker x) s →
-    (v : Verdict) × (told : List Entry) × (variables : ℕ → Option ℕ) × VerdictAfter s.clauses (identity_literals s d) s.verdict v
-    × TellsStaying 0 (s.told ++ Accepts (identity_literals s d) ∷ []) told
-    × KeepVariables s.naming.made s.variables variables × TellsProof variables s.told told p.proof q.proof
+    (v : Verdict) × (logged : List Entry) × (variables : ℕ → Option ℕ) × VerdictAfter s.clauses (identity_literals s d) s.verdict v
+    × LogsStaying 0 (s.logged ++ Accepts (identity_literals s d) ∷ []) logged
+    × KeepVariables s.naming.made s.variables variables × LogsToProof variables s.logged logged p.proof q.proof
     × SpacesFit (spaces_with q.tables q.proof.checker y)
-    (with_variables variables (retold told (append_clause (identity_literals s d) v (with_naming (name_all d s.naming) s))))
+    (with_variables variables (with_entries logged (append_clause (identity_literals s d) v (with_naming (name_all d s.naming) s))))
 
 -- The list is assumed in place of the one before, and the journal goes on with it, and so does what a proof was told. Identities
 -- that are new have variables then.
@@ -42,7 +42,7 @@ abbrev pub StandsOnceAssumed : {A : Type 0} → List Literal → TracerState →
 StandsOnceAssumed d p x q y =
     (s : State) → SpacesFit (spaces_with p.tables p.proof.checker x) s →
     (variables : ℕ → Option ℕ) × KeepVariables s.naming.made s.variables variables
-    × TellsProof variables s.told (s.told ++ Assumes (identity_literals s d) ∷ []) p.proof q.proof
+    × LogsToProof variables s.logged (s.logged ++ Assumes (identity_literals s d) ∷ []) p.proof q.proof
     × SpacesFit (spaces_with q.tables q.proof.checker y)
-    (with_variables variables (retold (s.told ++ Assumes (identity_literals s d) ∷ [])
+    (with_variables variables (with_entries (s.logged ++ Assumes (identity_literals s d) ∷ [])
     (with_assumptions (identity_literals s d) (with_naming (name_all d s.naming) s))))

@@ -26,15 +26,15 @@ module _ {V : Type 0} (by : Verdicts V) where
 
   -- How a text's fault is told, if there is one; else steps are counted anew. Memory that ran out in the reader is told as in any
   -- call, and any other fault changes nothing.
-  pub data TellsFault (fault : Option DimacsError) (s : Known V) (r : Result (Unit {0}) SolverError) (t : Known V) : Type 0 where
-    NoFault : fault ≡ None → r ≡ Ok tt → t ≡ count_anew s → TellsFault fault s r t
-    MemoryFault : (e : DimacsError) → fault ≡ Some e → e.kind ≡ kind.OutOfMemory → r ≡ Err error.OutOfMemory → Invalidates 0 s t → TellsFault fault s r t
-    Fault : (e : DimacsError) → fault ≡ Some e → e.kind ≢ kind.OutOfMemory → r ≡ Err (error.Dimacs e) → t ≡ s → TellsFault fault s r t
+  pub data ReturnsFault (fault : Option DimacsError) (s : Known V) (r : Result (Unit {0}) SolverError) (t : Known V) : Type 0 where
+    NoFault : fault ≡ None → r ≡ Ok tt → t ≡ count_anew s → ReturnsFault fault s r t
+    MemoryFault : (e : DimacsError) → fault ≡ Some e → e.kind ≡ kind.OutOfMemory → r ≡ Err error.OutOfMemory → Invalidates 0 s t → ReturnsFault fault s r t
+    Fault : (e : DimacsError) → fault ≡ Some e → e.kind ≢ kind.OutOfMemory → r ≡ Err (error.Dimacs e) → t ≡ s → ReturnsFault fault s r t
 
   -- The clauses that a text gives are added in turn: the first refusal is told, or else the text's fault, behind all clauses that ended before it.
   pub data AddsReading (s : Known V) (reading : Reading) (r : Result (Unit {0}) SolverError) (t : Known V) : Type 0 where
     ClauseRefused : (e : SolverError) → r ≡ Err e → AddsAll s reading.clauses (Err e) t → AddsReading s reading r t
-    ClausesAdded : (mid : Known V) → AddsAll s reading.clauses (Ok tt) mid → TellsFault reading.fault mid r t → AddsReading s reading r t
+    ClausesAdded : (mid : Known V) → AddsAll s reading.clauses (Ok tt) mid → ReturnsFault reading.fault mid r t → AddsReading s reading r t
 
   -- A text is added that a source gives. An invalid solver refuses it, and reads nothing.
   pub data AddsText (s : Known V) (old : Stand) (r : Result (Unit {0}) SolverError) (new : Stand) (t : Known V) : Type 0 where

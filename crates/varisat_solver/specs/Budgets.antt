@@ -7,10 +7,10 @@ use Rattle.varisat_solver.specs.declared.solver.SolverError.TheVariants.{Interru
 use Rattle.varisat_solver.specs.Refusals.{step_refusal}
 
 -- What the call returns where the search found a verdict or none, or came to no end.
-abbrev pub told_verdict : Result (Option Bool) StepError → Result Bool SolverError
-told_verdict (Ok (Some b)) = Ok b
-told_verdict (Ok None) = Err Interrupted
-told_verdict (Err e) = Err (step_refusal e)
+abbrev pub returned_verdict : Result (Option Bool) StepError → Result Bool SolverError
+returned_verdict (Ok (Some b)) = Ok b
+returned_verdict (Ok None) = Err Interrupted
+returned_verdict (Err e) = Err (step_refusal e)
 
 -- How the call counts its steps that begins with the verdict Unknown, where n variables are counted and it may make `max_steps`
 -- of them. Since the last change `since` were made before it.

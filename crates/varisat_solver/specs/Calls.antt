@@ -10,16 +10,16 @@ use Rattle.varisat_theory.specs.Membership.{◌∈◌}
 use Rattle.varisat_theory.specs.Literals.{Literal, Clause, variable_of, opposite, IsUnit, IsSatisfiable}
 use Rattle.varisat_theory.specs.Journals.{Entry}
 use Rattle.varisat_theory.specs.Journals as entry
-use Rattle.varisat_proof.specs.Passing.{ToldConflict}
+use Rattle.varisat_proof.specs.Passing.{LogsConflict}
 use Rattle.varisat_theory.specs.CallBounds.{AreFew}
 use Rattle.varisat_proof.specs.declared.proof.format.ProofFormat.{ProofFormat}
 use Rattle.varisat_proof.specs.Lines.{has_marks}
-use Rattle.varisat_solver.specs.Journals.{retold, TellsMore, BeginsInSteps, AreDerived, EndBy, IsJournal}
+use Rattle.varisat_solver.specs.Journals.{with_entries, LogsMore, BeginsInSteps, AreDerived, EndBy, IsJournal}
 use Rattle.varisat_solver.specs.StepEntries.{GoesOnInSteps}
 use Rattle.varisat_solver.specs.OpenProofs.{IsOpen, BarsClauses, BarsAssumptions, searched_under, lines_over, GoesOnWriting, GoesOnFailing}
 use Rattle.varisat_solver.specs.States.{Known, State, join_counted, Verdict, Unknown, Sat, Unsat, UnsatUnderAssumptions, HasRightVerdict}
 use Rattle.varisat_solver.specs.Names.{Naming, name_one, name_all, through_names, IsLeastFree, NameNoWitness, IsFirstWitness}
-use Rattle.varisat_solver.specs.Models.{model_of, IsCoreToTell}
+use Rattle.varisat_solver.specs.Models.{model_of, IsReturnedCore}
 use Rattle.varisat_names.specs.declared.config.SolverConfigUpdate.{SolverConfigUpdate}
 use Rattle.varisat_names.specs.Settings.{updated_settings, first_bad}
 use Rattle.varisat_solver.specs.Budgets.{CountsSteps}
@@ -41,11 +41,11 @@ IsValid s = is_valid s ≡ true
 -- leave, for further bytes of an open proof, and for the words of the clause store. Variables left only where they may, and the lines
 -- told before are written as they were.
 pub record IsLikeButLeft {V : Type 0} (may_leave : Bool) (s t : Known V) : Type 0 where
-  pub same : t ≡ record s { told = t.told; variables = t.variables; proof = t.proof; words = t.words }
-  pub told : TellsMore 0 s.told t.told
-  pub derived : AreDerived told.entries
-  pub stays : may_leave ≡ false → entry.NoneLeaves told.entries
-  pub alike : lines_over t.variables s.told ≡ lines_over s.variables s.told
+  pub same : t ≡ record s { logged = t.logged; variables = t.variables; proof = t.proof; words = t.words }
+  pub logged : LogsMore 0 s.logged t.logged
+  pub derived : AreDerived logged.entries
+  pub stays : may_leave ≡ false → entry.NoneLeaves logged.entries
+  pub alike : lines_over t.variables s.logged ≡ lines_over s.variables s.logged
   pub proof : GoesOnWriting s.proof t.proof
 
 -- so it is, and none left
@@ -99,7 +99,7 @@ append_clause c w s = record s {
   clauses = s.clauses ++ c ∷ [];
   counted = join_counted s.counted (map variable_of c);
   verdict = w;
-  told = s.told ++ entry.Accepts c ∷ [];
+  logged = s.logged ++ entry.Accepts c ∷ [];
 }
 
 -- the names of the clause are named, and it is accepted as they carry it to identities
@@ -117,7 +117,7 @@ abbrev pub assume : {V : Type 0} → List Literal → V → Known V → Known V
 assume list w s =
     let named : Naming = name_all list s.naming in
     let carried : List Literal = map (through_names named) list in
-    start (retold (s.told ++ entry.Assumes carried ∷ []) (with_list carried w (with_naming named s)))
+    start (with_entries (s.logged ++ entry.Assumes carried ∷ []) (with_list carried w (with_naming named s)))
 
 -- How a clause or a list is refused that nothing bars: for its names, and before anything changes; or with an error after which the
 -- state is invalid.
@@ -213,23 +213,23 @@ once_searched s = record s { proof = searched_under s.proof }
 
 -- It is s once `solve` was called, which made the steps of t and told what t was told, where v is known of the verdict then.
 abbrev pub IsSolved : {V : Type 0} → V → Known V → Known V → Type 0
-IsSolved v s t = IsLike (retold t.told (with_verdict v (with_steps t.ledger.steps s))) t
+IsSolved v s t = IsLike (with_entries t.logged (with_verdict v (with_steps t.ledger.steps s))) t
 
 module _ {V : Type 0} (by : Verdicts V) where
   -- How the steps are counted that a call makes, by its answer: none is made, and nothing told, where the answer is known.
   pub data CountsIf (s : Known V) (r : Result Bool SolverError) (t : Known V) : Type 0 where
-    Decided : (by.undecided s → ⊥) ⊎ by.refuted s → t.ledger.steps ≡ s.ledger.steps → (IsValid t → t.told ≡ s.told) → CountsIf s r t
+    Decided : (by.undecided s → ⊥) ⊎ by.refuted s → t.ledger.steps ≡ s.ledger.steps → (IsValid t → t.logged ≡ s.logged) → CountsIf s r t
     Searched : by.undecided s → CountsCall s r t → CountsIf s r t
 
   -- An answer is returned.
-  pub record TellsVerdict (s : Known V) (b : Bool) (t : Known V) : Type 0 where
+  pub record ReturnsVerdict (s : Known V) (b : Bool) (t : Known V) : Type 0 where
     pub valid : IsValid s
     pub steps : CountsIf s (Ok b) t
     -- of the clauses that it told to be added as many count as steps were made
-    pub told : TellsMore (t.ledger.steps - s.ledger.steps) s.told t.told
+    pub logged : LogsMore (t.ledger.steps - s.ledger.steps) s.logged t.logged
     -- and each step but the last, which came to the answer, added a new one, as where the steps are spent
-    pub adds : BeginsInSteps s.ledger.settings.reduce_locals_interval s.ledger.steps (t.ledger.steps - s.ledger.steps - 1) s.told told.entries
-    pub right : by.answers s b told.entries t
+    pub adds : BeginsInSteps s.ledger.settings.reduce_locals_interval s.ledger.steps (t.ledger.steps - s.ledger.steps - 1) s.logged logged.entries
+    pub right : by.answers s b logged.entries t
     pub rest : IsSolved t.verdict s t
 
   -- The steps are spent before an answer is known. The search can go on from there.
@@ -243,10 +243,10 @@ module _ {V : Type 0} (by : Verdicts V) where
     -- of the clauses that it told to be added as many count as steps were made; and each step added a new one, of which no clause that
     -- was held just before is a part, and which is held as the step ends; nor one that was held as the step began, unless it was a step
     -- that may delete learned clauses
-    pub told : TellsMore (t.ledger.steps - s.ledger.steps) s.told t.told
-    pub adds : GoesOnInSteps s.ledger.settings.reduce_locals_interval s.ledger.steps (t.ledger.steps - s.ledger.steps) s.told told.entries
+    pub logged : LogsMore (t.ledger.steps - s.ledger.steps) s.logged t.logged
+    pub adds : GoesOnInSteps s.ledger.settings.reduce_locals_interval s.ledger.steps (t.ledger.steps - s.ledger.steps) s.logged logged.entries
     -- no core is told
-    pub derived : AreDerived told.entries
+    pub derived : AreDerived logged.entries
     -- where no step was made nothing changed
     pub still : t.ledger.steps ≡ s.ledger.steps → t ≡ s
 
@@ -257,7 +257,7 @@ module _ {V : Type 0} (by : Verdicts V) where
   -- Steps are made, and then an open proof is marked as one under which `solve` was called, and flushed, also where the answer was
   -- known. Its target may fail in a step, or as it is flushed.
   abbrev pub Solves : Known V → Result Bool SolverError → Known V → Type 0
-  Solves s (Ok b) t = TellsVerdict (once_searched s) b t
+  Solves s (Ok b) t = ReturnsVerdict (once_searched s) b t
   Solves s (Err Interrupted) t = IsSpent (once_searched s) t
   Solves s (Err Invalid) t = IsRefusedInvalid s t
   Solves s (Err OutOfMemory) t = FailsStep 0 s OutOfMemory t
@@ -276,9 +276,9 @@ module _ {V : Type 0} (by : Verdicts V) where
 
 -- A list is told that may be told, or none, and none by an invalid solver. Running out of memory comes only where there is a list to
 -- tell, and changes nothing.
-abbrev pub TellsList : {V : Type 0} → (Option (List Literal) → Type 0) → Known V → Result (Option (List Literal)) AllocError → Known V → Type 0
-TellsList may s (Ok list) t = ((IsValid s × may list) ⊎ ((is_valid s ≡ false) × (list ≡ None))) × (t ≡ s)
-TellsList may s (Err _) t = IsValid s × ((list : List Literal) × may (Some list)) × (t ≡ s)
+abbrev pub ReturnsList : {V : Type 0} → (Option (List Literal) → Type 0) → Known V → Result (Option (List Literal)) AllocError → Known V → Type 0
+ReturnsList may s (Ok list) t = ((IsValid s × may list) ⊎ ((is_valid s ≡ false) × (list ≡ None))) × (t ≡ s)
+ReturnsList may s (Err _) t = IsValid s × ((list : List Literal) × may (Some list)) × (t ≡ s)
 
 -- The call `config`.
 
@@ -296,20 +296,20 @@ Configures s u (Err _) t = ⊥
 -- The call `steps`.
 
 -- the count of all steps is returned
-abbrev pub TellsSteps : {V : Type 0} → Known V → ℕ → Known V → Type 0
-TellsSteps s n t = (n ≡ s.ledger.steps) × (t ≡ s)
+abbrev pub ReturnsSteps : {V : Type 0} → Known V → ℕ → Known V → Type 0
+ReturnsSteps s n t = (n ≡ s.ledger.steps) × (t ≡ s)
 
 -- The call `steps_since_change`.
 
 -- the count of steps since the last change is returned, which are few in a valid state, over however many calls of `solve`
-abbrev pub TellsSince : {V : Type 0} → Known V → ℕ → Known V → Type 0
-TellsSince s n t = (n ≡ s.ledger.since) × (IsValid s → AreFew (length s.counted) n) × (t ≡ s)
+abbrev pub ReturnsSince : {V : Type 0} → Known V → ℕ → Known V → Type 0
+ReturnsSince s n t = (n ≡ s.ledger.since) × (IsValid s → AreFew (length s.counted) n) × (t ≡ s)
 
 -- The call `is_valid`.
 
 -- the flag is returned
-abbrev pub TellsValid : {V : Type 0} → Known V → Bool → Known V → Type 0
-TellsValid s b t = (b ≡ is_valid s) × (t ≡ s)
+abbrev pub ReturnsValid : {V : Type 0} → Known V → Bool → Known V → Type 0
+ReturnsValid s b t = (b ≡ is_valid s) × (t ≡ s)
 
 -- 2. The verdict of a state.
 
@@ -349,23 +349,23 @@ answer_of Unsat = Some false
 answer_of (UnsatUnderAssumptions core) = Some false
 
 -- The verdict of t gives the answer, and is right. One that was known stays.
-pub record HasVerdict (s : State) (b : Bool) (told : List Entry) (t : State) : Type 0 where
+pub record HasVerdict (s : State) (b : Bool) (logged : List Entry) (t : State) : Type 0 where
   pub known : s.verdict ≢ Unknown → t.verdict ≡ s.verdict
   pub answer : answer_of t.verdict ≡ Some b
   pub right : HasRightVerdict t
   -- where it was not known before these are lines and variables that leave, and at last the core that was found, if one was: by
   -- propagation over what is held it conflicts
-  pub ends : s.verdict ≡ Unknown → EndBy t.verdict told
+  pub ends : s.verdict ≡ Unknown → EndBy t.verdict logged
   -- under Unsat propagation over what is held conflicts
-  pub refuted : t.verdict ≡ Unsat → ToldConflict t.told
+  pub refuted : t.verdict ≡ Unsat → LogsConflict t.logged
   -- a core that was found is not empty
   pub core : (list : List Literal) → t.verdict ≡ UnsatUnderAssumptions list → list ≢ []
 
 -- 3. States.
 
 -- the verdicts of a state; behind each call what was told is right, as long as the state is valid
-abbrev pub calling : Verdicts Verdict
-calling = record {
+abbrev pub by_state : Verdicts Verdict
+by_state = record {
   refuted = λ s. s.verdict ≡ Unsat;
   unrefuted = λ s. s.verdict ≢ Unsat;
   undecided = λ s. s.verdict ≡ Unknown;
@@ -374,7 +374,7 @@ calling = record {
   answers = HasVerdict;
   interrupted = λ steps v. v;
   model = λ s list. list ≡ model_of s.naming s.verdict;
-  core = IsCoreToTell;
+  core = IsReturnedCore;
   fails = λ s. answer_of s.verdict ≡ Some false;
   alone = λ s. s.verdict ≡ Unsat;
   holds = λ s. IsValid s → IsJournal s;
@@ -382,18 +382,18 @@ calling = record {
 
 -- the call `add_clause`
 abbrev pub AddsClause : State → Clause → Result (Unit {0}) SolverError → State → Type 0
-AddsClause s d r t = TakesOne calling s d r t
+AddsClause s d r t = TakesOne by_state s d r t
 
 -- the call `assume`
 abbrev pub Assumes : State → List Literal → Result (Unit {0}) SolverError → State → Type 0
-Assumes s list r t = TakesList calling s list r t
+Assumes s list r t = TakesList by_state s list r t
 
 -- What the steps of a call of `solve` come to, before an open proof is marked and flushed.
 abbrev pub Searches : State → Result Bool SolverError → State → Type 0
-Searches s (Ok b) t = TellsVerdict calling s b t
-Searches s (Err Interrupted) t = IsSpent calling s t
-Searches s (Err (ProofIoError cause)) t = IsOpen s.proof × FailsStep calling 1 s (ProofIoError cause) t
-Searches s (Err e) t = Solves calling s (Err e) t
+Searches s (Ok b) t = ReturnsVerdict by_state s b t
+Searches s (Err Interrupted) t = IsSpent by_state s t
+Searches s (Err (ProofIoError cause)) t = IsOpen s.proof × FailsStep by_state 1 s (ProofIoError cause) t
+Searches s (Err e) t = Solves by_state s (Err e) t
 
 -- the same, where a call may make so many steps
 abbrev pub with_max_steps : {V : Type 0} → ℕ → Known V → Known V

@@ -22,6 +22,6 @@ pub record CountsAnew {A : Type 0} (x y : Context A) (changed_at : ℕ) : Type 0
 
 -- A change came to a value, and steps are counted anew; or it failed, and the solver is invalid. It is told in which way it failed.
 abbrev pub EndsChange : {A T E : Type 0} → (E → SolverError → Type 0) → Result T E → Context A → ℕ → Result T SolverError → Context A → ℕ → Type 0
-EndsChange tells outcome x before (Ok value) y changed_at = (outcome ≡ Ok value) × CountsAnew x y changed_at
-EndsChange {E = E} tells outcome x before (Err refusal) y changed_at =
-    (error : E) × (outcome ≡ Err error) × tells error refusal × (y ≡ invalidated x) × (changed_at ≡ before)
+EndsChange logs outcome x before (Ok value) y changed_at = (outcome ≡ Ok value) × CountsAnew x y changed_at
+EndsChange {E = E} logs outcome x before (Err refusal) y changed_at =
+    (error : E) × (outcome ≡ Err error) × logs error refusal × (y ≡ invalidated x) × (changed_at ≡ before)

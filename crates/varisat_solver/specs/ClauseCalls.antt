@@ -3,14 +3,14 @@ use Rattle.std.specs.Prelude.{List, Result}
 use Rattle.varisat_theory.specs.Literals.{Clause}
 use Rattle.varisat_formula.specs.Streams.{Stand}
 use Rattle.varisat_solver.specs.States.{State}
-use Rattle.varisat_solver.specs.Calls.{calling}
+use Rattle.varisat_solver.specs.Calls.{by_state}
 use Rattle.varisat_solver.specs.Additions as additions
 use Rattle.varisat_solver.specs.declared.solver.SolverError.{SolverError}
 
 -- the clauses of a formula in turn, up to the first refusal; an invalid solver refuses an empty one too
 abbrev pub AddsFormula : State → List Clause → Result (Unit {0}) SolverError → State → Type 0
-AddsFormula s P r t = additions.AddsList calling s P r t
+AddsFormula s P r t = additions.AddsList by_state s P r t
 
 -- the clauses of the text that the source gives, up to the first refusal or fault; those before it stay
 abbrev pub AddsDimacs : State → Stand → Result (Unit {0}) SolverError → Stand → State → Type 0
-AddsDimacs s old r new t = additions.AddsText calling s old r new t
+AddsDimacs s old r new t = additions.AddsText by_state s old r new t

@@ -18,10 +18,10 @@ use Rattle.varisat_names.specs.Variables.{Tables, IsChangedTo, IsDropped}
 use Rattle.varisat_names.specs.declared.variables.data.VarData.{VarData}
 use Rattle.varisat_theory.specs.Journals.{Entry}
 use Rattle.varisat_search.specs.declared.context.Context.{Context}
-use Rattle.varisat_proof.specs.Proving.{IsTold}
+use Rattle.varisat_proof.specs.Proving.{IsLogged}
 use Rattle.varisat_tracer.specs.Tracing.{TracerState, leaves_if_deleted}
 use Rattle.varisat_solver.specs.Accepting.{HasUser}
-use Rattle.varisat_solver.specs.Journals.{retold, TellsLeaving}
+use Rattle.varisat_solver.specs.Journals.{with_entries, LogsRetired}
 use Rattle.varisat_solver.specs.SinceChange.{GoesOnWithin}
 use Rattle.varisat_solver.specs.Spaces.{SpacesFit}
 use Rattle.varisat_solver.specs.States.{State}
@@ -73,7 +73,7 @@ fixed_to b d = record d { unit = Some b; isolated = true }
 -- The global variable x has its solver variable v no longer, and the proof was told that it is gone, where it is.
 pub record LosesSolverVar (x v : ℕ) (p q : TracerState) : Type 0 where
   pub dropped : IsDropped p.tables q.tables x v
-  pub told : IsTold p.proof (leaves_if_deleted q.tables x) q.proof
+  pub logged : IsLogged p.proof (leaves_if_deleted q.tables x) q.proof
 
 -- The solver variable of the literal was dropped, once its global variable was kept as isolated and with the value that makes the literal true.
 abbrev pub IsDroppedAlone : Literal → TracerState → TracerState → Type 0
@@ -129,6 +129,6 @@ pub record LetsLeave {A : Type 0} (p : TracerState) (x : Context A) (q : TracerS
   pub kept : IsKept q.tables y
   pub within : GoesOnWithin x y
   pub count : length y.assignment.current ≡ length x.assignment.current
-  pub given : (entries : List Entry) × IsTold p.proof entries q.proof
+  pub given : (entries : List Entry) × IsLogged p.proof entries q.proof
   pub stands : (s : State) → SpacesFit (undecided_spaces p.tables p.proof.checker x) s →
-      (told : List Entry) × TellsLeaving s.variables s.told told p.proof q.proof × SpacesFit (undecided_spaces q.tables q.proof.checker y) (retold told s)
+      (logged : List Entry) × LogsRetired s.variables s.logged logged p.proof q.proof × SpacesFit (undecided_spaces q.tables q.proof.checker y) (with_entries logged s)

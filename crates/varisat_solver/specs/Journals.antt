@@ -4,8 +4,8 @@ use Rattle.varisat_theory.specs.Literals.{Literal, Clause}
 use Rattle.varisat_theory.specs.Journals.{Entry, Writes, Fails, Leaves, Leads, LeadsBy, NoneLeaves, accepted_of, lines_of, rename_entry, GoesOn}
 use Rattle.varisat_theory.specs.Derivations.{IsDerivation, Refutes}
 use Rattle.varisat_proof.specs.declared.proof.format.Encoding.TheVariants.{Text}
-use Rattle.varisat_proof.specs.Telling.{lines_told}
-use Rattle.varisat_proof.specs.Proving.{ProofParts, IsTold}
+use Rattle.varisat_proof.specs.Logging.{logged_lines}
+use Rattle.varisat_proof.specs.Proving.{ProofParts, IsLogged}
 use Rattle.varisat_proof.specs.Written.{AreInRange}
 use Rattle.varisat_tracer.specs.Carried.{carry}
 use Rattle.varisat_proof.specs.Assumed.{assumed_behind, CoresAreAssumed}
@@ -14,22 +14,22 @@ use Rattle.varisat_solver.specs.States.{Known, State, Verdict, Unsat, UnsatUnder
 use Rattle.varisat_solver.specs.StepEntries.{GoesOnInSteps}
 
 -- the same once more was told
-abbrev pub retold : {V : Type 0} → List Entry → Known V → Known V
-retold told s = record s { told = told }
+abbrev pub with_entries : {V : Type 0} → List Entry → Known V → Known V
+with_entries logged s = record s { logged = logged }
 
 -- Further entries are told. Each is right where it stands, and n of the clauses that their lines add or fewer are neither a
 -- single literal nor part of one that is held just before.
-pub record TellsMore (n : ℕ) (before after : List Entry) : Type 0 where
+pub record LogsMore (n : ℕ) (before after : List Entry) : Type 0 where
   pub entries : List Entry
   pub joined : after ≡ before ++ entries
   pub goes : GoesOn n before entries
 
 -- The first of the further entries are those of k steps in turn that each add a new clause, and then come others.
-pub record BeginsInSteps (interval number k : ℕ) (told es : List Entry) : Type 0 where
+pub record BeginsInSteps (interval number k : ℕ) (logged es : List Entry) : Type 0 where
   pub front : List Entry
   pub back : List Entry
   pub split : es ≡ front ++ back
-  pub adds : GoesOnInSteps interval number k told front
+  pub adds : GoesOnInSteps interval number k logged front
 
 -- No clause is accepted, nothing is assumed and no core told: the entries are lines, and variables that leave.
 abbrev pub AreDerived : List Entry → Type 0
@@ -54,20 +54,20 @@ EndBy (UnsatUnderAssumptions core) es = EndWithCore core es
 EndBy _ es = AreDerived es
 
 -- Further entries are told, which are lines alone.
-abbrev pub TellsStaying : ℕ → List Entry → List Entry → Type 0
-TellsStaying n before after = (m : TellsMore n before after) × NoneLeaves m.entries × AreDerived m.entries
+abbrev pub LogsStaying : ℕ → List Entry → List Entry → Type 0
+LogsStaying n before after = (m : LogsMore n before after) × NoneLeaves m.entries × AreDerived m.entries
 
 -- An open proof, and a checker, were told the further entries, each identity as its variable.
-pub record TellsProof (variables : ℕ → Option ℕ) (before after : List Entry) (old new : ProofParts) : Type 0 where
+pub record LogsToProof (variables : ℕ → Option ℕ) (before after : List Entry) (old new : ProofParts) : Type 0 where
   pub entries : List Entry
   pub joined : after ≡ before ++ entries
-  pub told : IsTold old (map (rename_entry (carry variables)) entries) new
+  pub logged : IsLogged old (map (rename_entry (carry variables)) entries) new
 
 -- Entries are told as variables leave, and to the proof as well.
-pub record TellsLeaving (variables : ℕ → Option ℕ) (before after : List Entry) (old new : ProofParts) : Type 0 where
-  pub more : TellsMore 0 before after
+pub record LogsRetired (variables : ℕ → Option ℕ) (before after : List Entry) (old new : ProofParts) : Type 0 where
+  pub more : LogsMore 0 before after
   pub leaving : AreLeaving more.entries
-  pub proof : TellsProof variables before after old new
+  pub proof : LogsToProof variables before after old new
 
 -- What was told is right, entry by entry, and an open proof has all of it for which its format has lines, each identity as its
 -- variable: no two that have not left have the same. Its clauses are those accepted, in order, its last list is that of the
@@ -75,19 +75,19 @@ pub record TellsLeaving (variables : ℕ → Option ℕ) (before after : List En
 -- entry is written as it is, no variable leaves, and its lines are a derivation from the clauses, and under Unsat they refute them.
 pub record IsJournal (s : State) : Type 0 where
   pub held : List Clause
-  pub led : Leads [] s.told held
-  pub accepted : accepted_of s.told ≡ s.clauses
-  pub assumed : assumed_behind [] s.told ≡ s.assumptions
-  pub cores : CoresAreAssumed [] s.told
-  pub written : IsWrittenWhereOpen s.variables s.told s.proof
-  pub apart : HaveOwnVariables s.variables s.naming.made s.told
-  pub plain : s.ever_hidden ≡ false → entries_over s.variables s.told ≡ s.told
-  pub stays : s.ever_hidden ≡ false → NoneLeaves s.told
-  pub in_range : s.ever_hidden ≡ false → AreInRange (lines_told (Text true) s.told)
-  pub readable : AreInRange (lines_told (Text true) (entries_over s.variables s.told))
-  pub derives : s.ever_hidden ≡ false → IsDerivation s.clauses (lines_of s.told)
-  pub refutes : s.ever_hidden ≡ false → s.verdict ≡ Unsat → Refutes s.clauses (lines_of s.told)
+  pub led : Leads [] s.logged held
+  pub accepted : accepted_of s.logged ≡ s.clauses
+  pub assumed : assumed_behind [] s.logged ≡ s.assumptions
+  pub cores : CoresAreAssumed [] s.logged
+  pub written : IsWrittenWhereOpen s.variables s.logged s.proof
+  pub apart : HaveOwnVariables s.variables s.naming.made s.logged
+  pub plain : s.ever_hidden ≡ false → entries_over s.variables s.logged ≡ s.logged
+  pub stays : s.ever_hidden ≡ false → NoneLeaves s.logged
+  pub in_range : s.ever_hidden ≡ false → AreInRange (logged_lines (Text true) s.logged)
+  pub readable : AreInRange (logged_lines (Text true) (entries_over s.variables s.logged))
+  pub derives : s.ever_hidden ≡ false → IsDerivation s.clauses (lines_of s.logged)
+  pub refutes : s.ever_hidden ≡ false → s.verdict ≡ Unsat → Refutes s.clauses (lines_of s.logged)
 
 -- all of it is right, and n of the clauses that its lines add or fewer are neither a single literal nor part of one that is held just before
-abbrev pub IsToldWithin : ℕ → List Entry → Type 0
-IsToldWithin n told = (held : List Clause) × LeadsBy n [] told held
+abbrev pub IsLoggedWithin : ℕ → List Entry → Type 0
+IsLoggedWithin n logged = (held : List Clause) × LeadsBy n [] logged held

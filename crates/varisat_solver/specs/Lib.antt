@@ -11,7 +11,7 @@ pub mod SinceChange
 pub mod Additions
 pub mod Calls
 pub mod Changes
-pub mod Told
+pub mod ReturnedLists
 pub mod Searches
 pub mod Accepted
 pub mod Accepting

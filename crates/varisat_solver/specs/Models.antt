@@ -65,6 +65,6 @@ abbrev pub IsNamedCore : State → List Literal → Type 0
 IsNamedCore s core = AreNamesInUse s.naming core × IsFailedCore s.clauses s.assumptions (map (through_names s.naming) core)
 
 -- A core as it is told, over names in use, is the one that is known.
-abbrev pub IsCoreToTell : State → Option (List Literal) → Type 0
-IsCoreToTell s None = core_of s.verdict ≡ None
-IsCoreToTell s (Some core) = AreNamesInUse s.naming core × (core_of s.verdict ≡ Some (map (through_names s.naming) core))
+abbrev pub IsReturnedCore : State → Option (List Literal) → Type 0
+IsReturnedCore s None = core_of s.verdict ≡ None
+IsReturnedCore s (Some core) = AreNamesInUse s.naming core × (core_of s.verdict ≡ Some (map (through_names s.naming) core))

@@ -7,7 +7,7 @@ use Rattle.varisat_formula.specs.Streams.{Taken}
 use Rattle.varisat_theory.specs.Journals.{Entry, Leaves, lines_of, rename_entry}
 use Rattle.varisat_proof.specs.declared.proof.format.ProofFormat.{ProofFormat}
 use Rattle.varisat_proof.specs.Lines.{has_marks}
-use Rattle.varisat_proof.specs.Telling.{bytes_told}
+use Rattle.varisat_proof.specs.Logging.{logged_bytes}
 use Rattle.varisat_proof.specs.Proving.{OpenState}
 use Rattle.varisat_tracer.specs.Carried.{carry}
 
@@ -39,35 +39,35 @@ BarsAssumptions proof = (p : OpenProof) × (proof ≡ Some p) × (has_marks p.fo
 
 -- the entries that were told, as a proof is told them
 abbrev pub entries_over : (ℕ → Option ℕ) → List Entry → List Entry
-entries_over variables told = map (rename_entry (carry variables)) told
+entries_over variables logged = map (rename_entry (carry variables)) logged
 
 -- the lines that were told, as a proof writes them
 abbrev pub lines_over : (ℕ → Option ℕ) → List Entry → List Line
-lines_over variables told = map (rename_line (carry variables)) (lines_of told)
+lines_over variables logged = map (rename_line (carry variables)) (lines_of logged)
 
 -- the identity was made, and was not told to have left
 abbrev pub IsThere : ℕ → List Entry → ℕ → Type 0
-IsThere made told i = (i < made) × (Leaves i ∈ told → ⊥)
+IsThere made logged i = (i < made) × (Leaves i ∈ logged → ⊥)
 
 -- Each identity that was made and has not left has a variable of its own.
-pub record HaveOwnVariables (variables : ℕ → Option ℕ) (made : ℕ) (told : List Entry) : Type 0 where
-  pub present : (i : ℕ) → IsThere made told i → (x : ℕ) × (variables i ≡ Some x)
-  pub apart : (i j x : ℕ) → IsThere made told i → IsThere made told j → variables i ≡ Some x → variables j ≡ Some x → i ≡ j
+pub record HaveOwnVariables (variables : ℕ → Option ℕ) (made : ℕ) (logged : List Entry) : Type 0 where
+  pub present : (i : ℕ) → IsThere made logged i → (x : ℕ) × (variables i ≡ Some x)
+  pub apart : (i j x : ℕ) → IsThere made logged i → IsThere made logged j → variables i ≡ Some x → variables j ≡ Some x → i ≡ j
 
 -- The bytes are those of all that was told for which the format has lines, each identity as its variable: before a proof opens
 -- nothing of that kind is told.
 abbrev pub IsWrittenAs : (ℕ → Option ℕ) → List Entry → OpenProof → Type 0
-IsWrittenAs variables told p = p.bytes ≡ bytes_told p.format (entries_over variables told)
+IsWrittenAs variables logged p = p.bytes ≡ logged_bytes p.format (entries_over variables logged)
 
 -- so it is where a proof is open
 abbrev pub IsWrittenWhereOpen : (ℕ → Option ℕ) → List Entry → Option OpenProof → Type 0
-IsWrittenWhereOpen variables told None = Unit {0}
-IsWrittenWhereOpen variables told (Some p) = IsWrittenAs variables told p
+IsWrittenWhereOpen variables logged None = Unit {0}
+IsWrittenWhereOpen variables logged (Some p) = IsWrittenAs variables logged p
 
 -- What holds the proof fits what a user knows of it.
-pub record ProofFits (opened : Option OpenState) (variables : ℕ → Option ℕ) (told : List Entry) (proof : Option OpenProof) : Type 0 where
+pub record ProofFits (opened : Option OpenState) (variables : ℕ → Option ℕ) (logged : List Entry) (proof : Option OpenProof) : Type 0 where
   pub same : opened ≡ opened_state proof
-  pub written : IsWrittenWhereOpen variables told proof
+  pub written : IsWrittenWhereOpen variables logged proof
 
 -- A proof that is open stays so, with further bytes.
 abbrev pub GoesOnWriting : Option OpenProof → Option OpenProof → Type 0

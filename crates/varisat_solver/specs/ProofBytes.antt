@@ -6,16 +6,16 @@ use Rattle.varisat_theory.specs.Journals.{Entry}
 use Rattle.varisat_proof.specs.declared.proof.format.ProofFormat.TheVariants.{Marked}
 use Rattle.varisat_proof.specs.Assumed.{cores_of}
 use Rattle.varisat_proof.specs.Lines.{encoding_of}
-use Rattle.varisat_proof.specs.Marked.{ProofState, state_of, nothing_told, TakesAll}
-use Rattle.varisat_proof.specs.Telling.{lines_told}
+use Rattle.varisat_proof.specs.Marked.{ProofState, state_of, nothing_logged, TakesAll}
+use Rattle.varisat_proof.specs.Logging.{logged_lines}
 
 -- The lines that a marked proof has of what was told are right, one after the other, from no clauses and no assumptions on. The
 -- clauses that they give are these, in order, the list that is assumed at the end is this one, and the cores are those that were
 -- told. Where that is claimed propagation over what is present then conflicts.
-pub record IsMarkedDerivation (told : List Entry) (clauses : List Clause) (assumptions : List Literal) (refuted : Type 0) : Type 0 where
+pub record IsMarkedDerivation (logged : List Entry) (clauses : List Clause) (assumptions : List Literal) (refuted : Type 0) : Type 0 where
   pub after : ProofState
-  pub takes : TakesAll (state_of [] nothing_told) (lines_told (encoding_of Marked) told) after
-  pub inputs : after.told.inputs.clauses ≡ clauses
-  pub assumed : after.told.assumed ≡ assumptions
-  pub cores : after.told.cores ≡ cores_of 0 told
+  pub takes : TakesAll (state_of [] nothing_logged) (logged_lines (encoding_of Marked) logged) after
+  pub inputs : after.logged.inputs.clauses ≡ clauses
+  pub assumed : after.logged.assumed ≡ assumptions
+  pub cores : after.logged.cores ≡ cores_of 0 logged
   pub refutes : refuted → Conflicts after.present []

@@ -8,12 +8,12 @@ use Rattle.varisat_proof.specs.declared.proof.format.ProofFormat.{ProofFormat}
 use Rattle.varisat_proof.specs.Lines.{encoding_of, plain_lines, has_marks}
 use Rattle.varisat_proof.specs.Proving.{IsClosed}
 use Rattle.varisat_proof.specs.Steps.{lines_written}
-use Rattle.varisat_proof.specs.Telling.{lines_told, bytes_told}
+use Rattle.varisat_proof.specs.Logging.{logged_lines, logged_bytes}
 use Rattle.varisat_proof.specs.Written.{AreInRange}
 use Rattle.varisat_solver.specs.OpenProofs.{OpenProof, opened_state, IsOpen, first_proof, entries_over, lines_over, HaveOwnVariables}
 use Rattle.varisat_solver.specs.ProofBytes.{IsMarkedDerivation}
 use Rattle.varisat_solver.specs.States.{Known, State}
-use Rattle.varisat_solver.specs.Calls.{IsValid, Invalidates, IsRefusedInvalid, count_anew, Verdicts, IsRefuted, calling}
+use Rattle.varisat_solver.specs.Calls.{IsValid, Invalidates, IsRefusedInvalid, count_anew, Verdicts, IsRefuted, by_state}
 use Rattle.varisat_solver.specs.declared.solver.SolverError.{SolverError}
 use Rattle.varisat_solver.specs.declared.solver.SolverError.TheVariants.{ProofIoError, Invalid, ProofOpen, ProofTooLate}
 
@@ -44,15 +44,15 @@ module _ {V : Type 0} (by : Verdicts V) where
   -- was ever hidden each entry is written as it is, the lines that add or delete a clause are a derivation from the clauses, and they
   -- refute them where these are known to be unsatisfiable; and a marked proof is one of the clauses and the assumptions.
   pub record IsProof (s : Known V) (p : OpenProof) : Type 0 where
-    pub written : p.bytes ≡ bytes_told p.format (entries_over s.variables s.told)
-    pub drat : has_marks p.format ≡ false → p.bytes ≡ lines_written (encoding_of p.format) (plain_lines (lines_over s.variables s.told))
-    pub apart : HaveOwnVariables s.variables s.naming.made s.told
-    pub plain : s.ever_hidden ≡ false → entries_over s.variables s.told ≡ s.told
-    pub in_range : s.ever_hidden ≡ false → AreInRange (lines_told (Text true) s.told)
-    pub readable : AreInRange (lines_told (Text true) (entries_over s.variables s.told))
-    pub derives : s.ever_hidden ≡ false → IsDerivation s.clauses (lines_of s.told)
-    pub refutes : s.ever_hidden ≡ false → IsRefuted by p.format s → Refutes s.clauses (lines_of s.told)
-    pub marked : s.ever_hidden ≡ false → IsMarkedDerivation s.told s.clauses s.assumptions (IsRefuted by p.format s)
+    pub written : p.bytes ≡ logged_bytes p.format (entries_over s.variables s.logged)
+    pub drat : has_marks p.format ≡ false → p.bytes ≡ lines_written (encoding_of p.format) (plain_lines (lines_over s.variables s.logged))
+    pub apart : HaveOwnVariables s.variables s.naming.made s.logged
+    pub plain : s.ever_hidden ≡ false → entries_over s.variables s.logged ≡ s.logged
+    pub in_range : s.ever_hidden ≡ false → AreInRange (logged_lines (Text true) s.logged)
+    pub readable : AreInRange (logged_lines (Text true) (entries_over s.variables s.logged))
+    pub derives : s.ever_hidden ≡ false → IsDerivation s.clauses (lines_of s.logged)
+    pub refutes : s.ever_hidden ≡ false → IsRefuted by p.format s → Refutes s.clauses (lines_of s.logged)
+    pub marked : s.ever_hidden ≡ false → IsMarkedDerivation s.logged s.clauses s.assumptions (IsRefuted by p.format s)
 
   -- so it is where a proof is open
   abbrev pub IsProofIfOpen : Known V → Type 0
@@ -70,4 +70,4 @@ module _ {V : Type 0} (by : Verdicts V) where
 
 -- the call `close_proof`
 abbrev pub ClosesProof : {W : Type 0} → (W → Taken) → State → Result (Option W) (SolverError × W) → State → Type 0
-ClosesProof taken s r t = Closes calling taken s r t
+ClosesProof taken s r t = Closes by_state taken s r t

@@ -28,6 +28,6 @@ step_refusal step.Memory = OutOfMemory
 step_refusal (step.Target cause) = ProofIoError cause
 
 -- how many faults of a proof's target the refusal tells
-abbrev pub told_faults : SolverError → ℕ
-told_faults (ProofIoError cause) = 1
-told_faults _ = 0
+abbrev pub returned_faults : SolverError → ℕ
+returned_faults (ProofIoError cause) = 1
+returned_faults _ = 0

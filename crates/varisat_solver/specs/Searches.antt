@@ -4,8 +4,8 @@ use Rattle.varisat_theory.specs.Derivations.{Line}
 use Rattle.varisat_theory.specs.Outcomes.{Steps}
 use Rattle.varisat_theory.specs.Journals.{Entry}
 use Rattle.varisat_trace.specs.Traces.{TakesStep}
-use Rattle.varisat_proof.specs.Proving.{ProofParts, IsTold}
-use Rattle.varisat_tracer.specs.Tracing.{TracerState, TakesGlobally, CanTell}
+use Rattle.varisat_proof.specs.Proving.{ProofParts, IsLogged}
+use Rattle.varisat_tracer.specs.Tracing.{TracerState, TakesGlobally, CanLog}
 use Rattle.varisat_schedule.specs.CallSteps.{steps_since}
 use Rattle.varisat_search.specs.declared.context.Context.{Context}
 use Rattle.varisat_search.specs.declared.state.SatState.{SatState}
@@ -20,8 +20,8 @@ use Rattle.varisat_search.specs.SettledUnits.{FixesByLearning, LearnsAlone}
 use Rattle.varisat_solver.specs.Calls.{with_verdict}
 use Rattle.varisat_solver.specs.Carried.{named_literals}
 use Rattle.varisat_solver.specs.Dropping.{LeavesWhereUnsettled, LeavesInTime, HasLetLeave, IsCalm}
-use Rattle.varisat_solver.specs.Journals.{retold, TellsMore, BeginsInSteps, EndBy, TellsProof}
-use Rattle.varisat_solver.specs.StepEntries.{TellsInSteps, SpeakOfAdded, HasStayed}
+use Rattle.varisat_solver.specs.Journals.{with_entries, LogsMore, BeginsInSteps, EndBy, LogsToProof}
+use Rattle.varisat_solver.specs.StepEntries.{LogsInSteps, SpeakOfAdded, HasStayed}
 use Rattle.varisat_solver.specs.SinceChange.{GoesOnSince, BeginsWithin}
 use Rattle.varisat_solver.specs.Spaces.{Spaces, SpacesFit}
 use Rattle.varisat_solver.specs.States.{State, Verdict, Unknown}
@@ -35,8 +35,8 @@ answer_at verdict.Unsat = Some false
 answer_at verdict.UnsatUnderAssumptions = Some false
 
 -- some entries were told to an open proof
-abbrev pub TellsSome : ProofParts → ProofParts → Type 0
-TellsSome p q = (given : List Entry) × IsTold p given q
+abbrev pub LogsSome : ProofParts → ProofParts → Type 0
+LogsSome p q = (given : List Entry) × IsLogged p given q
 
 -- When learned clauses may be deleted: before each step whose number is a multiple of the interval. And the number of the next step.
 pub record Turn : Type 0 where
@@ -52,14 +52,14 @@ turn_of x = record { interval = x.solver_config.reduce_locals_interval; number =
 -- that left before. A core that was found is told at last.
 pub record ComesTo (at : Turn) (n : ℕ) (s : State) (p q : ProofParts) (after : Spaces) : Type 0 where
   pub verdict : Verdict
-  pub told : List Entry
-  pub more : TellsMore n s.told told
-  pub adds : verdict ≡ Unknown → TellsInSteps at.interval at.number n s.told more.entries
-  pub stayed : verdict ≡ Unknown → SpeakOfAdded (HasStayed s.told) more.entries
-  pub begins : BeginsInSteps at.interval at.number (n - 1) s.told more.entries
+  pub logged : List Entry
+  pub more : LogsMore n s.logged logged
+  pub adds : verdict ≡ Unknown → LogsInSteps at.interval at.number n s.logged more.entries
+  pub stayed : verdict ≡ Unknown → SpeakOfAdded (HasStayed s.logged) more.entries
+  pub begins : BeginsInSteps at.interval at.number (n - 1) s.logged more.entries
   pub ends : EndBy verdict more.entries
-  pub proof : TellsProof s.variables s.told told p q
-  pub fits : SpacesFit after (retold told (with_verdict verdict s))
+  pub proof : LogsToProof s.variables s.logged logged p q
+  pub fits : SpacesFit after (with_entries logged (with_verdict verdict s))
 
 -- so it does from each state for which the spaces before stand
 abbrev pub ComesOn : Turn → ℕ → Spaces → Spaces → ProofParts → ProofParts → Type 0
@@ -80,8 +80,8 @@ pub record LeavesIfNews {A : Type 0} (q : TracerState) (x y : Context A) : Type 
 -- A step has begun, and variables left. The solver keeps what it did, and stands for the same states, to which more was told.
 pub record BeginsSolverStep {A : Type 0} (p q : TracerState) (x y : Context A) : Type 0 where
   pub kept : IsKept q.tables y
-  pub tells : CanTell q.proof
-  pub told : TellsSome p.proof q.proof
+  pub logs : CanLog q.proof
+  pub logged : LogsSome p.proof q.proof
   pub within : BeginsWithin x y
   pub state : y.solver_state ≡ x.solver_state
   pub count : length y.assignment.current ≡ length x.assignment.current
@@ -122,8 +122,8 @@ pub record MakesSolverStep {A : Type 0} (p q : TracerState) (x y : Context A) : 
   pub ends : MakesNamedStep mid q middle (record y { schedule = middle.schedule })
   -- what of this the steps of a call need
   pub kept : IsKept q.tables y
-  pub tells : CanTell q.proof
-  pub told : TellsSome p.proof q.proof
+  pub logs : CanLog q.proof
+  pub logged : LogsSome p.proof q.proof
   pub since : y.solver_state.sat_state ≡ verdict.Unknown → GoesOnSince x y
   pub state : y.solver_state ≡ record x.solver_state { sat_state = y.solver_state.sat_state }
   pub count : length y.assignment.current ≡ length x.assignment.current
@@ -133,10 +133,10 @@ pub record MakesSolverStep {A : Type 0} (p q : TracerState) (x y : Context A) : 
 -- Steps were made, from one context to the other, until there was a verdict or they were spent. Where none was made nothing changed.
 pub record FindsVerdict {A : Type 0} (p q : TracerState) (x y : Context A) (found : Option Bool) : Type 0 where
   pub kept : IsKept q.tables y
-  pub tells : CanTell q.proof
+  pub logs : CanLog q.proof
   pub state : y.solver_state ≡ record x.solver_state { sat_state = y.solver_state.sat_state }
   pub answer : found ≡ answer_at y.solver_state.sat_state
-  pub told : TellsSome p.proof q.proof
+  pub logged : LogsSome p.proof q.proof
   -- where no variable was to leave but with literals that are still to be propagated, so it is, unless under Unsat
   pub leaves : LeavesInTime p.tables (view x) → IsNotUnsat y → LeavesInTime q.tables (view y)
   pub stands : ComesOn (turn_of x) (steps_since x.schedule y.schedule) (undecided_spaces p.tables p.proof.checker x)

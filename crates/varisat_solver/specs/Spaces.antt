@@ -23,7 +23,7 @@ use Rattle.varisat_names.specs.declared.variables.data.VarData.{VarData}
 use Rattle.varisat_solver.specs.States.{State, with_variables, Verdict, Unknown, Sat, Unsat, UnsatUnderAssumptions, HasRightVerdict, IsWellFormed}
 use Rattle.varisat_solver.specs.Names.{Mode, Sample, Witness}
 use Rattle.varisat_solver.specs.Models.{put_name}
-use Rattle.varisat_proof.specs.Passing.{ToldConflict}
+use Rattle.varisat_proof.specs.Passing.{LogsConflict}
 use Rattle.varisat_tracer.specs.Carried.{carry}
 use Rattle.varisat_solver.specs.Usage.{IsApart}
 use Rattle.varisat_solver.specs.Carried.{AgreesAlong, is_forced}
@@ -107,7 +107,7 @@ pub record Translation : Type 0 where
   pub identity : ℕ → Option ℕ
   pub global : ℕ → Option ℕ
   pub forced : ℕ → Option Bool
-  pub told : List Entry
+  pub logged : List Entry
 
 -- each literal of the clauses is of a live identity
 abbrev pub AreLive : Translation → List Clause → Type 0
@@ -126,7 +126,7 @@ IsSettledBy r fixed c = IsTautology c ⊎ ((l : Literal) × (l ∈ c) × IsKnown
 -- forced value of a live identity without a solver variable.
 pub record SharesHeld (r : Translation) (fixed : List Literal) (share : List Clause) : Type 0 where
   pub held : List Clause
-  pub led : Leads [] r.told held
+  pub led : Leads [] r.logged held
   pub forgotten : List Clause
   pub same : SameClauses held (forgotten ++ rename (carry r.identity) share)
   pub inside : (c : Clause) (l : Literal) → c ∈ share → l ∈ c → (i : ℕ) × (r.identity (variable_of l) ≡ Some i)
@@ -137,7 +137,7 @@ pub record SharesHeld (r : Translation) (fixed : List Literal) (share : List Cla
 
 -- What was told of the clauses that the search holds. Under Unsat it leads to a conflict, and nothing more is told of clauses.
 abbrev pub HeldFits : Translation → List Literal → List Clause → Outcome → Type 0
-HeldFits r fixed share outcome.Unsat = ToldConflict r.told
+HeldFits r fixed share outcome.Unsat = LogsConflict r.logged
 HeldFits r fixed share _ = SharesHeld r fixed share
 
 -- What the search with its verdict says of the accepted clauses: it holds some clauses, as a proof would.
@@ -154,7 +154,7 @@ pub record SearchHolds (P : List Clause) (r : Translation) (s : Search) (v : Out
   -- each accepted clause is true, or is kept
   pub covered : v ≢ outcome.Unsat → CoversBy (carry r.identity) (is_forced r.forced) P s
   -- what was told leads to these clauses and to what was forgotten
-  pub told : HeldFits r s.fixed held v
+  pub logged : HeldFits r s.fixed held v
 
 -- The list, which is given over names with solver variables, is the state's over identities.
 pub record AssumptionsFit (from_user from_global names : ℕ → Option ℕ) (given assumptions : List Literal) : Type 0 where
@@ -175,10 +175,10 @@ pub record WorkingFits (P : List Clause) (identity : ℕ → Option ℕ) (assump
 
 -- a core of the state is the one that was told over names in use
 abbrev pub CoreFits : (ℕ → Option ℕ) → List Literal → Verdict → Type 0
-CoreFits names told Unknown = Unit {0}
-CoreFits names told (Sat found) = Unit {0}
-CoreFits names told Unsat = Unit {0}
-CoreFits names told (UnsatUnderAssumptions core) = ((l : Literal) → l ∈ told → (i : ℕ) × (names (variable_of l) ≡ Some i)) × (core ≡ map (carry names) told)
+CoreFits names logged Unknown = Unit {0}
+CoreFits names logged (Sat found) = Unit {0}
+CoreFits names logged Unsat = Unit {0}
+CoreFits names logged (UnsatUnderAssumptions core) = ((l : Literal) → l ∈ logged → (i : ℕ) × (names (variable_of l) ≡ Some i)) × (core ≡ map (carry names) logged)
 
 -- the verdict without a core, which says nothing of the clauses that are held
 abbrev pub without_core : Outcome → Outcome
@@ -197,7 +197,7 @@ VerdictFits identity model _ _ = ⊥
 
 -- by way of global variables
 abbrev pub translation : Carrying → Spaces → List Entry → Translation
-translation w p told = record { identity = chain p.global_from_solver w.identity; global = w.global; forced = w.forced; told = told }
+translation w p logged = record { identity = chain p.global_from_solver w.identity; global = w.global; forced = w.forced; logged = logged }
 
 -- the literal is of a counted identity
 abbrev pub IsCounted : List ℕ → Literal → Type 0
@@ -224,14 +224,14 @@ AllSpeakOf are (e ∷ es) = SpeaksOf are e × AllSpeakOf are es
 -- The accepted clauses are those that were told, in order, the list told last is that of the assumptions, and cores are of what was
 -- assumed; literals are of counted identities; just those identities were told to have left that are gone; and none left as long as
 -- nothing was hidden.
-pub record TellsWhole (told : List Entry) (clauses : List Clause) (assumptions : List Literal) (counted : List ℕ) (ever_hidden : Bool)
+pub record IsWholeLog (logged : List Entry) (clauses : List Clause) (assumptions : List Literal) (counted : List ℕ) (ever_hidden : Bool)
     (gone : ℕ → Type 0) : Type 0 where
-  pub accepted : accepted_of told ≡ clauses
-  pub assumed : assumed_behind [] told ≡ assumptions
-  pub cores : CoresAreAssumed [] told
-  pub spoken : AllSpeakOf (IsCounted counted) told
-  pub left : (i : ℕ) → (Leaves i ∈ told) ↔ gone i
-  pub stays : ever_hidden ≡ false → NoneLeaves told
+  pub accepted : accepted_of logged ≡ clauses
+  pub assumed : assumed_behind [] logged ≡ assumptions
+  pub cores : CoresAreAssumed [] logged
+  pub spoken : AllSpeakOf (IsCounted counted) logged
+  pub left : (i : ℕ) → (Leaves i ∈ logged) ↔ gone i
+  pub stays : ever_hidden ≡ false → NoneLeaves logged
 
 -- Each identity that was made is that of the global variable of its number, as long as none leaves.
 pub record IsPlain (identity : ℕ → Option ℕ) (made : ℕ) : Type 0 where
@@ -240,7 +240,7 @@ pub record IsPlain (identity : ℕ → Option ℕ) (made : ℕ) : Type 0 where
 
 -- The checker that runs inside has what was told so far leads to, over global variables: the same clauses, each as often.
 abbrev pub CheckerFits : (ℕ → Option ℕ) → List Entry → Option CheckerState → Type 0
-CheckerFits global told checker = (held : List Clause) → Leads [] told held → MayBeHeld checker (rename (carry global) held)
+CheckerFits global logged checker = (held : List Clause) → Leads [] logged held → MayBeHeld checker (rename (carry global) held)
 
 -- What a solver holds stands for the state.
 pub record Links (w : Carrying) (p : Spaces) (s : State) : Type 0 where
@@ -253,10 +253,10 @@ pub record Links (w : Carrying) (p : Spaces) (s : State) : Type 0 where
   pub units : UnitsFit w.identity w.forced p.kept s.counted
   pub isolation : IsolationFits w.identity w.forced p.kept s.clauses s.naming.made
   pub solvers : SolversFit w.identity p.solver_from_global p.global_from_solver s.counted
-  pub holds : SearchHolds s.clauses (translation w p s.told) p.search (without_core p.outcome)
+  pub holds : SearchHolds s.clauses (translation w p s.logged) p.search (without_core p.outcome)
   pub assumptions : AssumptionsFit p.global_from_user p.solver_from_global s.naming.names p.assumptions s.assumptions
   pub marks : MarksFit p.global_from_user p.kept p.assumptions
-  pub working : WorkingFits s.clauses (translation w p s.told).identity s.assumptions p.working
+  pub working : WorkingFits s.clauses (translation w p s.logged).identity s.assumptions p.working
   pub verdict : VerdictFits w.identity p.model p.outcome s.verdict
   pub core : CoreFits s.naming.names p.core s.verdict
   pub right : HasRightVerdict s
@@ -271,8 +271,8 @@ pub record Links (w : Carrying) (p : Spaces) (s : State) : Type 0 where
   pub variables : (i x : ℕ) → w.global i ≡ Some x → s.variables i ≡ Some x
   -- and each that was made, also one that has left, as one of the global variables
   pub numbered : (i x : ℕ) → s.variables i ≡ Some x → x < p.globals
-  pub told : TellsWhole s.told s.clauses s.assumptions s.counted s.ever_hidden (IsGone w s)
-  pub checked : CheckerFits w.global s.told p.checker
+  pub logged : IsWholeLog s.logged s.clauses s.assumptions s.counted s.ever_hidden (IsGone w s)
+  pub checked : CheckerFits w.global s.logged p.checker
 
 -- the spaces stand for the state
 abbrev pub SpacesFit : Spaces → State → Type 0

@@ -32,7 +32,7 @@ pub record Ledger : Type 0 where
 -- name was ever freed while its variable lived on. `clauses`: those accepted, over identities, as the names that were in use carried
 -- them when they were given: a name that becomes free may come back for another variable, and what was said before still speaks of
 -- the first. `assumptions`: the list as given, over identities. `counted`: the identities that accepted clauses and assumption lists
--- have named so far, each once. `told`: what a proof that was opened at the beginning would have been told, over identities, as long
+-- have named so far, each once. `logged`: what a proof that was opened at the beginning would have been told, over identities, as long
 -- as no error came from which there is no way back. `variables`: as which variable a proof writes each identity that was made; another
 -- identity has the same one only once this one has left. `proof`: the proof that is open. `words`: how many words the clause store has.
 pub record Known (V : Type 0) : Type 0 where
@@ -43,7 +43,7 @@ pub record Known (V : Type 0) : Type 0 where
   pub counted : List ℕ
   pub verdict : V
   pub ledger : Ledger
-  pub told : List Entry
+  pub logged : List Entry
   pub variables : ℕ → Option ℕ
   pub proof : Option OpenProof
   pub words : ℕ
@@ -76,7 +76,7 @@ first_known verdict = record {
   counted = [];
   verdict = verdict;
   ledger = record { valid = true; started = false; steps = 0; since = 0; settings = default_settings; checking = false };
-  told = [];
+  logged = [];
   variables = λ i. None;
   proof = None;
   words = 0;
@@ -115,7 +115,7 @@ pub record FlagsFit (s : State) : Type 0 where
   pub clauses : s.ledger.started ≡ false → s.clauses ≡ []
   pub assumptions : s.ledger.started ≡ false → s.assumptions ≡ []
   pub counted : s.ledger.started ≡ false → s.counted ≡ []
-  pub unlisted : s.ledger.started ≡ false → lists_of s.told ≡ []
+  pub unlisted : s.ledger.started ≡ false → lists_of s.logged ≡ []
   pub unassumed : BarsAssumptions s.proof → s.assumptions ≡ []
 
 -- What a verdict claims: an assignment that was found satisfies the clauses and the assumptions, and is false on each identity

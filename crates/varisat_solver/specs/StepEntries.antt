@@ -22,8 +22,8 @@ LeadsInSteps interval number (suc k) P es Q =
 
 -- Whatever the entries told so far lead to from no clauses, the further ones lead on from it, as those of k steps.
 abbrev pub GoesOnInSteps : ℕ → ℕ → ℕ → List Entry → List Entry → Type 0
-GoesOnInSteps interval number k told es =
-    (held : List Clause) → Leads [] told held → (after : List Clause) × LeadsInSteps interval number k held es after
+GoesOnInSteps interval number k logged es =
+    (held : List Clause) → Leads [] logged held → (after : List Clause) × LeadsInSteps interval number k held es after
 
 -- Of each clause of P a part is among Q, or a literal of it is of a variable that leaves by one of the entries.
 abbrev pub KeepsParts : List Entry → List Clause → List Clause → Type 0
@@ -31,16 +31,16 @@ KeepsParts es P Q = (c : Clause) → c ∈ P → ((d : Clause) × (d ∈ Q) × (
 
 -- so it is where the further entries lead
 abbrev pub GoesOnKeeping : List Entry → List Entry → Type 0
-GoesOnKeeping told es = (held after : List Clause) → Leads [] told held → Leads held es after → KeepsParts es held after
+GoesOnKeeping logged es = (held after : List Clause) → Leads [] logged held → Leads held es after → KeepsParts es held after
 
 -- The entries are those of k steps, or of a part of one, which keeps parts of all clauses unless learned ones may be deleted in it.
-abbrev pub TellsInSteps : ℕ → ℕ → ℕ → List Entry → List Entry → Type 0
-TellsInSteps interval number zero told es = number % interval ≢ 0 → GoesOnKeeping told es
-TellsInSteps interval number (suc k) told es = GoesOnInSteps interval number (suc k) told es
+abbrev pub LogsInSteps : ℕ → ℕ → ℕ → List Entry → List Entry → Type 0
+LogsInSteps interval number zero logged es = number % interval ≢ 0 → GoesOnKeeping logged es
+LogsInSteps interval number (suc k) logged es = GoesOnInSteps interval number (suc k) logged es
 
 -- the variable of the literal has not left by one of the entries
 abbrev pub HasStayed : List Entry → Literal → Type 0
-HasStayed told l = Leaves (variable_of l) ∈ told → ⊥
+HasStayed logged l = Leaves (variable_of l) ∈ logged → ⊥
 
 -- `are` holds of each literal of the clauses that lines add
 abbrev pub SpeakOfAdded : (Literal → Type 0) → List Entry → Type 0

@@ -18,7 +18,7 @@ use Rattle.std.specs.declared.io.Error.{Error}
 use Rattle.varisat_proof.specs.Calls.{CheckerState}
 use Rattle.varisat_proof.specs.Proving.{OpenState, ProofParts, marked_searched, Flushes}
 use Rattle.varisat_solver.specs.OpenProofs.{opened_state, IsWrittenWhereOpen}
-use Rattle.varisat_tracer.specs.Tracing.{CanTell}
+use Rattle.varisat_tracer.specs.Tracing.{CanLog}
 use Rattle.varisat_solver.specs.States.{State, Ledger, FlagsFit}
 use Rattle.varisat_solver.specs.Accepting.{AreBounded, DecidesInUse, IsAssumedSolver}
 use Rattle.varisat_solver.specs.Models.{put_name}
@@ -109,7 +109,7 @@ StandsForSome p started = (s : State) × SpacesFit p s × (started ≡ false →
 -- were made, and it stands for some state, so that its checker finds each step right that it is told.
 pub record IsKeptSince {A : Type 0} (tables : Tables) (proof : ProofParts) (search : Context A) (started : Bool) (changed_at : ℕ) : Type 0 where
   pub kept : IsKept tables search
-  pub tells : CanTell proof
+  pub logs : CanLog proof
   pub counts : CountsSince changed_at search
   pub stands : StandsForSome (spaces_with tables proof.checker search) started
 
@@ -121,7 +121,7 @@ pub record StandsFor (g : Summary) (s : State) : Type 0 where
   pub words : s.words ≡ g.words
   pub same : g.opened ≡ opened_state s.proof
   pub fits : g.ledger.valid ≡ true → SpacesFit (spaces g) s
-  pub written : g.ledger.valid ≡ true → IsWrittenWhereOpen s.variables s.told s.proof
+  pub written : g.ledger.valid ≡ true → IsWrittenWhereOpen s.variables s.logged s.proof
   pub flags : g.ledger.valid ≡ true → FlagsFit s
   pub bounded : g.ledger.valid ≡ true → AreBounded g.tables
 

@@ -4,7 +4,7 @@ use Rattle.varisat_literals.specs.Numbers.{variable_limit}
 use Rattle.varisat_names.specs.VarMap.{at}
 use Rattle.varisat_names.specs.VarData.{kept_at}
 use Rattle.varisat_names.specs.Variables.{Tables, IsNamed, IsChangedTo, IsHidden, IsDeletedIfUnused}
-use Rattle.varisat_proof.specs.Proving.{IsTold}
+use Rattle.varisat_proof.specs.Proving.{IsLogged}
 use Rattle.varisat_search.specs.declared.state.SatState.{SatState}
 use Rattle.varisat_search.specs.declared.state.SatState.TheVariants as verdict
 use Rattle.varisat_tracer.specs.Tracing.{TracerState, leaves_if_deleted}
@@ -64,7 +64,7 @@ pub record SetsNamedMode (u : ℕ) (mode : SamplingMode) (old : Tables) (x : ℕ
 -- The hidden variable x is not live any more where it is unused, and the proof was told so.
 pub record LeavesIfUnused (p : TracerState) (x : ℕ) (q : TracerState) : Type 0 where
   pub deleted : IsDeletedIfUnused p.tables q.tables x
-  pub told : IsTold p.proof (leaves_if_deleted q.tables x) q.proof
+  pub logged : IsLogged p.proof (leaves_if_deleted q.tables x) q.proof
   pub opened : q.proof.opened ≡ p.proof.opened
 
 -- The name was named and is free, and its variable hidden. Unless the verdict is Unsat, it left where it is unused.
@@ -79,4 +79,4 @@ pub record HidesNamed (u : ℕ) (v : SatState) (p q : TracerState) : Type 0 wher
 pub record ChangesNamed (u : ℕ) (mode : SamplingMode) (v : SatState) (p q : TracerState) : Type 0 where
   pub hides : mode ≡ sampling.Hide → HidesNamed u v p q
   pub sets : mode ≢ sampling.Hide → (x : ℕ) × SetsNamedMode u mode p.tables x q.tables
-  pub untold : mode ≢ sampling.Hide → q.proof ≡ p.proof
+  pub unlogged : mode ≢ sampling.Hide → q.proof ≡ p.proof

@@ -8,11 +8,11 @@ ghost use Rattle.varisat_names.specs.VarMap.{at};
 ghost use Rattle.varisat_search.specs.Contexts.{IsNotUnsat, KeepsSchedule};
 ghost use Rattle.varisat_solver.specs.Accepted.{KeepsValidity, IsWithinIdentities, StandsOnceAccepted, StandsOnceAssumed};
 ghost use Rattle.varisat_theory.specs.Journals.{Accepts, Assumes};
-ghost use Rattle.varisat_tracer.specs.Tracing.{tracer_state, TakesGlobally, BreaksProof, CanTell};
+ghost use Rattle.varisat_tracer.specs.Tracing.{tracer_state, TakesGlobally, BreaksProof, CanLog};
 ghost use Rattle.varisat_search.specs.StepErrors.{step_faults, HasNoRoom};
 ghost use Rattle.varisat_solver.specs.Spaces.{FitSome};
 ghost use Rattle.varisat_solver.specs.Summaries.{spaces_with, IsKept};
-ghost use Rattle.varisat_solver.specs.Searches.{TellsSome};
+ghost use Rattle.varisat_solver.specs.Searches.{LogsSome};
 ghost use Rattle.varisat_solver.specs.Accepting.{CanBeNamed, HasNames, AreJoined, AreMarked};
 
 use std::alloc::Allocator;
@@ -65,12 +65,12 @@ fn mark_assumed<A: Allocator + Copy>(
 }
 
 /// Tells the proof of an accepted clause, which is over solver variables.
-fn tell_clause<W: ProofTarget, A: Allocator + Copy>(
+fn log_clause<W: ProofTarget, A: Allocator + Copy>(
     tracer: &mut SolverTracer<W, A>,
     clause: &[Lit],
 ) -> Result<(), StepError>
-    requires { CanTell tracer.old.proof }
-    ensures told { OnOk result (TakesGlobally (tracer_state tracer.old) (Accepts clause.now ∷ []) (tracer_state tracer.new)) }
+    requires { CanLog tracer.old.proof }
+    ensures logged { OnOk result (TakesGlobally (tracer_state tracer.old) (Accepts clause.now ∷ []) (tracer_state tracer.new)) }
     ensures broken { IfErr result (λ error. BreaksProof tracer.old.proof (step_faults error) tracer.new.proof) }
     ensures unstored { IfErr result (λ error. error ≢ StepError.Full) }
 {
@@ -79,12 +79,12 @@ fn tell_clause<W: ProofTarget, A: Allocator + Copy>(
 }
 
 /// Tells the proof of an accepted list of assumptions, which is over solver variables.
-fn tell_assumptions<W: ProofTarget, A: Allocator + Copy>(
+fn log_assumptions<W: ProofTarget, A: Allocator + Copy>(
     tracer: &mut SolverTracer<W, A>,
     list: &[Lit],
 ) -> Result<(), StepError>
-    requires { CanTell tracer.old.proof }
-    ensures told { OnOk result (TakesGlobally (tracer_state tracer.old) (Assumes list.now ∷ []) (tracer_state tracer.new)) }
+    requires { CanLog tracer.old.proof }
+    ensures logged { OnOk result (TakesGlobally (tracer_state tracer.old) (Assumes list.now ∷ []) (tracer_state tracer.new)) }
     ensures broken { IfErr result (λ error. BreaksProof tracer.old.proof (step_faults error) tracer.new.proof) }
     ensures unstored { IfErr result (λ error. error ≢ StepError.Full) }
 {
@@ -101,16 +101,16 @@ pub fn accept_user_clause<W: ProofTarget, A: Allocator + Copy>(
     clause: &[Lit],
 ) -> Result<(), StepError>
     requires kept { IsKept tracer.old.tables ctx.old }
-    requires tells { CanTell tracer.old.proof }
+    requires logs { CanLog tracer.old.proof }
     requires stands { FitSome (spaces_with tracer.old.tables tracer.old.proof.checker ctx.old) }
     requires unsettled { IsNotUnsat ctx.old }
     requires names { CanBeNamed clause.now tracer.old.tables }
     ensures kept { OnOk result (IsKept tracer.new.tables ctx.new) }
-    ensures tells { OnOk result (CanTell tracer.new.proof) }
+    ensures logs { OnOk result (CanLog tracer.new.proof) }
     ensures state { OnOk result (ctx.new.solver_state ≡
         record ctx.old.solver_state { sat_state = ctx.new.solver_state.sat_state; formula_is_empty = false }) }
     ensures schedule { KeepsSchedule ctx.old ctx.new }
-    ensures told { OnOk result (TellsSome tracer.old.proof tracer.new.proof) }
+    ensures logged { OnOk result (LogsSome tracer.old.proof tracer.new.proof) }
     ensures accepted { OnOk result (StandsOnceAccepted clause.now (tracer_state tracer.old) ctx.old (tracer_state tracer.new) ctx.new) }
     // What the target of an open proof has after an error.
     ensures broken { IfErr result (λ error. BreaksProof tracer.old.proof (step_faults error) tracer.new.proof) }
@@ -124,7 +124,7 @@ pub fn accept_user_clause<W: ProofTarget, A: Allocator + Copy>(
     tracer.tables.prove_linked();
     mark_joined(&mut tracer.tables, clause);
     let lits = literals.as_slice();
-    tell_clause(tracer, lits)?;
+    log_clause(tracer, lits)?;
     load_clause(ctx, tracer, lits)?;
     Ok(())
 }
@@ -138,13 +138,13 @@ pub fn assume_list<W: ProofTarget, A: Allocator + Copy>(
     list: &[Lit],
 ) -> Result<(), StepError>
     requires kept { IsKept tracer.old.tables ctx.old }
-    requires tells { CanTell tracer.old.proof }
+    requires logs { CanLog tracer.old.proof }
     requires names { CanBeNamed list.now tracer.old.tables }
     ensures kept { OnOk result (IsKept tracer.new.tables ctx.new) }
-    ensures tells { OnOk result (CanTell tracer.new.proof) }
+    ensures logs { OnOk result (CanLog tracer.new.proof) }
     ensures state { OnOk result (KeepsValidity ctx.old.solver_state ctx.new.solver_state) }
     ensures schedule { KeepsSchedule ctx.old ctx.new }
-    ensures told { OnOk result (TellsSome tracer.old.proof tracer.new.proof) }
+    ensures logged { OnOk result (LogsSome tracer.old.proof tracer.new.proof) }
     ensures assumed { OnOk result (StandsOnceAssumed list.now (tracer_state tracer.old) ctx.old (tracer_state tracer.new) ctx.new) }
     // What the target of an open proof has after an error. The clause store is not asked for room.
     ensures broken { IfErr result (λ error. BreaksProof tracer.old.proof (step_faults error) tracer.new.proof) }
@@ -165,6 +165,6 @@ pub fn assume_list<W: ProofTarget, A: Allocator + Copy>(
     mark_assumed(&mut tracer.tables, list, true);
     let lits = literals.as_slice();
     set_assumptions(ctx, list, lits)?;
-    tell_assumptions(tracer, lits)?;
+    log_assumptions(tracer, lits)?;
     Ok(())
 }

@@ -10,8 +10,8 @@ ghost use Rattle.varisat_search.specs.Contexts.{view, KeepsSchedule};
 ghost use Rattle.varisat_search.specs.SettledUnits.{IsSettledDown};
 ghost use Rattle.varisat_solver.specs.SinceChange.{GoesOnWithin};
 ghost use Rattle.varisat_solver.specs.Accepting.{AreBounded};
-ghost use Rattle.varisat_solver.specs.Searches.{TellsSome, Turn, ComesOnUndecided};
-ghost use Rattle.varisat_tracer.specs.Tracing.{tracer_state, open_parts, BreaksProof, CanTell};
+ghost use Rattle.varisat_solver.specs.Searches.{LogsSome, Turn, ComesOnUndecided};
+ghost use Rattle.varisat_tracer.specs.Tracing.{tracer_state, open_parts, BreaksProof, CanLog};
 ghost use Rattle.varisat_search.specs.StepErrors.{step_faults};
 ghost use Rattle.varisat_solver.specs.Spaces.{FitSome};
 ghost use Rattle.varisat_solver.specs.Summaries.{undecided_spaces, IsKept};
@@ -244,14 +244,14 @@ pub fn drop_fixed<W: ProofTarget, A: Allocator + Copy>(
     literals: &mut Vec<Lit, A>,
 ) -> Result<(), StepError>
     requires kept { IsKept tracer.old.tables ctx.old }
-    requires tells { CanTell tracer.old.proof }
+    requires logs { CanLog tracer.old.proof }
     requires stands { FitSome (undecided_spaces tracer.old.tables tracer.old.proof.checker ctx.old) }
     requires unknown { ctx.old.solver_state.sat_state ≡ SatState.Unknown }
     ensures kept { OnOk result (IsKept tracer.new.tables ctx.new) }
-    ensures tells { OnOk result (CanTell tracer.new.proof) }
+    ensures logs { OnOk result (CanLog tracer.new.proof) }
     ensures schedule { KeepsSchedule ctx.old ctx.new }
     ensures within { OnOk result (GoesOnWithin ctx.old ctx.new) }
-    ensures told { OnOk result (TellsSome tracer.old.proof tracer.new.proof) }
+    ensures logged { OnOk result (LogsSome tracer.old.proof tracer.new.proof) }
     ensures state { ctx.new.solver_state ≡ ctx.old.solver_state }
     ensures count { OnOk result (length ctx.new.assignment.current ≡ length ctx.old.assignment.current) }
     ensures left { OnOk result (LeavesWhereUnsettled ctx.old tracer.new.tables (view ctx.new)) }

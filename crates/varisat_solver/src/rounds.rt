@@ -2,7 +2,7 @@
 ghost use Rattle.std.specs.Prelude.{◌≡◌, ◌↔◌, ◌<◌, ◌≤◌, IsTrue, Err};
 ghost use Rattle.varisat_solver.specs.States.{State};
 ghost use Rattle.varisat_solver.specs.Summaries.{StandsFor, StandsOnce};
-ghost use Rattle.varisat_solver.specs.Calls.{SearchesWithin, Solves, calling};
+ghost use Rattle.varisat_solver.specs.Calls.{SearchesWithin, Solves, by_state};
 
 use crate::progress::{write_head, write_row, write_summary};
 use crate::solver::{Solver, SolverError};
@@ -17,7 +17,7 @@ pub fn search<W: ProofTarget, A: Allocator + Copy, E: Write>(
     interval: Option<u64>,
     err: &mut E,
 ) -> Result<bool, SolverError>
-    ensures { (s : State) → StandsFor solver.old s → (t : State) × Solves calling s result t × StandsFor solver.new t }
+    ensures { (s : State) → StandsFor solver.old s → (t : State) × Solves by_state s result t × StandsFor solver.new t }
 {
     match interval {
         Some(interval) => search_in_rounds(solver, interval, err),
@@ -31,14 +31,14 @@ fn search_in_rounds<W: ProofTarget, A: Allocator + Copy, E: Write>(
     interval: u64,
     err: &mut E,
 ) -> Result<bool, SolverError>
-    ensures { (s : State) → StandsFor solver.old s → (t : State) × Solves calling s result t × StandsFor solver.new t }
+    ensures { (s : State) → StandsFor solver.old s → (t : State) × Solves by_state s result t × StandsFor solver.new t }
 {
     let max_steps = solver.max_steps();
     // Of a writer that fails here nothing is left to tell.
     let _ = write_head(err);
     let found = seek_in_rounds(solver, max_steps, interval, err);
     solver.set_max_steps(max_steps);
-    tell_row(err, solver.steps(), solver);
+    print_row(err, solver.steps(), solver);
     let _ = write_summary(err, solver.steps(), &solver.statistics());
     if !solver.is_valid() {
         return found;
@@ -70,12 +70,12 @@ fn seek_in_rounds<W: ProofTarget, A: Allocator + Copy, E: Write>(
         if rest == 0 {
             return found;
         }
-        tell_row(err, steps, solver);
+        print_row(err, steps, solver);
     }
 }
 
 /// Tells how far the search is.
-fn tell_row<W: ProofTarget, A: Allocator + Copy, E: Write>(
+fn print_row<W: ProofTarget, A: Allocator + Copy, E: Write>(
     err: &mut E,
     steps: u64,
     solver: &Solver<W, A>,

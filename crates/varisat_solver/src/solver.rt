@@ -151,7 +151,7 @@ fn invalidate<E: Into<SolverError>, A: Allocator + Copy>(
     ctx: &mut Context<A>,
     error: E,
 ) -> SolverError
-    ensures told { E.converts error result }
+    ensures logged { E.converts error result }
     ensures invalid { ctx.new ≡ invalidated ctx.old }
 {
     ctx.solver_state.state_is_invalid = true;
@@ -264,15 +264,15 @@ impl<W: ProofTarget, A: Allocator + Copy> Solver<W, A> {
     ghost use Rattle.std.specs.declared.io.Error.{Error};
     ghost use Rattle.varisat_solver.specs.States.{State, empty_state};
     ghost use Rattle.varisat_solver.specs.Models.{IsCompletableIn, HasModel, HasCore, IsNamedCore};
-    ghost use Rattle.varisat_solver.specs.Calls.{IsValid, count_anew, with_max_steps, AddsClause, MakesVar, Assumes, Searches, Solves, TellsList, Configures, TellsSteps, TellsSince, TellsValid, answer_of, calling};
+    ghost use Rattle.varisat_solver.specs.Calls.{IsValid, count_anew, with_max_steps, AddsClause, MakesVar, Assumes, Searches, Solves, ReturnsList, Configures, ReturnsSteps, ReturnsSince, ReturnsValid, answer_of, by_state};
     ghost use Rattle.varisat_solver.specs.ClauseCalls.{AddsFormula, AddsDimacs};
-    ghost use Rattle.varisat_solver.specs.Additions.{AddsAll, TellsFault};
-    ghost use Rattle.varisat_solver.specs.Told.{told_list, lent_list};
+    ghost use Rattle.varisat_solver.specs.Additions.{AddsAll, ReturnsFault};
+    ghost use Rattle.varisat_solver.specs.ReturnedLists.{returned_list, lent_list};
     ghost use Rattle.varisat_solver.specs.Summaries.{StandsFor, StandsOnce, EndsSearch, HasFullStore};
     ghost use Rattle.varisat_solver.specs.Targets.{WritesOn, WritesAll};
     ghost use Rattle.varisat_proof.specs.Proving.{marked_searched};
     ghost use Rattle.varisat_solver.specs.Journals.{IsJournal};
-    ghost use Rattle.varisat_solver.specs.Refusals.{told_faults};
+    ghost use Rattle.varisat_solver.specs.Refusals.{returned_faults};
     ghost use Rattle.varisat_solver.specs.Dropping.{GoesOnLeaving};
     ghost use Rattle.varisat_proof.specs.Proving.{IsClosed};
     ghost use Rattle.varisat_solver.specs.ProofCalls.{OpensProof, EnablesChecking, ClosesProof};
@@ -324,7 +324,7 @@ impl<W: ProofTarget, A: Allocator + Copy> Solver<W, A> {
 
     /// How many steps all calls of `solve` made together.
     pub fn steps(&self) -> u64
-        ensures { StandsOnce self.now (λ s t. TellsSteps s result t) self.now }
+        ensures { StandsOnce self.now (λ s t. ReturnsSteps s result t) self.now }
     {
         self.ctx.schedule.steps()
     }
@@ -334,7 +334,7 @@ impl<W: ProofTarget, A: Allocator + Copy> Solver<W, A> {
     /// valid solver they are fewer than (n+2)*2^(n+2), and so than 2^(2n+3), where the clauses and all assumptions so far
     /// name n variables, however often a call was interrupted.
     pub fn steps_since_change(&self) -> u64
-        ensures { StandsOnce self.now (λ s t. TellsSince s result t) self.now }
+        ensures { StandsOnce self.now (λ s t. ReturnsSince s result t) self.now }
     {
         self.ctx.schedule.steps().saturating_sub(self.changed_at)
     }
@@ -382,7 +382,7 @@ impl<W: ProofTarget, A: Allocator + Copy> Solver<W, A> {
     /// `failed_core` return None, and `close_proof` hands back the target as it is.
     pub fn is_valid(&self) -> bool
         ensures now { result ≡ self.now.ledger.valid }
-        ensures call { StandsOnce self.now (λ s t. TellsValid s result t) self.now }
+        ensures call { StandsOnce self.now (λ s t. ReturnsValid s result t) self.now }
     {
         !self.ctx.solver_state.state_is_invalid
     }
@@ -436,7 +436,7 @@ impl<W: ProofTarget, A: Allocator + Copy> Solver<W, A> {
     ) -> Result<(), SolverError>
         ensures target { WritesOn self.old.opened result self.new.opened }
         ensures full { result ≡ Err SolverError.ClauseStoreFull → HasFullStore self.new }
-        ensures call { StandsOnce self.old (λ s t. AddsAll calling s formula.now.clauses result t) self.new }
+        ensures call { StandsOnce self.old (λ s t. AddsAll by_state s formula.now.clauses result t) self.new }
     {
         for clause in formula.iter() {
             self.add_clause(clause)?;
@@ -463,9 +463,9 @@ impl<W: ProofTarget, A: Allocator + Copy> Solver<W, A> {
     /// The refusal for a fault of a text. Where memory ran out in the reader the solver is invalid then.
     fn refuse_text(&mut self, fault: DimacsError) -> SolverError
         ensures same { self.new.opened ≡ self.old.opened }
-        ensures faults { told_faults result ≡ 0 }
+        ensures faults { returned_faults result ≡ 0 }
         ensures full { result ≢ SolverError.ClauseStoreFull }
-        ensures call { (s : State) → StandsFor self.old s → IsValid s → (t : State) × TellsFault calling (Some fault) s (Err result) t × StandsFor self.new t }
+        ensures call { (s : State) → StandsFor self.old s → IsValid s → (t : State) × ReturnsFault by_state (Some fault) s (Err result) t × StandsFor self.new t }
     {
         if let DimacsErrorKind::OutOfMemory = fault.kind {
             return invalidate(&mut self.ctx, SolverError::OutOfMemory);
@@ -613,7 +613,7 @@ impl<W: ProofTarget, A: Allocator + Copy> Solver<W, A> {
     /// The next call then goes on. Where memory runs out, the clause store is full or the target of an open proof fails,
     /// the solver is invalid; a proof that cannot be flushed is told in place of spent steps.
     pub fn solve(&mut self) -> Result<bool, SolverError>
-        ensures call { StandsOnce self.old (λ s t. Solves calling s result t) self.new }
+        ensures call { StandsOnce self.old (λ s t. Solves by_state s result t) self.new }
         ensures satisfiable { result ≡ Ok true → (s : State) → StandsFor self.old s → IsSatisfiableWith s.clauses s.assumptions }
         ensures unsatisfiable { result ≡ Ok false → (s : State) → StandsFor self.old s → IsSatisfiableWith s.clauses s.assumptions → ⊥ }
         ensures model { result ≡ Ok true → (s : State) → StandsFor self.new s → HasModel s }
@@ -689,9 +689,9 @@ impl<W: ProofTarget, A: Allocator + Copy> Solver<W, A> {
     /// The names in use in increasing order with the values that were found, if the last thing that was found out is
     /// that the clauses are satisfiable; else None, as in an invalid solver. Where memory runs out nothing changes.
     pub fn model(&self) -> Result<Option<Vec<Lit, A>>, AllocError>
-        ensures call { StandsOnce self.now (λ s t. TellsList (calling.model s) s (told_list result) t) self.now }
-        ensures completable { (m : List ℕ) → told_list result ≡ Ok (Some m) → (s : State) → StandsFor self.now s → IsCompletableIn s m }
-        ensures absent { told_list result ≡ Ok None → (s : State) → StandsFor self.now s → IsValid s → answer_of s.verdict ≡ Some true → ⊥ }
+        ensures call { StandsOnce self.now (λ s t. ReturnsList (by_state.model s) s (returned_list result) t) self.now }
+        ensures completable { (m : List ℕ) → returned_list result ≡ Ok (Some m) → (s : State) → StandsFor self.now s → IsCompletableIn s m }
+        ensures absent { returned_list result ≡ Ok None → (s : State) → StandsFor self.now s → IsValid s → answer_of s.verdict ≡ Some true → ⊥ }
     {
         if self.ctx.solver_state.state_is_invalid {
             return Ok(None);
@@ -710,7 +710,7 @@ impl<W: ProofTarget, A: Allocator + Copy> Solver<W, A> {
     /// that was found out is that these are unsatisfiable under the assumptions; an empty list where the clauses alone
     /// are; else None, as in an invalid solver.
     pub fn failed_core(&self) -> Option<&[Lit]>
-        ensures call { StandsOnce self.now (λ s t. TellsList (calling.core s) s (Ok (lent_list result)) t) self.now }
+        ensures call { StandsOnce self.now (λ s t. ReturnsList (by_state.core s) s (Ok (lent_list result)) t) self.now }
         ensures fails { (core : List ℕ) → lent_list result ≡ Some core → (s : State) → StandsFor self.now s → IsNamedCore s core }
         ensures absent { lent_list result ≡ None → (s : State) → StandsFor self.now s → IsValid s → answer_of s.verdict ≡ Some false → ⊥ }
     {
@@ -727,7 +727,7 @@ impl<W: ProofTarget, A: Allocator + Copy> Solver<W, A> {
 
     /// A copy of the failed core. Where memory runs out nothing changes.
     pub fn copy_core(&self) -> Result<Option<Vec<Lit, A>>, AllocError>
-        ensures { StandsOnce self.now (λ s t. TellsList (calling.core s) s (told_list result) t) self.now }
+        ensures { StandsOnce self.now (λ s t. ReturnsList (by_state.core s) s (returned_list result) t) self.now }
     {
         match self.failed_core() {
             Some(core) => {
@@ -740,7 +740,7 @@ impl<W: ProofTarget, A: Allocator + Copy> Solver<W, A> {
 }
 
 impl<W: ProofTarget, A: Allocator + Copy> Solver<W, A> {
-    ghost use Rattle.varisat_solver.specs.Told.{told_vars};
+    ghost use Rattle.varisat_solver.specs.ReturnedLists.{returned_variables};
     ghost use Rattle.varisat_solver.specs.Usage.{ChangesMode, SamplesVar, WitnessesVar, HidesVar, Observes};
     ghost use Rattle.varisat_solver.specs.Summaries.{StandsOnce};
 
@@ -786,7 +786,7 @@ impl<W: ProofTarget, A: Allocator + Copy> Solver<W, A> {
     /// names it, or if the clauses force its value. Refused in an invalid solver, and then nothing changes, and where
     /// memory runs out. There are no more variables than names below the limit.
     pub fn observe_internal_vars(&mut self) -> Result<Vec<Var, A>, SolverError>
-        ensures { StandsOnce self.old (λ s t. Observes s (told_vars result) t) self.new }
+        ensures { StandsOnce self.old (λ s t. Observes s (returned_variables result) t) self.new }
     {
         ensure_valid(&self.ctx)?;
         self.tracer.tables.prove_linked();

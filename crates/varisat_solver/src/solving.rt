@@ -5,9 +5,9 @@ ghost use Rattle.varisat_theory.specs.Literals.{Literal, variable_of};
 ghost use Rattle.varisat_schedule.specs.Plans.{step_begun, next_plan};
 ghost use Rattle.varisat_search.specs.Contexts.{KeepsSchedule};
 ghost use Rattle.varisat_search.specs.StepErrors.{step_faults, HasNoRoom};
-ghost use Rattle.varisat_solver.specs.Budgets.{told_verdict};
+ghost use Rattle.varisat_solver.specs.Budgets.{returned_verdict};
 ghost use Rattle.varisat_solver.specs.SinceChange.{CountsOnSince, CountsStepsFrom};
-ghost use Rattle.varisat_tracer.specs.Tracing.{tracer_state, BreaksProof, CanTell};
+ghost use Rattle.varisat_tracer.specs.Tracing.{tracer_state, BreaksProof, CanLog};
 ghost use Rattle.varisat_solver.specs.Searches.{BeginsSolverStep, MakesNamedStep, MakesSolverStep, FindsVerdict};
 ghost use Rattle.varisat_solver.specs.Accepting.{HasUser};
 ghost use Rattle.varisat_solver.specs.Carried.{named_literals};
@@ -35,7 +35,7 @@ fn begin<W: ProofTarget, A: Allocator + Copy>(
     literals: &mut Vec<Lit, A>,
 ) -> Result<(), StepError>
     requires kept { IsKept tracer.old.tables ctx.old }
-    requires tells { CanTell tracer.old.proof }
+    requires logs { CanLog tracer.old.proof }
     requires stands { FitSome (undecided_spaces tracer.old.tables tracer.old.proof.checker ctx.old) }
     requires unknown { ctx.old.solver_state.sat_state ≡ SatState.Unknown }
     requires counted { ctx.old.schedule.steps < 2 ^ 64 - 1 }
@@ -80,7 +80,7 @@ fn named_conflict_step<W: ProofTarget, A: Allocator + Copy>(
     literals: &mut Vec<Lit, A>,
 ) -> Result<(), StepError>
     requires kept { IsKept tracer.old.tables ctx.old }
-    requires tells { CanTell tracer.old.proof }
+    requires logs { CanLog tracer.old.proof }
     requires stands { FitSome (undecided_spaces tracer.old.tables tracer.old.proof.checker ctx.old) }
     requires unknown { ctx.old.solver_state.sat_state ≡ SatState.Unknown }
     ensures made { OnOk result (MakesNamedStep (tracer_state tracer.old) (tracer_state tracer.new) ctx.old ctx.new) }
@@ -106,7 +106,7 @@ fn make_step<W: ProofTarget, A: Allocator + Copy>(
     literals: &mut Vec<Lit, A>,
 ) -> Result<(), StepError>
     requires kept { IsKept tracer.old.tables ctx.old }
-    requires tells { CanTell tracer.old.proof }
+    requires logs { CanLog tracer.old.proof }
     requires stands { FitSome (undecided_spaces tracer.old.tables tracer.old.proof.checker ctx.old) }
     requires unknown { ctx.old.solver_state.sat_state ≡ SatState.Unknown }
     requires counted { ctx.old.schedule.steps < 2 ^ 64 - 1 }
@@ -138,11 +138,11 @@ pub fn find_verdict<W: ProofTarget, A: Allocator + Copy>(
     max_steps: u64,
 ) -> Result<Option<bool>, StepError>
     requires kept { IsKept tracer.old.tables ctx.old }
-    requires tells { CanTell tracer.old.proof }
+    requires logs { CanLog tracer.old.proof }
     requires stands { FitSome (undecided_spaces tracer.old.tables tracer.old.proof.checker ctx.old) }
     requires unknown { ctx.old.solver_state.sat_state ≡ SatState.Unknown }
     ensures found { IfOk result (λ found. FindsVerdict (tracer_state tracer.old) (tracer_state tracer.new) ctx.old ctx.new found) }
-    ensures counted { CountsStepsFrom max_steps ctx.old ctx.new (told_verdict result) }
+    ensures counted { CountsStepsFrom max_steps ctx.old ctx.new (returned_verdict result) }
     ensures since { OnOk result (CountsOnSince ctx.old ctx.new) }
     ensures config { ctx.new.solver_config ≡ ctx.old.solver_config }
     // What the target of an open proof has after an error.

@@ -178,16 +178,16 @@ leads_unique P P' [] Q Q' s d e = subst (λ x. SameClauses x Q') d (subst (SameC
 leads_unique P P' (x ∷ es) Q Q' s (R, f, d) (R', g, e) = leads_unique R R' es Q Q' (follow_unique P P' x R R' s f g) d e
 
 -- entries that lead on from one list that is held do so from each
-pub goes_on : (n : ℕ) (told es : List Entry) (held after : List Clause) → Leads [] told held → LeadsBy n held es after → GoesOn n told es
-goes_on n told es held after d e other f =
-    let (Q, g, _) = by_leads_same n held other es after (leads_unique [] [] told held other refl d f) e in
+pub goes_on : (n : ℕ) (logged es : List Entry) (held after : List Clause) → Leads [] logged held → LeadsBy n held es after → GoesOn n logged es
+goes_on n logged es held after d e other f =
+    let (Q, g, _) = by_leads_same n held other es after (leads_unique [] [] logged held other refl d f) e in
     (Q, g)
 
 -- and in turn
-pub goes_on_further : (n m : ℕ) (told es fs : List Entry) → GoesOn n told es → GoesOn m (told ++ es) fs → GoesOn (n + m) told (es ++ fs)
-goes_on_further n m told es fs g h held d =
+pub goes_on_further : (n m : ℕ) (logged es fs : List Entry) → GoesOn n logged es → GoesOn m (logged ++ es) fs → GoesOn (n + m) logged (es ++ fs)
+goes_on_further n m logged es fs g h held d =
     let (mid, a) = g held d in
-    let (last, b) = h mid (leads_append [] told held es mid d (by_leads n held es mid a)) in
+    let (last, b) = h mid (leads_append [] logged held es mid d (by_leads n held es mid a)) in
     (last, by_leads_append n m held es mid fs last a b)
 
 -- 7. Lines under new names, beside more clauses.

@@ -151,25 +151,25 @@ blank_adds_none P c Q a =
 -- 2. Entries that go on.
 
 -- what is told leads to the same clauses, whichever of them stand for it
-pub goes_adding : (k : ℕ) (told es : List Entry) (held after : List Clause) → Leads [] told held → LeadsAdding k held es after → GoesOnAdding k told es
-goes_adding k told es held after d a other f =
-    let (Q, g, _) = adding_same k held other es after (leads_unique [] [] told held other refl d f) a in
+pub goes_adding : (k : ℕ) (logged es : List Entry) (held after : List Clause) → Leads [] logged held → LeadsAdding k held es after → GoesOnAdding k logged es
+goes_adding k logged es held after d a other f =
+    let (Q, g, _) = adding_same k held other es after (leads_unique [] [] logged held other refl d f) a in
     (Q, g)
 
-pub goes_adding_none : (n : ℕ) (told es : List Entry) → GoesOn n told es → GoesOnAdding 0 told es
-goes_adding_none n told es g held d = let (after, a) = g held d in (after, by_leads n held es after a)
+pub goes_adding_none : (n : ℕ) (logged es : List Entry) → GoesOn n logged es → GoesOnAdding 0 logged es
+goes_adding_none n logged es g held d = let (after, a) = g held d in (after, by_leads n held es after a)
 
 -- steps may follow whatever came before them, and what is no step only what is none
-pub goes_adding_further : (k m : ℕ) (told es fs : List Entry) → (m ≡ 0 → k ≡ 0) → GoesOnAdding k told es → GoesOnAdding m (told ++ es) fs →
-    GoesOnAdding (k + m) told (es ++ fs)
-goes_adding_further k zero told es fs z g h held d =
+pub goes_adding_further : (k m : ℕ) (logged es fs : List Entry) → (m ≡ 0 → k ≡ 0) → GoesOnAdding k logged es → GoesOnAdding m (logged ++ es) fs →
+    GoesOnAdding (k + m) logged (es ++ fs)
+goes_adding_further k zero logged es fs z g h held d =
     let (mid, a) = g held d in
-    let (last, b) = h mid (leads_append [] told held es mid d (adding_leads k held es mid a)) in
+    let (last, b) = h mid (leads_append [] logged held es mid d (adding_leads k held es mid a)) in
     let none : 0 ≡ k + 0 = let e = z refl in omega (arith, e) in
     (last, subst (λ j. LeadsAdding j held (es ++ fs) last) none (leads_append held es mid fs last (adding_leads k held es mid a) b))
-goes_adding_further k (suc m) told es fs z g h held d =
+goes_adding_further k (suc m) logged es fs z g h held d =
     let (mid, a) = g held d in
-    let (last, b) = h mid (leads_append [] told held es mid d (adding_leads k held es mid a)) in
+    let (last, b) = h mid (leads_append [] logged held es mid d (adding_leads k held es mid a)) in
     (last, adding_append k m held es mid fs last a b)
 
 -- 3. Clauses that say nothing more, beside what fits a search.

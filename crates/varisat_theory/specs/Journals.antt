@@ -79,7 +79,7 @@ written ls = map Writes ls
 
 -- Whatever the entries told so far lead to from no clauses, the further ones lead on from it, with at most n that count.
 abbrev pub GoesOn : ℕ → List Entry → List Entry → Type 0
-GoesOn n told es = (held : List Clause) → Leads [] told held → (after : List Clause) × LeadsBy n held es after
+GoesOn n logged es = (held : List Clause) → Leads [] logged held → (after : List Clause) × LeadsBy n held es after
 
 -- each literal that the entry is right by stands in the list, and so does its opposite; assumptions change nothing held
 abbrev pub IsEntryWithin : List Literal → Entry → Type 0

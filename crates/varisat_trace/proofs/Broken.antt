@@ -5,7 +5,7 @@ use Rattle.std.proofs.Common.{◌≡◌, ℕ, Bool, true, false, List, [], ◌++
 use Rattle.varisat_theory.specs.Derivations.{Line}
 use Rattle.varisat_theory.specs.Journals.{Entry}
 use Rattle.varisat_trace.specs.declared.tracer.TraceError.{TraceError}
-use Rattle.varisat_trace.specs.Traces.{TellsStep, TellsLines, BreaksOff, faults_of}
+use Rattle.varisat_trace.specs.Traces.{LogsStep, LogsLines, BreaksOff, faults_of}
 
 -- an error is what it was
 pub passed-on : {X E : Type 0} (r : Result X E) (e : E) (P : E → Type 0) → IsErr r × IsErrAnd r (λ z. z ≡ e) → P e → IfErr r P
@@ -18,12 +18,12 @@ on-error (Err z) P p = p
 
 module _ {Q : Type 0} (takes : Q → List Entry → Q → Type 0) (breaks : Q → List Entry → ℕ → Q → Type 0) where
   pub step-broken : (active : Bool) (x y : Q) (entries : List Entry) (r : Result (Unit {0}) TraceError) (e : TraceError) → IsErr r × IsErrAnd r (λ z. z ≡ e) →
-      active ≡ true → breaks x entries (faults_of e) y → TellsStep active takes breaks x entries r y
+      active ≡ true → breaks x entries (faults_of e) y → LogsStep active takes breaks x entries r y
   step-broken active x y entries (Ok u) e (a, b) h p = absurd (let z : false ≡ true = a in cc)
   step-broken active x y entries (Err z) e (a, b) h p = (h, subst (λ w. breaks x entries (faults_of w) y) (sym b) p)
 
   pub lines-broken : (x y : Q) (lines : List Line) (r : Result (Unit {0}) TraceError) (e : TraceError) → IsErr r × IsErrAnd r (λ z. z ≡ e) →
-      BreaksOff breaks x (faults_of e) y → TellsLines takes breaks x lines r y
+      BreaksOff breaks x (faults_of e) y → LogsLines takes breaks x lines r y
   lines-broken x y lines (Ok u) e (a, b) p = absurd (let z : false ≡ true = a in cc)
   lines-broken x y lines (Err z) e (a, b) p = subst (λ w. BreaksOff breaks x (faults_of w) y) (sym b) p
 

@@ -41,20 +41,20 @@ faults_of Memory = 0
 faults_of (Target cause) = 1
 
 -- What taking a step's entries returns and leaves: they were taken, or a tracer that is active broke off in them.
-abbrev pub TellsStep : {Q : Type 0} → Bool → (Q → List Entry → Q → Type 0) → (Q → List Entry → ℕ → Q → Type 0) → Q → List Entry →
+abbrev pub LogsStep : {Q : Type 0} → Bool → (Q → List Entry → Q → Type 0) → (Q → List Entry → ℕ → Q → Type 0) → Q → List Entry →
     Result (Unit {0}) TraceError → Q → Type 0
-TellsStep active takes breaks x entries (Ok u) y = takes x entries y
-TellsStep active takes breaks x entries (Err e) y = (active ≡ true) × breaks x entries (faults_of e) y
+LogsStep active takes breaks x entries (Ok u) y = takes x entries y
+LogsStep active takes breaks x entries (Err e) y = (active ≡ true) × breaks x entries (faults_of e) y
 
 -- It took some entries, and then a beginning of the next, as so many faults came at its target.
 abbrev pub BreaksOff : {Q : Type 0} → (Q → List Entry → ℕ → Q → Type 0) → Q → ℕ → Q → Type 0
 BreaksOff breaks x faults y = (entries : List Entry) × breaks x entries faults y
 
 -- What handing lines on returns and leaves: they were taken, or the tracer broke off in some.
-abbrev pub TellsLines : {Q : Type 0} → (Q → List Entry → Q → Type 0) → (Q → List Entry → ℕ → Q → Type 0) → Q → List Line →
+abbrev pub LogsLines : {Q : Type 0} → (Q → List Entry → Q → Type 0) → (Q → List Entry → ℕ → Q → Type 0) → Q → List Line →
     Result (Unit {0}) TraceError → Q → Type 0
-TellsLines takes breaks x lines (Ok u) y = TakesLines takes x lines y
-TellsLines takes breaks x lines (Err e) y = BreaksOff breaks x (faults_of e) y
+LogsLines takes breaks x lines (Ok u) y = TakesLines takes x lines y
+LogsLines takes breaks x lines (Err e) y = BreaksOff breaks x (faults_of e) y
 
 -- The lines are a derivation from clauses that may be held.
 abbrev pub CanTake : (List Clause → Type 0) → List Line → Type 0

@@ -3,7 +3,7 @@ ghost use Rattle.std.specs.Prelude.{◌≡◌, ◌++◌, ℕ, [], List, Bool, fa
 ghost use Rattle.std.specs.List.Sorted.{IsPermutation};
 ghost use Rattle.varisat_theory.specs.Literals.{Clause};
 ghost use Rattle.varisat_theory.specs.Journals.{Entry, Leads};
-ghost use Rattle.varisat_trace.specs.Traces.{entries_of, CanTakeStep, TellsStep};
+ghost use Rattle.varisat_trace.specs.Traces.{entries_of, CanTakeStep, LogsStep};
 
 use crate::step::ProofStep;
 use std::alloc::AllocError;
@@ -62,7 +62,7 @@ pub trait ProofTracer {
     /// failed, which is one fault more. One that is not active never fails.
     fn add_step(&mut self, step: &ProofStep<'_>) -> Result<(), TraceError>
         requires { CanTakeStep (holds self.old) step.now }
-        ensures { TellsStep (active self.old) takes breaks_off self.old (entries_of step.now) result self.new };
+        ensures { LogsStep (active self.old) takes breaks_off self.old (entries_of step.now) result self.new };
 
     /// No entry leaves it as it is.
     ghost takes_none: { (x : Self) → takes x [] x };

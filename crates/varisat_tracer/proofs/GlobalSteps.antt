@@ -15,9 +15,9 @@ use Rattle.varisat_proof.specs.declared.proof.format.Encoding.{Encoding}
 use Rattle.varisat_proof.specs.Calls.{CheckerState}
 use Rattle.varisat_proof.specs.Lines.{ProofLine, encoding_of}
 use Rattle.varisat_proof.specs.Steps.{lines_written}
-use Rattle.varisat_proof.specs.Proving.{OpenState, ProofParts, is_there, IsSpent, IsTold, IsWrittenIf, IsBegunIf, Tells, MayBeHeld, told}
-use Rattle.varisat_tracer.specs.Carried.{told_as}
-use Rattle.varisat_tracer.specs.Tracing.{TracerState, global_literal, Relies, TakesGlobally, BreaksGlobally, TellsGlobally}
+use Rattle.varisat_proof.specs.Proving.{OpenState, ProofParts, is_there, IsSpent, IsLogged, IsWrittenIf, IsBegunIf, Logs, MayBeHeld, logged}
+use Rattle.varisat_tracer.specs.Carried.{logged_as}
+use Rattle.varisat_tracer.specs.Tracing.{TracerState, global_literal, Relies, TakesGlobally, BreaksGlobally, LogsGlobally}
 use Rattle.varisat_tracer.specs.TracerLaws.{leads-globally}
 
 pub mapped-more : (f : Literal → Literal) (ls old new : List Literal) (i l m : ℕ) → i < length ls → l ≡ get_or ls i l → old ≡ map f (take i ls) →
@@ -32,16 +32,16 @@ lead-lines P [] Q e = e
 lead-lines P (Add c ∷ lines) Q (R, (f, e), d) = (f, subst (λ (X : List Clause). Derives X lines Q) e (lead-lines R lines Q d))
 lead-lines P (Delete c ∷ lines) Q (R, t, d) = (R, t, lead-lines R lines Q d)
 
-told-lines : (f : Literal → Literal) (lines : List Line) → told_as f (written lines) ≡ written (map (rename_line f) lines)
-told-lines f [] = refl
-told-lines f (line ∷ lines) = ap (λ es. Writes (rename_line f line) ∷ es) (told-lines f lines)
+logged-lines : (f : Literal → Literal) (lines : List Line) → logged_as f (written lines) ≡ written (map (rename_line f) lines)
+logged-lines f [] = refl
+logged-lines f (line ∷ lines) = ap (λ es. Writes (rename_line f line) ∷ es) (logged-lines f lines)
 
 unit-names : (f : Literal → Literal) (ls : List Literal) → map (rename_line f) (unit_lines ls) ≡ unit_lines (map f ls)
 unit-names f [] = refl
 unit-names f (l ∷ ls) = ap (λ xs. Add (f l ∷ []) ∷ xs) (unit-names f ls)
 
-pub told-units : (f : Literal → Literal) (ls : List Literal) → told_as f (written (unit_lines ls)) ≡ written (unit_lines (map f ls))
-told-units f ls = told-lines f (unit_lines ls) ∙ ap written (unit-names f ls)
+pub logged-units : (f : Literal → Literal) (ls : List Literal) → logged_as f (written (unit_lines ls)) ≡ written (unit_lines (map f ls))
+logged-units f ls = logged-lines f (unit_lines ls) ∙ ap written (unit-names f ls)
 
 -- 2. What is right over solver variables is so over global ones.
 pub lines-globally : (x : TracerState) (lines others : List Line) → map (rename_line (global_literal x.tables)) lines ≡ others → CanTake (Relies x) lines →
@@ -49,7 +49,7 @@ pub lines-globally : (x : TracerState) (lines others : List Line) → map (renam
 lines-globally x lines others e (held, after, r, d) =
     let f = global_literal x.tables in
     let (now, next, h, l) = leads-globally x (written lines) held after r (lines-lead held lines after d) in
-    (now, next, h, lead-lines now others next (subst (λ es. Leads now es next) (told-lines f lines ∙ ap written e) l))
+    (now, next, h, lead-lines now others next (subst (λ es. Leads now es next) (logged-lines f lines ∙ ap written e) l))
 
 pub units-globally : (x : TracerState) (ls ms : List Literal) → ms ≡ map (global_literal x.tables) ls → CanTake (Relies x) (unit_lines ls) →
     CanTake (MayBeHeld x.proof.checker) (unit_lines ms)
@@ -70,9 +70,9 @@ fails-globally x core others e (held, r, k) =
     (now, h, subst (λ y. Conflicts now y) (sym e) l.1.0)
 
 -- 3. The entries that were told.
-pub takes-told : (x y : TracerState) (entries others : List Entry) → y.tables ≡ x.tables → others ≡ told_as (global_literal x.tables) entries →
-    IsTold x.proof others y.proof → TakesGlobally x entries y
-takes-told x y entries others e o t = record { tables = e; told = subst (λ es. IsTold x.proof es y.proof) o t }
+pub takes-logged : (x y : TracerState) (entries others : List Entry) → y.tables ≡ x.tables → others ≡ logged_as (global_literal x.tables) entries →
+    IsLogged x.proof others y.proof → TakesGlobally x entries y
+takes-logged x y entries others e o t = record { tables = e; logged = subst (λ es. IsLogged x.proof es y.proof) o t }
 
 -- 4. The same of a tracer's parts.
 pub added-parts : (x y : TracerState) (c d : Clause) → y ≡ x → d ≡ map (global_literal y.tables) c → CanTake (Relies x) (Add c ∷ []) →
@@ -91,23 +91,23 @@ pub fails-parts : (x y : TracerState) (core others : List Literal) → y ≡ x �
     CanFail (MayBeHeld y.proof.checker) others
 fails-parts x y core others e f h = fails-globally y core others f (subst (λ (z : TracerState). CanFail (Relies z) core) (sym e) h)
 
-pub takes-parts : (x y z : TracerState) (entries others : List Entry) → y ≡ x → z.tables ≡ y.tables → others ≡ told_as (global_literal y.tables) entries →
-    IsTold y.proof others z.proof → TakesGlobally x entries z
-takes-parts x y z entries others e f o t = subst (λ (w : TracerState). TakesGlobally w entries z) e (takes-told y z entries others f o t)
+pub takes-parts : (x y z : TracerState) (entries others : List Entry) → y ≡ x → z.tables ≡ y.tables → others ≡ logged_as (global_literal y.tables) entries →
+    IsLogged y.proof others z.proof → TakesGlobally x entries z
+takes-parts x y z entries others e f o t = subst (λ (w : TracerState). TakesGlobally w entries z) e (takes-logged y z entries others f o t)
 
 -- 5. What telling returns.
-pub tells-told : (x y : TracerState) (entries others : List Entry) (r : Result (Unit {0}) TraceError) → y.tables ≡ x.tables →
-    others ≡ told_as (global_literal x.tables) entries → Tells x.proof others r y.proof → TellsGlobally x entries r y
-tells-told x y entries others (Ok u) e o t = takes-told x y entries others e o t
-tells-told x y entries others (Err z) e o t = (e, subst (λ es. Tells x.proof es (Err z) y.proof) o t)
+pub logs-logged : (x y : TracerState) (entries others : List Entry) (r : Result (Unit {0}) TraceError) → y.tables ≡ x.tables →
+    others ≡ logged_as (global_literal x.tables) entries → Logs x.proof others r y.proof → LogsGlobally x entries r y
+logs-logged x y entries others (Ok u) e o t = takes-logged x y entries others e o t
+logs-logged x y entries others (Err z) e o t = (e, subst (λ es. Logs x.proof es (Err z) y.proof) o t)
 
 nothing-begun : (o : Option OpenState) (lines : Encoding → List ProofLine) → IsBegunIf o lines 0 o
 nothing-begun None lines = (refl, refl)
 nothing-begun (Some p) lines = record { rest = refl; bytes = (0, sym (append-nil p.taken.bytes)); faults = omega arith }
 
 -- memory ran out before anything was told
-pub untold : (x : TracerState) (entries : List Entry) → TellsGlobally x entries (Err Memory) x
-untold x entries = (refl, inl (nothing-begun x.proof.opened (told (told_as (global_literal x.tables) entries)), refl))
+pub unlogged : (x : TracerState) (entries : List Entry) → LogsGlobally x entries (Err Memory) x
+unlogged x entries = (refl, inl (nothing-begun x.proof.opened (logged (logged_as (global_literal x.tables) entries)), refl))
 
 -- 6. What stands in the target after an error.
 all-begun : (o p : Option OpenState) (lines : Encoding → List ProofLine) → IsWrittenIf o lines p → IsBegunIf o lines 0 p
@@ -121,34 +121,34 @@ all-begun (Some a) (Some b) lines w =
       faults = w.faults ∙ omega arith;
     }
 
-begun-told : (p q : ProofParts) (entries : List Entry) (e : TraceError) → Tells p entries (Err e) q → IsBegunIf p.opened (told entries) (faults_of e) q.opened
-begun-told p q entries Memory h = ⊎_elim (λ b. b.0) (λ w. all-begun p.opened q.opened (told entries) w.0) h
-begun-told p q entries (Target cause) h = h.0
+begun-logged : (p q : ProofParts) (entries : List Entry) (e : TraceError) → Logs p entries (Err e) q → IsBegunIf p.opened (logged entries) (faults_of e) q.opened
+begun-logged p q entries Memory h = ⊎_elim (λ b. b.0) (λ w. all-begun p.opened q.opened (logged entries) w.0) h
+begun-logged p q entries (Target cause) h = h.0
 
 spent-runs : (o p : Option CheckerState) → IsSpent o p → is_there p ≡ is_there o
 spent-runs None p h = absurd h
 spent-runs (Some a) None h = absurd h
 spent-runs (Some a) (Some b) h = refl
 
-runs-told : (p q : ProofParts) (entries : List Entry) (e : TraceError) → Tells p entries (Err e) q → is_there q.checker ≡ is_there p.checker
-runs-told p q entries Memory h =
+runs-logged : (p q : ProofParts) (entries : List Entry) (e : TraceError) → Logs p entries (Err e) q → is_there q.checker ≡ is_there p.checker
+runs-logged p q entries Memory h =
     ⊎_elim (λ b. ap (λ (k : Option CheckerState). is_there k) b.1) (λ w. spent-runs p.checker q.checker w.1) h
-runs-told p q entries (Target cause) h = ap (λ (k : Option CheckerState). is_there k) h.1
+runs-logged p q entries (Target cause) h = ap (λ (k : Option CheckerState). is_there k) h.1
 
-pub breaks-told : (x y : TracerState) (entries others : List Entry) (e : TraceError) → y.tables ≡ x.tables →
-    others ≡ told_as (global_literal x.tables) entries →
-    Tells x.proof others (Err e) y.proof → BreaksGlobally x entries (faults_of e) y
-breaks-told x y entries others e t o h = record {
+pub breaks-logged : (x y : TracerState) (entries others : List Entry) (e : TraceError) → y.tables ≡ x.tables →
+    others ≡ logged_as (global_literal x.tables) entries →
+    Logs x.proof others (Err e) y.proof → BreaksGlobally x entries (faults_of e) y
+breaks-logged x y entries others e t o h = record {
   tables = t;
-  begun = subst (λ es. IsBegunIf x.proof.opened (told es) (faults_of e) y.proof.opened) o (begun-told x.proof y.proof others e h);
-  runs = runs-told x.proof y.proof others e h;
+  begun = subst (λ es. IsBegunIf x.proof.opened (logged es) (faults_of e) y.proof.opened) o (begun-logged x.proof y.proof others e h);
+  runs = runs-logged x.proof y.proof others e h;
 }
 
 pub breaks-before : (x : TracerState) (entries : List Entry) → BreaksGlobally x entries 0 x
 breaks-before x entries =
-    record { tables = refl; begun = nothing-begun x.proof.opened (told (told_as (global_literal x.tables) entries)); runs = refl }
+    record { tables = refl; begun = nothing-begun x.proof.opened (logged (logged_as (global_literal x.tables) entries)); runs = refl }
 
 -- as an accepted clause or list is told
-pub breaks-told-globally : (x y : TracerState) (entries : List Entry) (e : TraceError) → TellsGlobally x entries (Err e) y →
+pub breaks-logged-globally : (x y : TracerState) (entries : List Entry) (e : TraceError) → LogsGlobally x entries (Err e) y →
     BreaksGlobally x entries (faults_of e) y
-breaks-told-globally x y entries e (t, h) = breaks-told x y entries (told_as (global_literal x.tables) entries) e t refl h
+breaks-logged-globally x y entries e (t, h) = breaks-logged x y entries (logged_as (global_literal x.tables) entries) e t refl h

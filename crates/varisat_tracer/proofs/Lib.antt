@@ -1,2 +1,2 @@
 pub mod GlobalSteps
-pub mod Telling
+pub mod Logging

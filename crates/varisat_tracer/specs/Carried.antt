@@ -15,10 +15,10 @@ carry f l = 2 * variable_or_first (f (variable_of l)) + l % 2
 
 -- The entries of a search as a proof is told them, under other names for the variables. That a variable leaves the search is not told:
 -- what it stands for may live on.
-abbrev pub told_as : (Literal → Literal) → List Entry → List Entry
-told_as f [] = []
-told_as f (Accepts c ∷ es) = Accepts (map f c) ∷ told_as f es
-told_as f (Writes line ∷ es) = Writes (rename_line f line) ∷ told_as f es
-told_as f (Assumes a ∷ es) = Assumes (map f a) ∷ told_as f es
-told_as f (Fails core ∷ es) = Fails (map f core) ∷ told_as f es
-told_as f (Leaves v ∷ es) = told_as f es
+abbrev pub logged_as : (Literal → Literal) → List Entry → List Entry
+logged_as f [] = []
+logged_as f (Accepts c ∷ es) = Accepts (map f c) ∷ logged_as f es
+logged_as f (Writes line ∷ es) = Writes (rename_line f line) ∷ logged_as f es
+logged_as f (Assumes a ∷ es) = Assumes (map f a) ∷ logged_as f es
+logged_as f (Fails core ∷ es) = Fails (map f core) ∷ logged_as f es
+logged_as f (Leaves v ∷ es) = logged_as f es

@@ -1,5 +1,5 @@
 pub mod Carried
 pub mod Tracing
-pub mod Told
+pub mod Logged
 pub mod RenamedEntries
 pub mod TracerLaws

@@ -16,7 +16,7 @@ use Rattle.varisat_theory.proofs.Lines.{derives_beside, derives_same, same_lines
 use Rattle.varisat_theory.proofs.Renaming.{conflicts_renamed, derives_renamed, same_clauses_renamed}
 use Rattle.varisat_theory.specs.Journals.{Entry, Accepts, Writes, Assumes, Fails, Leaves, Follow, Leads}
 use Rattle.varisat_proof.specs.Present.{IsLeftAfter}
-use Rattle.varisat_tracer.specs.Carried.{variable_or_first, carry, told_as}
+use Rattle.varisat_tracer.specs.Carried.{variable_or_first, carry, logged_as}
 
 -- 1. The same literal of another variable has the opposite of the same name.
 pub carry-opposites : (f : ℕ → Option ℕ) → KeepsOpposites (carry f)
@@ -106,7 +106,7 @@ module _ (f : Literal → Literal) (keeps : KeepsOpposites f) where
       (others ++ rename f M, subst (λ (X : List Clause). SameClauses ((others ++ rename f M) ++ rename f X) P) (sym e) w)
 
   pub leads-renamed : (entries : List Entry) (held after others P : List Clause) → SameClauses (others ++ rename f held) P → Leads held entries after →
-      (Q more : List Clause) × Leads P (told_as f entries) Q × SameClauses (more ++ rename f after) Q
+      (Q more : List Clause) × Leads P (logged_as f entries) Q × SameClauses (more ++ rename f after) Q
   leads-renamed [] held after others P s e = (P, others, refl, subst (λ (X : List Clause). SameClauses (others ++ rename f X) P) e s)
   leads-renamed (Accepts c ∷ es) held after others P s (R, e, d) =
       let (Q, more, l, t) = leads-renamed es R after others (P ++ map f c ∷ []) (accepted-renamed P held R others c s e) d in

@@ -9,26 +9,26 @@ use Rattle.varisat_theory.specs.Journals.{Entry, Leads}
 use Rattle.varisat_names.specs.VarMap.{at}
 use Rattle.varisat_names.specs.Variables.{Tables}
 use Rattle.varisat_proof.specs.Calls.{CheckerState}
-use Rattle.varisat_proof.specs.Proving.{OpenState, is_there, is_telling, IsWrittenIf, IsCheckedIf, IsTold, IsBegunIf, CanCountTargetFault, IsUsable, MayBeHeld, told}
-use Rattle.varisat_tracer.specs.Carried.{told_as}
+use Rattle.varisat_proof.specs.Proving.{OpenState, is_there, is_logging, IsWrittenIf, IsCheckedIf, IsLogged, IsBegunIf, CanCountTargetFault, IsUsable, MayBeHeld, logged}
+use Rattle.varisat_tracer.specs.Carried.{logged_as}
 use Rattle.varisat_tracer.specs.Tracing.{TracerState, global_literal, Relies, TakesGlobally, BreaksGlobally}
-use Rattle.varisat_tracer.specs.Told.{told_as-append, told-none, told-more, told-idle, begun-none, begun-behind, begun-idle}
+use Rattle.varisat_tracer.specs.Logged.{logged_as-append, logged-none, logged-more, logged-idle, begun-none, begun-behind, begun-idle}
 use Rattle.varisat_tracer.specs.RenamedEntries.{carry-opposites, left_same, leads-renamed}
 
 pub takes-none : (x : TracerState) → TakesGlobally x [] x
-takes-none x = record { tables = refl; told = told-none x.proof }
+takes-none x = record { tables = refl; logged = logged-none x.proof }
 
 pub takes-more : (x y z : TracerState) (first second : List Entry) → TakesGlobally x first y → TakesGlobally y second z → TakesGlobally x (first ++ second) z
 takes-more x y z first second h k = record {
   tables = k.tables ∙ h.tables;
-  told =
-      subst (λ es. IsTold x.proof es z.proof) (sym (told_as-append (global_literal x.tables) first second))
-      (told-more x.proof y.proof z.proof (told_as (global_literal x.tables) first) (told_as (global_literal x.tables) second) h.told
-      (subst (λ (t : Tables). IsTold y.proof (told_as (global_literal t) second) z.proof) h.tables k.told));
+  logged =
+      subst (λ es. IsLogged x.proof es z.proof) (sym (logged_as-append (global_literal x.tables) first second))
+      (logged-more x.proof y.proof z.proof (logged_as (global_literal x.tables) first) (logged_as (global_literal x.tables) second) h.logged
+      (subst (λ (t : Tables). IsLogged y.proof (logged_as (global_literal t) second) z.proof) h.tables k.logged));
 }
 
-pub takes-idle : (x : TracerState) (entries : List Entry) → is_telling x.proof ≡ false → TakesGlobally x entries x
-takes-idle x entries h = record { tables = refl; told = told-idle x.proof (told_as (global_literal x.tables) entries) h }
+pub takes-idle : (x : TracerState) (entries : List Entry) → is_logging x.proof ≡ false → TakesGlobally x entries x
+takes-idle x entries h = record { tables = refl; logged = logged-idle x.proof (logged_as (global_literal x.tables) entries) h }
 
 -- a checker that is told entries runs on
 pub checked-runs : (o p : Option CheckerState) (entries : List Entry) → IsCheckedIf o entries p → is_there p ≡ is_there o
@@ -44,19 +44,19 @@ pub breaks-behind : (x y z : TracerState) (first second : List Entry) (faults : 
 breaks-behind x y z first second faults h k = record {
   tables = k.tables ∙ h.tables;
   begun =
-      subst (λ es. IsBegunIf x.proof.opened (told es) faults z.proof.opened) (sym (told_as-append (global_literal x.tables) first second))
-      (begun-behind x.proof.opened y.proof.opened z.proof.opened (told_as (global_literal x.tables) first) (told_as (global_literal x.tables) second) faults
-      h.told.written
-      (subst (λ (t : Tables). IsBegunIf y.proof.opened (told (told_as (global_literal t) second)) faults z.proof.opened) h.tables k.begun));
-  runs = k.runs ∙ checked-runs x.proof.checker y.proof.checker (told_as (global_literal x.tables) first) h.told.checked;
+      subst (λ es. IsBegunIf x.proof.opened (logged es) faults z.proof.opened) (sym (logged_as-append (global_literal x.tables) first second))
+      (begun-behind x.proof.opened y.proof.opened z.proof.opened (logged_as (global_literal x.tables) first) (logged_as (global_literal x.tables) second) faults
+      h.logged.written
+      (subst (λ (t : Tables). IsBegunIf y.proof.opened (logged (logged_as (global_literal t) second)) faults z.proof.opened) h.tables k.begun));
+  runs = k.runs ∙ checked-runs x.proof.checker y.proof.checker (logged_as (global_literal x.tables) first) h.logged.checked;
 }
 
-pub breaks-idle : (x y : TracerState) (entries : List Entry) (faults : ℕ) → is_telling x.proof ≡ false → BreaksGlobally x entries faults y → faults ≡ 0
+pub breaks-idle : (x y : TracerState) (entries : List Entry) (faults : ℕ) → is_logging x.proof ≡ false → BreaksGlobally x entries faults y → faults ≡ 0
 breaks-idle x y entries faults h b =
-    begun-idle x.proof.opened x.proof.checker y.proof.opened (told (told_as (global_literal x.tables) entries)) faults h b.begun
+    begun-idle x.proof.opened x.proof.checker y.proof.opened (logged (logged_as (global_literal x.tables) entries)) faults h b.begun
 
 -- what a target may take and whether a checker can be used stay
-pub room-stays : (o p : Option OpenState) (lines : List Entry) → IsWrittenIf o (told lines) p → CanCountTargetFault o → CanCountTargetFault p
+pub room-stays : (o p : Option OpenState) (lines : List Entry) → IsWrittenIf o (logged lines) p → CanCountTargetFault o → CanCountTargetFault p
 room-stays None p lines e h = subst CanCountTargetFault (sym e) tt
 room-stays (Some a) None lines w h = absurd w
 room-stays (Some a) (Some b) lines w h = subst (λ n. n < 2 ^ 64 - 1) (sym w.faults) h
@@ -67,7 +67,7 @@ usable-stays (Some a) None entries k h = absurd k
 usable-stays (Some a) (Some b) entries k h = k.1 ∙ h
 
 holds-on : (f : Literal → Literal) → KeepsOpposites f → (o p : Option CheckerState) (entries : List Entry) (held after others : List Clause) →
-    IsCheckedIf o (told_as f entries) p → MayBeHeld o (others ++ rename f held) → Leads held entries after → (more : List Clause)
+    IsCheckedIf o (logged_as f entries) p → MayBeHeld o (others ++ rename f held) → Leads held entries after → (more : List Clause)
     × MayBeHeld p (more ++ rename f after)
 holds-on f keeps None p entries held after others e h d = (others, subst (λ k. MayBeHeld k (others ++ rename f after)) (sym e) tt)
 holds-on f keeps (Some a) None entries held after others k h d = absurd k
@@ -76,7 +76,7 @@ holds-on f keeps (Some a) (Some b) entries held after others k h d =
       more,
       (
         same_clauses-through (more ++ rename f after) Q b.clauses t
-            (left_same a.clauses b.clauses (told_as f entries) (others ++ rename f held) Q k.0 h.0 l),
+            (left_same a.clauses b.clauses (logged_as f entries) (others ++ rename f held) Q k.0 h.0 l),
         k.1 ∙ h.1,
       ),
     )
@@ -85,18 +85,18 @@ pub relies-after : (x y : TracerState) (entries : List Entry) (held after : List
     Leads held entries after → Relies y after
 relies-after x y entries held after h r d =
     let f = global_literal x.tables in
-    let (more, m) = holds-on f (carry-opposites (at x.tables.solvers.backward)) x.proof.checker y.proof.checker entries held after r.others h.told.checked
+    let (more, m) = holds-on f (carry-opposites (at x.tables.solvers.backward)) x.proof.checker y.proof.checker entries held after r.others h.logged.checked
     r.holds d in
     record {
-      room = room-stays x.proof.opened y.proof.opened (told_as f entries) h.told.written r.room;
-      usable = usable-stays x.proof.checker y.proof.checker (told_as f entries) h.told.checked r.usable;
+      room = room-stays x.proof.opened y.proof.opened (logged_as f entries) h.logged.written r.room;
+      usable = usable-stays x.proof.checker y.proof.checker (logged_as f entries) h.logged.checked r.usable;
       others = more;
       holds = subst (λ (t : Tables). MayBeHeld y.proof.checker (more ++ rename (global_literal t) after)) (sym h.tables) m;
     }
 
 -- what a search relies on leads on by entries, and so does what the checker may hold by those that it is told
 pub leads-globally : (x : TracerState) (entries : List Entry) (held after : List Clause) → Relies x held → Leads held entries after →
-    (now next : List Clause) × MayBeHeld x.proof.checker now × Leads now (told_as (global_literal x.tables) entries) next
+    (now next : List Clause) × MayBeHeld x.proof.checker now × Leads now (logged_as (global_literal x.tables) entries) next
 leads-globally x entries held after r d =
     let f = global_literal x.tables in
     let now = r.others ++ rename f held in

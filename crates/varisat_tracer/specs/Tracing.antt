@@ -8,9 +8,9 @@ use Rattle.varisat_trace.specs.declared.tracer.TraceError.{TraceError}
 use Rattle.varisat_names.specs.VarMap.{at}
 use Rattle.varisat_names.specs.VarData.{kept_at}
 use Rattle.varisat_names.specs.Variables.{Tables}
-use Rattle.varisat_proof.specs.Proving.{OpenState, ProofParts, is_there, IsTold, IsBegunIf, Tells, told, CanCountTargetFault, IsUsable, MayBeHeld}
+use Rattle.varisat_proof.specs.Proving.{OpenState, ProofParts, is_there, IsLogged, IsBegunIf, Logs, logged, CanCountTargetFault, IsUsable, MayBeHeld}
 use Rattle.varisat_tracer.specs.declared.tracer.SolverTracer.{SolverTracer}
-use Rattle.varisat_tracer.specs.Carried.{carry, told_as}
+use Rattle.varisat_tracer.specs.Carried.{carry, logged_as}
 
 -- the names and variables of a solver, and its proof
 pub record TracerState : Type 0 where
@@ -40,20 +40,20 @@ pub record Relies (x : TracerState) (held : List Clause) : Type 0 where
 -- The entries were told to the proof, over global variables; names and variables stay.
 pub record TakesGlobally (x : TracerState) (entries : List Entry) (y : TracerState) : Type 0 where
   pub tables : y.tables ≡ x.tables
-  pub told : IsTold x.proof (told_as (global_literal x.tables) entries) y.proof
+  pub logged : IsLogged x.proof (logged_as (global_literal x.tables) entries) y.proof
 
 -- It broke off in the entries: a beginning of their lines stands behind what the target had taken, and it has counted so many faults more.
 -- Names and variables stay, and a checker runs where one ran.
 pub record BreaksGlobally (x : TracerState) (entries : List Entry) (faults : ℕ) (y : TracerState) : Type 0 where
   pub tables : y.tables ≡ x.tables
-  pub begun : IsBegunIf x.proof.opened (told (told_as (global_literal x.tables) entries)) faults y.proof.opened
+  pub begun : IsBegunIf x.proof.opened (logged (logged_as (global_literal x.tables) entries)) faults y.proof.opened
   pub runs : is_there y.proof.checker ≡ is_there x.proof.checker
 
 -- So much of it as concerns the proof: a beginning of some entries' lines stands behind what the target had taken, and it has counted so many
 -- faults more. Where no proof is open there are none. A checker runs where one ran.
 abbrev pub BreaksProof : ProofParts → ℕ → ProofParts → Type 0
 BreaksProof p faults q =
-    (entries : List Entry) × IsBegunIf p.opened (told entries) faults q.opened × (is_there q.checker ≡ is_there p.checker)
+    (entries : List Entry) × IsBegunIf p.opened (logged entries) faults q.opened × (is_there q.checker ≡ is_there p.checker)
 
 -- the proof that is open, and whether a checker runs
 pub record OpenParts : Type 0 where
@@ -64,15 +64,15 @@ abbrev pub open_parts : ProofParts → OpenParts
 open_parts p = record { opened = p.opened; checking = is_there p.checker }
 
 -- What telling entries over global variables returns and leaves. Names and variables stay also after an error.
-abbrev pub TellsGlobally : TracerState → List Entry → Result (Unit {0}) TraceError → TracerState → Type 0
-TellsGlobally x entries (Ok u) y = TakesGlobally x entries y
-TellsGlobally x entries (Err e) y = (y.tables ≡ x.tables) × Tells x.proof (told_as (global_literal x.tables) entries) (Err e) y.proof
+abbrev pub LogsGlobally : TracerState → List Entry → Result (Unit {0}) TraceError → TracerState → Type 0
+LogsGlobally x entries (Ok u) y = TakesGlobally x entries y
+LogsGlobally x entries (Err e) y = (y.tables ≡ x.tables) × Logs x.proof (logged_as (global_literal x.tables) entries) (Err e) y.proof
 
 -- what the proof is told of a global variable that has lost its name or its solver variable: that it is gone, where it is not live any more
 abbrev pub leaves_if_deleted : Tables → ℕ → List Entry
 leaves_if_deleted t x = if (kept_at t.kept x).deleted then Leaves x ∷ [] else []
 
 -- A target that may still count a fault, if a proof is open, and a checker that is not spent, if one runs.
-pub record CanTell (p : ProofParts) : Type 0 where
+pub record CanLog (p : ProofParts) : Type 0 where
   pub room : CanCountTargetFault p.opened
   pub usable : IsUsable p.checker

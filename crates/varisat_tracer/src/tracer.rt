@@ -5,8 +5,8 @@ ghost use Rattle.varisat_names.specs.VarMap.{at};
 ghost use Rattle.varisat_names.specs.Variables.{no_variables};
 ghost use Rattle.varisat_tracer.specs.Carried.{carry, variable_or_first};
 ghost use Rattle.varisat_theory.specs.Journals.{Accepts, Assumes};
-ghost use Rattle.varisat_proof.specs.Proving.{CanCountTargetFault, IsUsable, IsTold};
-ghost use Rattle.varisat_tracer.specs.Tracing.{global_literal, tracer_state, open_parts, TellsGlobally, leaves_if_deleted};
+ghost use Rattle.varisat_proof.specs.Proving.{CanCountTargetFault, IsUsable, IsLogged};
+ghost use Rattle.varisat_tracer.specs.Tracing.{global_literal, tracer_state, open_parts, LogsGlobally, leaves_if_deleted};
 
 use std::alloc::{AllocError, Allocator};
 use varisat_formula::io::ProofTarget;
@@ -76,7 +76,7 @@ impl<W: ProofTarget, A: Allocator + Copy> SolverTracer<W, A> {
     pub fn add_clause(&mut self, clause: &[Lit]) -> Result<(), TraceError>
         requires room { CanCountTargetFault self.old.proof.opened }
         requires usable { IsUsable self.old.proof.checker }
-        ensures { TellsGlobally (tracer_state self.old) (Accepts clause.now ∷ []) result (tracer_state self.new) }
+        ensures { LogsGlobally (tracer_state self.old) (Accepts clause.now ∷ []) result (tracer_state self.new) }
     {
         if !self.proof.is_active() {
             return Ok(());
@@ -93,7 +93,7 @@ impl<W: ProofTarget, A: Allocator + Copy> SolverTracer<W, A> {
     pub fn add_assumptions(&mut self, assumptions: &[Lit]) -> Result<(), TraceError>
         requires room { CanCountTargetFault self.old.proof.opened }
         requires usable { IsUsable self.old.proof.checker }
-        ensures { TellsGlobally (tracer_state self.old) (Assumes assumptions.now ∷ []) result (tracer_state self.new) }
+        ensures { LogsGlobally (tracer_state self.old) (Assumes assumptions.now ∷ []) result (tracer_state self.new) }
     {
         if !self.proof.is_active() {
             return Ok(());
@@ -111,7 +111,7 @@ impl<W: ProofTarget, A: Allocator + Copy> SolverTracer<W, A> {
     pub fn delete_var_if_gone(&mut self, global: Var)
         requires { global < length self.old.tables.kept }
         ensures variables { self.new.tables ≡ self.old.tables }
-        ensures told { IsTold self.old.proof (leaves_if_deleted self.old.tables global) self.new.proof }
+        ensures logged { IsLogged self.old.proof (leaves_if_deleted self.old.tables global) self.new.proof }
         ensures opened { open_parts self.new.proof ≡ open_parts self.old.proof }
     {
         if self.tables.var_data_global(global).deleted {
@@ -121,11 +121,11 @@ impl<W: ProofTarget, A: Allocator + Copy> SolverTracer<W, A> {
 }
 
 impl<W: ProofTarget, A: Allocator + Copy> ProofTracer for SolverTracer<W, A> {
-    ghost use Rattle.varisat_proof.specs.Proving.{is_telling};
+    ghost use Rattle.varisat_proof.specs.Proving.{is_logging};
     ghost use Rattle.varisat_tracer.specs.Tracing.{tracer_state, IsInOrder, Relies, TakesGlobally, BreaksGlobally};
     ghost use Rattle.varisat_tracer.specs.TracerLaws.{takes-none, takes-more, takes-idle, breaks-none, breaks-behind, breaks-idle, relies-after};
 
-    ghost active = { λ x. is_telling x.proof };
+    ghost active = { λ x. is_logging x.proof };
 
     ghost holds = { λ x held. Relies (tracer_state x) held };
 

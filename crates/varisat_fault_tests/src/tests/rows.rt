@@ -65,8 +65,8 @@ fn is_answered(alloc: Global, row: Row) -> bool {
     cuts.part = part;
     cuts.flush = flush;
     match answers_in(alloc, alloc, &mut cuts, lines) {
-        Ok(told) => {
-            (told.as_slice() == wanted.as_bytes()) & ((cuts.puts, cuts.flushes) == calls)
+        Ok(reported) => {
+            (reported.as_slice() == wanted.as_bytes()) & ((cuts.puts, cuts.flushes) == calls)
         }
         Err(_) => false,
     }

@@ -37,17 +37,17 @@ enum Swept {
 // Whether the bytes that a target came back with are a beginning of what it would have had.
 fn is_beginning(answer: &str, whole: &str) -> bool {
     match (answer.get(1..), whole.get(1..)) {
-        (Some(told), Some(all)) => told.starts_with("ok") && all.starts_with(told),
+        (Some(reported), Some(all)) => reported.starts_with("ok") && all.starts_with(reported),
         _ => false,
     }
 }
 
 // Whether an invalid solver answers the line so, where it told this of the counts before.
-fn is_invalid_answer(line: &str, answer: &str, whole: &str, told: Option<&str>) -> bool {
+fn is_invalid_answer(line: &str, answer: &str, whole: &str, reported: Option<&str>) -> bool {
     match line {
         "model" | "core" => answer == "-ok none",
-        "steps" | "since" => match told {
-            Some(told) => answer == told,
+        "steps" | "since" => match reported {
+            Some(reported) => answer == reported,
             None => answer.starts_with("-ok ") && answer != "-ok none",
         },
         "close" => answer == "-ok none" || (answer.starts_with("-") && is_beginning(answer, whole)),
@@ -63,12 +63,12 @@ fn is_refused_list(line: &str, answer: &str) -> bool {
 
 // What an invalid solver told of its counts. They stay, but that a proof is closed sets the steps since then to 0.
 #[derive(Clone, Copy)]
-struct Told<'a> {
+struct Reported<'a> {
     steps: Option<&'a str>,
     since: Option<&'a str>,
 }
 
-impl<'a> Told<'a> {
+impl<'a> Reported<'a> {
     // What was told in answer to the line.
     fn of(&self, line: &str) -> Option<&'a str> {
         if line == "steps" {
@@ -78,7 +78,7 @@ impl<'a> Told<'a> {
         }
     }
 
-    fn tell(&mut self, line: &str, answer: &'a str) {
+    fn report(&mut self, line: &str, answer: &'a str) {
         match line {
             "steps" => self.steps = Some(answer),
             "since" => self.since = Some(answer),
@@ -92,16 +92,16 @@ impl<'a> Told<'a> {
 fn compare(script: &str, whole: &str, cut: &str) -> Swept {
     let mut swept = Swept::Same;
     let mut is_invalid = false;
-    let mut told = Told {
+    let mut reported = Reported {
         steps: None,
         since: None,
     };
     for ((line, wanted), answer) in script.lines().zip(whole.lines()).zip(cut.lines()) {
         if is_invalid {
-            if !is_invalid_answer(line, answer, wanted, told.of(line)) {
+            if !is_invalid_answer(line, answer, wanted, reported.of(line)) {
                 return Swept::Wrong;
             }
-            told.tell(line, answer);
+            reported.report(line, answer);
         } else if answer == "-err 3" || answer == "-err 2" {
             is_invalid = true;
             swept = Swept::Cut;

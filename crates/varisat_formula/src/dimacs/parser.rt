@@ -142,7 +142,7 @@ impl<A: Allocator + Copy> DimacsParser<A> {
     }
 
     /// The first fault.
-    fn told(&self) -> Option<DimacsError>
+    fn reported(&self) -> Option<DimacsError>
         ensures { result ≡ self.now.reading.fault }
     {
         self.reader.fault()
@@ -150,7 +150,7 @@ impl<A: Allocator + Copy> DimacsParser<A> {
 
     fn run_out(&mut self) -> DimacsError
         ensures reading { self.new ≡ record self.old { reading = failed self.old.reading self.old.line OutOfMemory } }
-        ensures told { self.new.reading.fault ≡ Some result }
+        ensures reported { self.new.reading.fault ≡ Some result }
     {
         let line = self.line;
         self.reader.fail(line, DimacsErrorKind::OutOfMemory);
@@ -261,7 +261,7 @@ impl<A: Allocator + Copy> DimacsParser<A> {
                 Ok(()) => at += 1,
                 Err(_) => return Err(self.run_out()),
             }
-            if let Some(fault) = self.told() {
+            if let Some(fault) = self.reported() {
                 return Err(fault);
             }
         }
@@ -278,7 +278,7 @@ impl<A: Allocator + Copy> DimacsParser<A> {
         ensures over { self.old.over ≡ true → self.new ≡ self.old }
         ensures open { self.new.over ≡ self.old.over }
     {
-        if let Some(fault) = self.told() {
+        if let Some(fault) = self.reported() {
             return Err(fault);
         }
         if self.over {
@@ -294,11 +294,11 @@ impl<A: Allocator + Copy> DimacsParser<A> {
         ensures stays { self.new ≡ record self.old { over = true; reading = self.new.reading } }
         ensures over { self.new.over ≡ true }
     {
-        if self.told().is_none() && !self.over {
+        if self.reported().is_none() && !self.over {
             self.end_text();
         }
         self.over = true;
-        match self.told() {
+        match self.reported() {
             Some(fault) => Err(fault),
             None => Ok(()),
         }
@@ -309,13 +309,13 @@ impl<A: Allocator + Copy> DimacsParser<A> {
     pub fn break_off(&mut self) -> DimacsError
         ensures reading { self.new.reading ≡ gives_from (BreaksOff Io) self.old [] }
         ensures answer { result ≡ failing self.old }
-        ensures told { self.old.over ≡ false → self.new.reading.fault ≡ Some result }
+        ensures reported { self.old.over ≡ false → self.new.reading.fault ≡ Some result }
         ensures same { (e : DimacsError) → self.old.reading.fault ≡ Some e → self.new ≡ self.old }
         ensures over { self.old.over ≡ true → self.new ≡ self.old }
         ensures stays { self.new ≡ record self.old { reading = self.new.reading } }
         ensures open { self.new.over ≡ self.old.over }
     {
-        if let Some(fault) = self.told() {
+        if let Some(fault) = self.reported() {
             return fault;
         }
         let line = self.line;
@@ -336,7 +336,7 @@ impl<A: Allocator + Copy> DimacsParser<A> {
     {
         match self.end_place() {
             Ok(()) => {
-                if self.told().is_none() {
+                if self.reported().is_none() {
                     self.reader.end(self.line);
                 }
             }

@@ -271,8 +271,8 @@ fn breaks_off(parser: &mut DimacsParser<Global>) -> bool {
 /// Whether a text that was over before is not broken off.
 fn is_over(parser: &mut DimacsParser<Global>) -> bool {
     let has_ended = parser.feed(b"1 0\n").is_ok() && parser.finish().is_ok();
-    let is_told = Some(parser.break_off()) == at(2, DimacsErrorKind::Io);
-    has_ended && is_told && parser.finish().is_ok()
+    let is_reported = Some(parser.break_off()) == at(2, DimacsErrorKind::Io);
+    has_ended && is_reported && parser.finish().is_ok()
 }
 
 /// Whether parsers are right after the end, after a fault, and where the source fails before the end and after it.
@@ -484,8 +484,8 @@ fn formulas_and_faults_are_written(rt: HostRuntime) -> Result<(), AllocError> {
         kind: UnterminatedClause,
     };
     let text = format!(in rt.alloc(); "{error}")?;
-    let is_told = text.as_str() == "line 3: UnterminatedClause";
-    assert!(rt; matches!(writes(rt.alloc()), Ok(true)) && is_told);
+    let is_reported = text.as_str() == "line 3: UnterminatedClause";
+    assert!(rt; matches!(writes(rt.alloc()), Ok(true)) && is_reported);
     Ok(())
 }
 
@@ -502,8 +502,8 @@ fn reached_by<A: Allocator + Copy>(parser: &mut DimacsParser<A>, error: DimacsEr
     let ended = parser.finish() == Err(error);
     let taken = parser.take_formula().len();
     let again = parser.feed(b"1 0") == Err(error) && parser.finish() == Err(error);
-    let is_told = error.kind == DimacsErrorKind::OutOfMemory && ended && again;
-    if is_told && taken < 5 && taken as u64 + 1 == error.line {
+    let is_reported = error.kind == DimacsErrorKind::OutOfMemory && ended && again;
+    if is_reported && taken < 5 && taken as u64 + 1 == error.line {
         Reached::RanOut
     } else {
         Reached::Wrong

@@ -88,7 +88,7 @@ fn observe(
     Ok(())
 }
 
-fn tell_model(solver: &TestSolver, states: &mut [PlainState]) -> Result<(), AllocError> {
+fn use_model(solver: &TestSolver, states: &mut [PlainState]) -> Result<(), AllocError> {
     let model = solver.model()?;
     let told = match &model {
         Some(model) => Some(model.as_slice()),
@@ -100,7 +100,7 @@ fn tell_model(solver: &TestSolver, states: &mut [PlainState]) -> Result<(), Allo
     Ok(())
 }
 
-fn tell_core(solver: &TestSolver, states: &mut [PlainState]) {
+fn use_core(solver: &TestSolver, states: &mut [PlainState]) {
     let core = solver.failed_core();
     for state in states {
         state.core(core);
@@ -112,8 +112,8 @@ fn solve(solver: &mut TestSolver, states: &mut [PlainState]) -> Result<(), Alloc
     for state in states.iter_mut() {
         state.solve(answer);
     }
-    tell_model(solver, states)?;
-    tell_core(solver, states);
+    use_model(solver, states)?;
+    use_core(solver, states);
     Ok(())
 }
 
@@ -172,7 +172,7 @@ fn make_call(
         30..=35 => hide(solver, states, var),
         36..=38 => observe(alloc, solver, states)?,
         39..=44 => solve(solver, states)?,
-        _ => tell_model(solver, states)?,
+        _ => use_model(solver, states)?,
     }
     Ok(())
 }

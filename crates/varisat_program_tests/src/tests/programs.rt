@@ -240,7 +240,7 @@ fn is_fault(err: &[u8], status: u8) -> bool {
 }
 
 // Whether a fault is told where the writer has room for so many bytes.
-fn is_told_with(alloc: Global, room: usize) -> bool {
+fn is_reported_with(alloc: Global, room: usize) -> bool {
     let mut bytes = [0; 5];
     let mut out = &mut bytes[..room.min(5)];
     let mut err = Vec::new(alloc);
@@ -254,7 +254,7 @@ fn streams_that_fail_are_told(rt: HostRuntime) {
     let input = in_pieces(b"new\nadd 1", 100, true);
     let session = session_prints(alloc, input, ("ok 1\n", "error: the reader failed\n", 2));
     let file = cut_file_prints(alloc, ("", "error: Error in DIMACS input: line 2: Io\n", 2));
-    let writers = (0..5).all(|room| is_told_with(alloc, room));
+    let writers = (0..5).all(|room| is_reported_with(alloc, room));
     assert!(rt; [session, file, writers] == [true; 3]);
 }
 
@@ -302,14 +302,14 @@ fn is_long_model(line: &[u8]) -> bool {
 
 // What is printed of a clause of 40 literals behind the settings: one step, and such a model.
 fn are_long_answers(out: &[u8], status: u8, settings: Exchange) -> bool {
-    let is_told = match out.strip_prefix(settings.1.as_bytes()) {
+    let is_reported = match out.strip_prefix(settings.1.as_bytes()) {
         Some(rest) => match rest.strip_prefix(b"ok\nok true\nok 1\n".as_slice()) {
             Some(line) => is_long_model(line),
             None => false,
         },
         None => false,
     };
-    (status == 0) & is_told
+    (status == 0) & is_reported
 }
 
 fn decides_long_clause(alloc: Global, settings: Exchange) -> bool {

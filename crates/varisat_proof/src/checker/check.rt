@@ -14,8 +14,8 @@ ghost use Rattle.varisat_proof.specs.declared.checker.error.CheckerError.TheVari
 ghost use Rattle.varisat_proof.specs.Lines.{line_of_kind};
 ghost use Rattle.varisat_proof.specs.Marked.{state_of, strict_rules};
 ghost use Rattle.varisat_proof.specs.Results.{IsResult};
-ghost use Rattle.varisat_proof.specs.DratChecks.{rules_of, TellsDratLine, IsDratResult, ChecksDrat};
-ghost use Rattle.varisat_proof.specs.Checks.{TellsStatus, TakesNext, position_of, ReadsNext, EndsBehind, ChecksFrom, result_at_end, ChecksLine, ChecksUnits, ChecksCore, RefusesText};
+ghost use Rattle.varisat_proof.specs.DratChecks.{rules_of, IsDratStatusOf, IsDratResult, ChecksDrat};
+ghost use Rattle.varisat_proof.specs.Checks.{ReturnsStatus, TakesNext, position_of, ReadsNext, EndsBehind, ChecksFrom, result_at_end, ChecksLine, ChecksUnits, ChecksCore, RefusesText};
 ghost use Rattle.varisat_proof.specs.Calls.{with_clause, standing_of, BecomesOrRefuses, AddsText, IsStep, Checks, ChecksMarked, IsMarkedResult, IsTrueReport, IsRightFor, spends};
 
 use crate::checker::drat::{DratCounts, take_drat_line};
@@ -245,7 +245,7 @@ impl<A: Allocator + Copy> Checker<A> {
         builder: &mut ReportBuilder<A>,
         core: &[Lit],
     ) -> Result<LineStatus, AllocError>
-        ensures status { TellsStatus strict_rules (state_of self.old.clauses builder.old) (line_of_kind Fails core.now) result
+        ensures status { ReturnsStatus strict_rules (state_of self.old.clauses builder.old) (line_of_kind Fails core.now) result
             (state_of self.new.clauses builder.new) }
         ensures spent { self.new.spent ≡ self.old.spent }
     {
@@ -267,7 +267,7 @@ impl<A: Allocator + Copy> Checker<A> {
         kind: LineKind,
         clause: &[Lit],
     ) -> Result<LineStatus, AllocError>
-        ensures status { TellsStatus strict_rules (state_of self.old.clauses builder.old) (line_of_kind kind clause.now) result
+        ensures status { ReturnsStatus strict_rules (state_of self.old.clauses builder.old) (line_of_kind kind clause.now) result
             (state_of self.new.clauses builder.new) }
         ensures spent { self.new.spent ≡ self.old.spent }
     {
@@ -307,7 +307,7 @@ impl<A: Allocator + Copy> Checker<A> {
         kind: LineKind,
         clause: &[Lit],
     ) -> Result<LineStatus, AllocError>
-        ensures status { IfOk result (λ status. (Conflicts self.old.clauses [] → ⊥) → TellsDratLine self.old.clauses kind clause.now status self.new.clauses) }
+        ensures status { IfOk result (λ status. (Conflicts self.old.clauses [] → ⊥) → IsDratStatusOf self.old.clauses kind clause.now status self.new.clauses) }
         ensures spent { self.new.spent ≡ self.old.spent }
     {
         let status = take_drat_line(&mut self.clauses, counts, kind, clause)?;
@@ -324,7 +324,7 @@ impl<A: Allocator + Copy> Checker<A> {
         clause: &[Lit],
     ) -> Result<LineStatus, AllocError>
         ensures status { (Conflicts self.old.clauses [] → ⊥) →
-            TellsStatus (rules_of rules) (state_of self.old.clauses builder.old) (line_of_kind kind clause.now) result
+            ReturnsStatus (rules_of rules) (state_of self.old.clauses builder.old) (line_of_kind kind clause.now) result
             (state_of self.new.clauses builder.new) }
         ensures spent { self.new.spent ≡ self.old.spent }
     {

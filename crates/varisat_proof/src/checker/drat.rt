@@ -3,7 +3,7 @@
 ghost use Rattle.std.specs.Prelude.{◌≡◌, [], IfOk};
 ghost use Rattle.varisat_theory.specs.Propagation.{Conflicts};
 ghost use Rattle.varisat_proof.specs.declared.proof.format.LineKind.TheVariants.{Adds, Deletes};
-ghost use Rattle.varisat_proof.specs.DratChecks.{TellsRedundancy, TellsDratLine, TakesDratKind};
+ghost use Rattle.varisat_proof.specs.DratChecks.{IsRedundancyOf, IsDratStatusOf, TakesDratKind};
 
 use crate::checker::line::LineStatus;
 use crate::proof::format::LineKind;
@@ -91,7 +91,7 @@ fn redundancy_of<A: Allocator + Copy>(
     clauses: &mut PresentClauses<A>,
     clause: &[Lit],
 ) -> Result<Redundancy, AllocError>
-    ensures told { IfOk result (λ why. TellsRedundancy clauses.old clause.now why) }
+    ensures logged { IfOk result (λ why. IsRedundancyOf clauses.old clause.now why) }
     ensures stays { clauses.new ≡ clauses.old }
 {
     let is_seen = clauses.is_seen_to_follow(clause)?;
@@ -116,7 +116,7 @@ fn take_added<A: Allocator + Copy>(
     counts: &mut DratCounts,
     clause: &[Lit],
 ) -> Result<LineStatus, AllocError>
-    ensures { IfOk result (λ status. TellsDratLine clauses.old Adds clause.now status clauses.new) }
+    ensures { IfOk result (λ status. IsDratStatusOf clauses.old Adds clause.now status clauses.new) }
 {
     let why = redundancy_of(clauses, clause)?;
     match why {
@@ -139,7 +139,7 @@ fn take_deleted<A: Allocator + Copy>(
     counts: &mut DratCounts,
     clause: &[Lit],
 ) -> Result<LineStatus, AllocError>
-    ensures { IfOk result (λ status. (Conflicts clauses.old [] → ⊥) → TellsDratLine clauses.old Deletes clause.now status clauses.new) }
+    ensures { IfOk result (λ status. (Conflicts clauses.old [] → ⊥) → IsDratStatusOf clauses.old Deletes clause.now status clauses.new) }
 {
     let deletion = clauses.take_out_spare(clause)?;
     counts.add_deletion(deletion);
@@ -153,7 +153,7 @@ pub fn take_drat_line<A: Allocator + Copy>(
     kind: LineKind,
     clause: &[Lit],
 ) -> Result<LineStatus, AllocError>
-    ensures { IfOk result (λ status. (Conflicts clauses.old [] → ⊥) → TellsDratLine clauses.old kind clause.now status clauses.new) }
+    ensures { IfOk result (λ status. (Conflicts clauses.old [] → ⊥) → IsDratStatusOf clauses.old kind clause.now status clauses.new) }
 {
     counts.add_line();
     match kind {

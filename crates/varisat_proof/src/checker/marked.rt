@@ -3,7 +3,7 @@ ghost use Rattle.std.specs.Prelude.{◌≡◌, List, ◌∷◌, [], ◌++◌, le
 ghost use Rattle.varisat_theory.specs.Membership.{◌⊆◌, SameSet};
 ghost use Rattle.varisat_formula.specs.Formulas.{with_one_more};
 ghost use Rattle.varisat_proof.specs.Calls.{core_lists};
-ghost use Rattle.varisat_proof.specs.Marked.{nothing_told};
+ghost use Rattle.varisat_proof.specs.Marked.{nothing_logged};
 
 use crate::checker::error::CheckVerdict;
 use std::alloc::{AllocError, Allocator};
@@ -37,10 +37,10 @@ pub struct ReportBuilder<A: Allocator + Copy> {
 
 impl<A: Allocator + Copy> Model for ReportBuilder<A> {
     ghost use Rattle.varisat_theory.specs.Membership.{SameSet};
-    ghost use Rattle.varisat_proof.specs.Marked.{MarkedTold};
+    ghost use Rattle.varisat_proof.specs.Marked.{MarkedLog};
     ghost use Rattle.varisat_proof.specs.Calls.{core_lists};
 
-    ghost Value = { MarkedTold };
+    ghost Value = { MarkedLog };
 
     ghost view = { λ j. record { assumed = j.assumed.items; inputs = j.inputs; cores = core_lists j.cores.items } };
 
@@ -66,7 +66,7 @@ fn list_all<A: Allocator + Copy>(
 impl<A: Allocator + Copy> ReportBuilder<A> {
     /// Nothing was told. It takes no memory.
     pub fn new_in(alloc: A) -> ReportBuilder<A>
-        ensures { result ≡ nothing_told }
+        ensures { result ≡ nothing_logged }
     {
         ReportBuilder {
             alloc,

@@ -6,9 +6,9 @@ ghost use Rattle.varisat_trace.specs.Traces.{CanTakeStep, entries_of};
 ghost use Rattle.varisat_proof.specs.declared.checker.error.CheckerError.TheVariants.{OutOfMemory};
 ghost use Rattle.varisat_proof.specs.declared.proof.format.LineKind.TheVariants as kinds;
 ghost use Rattle.varisat_proof.specs.Lines.{line_of_kind};
-ghost use Rattle.varisat_proof.specs.Telling.{marked_line};
+ghost use Rattle.varisat_proof.specs.Logging.{marked_line};
 ghost use Rattle.varisat_proof.specs.Present.{IsLeftAfter};
-ghost use Rattle.varisat_proof.specs.Proving.{PutsInto, is_telling, bars_clauses, bars_assumptions, marked_searched, WritesLines, told, Tells, Flushes, CanCountTargetFault, MayBeHeld, IsUsable, IsCheckedIf, IsTold, IsSpent, IsClosed};
+ghost use Rattle.varisat_proof.specs.Proving.{PutsInto, is_logging, bars_clauses, bars_assumptions, marked_searched, WritesLines, logged, Logs, Flushes, CanCountTargetFault, MayBeHeld, IsUsable, IsCheckedIf, IsLogged, IsSpent, IsClosed};
 
 use crate::checker::{Checker, CheckerError};
 use crate::proof::format::{LineKind, ProofFormat};
@@ -45,7 +45,7 @@ impl<W: ProofTarget> OpenProof<W> {
         step: &ProofStep<'_>,
     ) -> Result<(), WriteError>
         requires { self.old.taken.faults < 2 ^ 64 - 1 }
-        ensures puts { PutsInto self.old (told (entries_of step.now)) result self.new.taken }
+        ensures puts { PutsInto self.old (logged (entries_of step.now)) result self.new.taken }
         ensures rest { self.new ≡ record self.old { taken = self.new.taken } }
     {
         write_entries(&mut self.target, buffer, self.format.encoding(), step)
@@ -79,7 +79,7 @@ fn write_step_if<W: ProofTarget, A: Allocator + Copy>(
     step: &ProofStep<'_>,
 ) -> Result<(), TraceError>
     requires { CanCountTargetFault opened.old }
-    ensures { WritesLines opened.old (told (entries_of step.now)) result opened.new }
+    ensures { WritesLines opened.old (logged (entries_of step.now)) result opened.new }
 {
     let Some(proof) = opened else {
         return Ok(());
@@ -199,7 +199,7 @@ impl<W: ProofTarget, A: Allocator + Copy> Proof<W, A> {
 
     /// Whether a proof is open or a checker runs.
     pub fn is_active(&self) -> bool
-        ensures { result ≡ is_telling self.now }
+        ensures { result ≡ is_logging self.now }
     {
         self.open.is_some() || self.checker.is_some()
     }
@@ -248,7 +248,7 @@ pub fn add_clause<W: ProofTarget, A: Allocator + Copy>(
 ) -> Result<(), TraceError>
     requires room { CanCountTargetFault proof.old.opened }
     requires usable { IsUsable proof.old.checker }
-    ensures { Tells proof.old (Accepts clause.now ∷ []) result proof.new }
+    ensures { Logs proof.old (Accepts clause.now ∷ []) result proof.new }
 {
     write_marked_if(
         &mut proof.open,
@@ -270,7 +270,7 @@ pub fn add_assumptions<W: ProofTarget, A: Allocator + Copy>(
 ) -> Result<(), TraceError>
     requires room { CanCountTargetFault proof.old.opened }
     requires usable { IsUsable proof.old.checker }
-    ensures { Tells proof.old (Assumes assumptions.now ∷ []) result proof.new }
+    ensures { Logs proof.old (Assumes assumptions.now ∷ []) result proof.new }
 {
     write_marked_if(
         &mut proof.open,
@@ -289,7 +289,7 @@ pub fn add_step<W: ProofTarget, A: Allocator + Copy>(
     requires room { CanCountTargetFault proof.old.opened }
     requires usable { IsUsable proof.old.checker }
     requires right { CanTakeStep (MayBeHeld proof.old.checker) step.now }
-    ensures { Tells proof.old (entries_of step.now) result proof.new }
+    ensures { Logs proof.old (entries_of step.now) result proof.new }
 {
     write_step_if(&mut proof.open, &mut proof.buffer, step)?;
     match check_step_if(&mut proof.checker, step) {
@@ -301,7 +301,7 @@ pub fn add_step<W: ProofTarget, A: Allocator + Copy>(
 /// Tells that a variable is gone for good: the checker drops the clauses of it. No format has a line for that, so that it
 /// takes no memory and no target can fail.
 pub fn delete_var<W: ProofTarget, A: Allocator + Copy>(proof: &mut Proof<W, A>, var: Var)
-    ensures told { IsTold proof.old (Leaves var ∷ []) proof.new }
+    ensures logged { IsLogged proof.old (Leaves var ∷ []) proof.new }
     ensures opened { proof.new.opened ≡ proof.old.opened }
 {
     if let Some(checker) = &mut proof.checker {

@@ -8,7 +8,7 @@ ghost use Rattle.varisat_proof.specs.Written.{leb128, leb128_by, codes_bytes, ma
 ghost use Rattle.varisat_proof.specs.Steps.{step_lines, PutsLines};
 ghost use Rattle.varisat_theory.specs.StepLaws.{unit_lines};
 ghost use Rattle.varisat_trace.specs.Traces.{entries_of};
-ghost use Rattle.varisat_proof.specs.Telling.{marked_line, lines_told};
+ghost use Rattle.varisat_proof.specs.Logging.{marked_line, logged_lines};
 
 use crate::proof::format::{Encoding, LineKind};
 use crate::proof::step::ProofStep;
@@ -188,7 +188,7 @@ pub(crate) fn write_entries<W: ProofTarget, A: Allocator + Copy>(
     step: &ProofStep<'_>,
 ) -> Result<(), WriteError>
     requires { (W.taken target.old).faults < 2 ^ 64 - 1 }
-    ensures { PutsLines encoding (W.taken target.old) result (lines_told encoding (entries_of step.now)) (W.taken target.new) }
+    ensures { PutsLines encoding (W.taken target.old) result (logged_lines encoding (entries_of step.now)) (W.taken target.new) }
 {
     match step {
         ProofStep::AtClause { clause } => {

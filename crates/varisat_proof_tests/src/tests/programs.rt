@@ -62,7 +62,7 @@ fn prints(alloc: Global, row: &Row) -> bool {
 }
 
 /// Whether nothing is printed where the text's source or the proof's fails.
-fn tells_fault(alloc: Global, cnf_fails: bool) -> bool {
+fn reports_fault(alloc: Global, cnf_fails: bool) -> bool {
     let mut out = MemoryTarget::new_in(alloc);
     let mut err = Vec::new(alloc);
     let mut cnf = pieces(b"1 0", 0, 5, cnf_fails);
@@ -76,6 +76,6 @@ fn printed_checks(rt: HostRuntime) {
     for i in 0..ROWS.len() {
         assert!(rt; prints(rt.alloc(), &ROWS[i]), "row {i}");
     }
-    assert!(rt; tells_fault(rt.alloc(), true));
-    assert!(rt; tells_fault(rt.alloc(), false));
+    assert!(rt; reports_fault(rt.alloc(), true));
+    assert!(rt; reports_fault(rt.alloc(), false));
 }

@@ -24,14 +24,14 @@ pub struct Assignment<A: Allocator + Copy> {
 
 impl<A: Allocator + Copy> Model for Assignment<A> {
     ghost use Rattle.std.specs.Prelude.{◌≡◌, ◌*◌, length};
-    ghost use Rattle.varisat_prop.specs.Parts.{Values, TellsValues};
+    ghost use Rattle.varisat_prop.specs.Parts.{Values, AreValuesOf};
 
     ghost Value = { Values };
 
     ghost view = { λ a. record { current = a.assignment.items; last = a.last_value.items } };
 
     ghost invariant = { λ a. (length a.last_value.items ≡ length a.assignment.items) × (length a.lit_values.items ≡ 2 * length a.assignment.items)
-        × TellsValues a.assignment.items a.lit_values.items };
+        × AreValuesOf a.assignment.items a.lit_values.items };
 }
 
 impl<A: Allocator + Copy> Assignment<A> {

@@ -208,7 +208,7 @@ const ROUNDS: u64 = 4;
 struct Journal {
     inputs: CnfFormula<Global>,
     cores: Vec<(usize, Vec<Lit, Global>), Global>,
-    is_told: bool,
+    is_reported: bool,
 }
 
 // Whether the clauses alone are known to be unsatisfiable.
@@ -240,7 +240,7 @@ fn add_more(
     Ok(())
 }
 
-fn tell_core(alloc: Global, journal: &mut Journal, core: &[Lit]) -> Result<(), AllocError> {
+fn log_core(alloc: Global, journal: &mut Journal, core: &[Lit]) -> Result<(), AllocError> {
     let copy = Vec::from_slice(alloc, core)?;
     journal.cores.push((journal.inputs.len(), copy))?;
     Ok(())
@@ -260,13 +260,13 @@ fn solve_round(
     if below(numbers, 4) > 0 {
         let (literals, count) = next_clause(numbers, names);
         solver.assume(&literals[..count.min(4)])?;
-        journal.is_told = false;
+        journal.is_reported = false;
     }
-    if decide(solver, 4)? != Some(false) || is_refuted(solver) || journal.is_told {
+    if decide(solver, 4)? != Some(false) || is_refuted(solver) || journal.is_reported {
         return Ok(());
     }
     if let Some(core) = solver.failed_core() {
-        journal.is_told = tell_core(alloc, journal, core).is_ok();
+        journal.is_reported = log_core(alloc, journal, core).is_ok();
     }
     Ok(())
 }
@@ -352,7 +352,7 @@ fn check_session(alloc: Global, solver: &mut TestSolver, number: u64) -> Option<
     let mut journal = Journal {
         inputs: CnfFormula::new_in(alloc),
         cores: Vec::new(alloc),
-        is_told: false,
+        is_reported: false,
     };
     let opened = solver.write_proof(MemoryTarget::new_in(alloc), ProofFormat::Marked);
     drop(opened);

@@ -6,7 +6,7 @@ use Rattle.varisat.specs.Decided.{concluded}
 use Rattle.varisat.specs.Proven.{prepared, Fails, AsRead, AsClosed}
 use Rattle.varisat_trace.proofs.Broken.{passed-on}
 use Rattle.varisat.proofs.ProgramProves.{fails-reported, finds-valid, proven}
-use Rattle.varisat_solver.proofs.ToldJournals.{proof-of}
+use Rattle.varisat_solver.proofs.LoggedJournals.{proof-of}
 use Rattle.varisat.proofs.deciding.decide_in.Goals as goal
 
 pub returns-in_err-add_dimacs_cnf-clause-fails : goal.returns-in_err-add_dimacs_cnf-clause-fails

@@ -19,4 +19,4 @@ returns-in-Ok-print_report-clause-outcome g c =
     )
 
 pub returns-clause-outcome : goal.returns-clause-outcome
-returns-clause-outcome g c = inl (c.in-Err.refusal, c.in-Err.ensures.fails, c.tell_fault-in-Err.ensures, refl)
+returns-clause-outcome g c = inl (c.in-Err.refusal, c.in-Err.ensures.fails, c.print_fault-in-Err.ensures, refl)

@@ -1,7 +1,7 @@
 use Rattle.std.proofs.Common.{ap, sym, ◌∙◌}
 use Rattle.varisat_solver.specs.States.{Ledger, empty_state}
-use Rattle.varisat_solver.proofs.ToldJournals.{journal-of}
-use Rattle.varisat.proofs.RunsTold.{run-counts}
+use Rattle.varisat_solver.proofs.LoggedJournals.{journal-of}
+use Rattle.varisat.proofs.RunsLogged.{run-counts}
 use Rattle.varisat.proofs.Histories.{of-ok, run-is-true}
 use Rattle.varisat.proofs.FewSteps.{answers-stay-few}
 use Rattle.varisat.proofs.session.answers_of.Goals as goal

@@ -1,7 +1,7 @@
 use Rattle.std.proofs.Common.{◌≡◌, ◌+◌, ◌<◌, length, sym, ◌∙◌, subst, arith}
 use Rattle.varisat_prop.proofs.ReadElements.{element}
 use Rattle.varisat_analysis.specs.Marks.{marking}
-use Rattle.varisat_analysis.specs.Redundancy.{TellsRedundancy}
+use Rattle.varisat_analysis.specs.Redundancy.{FindsRedundancy}
 use Rattle.varisat_analysis.proofs.AnalysisMarks.{can-still}
 use Rattle.varisat_analysis.proofs.AnalysisMinimize.{Minimizing, minimizing-start, minimizing-keep, minimizing-drop, minimizing-end, minimizing-false}
 use Rattle.varisat_analysis.proofs.analyze_conflict.minimize.Goals as goal
@@ -31,7 +31,7 @@ loop-place-preserved g c =
     let e = element c.loop-place.scratch.clause.items c.loop-place.place c.index-lit.result.now (omega (arith, i, lo)) c.index-lit.ensures in
     elim c.if-not-branch.branch [
       | then-not-branch w ↦
-          let f = subst (λ b. TellsRedundancy g.s c.index-lit.result.now b (marking c.loop-place.scratch c.loop-place.var_flags)
+          let f = subst (λ b. FindsRedundancy g.s c.index-lit.result.now b (marking c.loop-place.scratch c.loop-place.var_flags)
           (marking c.is_redundant.new.scratch c.is_redundant.new.var_flags)) w.if-not-branch.true (c.in_ok-is_redundant.ensures {u = tt}) in
           subst (λ k. Minimizing g.s (marking c.args.scratch.now c.args.var_flags.now)
           (marking c.if-not-branch.scratch c.is_redundant.new.var_flags) k (c.loop-place.place + 1)) (sym w.kept-is)
@@ -39,7 +39,7 @@ loop-place-preserved g c =
           (c.loop-place.kept + 1) (c.loop-place.place + 1)) (sym w.scratch-is)
           (minimizing-keep c.index-lit.result.now c.is_redundant.auto.var_flags i e f c.loop-place.invariant))
       | else-not-branch w ↦
-          let f = subst (λ b. TellsRedundancy g.s c.index-lit.result.now b (marking c.loop-place.scratch c.loop-place.var_flags)
+          let f = subst (λ b. FindsRedundancy g.s c.index-lit.result.now b (marking c.loop-place.scratch c.loop-place.var_flags)
           (marking c.is_redundant.new.scratch c.is_redundant.new.var_flags)) w.if-not-branch.false (c.in_ok-is_redundant.ensures {u = tt}) in
           subst (λ k. Minimizing g.s (marking c.args.scratch.now c.args.var_flags.now)
           (marking c.if-not-branch.scratch c.is_redundant.new.var_flags) k (c.loop-place.place + 1)) (sym w.kept-is)

@@ -1,7 +1,7 @@
 use Rattle.std.proofs.Common.{rules, w32, refl, sym, subst}
 use Rattle.std.proofs.Math.Facts.{to_z-of_z}
 use mir.Val.{SFits}
-use Rattle.varisat_client.specs.Pasts.{Past, AddsNumber, AssumesNumber, TellsValue, TellsFailed}
+use Rattle.varisat_client.specs.Pasts.{Past, AddsNumber, AssumesNumber, ReturnsValue, ReturnsFailed}
 use Rattle.varisat_client.specs.Clients.{StandsForPast}
 use Rattle.varisat_client.proofs.session.make_call.Goals as goal
 
@@ -29,7 +29,7 @@ returns-in-Value g c p st =
     rw c.in-Value.is (
       p,
       (
-        subst (λ m. TellsValue c.in-Value.number m p) (sym (to_z-of_z r)) (subst (λ n. TellsValue n c.value.result p) (to_z-of_z f) (c.value.ensures p st)),
+        subst (λ m. ReturnsValue c.in-Value.number m p) (sym (to_z-of_z r)) (subst (λ n. ReturnsValue n c.value.result p) (to_z-of_z f) (c.value.ensures p st)),
         refl,
       ),
       st,
@@ -37,7 +37,7 @@ returns-in-Value g c p st =
 
 pub returns-in-HasFailed : goal.returns-in-HasFailed
 returns-in-HasFailed g c p st = let f : SFits w32 c.in-HasFailed.number = search rules in
-    rw c.in-HasFailed.is (p, (subst (λ n. TellsFailed n c.has_failed.result p) (to_z-of_z f) (c.has_failed.ensures p st), refl), st)
+    rw c.in-HasFailed.is (p, (subst (λ n. ReturnsFailed n c.has_failed.result p) (to_z-of_z f) (c.has_failed.ensures p st), refl), st)
 
 pub returns-in-Refusal : goal.returns-in-Refusal
 returns-in-Refusal g c p st = rw c.in-Refusal.is (p, (c.refusal.ensures p st, refl), st)

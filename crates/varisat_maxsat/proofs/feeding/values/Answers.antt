@@ -2,7 +2,7 @@ use Rattle.std.proofs.Common.{◌≡◌, ℤ, ◌+◌, true, ◌↔◌, rules, w
 use Rattle.std.proofs.lemmas.Bool.{eqb-true}
 use Rattle.std.proofs.Math.Facts.{to_z-of_z}
 use mir.Val.{SFits}
-use Rattle.varisat_client.specs.Pasts.{TellsValue}
+use Rattle.varisat_client.specs.Pasts.{ReturnsValue}
 use Rattle.varisat_maxsat.specs.Charges.{AreValues}
 use Rattle.varisat_maxsat.proofs.Given.{values-next}
 use Rattle.varisat_maxsat.proofs.feeding.values.Goals as goal
@@ -16,7 +16,7 @@ loop-index-preserved g c = let f : SFits w32 c.in_ok-number.number = search rule
     λ p r a t. subst (λ xs. AreValues (c.loop-index.index + 1) p.model xs) (sym c.in_ok-push.ensures.items)
     (values-next c.args.client.now c.loop-index.index c.in_ok-number.number c.value.result _ c.loop-index.values.items
     (c.in_ok-number.ensures.lit ∙ c.from_index.ensures) c.in_ok-number.ensures.some (same-number c.value.result c.in_ok-number.number h f)
-    (λ q st. subst (λ n. TellsValue n c.value.result q) (to_z-of_z f) (c.value.ensures q st)) c.loop-index.invariant p r a t)
+    (λ q st. subst (λ n. ReturnsValue n c.value.result q) (to_z-of_z f) (c.value.ensures q st)) c.loop-index.invariant p r a t)
 
 pub returns : goal.returns
 returns g c = let e : c.loop-index.index ≡ c.args.count = omega arith in

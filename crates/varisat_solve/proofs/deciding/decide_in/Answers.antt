@@ -6,7 +6,7 @@ use Rattle.varisat.specs.Decided.{concluded}
 use Rattle.varisat.specs.Proven.{prepared}
 use Rattle.varisat_trace.proofs.Broken.{passed-on}
 use Rattle.varisat.proofs.ProgramProves.{finds-valid}
-use Rattle.varisat_solver.proofs.ToldJournals.{proof-of}
+use Rattle.varisat_solver.proofs.LoggedJournals.{proof-of}
 use Rattle.varisat_solve.specs.Solving.{FailsOver, AsAdded, AsClosed}
 use Rattle.varisat_solve.proofs.DecidedBehind.{concluded-of, fails-reported}
 use Rattle.varisat_solve.proofs.deciding.decide_in.Goals as goal

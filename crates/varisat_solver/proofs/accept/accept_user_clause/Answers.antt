@@ -14,11 +14,11 @@ use Rattle.varisat_names.specs.declared.variables.data.VarData.{VarData}
 use Rattle.varisat_names.specs.Variables.{Tables}
 use Rattle.varisat_theory.specs.Literals.{Literal}
 use Rattle.varisat_theory.specs.Journals.{Accepts, written}
-use Rattle.varisat_tracer.specs.Carried.{carry, told_as}
-use Rattle.varisat_tracer.specs.Tracing.{TracerState, tracer_state, global_literal, CanTell, BreaksProof}
+use Rattle.varisat_tracer.specs.Carried.{carry, logged_as}
+use Rattle.varisat_tracer.specs.Tracing.{TracerState, tracer_state, global_literal, CanLog, BreaksProof}
 use Rattle.varisat_tracer.specs.TracerLaws.{takes-more, relies-after}
-use Rattle.varisat_solver.proofs.ToldProofs.{AreToldAs, proof-told}
-use Rattle.varisat_tracer.proofs.Telling.{relies-alike, tells-on, breaks-proof, proof-unbroken, proof-breaks-on}
+use Rattle.varisat_solver.proofs.LoggedProofs.{AreLoggedAs, proof-logged}
+use Rattle.varisat_tracer.proofs.Logging.{relies-alike, logs-on, breaks-proof, proof-unbroken, proof-breaks-on}
 use Rattle.varisat_search.specs.declared.state.SatState.TheVariants as verdict
 use Rattle.varisat_search.specs.declared.state.SolverState.{SolverState}
 use Rattle.varisat_search.specs.AssumptionParts.{AssumptionParts}
@@ -27,7 +27,7 @@ use Rattle.varisat_search.specs.Loading.{loaded_outcome}
 use Rattle.varisat_search.specs.Seen.{search_of}
 use Rattle.varisat_solver.specs.Names.{name_all, through_names}
 use Rattle.varisat_solver.specs.Calls.{with_naming, append_clause, reopened_verdict, with_verdict}
-use Rattle.varisat_solver.specs.Journals.{retold}
+use Rattle.varisat_solver.specs.Journals.{with_entries}
 use Rattle.varisat_proof.specs.Proving.{IsCheckedIf}
 use Rattle.varisat_solver.specs.States.{State, with_variables}
 use Rattle.varisat_solver.specs.Spaces.{SpacesFit, FitWithNew}
@@ -42,7 +42,7 @@ use Rattle.varisat_solver.proofs.SolverSteps.{some-through}
 use Rattle.varisat_solver.proofs.VariableMoves.{same-in-use, tables-in-use}
 use Rattle.varisat_search.proofs.SolverVariables.{in-use-all}
 use Rattle.varisat_solver.proofs.accept.accept_user_clause.Given.{Over}
-use Rattle.varisat_solver.proofs.accept.accept_user_clause.Goals.{In_ok-solver_from_user_lits, In_ok-tell_clause, In_ok-load_clause}
+use Rattle.varisat_solver.proofs.accept.accept_user_clause.Goals.{In_ok-solver_from_user_lits, In_ok-log_clause, In_ok-load_clause}
 use Rattle.varisat_solver.proofs.accept.accept_user_clause.Goals as goal
 
 pub solver_from_user_lits-requires-clause-variables : goal.solver_from_user_lits-requires-clause-variables
@@ -79,9 +79,9 @@ load_clause-requires-clause-decidable g c l h =
     (c.in_ok-solver_from_user_lits.ensures {u = tt}).literals c.prove_linked-2.ensures l (subst (λ ls. l ∈ ls) c.as_slice-lits.ensures.value h)
 
 -- the proof can be told of the search once the clause was
-can-tell : (g : Over) (c : In_ok-tell_clause g) → CanTell c.tell_clause.new.tracer.proof
-can-tell g c = tells-on (record { tables = c.mark_joined.new.variables; proof = c.args.tracer.now.proof }) (tracer_state c.tell_clause.new.tracer) _
-    (c.in_ok-tell_clause.ensures {u = tt}).told c.requires.tells
+can-tell : (g : Over) (c : In_ok-log_clause g) → CanLog c.log_clause.new.tracer.proof
+can-tell g c = logs-on (record { tables = c.mark_joined.new.variables; proof = c.args.tracer.now.proof }) (tracer_state c.log_clause.new.tracer) _
+    (c.in_ok-log_clause.ensures {u = tt}).logged c.requires.logs
 
 -- the verdict is not Unsat when the clause is loaded
 opened : (g : Over) (c : In_ok-solver_from_user_lits g) → c.solver_from_user_lits.new.ctx.solver_state.sat_state ≢ verdict.Unsat
@@ -112,12 +112,12 @@ load_clause-requires-clause-holds g c n =
     let lits = c.as_slice-lits.result.now in
     let (s, f) = c.requires.stands in
     let (variables, keep, named) = all-named-in g here s f in
-    let (held, relies, fits) = relied-open m p (view mid) mid.assumptions mid.solver_state.sat_state (opened g here) c.requires.tells
+    let (held, relies, fits) = relied-open m p (view mid) mid.assumptions mid.solver_state.sat_state (opened g here) c.requires.logs
     (_, named) in
     let before : TracerState = record { tables = c.mark_joined.new.variables; proof = p } in (
       held,
-      relies-after before (tracer_state c.tell_clause.new.tracer) (Accepts lits ∷ []) held (held ++ lits ∷ [])
-          (c.in_ok-tell_clause.ensures {u = tt}).told (relies-alike m c.mark_joined.new.variables p held c.mark_joined.ensures.solvers relies)
+      relies-after before (tracer_state c.log_clause.new.tracer) (Accepts lits ∷ []) held (held ++ lits ∷ [])
+          (c.in_ok-log_clause.ensures {u = tt}).logged (relies-alike m c.mark_joined.new.variables p held c.mark_joined.ensures.solvers relies)
           (held ++ lits ∷ [], refl, refl),
       fits,
     )
@@ -126,7 +126,7 @@ load_clause-requires-clause-holds g c n =
 same-tables : (g : Over) (c : In_ok-load_clause g) → c.load_clause.new.proof.tables ≡ c.mark_joined.new.variables
 same-tables g c =
     let here = (goal.at.returns-clause-kept g c).In_ok-solver_from_user_lits in
-    ((c.in_ok-load_clause.ensures {u = tt}).lines (opened g here)).written.tables ∙ (c.in_ok-tell_clause.ensures {u = tt}).told.tables
+    ((c.in_ok-load_clause.ensures {u = tt}).lines (opened g here)).written.tables ∙ (c.in_ok-log_clause.ensures {u = tt}).logged.tables
 
 pub returns-clause-state : goal.returns-clause-state
 returns-clause-state g c =
@@ -164,17 +164,17 @@ returns-clause-kept g c =
           (k.working l (subst (λ ls. l ∈ ls) (ap (λ (x : AssumptionParts). x.working) parts) h));
     })
 
-pub returns-clause-tells : goal.returns-clause-tells
-returns-clause-tells g c =
-    let here = goal.at.returns-clause-tells g c in
-    tells-on (tracer_state c.tell_clause.new.tracer) (tracer_state c.load_clause.new.proof) _
-    ((c.in_ok-load_clause.ensures {u = tt}).lines (opened g here.In_ok-solver_from_user_lits)).written (can-tell g here.In_ok-tell_clause)
+pub returns-clause-logs : goal.returns-clause-logs
+returns-clause-logs g c =
+    let here = goal.at.returns-clause-logs g c in
+    logs-on (tracer_state c.log_clause.new.tracer) (tracer_state c.load_clause.new.proof) _
+    ((c.in_ok-load_clause.ensures {u = tt}).lines (opened g here.In_ok-solver_from_user_lits)).written (can-tell g here.In_ok-log_clause)
 
-pub returns-clause-told : goal.returns-clause-told
-returns-clause-told g c =
-    let here = goal.at.returns-clause-told g c in
-    some-through c.args.tracer.now.proof c.tell_clause.new.tracer.proof c.load_clause.new.proof.proof (_, (c.in_ok-tell_clause.ensures {u = tt}).told.told)
-    (_, ((c.in_ok-load_clause.ensures {u = tt}).lines (opened g here.In_ok-solver_from_user_lits)).written.told)
+pub returns-clause-logged : goal.returns-clause-logged
+returns-clause-logged g c =
+    let here = goal.at.returns-clause-logged g c in
+    some-through c.args.tracer.now.proof c.log_clause.new.tracer.proof c.load_clause.new.proof.proof (_, (c.in_ok-log_clause.ensures {u = tt}).logged.logged)
+    (_, ((c.in_ok-load_clause.ensures {u = tt}).lines (opened g here.In_ok-solver_from_user_lits)).written.logged)
 
 pub returns-clause-accepted : goal.returns-clause-accepted
 returns-clause-accepted g c s f =
@@ -196,11 +196,11 @@ returns-clause-accepted g c s f =
     let lines = (r.lines (opened g here)).lines in
     let before : TracerState = record { tables = joined; proof = c.args.tracer.now.proof } in
     let after = tracer_state c.load_clause.new.proof in
-    let taken = takes-more before (tracer_state c.tell_clause.new.tracer) after (Accepts c.as_slice-lits.result.now ∷ []) (written lines)
-    (c.in_ok-tell_clause.ensures {u = tt}).told (r.lines (opened g here)).written in
+    let taken = takes-more before (tracer_state c.log_clause.new.tracer) after (Accepts c.as_slice-lits.result.now ∷ []) (written lines)
+    (c.in_ok-log_clause.ensures {u = tt}).logged (r.lines (opened g here)).written in
     let (variables, keep, named) = all-named-in g here s f in
     let n2 = with_variables variables (with_verdict (reopened_verdict s.verdict) n) in
-    let (x, told, v, more, told-as, k) =
+    let (x, logged, v, more, logged-as, k) =
     clause-accepted (summary_in m c.args.tracer.now.proof.checker mid s.ledger) n2 list joined
     (view new) new.assumptions new.solver_state.sat_state after.proof.checker
     (record {
@@ -219,25 +219,25 @@ returns-clause-accepted g c s f =
       parts_stay = r.assumptions (opened g here);
     })
     (subst (λ es. IsCheckedIf before.proof.checker es after.proof.checker)
-    (ap (λ (b : BiMap). told_as (carry (at b.backward)) (Accepts c.as_slice-lits.result.now ∷ written lines)) c.mark_joined.ensures.solvers
-    ∙ ap (λ (ls : List Literal). told_as (global_literal m) (Accepts ls ∷ written lines)) items)
-    taken.told.checked)
+    (ap (λ (b : BiMap). logged_as (carry (at b.backward)) (Accepts c.as_slice-lits.result.now ∷ written lines)) c.mark_joined.ensures.solvers
+    ∙ ap (λ (ls : List Literal). logged_as (global_literal m) (Accepts ls ∷ written lines)) items)
+    taken.logged.checked)
     named in (
       x,
-      told,
+      logged,
       variables,
       verdict-after s.clauses (map (through_names n.naming) list) s.verdict x v,
       more,
       keep,
-      proof-told before after
-          (Accepts c.as_slice-lits.result.now ∷ written lines) variables s.told told taken
-          (subst (λ (b : BiMap). AreToldAs variables s.told told
-          (told_as (carry (at b.backward)) (Accepts c.as_slice-lits.result.now ∷ written lines))) (sym c.mark_joined.ensures.solvers)
-          (subst (λ (ls : List Literal). AreToldAs variables s.told told (told_as (global_literal m) (Accepts ls ∷ written lines))) (sym items)
-          told-as)),
+      proof-logged before after
+          (Accepts c.as_slice-lits.result.now ∷ written lines) variables s.logged logged taken
+          (subst (λ (b : BiMap). AreLoggedAs variables s.logged logged
+          (logged_as (carry (at b.backward)) (Accepts c.as_slice-lits.result.now ∷ written lines))) (sym c.mark_joined.ensures.solvers)
+          (subst (λ (ls : List Literal). AreLoggedAs variables s.logged logged (logged_as (global_literal m) (Accepts ls ∷ written lines))) (sym items)
+          logged-as)),
       subst
           (λ (t : Tables). SpacesFit (spaces_of t after.proof.checker (view new) new.assumptions new.solver_state.sat_state)
-          (with_variables variables (retold told (append_clause (map (through_names n.naming) list) x n)))) (sym (same-tables g c)) k,
+          (with_variables variables (with_entries logged (append_clause (map (through_names n.naming) list) x n)))) (sym (same-tables g c)) k,
     )
 
 pub returns-in_err-solver_from_user_lits-clause-broken : goal.returns-in_err-solver_from_user_lits-clause-broken
@@ -246,33 +246,33 @@ returns-in_err-solver_from_user_lits-clause-broken g c =
     passed-on c.from_residual.result step.Memory (λ z. BreaksProof p (step_faults z) p) c.from_residual.ensures
     (proof-unbroken p)
 
-pub returns-in_err-tell_clause-clause-broken : goal.returns-in_err-tell_clause-clause-broken
-returns-in_err-tell_clause-clause-broken g c =
-    passed-on c.from_residual-in_err-tell_clause.result c.in_err-tell_clause.field-0.0
-    (λ z. BreaksProof c.args.tracer.now.proof (step_faults z) c.tell_clause.new.tracer.proof)
-    c.from_residual-in_err-tell_clause.ensures (c.in_err-tell_clause.ensures {u = tt}).broken
+pub returns-in_err-log_clause-clause-broken : goal.returns-in_err-log_clause-clause-broken
+returns-in_err-log_clause-clause-broken g c =
+    passed-on c.from_residual-in_err-log_clause.result c.in_err-log_clause.field-0.0
+    (λ z. BreaksProof c.args.tracer.now.proof (step_faults z) c.log_clause.new.tracer.proof)
+    c.from_residual-in_err-log_clause.ensures (c.in_err-log_clause.ensures {u = tt}).broken
 
 pub returns-in_err-load_clause-clause-broken : goal.returns-in_err-load_clause-clause-broken
 returns-in_err-load_clause-clause-broken g c =
     let e = c.in_err-load_clause.field-0.0 in
     let p = c.args.tracer.now.proof in
-    let q = c.tell_clause.new.tracer in
+    let q = c.log_clause.new.tracer in
     let r = c.load_clause.new.proof in
     passed-on c.from_residual-in_err-load_clause.result e (λ z. BreaksProof p (step_faults z) r.proof) c.from_residual-in_err-load_clause.ensures
-    (proof-breaks-on p q.proof r.proof _ (step_faults e) (c.in_ok-tell_clause.ensures {u = tt}).told.told
+    (proof-breaks-on p q.proof r.proof _ (step_faults e) (c.in_ok-log_clause.ensures {u = tt}).logged.logged
     (breaks-proof (tracer_state q) (tracer_state r) (step_faults e) (c.in_err-load_clause.ensures {u = tt}).broken))
 
-pub returns-in_err-tell_clause-clause-full : goal.returns-in_err-tell_clause-clause-full
-returns-in_err-tell_clause-clause-full g c =
-    passed-on c.from_residual-in_err-tell_clause.result c.in_err-tell_clause.field-0.0 (λ z. z ≡ step.Full → HasNoRoom c.solver_from_user_lits.new.ctx)
-    c.from_residual-in_err-tell_clause.ensures (λ f. absurd ((c.in_err-tell_clause.ensures {u = tt}).unstored f))
+pub returns-in_err-log_clause-clause-full : goal.returns-in_err-log_clause-clause-full
+returns-in_err-log_clause-clause-full g c =
+    passed-on c.from_residual-in_err-log_clause.result c.in_err-log_clause.field-0.0 (λ z. z ≡ step.Full → HasNoRoom c.solver_from_user_lits.new.ctx)
+    c.from_residual-in_err-log_clause.ensures (λ f. absurd ((c.in_err-log_clause.ensures {u = tt}).unstored f))
 
-pub returns-in_err-tell_clause-clause-size : goal.returns-in_err-tell_clause-clause-size
-returns-in_err-tell_clause-clause-size g c =
-    passed-on c.from_residual-in_err-tell_clause.result c.in_err-tell_clause.field-0.0 (λ z. z ≡ step.Full → (s : State) →
+pub returns-in_err-log_clause-clause-size : goal.returns-in_err-log_clause-clause-size
+returns-in_err-log_clause-clause-size g c =
+    passed-on c.from_residual-in_err-log_clause.result c.in_err-log_clause.field-0.0 (λ z. z ≡ step.Full → (s : State) →
     SpacesFit (spaces_with c.args.tracer.now.tables c.args.tracer.now.proof.checker c.args.ctx.now) s →
     length c.solver_from_user_lits.new.ctx.assignment.current ≤ (name_all c.args.clause.now s.naming).made)
-    c.from_residual-in_err-tell_clause.ensures (λ f. absurd ((c.in_err-tell_clause.ensures {u = tt}).unstored f))
+    c.from_residual-in_err-log_clause.ensures (λ f. absurd ((c.in_err-log_clause.ensures {u = tt}).unstored f))
 
 -- the clause is over no more variables than identities that were made with its names
 pub returns-in_err-load_clause-clause-size : goal.returns-in_err-load_clause-clause-size

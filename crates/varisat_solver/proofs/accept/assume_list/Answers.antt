@@ -7,14 +7,14 @@ use Rattle.varisat_names.specs.VarMap.{at}
 use Rattle.varisat_names.specs.VarBiMap.{BiMap}
 use Rattle.varisat_names.specs.Variables.{Tables}
 use Rattle.varisat_tracer.specs.Tracing.{TracerState, tracer_state, global_literal, BreaksProof}
-use Rattle.varisat_tracer.proofs.Telling.{tells-on, proof-unbroken}
+use Rattle.varisat_tracer.proofs.Logging.{logs-on, proof-unbroken}
 use Rattle.varisat_trace.proofs.Broken.{passed-on}
 use Rattle.varisat_search.specs.declared.error.StepError.{StepError}
 use Rattle.varisat_search.specs.declared.error.StepError.TheVariants as step
 use Rattle.varisat_search.specs.StepErrors.{step_faults}
 use Rattle.varisat_tracer.specs.Carried.{carry}
 use Rattle.varisat_solver.proofs.CheckedHeld.{checked-assumed}
-use Rattle.varisat_solver.proofs.ToldProofs.{proof-told}
+use Rattle.varisat_solver.proofs.LoggedProofs.{proof-logged}
 use Rattle.varisat_search.specs.declared.state.SolverState.{SolverState}
 use Rattle.varisat_search.specs.AssumptionParts.{AssumptionParts, newly_assumed, assumed_state}
 use Rattle.varisat_search.specs.Contexts.{view}
@@ -22,11 +22,11 @@ use Rattle.varisat_solver.specs.Accepting.{HasNames, AreMarked}
 use Rattle.varisat_solver.specs.Names.{name_all, through_names}
 use Rattle.varisat_solver.specs.Calls.{with_naming, assumed_verdict, with_assumptions, with_verdict}
 use Rattle.varisat_theory.specs.Journals.{Assumes}
-use Rattle.varisat_solver.specs.Journals.{retold}
+use Rattle.varisat_solver.specs.Journals.{with_entries}
 use Rattle.varisat_solver.specs.Spaces.{SpacesFit}
 use Rattle.varisat_solver.specs.States.{with_variables}
 use Rattle.varisat_solver.specs.Summaries.{spaces_of, IsKept}
-use Rattle.varisat_solver.proofs.AssumeList.{Assuming, forgets, list-told, list-assumed}
+use Rattle.varisat_solver.proofs.AssumeList.{Assuming, forgets, list-logged, list-assumed}
 use Rattle.varisat_solver.proofs.SettingsCalls.{summary_in}
 use Rattle.varisat_solver.proofs.ReturnedVariables.{no-model-assumed, assumed-again}
 use Rattle.varisat_solver.proofs.SolversInTurn.{HaveSolvers, have-solvers-then, has-variables, can-have-room, over-leads, over-carried, all-named, literals-within, literals-decidable}
@@ -112,7 +112,7 @@ returns-clause-kept g c =
     let literals = c.as_slice-lits.ensures.value ∙ over-carried to list c.solver_from_user_lits.new.solver_lits.items over in
     let mid = c.solver_from_user_lits.new.ctx in
     let new = c.set_assumptions.new.ctx in
-    subst (λ (t : Tables). IsKept t new) (sym (c.in_ok-tell_assumptions.ensures {u = tt}).told.tables) (record {
+    subst (λ (t : Tables). IsKept t new) (sym (c.in_ok-log_assumptions.ensures {u = tt}).logged.tables) (record {
       bounded = y.bounded;
       ready = r.ready;
       count = r.keeps.variables.count ∙ k.count ∙ sym long;
@@ -126,13 +126,13 @@ returns-clause-kept g c =
           (subst (λ ls. l ∈ ls) (ap (λ (z : AssumptionParts). z.working) r.assumed ∙ literals) h);
     })
 
-pub returns-clause-tells : goal.returns-clause-tells
-returns-clause-tells g c =
-    tells-on (record { tables = c.mark_assumed-2.new.variables; proof = c.args.tracer.now.proof }) (tracer_state c.tell_assumptions.new.tracer) _
-    (c.in_ok-tell_assumptions.ensures {u = tt}).told c.requires.tells
+pub returns-clause-logs : goal.returns-clause-logs
+returns-clause-logs g c =
+    logs-on (record { tables = c.mark_assumed-2.new.variables; proof = c.args.tracer.now.proof }) (tracer_state c.log_assumptions.new.tracer) _
+    (c.in_ok-log_assumptions.ensures {u = tt}).logged c.requires.logs
 
-pub returns-clause-told : goal.returns-clause-told
-returns-clause-told g c = (_, (c.in_ok-tell_assumptions.ensures {u = tt}).told.told)
+pub returns-clause-logged : goal.returns-clause-logged
+returns-clause-logged g c = (_, (c.in_ok-log_assumptions.ensures {u = tt}).logged.logged)
 
 pub returns-clause-assumed : goal.returns-clause-assumed
 returns-clause-assumed g c s f =
@@ -150,8 +150,8 @@ returns-clause-assumed g c s f =
     let to = chain (at m.users.forward) (at m.solvers.forward) in
     let items = c.as_slice-lits.ensures.value ∙ over-carried to list c.solver_from_user_lits.new.solver_lits.items over in
     let before : TracerState = record { tables = marked; proof = c.args.tracer.now.proof } in
-    let after = tracer_state c.tell_assumptions.new.tracer in
-    let taken = (c.in_ok-tell_assumptions.ensures {u = tt}).told in
+    let after = tracer_state c.log_assumptions.new.tracer in
+    let taken = (c.in_ok-log_assumptions.ensures {u = tt}).logged in
     let first = summary_in c.args.tracer.now.tables checker old s.ledger in
     let (w, k) = f in
     let begins = subst (λ y. SpacesFit (spaces_of c.args.tracer.now.tables checker (view old) old.assumptions y)
@@ -159,7 +159,7 @@ returns-clause-assumed g c s f =
     (w, forgets w first s old.solver_state.sat_state s.verdict k) in
     let n = with_naming (name_all list s.naming) s in
     let carried = map (through_names n.naming) list in
-    let told = s.told ++ Assumes carried ∷ [] in
+    let logged = s.logged ++ Assumes carried ∷ [] in
     let (variables, keep, named) = all.stands checker (with_verdict (assumed_verdict s.verdict) s) begins in
     let n2 = with_variables variables (with_verdict (assumed_verdict s.verdict) n) in
     let second = summary_in m checker mid s.ledger in
@@ -173,26 +173,26 @@ returns-clause-assumed g c s f =
       verdict = ap (λ (x : SolverState). x.sat_state) r.state;
     } in
     let fits = subst (λ v. SpacesFit (spaces_of marked checker (view new) new.assumptions new.solver_state.sat_state)
-    (with_variables variables (with_verdict v (retold told (with_assumptions carried n))))) (assumed-again s.verdict)
+    (with_variables variables (with_verdict v (with_entries logged (with_assumptions carried n))))) (assumed-again s.verdict)
     (list-assumed second n2 list c.mark_assumed.new.variables marked (view new) new.assumptions new.solver_state.sat_state assuming named) in
     let same-solvers = c.mark_assumed-2.ensures.solvers ∙ c.mark_assumed.ensures.solvers in
     let same : map (carry variables) carried ≡ map (global_literal marked) c.as_slice-lits.result.now =
-    list-told second n2 list c.mark_assumed.new.variables marked (view new) new.assumptions new.solver_state.sat_state assuming named
+    list-logged second n2 list c.mark_assumed.new.variables marked (view new) new.assumptions new.solver_state.sat_state assuming named
     ∙ ap (map (global_literal m)) (sym items)
     ∙ ap (λ (b : BiMap). map (carry (at b.backward)) c.as_slice-lits.result.now) (sym same-solvers) in (
       variables,
       keep,
-      proof-told before after (Assumes c.as_slice-lits.result.now ∷ []) variables s.told told taken (record {
+      proof-logged before after (Assumes c.as_slice-lits.result.now ∷ []) variables s.logged logged taken (record {
         entries = Assumes carried ∷ [];
         joined = refl;
         stays = tt;
         same = ap (λ ls. Assumes ls ∷ []) same;
       }),
       subst (λ (t : Tables). SpacesFit (spaces_of t after.proof.checker (view new) new.assumptions new.solver_state.sat_state)
-          (with_variables variables (retold told (with_assumptions carried n)))) (sym taken.tables)
+          (with_variables variables (with_entries logged (with_assumptions carried n)))) (sym taken.tables)
           (subst (λ x. SpacesFit (spaces_of marked x (view new) new.assumptions new.solver_state.sat_state)
-          (with_variables variables (retold told (with_assumptions carried n))))
-          (sym (checked-assumed checker after.proof.checker (map (global_literal marked) c.as_slice-lits.result.now) taken.told.checked)) fits),
+          (with_variables variables (with_entries logged (with_assumptions carried n))))
+          (sym (checked-assumed checker after.proof.checker (map (global_literal marked) c.as_slice-lits.result.now) taken.logged.checked)) fits),
     )
 
 pub returns-in_err-solver_from_user_lits-clause-broken : goal.returns-in_err-solver_from_user_lits-clause-broken
@@ -206,11 +206,11 @@ returns-in_err-set_assumptions-clause-broken g c =
     passed-on c.from_residual-in_err-set_assumptions.result step.Memory (λ z. BreaksProof p (step_faults z) p)
     c.from_residual-in_err-set_assumptions.ensures (proof-unbroken p)
 
-pub returns-in_err-tell_assumptions-clause-broken : goal.returns-in_err-tell_assumptions-clause-broken
-returns-in_err-tell_assumptions-clause-broken g c =
-    passed-on c.from_residual-in_err-tell_assumptions.result c.in_err-tell_assumptions.field-0.0
-    (λ z. BreaksProof c.args.tracer.now.proof (step_faults z) c.tell_assumptions.new.tracer.proof)
-    c.from_residual-in_err-tell_assumptions.ensures (c.in_err-tell_assumptions.ensures {u = tt}).broken
+pub returns-in_err-log_assumptions-clause-broken : goal.returns-in_err-log_assumptions-clause-broken
+returns-in_err-log_assumptions-clause-broken g c =
+    passed-on c.from_residual-in_err-log_assumptions.result c.in_err-log_assumptions.field-0.0
+    (λ z. BreaksProof c.args.tracer.now.proof (step_faults z) c.log_assumptions.new.tracer.proof)
+    c.from_residual-in_err-log_assumptions.ensures (c.in_err-log_assumptions.ensures {u = tt}).broken
 
 -- memory ran out, and the store was not asked for room
 memory-not-full : (e : StepError) → e ≡ step.Memory → e ≢ step.Full
@@ -225,10 +225,10 @@ returns-in_err-set_assumptions-clause-unstored g c =
     passed-on c.from_residual-in_err-set_assumptions.result step.Memory (λ z. z ≢ step.Full) c.from_residual-in_err-set_assumptions.ensures
     (memory-not-full step.Memory refl)
 
-pub returns-in_err-tell_assumptions-clause-unstored : goal.returns-in_err-tell_assumptions-clause-unstored
-returns-in_err-tell_assumptions-clause-unstored g c =
-    passed-on c.from_residual-in_err-tell_assumptions.result c.in_err-tell_assumptions.field-0.0 (λ z. z ≢ step.Full)
-    c.from_residual-in_err-tell_assumptions.ensures (c.in_err-tell_assumptions.ensures {u = tt}).unstored
+pub returns-in_err-log_assumptions-clause-unstored : goal.returns-in_err-log_assumptions-clause-unstored
+returns-in_err-log_assumptions-clause-unstored g c =
+    passed-on c.from_residual-in_err-log_assumptions.result c.in_err-log_assumptions.field-0.0 (λ z. z ≢ step.Full)
+    c.from_residual-in_err-log_assumptions.ensures (c.in_err-log_assumptions.ensures {u = tt}).unstored
 
 -- The list is assumed before the target is asked; up to there memory alone can run out.
 
@@ -243,9 +243,9 @@ returns-in_err-set_assumptions-clause-last g c =
     (λ z. z ≢ step.Memory → c.set_assumptions.new.ctx.assumptions.user ≡ c.args.list.now)
     c.from_residual-in_err-set_assumptions.ensures (λ n. absurd (n refl))
 
-pub returns-in_err-tell_assumptions-clause-last : goal.returns-in_err-tell_assumptions-clause-last
-returns-in_err-tell_assumptions-clause-last g c =
-    passed-on c.from_residual-in_err-tell_assumptions.result c.in_err-tell_assumptions.field-0.0
+pub returns-in_err-log_assumptions-clause-last : goal.returns-in_err-log_assumptions-clause-last
+returns-in_err-log_assumptions-clause-last g c =
+    passed-on c.from_residual-in_err-log_assumptions.result c.in_err-log_assumptions.field-0.0
     (λ z. z ≢ step.Memory → c.set_assumptions.new.ctx.assumptions.user ≡ c.args.list.now)
-    c.from_residual-in_err-tell_assumptions.ensures
+    c.from_residual-in_err-log_assumptions.ensures
     (λ _. ap (λ (x : AssumptionParts). x.user) (c.in_ok-set_assumptions.ensures {u = tt}).assumed)

@@ -12,8 +12,8 @@ use Rattle.varisat_solver.proofs.SinceSteps.{failed-there, come-settled}
 use Rattle.varisat_names.specs.Variables.{Tables}
 use Rattle.varisat_tracer.specs.Tracing.{tracer_state, open_parts, BreaksProof}
 use Rattle.varisat_proof.specs.Proving.{ProofParts}
-use Rattle.varisat_tracer.proofs.Telling.{tells-told, breaks-proof, open-unbroken, proof-breaks-on}
-use Rattle.varisat_solver.specs.Searches.{TellsSome, Turn, ComesOn}
+use Rattle.varisat_tracer.proofs.Logging.{logs-logged, breaks-proof, open-unbroken, proof-breaks-on}
+use Rattle.varisat_solver.specs.Searches.{LogsSome, Turn, ComesOn}
 use Rattle.varisat_solver.proofs.SettledParts.{settled-parts}
 use Rattle.varisat_solver.specs.Summaries.{undecided_spaces, IsKept}
 use Rattle.varisat_solver.proofs.SearchVerdicts.{kept-on}
@@ -27,7 +27,7 @@ use Rattle.varisat_solver.proofs.dropping.drop_fixed.Goals as goal
 
 pub settle-requires-clause-holds : goal.settle-requires-clause-holds
 settle-requires-clause-holds g c = relied c.args.tracer.now.tables c.args.tracer.now.proof
-    (view c.args.ctx.now) c.args.ctx.now.assumptions c.requires.tells c.requires.stands
+    (view c.args.ctx.now) c.args.ctx.now.assumptions c.requires.logs c.requires.stands
 
 -- what settling comes to
 begun : (g : Over) (c : In-Ok g) (at : Turn) → ComesOn at 0 (undecided_spaces c.args.tracer.now.tables c.args.tracer.now.proof.checker c.args.ctx.now)
@@ -43,12 +43,12 @@ begun g c at =
     (ap (λ (z : Context g.row.A.Denot). z.assumptions) c.settle.ensures.kept)
 
 -- and what the proof was told
-settled-told : (g : Over) (c : In-Ok g) → TellsSome c.args.tracer.now.proof c.settle.new.proof.proof
-settled-told g c = (_, (c.in-Ok.ensures {u = tt}).goes_on.proves.2.1.told)
+settled-logged : (g : Over) (c : In-Ok g) → LogsSome c.args.tracer.now.proof c.settle.new.proof.proof
+settled-logged g c = (_, (c.in-Ok.ensures {u = tt}).goes_on.proves.2.1.logged)
 
 -- and of variables that left
-left-told : (g : Over) (c : In_ok-drop_unneeded g) → TellsSome c.settle.new.proof.proof c.drop_unneeded.new.tracer.proof
-left-told g c = some-through c.settle.new.proof.proof c.drop_listed.new.tracer.proof c.drop_unneeded.new.tracer.proof
+left-logged : (g : Over) (c : In_ok-drop_unneeded g) → LogsSome c.settle.new.proof.proof c.drop_unneeded.new.tracer.proof
+left-logged g c = some-through c.settle.new.proof.proof c.drop_listed.new.tracer.proof c.drop_unneeded.new.tracer.proof
     (c.in_ok-drop_listed.ensures {u = tt}).leave.given (c.in_ok-drop_unneeded.ensures {u = tt}).leave.given
 
 -- the solver keeps what it did
@@ -105,21 +105,21 @@ returns-clause-leaves g c h =
       λ u. let head = d.propagated in let low = u.1 in omega (arith, head, low),
     )
 
-pub returns-then-current_level-gt0-clause-told : goal.returns-then-current_level-gt0-clause-told
-returns-then-current_level-gt0-clause-told g c = some-none c.args.tracer.now.proof
+pub returns-then-current_level-gt0-clause-logged : goal.returns-then-current_level-gt0-clause-logged
+returns-then-current_level-gt0-clause-logged g c = some-none c.args.tracer.now.proof
 
-pub returns-then-is_err-clause-told : goal.returns-then-is_err-clause-told
-returns-then-is_err-clause-told g c = settled-told g (goal.at.returns-then-is_err-clause-told g c).In-Ok
+pub returns-then-is_err-clause-logged : goal.returns-then-is_err-clause-logged
+returns-then-is_err-clause-logged g c = settled-logged g (goal.at.returns-then-is_err-clause-logged g c).In-Ok
 
-pub returns-clause-told : goal.returns-clause-told
-returns-clause-told g c =
+pub returns-clause-logged : goal.returns-clause-logged
+returns-clause-logged g c =
     some-through c.args.tracer.now.proof c.settle.new.proof.proof c.drop_unneeded.new.tracer.proof
-    (settled-told g (goal.at.returns-clause-told g c).In-Ok) (left-told g (goal.at.returns-clause-told g c).In_ok-drop_unneeded)
+    (settled-logged g (goal.at.returns-clause-logged g c).In-Ok) (left-logged g (goal.at.returns-clause-logged g c).In_ok-drop_unneeded)
 
-pub returns-clause-tells : goal.returns-clause-tells
-returns-clause-tells g c =
-    let (given, told) = returns-clause-told g c in
-    tells-told c.args.tracer.now.proof c.drop_unneeded.new.tracer.proof given told c.requires.tells
+pub returns-clause-logs : goal.returns-clause-logs
+returns-clause-logs g c =
+    let (given, logged) = returns-clause-logged g c in
+    logs-logged c.args.tracer.now.proof c.drop_unneeded.new.tracer.proof given logged c.requires.logs
 
 pub returns-then-current_level-gt0-clause-stands : goal.returns-then-current_level-gt0-clause-stands
 returns-then-current_level-gt0-clause-stands g c at s fit = comes-nowhere at 0 s c.args.tracer.now.proof _ refl
@@ -195,8 +195,8 @@ pub returns-in-Err-clause-full : goal.returns-in-Err-clause-full
 returns-in-Err-clause-full g c = subst (λ z. z ≢ step.Full) (sym c.from.ensures) (trace-unfilled c.in-Err.error)
 
 -- as variables leave, nothing more is written
-unwritten : (p q r : ProofParts) → TellsSome p q → open_parts r ≡ open_parts q → BreaksProof p 0 r
-unwritten p q r (given, told) same = proof-breaks-on p q r given 0 told (open-unbroken q r same)
+unwritten : (p q r : ProofParts) → LogsSome p q → open_parts r ≡ open_parts q → BreaksProof p 0 r
+unwritten p q r (given, logged) same = proof-breaks-on p q r given 0 logged (open-unbroken q r same)
 
 pub returns-in_err-drop_listed-clause-broken : goal.returns-in_err-drop_listed-clause-broken
 returns-in_err-drop_listed-clause-broken g c =
@@ -204,7 +204,7 @@ returns-in_err-drop_listed-clause-broken g c =
     let q = c.settle.new.proof.proof in
     let r = c.drop_listed.new.tracer.proof in
     passed-on c.from_residual.result step.Memory (λ z. BreaksProof p (step_faults z) r) c.from_residual.ensures
-    (unwritten p q r (settled-told g (goal.at.returns-in_err-drop_listed-clause-broken g c).In-Ok) c.drop_listed.ensures.opened)
+    (unwritten p q r (settled-logged g (goal.at.returns-in_err-drop_listed-clause-broken g c).In-Ok) c.drop_listed.ensures.opened)
 
 pub returns-in_err-drop_unneeded-clause-broken : goal.returns-in_err-drop_unneeded-clause-broken
 returns-in_err-drop_unneeded-clause-broken g c =
@@ -212,7 +212,7 @@ returns-in_err-drop_unneeded-clause-broken g c =
     let q = c.settle.new.proof.proof in
     let r = c.drop_unneeded.new.tracer.proof in
     passed-on c.from_residual-in_err-drop_unneeded.result step.Memory (λ z. BreaksProof p (step_faults z) r) c.from_residual-in_err-drop_unneeded.ensures
-    (unwritten p q r (settled-told g (goal.at.returns-in_err-drop_unneeded-clause-broken g c).In-Ok)
+    (unwritten p q r (settled-logged g (goal.at.returns-in_err-drop_unneeded-clause-broken g c).In-Ok)
     (c.drop_unneeded.ensures.opened ∙ c.drop_listed.ensures.opened))
 
 pub returns-in_err-drop_listed-clause-full : goal.returns-in_err-drop_listed-clause-full

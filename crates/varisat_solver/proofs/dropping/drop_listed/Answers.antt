@@ -10,7 +10,7 @@ use Rattle.varisat_search.specs.Seen.{search_of}
 use Rattle.varisat_search.specs.Contexts.{view}
 use Rattle.varisat_tracer.specs.Tracing.{tracer_state}
 use Rattle.varisat_solver.specs.Dropping.{leads_to_unassumed, unassumed_among, FlagsVariables, AreDroppedAlone, LeavesTables}
-use Rattle.varisat_solver.proofs.DroppedAlone.{dropped-told}
+use Rattle.varisat_solver.proofs.DroppedAlone.{dropped-logged}
 use Rattle.varisat_solver.proofs.DroppedLists.{HaveLeft, have-left, values-left, on-inside, unmentioned, assumed-stay, unassumed-distinct, unassumed-taken, kept-dropped, none-left, stands-dropped}
 use Rattle.varisat_solver.proofs.SinceSteps.{come-dropped}
 use Rattle.varisat_solver.proofs.dropping.drop_listed.Given.{Over}
@@ -106,7 +106,7 @@ returns-clause-leave g c =
       within = come-dropped c.deref-2.result.now x y c.requires.kept.ready c.requires.settled e.ready e.dropped e.decidable
           (ap (λ (z : Context g.row.A.Denot). z.solver_config) e.kept);
       count = values-left gone;
-      given = dropped-told (unassumed_among c.args.tracer.now.tables x.trail.literals) (tracer_state c.args.tracer.now)
+      given = dropped-logged (unassumed_among c.args.tracer.now.tables x.trail.literals) (tracer_state c.args.tracer.now)
           (tracer_state c.drop_solver_vars.new.tracer) (dropped g here.In_ok-drop_solver_vars);
       stands = λ s fit.
           stands-dropped gone c.requires.settled (dropped g here.In_ok-drop_solver_vars)

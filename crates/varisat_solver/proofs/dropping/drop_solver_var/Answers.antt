@@ -19,5 +19,5 @@ returns-clause-dropped g c =
     let proof = c.delete_var_if_gone.new.self.proof in (
       x,
       subst (λ (t : Tables). LosesSolverVar x c.args.solver before (record { tables = t; proof = proof }))
-          (sym c.delete_var_if_gone.ensures.variables) (record { dropped = c.in_ok-global.ensures.dropped; told = c.delete_var_if_gone.ensures.told }),
+          (sym c.delete_var_if_gone.ensures.variables) (record { dropped = c.in_ok-global.ensures.dropped; logged = c.delete_var_if_gone.ensures.logged }),
     )

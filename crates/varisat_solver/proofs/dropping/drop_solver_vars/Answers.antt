@@ -67,11 +67,11 @@ loop-lit-preserved g c =
     let marked = c.set_isolated.new.self in
     let known = record (kept_at mid.kept x) { unit = Some c.is_positive.result } in
     let sign : c.is_positive.result ≡ polarity_of l = sign-same l c.is_positive.result c.is_positive.ensures in
-    let told = ap (λ (d : VarData). record d { isolated = true }) (c.set_unit.ensures.kept.at_each x ∙ updated-at (kept_at mid.kept) x known)
+    let logged = ap (λ (d : VarData). record d { isolated = true }) (c.set_unit.ensures.kept.at_each x ∙ updated-at (kept_at mid.kept) x known)
     ∙ ap (λ b. fixed_to b (kept_at mid.kept x)) sign in
     let changed : IsChangedTo mid marked x (fixed_to (polarity_of l) (kept_at mid.kept x)) =
     changed-twice mid set marked x known (fixed_to (polarity_of l) (kept_at mid.kept x)) c.set_unit.ensures
-    (subst (IsChangedTo set marked x) told c.set_isolated.ensures) in
+    (subst (IsChangedTo set marked x) logged c.set_isolated.ensures) in
     let (y, loses) = c.in_ok-drop_solver_var.ensures.dropped in
     let q : y ≡ x = (let z : Some y ≡ Some x = sym loses.dropped.taken
     ∙ ap (λ (b : BiMap). at b.backward c.var-solver.result) (ap (λ (a : Tables). a.solvers) changed.rest) ∙ e in cc) in

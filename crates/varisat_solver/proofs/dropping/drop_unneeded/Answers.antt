@@ -8,7 +8,7 @@ use Rattle.varisat_search.specs.Seen.{search_of}
 use Rattle.varisat_search.specs.Contexts.{view}
 use Rattle.varisat_tracer.specs.Tracing.{tracer_state}
 use Rattle.varisat_solver.specs.Dropping.{FlagsVariables, ListsUnneeded, AreReleased, LeavesTables}
-use Rattle.varisat_solver.proofs.DroppedLists.{HaveLeft, have-left, values-left, needed-shown, none-leaves, released-told, unneeded-inside, unneeded-taken, unneeded-unmentioned, named-stay, kept-released, needed-left, stands-released}
+use Rattle.varisat_solver.proofs.DroppedLists.{HaveLeft, have-left, values-left, needed-shown, none-leaves, released-logged, unneeded-inside, unneeded-taken, unneeded-unmentioned, named-stay, kept-released, needed-left, stands-released}
 use Rattle.varisat_solver.proofs.SinceSteps.{come-dropped}
 use Rattle.varisat_solver.proofs.dropping.drop_unneeded.Given.{Over}
 use Rattle.varisat_solver.proofs.dropping.drop_unneeded.Goals.{In_ok-gone, In_ok-list_unneeded, In_ok-release_solver_vars}
@@ -106,7 +106,7 @@ returns-clause-leave g c =
       within = come-dropped c.deref-3.result.now x y c.requires.kept.ready c.requires.settled e.ready e.dropped e.decidable
           (ap (λ (z : Context g.row.A.Denot). z.solver_config) e.kept);
       count = values-left gone;
-      given = released-told c.list_unneeded.new.unneeded.items p q released;
+      given = released-logged c.list_unneeded.new.unneeded.items p q released;
       stands = λ s fit.
           stands-released c.requires.left c.in_ok-mentioned.ensures list gone
           released

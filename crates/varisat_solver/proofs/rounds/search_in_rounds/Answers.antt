@@ -2,9 +2,9 @@
 use Rattle.std.proofs.Common.{◌≡◌, ◌∙◌, ℕ, Bool, Result, sym, ap, subst}
 use Rattle.varisat_solver.specs.States.{State, Ledger}
 use Rattle.varisat_solver.specs.Summaries.{Summary, StandsFor}
-use Rattle.varisat_solver.specs.Calls.{Searches, Solves, with_max_steps, calling}
+use Rattle.varisat_solver.specs.Calls.{Searches, Solves, with_max_steps, by_state}
 use Rattle.varisat_solver.specs.declared.solver.SolverError.{SolverError}
-use Rattle.varisat_solver.proofs.Additions.{told-error}
+use Rattle.varisat_solver.proofs.Additions.{logged-error}
 use Rattle.varisat_solver.proofs.SearchRounds.{ends-early, solve-ends, solve-fails, same-limit}
 use Rattle.varisat_solver.proofs.rounds.search_in_rounds.Goals as goal
 
@@ -36,7 +36,7 @@ returns-in_err-end_search g c s st =
     solve-fails c.set_max_steps.new.self c.end_search.new.self s (with_max_steps n t) r e
     (found-under n c.args.solver.now s t r c.max_steps-max_steps.ensures st h) (c.set_max_steps.ensures t x)
     (sym c.is_valid.ensures.now ∙ c.if-not-is_valid.false) c.in_err-end_search.ensures
-    in (u, subst (λ k. Solves calling s k u) (sym (told-error c.from_residual.result e c.from_residual.ensures)) f, z)
+    in (u, subst (λ k. Solves by_state s k u) (sym (logged-error c.from_residual.result e c.from_residual.ensures)) f, z)
 
 pub returns : goal.returns
 returns g c s st =

@@ -9,19 +9,19 @@ use Rattle.varisat_search.proofs.StepErrors.{trace-faults, trace-unfilled}
 use Rattle.varisat_trace.specs.Traces.{TakesLines, faults_of}
 use Rattle.varisat_trace.proofs.Broken.{passed-on}
 use Rattle.varisat_tracer.specs.Tracing.{tracer_state, TakesGlobally, BreaksProof}
-use Rattle.varisat_tracer.proofs.Telling.{breaks-proof, proof-breaks-on}
+use Rattle.varisat_tracer.proofs.Logging.{breaks-proof, proof-breaks-on}
 use Rattle.varisat_solver.specs.Searches.{turn_of}
 use Rattle.varisat_solver.specs.Summaries.{undecided_spaces, IsKept}
 use Rattle.varisat_solver.proofs.SinceSteps.{leaves-begun, come-begun, steps-begun}
 use Rattle.varisat_solver.proofs.CheckedHeld.{relied, some-on}
-use Rattle.varisat_solver.proofs.SolverSteps.{comes-through, unknown-undecided, some-through, begins-any, begin-count, begin-kept, begin-told, begin-tables, begin-tells, begin-comes}
+use Rattle.varisat_solver.proofs.SolverSteps.{comes-through, unknown-undecided, some-through, begins-any, begin-count, begin-kept, begin-logged, begin-tables, begin-logs, begin-comes}
 use Rattle.varisat_solver.proofs.solving.begin.Given.{Over}
 use Rattle.varisat_solver.proofs.solving.begin.Goals.{In_ok-begin_step}
 use Rattle.varisat_solver.proofs.solving.begin.Goals as goal
 
 pub begin_step-requires-clause-holds : goal.begin_step-requires-clause-holds
 begin_step-requires-clause-holds g c = relied c.args.tracer.now.tables c.args.tracer.now.proof
-    (view c.args.ctx.now) c.args.ctx.now.assumptions c.requires.tells c.requires.stands
+    (view c.args.ctx.now) c.args.ctx.now.assumptions c.requires.logs c.requires.stands
 
 -- how the step began
 begun : (g : Over) (c : In_ok-begin_step g) →
@@ -43,10 +43,10 @@ steps-still g c = ap (λ (x : Context g.row.A.Denot). x.schedule.steps) c.begin_
 pub drop_fixed-requires-clause-kept : goal.drop_fixed-requires-clause-kept
 drop_fixed-requires-clause-kept g c = kept g (goal.at.drop_fixed-requires-clause-kept g c).In_ok-begin_step
 
-pub drop_fixed-requires-clause-tells : goal.drop_fixed-requires-clause-tells
-drop_fixed-requires-clause-tells g c = begin-tells (tracer_state c.args.tracer.now)
+pub drop_fixed-requires-clause-logs : goal.drop_fixed-requires-clause-logs
+drop_fixed-requires-clause-logs g c = begin-logs (tracer_state c.args.tracer.now)
     (tracer_state c.begin_step.new.proof) c.args.ctx.now c.begin_step.new.ctx
-    (begun g (goal.at.drop_fixed-requires-clause-tells g c).In_ok-begin_step) c.requires.tells
+    (begun g (goal.at.drop_fixed-requires-clause-logs g c).In_ok-begin_step) c.requires.logs
 
 pub drop_fixed-requires-clause-unknown : goal.drop_fixed-requires-clause-unknown
 drop_fixed-requires-clause-unknown g c = ap (λ (x : Context g.row.A.Denot). x.solver_state.sat_state) c.begin_step.ensures.kept ∙ c.requires.unknown
@@ -73,8 +73,8 @@ returns-clause-begins g c =
     let config = ap (λ (c : Context g.row.A.Denot). c.solver_config) c.begin_step.ensures.kept in
     record {
       kept = e.kept;
-      tells = e.tells;
-      told = some-through p.proof q.proof r.proof (begin-told (tracer_state p) (tracer_state q) x y b) e.told;
+      logs = e.logs;
+      logged = some-through p.proof q.proof r.proof (begin-logged (tracer_state p) (tracer_state q) x y b) e.logged;
       within = λ i k. e.within i x.schedule
           (come-begun _ x y c.requires.kept.ready c.prove_in_range.ensures.luby_restart_interval_scale c.requires.counted b config count i k);
       state = c.drop_fixed.ensures.state ∙ ap (λ (c : Context g.row.A.Denot). c.solver_state) c.begin_step.ensures.kept;
@@ -123,10 +123,10 @@ returns-in_err-drop_fixed-clause-broken g c =
     let p = c.args.tracer.now in
     let q = c.begin_step.new.proof in
     let r = c.drop_fixed.new.tracer in
-    let (given, told) = begin-told (tracer_state p) (tracer_state q) c.args.ctx.now c.begin_step.new.ctx
+    let (given, logged) = begin-logged (tracer_state p) (tracer_state q) c.args.ctx.now c.begin_step.new.ctx
     (begun g (goal.at.returns-in_err-drop_fixed-clause-broken g c).In_ok-begin_step) in
     passed-on c.from_residual-in_err-drop_fixed.result e (λ z. BreaksProof p.proof (step_faults z) r.proof) c.from_residual-in_err-drop_fixed.ensures
-    (proof-breaks-on p.proof q.proof r.proof given (step_faults e) told (c.in_err-drop_fixed.ensures {u = tt}).broken)
+    (proof-breaks-on p.proof q.proof r.proof given (step_faults e) logged (c.in_err-drop_fixed.ensures {u = tt}).broken)
 
 pub returns-in_err-drop_fixed-clause-full : goal.returns-in_err-drop_fixed-clause-full
 returns-in_err-drop_fixed-clause-full g c =

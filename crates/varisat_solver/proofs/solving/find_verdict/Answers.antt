@@ -6,12 +6,12 @@ use Rattle.varisat_search.specs.declared.state.SolverState.{SolverState}
 use Rattle.varisat_search.specs.declared.state.SatState.TheVariants as verdict
 use Rattle.varisat_schedule.specs.CallSteps.{steps_since}
 use Rattle.varisat_tracer.specs.Tracing.{tracer_state, BreaksProof}
-use Rattle.varisat_tracer.proofs.Telling.{proof-breaks-on}
+use Rattle.varisat_tracer.proofs.Logging.{proof-breaks-on}
 use Rattle.varisat_solver.specs.Budgets.{CountsSteps}
 use Rattle.varisat_solver.specs.Searches.{answer_at, Turn, turn_of, ComesOn, MakesSolverStep, FindsVerdict}
 use Rattle.varisat_solver.specs.Summaries.{undecided_spaces, spaces_with}
 use Rattle.varisat_solver.proofs.CheckedHeld.{some-on}
-use Rattle.varisat_solver.proofs.FindVerdictSteps.{searching-at, not-less, so-far, Stepping, one-more, stepping-moved, stepping-goes-on, stepping-counts, stepping-since, stepping-shortens, none-made, counts-spent, counts-refused, since-stopped, told-refused, not-spent, room}
+use Rattle.varisat_solver.proofs.FindVerdictSteps.{searching-at, not-less, so-far, Stepping, one-more, stepping-moved, stepping-goes-on, stepping-counts, stepping-since, stepping-shortens, none-made, counts-spent, counts-refused, since-stopped, logged-refused, not-spent, room}
 use Rattle.varisat_solver.proofs.SolverSteps.{later, later-turn, comes-nowhere, comes-one-more, comes-undecided, comes-decided, unknown-undecided, some-none, some-through}
 use Rattle.varisat_solver.proofs.solving.find_verdict.Given.{Over}
 use Rattle.varisat_solver.proofs.solving.find_verdict.Goals.{In_ok-make_step, then-steps-first-via-then-steps-first, then-steps-first-via-else-steps-first+then-steps}
@@ -64,10 +64,10 @@ found : (g : Over) (c : In_ok-make_step g) (answer : Option Bool) → answer ≡
     FindsVerdict (tracer_state c.args.tracer.now) (tracer_state c.make_step.new.tracer) c.args.ctx.now c.make_step.new.ctx answer
 found g c answer e = record {
   kept = (made g c).kept;
-  tells = (made g c).tells;
+  logs = (made g c).logs;
   state = same-state g c;
   answer = e;
-  told = some-through c.args.tracer.now.proof c.steps.tracer.proof c.make_step.new.tracer.proof c.steps.invariant.told (made g c).told;
+  logged = some-through c.args.tracer.now.proof c.steps.tracer.proof c.make_step.new.tracer.proof c.steps.invariant.logged (made g c).logged;
   leaves = λ h n. (made g c).leaves (c.steps.invariant.leaves h) n;
   stands = stepped g c;
   still = λ s. absurd (stepping-moved (stepping g c) s);
@@ -88,8 +88,8 @@ steps-init g c =
     let p = c.args.tracer.now in
     record {
       kept = c.requires.kept;
-      tells = c.requires.tells;
-      told = some-none p.proof;
+      logs = c.requires.logs;
+      logged = some-none p.proof;
       count = refl;
       state = refl;
       config = refl;
@@ -123,8 +123,8 @@ steps-preserved g c =
     let i = c.steps.invariant in
     record {
       kept = m.kept;
-      tells = m.tells;
-      told = some-through p.proof c.steps.tracer.proof r.proof i.told m.told;
+      logs = m.logs;
+      logged = some-through p.proof c.steps.tracer.proof r.proof i.logged m.logged;
       count = m.count ∙ i.count;
       state = same-state g h ∙ ap (λ v. record c.args.ctx.now.solver_state { sat_state = v }) (c.in-Unknown.is ∙ sym c.requires.unknown);
       config = c.make_step.ensures.config ∙ i.config;
@@ -140,10 +140,10 @@ returns-then-steps-first-clause-found g c =
     let unknown = ap (λ (s : SolverState). s.sat_state) i.state ∙ c.requires.unknown in
     record {
       kept = i.kept;
-      tells = i.tells;
+      logs = i.logs;
       state = ap (λ (s : SolverState). record s { sat_state = c.steps.ctx.solver_state.sat_state }) i.state;
       answer = sym (ap answer_at unknown);
-      told = i.told;
+      logged = i.logged;
       leaves = λ h n. i.leaves h;
       stands = comes-decided _ _ (undecided_spaces c.args.tracer.now.tables c.args.tracer.now.proof.checker c.args.ctx.now)
           c.steps.tracer.tables c.steps.ctx c.args.tracer.now.proof c.steps.tracer.proof unknown i.stands;
@@ -201,8 +201,8 @@ returns-in_err-make_step-clause-counted g c n changed_at h k =
     let x = c.args.ctx.now in
     let y = c.steps.ctx in
     let r = c.steps.invariant in
-    let (e, told) = told-refused c.from_residual.result c.from_residual.ensures.0 in
-    subst (λ a. CountsSteps n c.args.max_steps (x.schedule.steps - changed_at) x.schedule.steps c.make_step.new.ctx.schedule.steps a) (sym told)
+    let (e, logged) = logged-refused c.from_residual.result c.from_residual.ensures.0 in
+    subst (λ a. CountsSteps n c.args.max_steps (x.schedule.steps - changed_at) x.schedule.steps c.make_step.new.ctx.schedule.steps a) (sym logged)
     (counts-refused (searching-at x y c.args.max_steps c.prove_in_range.ensures.luby_restart_interval_scale c.requires.kept.ready c.requires.unknown
     r.count r.config r.made) changed_at k e c.make_step.new.ctx.schedule.steps (c.in_err-make_step.ensures {u = tt}).uncounted n h)
 
@@ -211,9 +211,9 @@ returns-in_err-make_step-clause-broken g c =
     let e = c.in_err-make_step.field-0.0 in
     let p = c.args.tracer.now in
     let r = c.make_step.new.tracer in
-    let (given, told) = c.steps.invariant.told in
+    let (given, logged) = c.steps.invariant.logged in
     passed-on c.from_residual.result e (λ z. BreaksProof p.proof (step_faults z) r.proof) c.from_residual.ensures
-    (proof-breaks-on p.proof c.steps.tracer.proof r.proof given (step_faults e) told (c.in_err-make_step.ensures {u = tt}).broken)
+    (proof-breaks-on p.proof c.steps.tracer.proof r.proof given (step_faults e) logged (c.in_err-make_step.ensures {u = tt}).broken)
 
 pub returns-in_err-make_step-clause-size : goal.returns-in_err-make_step-clause-size
 returns-in_err-make_step-clause-size g c =

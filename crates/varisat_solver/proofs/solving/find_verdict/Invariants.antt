@@ -1,9 +1,9 @@
 use Rattle.std.proofs.Common.{◌≡◌, ◌+◌, ◌-◌, ◌*◌, ◌^◌, length}
 use Rattle.varisat_schedule.specs.CallSteps.{steps_since}
-use Rattle.varisat_tracer.specs.Tracing.{tracer_state, CanTell}
+use Rattle.varisat_tracer.specs.Tracing.{tracer_state, CanLog}
 use Rattle.varisat_search.specs.Contexts.{view}
 use Rattle.varisat_solver.specs.Dropping.{LeavesInTime}
-use Rattle.varisat_solver.specs.Searches.{TellsSome, turn_of, ComesOn}
+use Rattle.varisat_solver.specs.Searches.{LogsSome, turn_of, ComesOn}
 use Rattle.varisat_solver.specs.Summaries.{undecided_spaces, IsKept}
 use Rattle.varisat_solver.proofs.FindVerdictSteps.{HasMade}
 use Rattle.varisat_solver.proofs.solving.find_verdict.Given as goal
@@ -11,8 +11,8 @@ use Rattle.varisat_solver.proofs.solving.find_verdict.Given as goal
 abbrev pub invariant-steps : goal.invariant-steps
 invariant-steps g l = record {
   kept : IsKept l.tracer.tables l.ctx;
-  tells : CanTell l.tracer.proof;
-  told : TellsSome l.fn.tracer.proof l.tracer.proof;
+  logs : CanLog l.tracer.proof;
+  logged : LogsSome l.fn.tracer.proof l.tracer.proof;
   count : length l.ctx.assignment.current ≡ length l.fn.ctx.assignment.current;
   state : l.ctx.solver_state ≡ l.fn.ctx.solver_state;
   config : l.ctx.solver_config ≡ l.fn.ctx.solver_config;

@@ -6,7 +6,7 @@ use Rattle.varisat_search.specs.declared.state.SolverState.{SolverState}
 use Rattle.varisat_search.specs.StepErrors.{step_faults, HasNoRoom}
 use Rattle.varisat_trace.proofs.Broken.{passed-on, on-error}
 use Rattle.varisat_tracer.specs.Tracing.{tracer_state, BreaksProof}
-use Rattle.varisat_tracer.proofs.Telling.{proof-breaks-on, tells-on}
+use Rattle.varisat_tracer.proofs.Logging.{proof-breaks-on, logs-on}
 use Rattle.varisat_solver.specs.Searches.{turn_of, BeginsSolverStep, MakesNamedStep}
 use Rattle.varisat_solver.specs.Summaries.{undecided_spaces, spaces_with}
 use Rattle.varisat_solver.proofs.SinceSteps.{leaves-stepped, come-ended, steps-begun, step-ended}
@@ -29,8 +29,8 @@ named g c = (c.in_ok-named_conflict_step.ensures {u = tt}).made
 pub named_conflict_step-requires-clause-kept : goal.named_conflict_step-requires-clause-kept
 named_conflict_step-requires-clause-kept g c = (begun g (goal.at.named_conflict_step-requires-clause-kept g c).In_ok-begin).kept
 
-pub named_conflict_step-requires-clause-tells : goal.named_conflict_step-requires-clause-tells
-named_conflict_step-requires-clause-tells g c = (begun g (goal.at.named_conflict_step-requires-clause-tells g c).In_ok-begin).tells
+pub named_conflict_step-requires-clause-logs : goal.named_conflict_step-requires-clause-logs
+named_conflict_step-requires-clause-logs g c = (begun g (goal.at.named_conflict_step-requires-clause-logs g c).In_ok-begin).logs
 
 pub named_conflict_step-requires-clause-stands : goal.named_conflict_step-requires-clause-stands
 named_conflict_step-requires-clause-stands g c =
@@ -60,8 +60,8 @@ returns-clause-made g c =
       begins = b;
       ends = named-counted (tracer_state q) (tracer_state r) y z y.schedule m;
       kept = kept-counted r.tables z plan (kept-named (tracer_state q) (tracer_state r) y z b.kept m);
-      tells = tells-on (tracer_state q) (tracer_state r) _ takes b.tells;
-      told = some-through p.proof q.proof r.proof b.told (_, takes.told);
+      logs = logs-on (tracer_state q) (tracer_state r) _ takes b.logs;
+      logged = some-through p.proof q.proof r.proof b.logged (_, takes.logged);
       since = λ u i k.
           come-ended i x.schedule y (record z { schedule = plan }) b.kept.ready (ready-counted z plan m.ready) (m.rises u)
           (step-ended _ x.schedule z.schedule plan (same.schedule ∙ c.begin.ensures.schedule) c.end_step.ensures
@@ -129,7 +129,7 @@ returns-in_err-named_conflict_step-clause-broken g c =
     let p = c.args.tracer.now in
     let q = c.begin.new.tracer in
     let r = c.named_conflict_step.new.tracer in
-    let (given, told) = (begun g (goal.at.returns-in_err-named_conflict_step-clause-broken g c).In_ok-begin).told in
+    let (given, logged) = (begun g (goal.at.returns-in_err-named_conflict_step-clause-broken g c).In_ok-begin).logged in
     passed-on c.from_residual-in_err-named_conflict_step.result e
     (λ z. BreaksProof p.proof (step_faults z) r.proof) c.from_residual-in_err-named_conflict_step.ensures
-    (proof-breaks-on p.proof q.proof r.proof given (step_faults e) told (c.in_err-named_conflict_step.ensures {u = tt}).broken)
+    (proof-breaks-on p.proof q.proof r.proof given (step_faults e) logged (c.in_err-named_conflict_step.ensures {u = tt}).broken)

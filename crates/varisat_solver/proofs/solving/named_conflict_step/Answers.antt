@@ -7,7 +7,7 @@ use Rattle.varisat_search.specs.Seen.{outcome_of}
 use Rattle.varisat_search.specs.StepErrors.{step_faults}
 use Rattle.varisat_trace.proofs.Broken.{passed-on}
 use Rattle.varisat_tracer.specs.Tracing.{tracer_state, BreaksProof}
-use Rattle.varisat_tracer.proofs.Telling.{breaks-proof, proof-unbroken, proof-breaks-on}
+use Rattle.varisat_tracer.proofs.Logging.{breaks-proof, proof-unbroken, proof-breaks-on}
 use Rattle.varisat_solver.specs.Accepting.{HasUser}
 use Rattle.varisat_solver.proofs.CheckedHeld.{relied}
 use Rattle.varisat_solver.proofs.TableMarks.{assumed-named}
@@ -16,7 +16,7 @@ use Rattle.varisat_solver.proofs.solving.named_conflict_step.Goals as goal
 
 pub conflict_step-requires-clause-holds : goal.conflict_step-requires-clause-holds
 conflict_step-requires-clause-holds g c = relied c.args.tracer.now.tables c.args.tracer.now.proof
-    (view c.args.ctx.now) c.args.ctx.now.assumptions c.requires.tells c.requires.stands
+    (view c.args.ctx.now) c.args.ctx.now.assumptions c.requires.logs c.requires.stands
 
 pub name_core-requires : goal.name_core-requires
 name_core-requires g c l h =
@@ -52,4 +52,4 @@ returns-in_err-name_core-clause-broken g c =
     let q = c.conflict_step.new.proof in
     let (lines, steps, (settles, learns, takes)) = (c.in_ok-conflict_step.ensures {u = tt}).made.goes.steps in
     passed-on c.from_residual-in_err-name_core.result step.Memory (λ z. BreaksProof p.proof (step_faults z) q.proof) c.from_residual-in_err-name_core.ensures
-    (proof-breaks-on p.proof q.proof q.proof _ 0 takes.told (proof-unbroken q.proof))
+    (proof-breaks-on p.proof q.proof q.proof _ 0 takes.logged (proof-unbroken q.proof))

@@ -1,11 +1,11 @@
 use Rattle.std.proofs.Common.{◌∙◌, refl, ap, Ok}
 use Rattle.std.proofs.Math.Facts.{to_z-of_z}
 use Rattle.varisat_literals.specs.Numbers.{literal_numbered}
-use Rattle.varisat_calls.proofs.Looking.{failed-told}
+use Rattle.varisat_calls.proofs.Looking.{failed-returned}
 use Rattle.varisat_calls.proofs.caller.Caller.is_failed.Goals as goal
 
 pub returns-in-Ok-true : goal.returns-in-Ok-true
 returns-in-Ok-true g c = rw (← c.self.view_is)
     (let (m, is, set) = c.in-Ok-true.ensures.core (ap Ok c.in-Ok-true.field-0-test) in
-    failed-told c.args.number _ _ c.find_core.new.self.literals c.literal_of.result c.is_kept.result m is set
+    failed-returned c.args.number _ _ c.find_core.new.self.literals c.literal_of.result c.is_kept.result m is set
     (c.literal_of.ensures ∙ ap literal_numbered (to_z-of_z c.ranges.number)) c.is_kept.ensures refl)

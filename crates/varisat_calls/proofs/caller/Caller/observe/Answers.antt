@@ -1,12 +1,12 @@
 use Rattle.std.proofs.Common.{◌∙◌, refl, ap}
-use Rattle.varisat_calls.specs.Numbers.{told_names}
+use Rattle.varisat_calls.specs.Numbers.{returned_names}
 use Rattle.varisat_calls.specs.Callers.{Refused}
-use Rattle.varisat_calls.proofs.Making.{made, names-told, no-room}
+use Rattle.varisat_calls.proofs.Making.{made, names-returned, no-room}
 use Rattle.varisat_calls.proofs.caller.Caller.observe.Goals as goal
 
-pub returns-in-Ok-tell_names : goal.returns-in-Ok-tell_names
-returns-in-Ok-tell_names g c = rw (← c.self.view_is)
-    (names-told _ _ c.in-Ok.vars.items c.in-Ok.ensures (c.in-Ok-tell_names.ensures {u = tt} ∙ ap told_names c.deref.ensures.value) refl)
+pub returns-in-Ok-list_names : goal.returns-in-Ok-list_names
+returns-in-Ok-list_names g c = rw (← c.self.view_is)
+    (names-returned _ _ c.in-Ok.vars.items c.in-Ok.ensures (c.in-Ok-list_names.ensures {u = tt} ∙ ap returned_names c.deref.ensures.value) refl)
 
 pub returns-in-Ok : goal.returns-in-Ok
 returns-in-Ok g c = rw (← c.self.view_is)

@@ -4,9 +4,9 @@ use Rattle.std.proofs.lemmas.List.{append-nil}
 use Rattle.std.proofs.Common.{sym}
 use Rattle.varisat_proof.specs.declared.proof.format.LineKind.TheVariants as kinds
 use Rattle.varisat_proof.specs.Lines.{line_of_kind}
-use Rattle.varisat_proof.specs.Telling.{marked_line}
-use Rattle.varisat_proof.specs.Proving.{ProofParts, told}
-use Rattle.varisat_proof.proofs.ToldSteps.{written-as, tells-ok, tells-spent}
+use Rattle.varisat_proof.specs.Logging.{marked_line}
+use Rattle.varisat_proof.specs.Proving.{ProofParts, logged}
+use Rattle.varisat_proof.proofs.LoggedSteps.{written-as, tells-ok, tells-spent}
 use Rattle.varisat_proof.proofs.proof.proving.add_clause.Goals as goal
 use Rattle.varisat_proof.proofs.proof.proving.add_clause.Goals.{in-Ok, in-Err}
 
@@ -15,7 +15,7 @@ returns g c =
     let old : ProofParts = record { opened = c.proof.inside.open; checker = c.proof.inside.checker } in
     let new : ProofParts = record { opened = c.write_marked_if.new.opened; checker = c.keep_clause_if.new.checker } in
     let line = line_of_kind kinds.Accepts c.args.clause.now in
-    let w = written-as c.proof.inside.open c.write_marked_if.new.opened (λ e. marked_line e line) (told (Accepts c.args.clause.now ∷ []))
+    let w = written-as c.proof.inside.open c.write_marked_if.new.opened (λ e. marked_line e line) (logged (Accepts c.args.clause.now ∷ []))
     (λ e. sym (append-nil (marked_line e line))) c.in_ok-write_marked_if.ensures in
     elim c.match-keep_clause_if.branch [
       | in-Ok k ↦ tells-ok c.args.proof.now old new (Accepts c.args.clause.now ∷ []) c.match-keep_clause_if.result c.proof.view_is k.result-is w

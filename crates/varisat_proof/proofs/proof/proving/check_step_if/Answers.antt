@@ -1,4 +1,4 @@
-use Rattle.varisat_proof.proofs.ToldSteps.{taken-step, right-step, spent-step}
+use Rattle.varisat_proof.proofs.LoggedSteps.{taken-step, right-step, spent-step}
 use Rattle.varisat_proof.proofs.proof.proving.check_step_if.Goals as goal
 
 pub returns-clause-taken : goal.returns-clause-taken

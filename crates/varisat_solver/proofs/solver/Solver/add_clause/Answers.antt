@@ -3,21 +3,21 @@ use Rattle.varisat_search.specs.declared.state.SolverState.{SolverState}
 use Rattle.varisat_schedule.specs.Plans.{Plan}
 use Rattle.varisat_tracer.specs.TracerLaws.{checked-runs}
 use Rattle.varisat_solver.specs.States.{State}
-use Rattle.varisat_solver.specs.Calls.{calling, count_anew, MayAccept, Ignored, Accepted, AddsClause}
+use Rattle.varisat_solver.specs.Calls.{by_state, count_anew, MayAccept, Ignored, Accepted, AddsClause}
 use Rattle.varisat_solver.proofs.CallStates.{stands-valid, proof-fits, broken, broken-invalid, adds-broken}
 use Rattle.varisat_solver.proofs.AcceptClause.{not-refuted}
 use Rattle.varisat_tracer.specs.Tracing.{tracer_state, BreaksProof}
 use Rattle.varisat_search.specs.StepErrors.{step_faults}
-use Rattle.varisat_solver.specs.Refusals.{told_faults}
+use Rattle.varisat_solver.specs.Refusals.{returned_faults}
 use Rattle.varisat_solver.specs.Summaries.{Summary, StandsFor, spaces_with}
 use Rattle.varisat_solver.specs.Targets.{WritesAll, WritesUpTo}
 use Rattle.varisat_solver.specs.declared.solver.SolverError.TheVariants.{ClauseStoreFull, Invalid, ClauseAfterSolve}
-use Rattle.varisat_solver.proofs.Targets.{writes-nothing, refused-unwritten, tells-writes, breaks-writes, names-unwritten, names-not-full, refused-full, same-error}
+use Rattle.varisat_solver.proofs.Targets.{writes-nothing, refused-unwritten, logs-writes, breaks-writes, names-unwritten, names-not-full, refused-full, same-error}
 use Rattle.varisat_solver.proofs.OpenProofs.{broken-open, broken-on, closed-there, unclosed-there}
 use Rattle.varisat_solver.proofs.Joins.{ClauseJoins, clause-joins}
-use Rattle.varisat_solver.proofs.ChangeEnds.{kept-changed, stands-changed, stands-broken, stands-invalid, invalid-told}
+use Rattle.varisat_solver.proofs.ChangeEnds.{kept-changed, stands-changed, stands-broken, stands-invalid, invalid-logged}
 use Rattle.varisat_solver.proofs.SettingsCalls.{summary_of}
-use Rattle.varisat_solver.proofs.Additions.{told-error}
+use Rattle.varisat_solver.proofs.Additions.{logged-error}
 use Rattle.varisat_solver.proofs.SolverCalls.{unsat-known}
 use Rattle.varisat_solver.proofs.NamingStates.{may-constrain, clause-refused}
 use Rattle.varisat_solver.proofs.solver.Solver.add_clause.Given.{Over}
@@ -35,19 +35,19 @@ invariant_of-self-2 g c _ =
     let (is, counted) = c.in_ok-end_change.ensures in
     let kept = rw is at c.accept_user_clause-accepted.ensures.kept in
     let (s, fits, fresh) = (c.self.invariant c.in_ok-ensure_valid.ensures).stands in
-    let (x, told, variables, v, more, keep, proof, now) = (rw is at c.accept_user_clause-accepted.ensures.accepted) s fits in
+    let (x, logged, variables, v, more, keep, proof, now) = (rw is at c.accept_user_clause-accepted.ensures.accepted) s fits in
     kept-changed c.accept_user_clause-accepted.new.tracer.tables c.accept_user_clause-accepted.new.tracer.proof c.accept_user_clause-accepted.new.ctx
-    c.end_change.new.ctx true c.end_change.new.changed_at counted kept (rw is at c.accept_user_clause-accepted.ensures.tells) (_, now, λ e. absurd cc)
+    c.end_change.new.ctx true c.end_change.new.changed_at counted kept (rw is at c.accept_user_clause-accepted.ensures.logs) (_, now, λ e. absurd cc)
 
 pub returns-in_err-check_names-clause-call : goal.returns-in_err-check_names-clause-call
 returns-in_err-check_names-clause-call g c s st =
     let q = rw (← c.self.view_is) at st in
     let ok = ap not c.in_ok-ensure_valid.ensures in
-    let bad : MayAccept calling s = record {
+    let bad : MayAccept by_state s = record {
       unrefuted = not-refuted _ s q ok c.in_default.not-Unsat;
-      unbarred = unclosed-there _ s.variables s.told s.proof c.bars_clauses.result (proof-fits q ok) c.bars_clauses.ensures c.if-bars_clauses.false;
+      unbarred = unclosed-there _ s.variables s.logged s.proof c.bars_clauses.result (proof-fits q ok) c.bars_clauses.ensures c.if-bars_clauses.false;
     } in
-    let refused = told-error c.from_residual-in_err-check_names.result c.in_err-check_names.field-0.0 c.from_residual-in_err-check_names.ensures in (
+    let refused = logged-error c.from_residual-in_err-check_names.result c.in_err-check_names.field-0.0 c.from_residual-in_err-check_names.ensures in (
       s,
       subst (λ r. AddsClause s c.args.clause.now r s) (sym refused)
           (clause-refused _ s q (ap not c.in_ok-ensure_valid.ensures) c.args.clause.now bad c.in_err-check_names.field-0.0 c.in_err-check_names.ensures),
@@ -65,9 +65,9 @@ joins g c s st =
     let (is, counted) = c.in_ok-end_change.ensures in
     let old = c.self.inside in
     let new = c.accept_user_clause-accepted.new in
-    let (x, told, variables, v, more, keep, proof, now) = (rw is at c.accept_user_clause-accepted.ensures.accepted) s (st.fits ok) in
+    let (x, logged, variables, v, more, keep, proof, now) = (rw is at c.accept_user_clause-accepted.ensures.accepted) s (st.fits ok) in
     clause-joins s c.args.clause.now (spaces_with old.tracer.tables old.tracer.proof.checker old.ctx)
-    (spaces_with new.tracer.tables new.tracer.proof.checker new.ctx) old.tracer.proof new.tracer.proof x told variables
+    (spaces_with new.tracer.tables new.tracer.proof.checker new.ctx) old.tracer.proof new.tracer.proof x logged variables
     (length new.ctx.clause_alloc.words) (st.fits ok) (proof-fits st ok) v more keep proof now
 
 pub returns-clause-call : goal.returns-clause-call
@@ -77,14 +77,14 @@ returns-clause-call g c s st =
     let old = c.self.inside in
     let new = c.accept_user_clause-accepted.new in
     let (is, counted) = c.in_ok-end_change.ensures in
-    let bad : MayAccept calling s = record {
+    let bad : MayAccept by_state s = record {
       unrefuted = not-refuted _ s q ok c.in_default.not-Unsat;
-      unbarred = unclosed-there _ s.variables s.told s.proof c.bars_clauses.result (proof-fits q ok) c.bars_clauses.ensures c.if-bars_clauses.false;
+      unbarred = unclosed-there _ s.variables s.logged s.proof c.bars_clauses.result (proof-fits q ok) c.bars_clauses.ensures c.if-bars_clauses.false;
     } in
     let plan = c.accept_user_clause-accepted.ensures.schedule in
     let state = rw is at c.accept_user_clause-accepted.ensures.state in
     let kept = rw is at c.accept_user_clause-accepted.ensures.kept in
-    let tells = rw is at c.accept_user_clause-accepted.ensures.told in
+    let logs = rw is at c.accept_user_clause-accepted.ensures.logged in
     let j = joins g (goal.at.returns-clause-call g c).In_ok-end_change s q in (
       j.state,
       (
@@ -95,7 +95,7 @@ returns-clause-call g c s st =
       ),
       stands-changed (tracer_state old.tracer) (tracer_state new.tracer) old.started old.changed_at c.end_change.new.changed_at old.ctx new.ctx
           c.end_change.new.ctx s j.state q counted (ap (λ (x : SolverState). x.state_is_invalid) state) (ap (λ (x : Plan). x.steps) plan.schedule)
-          plan.solver_config (checked-runs old.tracer.proof.checker new.tracer.proof.checker tells.0 tells.1.checked) j.ledger j.size j.fits j.proof
+          plan.solver_config (checked-runs old.tracer.proof.checker new.tracer.proof.checker logs.0 logs.1.checked) j.ledger j.size j.fits j.proof
           (j.flags (q.flags ok)) kept.bounded,
     )
 
@@ -105,22 +105,22 @@ returns-in_err-end_change-clause-call g c s st =
     let ok = ap not c.in_ok-ensure_valid.ensures in
     let old = c.self.inside in
     let new = c.accept_user_clause-accepted.new in
-    let (error, is, told, made, count) = c.in_err-end_change.ensures in
-    let bad : MayAccept calling s = record {
+    let (error, is, logged, made, count) = c.in_err-end_change.ensures in
+    let bad : MayAccept by_state s = record {
       unrefuted = not-refuted _ s q ok c.in_default.not-Unsat;
-      unbarred = unclosed-there _ s.variables s.told s.proof c.bars_clauses.result (proof-fits q ok) c.bars_clauses.ensures c.if-bars_clauses.false;
+      unbarred = unclosed-there _ s.variables s.logged s.proof c.bars_clauses.result (proof-fits q ok) c.bars_clauses.ensures c.if-bars_clauses.false;
     } in
     let k = c.accept_user_clause-accepted.ensures.schedule in
     let fails = rw is at c.accept_user_clause-accepted.ensures.broken in
     let full = rw is at c.accept_user_clause-accepted.ensures.full in
     let size = rw is at c.accept_user_clause-accepted.ensures.size in
     let words = length new.ctx.clause_alloc.words in
-    let refused = told-error c.from_residual-in_err-end_change.result c.in_err-end_change.field-0.0 c.from_residual-in_err-end_change.ensures ∙ ap Err told in
+    let refused = logged-error c.from_residual-in_err-end_change.result c.in_err-end_change.field-0.0 c.from_residual-in_err-end_change.ensures ∙ ap Err logged in
     let (now, goes, same) = broken-on old.tracer.proof new.tracer.proof (step_faults error) s.proof q.same fails in (
       broken now words s,
       subst (λ r. AddsClause s c.args.clause.now r (broken now words s)) (sym refused)
           (adds-broken error s (broken now words s) c.args.clause.now
-          (λ f. broken-open old.tracer.proof new.tracer.proof s.variables s.told s.proof (proof-fits q ok)
+          (λ f. broken-open old.tracer.proof new.tracer.proof s.variables s.logged s.proof (proof-fits q ok)
           (subst (λ n. BreaksProof old.tracer.proof n new.tracer.proof) f fails)) bad
           (may-constrain _ s q ok c.args.clause.now c.in_ok-check_names.ensures.0 c.in_ok-check_names.ensures.1)
           (broken-invalid (step_faults error) s now words (stands-valid _ s q ok) goes)
@@ -145,7 +145,7 @@ returns-then-bars_clauses-clause-call g c s st =
       (
         stands-valid _ s q ok,
         not-refuted _ s q ok c.in_default.not-Unsat,
-        closed-there _ s.variables s.told s.proof c.bars_clauses.result
+        closed-there _ s.variables s.logged s.proof c.bars_clauses.result
             (proof-fits q ok) c.bars_clauses.ensures c.if-bars_clauses.true,
         refl,
       ),
@@ -162,46 +162,46 @@ returns-then-bars_clauses-clause-target g c = refused-unwritten c.args.self.now.
 pub returns-in_err-check_names-clause-target : goal.returns-in_err-check_names-clause-target
 returns-in_err-check_names-clause-target g c =
     let e = c.in_err-check_names.field-0.0 in
-    let refused = told-error c.from_residual-in_err-check_names.result e c.from_residual-in_err-check_names.ensures in
+    let refused = logged-error c.from_residual-in_err-check_names.result e c.from_residual-in_err-check_names.ensures in
     rw refused (names-unwritten c.args.self.now.opened c.self.inside.tracer.tables c.args.clause.now e c.in_err-check_names.ensures)
 
 pub returns-clause-target : goal.returns-clause-target
 returns-clause-target g c =
     let (is, counted) = c.in_ok-end_change.ensures in
-    let tells = rw is at c.accept_user_clause-accepted.ensures.told in
-    rw (← c.self.view_is) (tells-writes c.self.inside.tracer.proof c.accept_user_clause-accepted.new.tracer.proof tells)
+    let logs = rw is at c.accept_user_clause-accepted.ensures.logged in
+    rw (← c.self.view_is) (logs-writes c.self.inside.tracer.proof c.accept_user_clause-accepted.new.tracer.proof logs)
 
 pub returns-in_err-end_change-clause-target : goal.returns-in_err-end_change-clause-target
 returns-in_err-end_change-clause-target g c =
-    let (error, is, told, made, count) = c.in_err-end_change.ensures in
+    let (error, is, logged, made, count) = c.in_err-end_change.ensures in
     let fails = rw is at c.accept_user_clause-accepted.ensures.broken in
     let old = c.self.inside.tracer.proof in
     let new = c.accept_user_clause-accepted.new.tracer.proof in
-    let refused = told-error c.from_residual-in_err-end_change.result c.in_err-end_change.field-0.0 c.from_residual-in_err-end_change.ensures in
+    let refused = logged-error c.from_residual-in_err-end_change.result c.in_err-end_change.field-0.0 c.from_residual-in_err-end_change.ensures in
     rw refused (rw (← c.self.view_is)
-    (subst (λ e. WritesUpTo (told_faults e) old.opened new.opened) (sym told) (breaks-writes old new error fails)))
+    (subst (λ e. WritesUpTo (returned_faults e) old.opened new.opened) (sym logged) (breaks-writes old new error fails)))
 
 pub returns-in_err-check_names-clause-full : goal.returns-in_err-check_names-clause-full
 returns-in_err-check_names-clause-full g c f =
     let e = c.in_err-check_names.field-0.0 in
     absurd (names-not-full c.self.inside.tracer.tables c.args.clause.now e c.in_err-check_names.ensures
-    (same-error e ClauseStoreFull (sym (told-error c.from_residual-in_err-check_names.result e c.from_residual-in_err-check_names.ensures) ∙ f)))
+    (same-error e ClauseStoreFull (sym (logged-error c.from_residual-in_err-check_names.result e c.from_residual-in_err-check_names.ensures) ∙ f)))
 
 pub returns-in_err-end_change-clause-full : goal.returns-in_err-end_change-clause-full
 returns-in_err-end_change-clause-full g c f =
-    let (error, is, told, made, count) = c.in_err-end_change.ensures in
+    let (error, is, logged, made, count) = c.in_err-end_change.ensures in
     let full = rw is at c.accept_user_clause-accepted.ensures.full in
     let e = c.in_err-end_change.field-0.0 in
-    let refused = told-error c.from_residual-in_err-end_change.result e c.from_residual-in_err-end_change.ensures in
-    rw made (full (refused-full error (sym told ∙ same-error e ClauseStoreFull (sym refused ∙ f))))
+    let refused = logged-error c.from_residual-in_err-end_change.result e c.from_residual-in_err-end_change.ensures in
+    rw made (full (refused-full error (sym logged ∙ same-error e ClauseStoreFull (sym refused ∙ f))))
 
 pub returns-in_err-ensure_valid-clause-call : goal.returns-in_err-ensure_valid-clause-call
 returns-in_err-ensure_valid-clause-call g c s st =
     let q = rw (← c.self.view_is) at st in
-    let refused = invalid-told c.from_residual.result c.in_err-ensure_valid.field-0.0 c.from_residual.ensures c.in_err-ensure_valid.ensures.0 in
+    let refused = invalid-logged c.from_residual.result c.in_err-ensure_valid.field-0.0 c.from_residual.ensures c.in_err-ensure_valid.ensures.0 in
     (s, subst (λ r. AddsClause s c.args.clause.now r s) (sym refused) (stands-invalid _ s q (ap not c.in_err-ensure_valid.ensures.1), refl), st)
 
 pub returns-in_err-ensure_valid-clause-target : goal.returns-in_err-ensure_valid-clause-target
 returns-in_err-ensure_valid-clause-target g c =
-    let refused = invalid-told c.from_residual.result c.in_err-ensure_valid.field-0.0 c.from_residual.ensures c.in_err-ensure_valid.ensures.0 in
+    let refused = invalid-logged c.from_residual.result c.in_err-ensure_valid.field-0.0 c.from_residual.ensures c.in_err-ensure_valid.ensures.0 in
     rw refused (refused-unwritten c.args.self.now.opened Invalid refl)

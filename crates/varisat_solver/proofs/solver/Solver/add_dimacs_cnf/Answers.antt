@@ -2,15 +2,15 @@
 use Rattle.std.proofs.Common.{◌∙◌, Err, refl, sym, ap, not, subst}
 use Rattle.varisat_solver.specs.Additions.{ClausesAdded, NoFault, Read, Unread}
 use Rattle.varisat_solver.specs.Calls.{count_anew}
-use Rattle.varisat_solver.specs.Calls.{calling}
-use Rattle.varisat_solver.specs.Additions.{TellsFault}
-use Rattle.varisat_solver.specs.Refusals.{told_faults}
+use Rattle.varisat_solver.specs.Calls.{by_state}
+use Rattle.varisat_solver.specs.Additions.{ReturnsFault}
+use Rattle.varisat_solver.specs.Refusals.{returned_faults}
 use Rattle.varisat_solver.specs.Summaries.{Summary}
 use Rattle.varisat_solver.specs.Targets.{WritesAll, WritesUpTo}
 use Rattle.varisat_solver.specs.declared.solver.SolverError.TheVariants.{ClauseStoreFull, Invalid}
 use Rattle.varisat_solver.proofs.Additions.{adds-valid, takes-in-turn, text-refused}
 use Rattle.varisat_solver.proofs.CallStates.{stands-valid}
-use Rattle.varisat_solver.proofs.ChangeEnds.{stands-invalid, invalid-told}
+use Rattle.varisat_solver.proofs.ChangeEnds.{stands-invalid, invalid-logged}
 use Rattle.varisat_solver.proofs.Targets.{up-to-then, refused-unwritten, same-error}
 use Rattle.varisat_solver.proofs.solver.Solver.add_dimacs_cnf.Goals as goal
 
@@ -19,7 +19,7 @@ returns-in-Ok-None-clause-call g c s st =
     let valid = stands-valid _ s (rw (← c.self.view_is) at st) (ap not c.in_ok-ensure_valid.ensures) in
     let k = c.in-Ok-None.ensures.taken in
     let (u, a, w) = (takes-in-turn _ _ _ _ k.takes_all).call s st in
-    (count_anew u, Read valid k.reading k.gives (ClausesAdded u a (NoFault (sym k.told ∙ c.in-Ok-None.field-0-is) refl refl)), c.begin_count.ensures.call u w)
+    (count_anew u, Read valid k.reading k.gives (ClausesAdded u a (NoFault (sym k.reported ∙ c.in-Ok-None.field-0-is) refl refl)), c.begin_count.ensures.call u w)
 
 pub returns-in-Ok-None-clause-target : goal.returns-in-Ok-None-clause-target
 returns-in-Ok-None-clause-target g c =
@@ -34,15 +34,15 @@ returns-in-Ok-Some-clause-call g c s st =
     let (t, f, z) = c.refuse_text.ensures.call u w (adds-valid s u _ valid a) in (
       t,
       Read valid k.reading k.gives
-          (ClausesAdded u a (subst (λ x. TellsFault calling x u (Err c.refuse_text.result) t) (sym (sym k.told ∙ c.in-Ok-Some.field-0-is)) f)),
+          (ClausesAdded u a (subst (λ x. ReturnsFault by_state x u (Err c.refuse_text.result) t) (sym (sym k.reported ∙ c.in-Ok-Some.field-0-is)) f)),
       z,
     )
 
 pub returns-in-Ok-Some-clause-target : goal.returns-in-Ok-Some-clause-target
 returns-in-Ok-Some-clause-target g c =
     let e = c.refuse_text.result in
-    subst (WritesUpTo (told_faults e) c.args.self.now.opened) (sym c.refuse_text.ensures.same)
-    (up-to-then _ _ _ (told_faults e) (takes-in-turn _ _ _ _ c.in-Ok-Some.ensures.taken.takes_all).target
+    subst (WritesUpTo (returned_faults e) c.args.self.now.opened) (sym c.refuse_text.ensures.same)
+    (up-to-then _ _ _ (returned_faults e) (takes-in-turn _ _ _ _ c.in-Ok-Some.ensures.taken.takes_all).target
     (refused-unwritten _ e c.refuse_text.ensures.faults))
 
 pub returns-in-Ok-Some-clause-full : goal.returns-in-Ok-Some-clause-full
@@ -64,10 +64,10 @@ returns-in-Err-clause-full g c = (takes-in-turn _ _ _ _ c.in-Err.ensures.refused
 pub returns-in_err-ensure_valid-clause-call : goal.returns-in_err-ensure_valid-clause-call
 returns-in_err-ensure_valid-clause-call g c s st =
     let q = rw (← c.self.view_is) at st in
-    let refused = invalid-told c.from_residual.result c.in_err-ensure_valid.field-0.0 c.from_residual.ensures c.in_err-ensure_valid.ensures.0 in
+    let refused = invalid-logged c.from_residual.result c.in_err-ensure_valid.field-0.0 c.from_residual.ensures c.in_err-ensure_valid.ensures.0 in
     (s, Unread refused (stands-invalid _ s q (ap not c.in_err-ensure_valid.ensures.1), refl) refl, st)
 
 pub returns-in_err-ensure_valid-clause-target : goal.returns-in_err-ensure_valid-clause-target
 returns-in_err-ensure_valid-clause-target g c =
-    let refused = invalid-told c.from_residual.result c.in_err-ensure_valid.field-0.0 c.from_residual.ensures c.in_err-ensure_valid.ensures.0 in
+    let refused = invalid-logged c.from_residual.result c.in_err-ensure_valid.field-0.0 c.from_residual.ensures c.in_err-ensure_valid.ensures.0 in
     rw refused (refused-unwritten c.args.self.now.opened Invalid refl)

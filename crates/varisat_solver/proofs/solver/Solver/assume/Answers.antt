@@ -2,22 +2,22 @@ use Rattle.std.proofs.Common.{◌∙◌, not, subst, refl, sym, ap, length, true
 use Rattle.varisat_search.specs.declared.state.SolverState.{SolverState}
 use Rattle.varisat_schedule.specs.Plans.{Plan}
 use Rattle.varisat_tracer.specs.TracerLaws.{checked-runs}
-use Rattle.varisat_solver.specs.Refusals.{told_faults}
+use Rattle.varisat_solver.specs.Refusals.{returned_faults}
 use Rattle.varisat_search.specs.StepErrors.{step_faults}
 use Rattle.varisat_solver.specs.Targets.{WritesUpTo}
 use Rattle.varisat_tracer.specs.Tracing.{tracer_state, BreaksProof}
 use Rattle.varisat_solver.specs.OpenProofs.{BarsAssumptions}
 use Rattle.varisat_solver.specs.Summaries.{StandsFor, spaces_with}
-use Rattle.varisat_solver.proofs.ChangeEnds.{kept-changed, stands-changed, stands-broken, stands-invalid, invalid-told}
+use Rattle.varisat_solver.proofs.ChangeEnds.{kept-changed, stands-changed, stands-broken, stands-invalid, invalid-logged}
 use Rattle.varisat_solver.proofs.SettingsCalls.{summary_of}
 use Rattle.varisat_solver.proofs.Joins.{ListJoins, list-joins}
 use Rattle.varisat_solver.specs.States.{State}
 use Rattle.varisat_solver.specs.declared.solver.SolverError.TheVariants.{Invalid, ProofOpen, ProofIoError}
 use Rattle.varisat_solver.specs.Calls.{Assumes}
 use Rattle.varisat_solver.proofs.OpenProofs.{barred-there, unbarred-there, broken-open, broken-on}
-use Rattle.varisat_solver.proofs.Targets.{refused-unwritten, tells-writes, breaks-writes, names-unwritten, names-not-broken, broken-not-memory, same-error}
+use Rattle.varisat_solver.proofs.Targets.{refused-unwritten, logs-writes, breaks-writes, names-unwritten, names-not-broken, broken-not-memory, same-error}
 use Rattle.varisat_solver.proofs.CallStates.{stands-valid, proof-fits, broken, broken-invalid, assumes-broken}
-use Rattle.varisat_solver.proofs.Additions.{told-error}
+use Rattle.varisat_solver.proofs.Additions.{logged-error}
 use Rattle.varisat_solver.proofs.NamingStates.{may-constrain, list-refused}
 use Rattle.varisat_solver.proofs.solver.Solver.assume.Given.{Over}
 use Rattle.varisat_solver.proofs.solver.Solver.assume.Goals.{In_ok-end_change}
@@ -33,17 +33,17 @@ invariant_of-self-2 g c _ =
     let (s, fits, fresh) = (c.self.invariant c.in_ok-ensure_valid.ensures).stands in
     let (variables, keep, proof, now) = (rw is at c.assume_list-assumed.ensures.assumed) s fits in
     kept-changed new.tracer.tables new.tracer.proof new.ctx c.end_change.new.ctx true c.end_change.new.changed_at counted
-    (rw is at c.assume_list-assumed.ensures.kept) (rw is at c.assume_list-assumed.ensures.tells) (_, now, λ e. absurd cc)
+    (rw is at c.assume_list-assumed.ensures.kept) (rw is at c.assume_list-assumed.ensures.logs) (_, now, λ e. absurd cc)
 
 pub returns-in_err-check_names-clause-call : goal.returns-in_err-check_names-clause-call
 returns-in_err-check_names-clause-call g c s st =
     let q = rw (← c.self.view_is) at st in
     let ok = ap not c.in_ok-ensure_valid.ensures in
-    let refused = told-error c.from_residual-in_err-check_names.result c.in_err-check_names.field-0.0 c.from_residual-in_err-check_names.ensures in (
+    let refused = logged-error c.from_residual-in_err-check_names.result c.in_err-check_names.field-0.0 c.from_residual-in_err-check_names.ensures in (
       s,
       subst (λ r. Assumes s c.args.lits.now r s) (sym refused)
           (list-refused _ s q ok c.args.lits.now
-          (unbarred-there _ s.variables s.told s.proof c.bars_assumptions.result (proof-fits q ok) c.bars_assumptions.ensures c.if-bars_assumptions.false)
+          (unbarred-there _ s.variables s.logged s.proof c.bars_assumptions.result (proof-fits q ok) c.bars_assumptions.ensures c.if-bars_assumptions.false)
           c.in_err-check_names.field-0.0 c.in_err-check_names.ensures),
       st,
     )
@@ -71,11 +71,11 @@ returns-clause-call g c s st =
     let old = c.self.inside in
     let new = c.assume_list-assumed.new in
     let (is, counted) = c.in_ok-end_change.ensures in
-    let free = unbarred-there _ s.variables s.told s.proof c.bars_assumptions.result (proof-fits q ok) c.bars_assumptions.ensures c.if-bars_assumptions.false in
+    let free = unbarred-there _ s.variables s.logged s.proof c.bars_assumptions.result (proof-fits q ok) c.bars_assumptions.ensures c.if-bars_assumptions.false in
     let plan = c.assume_list-assumed.ensures.schedule in
     let state = rw is at c.assume_list-assumed.ensures.state in
     let kept = rw is at c.assume_list-assumed.ensures.kept in
-    let tells = rw is at c.assume_list-assumed.ensures.told in
+    let logs = rw is at c.assume_list-assumed.ensures.logged in
     let j = joins g (goal.at.returns-clause-call g c).In_ok-end_change s q free in (
       j.state,
       (
@@ -86,7 +86,7 @@ returns-clause-call g c s st =
       ),
       stands-changed (tracer_state old.tracer) (tracer_state new.tracer) old.started old.changed_at c.end_change.new.changed_at old.ctx new.ctx
           c.end_change.new.ctx s j.state q counted (ap (λ (x : SolverState). x.state_is_invalid) state) (ap (λ (x : Plan). x.steps) plan.schedule)
-          plan.solver_config (checked-runs old.tracer.proof.checker new.tracer.proof.checker _ tells.1.checked) j.ledger j.size j.fits j.proof
+          plan.solver_config (checked-runs old.tracer.proof.checker new.tracer.proof.checker _ logs.1.checked) j.ledger j.size j.fits j.proof
           j.flags kept.bounded,
     )
 
@@ -96,17 +96,17 @@ returns-in_err-end_change-clause-call g c s st =
     let ok = ap not c.in_ok-ensure_valid.ensures in
     let old = c.self.inside in
     let new = c.assume_list-assumed.new in
-    let (error, is, told, made, count) = c.in_err-end_change.ensures in
-    let free = unbarred-there _ s.variables s.told s.proof c.bars_assumptions.result (proof-fits q ok) c.bars_assumptions.ensures c.if-bars_assumptions.false in
+    let (error, is, logged, made, count) = c.in_err-end_change.ensures in
+    let free = unbarred-there _ s.variables s.logged s.proof c.bars_assumptions.result (proof-fits q ok) c.bars_assumptions.ensures c.if-bars_assumptions.false in
     let k = c.assume_list-assumed.ensures.schedule in
     let fails = rw is at c.assume_list-assumed.ensures.broken in
     let words = length new.ctx.clause_alloc.words in
-    let refused = told-error c.from_residual-in_err-end_change.result c.in_err-end_change.field-0.0 c.from_residual-in_err-end_change.ensures ∙ ap Err told in
+    let refused = logged-error c.from_residual-in_err-end_change.result c.in_err-end_change.field-0.0 c.from_residual-in_err-end_change.ensures ∙ ap Err logged in
     let (now, goes, same) = broken-on old.tracer.proof new.tracer.proof (step_faults error) s.proof q.same fails in (
       broken now words s,
       subst (λ r. Assumes s c.args.lits.now r (broken now words s)) (sym refused)
           (assumes-broken error s (broken now words s) c.args.lits.now (rw is at c.assume_list-assumed.ensures.unstored)
-          (λ f. broken-open old.tracer.proof new.tracer.proof s.variables s.told s.proof (proof-fits q ok)
+          (λ f. broken-open old.tracer.proof new.tracer.proof s.variables s.logged s.proof (proof-fits q ok)
           (subst (λ n. BreaksProof old.tracer.proof n new.tracer.proof) f fails)) free
           (may-constrain _ s q ok c.args.lits.now c.in_ok-check_names.ensures.0 c.in_ok-check_names.ensures.1)
           (broken-invalid (step_faults error) s now words (stands-valid _ s q ok) goes)),
@@ -121,7 +121,7 @@ returns-then-bars_assumptions-clause-call g c s st =
       s,
       (
         stands-valid _ s q ok,
-        barred-there _ s.variables s.told s.proof c.bars_assumptions.result (proof-fits q ok) c.bars_assumptions.ensures c.if-bars_assumptions.true,
+        barred-there _ s.variables s.logged s.proof c.bars_assumptions.result (proof-fits q ok) c.bars_assumptions.ensures c.if-bars_assumptions.true,
         refl,
       ),
       st,
@@ -133,46 +133,46 @@ returns-then-bars_assumptions-clause-target g c = refused-unwritten c.args.self.
 pub returns-in_err-check_names-clause-target : goal.returns-in_err-check_names-clause-target
 returns-in_err-check_names-clause-target g c =
     let e = c.in_err-check_names.field-0.0 in
-    let refused = told-error c.from_residual-in_err-check_names.result e c.from_residual-in_err-check_names.ensures in
+    let refused = logged-error c.from_residual-in_err-check_names.result e c.from_residual-in_err-check_names.ensures in
     rw refused (names-unwritten c.args.self.now.opened c.self.inside.tracer.tables c.args.lits.now e c.in_err-check_names.ensures)
 
 pub returns-clause-target : goal.returns-clause-target
 returns-clause-target g c =
     let (is, counted) = c.in_ok-end_change.ensures in
-    let tells = rw is at c.assume_list-assumed.ensures.told in
-    rw (← c.self.view_is) (tells-writes c.self.inside.tracer.proof c.assume_list-assumed.new.tracer.proof tells)
+    let logs = rw is at c.assume_list-assumed.ensures.logged in
+    rw (← c.self.view_is) (logs-writes c.self.inside.tracer.proof c.assume_list-assumed.new.tracer.proof logs)
 
 pub returns-in_err-end_change-clause-target : goal.returns-in_err-end_change-clause-target
 returns-in_err-end_change-clause-target g c =
-    let (error, is, told, made, count) = c.in_err-end_change.ensures in
+    let (error, is, logged, made, count) = c.in_err-end_change.ensures in
     let fails = rw is at c.assume_list-assumed.ensures.broken in
     let old = c.self.inside.tracer.proof in
     let new = c.assume_list-assumed.new.tracer.proof in
-    let refused = told-error c.from_residual-in_err-end_change.result c.in_err-end_change.field-0.0 c.from_residual-in_err-end_change.ensures in
+    let refused = logged-error c.from_residual-in_err-end_change.result c.in_err-end_change.field-0.0 c.from_residual-in_err-end_change.ensures in
     rw refused (rw (← c.self.view_is)
-    (subst (λ e. WritesUpTo (told_faults e) old.opened new.opened) (sym told) (breaks-writes old new error fails)))
+    (subst (λ e. WritesUpTo (returned_faults e) old.opened new.opened) (sym logged) (breaks-writes old new error fails)))
 
 pub returns-in_err-check_names-clause-last : goal.returns-in_err-check_names-clause-last
 returns-in_err-check_names-clause-last g c cause f =
     let e = c.in_err-check_names.field-0.0 in
     absurd (names-not-broken c.self.inside.tracer.tables c.args.lits.now e cause c.in_err-check_names.ensures
-    (same-error e (ProofIoError cause) (sym (told-error c.from_residual-in_err-check_names.result e c.from_residual-in_err-check_names.ensures) ∙ f)))
+    (same-error e (ProofIoError cause) (sym (logged-error c.from_residual-in_err-check_names.result e c.from_residual-in_err-check_names.ensures) ∙ f)))
 
 pub returns-in_err-end_change-clause-last : goal.returns-in_err-end_change-clause-last
 returns-in_err-end_change-clause-last g c cause f =
-    let (error, is, told, made, count) = c.in_err-end_change.ensures in
+    let (error, is, logged, made, count) = c.in_err-end_change.ensures in
     let last = rw is at c.assume_list-assumed.ensures.last in
     let e = c.in_err-end_change.field-0.0 in
-    let refused = told-error c.from_residual-in_err-end_change.result e c.from_residual-in_err-end_change.ensures in
-    rw made (last (broken-not-memory error cause (sym told ∙ same-error e (ProofIoError cause) (sym refused ∙ f))))
+    let refused = logged-error c.from_residual-in_err-end_change.result e c.from_residual-in_err-end_change.ensures in
+    rw made (last (broken-not-memory error cause (sym logged ∙ same-error e (ProofIoError cause) (sym refused ∙ f))))
 
 pub returns-in_err-ensure_valid-clause-call : goal.returns-in_err-ensure_valid-clause-call
 returns-in_err-ensure_valid-clause-call g c s st =
     let q = rw (← c.self.view_is) at st in
-    let refused = invalid-told c.from_residual.result c.in_err-ensure_valid.field-0.0 c.from_residual.ensures c.in_err-ensure_valid.ensures.0 in
+    let refused = invalid-logged c.from_residual.result c.in_err-ensure_valid.field-0.0 c.from_residual.ensures c.in_err-ensure_valid.ensures.0 in
     (s, subst (λ r. Assumes s c.args.lits.now r s) (sym refused) (stands-invalid _ s q (ap not c.in_err-ensure_valid.ensures.1), refl), st)
 
 pub returns-in_err-ensure_valid-clause-target : goal.returns-in_err-ensure_valid-clause-target
 returns-in_err-ensure_valid-clause-target g c =
-    let refused = invalid-told c.from_residual.result c.in_err-ensure_valid.field-0.0 c.from_residual.ensures c.in_err-ensure_valid.ensures.0 in
+    let refused = invalid-logged c.from_residual.result c.in_err-ensure_valid.field-0.0 c.from_residual.ensures c.in_err-ensure_valid.ensures.0 in
     rw refused (refused-unwritten c.args.self.now.opened Invalid refl)

@@ -9,7 +9,7 @@ invariant_of-self g c v =
     let k = (c.self.invariant v).kept in
     record {
       kept = k;
-      tells = (c.self.invariant v).tells;
+      logs = (c.self.invariant v).logs;
       stands = (c.self.invariant v).stands;
       counts =
           since-now c.steps-self-inside.result c.self.inside.ctx c.steps-self-inside.ensures.steps k.ready c.steps-self-inside.ensures.plan;

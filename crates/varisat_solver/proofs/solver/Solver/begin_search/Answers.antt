@@ -8,7 +8,7 @@ invariant_of-self g c v =
     let k = c.self.invariant v in
     record {
       kept = kept-verdict c.self.inside.tracer.tables c.self.inside.ctx _ refl k.kept;
-      tells = k.tells;
+      logs = k.logs;
       counts = record {
         low = k.counts.low;
         few = k.counts.few;

@@ -1,7 +1,7 @@
 use Rattle.std.proofs.Common.{◌≡◌, ◌∙◌, length, None, Ok, Err, true, false, not, refl, sym, ap, subst}
 use Rattle.std.specs.declared.io.Error.{Error}
 use Rattle.varisat_proof.specs.Proving.{ProofParts, is_there, IsClosed}
-use Rattle.varisat_tracer.specs.Tracing.{tracer_state, CanTell}
+use Rattle.varisat_tracer.specs.Tracing.{tracer_state, CanLog}
 use Rattle.varisat_solver.specs.OpenProofs.{opened_state}
 use Rattle.varisat_solver.specs.declared.solver.SolverError.{SolverError}
 use Rattle.varisat_solver.specs.declared.solver.SolverError.TheVariants.{ProofIoError}
@@ -13,18 +13,18 @@ use Rattle.varisat_solver.proofs.CallStates.{stands-valid, broken, broken-invali
 use Rattle.varisat_solver.proofs.ChangeEnds.{stands-broken}
 use Rattle.varisat_solver.proofs.OpenProofs.{closed-back, closed-fails}
 use Rattle.varisat_solver.proofs.SettingsCalls.{stands-with-proof}
-use Rattle.varisat_solver.proofs.ToldJournals.{proof-of}
+use Rattle.varisat_solver.proofs.LoggedJournals.{proof-of}
 use Rattle.varisat_solver.proofs.solver.Solver.close_proof.Goals as goal
 
 pub close_proof-requires : goal.close_proof-requires
-close_proof-requires g c = (c.self.invariant c.if-self.false).tells.room
+close_proof-requires g c = (c.self.invariant c.if-self.false).logs.room
 
 pub invariant_of-self-in-Ok : goal.invariant_of-self-in-Ok
 invariant_of-self-in-Ok g c v =
     let k = c.self.invariant v in
     record {
       kept = k.kept;
-      tells = subst CanTell (sym c.close_proof.ensures.closed) (record { room = tt; usable = k.tells.usable });
+      logs = subst CanLog (sym c.close_proof.ensures.closed) (record { room = tt; usable = k.logs.usable });
       stands = subst (λ (p : ProofParts). StandsForSome (spaces_with c.self.inside.tracer.tables p.checker c.self.inside.ctx)
           c.self.inside.started) (sym c.close_proof.ensures.closed) k.stands;
       counts = k.counts;
@@ -67,7 +67,7 @@ returns-in-Err-clause-call g c s st =
     let none = c.close_proof.ensures.closed in
     let closed = subst (λ o. IsClosed g.W.ProofTarget.taken o (Err (c.in-Err.cause, c.in-Err.target))) q.same c.in-Err.ensures.taken in (
       broken None words s,
-      subst (λ e. ClosesProof g.W.ProofTarget.taken s (Err (e, c.in-Err.target)) (broken None words s)) (sym c.invalidate.ensures.told) (
+      subst (λ e. ClosesProof g.W.ProofTarget.taken s (Err (e, c.in-Err.target)) (broken None words s)) (sym c.invalidate.ensures.logged) (
         closed-fails g.W.ProofTarget.taken (opened_state s.proof) c.in-Err.cause
             (ProofIoError c.in-Err.cause) c.in-Err.target closed,
         proof-of _ s q ok,

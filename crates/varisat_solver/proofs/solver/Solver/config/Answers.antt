@@ -6,7 +6,7 @@ use Rattle.varisat_solver.specs.Calls.{with_update, Configures}
 use Rattle.varisat_solver.proofs.CallStates.{stands-valid}
 use Rattle.varisat_solver.proofs.SettingsCalls.{stands-updated, stands-same, kept-updated}
 use Rattle.varisat_solver.proofs.SinceSteps.{since-now}
-use Rattle.varisat_solver.proofs.ChangeEnds.{stands-invalid, invalid-told}
+use Rattle.varisat_solver.proofs.ChangeEnds.{stands-invalid, invalid-logged}
 use Rattle.varisat_solver.proofs.solver.Solver.config.Goals as goal
 
 pub returns : goal.returns
@@ -42,12 +42,12 @@ invariant_of-self-2 g c v =
       stands = subst (λ (z : Context g.row.A.Denot). StandsForSome
           (spaces_with c.self.inside.tracer.tables c.self.inside.tracer.proof.checker z) c.self.inside.started) (sym e.1)
           (c.self.invariant c.in_ok-ensure_valid.ensures).stands;
-      tells = (c.self.invariant c.in_ok-ensure_valid.ensures).tells;
+      logs = (c.self.invariant c.in_ok-ensure_valid.ensures).logs;
       counts = since-now c.steps-self-inside.result y c.steps-self-inside.ensures.steps ready c.steps-self-inside.ensures.plan;
     }
 
 pub returns-in_err-ensure_valid : goal.returns-in_err-ensure_valid
 returns-in_err-ensure_valid g c s st =
     let q = rw (← c.self.view_is) at st in
-    let refused = invalid-told c.from_residual.result c.in_err-ensure_valid.field-0.0 c.from_residual.ensures c.in_err-ensure_valid.ensures.0 in
+    let refused = invalid-logged c.from_residual.result c.in_err-ensure_valid.field-0.0 c.from_residual.ensures c.in_err-ensure_valid.ensures.0 in
     (s, subst (λ r. Configures s c.args.update.now r s) (sym refused) (stands-invalid _ s q (ap not c.in_err-ensure_valid.ensures.1), refl), st)

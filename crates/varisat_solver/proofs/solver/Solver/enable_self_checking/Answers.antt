@@ -5,8 +5,8 @@ use Rattle.varisat_solver.specs.Summaries.{Summary}
 use Rattle.varisat_solver.specs.Calls.{count_anew}
 use Rattle.varisat_solver.specs.ProofCalls.{EnablesChecking}
 use Rattle.varisat_solver.proofs.CallStates.{stands-valid}
-use Rattle.varisat_solver.proofs.SettingsCalls.{begun-or-on, some-there, tells-checking, some-checking, with_checking, stands-checking}
-use Rattle.varisat_solver.proofs.ChangeEnds.{stands-invalid, invalid-told}
+use Rattle.varisat_solver.proofs.SettingsCalls.{begun-or-on, some-there, logs-checking, some-checking, with_checking, stands-checking}
+use Rattle.varisat_solver.proofs.ChangeEnds.{stands-invalid, invalid-logged}
 use Rattle.varisat_solver.proofs.solver.Solver.enable_self_checking.Goals as goal
 
 pub invariant_of-self : goal.invariant_of-self
@@ -17,7 +17,7 @@ invariant_of-self g c v =
     let (e, runs) = begun-or-on p q c.begin_checking.ensures.begun c.begin_checking.ensures.stays in
     record {
       kept = k.kept;
-      tells = tells-checking p q e k.tells;
+      logs = logs-checking p q e k.logs;
       stands = some-checking c.self.inside.tracer.tables p q c.self.inside.ctx c.self.inside.started e c.if-is_late.false k.stands;
       counts = k.counts;
     }
@@ -43,5 +43,5 @@ returns-clause-runs g c h =
 pub returns-in_err-ensure_valid-clause-call : goal.returns-in_err-ensure_valid-clause-call
 returns-in_err-ensure_valid-clause-call g c s st =
     let q = rw (← c.self.view_is) at st in
-    let refused = invalid-told c.from_residual.result c.in_err-ensure_valid.field-0.0 c.from_residual.ensures c.in_err-ensure_valid.ensures.0 in
+    let refused = invalid-logged c.from_residual.result c.in_err-ensure_valid.field-0.0 c.from_residual.ensures c.in_err-ensure_valid.ensures.0 in
     (s, subst (λ r. EnablesChecking s r s) (sym refused) (stands-invalid _ s q (ap not c.in_err-ensure_valid.ensures.1), refl), st)

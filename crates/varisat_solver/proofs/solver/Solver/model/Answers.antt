@@ -1,9 +1,9 @@
 use Rattle.std.proofs.Common.{◌≡◌, ◌∙◌, length, not, refl, sym, ap, subst, inl, Some}
-use Rattle.varisat_solver.specs.Calls.{calling}
+use Rattle.varisat_solver.specs.Calls.{by_state}
 use Rattle.varisat_solver.specs.Models.{IsCompletable}
 use Rattle.varisat_solver.specs.Summaries.{list_tables}
 use Rattle.varisat_solver.proofs.CallStates.{stands-valid}
-use Rattle.varisat_solver.proofs.SolverCalls.{sat-model, tells-error}
+use Rattle.varisat_solver.proofs.SolverCalls.{sat-model, logs-error}
 use Rattle.varisat_solver.proofs.solver.Solver.model.Goals as goal
 
 pub returns-in_ok-list-in-Sat-clause-call : goal.returns-in_ok-list-in-Sat-clause-call
@@ -18,14 +18,14 @@ returns-in_ok-list-in-Sat-clause-completable g c m e s st =
     let q = rw (← c.self.view_is) at st in
     let t = c.self.inside.tracer.tables in
     let same = c.in_ok-list-in-Sat.ensures ∙ ap (λ vs. list_tables t vs 0 (length t.users.forward)) c.assignment-values.ensures in
-    let told : c.in_ok-list-in-Sat.list.items ≡ m = cc in
-    subst (IsCompletable s.naming s.clauses s.assumptions s.counted) (sym same ∙ told) (sat-model _ s q (ap not c.if-self.false) c.in-Sat.is).1
+    let logged : c.in_ok-list-in-Sat.list.items ≡ m = cc in
+    subst (IsCompletable s.naming s.clauses s.assumptions s.counted) (sym same ∙ logged) (sat-model _ s q (ap not c.if-self.false) c.in-Sat.is).1
 
 pub returns-in_err-list-in-Sat-clause-call : goal.returns-in_err-list-in-Sat-clause-call
 returns-in_err-list-in-Sat-clause-call g c s st =
     let q = rw (← c.self.view_is) at st in (
       s,
-      tells-error (calling.model s) s _ c.from_residual.result c.from_residual.ensures.0 (stands-valid _ s q (ap not c.if-self.false))
+      logs-error (by_state.model s) s _ c.from_residual.result c.from_residual.ensures.0 (stands-valid _ s q (ap not c.if-self.false))
           (sym (sat-model _ s q (ap not c.if-self.false) c.in-Sat.is).0),
       st,
     )

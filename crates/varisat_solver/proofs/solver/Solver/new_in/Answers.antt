@@ -8,7 +8,7 @@ use Rattle.varisat_search.specs.declared.context.Context.{Context}
 use Rattle.varisat_search.specs.declared.state.SatState.TheVariants as verdict
 use Rattle.varisat_search.specs.Seen.{search_of, first_search}
 use Rattle.varisat_clause.specs.Stores.{Store}
-use Rattle.varisat_tracer.specs.Tracing.{CanTell}
+use Rattle.varisat_tracer.specs.Tracing.{CanLog}
 use Rattle.varisat_solver.specs.States.{empty_state}
 use Rattle.varisat_solver.specs.Spaces.{SpacesFit}
 use Rattle.varisat_solver.specs.Summaries.{spaces_of, spaces_with, StandsForSome}
@@ -55,7 +55,7 @@ invariant_of-result g c _ =
     let e = c.new_in.ensures in
     record {
       kept = first-kept c.new_in-2.result.tables c.new_in.result c.new_in-2.ensures.variables e.ready e.empty e.assumptions e.none_decidable;
-      tells = subst CanTell (sym c.new_in-2.ensures.proof) (record { room = tt; usable = tt });
+      logs = subst CanLog (sym c.new_in-2.ensures.proof) (record { room = tt; usable = tt });
       stands = begun c.new_in-2.result.tables c.new_in-2.result.proof c.new_in.result c.new_in-2.ensures.variables c.new_in-2.ensures.proof
           c.new_in.ensures.assumptions (ap (λ (x : SolverState). x.sat_state) c.new_in.ensures.state) c.new_in.ensures.seen c.new_in.ensures.empty;
       counts = since-now 0 c.new_in.result (ap (λ (x : Plan). x.steps) (sym e.schedule)) e.ready (subst IsPlan (sym e.schedule) first-plan-is);

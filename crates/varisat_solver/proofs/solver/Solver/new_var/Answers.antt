@@ -13,10 +13,10 @@ use Rattle.varisat_solver.proofs.AcceptClause.{with_tables, ledger-free}
 use Rattle.varisat_search.proofs.KeptNames.{given-keeps}
 use Rattle.varisat_solver.proofs.TableMarks.{is-there, there-is, assumed-keeps, marked-keeps}
 use Rattle.varisat_solver.proofs.VariableMoves.{given-most, tables-in-use}
-use Rattle.varisat_solver.proofs.CallStates.{ledger-is, none-since, stands-valid, proof-fits, flags-started, like-varied, broken, broken-untold}
+use Rattle.varisat_solver.proofs.CallStates.{ledger-is, none-since, stands-valid, proof-fits, flags-started, like-varied, broken, broken-unlogged}
 use Rattle.varisat_solver.proofs.OpenProofs.{goes-on-none, fits-alike, lines-of-entries, written-alike}
-use Rattle.varisat_solver.proofs.Additions.{told-error}
-use Rattle.varisat_solver.proofs.ChangeEnds.{kept-changed, stands-broken, stands-invalid, invalid-told}
+use Rattle.varisat_solver.proofs.Additions.{logged-error}
+use Rattle.varisat_solver.proofs.ChangeEnds.{kept-changed, stands-broken, stands-invalid, invalid-logged}
 use Rattle.varisat_solver.proofs.SettingsCalls.{summary_of, stands-same}
 use Rattle.varisat_solver.proofs.SolverCalls.{least-free, named-alone, new-named}
 use Rattle.varisat_solver.proofs.solver.Solver.new_var.Given.{Over}
@@ -64,7 +64,7 @@ invariant_of-self-2 g c v =
       marked = λ l y h f. let (z, e) = there-is (at old.users.forward (variable_of l)) (k.assumed l h) in
           marked-keeps old new (variable_of l) y z c.prove_linked.ensures keeps e (k.marked l z h e) f;
       working = λ l h. assumed-keeps old new (variable_of l) c.prove_linked.ensures keeps (k.working l h);
-    }) i.tells (
+    }) i.logs (
     let (s, f, fresh) = i.stands in
     let (variables, keep, fits) = new-named
     (summary_of (tracer_state c.self.inside.tracer) c.self.inside.started c.self.inside.changed_at c.self.inside.ctx) s new u x f
@@ -93,7 +93,7 @@ returns g c s st =
         least-free old s u f t.least,
         omega
             (arith, same, c.index.ensures.index, c.max_count.ensures, c.if-index-max_count.false),
-        like-varied (start named) variables s.words (lines-of-entries s.variables variables s.told alike),
+        like-varied (start named) variables s.words (lines-of-entries s.variables variables s.logged alike),
       ),
       stands-same (record { tables = new; proof = inside.tracer.proof }) true c.end_change.new.changed_at inside.ctx c.end_change.new.ctx
           (start (with_variables variables named)) counted.same (record {
@@ -106,7 +106,7 @@ returns g c s st =
             );
             words = q.words;
             same = q.same;
-            written = λ v. (fits-alike _ s.variables variables s.told s.proof alike (proof-fits q v)).written;
+            written = λ v. (fits-alike _ s.variables variables s.logged s.proof alike (proof-fits q v)).written;
             bounded = λ _. still-bounded g (goal.at.returns g c).In_ok-user;
             flags = λ v. flags-started s (start (with_variables variables named)) (q.flags v) refl refl (goes-on-none s.proof);
           }),
@@ -114,18 +114,18 @@ returns g c s st =
 
 pub returns-in_err-user : goal.returns-in_err-user
 returns-in_err-user g c s st =
-    let (error, is, told, made, count) = c.in_err-user.ensures in
+    let (error, is, logged, made, count) = c.in_err-user.ensures in
     let q = rw (← c.self.view_is) at st in
     let inside = c.self.inside in
     let f = q.fits (ap not c.in_ok-ensure_valid.ensures) in
     let words = length inside.ctx.clause_alloc.words in
     let least = least-free (summary_of (tracer_state inside.tracer) inside.started inside.changed_at inside.ctx) s
     c.next_unmapped_user-next.result f c.next_unmapped_user-next.ensures.least in
-    let refused = told-error c.from_residual-in_err-user.result c.in_err-user.field-0.0 c.from_residual-in_err-user.ensures ∙ ap Err told in (
+    let refused = logged-error c.from_residual-in_err-user.result c.in_err-user.field-0.0 c.from_residual-in_err-user.ensures ∙ ap Err logged in (
       broken s.proof words s,
       subst (λ r. MakesVar s r (broken s.proof words s)) (sym refused) (
         (c.next_unmapped_user-next.result, least, omega (arith, c.index.ensures.index, c.max_count.ensures, c.if-index-max_count.false)),
-        broken-untold s words (stands-valid _ s q (ap not c.in_ok-ensure_valid.ensures)),
+        broken-unlogged s words (stands-valid _ s q (ap not c.in_ok-ensure_valid.ensures)),
       ),
       stands-broken (tracer_state inside.tracer) (record { tables = c.new_user_var-made.new.variables; proof = inside.tracer.proof })
           inside.started inside.changed_at c.end_change.new.changed_at inside.ctx inside.ctx c.end_change.new.ctx s s.proof q made count
@@ -166,5 +166,5 @@ returns-then-index-max_count g c s st =
 pub returns-in_err-ensure_valid : goal.returns-in_err-ensure_valid
 returns-in_err-ensure_valid g c s st =
     let q = rw (← c.self.view_is) at st in
-    let refused = invalid-told c.from_residual.result c.in_err-ensure_valid.field-0.0 c.from_residual.ensures c.in_err-ensure_valid.ensures.0 in
+    let refused = invalid-logged c.from_residual.result c.in_err-ensure_valid.field-0.0 c.from_residual.ensures c.in_err-ensure_valid.ensures.0 in
     (s, subst (λ r. MakesVar s r s) (sym refused) (stands-invalid _ s q (ap not c.in_err-ensure_valid.ensures.1), refl), st)

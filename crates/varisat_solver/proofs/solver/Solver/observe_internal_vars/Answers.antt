@@ -2,11 +2,11 @@ use Rattle.std.proofs.Common.{◌∙◌, not, sym, subst, ap, refl, length, Err}
 use Rattle.varisat_solver.specs.States.{Ledger}
 use Rattle.varisat_solver.specs.Calls.{with_naming, count_anew}
 use Rattle.varisat_solver.specs.Usage.{Observes}
-use Rattle.varisat_solver.specs.Told.{told_vars}
+use Rattle.varisat_solver.specs.ReturnedLists.{returned_variables}
 use Rattle.varisat_solver.proofs.AcceptClause.{ledger-free}
-use Rattle.varisat_solver.proofs.Additions.{told-error}
-use Rattle.varisat_solver.proofs.CallStates.{ledger-is, none-since, begins, like-refl, broken, broken-untold}
-use Rattle.varisat_solver.proofs.ChangeEnds.{kept-changed, stands-broken, stands-invalid, invalid-told}
+use Rattle.varisat_solver.proofs.Additions.{logged-error}
+use Rattle.varisat_solver.proofs.CallStates.{ledger-is, none-since, begins, like-refl, broken, broken-unlogged}
+use Rattle.varisat_solver.proofs.ChangeEnds.{kept-changed, stands-broken, stands-invalid, invalid-logged}
 use Rattle.varisat_solver.proofs.VariableChanges.{turns-stay}
 use Rattle.varisat_solver.proofs.SettingsCalls.{summary_of, stands-same}
 use Rattle.varisat_tracer.specs.Tracing.{tracer_state}
@@ -23,7 +23,7 @@ invariant_of-self-2 g c v =
     let us = c.in_ok-names.names.items in
     let shown = rw is at c.observe_internal_vars-shown.ensures.shown in
     kept-changed new inside.tracer.proof inside.ctx c.end_change.new.ctx inside.started c.end_change.new.changed_at counted
-    (kept-after inside.ctx old new i.kept (turns-stay us old new c.prove_linked.ensures i.kept.bounded shown.in_turn).0) i.tells (
+    (kept-after inside.ctx old new i.kept (turns-stay us old new c.prove_linked.ensures i.kept.bounded shown.in_turn).0) i.logs (
     let (s, f, fresh) = i.stands in
     let (m, all, fits) = show-state us (summary_of (tracer_state inside.tracer) inside.started inside.changed_at inside.ctx) s new f
     c.prove_linked.ensures i.kept.bounded shown in (_, fits, fresh)
@@ -67,14 +67,14 @@ returns g c s st =
 
 pub returns-in_err-names : goal.returns-in_err-names
 returns-in_err-names g c s st =
-    let (error, is, told, made, count) = c.in_err-names.ensures in
+    let (error, is, logged, made, count) = c.in_err-names.ensures in
     let q = rw (← c.self.view_is) at st in
     let k = begins q (ap not c.in_ok-ensure_valid.ensures) in
     let inside = c.self.inside in
     let words = length inside.ctx.clause_alloc.words in
-    let refused = told-error c.from_residual-in_err-names.result c.in_err-names.field-0.0 c.from_residual-in_err-names.ensures ∙ ap Err told in (
+    let refused = logged-error c.from_residual-in_err-names.result c.in_err-names.field-0.0 c.from_residual-in_err-names.ensures ∙ ap Err logged in (
       broken s.proof words s,
-      subst (λ r. Observes s (told_vars r) (broken s.proof words s)) (sym refused) (broken-untold s words k.valid),
+      subst (λ r. Observes s (returned_variables r) (broken s.proof words s)) (sym refused) (broken-unlogged s words k.valid),
       stands-broken (tracer_state inside.tracer) (record { tables = c.observe_internal_vars-shown.new.variables; proof = inside.tracer.proof })
           inside.started inside.changed_at c.end_change.new.changed_at inside.ctx inside.ctx c.end_change.new.ctx s s.proof q made count
           refl refl refl q.same,
@@ -83,5 +83,5 @@ returns-in_err-names g c s st =
 pub returns-in_err-ensure_valid : goal.returns-in_err-ensure_valid
 returns-in_err-ensure_valid g c s st =
     let q = rw (← c.self.view_is) at st in
-    let refused = invalid-told c.from_residual.result c.in_err-ensure_valid.field-0.0 c.from_residual.ensures c.in_err-ensure_valid.ensures.0 in
-    (s, subst (λ r. Observes s (told_vars r) s) (sym refused) (stands-invalid _ s q (ap not c.in_err-ensure_valid.ensures.1), refl), st)
+    let refused = invalid-logged c.from_residual.result c.in_err-ensure_valid.field-0.0 c.from_residual.ensures c.in_err-ensure_valid.ensures.0 in
+    (s, subst (λ r. Observes s (returned_variables r) s) (sym refused) (stands-invalid _ s q (ap not c.in_err-ensure_valid.ensures.1), refl), st)

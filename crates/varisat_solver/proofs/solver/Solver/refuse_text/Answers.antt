@@ -2,7 +2,7 @@
 use Rattle.std.proofs.Common.{◌∙◌, refl, sym, ap, length, Err}
 use Rattle.varisat_solver.specs.Additions.{MemoryFault, Fault}
 use Rattle.varisat_tracer.specs.Tracing.{tracer_state}
-use Rattle.varisat_solver.proofs.CallStates.{broken, broken-untold}
+use Rattle.varisat_solver.proofs.CallStates.{broken, broken-unlogged}
 use Rattle.varisat_solver.proofs.ChangeEnds.{stands-broken}
 use Rattle.varisat_solver.proofs.solver.Solver.refuse_text.Goals as goal
 
@@ -13,7 +13,7 @@ returns-in-OutOfMemory-clause-call g c s st v =
     let inside = c.self.inside in
     let words = length inside.ctx.clause_alloc.words in (
       broken s.proof words s,
-      MemoryFault c.args.fault refl c.in-OutOfMemory.is (ap Err c.invalidate.ensures.told) (broken-untold s words v),
+      MemoryFault c.args.fault refl c.in-OutOfMemory.is (ap Err c.invalidate.ensures.logged) (broken-unlogged s words v),
       stands-broken (tracer_state inside.tracer) (tracer_state inside.tracer) inside.started inside.changed_at inside.changed_at inside.ctx inside.ctx
           c.invalidate.new.ctx s s.proof q c.invalidate.ensures.invalid refl refl refl refl q.same,
     )

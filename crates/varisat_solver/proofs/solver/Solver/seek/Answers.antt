@@ -6,12 +6,12 @@ use Rattle.varisat_search.specs.declared.state.SolverState.{SolverState}
 use Rattle.varisat_search.specs.Contexts.{view}
 use Rattle.varisat_schedule.specs.CallSteps.{steps_since}
 use Rattle.varisat_tracer.specs.TracerLaws.{checked-runs}
-use Rattle.varisat_solver.specs.Budgets.{told_verdict, CountsSteps}
+use Rattle.varisat_solver.specs.Budgets.{returned_verdict, CountsSteps}
 use Rattle.varisat_solver.specs.States.{State, Ledger}
 use Rattle.varisat_tracer.specs.Tracing.{TracerState, tracer_state, BreaksProof}
 use Rattle.varisat_solver.specs.OpenProofs.{OpenProof, ProofFits, GoesOnWriting}
 use Rattle.varisat_solver.specs.Targets.{WritesUpTo}
-use Rattle.varisat_solver.proofs.Targets.{writes-nothing, refused-unwritten, tells-writes, tells-refused, breaks-writes, refused-full, same-error}
+use Rattle.varisat_solver.proofs.Targets.{writes-nothing, refused-unwritten, logs-writes, logs-refused, breaks-writes, refused-full, same-error}
 use Rattle.varisat_solver.proofs.OpenProofs.{proof-goes-on, broken-open, broken-on}
 use Rattle.varisat_solver.specs.Searches.{answer_at, Turn, turn_of, ComesTo, ComesOn, FindsVerdict}
 use Rattle.varisat_names.specs.Variables.{Tables}
@@ -19,21 +19,21 @@ use Rattle.varisat_proof.specs.Calls.{CheckerState}
 use Rattle.varisat_proof.specs.Proving.{ProofParts}
 use Rattle.varisat_solver.specs.Spaces.{Spaces, SpacesFit}
 use Rattle.varisat_solver.specs.Summaries.{StandsFor, StandsForSome, spaces_of, spaces_with, undecided_spaces}
-use Rattle.varisat_solver.specs.Calls.{calling, with_steps, Searches, IsSpent, TellsVerdict}
+use Rattle.varisat_solver.specs.Calls.{by_state, with_steps, Searches, IsSpent, ReturnsVerdict}
 use Rattle.varisat_solver.specs.declared.solver.SolverError.{SolverError}
 use Rattle.varisat_solver.specs.declared.solver.SolverError.TheVariants.{Interrupted, ClauseStoreFull, Invalid}
 use Rattle.varisat_search.specs.StepErrors.{step_faults}
-use Rattle.varisat_solver.specs.Refusals.{step_refusal, told_faults}
+use Rattle.varisat_solver.specs.Refusals.{step_refusal, returned_faults}
 use Rattle.varisat_solver.proofs.CallStates.{ledger-is, more-since, stands-valid, proof-fits, broken, broken-invalid, searches-broken}
 use Rattle.varisat_solver.proofs.AcceptClause.{few-made}
 use Rattle.varisat_solver.specs.Changes.{invalidated}
 use Rattle.varisat_solver.proofs.SettingsCalls.{summary_of, stands-same}
-use Rattle.varisat_solver.proofs.SolverCalls.{counted-call, was-unknown, sat-model, sat-right, known-told, false-right, false-core, answered-true, answered-false, answered-none}
-use Rattle.varisat_solver.proofs.ToldEntries.{lists-ended, lists-on}
+use Rattle.varisat_solver.proofs.SolverCalls.{counted-call, was-unknown, sat-model, sat-right, known-logged, false-right, false-core, answered-true, answered-false, answered-none}
+use Rattle.varisat_solver.proofs.LoggedEntries.{lists-ended, lists-on}
 use Rattle.varisat_solver.proofs.SolverSteps.{unknown-undecided, after-solve, flags-after, comes-satisfiable, comes-unsatisfiable, comes-fits, comes-verdict, comes-interrupted, interrupted-still}
 use Rattle.varisat_solver.proofs.solver.Solver.seek.Given.{Over}
 use Rattle.varisat_solver.proofs.solver.Solver.seek.Goals.{In-Ok-Some, In-Ok-None}
-use Rattle.varisat_solver.proofs.ChangeEnds.{stands-invalid, invalid-told}
+use Rattle.varisat_solver.proofs.ChangeEnds.{stands-invalid, invalid-logged}
 use Rattle.varisat_solver.proofs.solver.Solver.seek.Goals as goal
 
 -- 1. What the search comes to.
@@ -73,35 +73,35 @@ module _ {A : Type 0} {p q : TracerState} {started : Bool} {changed_at : ℕ} {x
       let e = k.count in
       more-since changed_at s.ledger.steps y.schedule.steps s.ledger.since (omega (arith, low, steps)) (omega (arith, e)) (omega (arith, since, steps))
 
-  goes-on : (now : Option OpenProof) × GoesOnWriting s.proof now × ProofFits q.proof.opened s.variables comes.told now
-  goes-on = proof-goes-on p.proof q.proof s.variables s.variables s.told comes.told s.proof (proof-fits d.stood d.valid) refl comes.proof
+  goes-on : (now : Option OpenProof) × GoesOnWriting s.proof now × ProofFits q.proof.opened s.variables comes.logged now
+  goes-on = proof-goes-on p.proof q.proof s.variables s.variables s.logged comes.logged s.proof (proof-fits d.stood d.valid) refl comes.proof
 
   -- the solver stands for the state that it came to
   stands-after : {r : Result Bool SolverError} → CountsSteps (length s.counted) s.ledger.settings.max_steps s.ledger.since s.ledger.steps
       y.schedule.steps r → StandsFor (summary_of q started changed_at y)
-      (after-solve comes.told comes.verdict y.schedule.steps goes-on.0 (length y.clause_alloc.words) s)
+      (after-solve comes.logged comes.verdict y.schedule.steps goes-on.0 (length y.clause_alloc.words) s)
   stands-after k = record {
     ledger = ledger-is _ _ _ _ _ _ _ (ap (λ (l : Ledger). l.valid) d.stood.ledger
         ∙ ap (λ (b : SolverState). not b.state_is_invalid) (sym d.finds.state)) (ap (λ (l : Ledger). l.started) d.stood.ledger) refl (since-after k)
         (ap (λ (l : Ledger). l.settings) d.stood.ledger ∙ sym d.config)
         (ap (λ (l : Ledger). l.checking) d.stood.ledger
-        ∙ sym (checked-runs p.proof.checker q.proof.checker d.finds.told.0 d.finds.told.1.checked));
+        ∙ sym (checked-runs p.proof.checker q.proof.checker d.finds.logged.0 d.finds.logged.1.checked));
     fits = λ _. comes-fits q.tables y comes y.schedule.steps goes-on.0 (length y.clause_alloc.words);
     words = refl;
     same = goes-on.2.same;
     written = λ _. goes-on.2.written;
-    flags = λ _. flags-after s comes.told comes.verdict y.schedule.steps goes-on.0 (length y.clause_alloc.words) (d.stood.flags d.valid)
-        (lists-on s.told comes.told comes.more (lists-ended comes.verdict comes.more.entries comes.ends)) goes-on.1;
+    flags = λ _. flags-after s comes.logged comes.verdict y.schedule.steps goes-on.0 (length y.clause_alloc.words) (d.stood.flags d.valid)
+        (lists-on s.logged comes.logged comes.more (lists-ended comes.verdict comes.more.entries comes.ends)) goes-on.1;
     bounded = λ _. d.finds.kept.bounded;
   }
 
 -- a verdict was found
 found-call : {A : Type 0} {p q : TracerState} {started : Bool} {changed_at : ℕ} {x y : Context A} {b : Bool} {s : State}
     (d : Sought p q started changed_at x y (Some b) s) → CountsSteps
-    (length s.counted) s.ledger.settings.max_steps s.ledger.since s.ledger.steps y.schedule.steps (Ok b) → (t : State) × TellsVerdict calling s b t
+    (length s.counted) s.ledger.settings.max_steps s.ledger.since s.ledger.steps y.schedule.steps (Ok b) → (t : State) × ReturnsVerdict by_state s b t
     × StandsFor (summary_of q started changed_at y) t
 found-call {p = p} {q = q} {started = started} {changed_at = changed_at} {x = x} {y = y} {b = b} {s = s} d k = (
-  after-solve (comes d).told (comes d).verdict y.schedule.steps (goes-on d).0 (length y.clause_alloc.words) s,
+  after-solve (comes d).logged (comes d).verdict y.schedule.steps (goes-on d).0 (length y.clause_alloc.words) s,
   comes-verdict q.tables y (comes d) y.schedule.steps (goes-on d).0 (length y.clause_alloc.words) b
       (stands-valid (summary_of p started changed_at x) s d.stood d.valid)
       (was-unknown (summary_of p started changed_at x) s d.stood d.valid d.unknown) (turn d) k (sym d.finds.answer) (made d) (goes-on d).1,
@@ -112,15 +112,15 @@ found-call {p = p} {q = q} {started = started} {changed_at = changed_at} {x = x}
 moved-call : {A : Type 0} {p q : TracerState} {started : Bool} {changed_at : ℕ} {x y : Context A} {s : State}
     (d : Sought p q started changed_at x y None s) → CountsSteps
     (length s.counted) s.ledger.settings.max_steps s.ledger.since s.ledger.steps y.schedule.steps (Err Interrupted) →
-    s.ledger.steps < y.schedule.steps → (t : State) × IsSpent calling s t × StandsFor (summary_of q started changed_at y) t
+    s.ledger.steps < y.schedule.steps → (t : State) × IsSpent by_state s t × StandsFor (summary_of q started changed_at y) t
 moved-call {p = p} {q = q} {started = started} {changed_at = changed_at} {x = x} {y = y} {s = s} d k h =
     let last = answered-none y.solver_state.sat_state (sym d.finds.answer) in
     let unknown = unknown-undecided q.tables q.proof.checker y
-    (after-solve (comes d).told (comes d).verdict y.schedule.steps (goes-on d).0 (length y.clause_alloc.words) s)
+    (after-solve (comes d).logged (comes d).verdict y.schedule.steps (goes-on d).0 (length y.clause_alloc.words) s)
     (subst (λ b. SpacesFit (spaces_of q.tables q.proof.checker (view y) y.assumptions b)
-    (after-solve (comes d).told (comes d).verdict y.schedule.steps (goes-on d).0 (length y.clause_alloc.words) s)) last
+    (after-solve (comes d).logged (comes d).verdict y.schedule.steps (goes-on d).0 (length y.clause_alloc.words) s)) last
     (comes-fits q.tables y (comes d) y.schedule.steps (goes-on d).0 (length y.clause_alloc.words))) in (
-      after-solve (comes d).told (comes d).verdict y.schedule.steps (goes-on d).0 (length y.clause_alloc.words) s,
+      after-solve (comes d).logged (comes d).verdict y.schedule.steps (goes-on d).0 (length y.clause_alloc.words) s,
       comes-interrupted q.tables y (comes d) y.schedule.steps (goes-on d).0 (length y.clause_alloc.words)
           (stands-valid (summary_of p started changed_at x) s d.stood d.valid)
           (was-unknown (summary_of p started changed_at x) s d.stood d.valid d.unknown) (turn d) k unknown (made d) (λ e. omega (arith, h, e)) (goes-on d).1,
@@ -131,7 +131,7 @@ moved-call {p = p} {q = q} {started = started} {changed_at = changed_at} {x = x}
 still-call : {A : Type 0} {p q : TracerState} {started : Bool} {changed_at : ℕ} {x y : Context A} {s : State}
     (d : Sought p q started changed_at x y None s) → CountsSteps
     (length s.counted) s.ledger.settings.max_steps s.ledger.since s.ledger.steps y.schedule.steps (Err Interrupted) →
-    y.schedule.steps ≡ s.ledger.steps → (t : State) × IsSpent calling s t × StandsFor (summary_of q started changed_at y) t
+    y.schedule.steps ≡ s.ledger.steps → (t : State) × IsSpent by_state s t × StandsFor (summary_of q started changed_at y) t
 still-call {A} {p} {q} {started} {changed_at} {x} {y} {s} d k e =
     let (same, parts) = d.finds.still (e ∙ ap (λ (l : Ledger). l.steps) d.stood.ledger) in (
       s,
@@ -145,7 +145,7 @@ still-call {A} {p} {q} {started} {changed_at} {x} {y} {s} d k e =
 spent-call : {A : Type 0} {p q : TracerState} {started : Bool} {changed_at : ℕ} {x y : Context A} {s : State}
     (d : Sought p q started changed_at x y None s) → CountsSteps
     (length s.counted) s.ledger.settings.max_steps s.ledger.since s.ledger.steps y.schedule.steps (Err Interrupted) → (t : State)
-    × IsSpent calling s t × StandsFor (summary_of q started changed_at y) t
+    × IsSpent by_state s t × StandsFor (summary_of q started changed_at y) t
 spent-call {A} {p} {q} {started} {changed_at} {x} {y} {s} d k =
     ⊎_elim (λ (h : s.ledger.steps < y.schedule.steps). moved-call d k h)
     (λ (h : y.schedule.steps ≤ s.ledger.steps). still-call d k (let e = k.count in omega (arith, e, h))) (cases_lt s.ledger.steps y.schedule.steps)
@@ -200,7 +200,7 @@ invariant_of-self g c _ =
       stands = on f.stands (begins c.self.inside.tracer.tables c.self.inside.tracer.proof.checker c.self.inside.started c.self.inside.ctx
           c.in-Unknown.is (c.self.invariant c.in_ok-ensure_valid.ensures).stands);
       kept = f.kept;
-      tells = f.tells;
+      logs = f.logs;
       counts =
           c.in-Ok-Some.ensures.since c.self.inside.changed_at (c.self.invariant c.in_ok-ensure_valid.ensures).counts;
     }
@@ -212,7 +212,7 @@ invariant_of-self-in-Ok-None g c _ =
       stands = on f.stands (begins c.self.inside.tracer.tables c.self.inside.tracer.proof.checker c.self.inside.started c.self.inside.ctx
           c.in-Unknown.is (c.self.invariant c.in_ok-ensure_valid.ensures).stands);
       kept = f.kept;
-      tells = f.tells;
+      logs = f.logs;
       counts =
           c.in-Ok-None.ensures.since c.self.inside.changed_at (c.self.invariant c.in_ok-ensure_valid.ensures).counts;
     }
@@ -220,7 +220,7 @@ invariant_of-self-in-Ok-None g c _ =
 pub returns-in-Sat-clause-call : goal.returns-in-Sat-clause-call
 returns-in-Sat-clause-call g c s st =
     let q = rw (← c.self.view_is) at st in
-    (s, known-told _ s true q (ap not c.in_ok-ensure_valid.ensures) (ap answer_at c.in-Sat.is), st)
+    (s, known-logged _ s true q (ap not c.in_ok-ensure_valid.ensures) (ap answer_at c.in-Sat.is), st)
 
 pub returns-in-Sat-clause-satisfiable : goal.returns-in-Sat-clause-satisfiable
 returns-in-Sat-clause-satisfiable g c e s st = let q = rw (← c.self.view_is) at st in sat-right _ s q (ap not c.in_ok-ensure_valid.ensures) c.in-Sat.is
@@ -232,7 +232,7 @@ returns-in-Sat-clause-model g c e s st =
 
 pub returns-in-Unsat-clause-call : goal.returns-in-Unsat-clause-call
 returns-in-Unsat-clause-call g c s st = let q = rw (← c.self.view_is) at st in
-    (s, known-told _ s false q (ap not c.in_ok-ensure_valid.ensures) (answered-false _ c.in-Unsat.is), st)
+    (s, known-logged _ s false q (ap not c.in_ok-ensure_valid.ensures) (answered-false _ c.in-Unsat.is), st)
 
 pub returns-in-Unsat-clause-unsatisfiable : goal.returns-in-Unsat-clause-unsatisfiable
 returns-in-Unsat-clause-unsatisfiable g c e s st = let q = rw (← c.self.view_is) at st in
@@ -247,9 +247,9 @@ pub returns-in-Ok-Some-clause-call : goal.returns-in-Ok-Some-clause-call
 returns-in-Ok-Some-clause-call g c s st =
     let q = rw (← c.self.view_is) at st in
     found-call (sought-some g c s q)
-    (counted-call _ s c.max_steps-max_steps.result c.find_verdict.new.ctx.schedule.steps (told_verdict c.find_verdict.result)
+    (counted-call _ s c.max_steps-max_steps.result c.find_verdict.new.ctx.schedule.steps (returned_verdict c.find_verdict.result)
     (Ok c.in-Ok-Some.found) q (ap not c.in_ok-ensure_valid.ensures) c.max_steps-max_steps.ensures
-    (ap told_verdict (c.in-Ok-Some.is ∙ ap Ok c.in-Ok-Some.field-0-is))
+    (ap returned_verdict (c.in-Ok-Some.is ∙ ap Ok c.in-Ok-Some.field-0-is))
     (λ m h. c.find_verdict.ensures.counted m c.self.inside.changed_at h (c.self.invariant c.in_ok-ensure_valid.ensures).counts))
 
 pub returns-in-Ok-Some-clause-satisfiable : goal.returns-in-Ok-Some-clause-satisfiable
@@ -284,8 +284,8 @@ pub returns-in-Ok-None-clause-call : goal.returns-in-Ok-None-clause-call
 returns-in-Ok-None-clause-call g c s st =
     let q = rw (← c.self.view_is) at st in
     spent-call (sought-none g c s q)
-    (counted-call _ s c.max_steps-max_steps.result c.find_verdict.new.ctx.schedule.steps (told_verdict c.find_verdict.result) (Err Interrupted) q
-    (ap not c.in_ok-ensure_valid.ensures) c.max_steps-max_steps.ensures (ap told_verdict (c.in-Ok-None.is ∙ ap Ok c.in-Ok-None.field-0-is))
+    (counted-call _ s c.max_steps-max_steps.result c.find_verdict.new.ctx.schedule.steps (returned_verdict c.find_verdict.result) (Err Interrupted) q
+    (ap not c.in_ok-ensure_valid.ensures) c.max_steps-max_steps.ensures (ap returned_verdict (c.in-Ok-None.is ∙ ap Ok c.in-Ok-None.field-0-is))
     (λ m h. c.find_verdict.ensures.counted m c.self.inside.changed_at h (c.self.invariant c.in_ok-ensure_valid.ensures).counts))
 
 pub returns-in-Err-clause-call : goal.returns-in-Err-clause-call
@@ -295,8 +295,8 @@ returns-in-Err-clause-call g c s st =
     let was = was-unknown _ s q ok c.in-Unknown.is in
     let n = c.find_verdict.new.ctx.schedule.steps in
     let since = (c.self.invariant c.in_ok-ensure_valid.ensures).counts in
-    let counts = counted-call _ s c.max_steps-max_steps.result n (told_verdict c.find_verdict.result)
-    (Err (step_refusal c.in-Err.error)) q ok c.max_steps-max_steps.ensures (ap told_verdict c.in-Err.is)
+    let counts = counted-call _ s c.max_steps-max_steps.result n (returned_verdict c.find_verdict.result)
+    (Err (step_refusal c.in-Err.error)) q ok c.max_steps-max_steps.ensures (ap returned_verdict c.in-Err.is)
     (λ m h. c.find_verdict.ensures.counted m c.self.inside.changed_at h since) in
     let low = since.low in
     let before = ap (λ (x : Ledger). x.since) q.ledger in
@@ -306,9 +306,9 @@ returns-in-Err-clause-call g c s st =
     let (now, goes, same) = broken-on c.self.inside.tracer.proof c.find_verdict.new.tracer.proof (step_faults c.in-Err.error) s.proof q.same
     c.in-Err.ensures.broken in (
       broken now words (with_steps n s),
-      subst (λ e. Searches s (Err e) (broken now words (with_steps n s))) (sym c.invalidate.ensures.told)
+      subst (λ e. Searches s (Err e) (broken now words (with_steps n s))) (sym c.invalidate.ensures.logged)
           (searches-broken c.in-Err.error s (broken now words (with_steps n s))
-          (λ f. broken-open c.self.inside.tracer.proof c.find_verdict.new.tracer.proof s.variables s.told s.proof (proof-fits q ok)
+          (λ f. broken-open c.self.inside.tracer.proof c.find_verdict.new.tracer.proof s.variables s.logged s.proof (proof-fits q ok)
           (subst (λ k. BreaksProof c.self.inside.tracer.proof k c.find_verdict.new.tracer.proof) f c.in-Err.ensures.broken)) was counts
           (broken-invalid (step_faults c.in-Err.error) (with_steps n s) now words (stands-valid _ s q ok) goes)
           (λ f. let room = c.in-Err.ensures.full f in let size = c.in-Err.ensures.size f in
@@ -343,29 +343,29 @@ returns-in-Unsat-clause-whole g c v = writes-nothing c.args.self.now.opened
 
 pub returns-in-Ok-Some-clause-target : goal.returns-in-Ok-Some-clause-target
 returns-in-Ok-Some-clause-target g c = rw (← c.self.view_is)
-    (tells-writes c.self.inside.tracer.proof c.find_verdict.new.tracer.proof c.in-Ok-Some.ensures.found.told)
+    (logs-writes c.self.inside.tracer.proof c.find_verdict.new.tracer.proof c.in-Ok-Some.ensures.found.logged)
 
 pub returns-in-Ok-Some-clause-whole : goal.returns-in-Ok-Some-clause-whole
 returns-in-Ok-Some-clause-whole g c v = rw (← c.self.view_is)
-    (tells-writes c.self.inside.tracer.proof c.find_verdict.new.tracer.proof c.in-Ok-Some.ensures.found.told)
+    (logs-writes c.self.inside.tracer.proof c.find_verdict.new.tracer.proof c.in-Ok-Some.ensures.found.logged)
 
 pub returns-in-Ok-None-clause-target : goal.returns-in-Ok-None-clause-target
 returns-in-Ok-None-clause-target g c = rw (← c.self.view_is)
-    (tells-refused c.self.inside.tracer.proof c.find_verdict.new.tracer.proof Interrupted refl c.in-Ok-None.ensures.found.told)
+    (logs-refused c.self.inside.tracer.proof c.find_verdict.new.tracer.proof Interrupted refl c.in-Ok-None.ensures.found.logged)
 
 pub returns-in-Ok-None-clause-whole : goal.returns-in-Ok-None-clause-whole
 returns-in-Ok-None-clause-whole g c v = rw (← c.self.view_is)
-    (tells-writes c.self.inside.tracer.proof c.find_verdict.new.tracer.proof c.in-Ok-None.ensures.found.told)
+    (logs-writes c.self.inside.tracer.proof c.find_verdict.new.tracer.proof c.in-Ok-None.ensures.found.logged)
 
 pub returns-in-Err-clause-target : goal.returns-in-Err-clause-target
 returns-in-Err-clause-target g c =
-    rw (← c.self.view_is) (subst (λ e. WritesUpTo (told_faults e) c.self.inside.tracer.proof.opened c.find_verdict.new.tracer.proof.opened)
-    (sym c.invalidate.ensures.told)
+    rw (← c.self.view_is) (subst (λ e. WritesUpTo (returned_faults e) c.self.inside.tracer.proof.opened c.find_verdict.new.tracer.proof.opened)
+    (sym c.invalidate.ensures.logged)
     (breaks-writes c.self.inside.tracer.proof c.find_verdict.new.tracer.proof c.in-Err.error c.in-Err.ensures.broken))
 
 pub returns-in-Err-clause-full : goal.returns-in-Err-clause-full
 returns-in-Err-clause-full g c f =
-    rw c.invalidate.ensures.invalid (c.in-Err.ensures.full (refused-full c.in-Err.error (sym c.invalidate.ensures.told ∙ same-error _ ClauseStoreFull f)))
+    rw c.invalidate.ensures.invalid (c.in-Err.ensures.full (refused-full c.in-Err.error (sym c.invalidate.ensures.logged ∙ same-error _ ClauseStoreFull f)))
 
 -- 4. Which variables left.
 pub returns-in-Ok-Some-clause-leaves : goal.returns-in-Ok-Some-clause-leaves
@@ -377,12 +377,12 @@ returns-in-Ok-None-clause-leaves g c h v n = c.in-Ok-None.ensures.found.leaves (
 pub returns-in_err-ensure_valid-clause-call : goal.returns-in_err-ensure_valid-clause-call
 returns-in_err-ensure_valid-clause-call g c s st =
     let q = rw (← c.self.view_is) at st in
-    let refused = invalid-told c.from_residual.result c.in_err-ensure_valid.field-0.0 c.from_residual.ensures c.in_err-ensure_valid.ensures.0 in
+    let refused = invalid-logged c.from_residual.result c.in_err-ensure_valid.field-0.0 c.from_residual.ensures c.in_err-ensure_valid.ensures.0 in
     (s, subst (λ r. Searches s r s) (sym refused) (stands-invalid _ s q (ap not c.in_err-ensure_valid.ensures.1), refl), st)
 
 pub returns-in_err-ensure_valid-clause-target : goal.returns-in_err-ensure_valid-clause-target
 returns-in_err-ensure_valid-clause-target g c =
-    let refused = invalid-told c.from_residual.result c.in_err-ensure_valid.field-0.0 c.from_residual.ensures c.in_err-ensure_valid.ensures.0 in
+    let refused = invalid-logged c.from_residual.result c.in_err-ensure_valid.field-0.0 c.from_residual.ensures c.in_err-ensure_valid.ensures.0 in
     rw refused (refused-unwritten c.args.self.now.opened Invalid refl)
 
 pub returns-in_err-ensure_valid-clause-whole : goal.returns-in_err-ensure_valid-clause-whole

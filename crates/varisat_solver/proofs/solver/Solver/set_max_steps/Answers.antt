@@ -28,6 +28,6 @@ invariant_of-self g c v =
           (c.config_changed.ensures.ready k.kept.ready) c.config_changed.ensures.decidable k.kept;
       stands = subst (λ (z : Context g.row.A.Denot). StandsForSome
           (spaces_with c.self.inside.tracer.tables c.self.inside.tracer.proof.checker z) c.self.inside.started) (sym e) k.stands;
-      tells = k.tells;
+      logs = k.logs;
       counts = counts-limited c.self.inside.changed_at n x y b a e c.config_changed.ensures.decidable k.counts;
     }

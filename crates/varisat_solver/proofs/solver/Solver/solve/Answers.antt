@@ -3,10 +3,10 @@ use Rattle.std.proofs.Common.{◌≡◌, ◌∙◌, true, not, sym, ap, subst}
 use Rattle.varisat_solver.specs.Dropping.{LeavesInTime, GoesOnLeaving}
 use Rattle.varisat_solver.specs.declared.solver.SolverError.TheVariants.{ClauseStoreFull}
 use Rattle.varisat_solver.proofs.Targets.{writes-marked, ends-writing, fails-writing, ends-not-full, still-full, same-error, ends-badly-invalid}
-use Rattle.varisat_solver.specs.Calls.{Solves, calling}
+use Rattle.varisat_solver.specs.Calls.{Solves, by_state}
 use Rattle.varisat_solver.specs.ProofCalls.{with_proof}
 use Rattle.varisat_solver.specs.Summaries.{Summary, StandsFor}
-use Rattle.varisat_solver.proofs.Additions.{told-error}
+use Rattle.varisat_solver.proofs.Additions.{logged-error}
 use Rattle.varisat_solver.proofs.SearchRounds.{solve-ends, solve-fails, stood-before}
 use Rattle.varisat_solver.proofs.solver.Solver.solve.Goals as goal
 
@@ -16,7 +16,7 @@ returns-in_err-end_search-clause-call g c s st =
     let valid = subst (λ (x : Summary). x.ledger.valid ≡ true) c.self.view_is (ap not c.if-self.false) in
     let (u, f, z) =
     solve-fails c.seek-found.new.self c.end_search.new.self s t c.seek-found.result c.in_err-end_search.field-0.0 k w valid c.in_err-end_search.ensures
-    in (u, subst (λ r. Solves calling s r u) (sym (told-error c.from_residual.result c.in_err-end_search.field-0.0 c.from_residual.ensures)) f, z)
+    in (u, subst (λ r. Solves by_state s r u) (sym (logged-error c.from_residual.result c.in_err-end_search.field-0.0 c.from_residual.ensures)) f, z)
 
 pub returns-clause-call : goal.returns-clause-call
 returns-clause-call g c s st =
@@ -45,7 +45,7 @@ pub returns-in_err-end_search-clause-target : goal.returns-in_err-end_search-cla
 returns-in_err-end_search-clause-target g c =
     let e = c.in_err-end_search.field-0.0 in
     let valid = subst (λ (x : Summary). x.ledger.valid ≡ true) c.self.view_is (ap not c.if-self.false) in
-    let refused = told-error c.from_residual.result e c.from_residual.ensures in
+    let refused = logged-error c.from_residual.result e c.from_residual.ensures in
     rw refused (fails-writing c.args.self.now.opened c.seek-found.new.self c.end_search.new.self e
     (rw c.begin_search.ensures at (c.seek-found.ensures.whole valid)) c.in_err-end_search.ensures)
 
@@ -58,7 +58,7 @@ pub returns-in_err-end_search-clause-full : goal.returns-in_err-end_search-claus
 returns-in_err-end_search-clause-full g c f =
     let e = c.in_err-end_search.field-0.0 in
     absurd (ends-not-full c.seek-found.new.self c.end_search.new.self e c.in_err-end_search.ensures
-    (same-error e ClauseStoreFull (sym (told-error c.from_residual.result e c.from_residual.ensures) ∙ f)))
+    (same-error e ClauseStoreFull (sym (logged-error c.from_residual.result e c.from_residual.ensures) ∙ f)))
 
 pub returns-clause-full : goal.returns-clause-full
 returns-clause-full g c f = still-full c.seek-found.new.self c.end_search.new.self c.in_ok-end_search.ensures (c.seek-found.ensures.full f)

@@ -1,6 +1,6 @@
 use Rattle.std.proofs.Common.{◌∙◌, Some, Err, not, refl, sym, ap, subst}
 use Rattle.varisat_proof.specs.Proving.{ProofParts}
-use Rattle.varisat_tracer.specs.Tracing.{CanTell}
+use Rattle.varisat_tracer.specs.Tracing.{CanLog}
 use Rattle.varisat_solver.specs.OpenProofs.{first_proof}
 use Rattle.varisat_solver.specs.States.{Ledger}
 use Rattle.varisat_solver.specs.Summaries.{spaces_with, StandsForSome}
@@ -10,7 +10,7 @@ use Rattle.varisat_solver.proofs.ChangeEnds.{stands-invalid}
 use Rattle.varisat_solver.proofs.CallStates.{stands-valid}
 use Rattle.varisat_solver.proofs.OpenProofs.{first-same, first-written, none-there}
 use Rattle.varisat_solver.proofs.SettingsCalls.{stands-with-proof}
-use Rattle.varisat_solver.proofs.ToldJournals.{left-alone}
+use Rattle.varisat_solver.proofs.LoggedJournals.{left-alone}
 use Rattle.varisat_solver.proofs.solver.Solver.write_proof.Goals as goal
 
 pub invariant_of-self : goal.invariant_of-self
@@ -18,7 +18,7 @@ invariant_of-self g c v =
     let k = c.self.invariant v in
     record {
       kept = k.kept;
-      tells = subst CanTell (sym c.write_proof.ensures) (record { room = c.requires; usable = k.tells.usable });
+      logs = subst CanLog (sym c.write_proof.ensures) (record { room = c.requires; usable = k.logs.usable });
       stands = subst (λ (p : ProofParts). StandsForSome (spaces_with c.self.inside.tracer.tables p.checker c.self.inside.ctx)
           c.self.inside.started) (sym c.write_proof.ensures) k.stands;
       counts = k.counts;
@@ -37,7 +37,7 @@ returns g c s st =
           c.write_proof.new.self c.self.inside.started c.self.inside.changed_at c.self.inside.ctx s (Some first)
           (ap (λ (p : ProofParts). p.checker) c.write_proof.ensures)
           (ap (λ (p : ProofParts). p.opened) c.write_proof.ensures ∙ first-same c.args.format (g.W.ProofTarget.taken c.args.target))
-          (λ _. first-written s.variables c.args.format (g.W.ProofTarget.taken c.args.target) s.told (left-alone _ s q ok fresh))
+          (λ _. first-written s.variables c.args.format (g.W.ProofTarget.taken c.args.target) s.logged (left-alone _ s q ok fresh))
           (λ _. (q.flags ok).assumptions fresh) q),
     )
 

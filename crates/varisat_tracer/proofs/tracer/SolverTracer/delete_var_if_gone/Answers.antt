@@ -1,10 +1,10 @@
 use Rattle.std.proofs.Common.{[], ◌∷◌}
 use Rattle.varisat_theory.specs.Journals.{Leaves}
 use Rattle.varisat_tracer.specs.TracerLaws.{checked-runs}
-use Rattle.varisat_tracer.proofs.Telling.{same-open}
+use Rattle.varisat_tracer.proofs.Logging.{same-open}
 use Rattle.varisat_tracer.proofs.tracer.SolverTracer.delete_var_if_gone.Goals as goal
 
 pub returns-then-var_data_global-clause-opened : goal.returns-then-var_data_global-clause-opened
 returns-then-var_data_global-clause-opened g c =
     same-open c.args.self.now.proof c.delete_var.new.proof c.delete_var.ensures.opened
-    (checked-runs c.args.self.now.proof.checker c.delete_var.new.proof.checker (Leaves c.args.global ∷ []) c.delete_var.ensures.told.checked)
+    (checked-runs c.args.self.now.proof.checker c.delete_var.new.proof.checker (Leaves c.args.global ∷ []) c.delete_var.ensures.logged.checked)

@@ -9,5 +9,5 @@ returns-in-Ok g c =
 
 pub returns-in-Err : goal.returns-in-Err
 returns-in-Err g c =
-    let (d, made, reading, gives, told) = refuses_read _ _ _ _ _ (λ f h p q r k. search (rules, k.shows, k.leaves, k.called)) c.in-Err.ensures.err in
-    record { reading = reading; gives = gives; tells = told ∙ ap Some (sym made) }
+    let (d, made, reading, gives, reported) = refuses_read _ _ _ _ _ (λ f h p q r k. search (rules, k.shows, k.leaves, k.called)) c.in-Err.ensures.err in
+    record { reading = reading; gives = gives; tells = reported ∙ ap Some (sym made) }

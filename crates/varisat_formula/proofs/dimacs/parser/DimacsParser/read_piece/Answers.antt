@@ -43,5 +43,5 @@ bytes-preserved g c =
     record {
       within = omega (arith, before);
       reads = advances_one _ c.read_word-at.new.self c.byte.new.self c.args.piece.now (at + c.read_word-at.result) before read.reads c.in-Ok.ensures.ok;
-      goes_on = record { not_over = c.in-Ok.ensures.open; no_fault = sym c.told.ensures ∙ c.in_default.is };
+      goes_on = record { not_over = c.in-Ok.ensures.open; no_fault = sym c.reported.ensures ∙ c.in_default.is };
     }

@@ -58,7 +58,7 @@ returns-in-Ok-end_proof-clause-checks g c =
       quiet = c.in-Ok-fill.ensures.quiet;
     }))
     (record {
-      told = c.in-Ok-fill.ensures.ends ∙ ended_here _ c.in-Ok-fill.size c.fill.new.buffer c.if-size-eq0.true room;
+      reported = c.in-Ok-fill.ensures.ends ∙ ended_here _ c.in-Ok-fill.size c.fill.new.buffer c.if-size-eq0.true room;
       at_end = c.in-Ok-fill.ensures.bytes.1 c.if-size-eq0.true room;
     }) c.in-Ok-end_proof.ensures.ends
 
@@ -74,6 +74,6 @@ returns-clause-checks g c =
       quiet = c.in-Ok-fill.ensures.quiet;
     }))
     (record {
-      told = c.in-Ok-fill.ensures.ends ∙ ended_here _ c.in-Ok-fill.size c.fill.new.buffer c.if-size-eq0.true room;
+      reported = c.in-Ok-fill.ensures.ends ∙ ended_here _ c.in-Ok-fill.size c.fill.new.buffer c.if-size-eq0.true room;
       at_end = c.in-Ok-fill.ensures.bytes.1 c.if-size-eq0.true room;
     }) c.in-Err-end_proof.ensures.ends

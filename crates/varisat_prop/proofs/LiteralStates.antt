@@ -8,7 +8,7 @@ use Rattle.varisat_theory.proofs.Members.{equal_or_not}
 use Rattle.varisat_theory.proofs.Values.{parity}
 use Rattle.varisat_literals.specs.Numbers.{polarity_of}
 use Rattle.varisat_prop.proofs.LiteralValues.{variable-opposite, polarity-opposite}
-use Rattle.varisat_prop.specs.Parts.{IsMadeTrue, value_in, literal_value, negated, TellsValues}
+use Rattle.varisat_prop.specs.Parts.{IsMadeTrue, value_in, literal_value, negated, AreValuesOf}
 use Rattle.varisat_prop.specs.declared.prop.lit_value.LitValue.{LitValue}
 use Rattle.varisat_prop.specs.declared.prop.lit_value.LitValue.TheVariants as lit_value
 
@@ -20,8 +20,8 @@ padded [] (suc n) (suc i) d = padded [] n i d
 padded (x ∷ xs) n zero d = refl
 padded (x ∷ xs) n (suc i) d = padded xs n i d
 
-pub tells-more : (vs : List (Option Bool)) (fs : List LitValue) (m n : ℕ) → TellsValues vs fs →
-    TellsValues (vs ++ replicate m None) (fs ++ replicate n lit_value.Unknown)
+pub tells-more : (vs : List (Option Bool)) (fs : List LitValue) (m n : ℕ) → AreValuesOf vs fs →
+    AreValuesOf (vs ++ replicate m None) (fs ++ replicate n lit_value.Unknown)
 tells-more vs fs m n t l =
     padded fs n l lit_value.Unknown ∙ t l ∙ ap (λ (o : Option Bool). literal_value (option_map (λ b. beq b (polarity_of l)) o))
     (sym (padded vs m (variable_of l) None))
@@ -39,7 +39,7 @@ of-negative (Some false) false e = refl
 of-negative o true e = absurd cc
 
 module _ (vs : List (Option Bool)) (fs : List LitValue) (v : ℕ) (o : Option Bool) (inside : v < length vs) (count : length fs ≡ 2 * length vs)
-    (t : TellsValues vs fs) where
+    (t : AreValuesOf vs fs) where
   abbrev one : List LitValue
   one = set fs (2 * v) (literal_value o)
 
@@ -62,7 +62,7 @@ module _ (vs : List (Option Bool)) (fs : List LitValue) (v : ℕ) (o : Option Bo
       ∙ get_or-set_other fs (2 * v) l (literal_value o) lit_value.Unknown (λ e. n (omega (arith, e)))
 
   -- the value of one variable is another
-  pub tells-set : TellsValues (set vs v o) both
+  pub tells-set : AreValuesOf (set vs v o) both
   tells-set l =
       ⊎_elim
       (λ e. rw (at-value l e) (⊎_elim
@@ -76,9 +76,9 @@ module _ (vs : List (Option Bool)) (fs : List LitValue) (v : ℕ) (o : Option Bo
 -- what the parts of an assignment keep to each other, after the value of one variable was written
 pub parts-set : (vs : List (Option Bool)) (last : List Bool) (fs : List LitValue) (v : ℕ) (o : Option Bool) (p n : ℕ) (a b : LitValue) →
     (length last ≡ length vs)
-    × (length fs ≡ 2 * length vs) × TellsValues vs fs → v < length vs → p ≡ 2 * v → n ≡ 2 * v + 1 → a ≡ literal_value o →
+    × (length fs ≡ 2 * length vs) × AreValuesOf vs fs → v < length vs → p ≡ 2 * v → n ≡ 2 * v + 1 → a ≡ literal_value o →
     b ≡ negated (literal_value o) → (length last ≡ length (set vs v o)) × (length (set (set fs p a) n b) ≡ 2 * length (set vs v o))
-    × TellsValues (set vs v o) (set (set fs p a) n b)
+    × AreValuesOf (set vs v o) (set (set fs p a) n b)
 parts-set vs last fs v o p n a b (c, d, t) h i j e f =
     rw (i, j, e, f) (
       c ∙ sym (length-set vs v o),
@@ -89,9 +89,9 @@ parts-set vs last fs v o p n a b (c, d, t) h i j e f =
 
 -- and after there are more variables
 pub parts-more : (vs ws : List (Option Bool)) (last after : List Bool) (fs gs : List LitValue) (count a b e : ℕ) → (length last ≡ length vs)
-    × (length fs ≡ 2 * length vs) × TellsValues vs fs → length vs ≤ count → a ≡ length vs → b ≡ length last → e ≡ length fs →
+    × (length fs ≡ 2 * length vs) × AreValuesOf vs fs → length vs ≤ count → a ≡ length vs → b ≡ length last → e ≡ length fs →
     ws ≡ take count vs ++ replicate (count - a) None → after ≡ take count last ++ replicate (count - b) false →
-    gs ≡ take (2 * count) fs ++ replicate (2 * count - e) lit_value.Unknown → (length after ≡ length ws) × (length gs ≡ 2 * length ws) × TellsValues ws gs
+    gs ≡ take (2 * count) fs ++ replicate (2 * count - e) lit_value.Unknown → (length after ≡ length ws) × (length gs ≡ 2 * length ws) × AreValuesOf ws gs
 parts-more vs ws last after fs gs count a b e (c, d, t) h x y z f i j =
     let f' : ws ≡ vs ++ replicate (count - a) None = f ∙ ap (λ (x : List (Option Bool)). x ++ replicate (count - a) None) (take_all count vs h) in
     let i' : after ≡ last ++ replicate (count - b) false = i ∙ ap (λ (x : List Bool). x ++ replicate (count - b) false)
@@ -110,7 +110,7 @@ parts-more vs ws last after fs gs count a b e (c, d, t) h x y z f i j =
     )
 
 -- what is read of the literals' values
-pub value-read : (vs : List (Option Bool)) (fs : List LitValue) (l : Literal) (i : ℕ) (b : LitValue) → (length fs ≡ 2 * length vs) → TellsValues vs fs →
+pub value-read : (vs : List (Option Bool)) (fs : List LitValue) (l : Literal) (i : ℕ) (b : LitValue) → (length fs ≡ 2 * length vs) → AreValuesOf vs fs →
     variable_of l < length vs → i ≡ l → b ≡ get_or fs i b → b ≡ literal_value (value_in vs l)
 value-read vs fs l i b d t h e f = f ∙ ap (λ k. get_or fs k b) e ∙ get_or_default fs l b lit_value.Unknown (omega (arith, h, d)) ∙ t l
 

@@ -6,9 +6,9 @@ use Rattle.varisat_theory.specs.Literals.{Literal, Clause, Assignment, variable_
 use Rattle.varisat_theory.specs.Derivations.{Line, Add, Delete, SpeakOf}
 use Rattle.varisat_theory.specs.Journals.{Entry, Accepts, Writes, Assumes, Fails, Leaves, Follow, lines_of, written, NoneLeaves, Leads, accepted_of, GoesOn}
 use Rattle.varisat_proof.specs.Assumed.{lists_of, assumed_behind, CoresAreAssumed}
-use Rattle.varisat_solver.specs.Journals.{TellsMore, AreDerived, EndBy, TellsStaying, EndWithCore}
+use Rattle.varisat_solver.specs.Journals.{LogsMore, AreDerived, EndBy, LogsStaying, EndWithCore}
 use Rattle.varisat_solver.specs.States.{Verdict, Unknown, Sat, Unsat, UnsatUnderAssumptions}
-use Rattle.varisat_solver.specs.Spaces.{SpeaksOf, AllSpeakOf, IsCounted, TellsWhole}
+use Rattle.varisat_solver.specs.Spaces.{SpeaksOf, AllSpeakOf, IsCounted, IsWholeLog}
 use Rattle.varisat_theory.specs.Renaming.{rename_line}
 use Rattle.varisat_theory.specs.Held.{without}
 use Rattle.varisat_theory.proofs.Journals.{goes_on_further, accepted_append, stays_append, written_accepts, written_stays}
@@ -139,15 +139,15 @@ lists-ended Unsat es d = lists-derived es d
 lists-ended (UnsatUnderAssumptions core) es (front, d, e) =
     ap lists_of e ∙ lists-append front (Fails core ∷ []) ∙ append-nil (lists_of front) ∙ lists-derived front d
 
-pub lists-on : {n : ℕ} (before after : List Entry) (m : TellsMore n before after) → lists_of m.entries ≡ [] → lists_of after ≡ lists_of before
+pub lists-on : {n : ℕ} (before after : List Entry) (m : LogsMore n before after) → lists_of m.entries ≡ [] → lists_of after ≡ lists_of before
 lists-on before after m none = ap lists_of m.joined ∙ lists-append before m.entries ∙ ap (λ x. lists_of before ++ x) none ∙ append-nil (lists_of before)
 
-pub tells-nothing : (told : List Entry) → TellsMore 0 told told
-tells-nothing told = record { entries = []; joined = sym (append-nil told); goes = λ held d. (held, refl) }
+pub logs-nothing : (logged : List Entry) → LogsMore 0 logged logged
+logs-nothing logged = record { entries = []; joined = sym (append-nil logged); goes = λ held d. (held, refl) }
 
-pub stays-nothing : (told : List Entry) → TellsStaying 0 told told
-unfolding tells-nothing
-stays-nothing told = (tells-nothing told, tt, tt)
+pub stays-nothing : (logged : List Entry) → LogsStaying 0 logged logged
+unfolding logs-nothing
+stays-nothing logged = (logs-nothing logged, tt, tt)
 
 -- lines are derived entries, and so are such in turn
 pub written-derived : (lines : List Line) → AreDerived (written lines)
@@ -178,39 +178,39 @@ pub derived-ends : (es : List Entry) (v : Verdict) → v ≡ Unknown → AreDeri
 derived-ends es v u e = subst (λ x. EndBy x es) (sym u) e
 
 -- nothing is told by no steps
-pub nothing-derived : (told : List Entry) → AreDerived (tells-nothing told).entries
-unfolding tells-nothing
-nothing-derived told = tt
+pub nothing-derived : (logged : List Entry) → AreDerived (logs-nothing logged).entries
+unfolding logs-nothing
+nothing-derived logged = tt
 
-pub tells-none : (n : ℕ) (told : List Entry) → n ≡ 0 → TellsMore n told told
-tells-none n told e = record { entries = []; joined = sym (append-nil told); goes = λ held d. (held, refl) }
+pub logs-none : (n : ℕ) (logged : List Entry) → n ≡ 0 → LogsMore n logged logged
+logs-none n logged e = record { entries = []; joined = sym (append-nil logged); goes = λ held d. (held, refl) }
 
-pub none-derived : (n : ℕ) (told : List Entry) (e : n ≡ 0) → AreDerived (tells-none n told e).entries
-unfolding tells-none
-none-derived n told e = tt
+pub none-derived : (n : ℕ) (logged : List Entry) (e : n ≡ 0) → AreDerived (logs-none n logged e).entries
+unfolding logs-none
+none-derived n logged e = tt
 
-pub tells-through : (n m : ℕ) (a b c : List Entry) → TellsMore n a b → TellsMore m b c → TellsMore (n + m) a c
-tells-through n m a b c s t = record {
+pub logs-through : (n m : ℕ) (a b c : List Entry) → LogsMore n a b → LogsMore m b c → LogsMore (n + m) a c
+logs-through n m a b c s t = record {
   entries = s.entries ++ t.entries;
   joined = t.joined ∙ ap (λ x. x ++ t.entries) s.joined ∙ append_assoc a s.entries t.entries;
   goes = goes_on_further n m a s.entries t.entries s.goes (subst (λ x. GoesOn m x t.entries) s.joined t.goes);
 }
 
-pub tells : (n : ℕ) (told es : List Entry) → GoesOn n told es → TellsMore n told (told ++ es)
-tells n told es g = record { entries = es; joined = refl; goes = g }
+pub logs : (n : ℕ) (logged es : List Entry) → GoesOn n logged es → LogsMore n logged (logged ++ es)
+logs n logged es g = record { entries = es; joined = refl; goes = g }
 
-pub one-derived : (told : List Entry) (e : Entry) → AreDerived (e ∷ []) → (g : GoesOn 0 told (e ∷ [])) → AreDerived (tells 0 told (e ∷ []) g).entries
-unfolding tells
-one-derived told e d g = d
+pub one-derived : (logged : List Entry) (e : Entry) → AreDerived (e ∷ []) → (g : GoesOn 0 logged (e ∷ [])) → AreDerived (logs 0 logged (e ∷ []) g).entries
+unfolding logs
+one-derived logged e d g = d
 
-pub through-derived : (n m : ℕ) (a b c : List Entry) (s : TellsMore n a b) (t : TellsMore m b c) → AreDerived s.entries → AreDerived t.entries →
-    AreDerived (tells-through n m a b c s t).entries
-unfolding tells-through
+pub through-derived : (n m : ℕ) (a b c : List Entry) (s : LogsMore n a b) (t : LogsMore m b c) → AreDerived s.entries → AreDerived t.entries →
+    AreDerived (logs-through n m a b c s t).entries
+unfolding logs-through
 through-derived n m a b c s t d e = derived-through s.entries t.entries d e
 
 -- and then others of which nothing counts
-pub tells-also : (n : ℕ) (a b : List Entry) (es : List Entry) → TellsMore n a b → GoesOn 0 b es → TellsMore n a (b ++ es)
-tells-also n a b es s g = record {
+pub logs-also : (n : ℕ) (a b : List Entry) (es : List Entry) → LogsMore n a b → GoesOn 0 b es → LogsMore n a (b ++ es)
+logs-also n a b es s g = record {
   entries = s.entries ++ es;
   joined = ap (λ x. x ++ es) s.joined ∙ append_assoc a s.entries es;
   goes = subst (λ m. GoesOn m a (s.entries ++ es)) (let z : n + 0 ≡ n = omega arith in z)
@@ -218,33 +218,33 @@ tells-also n a b es s g = record {
 }
 
 -- where that is a core, it is told at last
-pub also-ends : (n : ℕ) (a b : List Entry) (core : List Literal) (s : TellsMore n a b) → AreDerived s.entries → (g : GoesOn 0 b (Fails core ∷ [])) →
-    EndWithCore core (tells-also n a b (Fails core ∷ []) s g).entries
-unfolding tells-also
+pub also-ends : (n : ℕ) (a b : List Entry) (core : List Literal) (s : LogsMore n a b) → AreDerived s.entries → (g : GoesOn 0 b (Fails core ∷ [])) →
+    EndWithCore core (logs-also n a b (Fails core ∷ []) s g).entries
+unfolding logs-also
 also-ends n a b core s d g = (s.entries, d, refl)
 
 -- steps follow entries of which nothing counts; n is how many were made
-pub steps-follow : (k n : ℕ) (a b c : List Entry) → TellsMore 0 a b → (t : TellsMore k b c) → k ≡ n → TellsMore n a c
-steps-follow k n a b c s t e = subst (λ m. TellsMore m a c) (let z : 0 + k ≡ n = omega (arith, e) in z) (tells-through 0 k a b c s t)
+pub steps-follow : (k n : ℕ) (a b c : List Entry) → LogsMore 0 a b → (t : LogsMore k b c) → k ≡ n → LogsMore n a c
+steps-follow k n a b c s t e = subst (λ m. LogsMore m a c) (let z : 0 + k ≡ n = omega (arith, e) in z) (logs-through 0 k a b c s t)
 
-pub accepts-goes : (told : List Entry) (c : Clause) → GoesOn 0 told (Accepts c ∷ [])
-accepts-goes told c held d = (held ++ c ∷ [], (held ++ c ∷ [], refl, inl (tt, refl)))
+pub accepts-goes : (logged : List Entry) (c : Clause) → GoesOn 0 logged (Accepts c ∷ [])
+accepts-goes logged c held d = (held ++ c ∷ [], (held ++ c ∷ [], refl, inl (tt, refl)))
 
-pub leaves-goes : (told : List Entry) (v : ℕ) → GoesOn 0 told (Leaves v ∷ [])
-leaves-goes told v held d = (without v held, (without v held, refl, inl (tt, refl)))
+pub leaves-goes : (logged : List Entry) (v : ℕ) → GoesOn 0 logged (Leaves v ∷ [])
+leaves-goes logged v held d = (without v held, (without v held, refl, inl (tt, refl)))
 
-pub assumes-goes : (told : List Entry) (a : List Literal) → GoesOn 0 told (Assumes a ∷ [])
-assumes-goes told a held d = (held, (held, refl, inl (tt, refl)))
+pub assumes-goes : (logged : List Entry) (a : List Literal) → GoesOn 0 logged (Assumes a ∷ [])
+assumes-goes logged a held d = (held, (held, refl, inl (tt, refl)))
 
 -- of the accepted clauses, of what lines are over, and of whether variables left
 
 -- what stands behind entries that assume and fail nothing is assumed as before
-assumed-on : (told es : List Entry) (A B : List Literal) → assumed_behind [] told ≡ A → assumed_behind A es ≡ B → assumed_behind [] (told ++ es) ≡ B
-assumed-on told es A B e f = assumed-append [] told es ∙ ap (λ x. assumed_behind x es) e ∙ f
+assumed-on : (logged es : List Entry) (A B : List Literal) → assumed_behind [] logged ≡ A → assumed_behind A es ≡ B → assumed_behind [] (logged ++ es) ≡ B
+assumed-on logged es A B e f = assumed-append [] logged es ∙ ap (λ x. assumed_behind x es) e ∙ f
 
-cores-on : (told es : List Entry) (A : List Literal) → assumed_behind [] told ≡ A → CoresAreAssumed [] told → CoresAreAssumed A es →
-    CoresAreAssumed [] (told ++ es)
-cores-on told es A e c d = cores-append [] told es c (subst (λ x. CoresAreAssumed x es) (sym e) d)
+cores-on : (logged es : List Entry) (A : List Literal) → assumed_behind [] logged ≡ A → CoresAreAssumed [] logged → CoresAreAssumed A es →
+    CoresAreAssumed [] (logged ++ es)
+cores-on logged es A e c d = cores-append [] logged es c (subst (λ x. CoresAreAssumed x es) (sym e) d)
 
 -- where no variable leaves
 pub none-in : (es : List Entry) (i : ℕ) → NoneLeaves es → Leaves i ∈ es → ⊥
@@ -255,90 +255,90 @@ none-in (Assumes a ∷ es) i n h = ⊎_elim (λ q. cc) (none-in es i n) h
 none-in (Fails core ∷ es) i n h = ⊎_elim (λ q. cc) (none-in es i n) h
 none-in (Leaves v ∷ es) i n h = n
 
-left-on : {gone : ℕ → Type 0} (told es : List Entry) → NoneLeaves es → ((i : ℕ) → (Leaves i ∈ told) ↔ gone i) → (i : ℕ) → (Leaves i ∈ (told ++ es)) ↔ gone i
-left-on told es n k i = (
-  λ h. (k i).0 (⊎_elim (λ a. a) (λ a. absurd (none-in es i n a)) (∈-append_cases (Leaves i) told es h)),
-  λ g. ∈-append_left (Leaves i) told es ((k i).1 g),
+left-on : {gone : ℕ → Type 0} (logged es : List Entry) → NoneLeaves es → ((i : ℕ) → (Leaves i ∈ logged) ↔ gone i) → (i : ℕ) → (Leaves i ∈ (logged ++ es)) ↔ gone i
+left-on logged es n k i = (
+  λ h. (k i).0 (⊎_elim (λ a. a) (λ a. absurd (none-in es i n a)) (∈-append_cases (Leaves i) logged es h)),
+  λ g. ∈-append_left (Leaves i) logged es ((k i).1 g),
 )
 
-pub told-written : {gone : ℕ → Type 0} (told : List Entry) (P : List Clause) (A : List Literal) (C : List ℕ) (hidden : Bool) (lines : List Line) →
-    SpeakOf (IsCounted C) lines → TellsWhole told P A C hidden gone → TellsWhole (told ++ written lines) P A C hidden gone
-told-written told P A C hidden lines s t = record {
-  accepted = accepted_append told (written lines) ∙ ap (λ x. accepted_of told ++ x) (written_accepts lines) ∙ append-nil (accepted_of told) ∙ t.accepted;
-  assumed = assumed-on told (written lines) A A t.assumed (assumed-written A lines);
-  cores = cores-on told (written lines) A t.assumed t.cores (cores-written A lines);
-  spoken = all-join (IsCounted C) told (written lines) t.spoken (written-speak (IsCounted C) lines s);
-  left = left-on told (written lines) (written_stays lines) t.left;
-  stays = λ e. stays_append told (written lines) (t.stays e) (written_stays lines);
+pub logged-written : {gone : ℕ → Type 0} (logged : List Entry) (P : List Clause) (A : List Literal) (C : List ℕ) (hidden : Bool) (lines : List Line) →
+    SpeakOf (IsCounted C) lines → IsWholeLog logged P A C hidden gone → IsWholeLog (logged ++ written lines) P A C hidden gone
+logged-written logged P A C hidden lines s t = record {
+  accepted = accepted_append logged (written lines) ∙ ap (λ x. accepted_of logged ++ x) (written_accepts lines) ∙ append-nil (accepted_of logged) ∙ t.accepted;
+  assumed = assumed-on logged (written lines) A A t.assumed (assumed-written A lines);
+  cores = cores-on logged (written lines) A t.assumed t.cores (cores-written A lines);
+  spoken = all-join (IsCounted C) logged (written lines) t.spoken (written-speak (IsCounted C) lines s);
+  left = left-on logged (written lines) (written_stays lines) t.left;
+  stays = λ e. stays_append logged (written lines) (t.stays e) (written_stays lines);
 }
 
-pub told-accepted : {gone : ℕ → Type 0} (told : List Entry) (P : List Clause) (A : List Literal) (C : List ℕ) (hidden : Bool) (c : Clause) →
-    ((l : Literal) → l ∈ c → IsCounted C l) → TellsWhole told P A C hidden gone → TellsWhole (told ++ Accepts c ∷ []) (P ++ c ∷ []) A C hidden gone
-told-accepted told P A C hidden c s t = record {
-  accepted = accepted_append told (Accepts c ∷ []) ∙ ap (λ x. x ++ c ∷ []) t.accepted;
-  assumed = assumed-on told (Accepts c ∷ []) A A t.assumed refl;
-  cores = cores-on told (Accepts c ∷ []) A t.assumed t.cores tt;
-  spoken = all-join (IsCounted C) told (Accepts c ∷ []) t.spoken (s, tt);
-  left = left-on told (Accepts c ∷ []) tt t.left;
-  stays = λ e. stays_append told (Accepts c ∷ []) (t.stays e) tt;
+pub logged-accepted : {gone : ℕ → Type 0} (logged : List Entry) (P : List Clause) (A : List Literal) (C : List ℕ) (hidden : Bool) (c : Clause) →
+    ((l : Literal) → l ∈ c → IsCounted C l) → IsWholeLog logged P A C hidden gone → IsWholeLog (logged ++ Accepts c ∷ []) (P ++ c ∷ []) A C hidden gone
+logged-accepted logged P A C hidden c s t = record {
+  accepted = accepted_append logged (Accepts c ∷ []) ∙ ap (λ x. x ++ c ∷ []) t.accepted;
+  assumed = assumed-on logged (Accepts c ∷ []) A A t.assumed refl;
+  cores = cores-on logged (Accepts c ∷ []) A t.assumed t.cores tt;
+  spoken = all-join (IsCounted C) logged (Accepts c ∷ []) t.spoken (s, tt);
+  left = left-on logged (Accepts c ∷ []) tt t.left;
+  stays = λ e. stays_append logged (Accepts c ∷ []) (t.stays e) tt;
 }
 
-pub told-assumed : {gone : ℕ → Type 0} (told : List Entry) (P : List Clause) (A : List Literal) (C : List ℕ) (hidden : Bool) (a : List Literal) →
-    ((l : Literal) → l ∈ a → IsCounted C l) → TellsWhole told P A C hidden gone → TellsWhole (told ++ Assumes a ∷ []) P a C hidden gone
-told-assumed told P A C hidden a s t = record {
-  accepted = accepted_append told (Assumes a ∷ []) ∙ append-nil (accepted_of told) ∙ t.accepted;
-  assumed = assumed-on told (Assumes a ∷ []) A a t.assumed refl;
-  cores = cores-on told (Assumes a ∷ []) A t.assumed t.cores tt;
-  spoken = all-join (IsCounted C) told (Assumes a ∷ []) t.spoken (s, tt);
-  left = left-on told (Assumes a ∷ []) tt t.left;
-  stays = λ e. stays_append told (Assumes a ∷ []) (t.stays e) tt;
+pub logged-assumed : {gone : ℕ → Type 0} (logged : List Entry) (P : List Clause) (A : List Literal) (C : List ℕ) (hidden : Bool) (a : List Literal) →
+    ((l : Literal) → l ∈ a → IsCounted C l) → IsWholeLog logged P A C hidden gone → IsWholeLog (logged ++ Assumes a ∷ []) P a C hidden gone
+logged-assumed logged P A C hidden a s t = record {
+  accepted = accepted_append logged (Assumes a ∷ []) ∙ append-nil (accepted_of logged) ∙ t.accepted;
+  assumed = assumed-on logged (Assumes a ∷ []) A a t.assumed refl;
+  cores = cores-on logged (Assumes a ∷ []) A t.assumed t.cores tt;
+  spoken = all-join (IsCounted C) logged (Assumes a ∷ []) t.spoken (s, tt);
+  left = left-on logged (Assumes a ∷ []) tt t.left;
+  stays = λ e. stays_append logged (Assumes a ∷ []) (t.stays e) tt;
 }
 
 -- a core of what is assumed
-pub told-failed : {gone : ℕ → Type 0} (told : List Entry) (P : List Clause) (A : List Literal) (C : List ℕ) (hidden : Bool) (core : List Literal) →
-    core ⊆ A → TellsWhole told P A C hidden gone → TellsWhole (told ++ Fails core ∷ []) P A C hidden gone
-told-failed told P A C hidden core within t = record {
-  accepted = accepted_append told (Fails core ∷ []) ∙ append-nil (accepted_of told) ∙ t.accepted;
-  assumed = assumed-on told (Fails core ∷ []) A A t.assumed refl;
-  cores = cores-on told (Fails core ∷ []) A t.assumed t.cores (within, tt);
-  spoken = all-join (IsCounted C) told (Fails core ∷ []) t.spoken (
-    λ l h. assumed-spoken (IsCounted C) [] told (λ m i. absurd i) t.spoken l (subst (λ x. l ∈ x) (sym t.assumed) (within l h)),
+pub logged-failed : {gone : ℕ → Type 0} (logged : List Entry) (P : List Clause) (A : List Literal) (C : List ℕ) (hidden : Bool) (core : List Literal) →
+    core ⊆ A → IsWholeLog logged P A C hidden gone → IsWholeLog (logged ++ Fails core ∷ []) P A C hidden gone
+logged-failed logged P A C hidden core within t = record {
+  accepted = accepted_append logged (Fails core ∷ []) ∙ append-nil (accepted_of logged) ∙ t.accepted;
+  assumed = assumed-on logged (Fails core ∷ []) A A t.assumed refl;
+  cores = cores-on logged (Fails core ∷ []) A t.assumed t.cores (within, tt);
+  spoken = all-join (IsCounted C) logged (Fails core ∷ []) t.spoken (
+    λ l h. assumed-spoken (IsCounted C) [] logged (λ m i. absurd i) t.spoken l (subst (λ x. l ∈ x) (sym t.assumed) (within l h)),
     tt,
   );
-  left = left-on told (Fails core ∷ []) tt t.left;
-  stays = λ e. stays_append told (Fails core ∷ []) (t.stays e) tt;
+  left = left-on logged (Fails core ∷ []) tt t.left;
+  stays = λ e. stays_append logged (Fails core ∷ []) (t.stays e) tt;
 }
 
 -- a variable left
-pub told-left : {before after : ℕ → Type 0} (told : List Entry) (P : List Clause) (A : List Literal) (C : List ℕ) (hidden : Bool) (v : ℕ) →
-    (hidden ≡ false → ⊥) → ((i : ℕ) → after i ↔ (before i ⊎ (i ≡ v))) → TellsWhole told P A C hidden before →
-    TellsWhole (told ++ Leaves v ∷ []) P A C hidden after
-told-left told P A C hidden v n gone t = record {
-  accepted = accepted_append told (Leaves v ∷ []) ∙ append-nil (accepted_of told) ∙ t.accepted;
-  assumed = assumed-on told (Leaves v ∷ []) A A t.assumed refl;
-  cores = cores-on told (Leaves v ∷ []) A t.assumed t.cores tt;
-  spoken = all-join (IsCounted C) told (Leaves v ∷ []) t.spoken (tt, tt);
+pub logged-left : {before after : ℕ → Type 0} (logged : List Entry) (P : List Clause) (A : List Literal) (C : List ℕ) (hidden : Bool) (v : ℕ) →
+    (hidden ≡ false → ⊥) → ((i : ℕ) → after i ↔ (before i ⊎ (i ≡ v))) → IsWholeLog logged P A C hidden before →
+    IsWholeLog (logged ++ Leaves v ∷ []) P A C hidden after
+logged-left logged P A C hidden v n gone t = record {
+  accepted = accepted_append logged (Leaves v ∷ []) ∙ append-nil (accepted_of logged) ∙ t.accepted;
+  assumed = assumed-on logged (Leaves v ∷ []) A A t.assumed refl;
+  cores = cores-on logged (Leaves v ∷ []) A t.assumed t.cores tt;
+  spoken = all-join (IsCounted C) logged (Leaves v ∷ []) t.spoken (tt, tt);
   left = λ i. (
     λ h. (gone i).1 (⊎_elim
         (λ a. inl ((t.left i).0 a))
         (λ a. ⊎_elim (λ q. inr (let z : Leaves i ≡ Leaves v = q in cc)) (λ z. absurd z) a)
-        (∈-append_cases (Leaves i) told (Leaves v ∷ []) h)),
+        (∈-append_cases (Leaves i) logged (Leaves v ∷ []) h)),
     λ g. ⊎_elim
-        (λ a. ∈-append_left (Leaves i) told (Leaves v ∷ []) ((t.left i).1 a))
-        (λ q. ∈-append_right (Leaves i) told (Leaves v ∷ []) (inl (ap Leaves q)))
+        (λ a. ∈-append_left (Leaves i) logged (Leaves v ∷ []) ((t.left i).1 a))
+        (λ q. ∈-append_right (Leaves i) logged (Leaves v ∷ []) (inl (ap Leaves q)))
         ((gone i).0 g),
   );
   stays = λ e. absurd (n e);
 }
 
 -- more identities are counted
-pub told-counted : {gone : ℕ → Type 0} (told : List Entry) (P : List Clause) (A : List Literal) (C D : List ℕ) (hidden : Bool) → C ⊆ D →
-    TellsWhole told P A C hidden gone → TellsWhole told P A D hidden gone
-told-counted told P A C D hidden m t = record {
+pub logged-counted : {gone : ℕ → Type 0} (logged : List Entry) (P : List Clause) (A : List Literal) (C D : List ℕ) (hidden : Bool) → C ⊆ D →
+    IsWholeLog logged P A C hidden gone → IsWholeLog logged P A D hidden gone
+logged-counted logged P A C D hidden m t = record {
   accepted = t.accepted;
   assumed = t.assumed;
   cores = t.cores;
-  spoken = all-wider (IsCounted C) (IsCounted D) told (λ l h. m (variable_of l) h) t.spoken;
+  spoken = all-wider (IsCounted C) (IsCounted D) logged (λ l h. m (variable_of l) h) t.spoken;
   left = t.left;
   stays = t.stays;
 }

@@ -1,9 +1,9 @@
 use Rattle.varisat_trace.specs.declared.tracer.TraceError.{TraceError}
 use Rattle.varisat_trace.specs.declared.tracer.TraceError.TheVariants as trace
 use Rattle.varisat_search.specs.declared.error.StepError.TheVariants as step
-use Rattle.varisat_solver.proofs.accept.tell_clause.Goals as goal
-use Rattle.varisat_tracer.proofs.Telling.{breaks-proof}
-use Rattle.varisat_tracer.proofs.GlobalSteps.{breaks-told-globally}
+use Rattle.varisat_solver.proofs.accept.log_clause.Goals as goal
+use Rattle.varisat_tracer.proofs.Logging.{breaks-proof}
+use Rattle.varisat_tracer.proofs.GlobalSteps.{breaks-logged-globally}
 use Rattle.varisat_tracer.specs.Tracing.{tracer_state, BreaksProof}
 use Rattle.varisat_search.proofs.StepErrors.{trace-faults}
 use Rattle.varisat_search.specs.StepErrors.{step_error_of_trace, step_faults}
@@ -21,7 +21,7 @@ returns-in_err-add_clause-clause-broken g c =
     passed-on c.from_residual.result (step_error_of_trace e) (λ z. BreaksProof p.proof (step_faults z) q.proof) c.from_residual.ensures
     (subst (λ n. BreaksProof p.proof n q.proof) (trace-faults e)
     (breaks-proof (tracer_state p) (tracer_state q) (faults_of e)
-    (entries, breaks-told-globally (tracer_state p) (tracer_state q) entries e (c.in_err-add_clause.ensures {u = tt}))))
+    (entries, breaks-logged-globally (tracer_state p) (tracer_state q) entries e (c.in_err-add_clause.ensures {u = tt}))))
 
 -- nothing is stored
 not-full : (e : TraceError) → step_error_of_trace e ≢ step.Full

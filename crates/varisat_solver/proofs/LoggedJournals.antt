@@ -12,7 +12,7 @@ use Rattle.varisat_proof.specs.declared.proof.format.ProofFormat.{ProofFormat}
 use Rattle.varisat_proof.specs.declared.proof.format.ProofFormat.TheVariants.{Drat, BinaryDrat, Marked}
 use Rattle.varisat_proof.specs.Lines.{encoding_of, plain_lines, has_marks}
 use Rattle.varisat_proof.specs.Steps.{lines_written}
-use Rattle.varisat_proof.specs.Marked.{state_of, nothing_told}
+use Rattle.varisat_proof.specs.Marked.{state_of, nothing_logged}
 use Rattle.varisat_proof.proofs.MarkedJournals.{journal_taken}
 use Rattle.varisat_theory.specs.Outcomes.{Outcome}
 use Rattle.varisat_theory.specs.Outcomes as outcome
@@ -26,7 +26,7 @@ use Rattle.varisat_names.specs.declared.variables.data.VarData.{VarData}
 use Rattle.varisat_proof.specs.declared.proof.format.Encoding.TheVariants.{Text}
 use Rattle.varisat_proof.specs.declared.proof.format.LineKind.{LineKind}
 use Rattle.varisat_proof.specs.Lines.{ProofLine, line_of_kind}
-use Rattle.varisat_proof.specs.Telling.{lines_told}
+use Rattle.varisat_proof.specs.Logging.{logged_lines}
 use Rattle.varisat_proof.specs.Written.{AreInRange}
 use Rattle.varisat_solver.specs.States.{State, Verdict, Unknown, Sat, Unsat, UnsatUnderAssumptions, IsRight}
 use Rattle.varisat_solver.specs.Calls.{answer_of}
@@ -35,16 +35,16 @@ use Rattle.varisat_solver.specs.OpenProofs.{OpenProof, entries_over, IsWrittenAs
 use Rattle.varisat_solver.proofs.OpenProofs.{lines-renamed, plain-bytes, there-present, there-apart, written-plain}
 use Rattle.varisat_solver.specs.ProofBytes.{IsMarkedDerivation}
 use Rattle.varisat_solver.specs.ProofCalls.{IsProofIfOpen}
-use Rattle.varisat_solver.specs.Calls.{IsRefuted, calling}
+use Rattle.varisat_solver.specs.Calls.{IsRefuted, by_state}
 use Rattle.varisat_tracer.specs.Carried.{carry, variable_or_first}
 use Rattle.varisat_solver.specs.Spaces.{Spaces, Carrying, Links, Translation, IsCounted, AllSpeakOf, HeldFits, VerdictFits, without_core}
 use Rattle.varisat_solver.specs.Summaries.{Summary, spaces, StandsFor}
-use Rattle.varisat_solver.proofs.ToldEntries.{all-wider, lines-speak, OnlyLeave, unspoken, only-leave}
+use Rattle.varisat_solver.proofs.LoggedEntries.{all-wider, lines-speak, OnlyLeave, unspoken, only-leave}
 use Rattle.varisat_solver.proofs.SearchLinks.{relinked}
-use Rattle.varisat_solver.proofs.SolverCalls.{told-refuted}
+use Rattle.varisat_solver.proofs.SolverCalls.{logged-refuted}
 
 led-of : (r : Translation) (fixed : List Literal) (share : List Clause) (o : Outcome) → HeldFits r fixed share (without_core o) →
-    (held : List Clause) × Leads [] r.told held
+    (held : List Clause) × Leads [] r.logged held
 led-of r fixed share outcome.Unknown q = (q.held, q.led)
 led-of r fixed share (outcome.Sat found) q = (q.held, q.led)
 led-of r fixed share outcome.Unsat (held, led, conflict) = (held, led)
@@ -72,19 +72,19 @@ module _ (made : ℕ) (counted : List ℕ) (few : made ≤ variable_limit) (belo
       let b = below (variable_of l) (f l (subst (λ (x : ProofLine). l ∈ x.clause) e i)) in
       omega (arith, b, few)
 
-  told-in-range : (told : List Entry) → AllSpeakOf (IsCounted counted) told → AreInRange (lines_told (Text true) told)
-  told-in-range [] w line l h i = absurd h
-  told-in-range (Accepts c ∷ es) (f, w) line l (inl e) i = line-in-range _ c line l f e i
-  told-in-range (Writes (Add c) ∷ es) (f, w) line l (inl e) i = line-in-range _ c line l f e i
-  told-in-range (Writes (Delete c) ∷ es) (f, w) line l (inl e) i = line-in-range _ c line l f e i
-  told-in-range (Assumes a ∷ es) (f, w) line l (inl e) i = line-in-range _ a line l f e i
-  told-in-range (Fails core ∷ es) (f, w) line l (inl e) i = line-in-range _ core line l f e i
-  told-in-range (Accepts c ∷ es) (f, w) line l (inr h) i = told-in-range es w line l h i
-  told-in-range (Writes (Add c) ∷ es) (f, w) line l (inr h) i = told-in-range es w line l h i
-  told-in-range (Writes (Delete c) ∷ es) (f, w) line l (inr h) i = told-in-range es w line l h i
-  told-in-range (Assumes a ∷ es) (f, w) line l (inr h) i = told-in-range es w line l h i
-  told-in-range (Fails core ∷ es) (f, w) line l (inr h) i = told-in-range es w line l h i
-  told-in-range (Leaves v ∷ es) (f, w) line l h i = told-in-range es w line l h i
+  logged-in-range : (logged : List Entry) → AllSpeakOf (IsCounted counted) logged → AreInRange (logged_lines (Text true) logged)
+  logged-in-range [] w line l h i = absurd h
+  logged-in-range (Accepts c ∷ es) (f, w) line l (inl e) i = line-in-range _ c line l f e i
+  logged-in-range (Writes (Add c) ∷ es) (f, w) line l (inl e) i = line-in-range _ c line l f e i
+  logged-in-range (Writes (Delete c) ∷ es) (f, w) line l (inl e) i = line-in-range _ c line l f e i
+  logged-in-range (Assumes a ∷ es) (f, w) line l (inl e) i = line-in-range _ a line l f e i
+  logged-in-range (Fails core ∷ es) (f, w) line l (inl e) i = line-in-range _ core line l f e i
+  logged-in-range (Accepts c ∷ es) (f, w) line l (inr h) i = logged-in-range es w line l h i
+  logged-in-range (Writes (Add c) ∷ es) (f, w) line l (inr h) i = logged-in-range es w line l h i
+  logged-in-range (Writes (Delete c) ∷ es) (f, w) line l (inr h) i = logged-in-range es w line l h i
+  logged-in-range (Assumes a ∷ es) (f, w) line l (inr h) i = logged-in-range es w line l h i
+  logged-in-range (Fails core ∷ es) (f, w) line l (inr h) i = logged-in-range es w line l h i
+  logged-in-range (Leaves v ∷ es) (f, w) line l h i = logged-in-range es w line l h i
 
 -- literals of identities whose variables are below the limit, as a proof writes them
 module _ (variables : ℕ → Option ℕ) (below : (i x : ℕ) → variables i ≡ Some x → x < variable_limit) where
@@ -101,63 +101,63 @@ module _ (variables : ℕ → Option ℕ) (below : (i x : ℕ) → variables i �
       let (m, j, q) = map-∈ (carry variables) l c (subst (λ (x : ProofLine). l ∈ x.clause) e i) in
       subst (λ n. n < 2 ^ 29) (sym q) (carried-in-range m)
 
-  told-over : (told : List Entry) → AreInRange (lines_told (Text true) (entries_over variables told))
-  told-over [] line l h i = absurd h
-  told-over (Accepts c ∷ es) line l (inl e) i = line-over _ c line l e i
-  told-over (Writes (Add c) ∷ es) line l (inl e) i = line-over _ c line l e i
-  told-over (Writes (Delete c) ∷ es) line l (inl e) i = line-over _ c line l e i
-  told-over (Assumes a ∷ es) line l (inl e) i = line-over _ a line l e i
-  told-over (Fails core ∷ es) line l (inl e) i = line-over _ core line l e i
-  told-over (Accepts c ∷ es) line l (inr h) i = told-over es line l h i
-  told-over (Writes (Add c) ∷ es) line l (inr h) i = told-over es line l h i
-  told-over (Writes (Delete c) ∷ es) line l (inr h) i = told-over es line l h i
-  told-over (Assumes a ∷ es) line l (inr h) i = told-over es line l h i
-  told-over (Fails core ∷ es) line l (inr h) i = told-over es line l h i
-  told-over (Leaves v ∷ es) line l h i = told-over es line l h i
+  logged-over : (logged : List Entry) → AreInRange (logged_lines (Text true) (entries_over variables logged))
+  logged-over [] line l h i = absurd h
+  logged-over (Accepts c ∷ es) line l (inl e) i = line-over _ c line l e i
+  logged-over (Writes (Add c) ∷ es) line l (inl e) i = line-over _ c line l e i
+  logged-over (Writes (Delete c) ∷ es) line l (inl e) i = line-over _ c line l e i
+  logged-over (Assumes a ∷ es) line l (inl e) i = line-over _ a line l e i
+  logged-over (Fails core ∷ es) line l (inl e) i = line-over _ core line l e i
+  logged-over (Accepts c ∷ es) line l (inr h) i = logged-over es line l h i
+  logged-over (Writes (Add c) ∷ es) line l (inr h) i = logged-over es line l h i
+  logged-over (Writes (Delete c) ∷ es) line l (inr h) i = logged-over es line l h i
+  logged-over (Assumes a ∷ es) line l (inr h) i = logged-over es line l h i
+  logged-over (Fails core ∷ es) line l (inr h) i = logged-over es line l h i
+  logged-over (Leaves v ∷ es) line l h i = logged-over es line l h i
 
 pub journal-of : (g : Summary) (s : State) → StandsFor g s → g.ledger.valid ≡ true → IsJournal s
 journal-of g s st v =
     let (w, k) = st.fits v in
-    let (held, led) = led-of _ (spaces g).search.fixed k.holds.held (spaces g).outcome k.holds.told in
+    let (held, led) = led-of _ (spaces g).search.fixed k.holds.held (spaces g).outcome k.holds.logged in
     record {
       held = held;
       led = led;
-      accepted = k.told.accepted;
-      assumed = k.told.assumed;
-      cores = k.told.cores;
+      accepted = k.logged.accepted;
+      assumed = k.logged.assumed;
+      cores = k.logged.cores;
       written = st.written v;
       apart = record { present = there-present w (spaces g) s k; apart = there-apart w (spaces g) s k };
       plain = written-plain w (spaces g) s k;
-      stays = k.told.stays;
-      in_range = λ h. told-in-range s.naming.made s.counted (few-made g s st v h) k.well_formed.counted s.told k.told.spoken;
-      readable = let few = (st.bounded v).globals in told-over s.variables (λ i x e. let b = k.numbered i x e in omega (arith, b, few)) s.told;
+      stays = k.logged.stays;
+      in_range = λ h. logged-in-range s.naming.made s.counted (few-made g s st v h) k.well_formed.counted s.logged k.logged.spoken;
+      readable = let few = (st.bounded v).globals in logged-over s.variables (λ i x e. let b = k.numbered i x e in omega (arith, b, few)) s.logged;
       derives = λ e.
-          let (last, d, same) = leads_derives [] s.told held (k.told.stays e) led in
-          subst (λ P. IsDerivation P (lines_of s.told)) k.told.accepted (derives_derivation _ (lines_of s.told) last d);
+          let (last, d, same) = leads_derives [] s.logged held (k.logged.stays e) led in
+          subst (λ P. IsDerivation P (lines_of s.logged)) k.logged.accepted (derives_derivation _ (lines_of s.logged) last d);
       refutes = λ e u.
-          let (all, on, conflict) = told-refuted g s st v u in
-          subst (λ P. Refutes P (lines_of s.told)) k.told.accepted (leads_refutes [] s.told all (k.told.stays e) on conflict);
+          let (all, on, conflict) = logged-refuted g s st v u in
+          subst (λ P. Refutes P (lines_of s.logged)) k.logged.accepted (leads_refutes [] s.logged all (k.logged.stays e) on conflict);
     }
 
 -- where nothing is counted entries are over no variable
-none-spoken : (w : Carrying) (p : Spaces) (s : State) → Links w p s → s.counted ≡ [] → AllSpeakOf (λ l. ⊥) s.told
+none-spoken : (w : Carrying) (p : Spaces) (s : State) → Links w p s → s.counted ≡ [] → AllSpeakOf (λ l. ⊥) s.logged
 none-spoken w p s k counted =
-    all-wider (IsCounted s.counted) (λ l. ⊥) s.told (λ l h. subst (λ is. variable_of l ∈ is) counted h) k.told.spoken
+    all-wider (IsCounted s.counted) (λ l. ⊥) s.logged (λ l h. subst (λ is. variable_of l ∈ is) counted h) k.logged.spoken
 
 -- Before anything was accepted no line was told.
-lines-none : (w : Carrying) (p : Spaces) (s : State) → Links w p s → s.clauses ≡ [] → s.counted ≡ [] → lines_of s.told ≡ []
+lines-none : (w : Carrying) (p : Spaces) (s : State) → Links w p s → s.clauses ≡ [] → s.counted ≡ [] → lines_of s.logged ≡ []
 lines-none w p s k clauses counted =
-    let (held, led) = led-of _ p.search.fixed k.holds.held p.outcome k.holds.told in
-    let none : SpeakOf (λ l. ⊥) (lines_of s.told) = lines-speak (λ l. ⊥) s.told (none-spoken w p s k counted) in
-    unspoken [] s.told held (λ i. false) (λ c h. absurd h) led (k.told.accepted ∙ clauses) none
+    let (held, led) = led-of _ p.search.fixed k.holds.held p.outcome k.holds.logged in
+    let none : SpeakOf (λ l. ⊥) (lines_of s.logged) = lines-speak (λ l. ⊥) s.logged (none-spoken w p s k counted) in
+    unspoken [] s.logged held (λ i. false) (λ c h. absurd h) led (k.logged.accepted ∙ clauses) none
 
 -- nor anything else but that variables left
-pub left-alone : (g : Summary) (s : State) → StandsFor g s → g.ledger.valid ≡ true → s.ledger.started ≡ false → OnlyLeave s.told
+pub left-alone : (g : Summary) (s : State) → StandsFor g s → g.ledger.valid ≡ true → s.ledger.started ≡ false → OnlyLeave s.logged
 left-alone g s st v fresh =
     let (w, k) = st.fits v in
-    let (held, led) = led-of _ (spaces g).search.fixed k.holds.held (spaces g).outcome k.holds.told in
+    let (held, led) = led-of _ (spaces g).search.fixed k.holds.held (spaces g).outcome k.holds.logged in
     let f = st.flags v in
-    only-leave [] s.told held (λ i. false) (λ c h. absurd h) led (k.told.accepted ∙ f.clauses fresh) (f.unlisted fresh)
+    only-leave [] s.logged held (λ i. false) (λ c h. absurd h) led (k.logged.accepted ∙ f.clauses fresh) (f.unlisted fresh)
     (none-spoken w (spaces g) s k (f.counted fresh))
 
 -- and nothing is held
@@ -183,10 +183,10 @@ checking-begins w p s k clauses counted =
       core = k.core;
       right = k.right;
       few = k.few;
-      told = k.told;
+      logged = k.logged;
       checked = λ held led. (
         subst (λ (X : List Clause). SameClauses (rename (carry w.global) X) [])
-            (sym (held-none s.told held led (k.told.accepted ∙ clauses) lines)) refl,
+            (sym (held-none s.logged held led (k.logged.accepted ∙ clauses) lines)) refl,
         refl,
       );
     })
@@ -215,43 +215,43 @@ unassumed-refuted g s st v none-assumed e =
 
 -- a proof that is open claims no more than that
 claims-refuted : (g : Summary) (s : State) → StandsFor g s → g.ledger.valid ≡ true → (p : OpenProof) → s.proof ≡ Some p → (f : ProofFormat) →
-    p.format ≡ f → IsRefuted calling f s → s.verdict ≡ Unsat
+    p.format ≡ f → IsRefuted by_state f s → s.verdict ≡ Unsat
 claims-refuted g s st v p e Drat f a = unassumed-refuted g s st v ((st.flags v).unassumed (p, e, ap has_marks f)) a.0
 claims-refuted g s st v p e BinaryDrat f a = unassumed-refuted g s st v ((st.flags v).unassumed (p, e, ap has_marks f)) a.0
 claims-refuted g s st v p e Marked f a = a.1 refl
 
 -- where nothing was ever hidden a marked proof is one of the clauses and the assumptions
 marked-of : (g : Summary) (s : State) → StandsFor g s → g.ledger.valid ≡ true → s.ever_hidden ≡ false → (refuted : Type 0) →
-    (refuted → s.verdict ≡ Unsat) → IsMarkedDerivation s.told s.clauses s.assumptions refuted
+    (refuted → s.verdict ≡ Unsat) → IsMarkedDerivation s.logged s.clauses s.assumptions refuted
 marked-of g s st v shown refuted u =
     let (w, k) = st.fits v in
-    let (held, led) = led-of _ (spaces g).search.fixed k.holds.held (spaces g).outcome k.holds.told in
-    let t = journal_taken [] nothing_told s.told held led (k.told.stays shown) k.told.cores in
+    let (held, led) = led-of _ (spaces g).search.fixed k.holds.held (spaces g).outcome k.holds.logged in
+    let t = journal_taken [] nothing_logged s.logged held led (k.logged.stays shown) k.logged.cores in
     record {
-      after = state_of held t.told;
+      after = state_of held t.logged;
       takes = t.takes;
-      inputs = t.inputs ∙ k.told.accepted;
-      assumed = t.assumed ∙ k.told.assumed;
+      inputs = t.inputs ∙ k.logged.accepted;
+      assumed = t.assumed ∙ k.logged.assumed;
       cores = t.cores;
       refutes = λ r.
-          let (all, on, conflict) = told-refuted g s st v (u r) in
-          conflicts_same all held [] (leads_unique [] [] s.told all held refl on led) conflict;
+          let (all, on, conflict) = logged-refuted g s st v (u r) in
+          conflicts_same all held [] (leads_unique [] [] s.logged all held refl on led) conflict;
     }
 
 -- the bytes of a proof
-pub proof-of : (g : Summary) (s : State) → StandsFor g s → g.ledger.valid ≡ true → IsProofIfOpen calling s
+pub proof-of : (g : Summary) (s : State) → StandsFor g s → g.ledger.valid ≡ true → IsProofIfOpen by_state s
 proof-of g s st v p e =
     let j = journal-of g s st v in
-    let w : IsWrittenAs s.variables s.told p = subst (IsWrittenWhereOpen s.variables s.told) e j.written in
+    let w : IsWrittenAs s.variables s.logged p = subst (IsWrittenWhereOpen s.variables s.logged) e j.written in
     record {
       written = w;
-      drat = λ n. w ∙ plain-bytes p.format n (entries_over s.variables s.told)
-          ∙ ap (λ ls. lines_written (encoding_of p.format) (plain_lines ls)) (lines-renamed (carry s.variables) s.told);
+      drat = λ n. w ∙ plain-bytes p.format n (entries_over s.variables s.logged)
+          ∙ ap (λ ls. lines_written (encoding_of p.format) (plain_lines ls)) (lines-renamed (carry s.variables) s.logged);
       apart = j.apart;
       plain = j.plain;
       in_range = j.in_range;
       readable = j.readable;
       derives = j.derives;
       refutes = λ h a. j.refutes h (claims-refuted g s st v p e p.format refl a);
-      marked = λ h. marked-of g s st v h (IsRefuted calling p.format s) (claims-refuted g s st v p e p.format refl);
+      marked = λ h. marked-of g s st v h (IsRefuted by_state p.format s) (claims-refuted g s st v p e p.format refl);
     }

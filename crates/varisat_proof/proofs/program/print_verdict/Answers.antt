@@ -1,6 +1,6 @@
 use Rattle.varisat_proof.specs.Verified.{verdict_status, verdict_text}
 use Rattle.varisat_proof.proofs.PrintedTexts.{ends-printed, ends-failed}
-use Rattle.varisat_proof.proofs.program.tell_verdict.Goals as goal
+use Rattle.varisat_proof.proofs.program.print_verdict.Goals as goal
 
 pub returns-in-Ok : goal.returns-in-Ok
 returns-in-Ok g c = ends-printed (verdict_status c.args.verified) (verdict_text c.args.verified) c.text_of.result.now _ _ _ c.text_of.ensures
@@ -8,4 +8,4 @@ returns-in-Ok g c = ends-printed (verdict_status c.args.verified) (verdict_text 
 
 pub returns-in-Err : goal.returns-in-Err
 returns-in-Err g c = ends-failed (verdict_status c.args.verified) (verdict_text c.args.verified) c.text_of.result.now _ _ _ c.text_of.ensures
-    c.tell_fault.ensures c.in-Err.ensures
+    c.print_fault.ensures c.in-Err.ensures

@@ -6,30 +6,30 @@ use Rattle.varisat_theory.specs.Renaming.{rename}
 use Rattle.varisat_names.specs.VarBiMap.{BiMap}
 use Rattle.varisat_names.specs.VarMap.{at}
 use Rattle.varisat_names.specs.Variables.{Tables}
-use Rattle.varisat_proof.specs.Proving.{OpenState, ProofParts, is_there, IsBegunIf, IsTold, MayBeHeld, told}
+use Rattle.varisat_proof.specs.Proving.{OpenState, ProofParts, is_there, IsBegunIf, IsLogged, MayBeHeld, logged}
 use Rattle.varisat_trace.specs.Traces.{BreaksOff}
-use Rattle.varisat_tracer.specs.Told.{begun-none, begun-behind}
-use Rattle.varisat_tracer.specs.Carried.{carry, told_as}
-use Rattle.varisat_tracer.specs.Tracing.{TracerState, OpenParts, open_parts, global_literal, Relies, TakesGlobally, BreaksGlobally, BreaksProof, CanTell}
+use Rattle.varisat_tracer.specs.Logged.{begun-none, begun-behind}
+use Rattle.varisat_tracer.specs.Carried.{carry, logged_as}
+use Rattle.varisat_tracer.specs.Tracing.{TracerState, OpenParts, open_parts, global_literal, Relies, TakesGlobally, BreaksGlobally, BreaksProof, CanLog}
 use Rattle.varisat_tracer.specs.TracerLaws.{checked-runs, room-stays, usable-stays}
 
-pub tells-told : (p q : ProofParts) (entries : List Entry) → IsTold p entries q → CanTell p → CanTell q
-tells-told p q entries h t = record {
+pub logs-logged : (p q : ProofParts) (entries : List Entry) → IsLogged p entries q → CanLog p → CanLog q
+logs-logged p q entries h t = record {
   room = room-stays p.opened q.opened entries h.written t.room;
   usable = usable-stays p.checker q.checker entries h.checked t.usable;
 }
 
-pub tells-on : (x y : TracerState) (entries : List Entry) → TakesGlobally x entries y → CanTell x.proof → CanTell y.proof
-tells-on x y entries h t = tells-told x.proof y.proof (told_as (global_literal x.tables) entries) h.told t
+pub logs-on : (x y : TracerState) (entries : List Entry) → TakesGlobally x entries y → CanLog x.proof → CanLog y.proof
+logs-on x y entries h t = logs-logged x.proof y.proof (logged_as (global_literal x.tables) entries) h.logged t
 
 -- What stands in the target of an open proof after an error; and a checker runs where one ran.
 pub breaks-proof : (x y : TracerState) (faults : ℕ) → BreaksOff BreaksGlobally x faults y → BreaksProof x.proof faults y.proof
-breaks-proof x y faults (entries, b) = (told_as (global_literal x.tables) entries, b.begun, b.runs)
+breaks-proof x y faults (entries, b) = (logged_as (global_literal x.tables) entries, b.begun, b.runs)
 
 pub proof-unbroken : (p : ProofParts) → BreaksProof p 0 p
 proof-unbroken p = ([], begun-none p.opened, refl)
 
-pub proof-breaks-on : (p q r : ProofParts) (entries : List Entry) (faults : ℕ) → IsTold p entries q → BreaksProof q faults r → BreaksProof p faults r
+pub proof-breaks-on : (p q r : ProofParts) (entries : List Entry) (faults : ℕ) → IsLogged p entries q → BreaksProof q faults r → BreaksProof p faults r
 proof-breaks-on p q r entries faults t (more, b, runs) = (
   entries ++ more,
   begun-behind p.opened q.opened r.opened entries more faults t.written b,
@@ -45,13 +45,13 @@ same-open p q e r =
 pub open-unbroken : (p q : ProofParts) → open_parts q ≡ open_parts p → BreaksProof p 0 q
 open-unbroken p q e = (
   [],
-  subst (λ o. IsBegunIf p.opened (told []) 0 o) (sym (ap (λ (x : OpenParts). x.opened) e)) (begun-none p.opened),
+  subst (λ o. IsBegunIf p.opened (logged []) 0 o) (sym (ap (λ (x : OpenParts). x.opened) e)) (begun-none p.opened),
   ap (λ (x : OpenParts). x.checking) e,
 )
 
 -- where no proof is open the target does not fail
 pub unopened-unbroken : (p q : ProofParts) (faults : ℕ) → p.opened ≡ None → BreaksProof p faults q → faults ≡ 0
-unopened-unbroken p q faults e (entries, b, _) = (subst (λ o. IsBegunIf o (told entries) faults q.opened) e b).1
+unopened-unbroken p q faults e (entries, b, _) = (subst (λ o. IsBegunIf o (logged entries) faults q.opened) e b).1
 
 -- what may be relied on depends on the solver variables alone
 pub relies-alike : (t u : Tables) (p : ProofParts) (held : List Clause) → u.solvers ≡ t.solvers → Relies (record { tables = t; proof = p }) held →

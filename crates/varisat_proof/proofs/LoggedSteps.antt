@@ -21,7 +21,7 @@ use Rattle.varisat_proof.specs.Lines.{ProofLine, encoding_of}
 use Rattle.varisat_proof.specs.Steps.{step_lines}
 use Rattle.varisat_proof.specs.Calls.{CheckerState, IsStepTaken, FailsAt, DoesNotFollow, IsStep}
 use Rattle.varisat_proof.specs.Present.{IsLeftAfter}
-use Rattle.varisat_proof.specs.Proving.{OpenState, ProofParts, IsWritten, IsWrittenIf, IsCheckedIf, IsTold, Tells, told, MayBeHeld, IsUsable, IsSpent, RunsOutTelling}
+use Rattle.varisat_proof.specs.Proving.{OpenState, ProofParts, IsWritten, IsWrittenIf, IsCheckedIf, IsLogged, Logs, logged, MayBeHeld, IsUsable, IsSpent, RunsOutLogging}
 
 -- 1. A step that is taken.
 lines_left : (P : List Clause) (lines : List Line) (Q : List Clause) → IsPresentAfter P lines Q → IsLeftAfter P (written lines) Q
@@ -128,11 +128,11 @@ written-as (Some old) None lines others same w = w
 written-as (Some old) (Some new) lines others same w = subst (λ ls. IsWritten old ls new) (same (encoding_of old.format)) w
 
 pub tells-ok : (old parts new : ProofParts) (entries : List Entry) (r : Result (Unit {0}) TraceError) → parts ≡ old → r ≡ Ok tt →
-    IsWrittenIf parts.opened (told entries) new.opened → IsCheckedIf parts.checker entries new.checker → Tells old entries r new
-tells-ok old parts new entries r e is w k = subst (λ x. Tells old entries x new) (sym is)
-    (subst (λ p. IsTold p entries new) e record { written = w; checked = k })
+    IsWrittenIf parts.opened (logged entries) new.opened → IsCheckedIf parts.checker entries new.checker → Logs old entries r new
+tells-ok old parts new entries r e is w k = subst (λ x. Logs old entries x new) (sym is)
+    (subst (λ p. IsLogged p entries new) e record { written = w; checked = k })
 
 pub tells-spent : (old parts new : ProofParts) (entries : List Entry) (r : Result (Unit {0}) TraceError) → parts ≡ old → r ≡ Err Memory →
-    IsWrittenIf parts.opened (told entries) new.opened → IsSpent parts.checker new.checker → Tells old entries r new
-tells-spent old parts new entries r e is w k = subst (λ x. Tells old entries x new) (sym is)
-    (subst (λ (p : ProofParts). RunsOutTelling p entries new) e (inr (w, k)))
+    IsWrittenIf parts.opened (logged entries) new.opened → IsSpent parts.checker new.checker → Logs old entries r new
+tells-spent old parts new entries r e is w k = subst (λ x. Logs old entries x new) (sym is)
+    (subst (λ (p : ProofParts). RunsOutLogging p entries new) e (inr (w, k)))

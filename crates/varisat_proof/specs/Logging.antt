@@ -23,9 +23,9 @@ entry_lines e (Fails core) = marked_line e (line_of_kind kinds.Fails core)
 entry_lines e (Leaves v) = []
 
 -- the lines of entries, and their bytes
-abbrev pub lines_told : Encoding → List Entry → List ProofLine
-lines_told e entries = flat_map (entry_lines e) entries
+abbrev pub logged_lines : Encoding → List Entry → List ProofLine
+logged_lines e entries = flat_map (entry_lines e) entries
 
 -- the bytes of the lines that the format has for the entries
-abbrev pub bytes_told : ProofFormat → List Entry → List ℕ
-bytes_told format entries = lines_written (encoding_of format) (lines_told (encoding_of format) entries)
+abbrev pub logged_bytes : ProofFormat → List Entry → List ℕ
+logged_bytes format entries = lines_written (encoding_of format) (logged_lines (encoding_of format) entries)

@@ -6,10 +6,10 @@ use Rattle.varisat_theory.specs.Literals.{Literal}
 use Rattle.varisat_solver.specs.declared.solver.SolverError.{SolverError}
 
 -- the literals of a list that was made
-abbrev pub told_list : {A : Type 0} → Result (Option (Vec Literal A)) AllocError → Result (Option (List Literal)) AllocError
-told_list (Ok None) = Ok None
-told_list (Ok (Some v)) = Ok (Some v.items)
-told_list (Err e) = Err e
+abbrev pub returned_list : {A : Type 0} → Result (Option (Vec Literal A)) AllocError → Result (Option (List Literal)) AllocError
+returned_list (Ok None) = Ok None
+returned_list (Ok (Some v)) = Ok (Some v.items)
+returned_list (Err e) = Err e
 
 -- the literals of a list that is lent
 abbrev pub lent_list : Option (Bor (List Literal)) → Option (List Literal)
@@ -17,6 +17,6 @@ lent_list None = None
 lent_list (Some list) = Some list.now
 
 -- the variables of a list that was made
-abbrev pub told_vars : {A : Type 0} → Result (Vec ℕ A) SolverError → Result (List ℕ) SolverError
-told_vars (Ok v) = Ok v.items
-told_vars (Err e) = Err e
+abbrev pub returned_variables : {A : Type 0} → Result (Vec ℕ A) SolverError → Result (List ℕ) SolverError
+returned_variables (Ok v) = Ok v.items
+returned_variables (Err e) = Err e

@@ -17,7 +17,7 @@ use Rattle.varisat_clause.specs.Stored.{literals_of, AreReordered}
 use Rattle.varisat_clause.proofs.StoredClauses.{reordered-old}
 use Rattle.varisat_prop.proofs.WellFormedChanges.{stored-kept, kept-here}
 use Rattle.varisat_prop.proofs.KeptPairs.{implied-kept}
-use Rattle.varisat_prop.specs.View.{View, pairs_from, kept, clause_at, literal_at, decision_at, no_node, node_of, node_at, level_of, is_clause, StandsBefore, Implies, IsReason, WellFormed, LevelsSettled, ViewFits}
+use Rattle.varisat_prop.specs.View.{View, pairs_from, kept, clause_at, literal_at, decision_at, no_node, node_of, node_at, level_of, is_clause, StandsBefore, Implies, IsReason, WellFormed, PropagatedBeforeDecisions, ViewFits}
 use Rattle.varisat_prop.specs.Changes.{NamesClause, NamesPlace, others_of, causes_of, named_in, NamesKeptClause, IsConflicting}
 use Rattle.varisat_prop.proofs.LiteralValues.{same-variable, variable-opposite, made-clash, made-inside}
 use Rattle.varisat_prop.proofs.TrailValues.{trail-true}
@@ -182,7 +182,7 @@ module _ (s : View) (w : WellFormed s) where
   last-in d = omega (arith, d)
 
   -- where the last level began with propagation at its end, a false clause has a literal of the current level
-  pub has-late : (f : Conflict) → LevelsSettled s → 0 < current_level s → IsConflicting s f → (m : Literal) × (m ∈ named_in s.clauses f)
+  pub has-late : (f : Conflict) → PropagatedBeforeDecisions s → 0 < current_level s → IsConflicting s f → (m : Literal) × (m ∈ named_in s.clauses f)
       × (level_of s m ≡ current_level s)
   has-late f q d c =
       let (x, j, same) = named-kept s w f c.0 in

@@ -7,7 +7,7 @@ use Rattle.varisat_prop.specs.declared.prop.graph.Conflict.{Conflict}
 use Rattle.varisat_clause.specs.Stores.{IsSound}
 use Rattle.varisat_clause.specs.Collected.{live_clauses}
 use Rattle.varisat_prop.specs.Changes.{causes_of, IsConflicting}
-use Rattle.varisat_prop.specs.View.{View, literal_at, node_at, node_of, level_of, StandsBefore, WellFormed, LevelsSettled, ViewFits}
+use Rattle.varisat_prop.specs.View.{View, literal_at, node_at, node_of, level_of, StandsBefore, WellFormed, PropagatedBeforeDecisions, ViewFits}
 use Rattle.varisat_analysis.specs.Flags.{IsFlagged}
 use Rattle.varisat_analysis.specs.Bumps.{literals_among, AreVariablesAbove}
 use Rattle.varisat_analysis.specs.declared.analyze_conflict.Parts.{Parts}
@@ -38,7 +38,7 @@ IsToMark s flags l level = (level ≡ level_of s l) × (0 < level) × (slice_ind
 
 -- A conflict above level 0, where each level began with propagation at its end.
 pub record IsDeepConflict (s : View) (f : Conflict) : Type 0 where
-  pub settled : LevelsSettled s
+  pub settled : PropagatedBeforeDecisions s
   pub conflict : IsConflicting s f
   pub deep : 0 < current_level s
 

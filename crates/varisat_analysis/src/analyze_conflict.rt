@@ -3,7 +3,7 @@ ghost use Rattle.std.specs.Prelude.{◌≡◌, ℕ, ◌<◌, ◌≤◌, ◌++◌
 ghost use Rattle.varisat_theory.specs.Membership.{◌∈◌, SameSet, IsDistinct};
 ghost use Rattle.varisat_theory.specs.Literals.{variable_of, opposite};
 ghost use Rattle.varisat_theory.specs.Propagation.{IsFalse};
-ghost use Rattle.varisat_prop.specs.View.{View, level_of, WellFormed, LevelsSettled};
+ghost use Rattle.varisat_prop.specs.View.{View, level_of, WellFormed, PropagatedBeforeDecisions};
 ghost use Rattle.varisat_prop.specs.Changes.{IsConflicting};
 ghost use Rattle.varisat_analysis.specs.Learned.{no_analysis, names_of, Shows, IsLevelOf, IsLearned, AreInvolved};
 ghost use Rattle.varisat_analysis.specs.Marks.{Sees, CanMark, IsPassedOver, IsToMark, marking, MayBegin, MarksAreListed, Marks, AddsMarks, AddsReason, IsResolved, Minimizes, Teaches};
@@ -452,7 +452,7 @@ pub fn analyze_conflict<A: Allocator + Copy>(
     ghost s: { View }
     requires shows { Shows s clause_alloc.now impl_graph.now.nodes.items trail.now }
     requires well { WellFormed s }
-    requires settled { LevelsSettled s }
+    requires settled { PropagatedBeforeDecisions s }
     requires conflict { IsConflicting s conflict }
     requires flags { analyze.old.var_count ≡ length impl_graph.now.nodes.items }
     ensures count { analyze.new.var_count ≡ analyze.old.var_count }

@@ -208,9 +208,9 @@ join-step p r v u g h i after x y nx ny mx my either both rest w e f ei bo a b c
     last : both ≡ 2 * (r.named + 1)
     last = bo ∙ ap (λ (z : Reduction). 2 * z.named) e
 
-pub settle-step : (p : Problem) (r : Reduction) (h : Client) (x : Literal) (w k : ℕ) → Gives (x ∷ []) r.client h → k ≡ r.bound + w →
+pub join_pending-step : (p : Problem) (r : Reduction) (h : Client) (x : Literal) (w k : ℕ) → Gives (x ∷ []) r.client h → k ≡ r.bound + w →
     StandsWith p (x ∷ []) w r → Stands p (record r { client = h; bound = k })
-settle-step p r h x w k gives f st = stands-settled p r (record r { client = h; bound = k }) x w k gives f refl st
+join_pending-step p r h x w k gives f st = stands-settled p r (record r { client = h; bound = k }) x w k gives f refl st
 
 pub relax-step : (p : Problem) (r : Reduction) (t w : ℕ) (kept failed after : List Charge) (pending : List Literal) →
     ((q : Past) → IsReady r.client q → IsSplit q.core r.charges kept failed) → TakesWeight w failed kept after pending →

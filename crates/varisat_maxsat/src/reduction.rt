@@ -116,12 +116,12 @@ impl<A: Allocator + Copy> Reduction<A> {
         let weight = least_weight(&failed);
         let pending = take_weight(&failed, weight, &mut kept)?;
         self.charges = kept;
-        self.settle(pending, weight)?;
+        self.join_pending(pending, weight)?;
         Ok(true)
     }
 
     /// Joins the literals, of which one is true, and raises the bound by their weight.
-    fn settle(&mut self, mut pending: VecDeque<Lit, A>, weight: u64) -> Result<(), MaxSatError>
+    fn join_pending(&mut self, mut pending: VecDeque<Lit, A>, weight: u64) -> Result<(), MaxSatError>
         ensures { OnOk result ((p : Problem) → StandsWith p pending.items weight self.old → Stands p self.new) }
     {
         'gates: while let Some(first) = pending.pop_front() {

@@ -11,7 +11,7 @@ use Rattle.varisat_theory.proofs.Saturated.{saturated_no_conflict, complete_fewe
 use Rattle.varisat_theory.proofs.Implication.{implied_known, implied_clash, implied_more, implied_alone}
 use Rattle.varisat_theory.proofs.Growth.{conflicts_known}
 use Rattle.varisat_plain.proofs.Scans.{answers_true, answers_false}
-use Rattle.varisat_present.specs.Knowing.{AreImplied, Keeps, Settles, Finds, Saturates, TakesBase, Asks, Sees, IsSpare}
+use Rattle.varisat_present.specs.Knowing.{AreImplied, Keeps, IsPropagatedTo, Finds, Saturates, TakesBase, Asks, Sees, IsSpare}
 use Rattle.varisat_present.proofs.KnownGrowth.{complete_both, grows_part, cut_back}
 
 -- 1. A clause joins.
@@ -163,14 +163,14 @@ found_there P Q base other found e f h = subst (λ (x : List Clause). IsTrue fou
     (subst (λ (b : List Literal). IsTrue found ↔ Conflicts P b) f h)
 
 -- 7. Propagation to the end.
-pub settles_found : (b : Bool) (P : List Clause) (old new : List Literal) (found : Bool) → Keeps b P old → Saturates P old found new → Settles P found new
-settles_found b P old new found k s = record {
+pub propagated_found : (b : Bool) (P : List Clause) (old new : List Literal) (found : Bool) → Keeps b P old → Saturates P old found new → IsPropagatedTo P found new
+propagated_found b P old new found k s = record {
   keeps = keeps_found b P old new found (not found) k s (not_true found);
   right = refuted_is b P old new found k s;
 }
 
-pub settles_already : (b : Bool) (P : List Clause) (known : List Literal) → b ≡ true → Keeps b P known → Settles P false known
-settles_already b P known e k = record {
+pub propagated_already : (b : Bool) (P : List Clause) (known : List Literal) → b ≡ true → Keeps b P known → IsPropagatedTo P false known
+propagated_already b P known e k = record {
   keeps = subst (λ (x : Bool). Keeps x P known) e k;
   right = saturated_is b P known e k;
 }

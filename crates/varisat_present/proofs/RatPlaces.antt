@@ -13,7 +13,7 @@ use Rattle.varisat_plain.specs.declared.propagation.ClauseStatus.TheVariants.{Op
 use Rattle.varisat_theory.proofs.Growth.{conflicts_known}
 use Rattle.varisat_plain.proofs.Scans.{opposites_append, answers_true, answers_false}
 use Rattle.varisat_present.specs.Places.{present, present_at}
-use Rattle.varisat_present.specs.Knowing.{AreImplied, Asks, Settles}
+use Rattle.varisat_present.specs.Knowing.{AreImplied, Asks, IsPropagatedTo}
 use Rattle.varisat_present.specs.Resolving.{IsForced, IsRatOnSome, IsDeletionOf, ConflictsBut, AllConflict, IsResolventFound}
 use Rattle.varisat_present.specs.declared.present.Deletion.TheVariants.{Taken}
 use Rattle.varisat_present.proofs.KnownGrowth.{cut_back}
@@ -162,7 +162,7 @@ not_forced P known c s (inr (m, n, i, j, d, o, p)) (l, k, h) = λ x y z. absurd
     (λ a. ⊎_elim (λ b. d (a ∙ sym b)) (λ b. p (implied_is_known P known s (opposite n) b)) (h n j))
     (λ a. o (implied_is_known P known s (opposite m) a)) (h m i))
 
-pub unforced : (P Q : List Clause) (known : List Literal) (c : Clause) (found : Bool) → P ≡ Q → Settles P found known →
+pub unforced : (P Q : List Clause) (known : List Literal) (c : Clause) (found : Bool) → P ≡ Q → IsPropagatedTo P found known →
     IsFalse known c ⊎ IsClauseStatus known c Open → (Conflicts Q [] → ⊥) → IsForced Q c → IsAbsent Q c
 unforced P Q known c true e s f n h = absurd (n (subst (λ (x : List Clause). Conflicts x []) e (s.right.0 refl)))
 unforced P Q known c false e s f n h = subst (λ (x : List Clause). IsAbsent x c) e

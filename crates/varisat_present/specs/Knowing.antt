@@ -33,7 +33,7 @@ pub record Saturates (P : List Clause) (old : List Literal) (found : Bool) (new 
   pub saturated : found ≡ false → IsSaturated P new
 
 -- propagation has come to its end, or else conflicts
-pub record Settles (P : List Clause) (found : Bool) (known : List Literal) : Type 0 where
+pub record IsPropagatedTo (P : List Clause) (found : Bool) (known : List Literal) : Type 0 where
   pub keeps : Keeps (not found) P known
   pub right : IsTrue found ↔ Conflicts P []
 

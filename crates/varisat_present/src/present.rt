@@ -9,7 +9,7 @@ ghost use Rattle.varisat_theory.specs.Rat.{ResolventsFollow};
 ghost use Rattle.varisat_theory.specs.Membership.{◌∈◌, SameSet};
 ghost use Rattle.varisat_theory.specs.Propagation.{Conflicts, Follows, HasClash, IsComplete, IsFalse, LeavesOnly};
 ghost use Rattle.varisat_present.specs.Places.{present, present_at};
-ghost use Rattle.varisat_present.specs.Knowing.{IsSpare, Asks, Sees, AreImplied, Keeps, Settles};
+ghost use Rattle.varisat_present.specs.Knowing.{IsSpare, Asks, Sees, AreImplied, Keeps, IsPropagatedTo};
 ghost use Rattle.varisat_present.specs.Resolving.{AllConflict, IsForced, IsRatOnSome, IsDeletionOf, IsResolventFound};
 
 use crate::clause::{holds, is_quiet, status_of};
@@ -170,14 +170,14 @@ pub enum Deletion {
 }
 
 /// Propagates to the end, unless that was done. Returns whether the clauses conflict.
-fn settle<A: Allocator + Copy>(
+fn propagate_to_end<A: Allocator + Copy>(
     places: &[Option<Vec<Lit, A>>],
     known: &mut Known<A>,
     guide: &mut Guide<A>,
     is_saturated: bool,
 ) -> Result<bool, AllocError>
     requires { Keeps is_saturated (present places.now) known.old }
-    ensures { IfOk result (λ found. Settles (present places.now) found known.new) }
+    ensures { IfOk result (λ found. IsPropagatedTo (present places.now) found known.new) }
 {
     if is_saturated {
         return Ok(false);
@@ -403,7 +403,7 @@ impl<A: Allocator + Copy> PresentClauses<A> {
         ensures no { IfOk result (λ found. found ≡ false → (Conflicts self.old [] → ⊥) → IsForced self.old clause.now → IsAbsent self.old clause.now) }
         ensures stays { self.new ≡ self.old }
     {
-        match settle(
+        match propagate_to_end(
             &self.places,
             &mut self.known,
             &mut self.guide,
@@ -455,7 +455,7 @@ impl<A: Allocator + Copy> PresentClauses<A> {
         ensures found { IfOk result (λ found. IsTrue found ↔ Conflicts self.old []) }
         ensures stays { self.new ≡ self.old }
     {
-        match settle(
+        match propagate_to_end(
             &self.places,
             &mut self.known,
             &mut self.guide,

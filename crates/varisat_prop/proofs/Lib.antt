@@ -24,6 +24,6 @@ pub mod TrailValues
 pub mod ViewGrowth
 pub mod WatchKept
 pub mod WatchRebuilt
-pub mod WatchSettled
+pub mod WatchesHold
 pub mod WatchesOnce
 pub mod WellFormedChanges

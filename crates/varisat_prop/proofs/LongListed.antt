@@ -15,18 +15,18 @@ use Rattle.varisat_prop.specs.declared.prop.long.Visit.TheVariants as visit
 use Rattle.varisat_prop.specs.declared.prop.graph.Conflict.TheVariants as conflict
 use Rattle.varisat_clause.specs.Stored.{IsPlace}
 use Rattle.varisat_clause.proofs.StoredClauses.{reordered-at, reordered-place, reordered-place-back}
-use Rattle.varisat_prop.specs.Watches.{Watches, watches_of, with_watches, literal_in, IsWatchedBy, IsKnownWatch, NameOnce, HasWatch, IsSatisfied, IsSettledTo, IsWatched}
+use Rattle.varisat_prop.specs.Watches.{Watches, watches_of, with_watches, literal_in, IsWatchedBy, IsKnownWatch, NameOnce, HasWatch, IsSatisfied, WatchesHoldTo, IsWatched}
 use Rattle.varisat_prop.specs.Visits.{IsVisited, IsVisit}
 use Rattle.varisat_prop.specs.QueueSteps.{SearchParts, view_of_parts, KeepsParts, IsNext, GoesOnWith, IsWatchOf, IsVisitedAs, with_lists}
 use Rattle.varisat_prop.specs.Changes.{IsConflicting}
 use Rattle.varisat_prop.proofs.PropagateQueue.{kept-all}
 use Rattle.varisat_prop.proofs.WatchesOnce.{once-dropped, once-apart, once-moved, once-gets}
-use Rattle.varisat_prop.proofs.WatchSettled.{IsSettledBut, settled-next, implied-longer, propagates-goes-on}
+use Rattle.varisat_prop.proofs.WatchesHold.{WatchesHoldBut, settled-next, implied-longer, propagates-goes-on}
 
 pub record Listing (s t : View) (W : Watches) (q : ℕ) (l : Literal) (kept rest : List Watch) : Type 0 where
   pub propagates : Propagates s t
   pub watched : IsWatched (with_watches W l (kept ++ rest)) t q
-  pub but : IsSettledBut t l rest
+  pub but : WatchesHoldBut t l rest
   pub head : literal_at t q ≡ l
   pub within : q < length t.trail
   pub inside : l < length W.lists
@@ -275,8 +275,8 @@ module _ (s t : View) (W : Watches) (q : ℕ) (l : Literal) (kept rest : List Wa
         (λ j b. inr (x, one-in, e))
 
 -- all watches were visited
-pub listing-end : (s t : View) (W : Watches) (q : ℕ) (l : Literal) (kept rest : List Watch) → Listing s t W q l kept rest → rest ≡ [] → IsSettledTo t (suc q)
-listing-end s t W q l kept rest g e = settled-next t q l g.head g.watched.queue g.watched.settled (subst (λ ws. IsSettledBut t l ws) e g.but)
+pub listing-end : (s t : View) (W : Watches) (q : ℕ) (l : Literal) (kept rest : List Watch) → Listing s t W q l kept rest → rest ≡ [] → WatchesHoldTo t (suc q)
+listing-end s t W q l kept rest g e = settled-next t q l g.head g.watched.queue g.watched.settled (subst (λ ws. WatchesHoldBut t l ws) e g.but)
 
 -- The visits so far, by places of the list that the code reads and writes: its first a watches are kept, and those from r
 -- on are still to be visited.
@@ -385,5 +385,5 @@ module _ {p q : SearchParts} {W V : Watches} {l : Literal} {xs : List Watch} {a 
       watched = subst (λ zs. IsWatched (with_watches V l zs) t q.trail.queue_head) (kept-all xs a r done ∙ sym e) g.listing.watched;
     }
 
-    pub visiting-settled : IsSettledTo t (suc q.trail.queue_head)
+    pub visiting-settled : WatchesHoldTo t (suc q.trail.queue_head)
     visiting-settled = listing-end s t V q.trail.queue_head l (take a xs) (drop r xs) g.listing (drop_all r xs done)

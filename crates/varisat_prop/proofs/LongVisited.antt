@@ -32,7 +32,7 @@ use Rattle.varisat_clause.specs.Collected.{live_clauses}
 use Rattle.varisat_clause.proofs.StoreSound.{sound-is}
 use Rattle.varisat_clause.proofs.StoredClauses.{reordered-place, with-reordered, with-same, with-other}
 use Rattle.varisat_prop.proofs.WatchKept.{adds-none}
-use Rattle.varisat_prop.proofs.WatchSettled.{Lengthens, settled-longer, settled-reordered, two}
+use Rattle.varisat_prop.proofs.WatchesHold.{Lengthens, settled-longer, settled-reordered, two}
 use Rattle.varisat_prop.proofs.ClauseOrder.{reordered, changed}
 use Rattle.varisat_prop.proofs.WellFormedChanges.{kept-here}
 

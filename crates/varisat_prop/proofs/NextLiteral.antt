@@ -13,13 +13,13 @@ use Rattle.varisat_prop.specs.declared.prop.watch_list.Watch.{Watch}
 use Rattle.varisat_prop.specs.Parts.{TrailParts}
 use Rattle.varisat_prop.specs.View.{View, IsTrueIn, implied_by, literal_at, WellFormed}
 use Rattle.varisat_prop.specs.Looks.{Propagates}
-use Rattle.varisat_prop.specs.Watches.{Watches, watches_of, with_watches, IsSettledTo, IsImpliedTo, IsWatched}
-use Rattle.varisat_prop.specs.QueueSteps.{SearchParts, view_of_parts, KeepsParts, IsNext, GoesOnWith, EndsPropagation, IsNextSettled, IsNextPropagated}
+use Rattle.varisat_prop.specs.Watches.{Watches, watches_of, with_watches, WatchesHoldTo, IsImpliedTo, IsWatched}
+use Rattle.varisat_prop.specs.QueueSteps.{SearchParts, view_of_parts, KeepsParts, IsNext, GoesOnWith, EndsPropagation, WatchesHoldNext, IsNextPropagated}
 use Rattle.varisat_prop.proofs.LiteralValues.{made-inside}
 use Rattle.varisat_prop.proofs.TrailValues.{trail-short}
 use Rattle.varisat_prop.proofs.ViewGrowth.{grows-longer, literal-stays}
 use Rattle.varisat_prop.proofs.PropagateSteps.{propagates-trans, keeps-trans}
-use Rattle.varisat_prop.proofs.WatchSettled.{implied-next}
+use Rattle.varisat_prop.proofs.WatchesHold.{implied-next}
 use Rattle.varisat_prop.proofs.PropagateQueue.{popped, put-back, watched-longer, watched-next, propagates-next}
 
 -- what the queue gives is the next literal
@@ -92,7 +92,7 @@ goes-then {p = p} {q = q} {r = r} g h = record {
 
 pub ends-both : {q r : SearchParts} {W V : Watches} {l : Literal} (end : Result (Unit {0}) Conflict) → IsNext W (view_of_parts q) l →
     GoesOnWith q r V → ((m : Literal) → m ∈ implied_by (view_of_parts q) l → m ∈ q.trail.literals)
-    → EndsPropagation IsNextSettled (view_of_parts r) end → EndsPropagation IsNextPropagated (view_of_parts r) end
+    → EndsPropagation WatchesHoldNext (view_of_parts r) end → EndsPropagation IsNextPropagated (view_of_parts r) end
 ends-both (Err f) n g d m = m
 ends-both {q = q} {r = r} {l = l} (Ok x) n g d m =
     let t = view_of_parts q in
@@ -151,7 +151,7 @@ module _ {W V : Watches} {q r : SearchParts} {l : Literal} {o : Option ℕ} (tr 
   left : tr ≡ record r.trail { queue_head = r.trail.queue_head + 1 }
   left = popped r.trail.literals r.trail.queue_head o (tr ≡ r.trail) (λ m. tr ≡ record r.trail { queue_head = r.trail.queue_head + 1 }) head within taken
 
-  pub queue-next : {p : SearchParts} {X : Watches} → QueueGoesOn p q X → IsSettledTo (view_of_parts r) (suc r.trail.queue_head)
+  pub queue-next : {p : SearchParts} {X : Watches} → QueueGoesOn p q X → WatchesHoldTo (view_of_parts r) (suc r.trail.queue_head)
       × IsImpliedTo (view_of_parts r) (suc r.trail.queue_head) → QueueGoesOn p (record r { trail = tr }) V
   queue-next {p = p} a st =
       let b = queue-more a g in

@@ -7,10 +7,10 @@ use Rattle.std.proofs.lemmas.Bool.{cases_lt}
 use Rattle.std.proofs.lemmas.List.{set-set, set-get_or, drop_all}
 use Rattle.varisat_theory.specs.Literals.{Literal}
 use Rattle.varisat_prop.specs.View.{View, WellFormed}
-use Rattle.varisat_prop.proofs.WatchSettled.{settled-longer, implied-longer, propagates-goes-on}
+use Rattle.varisat_prop.proofs.WatchesHold.{settled-longer, implied-longer, propagates-goes-on}
 use Rattle.varisat_prop.proofs.ViewGrowth.{append-nil}
 use Rattle.varisat_prop.specs.declared.prop.watch_list.Watch.{Watch}
-use Rattle.varisat_prop.specs.Watches.{Watches, watches_of, with_watches, IsWatching, IsSettledTo, IsImpliedTo, IsPropagated, IsWatched}
+use Rattle.varisat_prop.specs.Watches.{Watches, watches_of, with_watches, IsWatching, WatchesHoldTo, IsImpliedTo, IsPropagated, IsWatched}
 use Rattle.varisat_prop.specs.Looks.{Propagates}
 use Rattle.varisat_prop.proofs.WellFormedChanges.{well-moved}
 
@@ -19,7 +19,7 @@ pub popped : (xs : List ℕ) (q : ℕ) (o : Option ℕ) (P : Type 0) (Q : ℕ �
 popped xs q o P Q e h m = MatchOption-at_some P Q (get_or xs q 0) (e ∙ slice_get-get_or xs q 0 h) m
 
 -- the next literal of the queue was propagated
-pub watched-next : (W : Watches) (u : View) (k : ℕ) → IsWatched W u k → k < length u.trail → IsSettledTo u (suc k) → IsImpliedTo u (suc k) →
+pub watched-next : (W : Watches) (u : View) (k : ℕ) → IsWatched W u k → k < length u.trail → WatchesHoldTo u (suc k) → IsImpliedTo u (suc k) →
     IsWatched W (record u { queue_head = k + 1 }) (k + 1)
 watched-next W u k w a st im = subst (λ n. IsWatched W (record u { queue_head = k + 1 }) n) (sym (add-one k)) record {
   lists = w.lists;

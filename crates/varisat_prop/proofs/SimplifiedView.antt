@@ -7,8 +7,8 @@ use Rattle.varisat_theory.proofs.Places.{∈-get_or}
 use Rattle.varisat_theory.proofs.Values.{opposite_twice}
 use Rattle.varisat_clause.specs.Stored.{StoredClause, literals_of, IsPlace, AreRising}
 use Rattle.varisat_prop.specs.declared.prop.graph.Reason.TheVariants as reason
-use Rattle.varisat_prop.specs.View.{View, pairs_from, kept, clause_at, literal_at, node_at, IsReason, WellFormed, LevelsSettled}
-use Rattle.varisat_prop.specs.Watches.{Watches, watches_of, literal_in, IsSettledTo, IsImpliedTo, IsPropagated}
+use Rattle.varisat_prop.specs.View.{View, pairs_from, kept, clause_at, literal_at, node_at, IsReason, WellFormed, PropagatedBeforeDecisions}
+use Rattle.varisat_prop.specs.Watches.{Watches, watches_of, literal_in, WatchesHoldTo, IsImpliedTo, IsPropagated}
 use Rattle.varisat_prop.specs.Simplified.{is_unassigned, are_unassigned}
 use Rattle.varisat_prop.proofs.KeptPairs.{pair-in, implied-kept}
 use Rattle.varisat_prop.proofs.LiteralValues.{variable-opposite, none-made}
@@ -74,7 +74,7 @@ module _ (s : View) (P : List StoredClause) (C : List (List Literal)) (r : AreUn
       })
 
 -- at level 0 no level has begun
-pub settled-undecided : (s : View) → s.decisions ≡ [] → LevelsSettled s
+pub settled-undecided : (s : View) → s.decisions ≡ [] → PropagatedBeforeDecisions s
 settled-undecided s d j h = let n = ap (λ (x : List ℕ). length x) d in absurd (omega (arith, h, n))
 
 -- The kept clauses say nothing of variables that have a value.
@@ -88,7 +88,7 @@ module _ (t : View) (w : WellFormed t) (free : (c : Clause) → c ∈ kept t →
   watched-in i j a l = ∈-get_or (clause_at t i) j 0 (let n = w.several (clause_at t i) (kept-here t i a) in omega (arith, l, n))
 
   -- what stands on the trail is settled
-  pub settled-unassigned : IsSettledTo t t.queue_head
+  pub settled-unassigned : WatchesHoldTo t t.queue_head
   settled-unassigned i j p a l h g =
       absurd (not-false (clause_at t i) (kept-here t i a) p (let q = w.head in omega (arith, h, q)) (literal_in (clause_at t i) j) (watched-in i j a l) g)
 

@@ -14,12 +14,12 @@ use Rattle.varisat_clause.specs.Stored.{StoredClause, IsPlace, literals_at}
 use Rattle.varisat_prop.specs.View.{View, clause_at, literal_at, decision_at, WellFormed}
 use Rattle.varisat_prop.specs.Changes.{enqueued, decided_on}
 use Rattle.varisat_prop.specs.declared.prop.watch_list.Watch.{Watch}
-use Rattle.varisat_prop.specs.Watches.{Watches, watches_of, with_watches, literal_in, IsWatchedBy, NameOnce, HasWatch, IsWatching, IsCovered, IsSettledTo, IsImpliedTo, IsPropagated}
+use Rattle.varisat_prop.specs.Watches.{Watches, watches_of, with_watches, literal_in, IsWatchedBy, NameOnce, HasWatch, IsWatching, IsCovered, WatchesHoldTo, IsImpliedTo, IsPropagated}
 use Rattle.varisat_prop.specs.Visits.{AddsWatches, GetsWatch, WatchesClause}
 use Rattle.varisat_clause.proofs.StoredClauses.{place-cases-more, place-more, place-last, stored-more, stored-last}
 use Rattle.varisat_prop.proofs.TrailExtend.{get_or-last}
 use Rattle.varisat_prop.proofs.WatchesOnce.{once-gets}
-use Rattle.varisat_prop.proofs.WatchSettled.{Lengthens, lengthens-goes-on, settled-longer, settled-back, implied-longer, implied-back, two}
+use Rattle.varisat_prop.proofs.WatchesHold.{Lengthens, lengthens-goes-on, settled-longer, settled-back, implied-longer, implied-back, two}
 
 enqueued-longer : (s : View) (l : Literal) (r : Reason) → Lengthens s (enqueued s l r)
 enqueued-longer s l r = record {
@@ -58,7 +58,7 @@ module _ (W : Watches) (s : View) (l : Literal) (f : WellFormed s) (done : s.que
   abbrev opened : View
   opened = record s { decisions = ds }
 
-  opened-settled : IsSettledTo opened s.queue_head
+  opened-settled : WatchesHoldTo opened s.queue_head
   opened-settled = λ i j p a b h e.
       let (k, x, y, z) = w.settled i j p a b h e in
       (k, x, y, λ v c d. ⊎_elim (λ (g, o). let q = z v g (omega (arith, d, o)) in omega (arith, q, o)) (λ o. omega (arith, x, o)) (at-level v c))
@@ -91,7 +91,7 @@ propagated-back W s t level w a n e g =
       lists = (let k = g.lists in omega (arith, k, n));
       watching = λ h. subst (λ P. IsWatching W P) (sym (ap (λ x. x.clauses) e)) (g.watching h);
       empty = g.empty;
-      settled = subst (λ q. IsSettledTo t q) (sym (ap (λ x. x.queue_head) e)) (settled-back s t level s.queue_head a (g.queue level a) m e g.settled);
+      settled = subst (λ q. WatchesHoldTo t q) (sym (ap (λ x. x.queue_head) e)) (settled-back s t level s.queue_head a (g.queue level a) m e g.settled);
       binary = (let k = ap (λ (x : View). length x.binary) e in let o = g.binary in omega (arith, k, o, n));
       implied = subst (λ q. IsImpliedTo t q) (sym (ap (λ x. x.queue_head) e)) (implied-back s t level s.queue_head a (g.queue level a) m e g.implied);
       queue = λ j h. let k = ap (λ (x : View). length x.decisions) e in let o = length-take level s.decisions in
@@ -145,8 +145,8 @@ module _ (P : List StoredClause) (c : StoredClause) (last : (k : StoredClause) �
 
   -- it is settled where each of its first two literals that is false below q has a true one beside it, at its level or a lower one
   pub settled-more : (s : View) (q : ℕ) → s.clauses ≡ P →
-      ((j p : ℕ) → j < 2 → p < q → literal_at s p ≡ opposite (literal_in c.literals j) → IsCovered s c.literals p) → IsSettledTo s q →
-      IsSettledTo (record s { clauses = more }) q
+      ((j p : ℕ) → j < 2 → p < q → literal_at s p ≡ opposite (literal_in c.literals j) → IsCovered s c.literals p) → WatchesHoldTo s q →
+      WatchesHoldTo (record s { clauses = more }) q
   settled-more s q f n st = λ i j p a b h e. ⊎_elim
       (λ k. let g : literals_at more i ≡ clause_at s i = old-at i k ∙ ap (λ x. literals_at x i) (sym f) in
       subst (λ d. IsCovered s d p) (sym g) (st i j p (subst (λ x. IsPlace x i) (sym f) k) b h (e ∙ ap (λ d. opposite (literal_in d j)) g)))

@@ -19,7 +19,7 @@ use Rattle.varisat_prop.specs.Parts.{Values, TrailParts}
 use Rattle.varisat_prop.specs.View.{View, view_of, kept, implied_by, IsTrueIn, clause_at, literal_at, WellFormed}
 use Rattle.varisat_prop.specs.Changes.{IsConflicting}
 use Rattle.varisat_prop.specs.Looks.{Propagates}
-use Rattle.varisat_prop.specs.Watches.{Watches, IsWatchedBy, IsSettledTo, IsImpliedTo, IsWatched}
+use Rattle.varisat_prop.specs.Watches.{Watches, IsWatchedBy, WatchesHoldTo, IsImpliedTo, IsWatched}
 use Rattle.varisat_prop.specs.Visits.{IsFound, IsVisited, IsVisit}
 
 -- what the parts of a search hold
@@ -77,12 +77,12 @@ abbrev pub HasImplied : Literal → View → Type 0
 HasImplied l s = (m : Literal) → m ∈ implied_by s l → m ∈ s.trail
 
 -- the next literal of the queue is propagated too, over the clauses of three literals or more
-abbrev pub IsNextSettled : View → Type 0
-IsNextSettled s = IsSettledTo s (suc s.queue_head)
+abbrev pub WatchesHoldNext : View → Type 0
+WatchesHoldNext s = WatchesHoldTo s (suc s.queue_head)
 
 -- and over all clauses
 abbrev pub IsNextPropagated : View → Type 0
-IsNextPropagated s = IsSettledTo s (suc s.queue_head) × IsImpliedTo s (suc s.queue_head)
+IsNextPropagated s = WatchesHoldTo s (suc s.queue_head) × IsImpliedTo s (suc s.queue_head)
 
 -- No clause is false, none leaves a literal that isn't true, and each literal was propagated.
 abbrev pub IsFullyPropagated : View → Type 0

@@ -144,8 +144,8 @@ pub record WellFormed (s : View) : Type 0 where
   pub reason_is : (k : ℕ) → k < length s.trail → IsReason s k (node_at s k).reason
 
 -- As each level began, propagation had come to its end: no kept clause was false, and none had one literal left that wasn't true.
-abbrev pub LevelsSettled : View → Type 0
-LevelsSettled s = (j : ℕ) → j < length s.decisions → IsComplete (kept s) (take (decision_at s j) s.trail)
+abbrev pub PropagatedBeforeDecisions : View → Type 0
+PropagatedBeforeDecisions s = (j : ℕ) → j < length s.decisions → IsComplete (kept s) (take (decision_at s j) s.trail)
 
 -- the literal is true at level 0
 abbrev pub IsFixed : View → Literal → Type 0

@@ -6,7 +6,7 @@ use Rattle.varisat_theory.specs.Propagation.{IsFalse}
 use Rattle.varisat_prop.specs.Parts.{IsMadeTrue}
 use Rattle.varisat_prop.specs.View.{View, clause_at}
 use Rattle.varisat_prop.specs.Looks.{Propagates, IsFalseAt}
-use Rattle.varisat_prop.specs.Watches.{Watches, watches_of, literal_in, IsWatchedBy, HasWatch, IsSatisfied, IsSettledTo, IsRearranged}
+use Rattle.varisat_prop.specs.Watches.{Watches, watches_of, literal_in, IsWatchedBy, HasWatch, IsSatisfied, WatchesHoldTo, IsRearranged}
 use Rattle.varisat_prop.specs.declared.prop.watch_list.Watch.{Watch}
 use Rattle.varisat_prop.specs.declared.prop.long.Found.{Found}
 use Rattle.varisat_prop.specs.declared.prop.long.Found.TheVariants as found
@@ -60,7 +60,7 @@ pub record WatchesClause (W V : Watches) (i : ℕ) (d : Clause) : Type 0 where
 pub record IsVisited (s t : View) (W V : Watches) (l : Literal) (i : ℕ) : Type 0 where
   pub propagates : Propagates s t
   pub elsewhere : (k : ℕ) → k ≢ i → clause_at t k ≡ clause_at s k
-  pub settled : (q : ℕ) → q ≤ length s.trail → IsSettledTo s q → IsSettledTo t q
+  pub settled : (q : ℕ) → q ≤ length s.trail → WatchesHoldTo s q → WatchesHoldTo t q
   pub adds : AddsWatches W V i (clause_at t i)
   -- its other watched literal stays
   pub other : (x : Literal) → x ≢ opposite l → IsWatchedBy (clause_at s i) x → IsWatchedBy (clause_at t i) x

@@ -59,8 +59,8 @@ abbrev pub IsCovered : View → Clause → ℕ → Type 0
 IsCovered s c p = (k : ℕ) × (k < length s.trail) × (literal_at s k ∈ c) × ((j : ℕ) → j < length s.decisions → p < decision_at s j → k < decision_at s j)
 
 -- Where one of a clause's first two literals is false by a literal before place q, the clause is true no later than at that literal's level.
-abbrev pub IsSettledTo : View → ℕ → Type 0
-IsSettledTo s q = (i j p : ℕ) → IsPlace s.clauses i → j < 2 → p < q → literal_at s p ≡ opposite (literal_in (clause_at s i) j) → IsCovered s (clause_at s i) p
+abbrev pub WatchesHoldTo : View → ℕ → Type 0
+WatchesHoldTo s q = (i j p : ℕ) → IsPlace s.clauses i → j < 2 → p < q → literal_at s p ≡ opposite (literal_in (clause_at s i) j) → IsCovered s (clause_at s i) p
 
 -- What a literal before place q implies by a clause of two literals is true no later than at its level.
 abbrev pub IsImpliedTo : View → ℕ → Type 0
@@ -71,7 +71,7 @@ pub record IsWatched (W : Watches) (s : View) (q : ℕ) : Type 0 where
   pub lists : length W.lists ≡ 2 * length s.values
   pub enabled : W.enabled ≡ true
   pub watching : IsWatching W s.clauses
-  pub settled : IsSettledTo s q
+  pub settled : WatchesHoldTo s q
   pub binary : length s.binary ≡ 2 * length s.values
   pub implied : IsImpliedTo s q
   pub within : q ≤ length s.trail
@@ -83,7 +83,7 @@ pub record IsPropagated (W : Watches) (s : View) : Type 0 where
   pub lists : length W.lists ≡ 2 * length s.values
   pub watching : W.enabled ≡ true → IsWatching W s.clauses
   pub empty : W.enabled ≡ false → (x : Literal) → watches_of W x ≡ []
-  pub settled : IsSettledTo s s.queue_head
+  pub settled : WatchesHoldTo s s.queue_head
   pub binary : length s.binary ≡ 2 * length s.values
   pub implied : IsImpliedTo s s.queue_head
   pub queue : (j : ℕ) → j < length s.decisions → decision_at s j ≤ s.queue_head

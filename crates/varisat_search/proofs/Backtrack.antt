@@ -9,7 +9,7 @@ use Rattle.varisat_theory.proofs.Places.{∈-get_or, place_in}
 use Rattle.varisat_theory.proofs.Members.{equal_or_not}
 use Rattle.varisat_prop.specs.declared.prop.graph.Reason.{Reason}
 use Rattle.varisat_prop.specs.declared.prop.graph.Reason.TheVariants as reason
-use Rattle.varisat_prop.specs.View.{View, kept, implied_by, IsTrueIn, clause_at, literal_at, decision_at, node_of, node_at, StandsBefore, Implies, IsReason, WellFormed, IsFixed, LevelsSettled}
+use Rattle.varisat_prop.specs.View.{View, kept, implied_by, IsTrueIn, clause_at, literal_at, decision_at, node_of, node_at, StandsBefore, Implies, IsReason, WellFormed, IsFixed, PropagatedBeforeDecisions}
 use Rattle.varisat_prop.proofs.LiteralValues.{made-inside}
 use Rattle.varisat_prop.specs.Watches.{Watches, IsPropagated}
 use Rattle.varisat_prop.proofs.WatchKept.{propagated-back}
@@ -182,8 +182,8 @@ module _ (s t : View) (level : ℕ) (w : WellFormed s) (h : level < length s.dec
   take-take (suc q) (suc r) [] a = refl
   take-take (suc q) (suc r) (x ∷ xs) a = ap (λ y. x ∷ y) (take-take q r xs (omega (arith, a)))
 
-  pub cut-settled : LevelsSettled s → LevelsSettled t
-  cut-settled v = subst LevelsSettled (sym c.rest) (λ j i.
+  pub cut-settled : PropagatedBeforeDecisions s → PropagatedBeforeDecisions t
+  cut-settled v = subst PropagatedBeforeDecisions (sym c.rest) (λ j i.
       let n = level-length in
       let j' : j < level = omega (arith, i, n) in
       let e = decision-cut j j' in

@@ -12,8 +12,8 @@ use Rattle.varisat_clause.proofs.StoredClauses.{kept-at, from-literals, stored-f
 use Rattle.varisat_prop.specs.declared.prop.graph.Reason.{Reason}
 use Rattle.varisat_prop.specs.declared.prop.graph.Reason.TheVariants as reason
 use Rattle.varisat_prop.specs.declared.prop.graph.ImplNode.{ImplNode}
-use Rattle.varisat_prop.specs.View.{View, pairs_from, kept, clause_at, literal_at, decision_at, node_of, node_at, Implies, IsReason, WellFormed, LevelsSettled, is_clause, is_implied, kinds}
-use Rattle.varisat_prop.specs.Watches.{Watches, watches_of, literal_in, IsCovered, IsSettledTo, IsPropagated}
+use Rattle.varisat_prop.specs.View.{View, pairs_from, kept, clause_at, literal_at, decision_at, node_of, node_at, Implies, IsReason, WellFormed, PropagatedBeforeDecisions, is_clause, is_implied, kinds}
+use Rattle.varisat_prop.specs.Watches.{Watches, watches_of, literal_in, IsCovered, WatchesHoldTo, IsPropagated}
 use Rattle.varisat_vsids.specs.Activities.{Activities}
 use Rattle.varisat_search.specs.Decisions.{CanDecide, SameDecidable}
 use Rattle.varisat_analysis.specs.HeaderChanges.{kept_clause}
@@ -104,7 +104,7 @@ module _ (s : View) (ks : List StoredClause) (ns : List ImplNode) (w : WellForme
     reason_is = λ k h. reason-stays k h (node_at s k).reason (node_at t k).reason (m.same k h) (w.reason_is k h);
   }
 
-  pub exchanged-settled : LevelsSettled s → LevelsSettled t
+  pub exchanged-settled : PropagatedBeforeDecisions s → PropagatedBeforeDecisions t
   exchanged-settled v j h = complete_fewer (kept s) (kept t) _ exchanged-kept (v j h)
 
   pub exchanged-decide : (a : Activities) → CanDecide s a → CanDecide t a
@@ -116,7 +116,7 @@ module _ (s : View) (ks : List StoredClause) (ns : List ImplNode) (w : WellForme
   pub exchanged-same : (a : Activities) → SameDecidable s a t a
   exchanged-same a v = ((λ h. h), (λ h. h))
 
-  settled-stays : (q : ℕ) → IsSettledTo s q → IsSettledTo t q
+  settled-stays : (q : ℕ) → WatchesHoldTo s q → WatchesHoldTo t q
   settled-stays q f i j p a b c e =
       let (o, x, y) = place-of-literals s.clauses w.places (literals_at ks i) (m.fewer (literals_at ks i) (kept-at ks i a)) in
       subst (λ d. IsCovered s d p) y (f o j p x b c (subst (λ d. literal_at s p ≡ opposite (literal_in d j)) (sym y) e))

@@ -13,7 +13,7 @@ use Rattle.varisat_clause.specs.Filters.{left_if, FiltersOne, Filters}
 use Rattle.varisat_clause.specs.Filters.FiltersOne.{PassesOver, ComesTo}
 use Rattle.varisat_prop.specs.Parts.{IsMadeTrue}
 use Rattle.varisat_prop.specs.Simplified.{are_unassigned}
-use Rattle.varisat_prop.proofs.WatchSettled.{two}
+use Rattle.varisat_prop.proofs.WatchesHold.{two}
 use Rattle.varisat_search.specs.Simplifications.{has_true, unassigned, shortened_to, stays_long, becomes_pair, left_long, left_pairs, LeavesOpen, NotesWatches}
 use Rattle.varisat_search.proofs.UnassignedLiterals.{some-true, true-there, true-false, at-least}
 

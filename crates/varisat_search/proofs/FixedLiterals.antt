@@ -17,17 +17,17 @@ use Rattle.varisat_prop.specs.declared.prop.graph.Conflict.{Conflict}
 use Rattle.varisat_prop.specs.View.{View, pairs_from, kept, clause_at, literal_at, decision_at, node_at, is_clause, StandsBefore, Implies, IsReason, WellFormed, GrowsTrail}
 use Rattle.varisat_prop.specs.Changes.{IsConflicting, decided_on}
 use Rattle.varisat_prop.specs.Looks.{Propagates}
-use Rattle.varisat_prop.specs.Watches.{IsSettledTo, IsImpliedTo}
+use Rattle.varisat_prop.specs.Watches.{WatchesHoldTo, IsImpliedTo}
 use Rattle.varisat_prop.proofs.ViewGrowth.{append-nil, literal-stays}
-use Rattle.varisat_prop.proofs.WatchSettled.{settled-complete, pairs-complete, complete-both}
+use Rattle.varisat_prop.proofs.WatchesHold.{settled-complete, pairs-complete, complete-both}
 use Rattle.varisat_analysis.specs.Learned.{implying_clause}
 use Rattle.varisat_analysis.proofs.WellFormedViews.{named-kept, kept-reordered, reason-kept, reason-first, same-place}
 use Rattle.varisat_search.specs.declared.context.Context.{Context}
 use Rattle.varisat_search.specs.Contexts.{view, IsReady}
 use Rattle.varisat_search.specs.DueReductions.{BeginsStep}
-use Rattle.varisat_search.specs.SettledUnits.{IsUnsettled, before_decisions, fixed_literals, FixesNone, KeepsFixed}
+use Rattle.varisat_search.specs.RootSimplified.{HasRootNews, before_decisions, fixed_literals, FixesNone, KeepsFixed}
 use Rattle.varisat_search.specs.Steps.{IsCut}
-use Rattle.varisat_search.proofs.LevelsSettled.{take-whole}
+use Rattle.varisat_search.proofs.PropagatedBeforeDecisions.{take-whole}
 use Rattle.varisat_search.proofs.StepWithoutLines.{proved_back, clause_or_none}
 use Rattle.varisat_search.proofs.ViewSearch.{kept_same}
 
@@ -92,7 +92,7 @@ fixed-undone s t level w h c = ap fixed_literals c.rest ∙ before-undone s.deci
 
 -- so do a restart, and reductions, which leave the trail as it is
 pub begun-fixed : {A : Type 0} {are : List Line → Type 0} (x z : Context A) → IsReady x → BeginsStep are x z →
-    (fixed_literals (view z) ≡ fixed_literals (view x)) × (IsUnsettled (view x) → IsUnsettled (view z))
+    (fixed_literals (view z) ≡ fixed_literals (view x)) × (HasRootNews (view x) → HasRootNews (view z))
 begun-fixed x z r b =
     let s = view x in
     let t = view b.begun in
@@ -107,7 +107,7 @@ begun-fixed x z r b =
       ap fixed_literals rest ∙ restarted,
       λ u.
           let n = ap (λ (ds : List ℕ). length ds) u.0 in
-          subst IsUnsettled (sym rest) (subst IsUnsettled (sym (b.restarts.undecided (omega (arith, n)))) u),
+          subst HasRootNews (sym rest) (subst HasRootNews (sym (b.restarts.undecided (omega (arith, n)))) u),
     )
 
 -- at level 0 all literals are of that level
@@ -118,7 +118,7 @@ fixed-undecided s e = ap (λ (ds : List ℕ). before_decisions ds s.trail) e
 pub ready-complete : {A : Type 0} {x : Context A} → IsReady x → x.trail.queue_head ≡ length x.trail.literals → IsComplete (kept (view x)) x.trail.literals
 ready-complete {x = x} r e =
     let s = view x in
-    complete-both (literals_of s.clauses) (pairs_from 0 s.binary) s.trail (settled-complete s r.well (subst (IsSettledTo s) e r.propagated.settled))
+    complete-both (literals_of s.clauses) (pairs_from 0 s.binary) s.trail (settled-complete s r.well (subst (WatchesHoldTo s) e r.propagated.settled))
     (pairs-complete s r.well (subst (IsImpliedTo s) e r.propagated.implied))
 
 -- no clause is false
@@ -202,7 +202,7 @@ module _ (s t : View) (w : WellFormed s) (p : Propagates s t) (none : s.decision
           absurd (no-longer (omega (arith, n, k)))
 
 -- Propagation makes nothing true at level 0 that it had not made true before.
-pub fixed-propagated : {A : Type 0} (x : Context A) (t : View) → IsReady x → Propagates (view x) t → (IsUnsettled (view x) → ⊥) → FixesNone (view x) t
+pub fixed-propagated : {A : Type 0} (x : Context A) (t : View) → IsReady x → Propagates (view x) t → (HasRootNews (view x) → ⊥) → FixesNone (view x) t
 fixed-propagated x t r p calm = by x.trail.decisions refl
   where
     s : View

@@ -13,7 +13,7 @@ use Rattle.varisat_prop.specs.declared.prop.graph.ImplNode.{ImplNode}
 use Rattle.varisat_prop.specs.Leaving.{leaves, staying, cleared, AreRenumbered}
 use Rattle.varisat_prop.specs.Parts.{Values, TrailParts}
 use Rattle.varisat_prop.specs.Simplified.{is_unassigned}
-use Rattle.varisat_prop.specs.View.{View, kept, no_node, literal_at, node_of, node_at, is_clause, IsTrueIn, IsReason, WellFormed, LevelsSettled}
+use Rattle.varisat_prop.specs.View.{View, kept, no_node, literal_at, node_of, node_at, is_clause, IsTrueIn, IsReason, WellFormed, PropagatedBeforeDecisions}
 use Rattle.varisat_prop.specs.Watches.{Watches, IsPropagated}
 use Rattle.varisat_prop.proofs.DistinctPlaces.{distinct-places, distinct-by-places}
 use Rattle.varisat_prop.proofs.Leaving.{staying-was, was-staying, cleared-length, cleared-left, cleared-stays}
@@ -28,7 +28,7 @@ use Rattle.varisat_search.specs.Frames.{ChangesDecisions}
 use Rattle.varisat_search.specs.Decisions.{IsDecidable, AreDecidable, CanDecide}
 use Rattle.varisat_search.specs.Forgotten.{AreStaying, IsWithout, forgotten_activities, search_without}
 use Rattle.varisat_search.specs.Seen.{search_of, is_fixed, is_proved}
-use Rattle.varisat_search.specs.SettledUnits.{IsSettledDown}
+use Rattle.varisat_search.specs.RootSimplified.{IsRootSimplified}
 use Rattle.varisat_search.proofs.DecidableVariables.{true-or-false}
 use Rattle.varisat_search.proofs.ForgottenValues.{forgotten_values}
 
@@ -156,7 +156,7 @@ module _ (gone : List Bool) (s t : View) (a : Activities) (e : t.values ≡ clea
   }
 
 -- 3. The view stays well formed.
-module _ (gone : List Bool) (s t : View) (w : WellFormed s) (d : IsSettledDown s) (p : IsWithout gone s t) where
+module _ (gone : List Bool) (s t : View) (w : WellFormed s) (d : IsRootSimplified s) (p : IsWithout gone s t) where
   abbrev u : View
   u = record s { values = cleared gone None s.values; trail = staying gone s.trail; queue_head = length (staying gone s.trail); nodes = t.nodes }
 
@@ -229,8 +229,8 @@ module _ (gone : List Bool) (s t : View) (w : WellFormed s) (d : IsSettledDown s
   pub without-well : WellFormed t
   without-well = subst WellFormed (sym p.rest) u-well
 
-  pub without-settled : LevelsSettled t
-  without-settled = subst LevelsSettled (sym p.rest) (settled-undecided u d.undecided)
+  pub without-settled : PropagatedBeforeDecisions t
+  without-settled = subst PropagatedBeforeDecisions (sym p.rest) (settled-undecided u d.undecided)
 
   none-valued : (c : Clause) → c ∈ kept s → (l : Literal) → l ∈ c → get_or u.values (variable_of l) None ≡ None
   none-valued c i l j =
@@ -256,8 +256,8 @@ module _ (gone : List Bool) (s t : View) (w : WellFormed s) (d : IsSettledDown s
   pub without-propagated : (W : Watches) → IsPropagated W s → IsPropagated W t
   without-propagated W q = subst (IsPropagated W) (sym p.rest) (u-propagated W q)
 
-  pub without-settled-down : IsSettledDown t
-  without-settled-down = subst IsSettledDown (sym p.rest) record { undecided = d.undecided; propagated = refl; proved = still-proved; unassigned = none-valued }
+  pub without-settled-down : IsRootSimplified t
+  without-settled-down = subst IsRootSimplified (sym p.rest) record { undecided = d.undecided; propagated = refl; proved = still-proved; unassigned = none-valued }
 
   pub without-assumed : (x : AssumptionParts) → HasAssumptions s x → HasAssumptions t x
   without-assumed x h =
@@ -321,7 +321,7 @@ without-view {A} x z gone ls f e l n k = record {
       { values = a.current; trail = t.literals; queue_head = t.queue_head; decisions = t.decisions; nodes = z.impl_graph.nodes.items }) e f;
 }
 
-pub without-ready : {A : Type 0} (x z : Context A) (gone : List Bool) → IsReady x → IsSettledDown (view x) → IsWithout gone (view x) (view z) →
+pub without-ready : {A : Type 0} (x z : Context A) (gone : List Bool) → IsReady x → IsRootSimplified (view x) → IsWithout gone (view x) (view z) →
     ((c : Clause) → c ∈ kept (view x) → AreStaying gone c) → AreStaying gone x.assumptions.working → z.vsids ≡ forgotten_activities gone x.vsids →
     ChangesDecisions x z → IsReady z
 without-ready {A} x z gone r d p unmentioned unassumed v k =

@@ -14,7 +14,7 @@ use Rattle.varisat_theory.specs.Literals.{Literal, Clause, opposite}
 use Rattle.varisat_theory.specs.Searches.{IsTautology}
 use Rattle.varisat_clause.specs.Stored.{StoredClause, literals_of}
 use Rattle.varisat_prop.specs.declared.prop.graph.Reason.{Reason}
-use Rattle.varisat_prop.specs.View.{View, pairs_from, kept, literal_at, node_at, IsReason, WellFormed, LevelsSettled, IsFixed, ViewFits, kinds}
+use Rattle.varisat_prop.specs.View.{View, pairs_from, kept, literal_at, node_at, IsReason, WellFormed, PropagatedBeforeDecisions, IsFixed, ViewFits, kinds}
 use Rattle.varisat_vsids.specs.Activities.{Activities}
 use Rattle.varisat_analysis.proofs.SameButHeaders.{headers-place, headers-literals, headers-kept, headers-at, headers-rising, headers-watching}
 use Rattle.varisat_search.specs.Decisions.{CanDecide, SameDecidable}
@@ -50,8 +50,8 @@ module _ (s t : View) (w : WellFormed s) (d : ChangesHeaders s t) where
   pub header-well : WellFormed t
   header-well = subst WellFormed (sym d.rest) (exchanged-well s js s.nodes w may)
 
-  pub header-settled : LevelsSettled s → LevelsSettled t
-  header-settled v = subst LevelsSettled (sym d.rest) (exchanged-settled s js s.nodes w may v)
+  pub header-settled : PropagatedBeforeDecisions s → PropagatedBeforeDecisions t
+  header-settled v = subst PropagatedBeforeDecisions (sym d.rest) (exchanged-settled s js s.nodes w may v)
 
   pub header-propagated : (W : Watches) → IsPropagated W s → IsPropagated W t
   header-propagated W p = subst (IsPropagated W) (sym d.rest) record {

@@ -28,7 +28,7 @@ use Rattle.varisat_prop.proofs.PairAdded.{adds-pair, well-pair, propagated-learn
 use Rattle.varisat_prop.proofs.LongVisited.{listed}
 use Rattle.varisat_search.specs.Conflicts.{learned_at, Keeping, keeping_of, IsKeptAsReason, IsWatchedAsReason}
 use Rattle.varisat_search.specs.Seen.{search_of}
-use Rattle.varisat_prop.specs.View.{View, kept, IsTrueIn, literal_at, decision_at, node_of, node_at, level_of, WellFormed, LevelsSettled, ViewFits, kinds, is_implied, is_clause}
+use Rattle.varisat_prop.specs.View.{View, kept, IsTrueIn, literal_at, decision_at, node_of, node_at, level_of, WellFormed, PropagatedBeforeDecisions, ViewFits, kinds, is_implied, is_clause}
 use Rattle.varisat_prop.specs.Changes.{enqueued}
 use Rattle.varisat_literals.specs.Numbers.{polarity_of}
 use Rattle.varisat_prop.proofs.LiteralValues.{none-made, made-inside, made-clash, variable-opposite}
@@ -71,7 +71,7 @@ second-level s [] level d e l h = (omega (arith, e, h), λ m i. absurd i)
 second-level s (m ∷ others) level d (e, f) l h =
     (let a = l m (inl refl) in omega (arith, e, a), λ n i. ⊎_elim (λ g. let b = ap (level_of s) g in omega (arith, b, e)) (f n) i)
 
-module _ (s t : View) (i : Conflict) (level : ℕ) (c : Clause) (w : WellFormed s) (v : LevelsSettled s) (l : IsAsserting s i c level)
+module _ (s t : View) (i : Conflict) (level : ℕ) (c : Clause) (w : WellFormed s) (v : PropagatedBeforeDecisions s) (l : IsAsserting s i c level)
     (deep : 0 < length s.decisions) (ct : IsCut s t level) where
   abbrev first : Literal
   first = l.first
@@ -229,11 +229,11 @@ complete-same P Q known a = complete_shorter P Q known
 
 pub record Result (s z : View) : Type 0 where
   pub well : WellFormed z
-  pub settled : LevelsSettled z
+  pub settled : PropagatedBeforeDecisions z
   pub rises : (n : ℕ) → length s.trail ≤ n → rank n (kinds s) < rank n (kinds z)
   pub count : length z.values ≡ length s.values
 
-module _ (s t : View) (i : Conflict) (level : ℕ) (c : Clause) (w : WellFormed s) (v : LevelsSettled s) (l : IsAsserting s i c level)
+module _ (s t : View) (i : Conflict) (level : ℕ) (c : Clause) (w : WellFormed s) (v : PropagatedBeforeDecisions s) (l : IsAsserting s i c level)
     (deep : 0 < length s.decisions) (ct : IsCut s t level) where
   below : level < length s.decisions
   below = level-below s t i level c w v l deep ct
@@ -244,7 +244,7 @@ module _ (s t : View) (i : Conflict) (level : ℕ) (c : Clause) (w : WellFormed 
   pt : (W : Watches) → IsPropagated W s → IsPropagated W t
   pt = cut-propagated s t level w below ct
 
-  vt : LevelsSettled t
+  vt : PropagatedBeforeDecisions t
   vt = cut-settled s t level w below ct v
 
   inside : variable_of l.first < length t.values

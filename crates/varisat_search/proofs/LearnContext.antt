@@ -14,7 +14,7 @@ use Rattle.varisat_prop.specs.declared.prop.graph.Conflict.{Conflict}
 use Rattle.varisat_prop.proofs.LiteralValues.{made-inside, variable-opposite}
 use Rattle.varisat_prop.proofs.TrailValues.{trail-true, fits-node}
 use Rattle.varisat_prop.proofs.LongVisited.{listed}
-use Rattle.varisat_prop.specs.View.{View, kept, WellFormed, LevelsSettled}
+use Rattle.varisat_prop.specs.View.{View, kept, WellFormed, PropagatedBeforeDecisions}
 use Rattle.varisat_prop.specs.Watches.{Watches, IsPropagated}
 use Rattle.varisat_prop.specs.Changes.{enqueued, NamesPlace, IsConflicting}
 use Rattle.varisat_vsids.specs.Activities.{Activities}
@@ -47,7 +47,7 @@ use Rattle.varisat_theory.specs.Outcomes.{Unknown, Unsat, Steps}
 use Rattle.varisat_theory.proofs.StepEnds.{contradiction_is_found}
 use Rattle.varisat_search.specs.Progress.{GoesAStep, IsStepFurther}
 use Rattle.varisat_search.specs.Seen.{search_of, outcome_of}
-use Rattle.varisat_search.specs.SettledUnits.{KeepsFixed}
+use Rattle.varisat_search.specs.RootSimplified.{KeepsFixed}
 use Rattle.varisat_search.proofs.FixedLiterals.{fixed-learned}
 use Rattle.varisat_search.proofs.ViewSearch.{view_reads}
 use Rattle.varisat_search.proofs.AddedClause.{last-one}
@@ -66,7 +66,7 @@ same-others l m c d e = cc
 pub is-above : (s : View) (i : Conflict) (level : ℕ) (l : Literal) (others : Clause) → IsLearned s i (l ∷ others) level → 0 < length s.decisions
 is-above s i level l others d = ⊎_elim (λ h. h) (λ h. let e = (d.at_zero (omega (arith, h))).0 in absurd cc) (cases_lt 0 (length s.decisions))
 
-module _ (s t : View) (i : Conflict) (level : ℕ) (l : Literal) (others : Clause) (w : WellFormed s) (v : LevelsSettled s)
+module _ (s t : View) (i : Conflict) (level : ℕ) (l : Literal) (others : Clause) (w : WellFormed s) (v : PropagatedBeforeDecisions s)
     (d : IsLearned s i (l ∷ others) level) (cut : level < length s.decisions → IsCut s t level) where
   deep : 0 < length s.decisions
   deep = is-above s i level l others d
@@ -681,7 +681,7 @@ module _ {A : Type 0} {x0 x1 x2 : Context A} {i : Conflict} {level : ℕ} (d : B
       let further : GoesAStep P x0 (record x2 { solver_state = record x2.solver_state { sat_state = verdict.Unsat } }) = record {
         ready = record {
           well = subst WellFormed (sym refuted-same) ready.well;
-          settled = subst LevelsSettled (sym refuted-same) ready.settled;
+          settled = subst PropagatedBeforeDecisions (sym refuted-same) ready.settled;
           propagated = subst (λ W. IsPropagated W (view x2)) (sym (watches-are d)) (subst (IsPropagated x0.watchlists) (sym refuted-same) ready.propagated);
           tracks = learned-tracks d;
           analysis = room-is d ∙ sym count;

@@ -13,7 +13,7 @@ use Rattle.varisat_prop.specs.declared.prop.graph.Reason.TheVariants as reason
 use Rattle.varisat_prop.specs.declared.prop.graph.Conflict.{Conflict}
 use Rattle.varisat_clause.specs.Stored.{AreReordered}
 use Rattle.varisat_prop.specs.Watches.{Watches, IsPropagated}
-use Rattle.varisat_prop.specs.View.{View, kept, is_clause, decision_at, node_of, level_of, WellFormed, LevelsSettled, IsFixed, ViewFits}
+use Rattle.varisat_prop.specs.View.{View, kept, is_clause, decision_at, node_of, level_of, WellFormed, PropagatedBeforeDecisions, IsFixed, ViewFits}
 use Rattle.varisat_prop.specs.Changes.{enqueued}
 use Rattle.varisat_clause.proofs.StoredClauses.{reordered-refl}
 use Rattle.varisat_prop.proofs.TrailExtend.{literal-new, node-new, node-other, fresh, true-old, true-new}
@@ -127,7 +127,7 @@ unit_moves t l w inside free none wz =
     (λ q. inl (∈-append_right x (search_of t).fixed (l ∷ []) (inl q)))
     (fixed_old t l reason.Unit w inside free x wz (fixed_from z wz x h)))
 
-module _ (s t : View) (i : Conflict) (level : ℕ) (c : Clause) (w : WellFormed s) (v : LevelsSettled s) (a : IsAsserting s i c level)
+module _ (s t : View) (i : Conflict) (level : ℕ) (c : Clause) (w : WellFormed s) (v : PropagatedBeforeDecisions s) (a : IsAsserting s i c level)
     (deep : 0 < length s.decisions) (ct : IsCut s t level) (follows : (held : List Clause) → ViewFits held s → Follows held c)
     (of_kept : (m : Literal) → m ∈ c → IsOfKept s m) where
   S : Search

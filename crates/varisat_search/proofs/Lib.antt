@@ -6,7 +6,7 @@ pub mod BacktrackValues
 pub mod LearnClause
 pub mod LearnContext
 pub mod LearnLines
-pub mod LevelsSettled
+pub mod PropagatedBeforeDecisions
 pub mod LoadContext
 pub mod LoadView
 pub mod PairSearch
@@ -42,7 +42,7 @@ pub mod FilteredUnits
 pub mod SimplifiedSearch
 pub mod SimplifiedContext
 pub mod SimplifiedBinary
-pub mod SettledUnits
+pub mod RootSimplified
 pub mod LoadedQueue
 pub mod SkippedHead
 pub mod MadeSteps

@@ -21,7 +21,7 @@ use Rattle.varisat_theory.specs.Searches.{KeptClause, Search, IsTautology}
 use Rattle.varisat_theory.specs.Outcomes.{Outcome, Unknown, Unsat, Proves, Loads, IsContradicted}
 use Rattle.varisat_theory.proofs.Held.{same_set-self}
 use Rattle.varisat_theory.proofs.StepParts.{no_part}
-use Rattle.varisat_theory.proofs.StepLoads.{loaded_is_kept, loaded_is_unit, loaded_is_settled, loaded_is_deleted, loaded_is_contradicted, part_load, load_part}
+use Rattle.varisat_theory.proofs.StepLoads.{loaded_is_kept, loaded_is_unit, loaded_is_discharged, loaded_is_deleted, loaded_is_contradicted, part_load, load_part}
 use Rattle.varisat_vsids.specs.Activities.{Activities}
 use Rattle.varisat_search.specs.Decisions.{AreDecidable, SameDecidable, HasActivities, CanDecide}
 use Rattle.varisat_search.proofs.AddedClause.{kept-cases, pair-cases}
@@ -88,7 +88,7 @@ module _ (s t : View) (c lits : Clause) (w : WellFormed s) (r : Restarted s t) (
 
   pub lines-tautology : (b : SatState) → loaded_outcome b ≡ Unknown → IsTautology lits → LoadsAlone s t c b
   lines-tautology b e (x, i, j) =
-      open-verdict b t e (before t Unknown (loaded_is_settled (search_of t) c (inl (x, same.0 x i, same.0 (opposite x) j)) (λ k.
+      open-verdict b t e (before t Unknown (loaded_is_discharged (search_of t) c (inl (x, same.0 x i, same.0 (opposite x) j)) (λ k.
       ⊎_elim
       (λ g. subst (λ y. x ∈ y) g (same.0 x i))
       (λ (l, unit, f). own-opposite x (unit.1 (opposite x) (same.0 (opposite x) j) ∙ sym (unit.1 x (same.0 x i))))
@@ -104,7 +104,7 @@ module _ (s t : View) (c lits : Clause) (w : WellFormed s) (r : Restarted s t) (
 
   pub lines-satisfied : (b : SatState) → loaded_outcome b ≡ Unknown → (x : Literal) → x ∈ lits → IsTrueIn t x → LoadsAlone s t c b
   lines-satisfied b e x i h =
-      open-verdict b t e (before t Unknown (loaded_is_settled (search_of t) c (inr (x, same.0 x i, now x h)) (true-open x i h)))
+      open-verdict b t e (before t Unknown (loaded_is_discharged (search_of t) c (inr (x, same.0 x i, now x h)) (true-open x i h)))
 
   pub lines-deleted : (b : SatState) → loaded_outcome b ≡ Unknown → (x : Literal) → x ∈ lits → IsTrueIn t x → (d : Clause) → SameSet d c →
       Loads (search_of s) (search_of t) c (loaded_outcome b) (Delete d ∷ [])

@@ -10,7 +10,7 @@ use Rattle.varisat_prop.specs.Watches.{Watches, no_watches, watches_of, IsWatchi
 use Rattle.varisat_prop.proofs.WatchKept.{watching-none}
 use Rattle.varisat_clause.specs.Stored.{StoredClause, AppendsClause, literals_of}
 use Rattle.varisat_prop.specs.Pairs.{with_pair}
-use Rattle.varisat_prop.specs.View.{View, pairs_from, kept, IsTrueIn, level_of, WellFormed, LevelsSettled, IsFixed}
+use Rattle.varisat_prop.specs.View.{View, pairs_from, kept, IsTrueIn, level_of, WellFormed, PropagatedBeforeDecisions, IsFixed}
 use Rattle.varisat_prop.specs.Looks.{IsInRange}
 use Rattle.varisat_prop.proofs.EnqueueAssignment.{enqueued-well}
 use Rattle.varisat_prop.proofs.PairAdded.{well-pair}
@@ -161,7 +161,7 @@ module _ (s t : View) (lits : Clause) (r : Restarted s t) (a : MayBeAdded t lits
       (kept-well t (loaded_at p lits) k.1 r.well a.inside (omega (arith, n)) a.distinct) (let u = r.well.head in omega (arith, i, u)) in
       (v, r.undecided, r.count))
 
-pub undecided-settled : (z : View) → z.decisions ≡ [] → LevelsSettled z
+pub undecided-settled : (z : View) → z.decisions ≡ [] → PropagatedBeforeDecisions z
 undecided-settled z e j h = let n = ap (λ (x : List ℕ). length x) e in absurd (omega (arith, h, n))
 
 -- no clauses, no variables and no lists

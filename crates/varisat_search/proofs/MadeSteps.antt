@@ -13,16 +13,16 @@ use Rattle.varisat_search.specs.declared.state.SatState.TheVariants as verdict
 use Rattle.varisat_search.specs.declared.state.SolverState.{SolverState}
 use Rattle.varisat_search.specs.AssumptionParts.{KeepsAssumptions, TakesOutImplied}
 use Rattle.varisat_search.specs.Contexts.{view, IsReady}
-use Rattle.varisat_search.specs.Frames.{ChangesSettled, GoesForward, KeepsVariables}
+use Rattle.varisat_search.specs.Frames.{ChangesRootSimplified, GoesForward, KeepsVariables}
 use Rattle.varisat_search.specs.Progress.{outcome_at, GoesAStep, IsStepFurther, MakesStep}
 use Rattle.varisat_search.specs.Seen.{search_of, outcome_of}
-use Rattle.varisat_search.specs.SettledUnits.{GoesOnByLines}
+use Rattle.varisat_search.specs.RootSimplified.{GoesOnByLines}
 use Rattle.varisat_search.specs.Steps.{SavesSome}
 use Rattle.varisat_search.proofs.AssumedTruths.{takes-refl}
 use Rattle.varisat_search.proofs.AssumptionOutcomes.{keeps-learned}
 use Rattle.varisat_search.proofs.Frames.{forward-nothing, variables-through}
 use Rattle.varisat_search.proofs.ReadyAfter.{ready-with}
-use Rattle.varisat_search.proofs.SettledUnits.{steps-settled, assumes-settled, rises-settled, remembers-settled}
+use Rattle.varisat_search.proofs.RootSimplified.{steps-settled, assumes-settled, rises-settled, remembers-settled}
 use Rattle.varisat_search.proofs.StepErrors.{steps-after}
 use Rattle.varisat_search.proofs.StepRanks.{rises-after, remembers-grown}
 
@@ -124,7 +124,7 @@ made-at-once y z P r e saves = made-learned y y r (finds-refl y r) z P e saves
 
 pub made-settled : {A : Type 0} (x y z : Context A) (P Q R : List Line → Type 0) →
     ((first more : List Line) → P first → Q more → R (first ++ more)) → IsReady x → GoesOnByLines P x y →
-    ChangesSettled x y → MakesStep Q y z → MakesStep R x z
+    ChangesRootSimplified x y → MakesStep Q y z → MakesStep R x z
 made-settled {A} x y z P Q R join r a k m =
     let v = outcome_at z in
     let g = m.goes in

@@ -22,7 +22,7 @@ use Rattle.varisat_search.proofs.AssumedTruths.{takes-same, takes-trans}
 use Rattle.varisat_search.proofs.AssumptionLevels.{has-taken, taken-out, all-assumed, has-decided}
 use Rattle.varisat_search.proofs.AssumptionContexts.{still-assumable}
 use Rattle.varisat_search.proofs.DecidableVariables.{can-decide, enqueued-same}
-use Rattle.varisat_search.proofs.LevelsSettled.{makes-true}
+use Rattle.varisat_search.proofs.PropagatedBeforeDecisions.{makes-true}
 use Rattle.varisat_search.proofs.ReadyAfter.{ready-with, decided-ready}
 
 -- a core of the assumption that failed is one of assumptions, where all decisions are such

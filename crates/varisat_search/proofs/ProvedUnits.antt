@@ -6,7 +6,7 @@ use Rattle.varisat_theory.proofs.Places.{∈-get_or}
 use Rattle.varisat_clause.specs.Databases.{Tracks}
 use Rattle.varisat_prop.specs.declared.prop.graph.Reason.TheVariants as reason
 use Rattle.varisat_prop.specs.declared.prop.graph.ImplNode.{ImplNode}
-use Rattle.varisat_prop.specs.View.{View, no_node, literal_at, node_of, node_at, IsReason, WellFormed, LevelsSettled, is_clause, is_implied, kinds}
+use Rattle.varisat_prop.specs.View.{View, no_node, literal_at, node_of, node_at, IsReason, WellFormed, PropagatedBeforeDecisions, is_clause, is_implied, kinds}
 use Rattle.varisat_prop.specs.Watches.{Watches, IsPropagated}
 use Rattle.varisat_vsids.specs.Activities.{Activities}
 use Rattle.varisat_search.specs.declared.context.Context.{Context}
@@ -121,8 +121,8 @@ module _ (s t : View) (w : WellFormed s) (none : s.decisions ≡ []) (p : Proves
       subst (λ (y : View). (k : ℕ) → k < length y.trail → (node_at y k).reason ≡ reason.Unit) (sym p.rest)
       (λ k h. ap (λ (n : ImplNode). n.reason) (unit-node k h))
 
-  pub units-settled : LevelsSettled s → LevelsSettled t
-  units-settled v = subst LevelsSettled (sym p.rest) v
+  pub units-settled : PropagatedBeforeDecisions s → PropagatedBeforeDecisions t
+  units-settled v = subst PropagatedBeforeDecisions (sym p.rest) v
 
   pub units-propagated : (W : Watches) → IsPropagated W s → IsPropagated W t
   units-propagated W q =

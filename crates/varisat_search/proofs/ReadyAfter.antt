@@ -7,7 +7,7 @@ use Rattle.varisat_clause.specs.Stored.{StoredClause}
 use Rattle.varisat_clause.proofs.StoredClauses.{literals-∈}
 use Rattle.varisat_prop.proofs.WellFormedChanges.{stored-kept}
 use Rattle.varisat_clause.specs.Databases.{Tracks}
-use Rattle.varisat_prop.specs.View.{View, WellFormed, kept, LevelsSettled}
+use Rattle.varisat_prop.specs.View.{View, WellFormed, kept, PropagatedBeforeDecisions}
 use Rattle.varisat_prop.specs.Watches.{watches_of, literal_in, IsPropagated}
 use Rattle.varisat_search.specs.declared.context.Context.{Context}
 use Rattle.varisat_search.specs.Contexts.{view, IsReady}
@@ -104,7 +104,7 @@ keeps-values {A} x z e = record {
 }
 
 -- Such a search is ready where the clauses, the reasons and the watches are right.
-pub exchanged-ready : {A : Type 0} (x z : Context A) → IsReady x → KeepsValues x z → WellFormed (view z) → LevelsSettled (view z) →
+pub exchanged-ready : {A : Type 0} (x z : Context A) → IsReady x → KeepsValues x z → WellFormed (view z) → PropagatedBeforeDecisions (view z) →
     IsPropagated z.watchlists (view z) → Tracks z.clause_db z.clause_alloc → CanDecide (view z) x.vsids → IsReady z
 exchanged-ready x z r k well settled propagated tracks decidable =
     let c = ap (λ (vs : List (Option Bool)). length vs) k.values in
@@ -129,7 +129,7 @@ unwatched-ready x z ns r k m e tracks n none off =
     let ks = (view z).clauses in
     exchanged-ready x z r k
     (subst WellFormed (sym e) (exchanged-well s ks ns r.well m))
-    (subst LevelsSettled (sym e) (exchanged-settled s ks ns r.well m r.settled))
+    (subst PropagatedBeforeDecisions (sym e) (exchanged-settled s ks ns r.well m r.settled))
     (subst (IsPropagated z.watchlists) (sym e) (exchanged-off s ks ns r.well m x.watchlists z.watchlists r.propagated n none off))
     tracks
     (subst (λ (t : View). CanDecide t x.vsids) (sym e) (exchanged-decide s ks ns r.well m x.vsids r.decidable))

@@ -6,7 +6,7 @@ use Rattle.varisat_theory.specs.Rank.{rank}
 use Rattle.varisat_theory.specs.Derivations.{Line}
 use Rattle.varisat_theory.specs.Outcomes.{Outcome, Proves, Steps}
 use Rattle.varisat_theory.proofs.StepStands.{part_step}
-use Rattle.varisat_prop.specs.View.{View, WellFormed, LevelsSettled, node_of, is_implied, kinds}
+use Rattle.varisat_prop.specs.View.{View, WellFormed, PropagatedBeforeDecisions, node_of, is_implied, kinds}
 use Rattle.varisat_prop.specs.Watches.{Watches, IsPropagated}
 use Rattle.varisat_schedule.specs.Plans.{Plan}
 use Rattle.varisat_schedule.specs.CallSteps.{IsPlannedStep}
@@ -21,15 +21,15 @@ use Rattle.varisat_theory.proofs.StepParts.{no_part}
 -- What the step finds once it has begun.
 pub record Begun (s t : View) : Type 0 where
   pub well : WellFormed t
-  pub settled : LevelsSettled t
+  pub settled : PropagatedBeforeDecisions t
   pub count : length t.values ≡ length s.values
   pub shorter : length t.trail ≤ length s.trail
   pub proves : Proves 0 (search_of s) (search_of t) []
 
-begun-same : (s : View) → WellFormed s → LevelsSettled s → Begun s s
+begun-same : (s : View) → WellFormed s → PropagatedBeforeDecisions s → Begun s s
 begun-same s w v = record { well = w; settled = v; count = refl; shorter = omega arith; proves = no_part (search_of s) }
 
-begun-cut : (s t : View) (level : ℕ) → WellFormed s → LevelsSettled s → (h : level < length s.decisions) → IsCut s t level → Begun s t
+begun-cut : (s t : View) (level : ℕ) → WellFormed s → PropagatedBeforeDecisions s → (h : level < length s.decisions) → IsCut s t level → Begun s t
 begun-cut s t level w v h c =
     let n = ap (λ (x : View). length x.trail) c.rest in
     let m = cut-length s t level w h c in
@@ -43,7 +43,7 @@ begun-cut s t level w v h c =
           cut_moves s t level w h c;
     }
 
-module _ (q : Plan) (level : ℕ) (s t : View) (w : WellFormed s) (v : LevelsSettled s) (r : RestartsIfDue q level s t) where
+module _ (q : Plan) (level : ℕ) (s t : View) (w : WellFormed s) (v : PropagatedBeforeDecisions s) (r : RestartsIfDue q level s t) where
   unchanged : t ≡ s → Begun s t
   unchanged e = subst (Begun s) (sym e) (begun-same s w v)
 

@@ -10,7 +10,7 @@ use Rattle.varisat_prop.specs.declared.prop.graph.Reason.{Reason}
 use Rattle.varisat_prop.specs.declared.prop.graph.Reason.TheVariants as reason
 use Rattle.varisat_prop.specs.declared.prop.graph.ImplNode.{ImplNode}
 use Rattle.varisat_clause.specs.Stored.{literals_of}
-use Rattle.varisat_prop.specs.View.{View, IsTrueIn, kept, implied_by, clause_at, literal_at, decision_at, node_of, node_at, no_node, Implies, IsReason, WellFormed, LevelsSettled, is_clause}
+use Rattle.varisat_prop.specs.View.{View, IsTrueIn, kept, implied_by, clause_at, literal_at, decision_at, node_of, node_at, no_node, Implies, IsReason, WellFormed, PropagatedBeforeDecisions, is_clause}
 use Rattle.varisat_prop.specs.Watches.{Watches, IsPropagated}
 use Rattle.varisat_prop.proofs.WatchRebuilt.{with_more, more-lists, watching-variables}
 use Rattle.varisat_prop.proofs.KeptPairs.{implied-raised, pairs-raised}
@@ -100,7 +100,7 @@ module _ (s : View) (m n o : ℕ) (w : WellFormed s) where
       ap (λ ps. record (search_of grown) { kept = map kept_clause s.clauses ++ map kept_pair ps }) (pairs-raised s.binary 0 o)
       ∙ ap₂ (λ (a b : List Literal). record (search_of s) { fixed = a; proved = b }) fixed proved
 
-  pub grown-settled : LevelsSettled s → LevelsSettled grown
+  pub grown-settled : PropagatedBeforeDecisions s → PropagatedBeforeDecisions grown
   grown-settled v j h = subst (λ P. IsComplete P (take (decision_at s j) s.trail)) (sym grown-kept) (v j h)
 
 pub replicate-join : {X : Type 0} (x : X) (a b n : ℕ) → n ≡ a + b → replicate a x ++ replicate b x ≡ replicate n x
@@ -138,13 +138,13 @@ grown-propagated W V s B vs ns count e n h f p =
 -- more variables, without values
 pub record Grown (s u : View) (n : ℕ) : Type 0 where
   pub well : WellFormed u
-  pub settled : LevelsSettled u
+  pub settled : PropagatedBeforeDecisions u
   pub count : length u.values ≡ n
   pub seen : search_of u ≡ search_of s
   pub same_kept : kept u ≡ kept s
 
 pub grown-result : (s : View) (B : List (List Literal)) (vs : List (Option Bool)) (ns : List ImplNode) (count : ℕ) → WellFormed s →
-    LevelsSettled s → length s.values ≤ count → count ≤ 2 ^ 28 → B ≡ s.binary ++ replicate (2 * count - length s.binary) [] →
+    PropagatedBeforeDecisions s → length s.values ≤ count → count ≤ 2 ^ 28 → B ≡ s.binary ++ replicate (2 * count - length s.binary) [] →
     vs ≡ s.values ++ replicate (count - length s.values) None → ns ≡ s.nodes ++ replicate (count - length s.nodes) no_node →
     Grown s (record s { binary = B; values = vs; nodes = ns }) count
 grown-result s B vs ns count w v h b e f g =

@@ -9,7 +9,7 @@ use Rattle.varisat_theory.specs.Outcomes.{Proves}
 use Rattle.varisat_theory.proofs.Members.{∈-append_left, ∈-append_right, ∈-append_cases}
 use Rattle.varisat_clause.specs.Stored.{literals_of}
 use Rattle.varisat_clause.specs.Databases.{Tracks}
-use Rattle.varisat_prop.specs.View.{View, pairs_from, kept, literal_at, IsReason, WellFormed, LevelsSettled}
+use Rattle.varisat_prop.specs.View.{View, pairs_from, kept, literal_at, IsReason, WellFormed, PropagatedBeforeDecisions}
 use Rattle.varisat_prop.specs.Simplified.{is_unassigned, are_unassigned, unassigned_implied, unassigned_from, without_assigned}
 use Rattle.varisat_prop.specs.Watches.{Watches, IsPropagated}
 use Rattle.varisat_prop.proofs.WellFormedChanges.{kept-may, well-kept}
@@ -20,7 +20,7 @@ use Rattle.varisat_search.specs.declared.context.Context.{Context}
 use Rattle.varisat_search.specs.Contexts.{view, IsReady}
 use Rattle.varisat_search.specs.Decisions.{CanDecide, SameDecidable}
 use Rattle.varisat_search.specs.Seen.{kept_pair, search_of}
-use Rattle.varisat_search.specs.SettledUnits.{CanSimplify}
+use Rattle.varisat_search.specs.RootSimplified.{CanSimplify}
 use Rattle.varisat_search.specs.Simplifications.{IsSimplified, left_long, left_pairs, with_pairs, lines_of_pairs, pair_lines, clause_lines}
 use Rattle.varisat_search.proofs.ReadyAfter.{KeepsValues, keeps-values, exchanged-ready}
 use Rattle.varisat_search.proofs.SimplifiedSearch.{IsAtUnits, pairs-prove, simplify-proves}
@@ -159,7 +159,7 @@ module _ {A : Type 0} {x z : Context A} (d : SimplifiesBinary x z) where
   binary-ready =
       exchanged-ready x z d.can.ready (subst (KeepsValues x) (sym d.rest) (keeps-values x (record x { binary_clauses = z.binary_clauses }) refl))
       (subst WellFormed (sym binary-view) (left-well s d.can.ready.well d.can.undecided d.can.proved))
-      (subst LevelsSettled (sym binary-view) (settled-undecided t d.can.undecided))
+      (subst PropagatedBeforeDecisions (sym binary-view) (settled-undecided t d.can.undecided))
       (subst (λ (y : View). IsPropagated z.watchlists y) (sym binary-view)
       (subst (λ W. IsPropagated W t) (sym (ap (λ (y : Context A). y.watchlists) d.rest))
       (left-propagated s d.can.ready.well d.can.undecided d.can.proved x.watchlists d.can.ready.propagated)))

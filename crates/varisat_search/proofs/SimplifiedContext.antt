@@ -10,9 +10,9 @@ use Rattle.varisat_clause.specs.Collected.{live_clauses}
 use Rattle.varisat_clause.proofs.LiveStore.{∈-live, are-live-long}
 use Rattle.varisat_clause.proofs.StoreSound.{sound-is}
 use Rattle.varisat_prop.specs.Simplified.{are_unassigned, without_assigned, is_unassigned}
-use Rattle.varisat_prop.specs.View.{View, clause_at, WellFormed, LevelsSettled, literal_at}
+use Rattle.varisat_prop.specs.View.{View, clause_at, WellFormed, PropagatedBeforeDecisions, literal_at}
 use Rattle.varisat_prop.specs.declared.prop.watch_list.Watch.{Watch}
-use Rattle.varisat_prop.specs.Watches.{watches_of, literal_in, IsSettledTo, IsPropagated, Watches, IsKnownWatch, NameOnce, HasWatch, IsWatching}
+use Rattle.varisat_prop.specs.Watches.{watches_of, literal_in, WatchesHoldTo, IsPropagated, Watches, IsKnownWatch, NameOnce, HasWatch, IsWatching}
 use Rattle.varisat_prop.proofs.SimplifiedPairs.{unassigned-none, filter-∈, ∈-filter, all-unassigned}
 use Rattle.varisat_prop.proofs.SimplifiedView.{simplified, settled-undecided, settled-unassigned, implied-unassigned}
 use Rattle.varisat_search.specs.declared.context.Context.{Context}
@@ -20,7 +20,7 @@ use Rattle.varisat_search.specs.Contexts.{view, IsReady}
 use Rattle.varisat_search.specs.Frames.{ChangesClauses}
 use Rattle.varisat_search.specs.Decisions.{CanDecide, SameDecidable}
 use Rattle.varisat_search.specs.Seen.{search_of}
-use Rattle.varisat_search.specs.SettledUnits.{CanSimplify}
+use Rattle.varisat_search.specs.RootSimplified.{CanSimplify}
 use Rattle.varisat_search.specs.Steps.{IsPropagatedToEnd}
 use Rattle.varisat_search.specs.MendedLists.{AreMended, MendsLists}
 use Rattle.varisat_search.specs.Simplifications.{left_long, left_pairs, with_pairs, IsLeftOpen, IsPairIn, IsSimplified, pair_lines, clause_lines, has_true, unassigned, shortened_to, stays_long}
@@ -32,7 +32,7 @@ use Rattle.varisat_theory.proofs.Values.{opposite_twice}
 use Rattle.varisat_theory.proofs.Places.{∈-get_or}
 use Rattle.varisat_clause.proofs.StoredClauses.{stored-∈, stored-found}
 use Rattle.varisat_prop.proofs.LiteralValues.{made-none, none-made}
-use Rattle.varisat_prop.proofs.WatchSettled.{two}
+use Rattle.varisat_prop.proofs.WatchesHold.{two}
 use Rattle.varisat_search.proofs.UnassignedLiterals.{some-true, none-true, true-false, left-all, at-least}
 
 -- The watch lists once clauses lost literals or went.
@@ -97,7 +97,7 @@ front-left p (x ∷ y ∷ c) n a b j h =
     ∙ two (λ i. get_or (x ∷ y ∷ filter p c) i 0 ≡ get_or (x ∷ y ∷ c) i 0) refl refl j h
 
 -- 2. All of the trail is propagated, and no level has begun above it.
-module _ (s : View) (w : WellFormed s) (settled : IsSettledTo s (length s.trail)) (long : (k : StoredClause) → k ∈ s.clauses → 3 ≤ length k.literals)
+module _ (s : View) (w : WellFormed s) (settled : WatchesHoldTo s (length s.trail)) (long : (k : StoredClause) → k ∈ s.clauses → 3 ≤ length k.literals)
     (after : AreRising (left_long s.values s.clauses)) where
   abbrev P : List StoredClause
   P = left_long s.values s.clauses
@@ -247,7 +247,7 @@ module _ {A : Type 0} {x z : Context A} (d : Simplifies x z) where
     still-propagated : IsPropagated z.watchlists t
     still-propagated = record {
       lists = m.count ∙ d.ready.propagated.lists;
-      watching = λ on. watching-left s d.units.well (subst (λ q. IsSettledTo s q) d.propagated d.ready.propagated.settled) d.units.long
+      watching = λ on. watching-left s d.units.well (subst (λ q. WatchesHoldTo s q) d.propagated d.ready.propagated.settled) d.units.long
           (still-well s d.units).places x.watchlists z.watchlists lits (d.ready.propagated.watching (sym m.enabled ∙ on))
           (subst (λ ks. MendsLists ks lits x.watchlists z.watchlists) d.clauses m) noted;
       empty = λ off l. let e = d.ready.propagated.empty (sym m.enabled ∙ off) l in
@@ -269,7 +269,7 @@ module _ {A : Type 0} {x z : Context A} (d : Simplifies x z) where
           watchlists = z.watchlists;
         }) refl))
         (subst WellFormed (sym is-view) (still-well s d.units))
-        (subst LevelsSettled (sym is-view) (settled-undecided t d.units.undecided))
+        (subst PropagatedBeforeDecisions (sym is-view) (settled-undecided t d.units.undecided))
         (subst (IsPropagated z.watchlists) (sym is-view) still-propagated)
         d.tracks
         (subst (λ (y : View). CanDecide y x.vsids) (sym is-view) can-decide)

@@ -7,7 +7,7 @@ use Rattle.varisat_theory.specs.Membership.{◌∈◌}
 use Rattle.varisat_theory.specs.Literals.{Literal, Clause, variable_of, opposite}
 use Rattle.varisat_theory.proofs.Places.{∈-get_or}
 use Rattle.varisat_prop.specs.View.{View, clause_at, literal_at, implied_by, kept, WellFormed}
-use Rattle.varisat_prop.specs.Watches.{Watches, literal_in, IsSettledTo, IsImpliedTo, IsPropagated}
+use Rattle.varisat_prop.specs.Watches.{Watches, literal_in, WatchesHoldTo, IsImpliedTo, IsPropagated}
 use Rattle.varisat_prop.proofs.KeptPairs.{implied-kept}
 use Rattle.varisat_prop.proofs.LiteralValues.{variable-opposite}
 use Rattle.varisat_prop.proofs.WellFormedChanges.{kept-here, well-moved}
@@ -23,7 +23,7 @@ module _ (s : View) (l : Literal) (w : WellFormed s) (here : slice_get s.trail s
   at-head : (p : ℕ) → p < s.queue_head + 1 → s.queue_head ≤ p → literal_at s p ≡ l
   at-head p a b = let e : p ≡ s.queue_head = omega (arith, a, b) in ap (λ k. literal_at s k) e ∙ get_or_from_slice_get s.trail s.queue_head l 0 here
 
-  skipped-settled : IsSettledTo s s.queue_head → IsSettledTo skipped (s.queue_head + 1)
+  skipped-settled : WatchesHoldTo s s.queue_head → WatchesHoldTo skipped (s.queue_head + 1)
   skipped-settled q i j p a b h e =
       ⊎_elim
       (λ g. q i j p a b g e)

@@ -8,7 +8,7 @@ use Rattle.varisat_prop.specs.View.{View, kept, WellFormed, GrowsTrail}
 use Rattle.varisat_prop.proofs.TrailValues.{on-trail, trail-true}
 use Rattle.varisat_search.specs.Steps.{IsTotal, assignment_of}
 use Rattle.varisat_search.specs.Seen.{search_of}
-use Rattle.varisat_search.proofs.LevelsSettled.{makes-true, one-true}
+use Rattle.varisat_search.proofs.PropagatedBeforeDecisions.{makes-true, one-true}
 use Rattle.varisat_search.proofs.ViewSearch.{fixed_from, seen_clauses}
 use Rattle.varisat_search.proofs.StepWithoutLines.{grows_prove}
 use Rattle.varisat_theory.specs.Outcomes.{Outcome, Sat, Steps}

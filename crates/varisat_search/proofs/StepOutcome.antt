@@ -4,7 +4,7 @@ use Rattle.varisat_theory.specs.Literals.{Literal, variable_of, literal_of}
 use Rattle.varisat_theory.specs.Propagation.{IsComplete}
 use Rattle.varisat_literals.specs.Numbers.{polarity_of}
 use Rattle.varisat_clause.specs.Databases.{Tracks}
-use Rattle.varisat_prop.specs.View.{View, kept, WellFormed, LevelsSettled, GrowsTrail}
+use Rattle.varisat_prop.specs.View.{View, kept, WellFormed, PropagatedBeforeDecisions, GrowsTrail}
 use Rattle.varisat_prop.specs.Watches.{IsPropagated}
 use Rattle.varisat_prop.specs.Changes.{decided_on}
 use Rattle.varisat_prop.specs.Looks.{Propagates}
@@ -16,12 +16,12 @@ use Rattle.varisat_search.specs.Contexts.{view, IsReady}
 use Rattle.varisat_search.specs.Steps.{IsFree}
 use Rattle.varisat_search.specs.AssumptionParts.{HasAssumptions}
 use Rattle.varisat_search.specs.Decisions.{AreDecidable, CanDecide}
-use Rattle.varisat_search.proofs.LevelsSettled.{settled-grows, settled-decided}
+use Rattle.varisat_search.proofs.PropagatedBeforeDecisions.{settled-grows, settled-decided}
 
 -- On the way to a conflict or a model: the view is ready for more, and has grown.
 pub record Finding (s t : View) : Type 0 where
   pub well : WellFormed t
-  pub settled : LevelsSettled t
+  pub settled : PropagatedBeforeDecisions t
   pub grows : GrowsTrail s t
 
 -- a ready search, in which nothing was looked for yet

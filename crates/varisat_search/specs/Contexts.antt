@@ -1,7 +1,7 @@
 -- The context as its view, and what is kept of it between calls.
 use Rattle.std.specs.Prelude.{◌≡◌, ◌≢◌, ◌*◌, true, false, length, replicate}
 use Rattle.varisat_clause.specs.Databases.{Tracks}
-use Rattle.varisat_prop.specs.View.{View, view_of, WellFormed, LevelsSettled}
+use Rattle.varisat_prop.specs.View.{View, view_of, WellFormed, PropagatedBeforeDecisions}
 use Rattle.varisat_prop.specs.Watches.{IsPropagated}
 use Rattle.varisat_search.specs.declared.state.SatState.TheVariants as verdict
 use Rattle.varisat_search.specs.declared.state.SolverState.{SolverState}
@@ -30,7 +30,7 @@ pub record KeepsSchedule {A : Type 0} (old new : Context A) : Type 0 where
 pub record IsReady {A : Type 0} (c : Context A) : Type 0 where
   pub well : WellFormed (view c)
   -- as each level began, propagation had come to its end
-  pub settled : LevelsSettled (view c)
+  pub settled : PropagatedBeforeDecisions (view c)
   -- and it has come to its end up to the queue's head, and clauses are watched
   pub propagated : IsPropagated c.watchlists (view c)
   -- what is noted of the store's clauses is true of them

@@ -13,7 +13,7 @@ use Rattle.varisat_analysis.specs.Reductions.{reasons_marked, Discards}
 use Rattle.varisat_analysis.specs.Collections.{Repacks}
 use Rattle.varisat_search.specs.Progress.{ProvesTo, StepsTo}
 use Rattle.varisat_search.specs.Restarts.{KeepsAssignment, RestartsIfDue, SavesIfDue}
-use Rattle.varisat_search.specs.SettledUnits.{SettlesFirst}
+use Rattle.varisat_search.specs.RootSimplified.{SimplifiesRootFirst}
 use Rattle.varisat_search.specs.Deletions.{unmarked_deletions}
 
 -- the store holds the context's clauses, and those that are reasons are marked
@@ -94,7 +94,7 @@ pub record GoesBySchedule {A : Type 0} (lines : List Line) (x z : Context A) : T
   pub parts : lines ≡ first ++ rest
   pub reduces : ReducesIfDue first begun reduced
   pub deletes : ProvesTo first begun reduced
-  pub settles : SettlesFirst rest reduced z
+  pub simplifies_root : SimplifiesRootFirst rest reduced z
   pub steps : StepsTo (λ ls. ls ≡ rest) reduced z
 
 -- such a step was made, by lines for which `are` holds

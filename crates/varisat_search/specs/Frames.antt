@@ -117,8 +117,8 @@ ChangesLoaded x y = y ≡ record x {
 }
 
 -- propagation at level 0, and then the clauses
-abbrev pub ChangesSettled : {A : Type 0} → Context A → Context A → Type 0
-ChangesSettled x y = y ≡ record x {
+abbrev pub ChangesRootSimplified : {A : Type 0} → Context A → Context A → Type 0
+ChangesRootSimplified x y = y ≡ record x {
   assignment = y.assignment;
   binary_clauses = y.binary_clauses;
   clause_alloc = y.clause_alloc;

@@ -18,7 +18,7 @@ pub mod ProvedUnits
 pub mod Simplifications
 pub mod MendedLists
 pub mod Deletions
-pub mod SettledUnits
+pub mod RootSimplified
 pub mod GlobalModels
 pub mod SolverVariables
 pub mod StepErrors

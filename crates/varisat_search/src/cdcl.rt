@@ -11,7 +11,7 @@ ghost use Rattle.varisat_prop.specs.View.{View, kept, GrowsTrail};
 ghost use Rattle.varisat_prop.specs.Changes.{IsConflicting};
 ghost use Rattle.varisat_analysis.specs.Learned.{IsLearned, AreInvolved};
 ghost use Rattle.varisat_search.specs.Contexts.{view, IsNotUnsat, IsReady};
-ghost use Rattle.varisat_search.specs.Frames.{ChangesAnalysis, ChangesClauses, ChangesSettled, SearchesOn};
+ghost use Rattle.varisat_search.specs.Frames.{ChangesAnalysis, ChangesClauses, ChangesRootSimplified, SearchesOn};
 ghost use Rattle.varisat_search.specs.Steps.{IsPropagatedToEnd, SavesSome};
 ghost use Rattle.varisat_search.specs.Seen.{search_of};
 ghost use Rattle.varisat_theory.specs.Journals.{Fails};
@@ -19,7 +19,7 @@ ghost use Rattle.varisat_trace.specs.Traces.{TakesLines, TakesStep, LogsLines, B
 ghost use Rattle.varisat_search.specs.AssumptionParts.{TakesOutImplied};
 ghost use Rattle.varisat_search.specs.Conflicts.{ComesToDecision, EndsOrStops, keeping_of, IsKeptAsReason, IsStoredAsReason, IsWatchedAsReason};
 ghost use Rattle.varisat_search.specs.Learning.{HasMet, BumpsVariables, BumpsAndStores};
-ghost use Rattle.varisat_search.specs.SettledUnits.{IsUnsettled, FixesNone, KeepsFixed, FixesByLearning, SettlesByLines, SettlesIfUnsettled, IsSettledDown, SettlesAndSteps};
+ghost use Rattle.varisat_search.specs.RootSimplified.{HasRootNews, FixesNone, KeepsFixed, FixesByLearning, SimplifiesRootByLines, SimplifiesRootIfNews, IsRootSimplified, SimplifiesAndSteps};
 ghost use Rattle.varisat_search.specs.StepErrors.{EndsStep, step_faults};
 ghost use Rattle.varisat_search.specs.Progress.{outcome_at, AddOne, AddOneIfUnknown, IsStepFurther, MakesStep};
 ghost use Rattle.varisat_search.specs.FoundCores.{HasCoreIfFailed};
@@ -82,7 +82,7 @@ fn find_conflict<A: Allocator + Copy>(
     requires { IsReady ctx.old }
     ensures ready { OnOk result (IsReady ctx.new) }
     ensures grows { OnOk result (GrowsTrail (view ctx.old) (view ctx.new)) }
-    ensures fixed { OnOk result ((IsUnsettled (view ctx.old) → ⊥) → FixesNone (view ctx.old) (view ctx.new)) }
+    ensures fixed { OnOk result ((HasRootNews (view ctx.old) → ⊥) → FixesNone (view ctx.old) (view ctx.new)) }
     ensures taken { OnOk result (TakesOutImplied (view ctx.old) ctx.old.assumptions ctx.new.assumptions) }
     ensures found { IfOk result (λ end. EndsOrStops (view ctx.new) ctx.new.assumptions end) }
     ensures goes { SearchesOn result ctx.old ctx.new }
@@ -241,7 +241,7 @@ fn learn_from_conflict<A: Allocator + Copy, P: ProofTracer>(
 
 /// At level 0 propagates what is left to be propagated, proves the units and simplifies the clauses. Where a clause is
 /// false, it is returned and no clause is simplified. Fails where it is out of memory or the tracer fails.
-pub fn settle<A: Allocator + Copy, P: ProofTracer>(
+pub fn simplify_root<A: Allocator + Copy, P: ProofTracer>(
     ctx: &mut Context<A>,
     proof: &mut P,
 ) -> Result<Result<(), Conflict>, TraceError>
@@ -249,13 +249,13 @@ pub fn settle<A: Allocator + Copy, P: ProofTracer>(
     requires undecided { ctx.old.trail.decisions ≡ [] }
     requires holds { HoldsFor (P.holds proof.old) (search_of (view ctx.old)) }
     // Simplification relies on the unit clauses, so that their lines come first.
-    ensures goes_on { IfOk result (λ end. SettlesByLines (λ lines. TakesLines P.takes proof.old lines proof.new) ctx.old ctx.new end) }
-    ensures settled { IfOk result (λ end. MatchResult end (λ _. IsSettledDown (view ctx.new)) (λ _. Unit {0})) }
+    ensures goes_on { IfOk result (λ end. SimplifiesRootByLines (λ lines. TakesLines P.takes proof.old lines proof.new) ctx.old ctx.new end) }
+    ensures settled { IfOk result (λ end. MatchResult end (λ _. IsRootSimplified (view ctx.new)) (λ _. Unit {0})) }
     ensures conflict { IfOk result (λ end. MatchResult end (λ _. Unit {0}) (λ conflict. IsConflicting (view ctx.new) conflict)) }
     // A clause that is false before is found.
     ensures finds { IfOk result (λ end. (c : Conflict) → IsConflicting (view ctx.old) c → end ≢ Ok tt) }
     ensures at_zero { OnOk result (ctx.new.trail.decisions ≡ []) }
-    ensures kept { ChangesSettled ctx.old ctx.new }
+    ensures kept { ChangesRootSimplified ctx.old ctx.new }
     ensures broken { IfErr result (λ error. BreaksOff P.breaks_off proof.old (faults_of error) proof.new) }
 {
     let before = ctx.trail.propagated_count();
@@ -277,26 +277,26 @@ pub fn settle<A: Allocator + Copy, P: ProofTracer>(
     Ok(Ok(()))
 }
 
-/// Settles the units of level 0, as `settle`. Nothing happens at another level, nor where nothing is left to be
+/// Settles the units of level 0, as `simplify_root`. Nothing happens at another level, nor where nothing is left to be
 /// propagated.
-fn settle_units<A: Allocator + Copy, P: ProofTracer>(
+fn simplify_root_if_news<A: Allocator + Copy, P: ProofTracer>(
     ctx: &mut Context<A>,
     proof: &mut P,
 ) -> Result<Result<(), Conflict>, TraceError>
     requires ready { IsReady ctx.old }
     requires holds { HoldsFor (P.holds proof.old) (search_of (view ctx.old)) }
-    ensures goes_on { IfOk result (λ end. SettlesIfUnsettled (λ lines. TakesLines P.takes proof.old lines proof.new) ctx.old ctx.new end) }
-    ensures stays { IfOk result (λ end. (IsUnsettled (view ctx.old) → ⊥) → (ctx.new ≡ ctx.old) × (end ≡ Ok tt)) }
+    ensures goes_on { IfOk result (λ end. SimplifiesRootIfNews (λ lines. TakesLines P.takes proof.old lines proof.new) ctx.old ctx.new end) }
+    ensures stays { IfOk result (λ end. (HasRootNews (view ctx.old) → ⊥) → (ctx.new ≡ ctx.old) × (end ≡ Ok tt)) }
     ensures finds { IfOk result (λ end. ctx.old.trail.decisions ≡ [] → (c : Conflict) → IsConflicting (view ctx.old) c → end ≢ Ok tt) }
     ensures at_zero { IfOk result (λ end. end ≢ Ok tt → ctx.new.trail.decisions ≡ []) }
     ensures conflict { IfOk result (λ end. MatchResult end (λ _. Unit {0}) (λ conflict. IsConflicting (view ctx.new) conflict)) }
-    ensures kept { ChangesSettled ctx.old ctx.new }
+    ensures kept { ChangesRootSimplified ctx.old ctx.new }
     ensures broken { IfErr result (λ error. BreaksOff P.breaks_off proof.old (faults_of error) proof.new) }
 {
     if ctx.trail.current_level() > 0 || ctx.trail.fully_propagated() {
         return Ok(Ok(()));
     }
-    let end = settle(ctx, proof)?;
+    let end = simplify_root(ctx, proof)?;
     Ok(end)
 }
 
@@ -325,7 +325,7 @@ fn find_and_learn<A: Allocator + Copy, P: ProofTracer>(
     ensures made { OnOk result (MakesStep
         (λ lines. AddOneIfUnknown lines ctx.new × TakesStep P.takes proof.old lines (outcome_at ctx.new) proof.new) ctx.old ctx.new) }
     ensures core { OnOk result (HasCoreIfFailed ctx.new) }
-    ensures fixed { OnOk result ((IsUnsettled (view ctx.old) → ⊥) → IsNotUnsat ctx.new → KeepsFixed (view ctx.old) (view ctx.new)) }
+    ensures fixed { OnOk result ((HasRootNews (view ctx.old) → ⊥) → IsNotUnsat ctx.new → KeepsFixed (view ctx.old) (view ctx.new)) }
     ensures ends { EndsStep result ctx.old ctx.new }
     ensures broken { IfErr result (λ error. BreaksOff P.breaks_off proof.old (step_faults error) proof.new) }
 {
@@ -352,13 +352,13 @@ pub fn conflict_step<A: Allocator + Copy, P: ProofTracer>(
     // The tracer may hold what fits the search.
     requires holds { HoldsFor (P.holds proof.old) (search_of (view ctx.old)) }
     // It took the lines of the step, and then the core, where assumptions failed.
-    ensures made { OnOk result (SettlesAndSteps (λ lines. TakesStep P.takes proof.old lines (outcome_at ctx.new) proof.new) ctx.old ctx.new) }
+    ensures made { OnOk result (SimplifiesAndSteps (λ lines. TakesStep P.takes proof.old lines (outcome_at ctx.new) proof.new) ctx.old ctx.new) }
     ensures core { OnOk result (HasCoreIfFailed ctx.new) }
     ensures fixes { OnOk result (FixesByLearning ctx.old ctx.new) }
     ensures ends { EndsStep result ctx.old ctx.new }
     ensures broken { IfErr result (λ error. BreaksOff P.breaks_off proof.old (step_faults error) proof.new) }
 {
-    match settle_units(ctx, proof)? {
+    match simplify_root_if_news(ctx, proof)? {
         Ok(()) => find_and_learn(ctx, proof)?,
         Err(conflict) => learn_from_conflict(ctx, proof, conflict)?,
     }

@@ -14,7 +14,7 @@ ghost use Rattle.varisat_search.specs.Frames.{ChangesForgotten};
 ghost use Rattle.varisat_search.specs.Decisions.{IsDecidable};
 ghost use Rattle.varisat_search.specs.Forgotten.{AreStaying, IsWithout, FlagsMentioned, FlagsAlso, FlagsImplying, forgotten_activities, search_without, clauses_without};
 ghost use Rattle.varisat_search.specs.Seen.{search_of};
-ghost use Rattle.varisat_search.specs.SettledUnits.{IsSettledDown};
+ghost use Rattle.varisat_search.specs.RootSimplified.{IsRootSimplified};
 
 use crate::context::Context;
 use std::alloc::{AllocError, Allocator};
@@ -75,13 +75,13 @@ fn forget_activities<A: Allocator + Copy>(vsids: &mut Vsids<A>, gone: &[bool])
 /// longer decides them. It goes on without them as long as no clause and no assumption names them. It takes no memory.
 pub fn drop_variables<A: Allocator + Copy>(ctx: &mut Context<A>, gone: &[bool])
     requires ready { IsReady ctx.old }
-    requires settled { IsSettledDown (view ctx.old) }
+    requires settled { IsRootSimplified (view ctx.old) }
     requires count { length gone.now ≡ length ctx.old.assignment.current }
     requires unmentioned { (c : Clause) → c ∈ kept (view ctx.old) → AreStaying gone.now c }
     requires unassumed { AreStaying gone.now ctx.old.assumptions.working }
     ensures dropped { IsWithout gone.now (view ctx.old) (view ctx.new) }
     ensures ready { IsReady ctx.new }
-    ensures settled { IsSettledDown (view ctx.new) }
+    ensures settled { IsRootSimplified (view ctx.new) }
     ensures decidable { (v : ℕ) → IsDecidable (view ctx.new) ctx.new.vsids v ↔ (IsDecidable (view ctx.old) ctx.old.vsids v × (leaves gone.now v ≡ false)) }
     // What a proof holds still fits where the clauses that name the variables are left out of it.
     ensures seen { search_of (view ctx.new) ≡ search_without gone.now (search_of (view ctx.old)) }

@@ -13,7 +13,7 @@ ghost use Rattle.varisat_search.specs.Frames.{ChangesSimplified, HoldsOrUnchange
 ghost use Rattle.varisat_search.specs.Decisions.{SameDecidable};
 ghost use Rattle.varisat_search.specs.Progress.{ProvesTo};
 ghost use Rattle.varisat_search.specs.Seen.{search_of};
-ghost use Rattle.varisat_search.specs.SettledUnits.{CanSimplify};
+ghost use Rattle.varisat_search.specs.RootSimplified.{CanSimplify};
 ghost use Rattle.varisat_search.specs.ProvedUnits.{units_in, implied_units, HaveUnits, ProvesUnits};
 ghost use Rattle.varisat_trace.specs.Traces.{TakesLines, BreaksOff, faults_of, CanTake, HoldsFor};
 ghost use Rattle.varisat_search.specs.Simplifications.{unassigned, with_shortened, with_pairs, IsSimplified, pair_lines, clause_lines, IsPairIn, IsLeftOpen, LeavesOpen, NotesWatches};

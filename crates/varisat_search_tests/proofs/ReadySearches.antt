@@ -9,7 +9,7 @@ use Rattle.varisat_clause.specs.Stores.{Store, stored_clauses, HoldsClauses}
 use Rattle.varisat_clause.specs.Collected.{live_of, live_clauses}
 use Rattle.varisat_clause.proofs.DatabaseTracks.{tracks-header}
 use Rattle.varisat_prop.specs.Parts.{Values}
-use Rattle.varisat_prop.specs.View.{View, WellFormed, LevelsSettled}
+use Rattle.varisat_prop.specs.View.{View, WellFormed, PropagatedBeforeDecisions}
 use Rattle.varisat_prop.specs.Watches.{Watches, IsPropagated, IsWatching}
 use Rattle.varisat_analysis.specs.HeaderChanges.{SameButHeaders}
 use Rattle.varisat_analysis.proofs.SameButHeaders.{live-header}
@@ -36,7 +36,7 @@ values-ready {A} {x} a e r =
     let v : view (record x { assignment = a }) ≡ view x = ap (λ vs. record (view x) { values = vs }) e in
     record {
       well = subst WellFormed (sym v) r.well;
-      settled = subst LevelsSettled (sym v) r.settled;
+      settled = subst PropagatedBeforeDecisions (sym v) r.settled;
       propagated = subst (IsPropagated x.watchlists) (sym v) r.propagated;
       tracks = r.tracks;
       analysis = r.analysis ∙ ap (λ vs. length vs) (sym e);

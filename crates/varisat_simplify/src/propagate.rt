@@ -140,7 +140,7 @@ fn use_noted<A: Allocator + Copy>(
 }
 
 /// Notes the clause at the place, or uses on it what was noted. Returns whether it was noted.
-fn settle<A: Allocator + Copy>(
+fn use_or_note<A: Allocator + Copy>(
     db: &mut Database<A>,
     place: usize,
     units: &mut [u32],
@@ -176,7 +176,7 @@ fn pass<A: Allocator + Copy>(
         if place >= db.len() {
             return Ok(is_noted);
         }
-        let is_new = settle(db, place, units, scratch)?;
+        let is_new = use_or_note(db, place, units, scratch)?;
         is_noted = is_noted || is_new;
         place += 1;
     }

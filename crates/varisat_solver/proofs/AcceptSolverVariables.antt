@@ -15,7 +15,7 @@ use Rattle.varisat_names.specs.Maps.{updated, onward, chain}
 use Rattle.varisat_solver.specs.States.{State}
 use Rattle.varisat_tracer.specs.Carried.{carry}
 use Rattle.varisat_solver.specs.Carried.{is_forced}
-use Rattle.varisat_solver.specs.Spaces.{Spaces, Carrying, Translation, translation, IsSettledBy, SearchHolds, AssumptionsFit, without_core, Links}
+use Rattle.varisat_solver.specs.Spaces.{Spaces, Carrying, Translation, translation, IsDischargedBy, SearchHolds, AssumptionsFit, without_core, Links}
 use Rattle.varisat_solver.proofs.SpacesAgree.{take_solver, carry-same, working-same, settled-through}
 use Rattle.varisat_search.proofs.TakenSolvers.{few, below, below-count, ∈-below}
 use Rattle.varisat_names.proofs.Maps.{updated-at, updated-other, updated-all, joined, chain-some, chain-none, chain-through, is-some}
@@ -87,9 +87,9 @@ module _ (w : Carrying) (p : Spaces) (s : State) (x i v : ℕ) (k : Links w p s)
 
   -- what says nothing more says nothing more after that, and so does what is held and mentions v
   pub settled-on : (held : List Clause) → Fits held p.search → (F : List Clause) →
-      ((c : Clause) → c ∈ F → IsSettledBy (translation w p s.logged) p.search.fixed c) → (c : Clause) →
+      ((c : Clause) → c ∈ F → IsDischargedBy (translation w p s.logged) p.search.fixed c) → (c : Clause) →
       c ∈ (F ++ rename (carry (chain p.global_from_solver w.identity)) (only v held)) →
-      IsSettledBy (translation w (take_solver x v p) s.logged) p.search.fixed c
+      IsDischargedBy (translation w (take_solver x v p) s.logged) p.search.fixed c
   unfolding to to'
   settled-on held f F settled c h =
       settled-through (translation w p s.logged) (translation w (take_solver x v p) s.logged) p.search.fixed p.search.fixed

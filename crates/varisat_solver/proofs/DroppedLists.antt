@@ -29,7 +29,7 @@ use Rattle.varisat_theory.proofs.Renaming.{∈-map, map-∈}
 use Rattle.varisat_literals.specs.Numbers.{polarity_of}
 use Rattle.varisat_prop.proofs.SimplifiedPairs.{filter-∈, ∈-filter}
 use Rattle.varisat_search.specs.Seen.{search_of, is_fixed, is_proved}
-use Rattle.varisat_search.specs.SettledUnits.{IsSettledDown}
+use Rattle.varisat_search.specs.RootSimplified.{IsRootSimplified}
 use Rattle.varisat_search.proofs.ForgottenViews.{trail-distinct, distinct-left}
 use Rattle.varisat_solver.specs.States.{State}
 use Rattle.varisat_theory.specs.Journals.{Entry}
@@ -184,7 +184,7 @@ some-inside (o ∷ vs) zero b e = omega arith
 some-inside (o ∷ vs) (suc v) b e = let h = some-inside vs v b e in omega (arith, h)
 
 -- A search of which all of level 0 is settled.
-module _ (s : View) (w : WellFormed s) (d : IsSettledDown s) where
+module _ (s : View) (w : WellFormed s) (d : IsRootSimplified s) where
   pub on-value : (l : Literal) → l ∈ s.trail → slice_index_or s.values (variable_of l) None ≡ Some (polarity_of l)
   on-value l h = let (k, a, e) = place_in l s.trail 0 h in subst (λ m. slice_index_or s.values (variable_of m) None ≡ Some (polarity_of m)) e (w.is_true k a)
 
@@ -299,7 +299,7 @@ module _ {A : Type 0} {m n : Tables} {x y : Context A} {gone : List Bool}
 -- What it stands for, which is told to the proof too.
 module _ {A : Type 0} {p q : TracerState} {x y : Context A} {gone : List Bool}
     (h : HaveLeft p.tables q.tables x y gone (unassumed_among p.tables x.trail.literals) (length x.assignment.current)) where
-  pub stands-dropped : IsSettledDown (view x) → AreDroppedAlone (unassumed_among p.tables x.trail.literals) p q →
+  pub stands-dropped : IsRootSimplified (view x) → AreDroppedAlone (unassumed_among p.tables x.trail.literals) p q →
       search_of (view y) ≡ search_without gone (search_of (view x)) → (s : State) →
       SpacesFit (spaces_of p.tables p.proof.checker (view x) x.assumptions verdict.Unknown) s →
       (logged : List Entry) × LogsRetired s.variables s.logged logged p.proof q.proof

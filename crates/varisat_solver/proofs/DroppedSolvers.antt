@@ -11,7 +11,7 @@ use Rattle.varisat_theory.proofs.SearchFits.{clause_from}
 use Rattle.varisat_theory.proofs.Held.{same_clauses-back, same_clauses_find}
 use Rattle.varisat_theory.proofs.Renaming.{∈-map, map-∈}
 use Rattle.varisat_tracer.specs.Carried.{carry}
-use Rattle.varisat_solver.specs.Spaces.{Translation, IsSettledBy, Spaces, Carrying, UnitsFit, IsolationCase, NotIsolated, Apart, Forced, IsolationFits, AssumptionsFit, IsKnownTrue, SharesHeld, SearchHolds, without_core, translation, Links}
+use Rattle.varisat_solver.specs.Spaces.{Translation, IsDischargedBy, Spaces, Carrying, UnitsFit, IsolationCase, NotIsolated, Apart, Forced, IsolationFits, AssumptionsFit, IsKnownTrue, SharesHeld, SearchHolds, without_core, translation, Links}
 use Rattle.varisat_tracer.specs.RenamedEntries.{carry-opposites}
 use Rattle.varisat_solver.proofs.ReachedHeld.{only, only-is, mentioned, left-apart, same-apart, inside-apart, live-apart, in-use-lives}
 use Rattle.varisat_theory.proofs.StepDrops.{variable_is_dropped}
@@ -60,12 +60,12 @@ unit-forgotten f l held all d s h u =
 
 -- What is held of a variable that no kept clause mentions says nothing more.
 pub settled-with : (r : Translation) (v : ℕ) (share : List Clause) (s : Search) → Fits share s →
-    ((k : KeptClause) → k ∈ s.kept → mentions v k.clause ≡ false) → (c : Clause) → c ∈ rename (carry r.identity) (only v share) → IsSettledBy r s.fixed c
+    ((k : KeptClause) → k ∈ s.kept → mentions v k.clause ≡ false) → (c : Clause) → c ∈ rename (carry r.identity) (only v share) → IsDischargedBy r s.fixed c
 settled-with r v share s f other c h =
     let to = carry r.identity in
     let (d, i, e) = map-∈ (map to) c (only v share) h in
     let (x, j, t) = same_clauses_find share (clauses_of s.kept ++ f.others) f.same d (only-is v share d i).0 in
-    subst (IsSettledBy r s.fixed) (sym e)
+    subst (IsDischargedBy r s.fixed) (sym e)
     (⊎_elim
     (λ a. let (k, b, q) = clause_from s.kept x a in let (m, y, o) = mentioned_literal v d (only-is v share d i).1 in
     let z : true ≡ false = sym (literal_mentioned v x m (t.1 m y) o) ∙ ap (mentions v) (sym q) ∙ other k b in absurd cc)

@@ -2,7 +2,7 @@
 use Rattle.std.proofs.Common.{◌≡◌, ℕ, Some, None, List, [], ◌∷◌, ◌⊎◌, inl, inr, ⊎_elim, sym, ap, ◌∙◌, subst, refl, map}
 use Rattle.varisat_theory.specs.Membership.{◌∈◌, ◌⊆◌}
 use Rattle.varisat_theory.specs.Literals.{Literal, Clause, variable_of, literal_of, opposite}
-use Rattle.varisat_theory.specs.Searches.{IsSettled}
+use Rattle.varisat_theory.specs.Searches.{IsDischarged}
 use Rattle.varisat_theory.specs.Outcomes as outcome
 use Rattle.varisat_theory.proofs.Renaming.{∈-map, map-∈}
 use Rattle.varisat_literals.specs.Numbers.{polarity_of}
@@ -12,7 +12,7 @@ use Rattle.varisat_names.specs.Maps.{chain}
 use Rattle.varisat_names.proofs.Maps.{chain-some, chain-through, is-some}
 use Rattle.varisat_solver.specs.States.{State}
 use Rattle.varisat_tracer.specs.Carried.{carry}
-use Rattle.varisat_solver.specs.Spaces.{Carrying, Spaces, translation, IsSettledBy, SearchHolds, Links}
+use Rattle.varisat_solver.specs.Spaces.{Carrying, Spaces, translation, IsDischargedBy, SearchHolds, Links}
 use Rattle.varisat_solver.proofs.AcceptSolverVariables.{one-literal}
 use Rattle.varisat_solver.proofs.Carried.{carry-at, carry-sign, forced-value}
 use Rattle.varisat_tracer.specs.RenamedEntries.{carry-opposites}
@@ -78,7 +78,7 @@ module _ (w : Carrying) (p : Spaces) (s : State) (k : Links w p s) where
   module _ (h : SearchHolds s.clauses (translation w p s.logged) p.search outcome.Unknown) where
     -- what says nothing more over identities says nothing more in the search
     settled-back : (e : Clause) → ((l : Literal) → l ∈ e → IsInUse (translation w p s.logged) l) →
-        IsSettledBy (translation w p s.logged) p.search.fixed (map (carry (translation w p s.logged).identity) e) → IsSettled p.search e
+        IsDischargedBy (translation w p s.logged) p.search.fixed (map (carry (translation w p s.logged).identity) e) → IsDischarged p.search e
     settled-back e in-use (inl (l, a, b)) =
         let to = (translation w p s.logged).identity in
         let (m, i, q) = map-∈ (carry to) l e a in
@@ -105,17 +105,17 @@ module _ (w : Carrying) (p : Spaces) (s : State) (k : Links w p s) where
     -- so is its copy.
     pub record Copies (F : List Clause) : Type 0 where
       pub list : List Clause
-      pub settled : (e : Clause) → e ∈ list → IsSettled p.search e
+      pub settled : (e : Clause) → e ∈ list → IsDischarged p.search e
       pub copied : (d c : Clause) → d ∈ F → ((l : Literal) → l ∈ c → IsInUse (translation w p s.logged) l) →
           d ⊆ map (carry (translation w p s.logged).identity) c → (e : Clause) × (e ∈ list) × (e ⊆ c)
 
     with-copy : (d e : Clause) (F : List Clause) → ((l : Literal) → l ∈ e → IsInUse (translation w p s.logged) l) →
-        map (carry (translation w p s.logged).identity) e ≡ d → IsSettledBy (translation w p s.logged) p.search.fixed d → Copies F → Copies (d ∷ F)
+        map (carry (translation w p s.logged).identity) e ≡ d → IsDischargedBy (translation w p s.logged) p.search.fixed d → Copies F → Copies (d ∷ F)
     with-copy d e F in-use q settled rest = record {
       list = e ∷ rest.list;
       settled = λ x. elim [
-        | inl o ↦ subst (IsSettled p.search) (sym o)
-            (settled-back e in-use (subst (IsSettledBy (translation w p s.logged) p.search.fixed) (sym q) settled))
+        | inl o ↦ subst (IsDischarged p.search) (sym o)
+            (settled-back e in-use (subst (IsDischargedBy (translation w p s.logged) p.search.fixed) (sym q) settled))
         | inr i ↦ rest.settled x i
       ];
       copied = λ x c i of part. ⊎_elim
@@ -143,7 +143,7 @@ module _ (w : Carrying) (p : Spaces) (s : State) (k : Links w p s) where
           i;
     }
 
-    pub copies : (F : List Clause) → ((c : Clause) → c ∈ F → IsSettledBy (translation w p s.logged) p.search.fixed c) → Copies F
+    pub copies : (F : List Clause) → ((c : Clause) → c ∈ F → IsDischargedBy (translation w p s.logged) p.search.fixed c) → Copies F
     copies [] settled = record { list = []; settled = λ e a. absurd a; copied = λ d c a. absurd a }
     copies (d ∷ F) settled =
         let rest = copies F (λ c a. settled c (inr a)) in

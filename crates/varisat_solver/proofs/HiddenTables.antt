@@ -248,7 +248,7 @@ undecided search core verdict.Unsat n e = n refl
 undecided search core verdict.UnsatUnderAssumptions n e = let z : outcome.Unknown ≡ outcome.Unsat = e in cc
 
 module _ (g : Summary) (s : State) (new : Tables) (x : ℕ) (w : Carrying) (k : Links w (spaces g) s)
-    (live : (kept_at g.tables.kept x).deleted ≡ false) (unnamed : at g.tables.users.backward x ≡ None) (unsettled : g.sat_state ≢ verdict.Unsat)
+    (live : (kept_at g.tables.kept x).deleted ≡ false) (unnamed : at g.tables.users.backward x ≡ None) (undecided_before : g.sat_state ≢ verdict.Unsat)
     (n : IsDeletedIfUnused g.tables new x) (p q : ProofParts) (same : p.checker ≡ g.checker) (logged : IsLogged p (leaves_if_deleted new x) q) where
   same-users : new.users ≡ g.tables.users
   same-users = ap (λ (t : Tables). t.users) n.rest
@@ -296,7 +296,7 @@ module _ (g : Summary) (s : State) (new : Tables) (x : ℕ) (w : Carrying) (k : 
             (λ m. ap (λ (d : VarData). value_or d.unit f (at new.solvers.forward y))
             (l.at_each y ∙ updated-other (kept_at g.tables.kept) x dead y m)
             ∙ ap (λ (b : BiMap). value_or (kept_at g.tables.kept y).unit f (at b.forward y)) same-solvers);
-      }) refl (recycled w (spaces g) s x i k is unnamed unsolved alone (undecided g.search g.assumed.failed_core g.sat_state unsettled) q.checker
+      }) refl (recycled w (spaces g) s x i k is unnamed unsolved alone (undecided g.search g.assumed.failed_core g.sat_state undecided_before) q.checker
       (subst (λ o. IsCheckedIf o (Leaves x ∷ []) q.checker) same (subst (λ es. IsCheckedIf p.checker es q.checker) one logged.checked)))
 
   -- the proof is told so
@@ -327,4 +327,4 @@ pub left-spaces : (g : Summary) (s : State) (new : Tables) (x : ℕ) (p q : Proo
     (kept_at g.tables.kept x).deleted ≡ false → at g.tables.users.backward x ≡ None → g.sat_state ≢ verdict.Unsat →
     IsDeletedIfUnused g.tables new x → p.checker ≡ g.checker → IsLogged p (leaves_if_deleted new x) q →
     (after : List Entry) × LogsRetired s.variables s.logged after p q × SpacesFit (spaces (with_checker q.checker (with_tables new g))) (with_entries after s)
-left-spaces g s new x p q (w, k) live unnamed unsettled n same logged = links-left g s new x w k live unnamed unsettled n p q same logged
+left-spaces g s new x p q (w, k) live unnamed undecided_before n same logged = links-left g s new x w k live unnamed undecided_before n p q same logged

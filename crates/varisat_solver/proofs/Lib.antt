@@ -18,7 +18,7 @@ pub mod ForgottenCopies
 pub mod HiddenTables
 pub mod HiddenStates
 pub mod StepEntries
-pub mod SettledParts
+pub mod RootSimplifiedParts
 pub mod VariableMoves
 pub mod ModelsFit
 pub mod ModeChanges

@@ -5,7 +5,7 @@ use Rattle.varisat_theory.specs.Membership.{◌∈◌, ◌⊆◌, SameSet}
 use Rattle.varisat_theory.specs.Literals.{Literal, Clause, variable_of, literal_of, IsUnit, SatisfiesAll, Assignment}
 use Rattle.varisat_theory.specs.Held.{SameClauses, without}
 use Rattle.varisat_theory.specs.Renaming.{rename}
-use Rattle.varisat_theory.specs.Searches.{Search, KeptClause, IsSettled, Covers, IsLiteralOf}
+use Rattle.varisat_theory.specs.Searches.{Search, KeptClause, IsDischarged, Covers, IsLiteralOf}
 use Rattle.varisat_theory.specs.Outcomes.{Loads, Outcome}
 use Rattle.varisat_theory.proofs.Members.{equal_or_not, ∈-append_left, ∈-append_cases}
 use Rattle.varisat_theory.proofs.Assigned.{satisfies_more}
@@ -175,7 +175,7 @@ module _ (w : Carrying) (p : Spaces) (s : State) (x i v : ℕ) (b : Bool) (t : S
             still_covered t (carry (chain (updated p.global_from_solver v (Some x)) w.identity)) (is_forced w.forced)
             (carry-opposites (chain (updated p.global_from_solver v (Some x)) w.identity)) p.search
             (λ d g. covers n (d ∷ []) (λ x. elim [
-              | inl e ↦ subst (λ y. IsSettled p.search y ⊎ ((k : KeptClause) × (k ∈ p.search.kept) × (k.learned ≡ false) × (k.clause ⊆ y)))
+              | inl e ↦ subst (λ y. IsDischarged p.search y ⊎ ((k : KeptClause) × (k ∈ p.search.kept) × (k.learned ≡ false) × (k.clause ⊆ y)))
                   (sym e) g
               | inr z ↦ absurd z
             ]) d (inl refl))

@@ -5,7 +5,7 @@ use Rattle.varisat_theory.specs.Literals.{Literal, Clause, Assignment, variable_
 use Rattle.varisat_theory.specs.Derivations.{Line, SpeakOf}
 use Rattle.varisat_theory.specs.Counted.{DerivesBy}
 use Rattle.varisat_theory.specs.Journals.{GoesOn}
-use Rattle.varisat_theory.specs.Searches.{Search, KeptClause, IsSettled, Covers, CoversBy, IsLiteralOf}
+use Rattle.varisat_theory.specs.Searches.{Search, KeptClause, IsDischarged, Covers, CoversBy, IsLiteralOf}
 use Rattle.varisat_theory.specs.Outcomes.{Outcome, Holds, Answers}
 use Rattle.varisat_theory.proofs.Sound.{conflicts_sound, derives_sound}
 use Rattle.varisat_theory.proofs.StepCounts.{by_derives}
@@ -32,7 +32,7 @@ use Rattle.varisat_theory.specs.Outcomes as outcome
 -- A search that goes on.
 
 -- a literal that is covered alone is fixed
-pub fixed-alone : (t : Search) (l : Literal) → AreLong t → IsSettled t (l ∷ [])
+pub fixed-alone : (t : Search) (l : Literal) → AreLong t → IsDischarged t (l ∷ [])
     ⊎ ((k : KeptClause) × (k ∈ t.kept) × (k.learned ≡ false) × (k.clause ⊆ (l ∷ []))) → l ∈ t.fixed
 fixed-alone t l long h =
     ⊎_elim
@@ -67,7 +67,7 @@ module _ (P : List Clause) (r : Translation) (s t : Search) (v : Outcome) (h : S
   covered-on n c i =
       still_covered t (carry r.identity) (is_forced r.forced) (carry-opposites r.identity) s
       (λ d g. covers n (d ∷ []) (λ x. elim [
-        | inl e ↦ subst (λ y. IsSettled s y ⊎ ((k : KeptClause) × (k ∈ s.kept) × (k.learned ≡ false) × (k.clause ⊆ y)))
+        | inl e ↦ subst (λ y. IsDischarged s y ⊎ ((k : KeptClause) × (k ∈ s.kept) × (k.learned ≡ false) × (k.clause ⊆ y)))
             (sym e) g
         | inr z ↦ absurd z
       ]) d (inl refl))

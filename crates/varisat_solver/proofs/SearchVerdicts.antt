@@ -23,7 +23,7 @@ use Rattle.varisat_search.specs.Contexts.{view, IsReady}
 use Rattle.varisat_search.specs.Decisions.{SameDecidable}
 use Rattle.varisat_search.specs.Progress.{outcome_at, RaisesRank, MakesStep}
 use Rattle.varisat_search.specs.Seen.{search_of, outcome_of}
-use Rattle.varisat_search.specs.SettledUnits.{FixesByLearning, LearnsAlone}
+use Rattle.varisat_search.specs.RootSimplified.{FixesByLearning, LearnsAlone}
 use Rattle.varisat_search.proofs.ReadyAfter.{ready-with}
 use Rattle.varisat_tracer.specs.Carried.{carry}
 use Rattle.varisat_solver.specs.Searches.{MakesNamedStep}

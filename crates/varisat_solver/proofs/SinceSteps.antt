@@ -9,7 +9,7 @@ use Rattle.varisat_names.specs.Variables.{Tables}
 use Rattle.varisat_search.specs.declared.context.Context.{Context}
 use Rattle.varisat_search.specs.Contexts.{view, IsNotUnsat, IsReady}
 use Rattle.varisat_search.specs.DueReductions.{BeginsStep}
-use Rattle.varisat_search.specs.SettledUnits.{FixesByLearning, GoesOnByLines, IsSettledDown}
+use Rattle.varisat_search.specs.RootSimplified.{FixesByLearning, GoesOnByLines, IsRootSimplified}
 use Rattle.varisat_search.proofs.FixedLiterals.{begun-fixed}
 use Rattle.varisat_solver.specs.Dropping.{AreOverAssumed, LeavesInTime, HasLetLeave}
 use Rattle.varisat_theory.specs.Membership.{◌∈◌, IsDistinct}
@@ -270,7 +270,7 @@ units-left c q units left trail begun after rises short =
     (omega (arith, short, long, many)) in
     record { come = subst (HasComeTo c (next_plan c.scale q)) (in-front units left after) r.come; short = short }
 
-pub come-dropped : {A : Type 0} (gone : List Bool) (x y : Context A) → IsReady x → IsSettledDown (view x) → IsReady y →
+pub come-dropped : {A : Type 0} (gone : List Bool) (x y : Context A) → IsReady x → IsRootSimplified (view x) → IsReady y →
     IsWithout gone (view x) (view y) → ((v : ℕ) → IsDecidable (view y) y.vsids v ↔ (IsDecidable (view x) x.vsids v × (leaves gone v ≡ false))) →
     y.solver_config ≡ x.solver_config → GoesOnWithin x y
 come-dropped gone x y r d q w dec f c p k =

@@ -9,7 +9,7 @@ use Rattle.varisat_names.specs.VarData.{fresh}
 use Rattle.varisat_names.specs.declared.variables.data.VarData.{VarData}
 use Rattle.varisat_solver.specs.States.{State, Verdict, Unknown, Sat, Unsat, UnsatUnderAssumptions}
 use Rattle.varisat_tracer.specs.Carried.{carry}
-use Rattle.varisat_solver.specs.Spaces.{Spaces, MarksFit, ModeFits, IdentitiesFit, NamesFit, ModesFit, UnitsFit, IsolationCase, NotIsolated, Apart, Forced, IsolationFits, SolversFit, Translation, IsKnownTrue, IsSettledBy, SharesHeld, HeldFits, SearchHolds, AssumptionsFit, WorkingFits, CoreFits, VerdictFits}
+use Rattle.varisat_solver.specs.Spaces.{Spaces, MarksFit, ModeFits, IdentitiesFit, NamesFit, ModesFit, UnitsFit, IsolationCase, NotIsolated, Apart, Forced, IsolationFits, SolversFit, Translation, IsKnownTrue, IsDischargedBy, SharesHeld, HeldFits, SearchHolds, AssumptionsFit, WorkingFits, CoreFits, VerdictFits}
 use Rattle.varisat_solver.specs.Usage.{IsWide}
 use Rattle.varisat_theory.specs.Renaming.{rename}
 use Rattle.varisat_theory.specs.Held.{SameClauses}
@@ -213,16 +213,16 @@ covered-same s f g known more c a b m (Kept k i e w) = Kept k i e (λ l j. subst
 
 -- where literals are true for good as they were, a clause says nothing more as it did
 pub settled-through : (r r' : Translation) (fixed fixed' : List Literal) → ((l : Literal) → IsKnownTrue r fixed l → IsKnownTrue r' fixed' l) →
-    (c : Clause) → IsSettledBy r fixed c → IsSettledBy r' fixed' c
+    (c : Clause) → IsDischargedBy r fixed c → IsDischargedBy r' fixed' c
 settled-through r r' fixed fixed' on c (inl t) = inl t
 settled-through r r' fixed fixed' on c (inr (l, h, k)) = inr (l, h, on l k)
 
-pub settled-more : (r : Translation) (fixed more : List Literal) → fixed ⊆ more → (c : Clause) → IsSettledBy r fixed c → IsSettledBy r more c
+pub settled-more : (r : Translation) (fixed more : List Literal) → fixed ⊆ more → (c : Clause) → IsDischargedBy r fixed c → IsDischargedBy r more c
 settled-more r fixed more stay = settled-through r r fixed more (λ l k. ⊎_elim (λ e. inl e) (λ (m, h, e). inr (m, stay m h, e)) k)
 
 -- the same variables, and the same values that are forced
 pub settled-alike : (r r' : Translation) (fixed : List Literal) → ((v : ℕ) → r'.identity v ≡ r.identity v) → ((i : ℕ) → r'.forced i ≡ r.forced i) →
-    (c : Clause) → IsSettledBy r fixed c → IsSettledBy r' fixed c
+    (c : Clause) → IsDischargedBy r fixed c → IsDischargedBy r' fixed c
 settled-alike r r' fixed same forced = settled-through r r' fixed fixed
     (λ l k. ⊎_elim (λ e. inl (ap (λ o. is_value o (polarity_of l)) (forced (variable_of l)) ∙ e))
     (λ (m, h, e). inr (m, h, carry-same r'.identity r.identity m (same (variable_of m)) ∙ e)) k)

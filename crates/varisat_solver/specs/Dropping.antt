@@ -11,7 +11,7 @@ use Rattle.varisat_prop.specs.Changes.{IsConflicting}
 use Rattle.varisat_prop.specs.Leaving.{leaves}
 use Rattle.varisat_prop.specs.View.{View, kept}
 use Rattle.varisat_search.specs.Forgotten.{IsMentioned}
-use Rattle.varisat_search.specs.SettledUnits.{IsUnsettled, fixed_literals}
+use Rattle.varisat_search.specs.RootSimplified.{HasRootNews, fixed_literals}
 use Rattle.varisat_names.specs.VarMap.{at}
 use Rattle.varisat_names.specs.VarData.{kept_at}
 use Rattle.varisat_names.specs.Variables.{Tables, IsChangedTo, IsDropped}
@@ -47,7 +47,7 @@ NoneIsToLeave t s = AreOverAssumed t (fixed_literals s)
 
 -- None is to leave, unless at level 0 literals are still to be propagated, with which the next step lets variables leave.
 abbrev pub LeavesInTime : Tables → View → Type 0
-LeavesInTime t s = NoneIsToLeave t s ⊎ IsUnsettled s
+LeavesInTime t s = NoneIsToLeave t s ⊎ HasRootNews s
 
 -- Variables go on to leave in time in a valid solver, unless the clauses are refuted.
 abbrev pub GoesOnLeaving : Summary → Summary → Type 0
@@ -55,11 +55,11 @@ GoesOnLeaving g h = LeavesInTime g.tables g.search → h.ledger.valid ≡ true �
 
 -- At level 0 no literal is left to be propagated, or a clause is false there.
 abbrev pub IsCalm : View → Type 0
-IsCalm s = (IsUnsettled s → ⊥) ⊎ ((s.decisions ≡ []) × ((conflict : Conflict) × IsConflicting s conflict))
+IsCalm s = (HasRootNews s → ⊥) ⊎ ((s.decisions ≡ []) × ((conflict : Conflict) × IsConflicting s conflict))
 
 -- As a step has begun: none is to leave, and at level 0 all is propagated, or a clause is false there.
 abbrev pub HasLetLeave : Tables → View → Type 0
-HasLetLeave t s = (NoneIsToLeave t s × (IsUnsettled s → ⊥)) ⊎ ((s.decisions ≡ []) × ((conflict : Conflict) × IsConflicting s conflict))
+HasLetLeave t s = (NoneIsToLeave t s × (HasRootNews s → ⊥)) ⊎ ((s.decisions ≡ []) × ((conflict : Conflict) × IsConflicting s conflict))
 
 -- For each of so many variables it says whether a literal is over it.
 pub record FlagsVariables (size : ℕ) (ls : List Literal) (flags : List Bool) : Type 0 where

@@ -16,7 +16,7 @@ use Rattle.varisat_search.specs.Decisions.{SameDecidable}
 use Rattle.varisat_search.specs.DueReductions.{BeginsStep}
 use Rattle.varisat_search.specs.Progress.{RaisesRank}
 use Rattle.varisat_search.specs.Seen.{search_of, outcome_of}
-use Rattle.varisat_search.specs.SettledUnits.{FixesByLearning, LearnsAlone}
+use Rattle.varisat_search.specs.RootSimplified.{FixesByLearning, LearnsAlone}
 use Rattle.varisat_solver.specs.Calls.{with_verdict}
 use Rattle.varisat_solver.specs.Carried.{named_literals}
 use Rattle.varisat_solver.specs.Dropping.{LeavesWhereUnsettled, LeavesInTime, HasLetLeave, IsCalm}

@@ -118,8 +118,8 @@ abbrev pub IsKnownTrue : Translation → List Literal → Literal → Type 0
 IsKnownTrue r fixed l = (is_forced r.forced l ≡ true) ⊎ ((m : Literal) × (m ∈ fixed) × (carry r.identity m ≡ l))
 
 -- The clause over identities says nothing more: it is a tautology, or a literal of it is true for good.
-abbrev pub IsSettledBy : Translation → List Literal → Clause → Type 0
-IsSettledBy r fixed c = IsTautology c ⊎ ((l : Literal) × (l ∈ c) × IsKnownTrue r fixed l)
+abbrev pub IsDischargedBy : Translation → List Literal → Clause → Type 0
+IsDischargedBy r fixed c = IsTautology c ⊎ ((l : Literal) × (l ∈ c) × IsKnownTrue r fixed l)
 
 -- What was told leads to some clauses over identities: those of the search, which are over solver variables in use, and others
 -- that it forgot with variables that left, over live identities. These say nothing more, and among them is a unit clause for each
@@ -133,7 +133,7 @@ pub record SharesHeld (r : Translation) (fixed : List Literal) (share : List Cla
   pub units : (i : ℕ) (b : Bool) (x : ℕ) → r.forced i ≡ Some b → r.global i ≡ Some x → ((v : ℕ) → r.identity v ≢ Some i) →
       (c : Clause) × (c ∈ forgotten) × IsUnit (literal_of i b) c
   pub live : AreLive r forgotten
-  pub settled : (c : Clause) → c ∈ forgotten → IsSettledBy r fixed c
+  pub settled : (c : Clause) → c ∈ forgotten → IsDischargedBy r fixed c
 
 -- What was told of the clauses that the search holds. Under Unsat it leads to a conflict, and nothing more is told of clauses.
 abbrev pub HeldFits : Translation → List Literal → List Clause → Outcome → Type 0

@@ -103,7 +103,7 @@ pub fn accept_user_clause<W: ProofTarget, A: Allocator + Copy>(
     requires kept { IsKept tracer.old.tables ctx.old }
     requires logs { CanLog tracer.old.proof }
     requires stands { FitSome (spaces_with tracer.old.tables tracer.old.proof.checker ctx.old) }
-    requires unsettled { IsNotUnsat ctx.old }
+    requires undecided_before { IsNotUnsat ctx.old }
     requires names { CanBeNamed clause.now tracer.old.tables }
     ensures kept { OnOk result (IsKept tracer.new.tables ctx.new) }
     ensures logs { OnOk result (CanLog tracer.new.proof) }

@@ -7,7 +7,7 @@ ghost use Rattle.varisat_theory.specs.Literals.{Literal, variable_of};
 ghost use Rattle.varisat_literals.specs.Numbers.{variable_limit};
 ghost use Rattle.varisat_names.specs.VarMap.{at};
 ghost use Rattle.varisat_search.specs.Contexts.{view, KeepsSchedule};
-ghost use Rattle.varisat_search.specs.SettledUnits.{IsSettledDown};
+ghost use Rattle.varisat_search.specs.RootSimplified.{IsRootSimplified};
 ghost use Rattle.varisat_solver.specs.SinceChange.{GoesOnWithin};
 ghost use Rattle.varisat_solver.specs.Accepting.{AreBounded};
 ghost use Rattle.varisat_solver.specs.Searches.{LogsSome, Turn, ComesOnUndecided};
@@ -21,7 +21,7 @@ use std::alloc::{AllocError, Allocator};
 use varisat_formula::io::ProofTarget;
 use varisat_literals::{Lit, Var};
 use varisat_names::variables::LinkedVariables;
-use varisat_search::cdcl::settle;
+use varisat_search::cdcl::simplify_root;
 use varisat_search::context::Context;
 use varisat_search::error::StepError;
 use varisat_search::forgetting::{drop_variables, flag_mentioned};
@@ -185,11 +185,11 @@ fn drop_listed<W: ProofTarget, A: Allocator + Copy>(
     literals: &mut Vec<Lit, A>,
 ) -> Result<(), AllocError>
     requires kept { IsKept tracer.old.tables ctx.old }
-    requires settled { IsSettledDown (view ctx.old) }
+    requires settled { IsRootSimplified (view ctx.old) }
     ensures leave { OnOk result (LetsLeave (tracer_state tracer.old) ctx.old (tracer_state tracer.new) ctx.new) }
     ensures schedule { KeepsSchedule ctx.old ctx.new }
     ensures state { ctx.new.solver_state ≡ ctx.old.solver_state }
-    ensures settled { OnOk result (IsSettledDown (view ctx.new)) }
+    ensures settled { OnOk result (IsRootSimplified (view ctx.new)) }
     ensures left { OnOk result (AreOverAssumed tracer.new.tables ctx.new.trail.literals) }
     ensures opened { open_parts tracer.new.proof ≡ open_parts tracer.old.proof }
 {
@@ -211,12 +211,12 @@ fn drop_unneeded<W: ProofTarget, A: Allocator + Copy>(
     literals: &mut Vec<Lit, A>,
 ) -> Result<(), AllocError>
     requires kept { IsKept tracer.old.tables ctx.old }
-    requires settled { IsSettledDown (view ctx.old) }
+    requires settled { IsRootSimplified (view ctx.old) }
     requires left { AreOverAssumed tracer.old.tables ctx.old.trail.literals }
     ensures leave { OnOk result (LetsLeave (tracer_state tracer.old) ctx.old (tracer_state tracer.new) ctx.new) }
     ensures schedule { KeepsSchedule ctx.old ctx.new }
     ensures state { ctx.new.solver_state ≡ ctx.old.solver_state }
-    ensures settled { OnOk result (IsSettledDown (view ctx.new)) }
+    ensures settled { OnOk result (IsRootSimplified (view ctx.new)) }
     ensures left { OnOk result (LeavesNeeded tracer.new.tables (view ctx.new)) }
     ensures opened { open_parts tracer.new.proof ≡ open_parts tracer.old.proof }
 {
@@ -267,7 +267,7 @@ pub fn drop_fixed<W: ProofTarget, A: Allocator + Copy>(
     if ctx.trail.current_level() > 0 || ctx.trail.fully_propagated() {
         return Ok(());
     }
-    let settled = match settle(ctx, tracer) {
+    let settled = match simplify_root(ctx, tracer) {
         Ok(settled) => settled,
         Err(error) => return Err(StepError::from(error)),
     };

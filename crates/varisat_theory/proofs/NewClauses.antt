@@ -10,10 +10,10 @@ use Rattle.varisat_theory.specs.Journals.{Entry, Writes, Leads, LeadsBy, lines_o
 use Rattle.varisat_theory.specs.NewClauses.{LeadsToNew, LeadsAdding, GoesOnAdding}
 use Rattle.varisat_theory.specs.Renaming.{KeepsOpposites, rename, rename_line}
 use Rattle.varisat_theory.proofs.Members.{∈-append_left, ∈-append_right, ∈-append_cases}
-use Rattle.varisat_theory.specs.Searches.{Search, IsTautology, IsSettled, Fits}
+use Rattle.varisat_theory.specs.Searches.{Search, IsTautology, IsDischarged, Fits}
 use Rattle.varisat_theory.proofs.Held.{same_set-self, same_clauses-self, same_clauses-back, same_clauses_find, takes_out_unique}
 use Rattle.varisat_theory.proofs.SearchFits.{fits_same}
-use Rattle.varisat_theory.proofs.StepEnds.{fits_settled}
+use Rattle.varisat_theory.proofs.StepEnds.{fits_discharged}
 use Rattle.varisat_theory.proofs.StepStands.{added_append}
 use Rattle.varisat_theory.proofs.Renaming.{∈-map, map-∈, map-⊆}
 use Rattle.varisat_theory.proofs.Lines.{present_unique, derives_present}
@@ -174,13 +174,13 @@ goes_adding_further k (suc m) logged es fs z g h held d =
 
 -- 3. Clauses that say nothing more, beside what fits a search.
 
-pub fits_more : (s : Search) (held C : List Clause) → ((c : Clause) → c ∈ C → IsSettled s c) → Fits held s → Fits (C ++ held) s
+pub fits_more : (s : Search) (held C : List Clause) → ((c : Clause) → c ∈ C → IsDischarged s c) → Fits held s → Fits (C ++ held) s
 fits_more s held [] g f = f
 fits_more s held (c ∷ C) g f =
     let all = C ++ held in
     let first : SameClauses (c ∷ all) (all ++ c ∷ []) = (all, (all, c, [], refl, same_set-self c, sym (append-nil all)), same_clauses-self all) in
     fits_same (all ++ c ∷ []) (c ∷ all) s (same_clauses-back (c ∷ all) (all ++ c ∷ []) first)
-    (fits_settled s all c (g c (inl refl)) (fits_more s held C (λ d h. g d (inr h)) f))
+    (fits_discharged s all c (g c (inl refl)) (fits_more s held C (λ d h. g d (inr h)) f))
 
 -- 4. Lines that add new clauses, under other names and beside other clauses.
 

@@ -13,19 +13,19 @@ use Rattle.varisat_theory.proofs.Learning.{follows_at_zero}
 use Rattle.varisat_theory.proofs.Implication.{implied_follows, implied_more}
 use Rattle.varisat_theory.proofs.Held.{same_set-back, same_clauses-through}
 use Rattle.varisat_theory.specs.Counted.{IsMinor}
-use Rattle.varisat_theory.specs.Searches.{KeptClause, Search, clauses_of, IsSettled, Fits, Covers, IsLiteralOf}
+use Rattle.varisat_theory.specs.Searches.{KeptClause, Search, clauses_of, IsDischarged, Fits, Covers, IsLiteralOf}
 use Rattle.varisat_theory.specs.Outcomes.{Proves}
 use Rattle.varisat_theory.proofs.Spoken.{moved_within, fewer_within, at_place, part_within}
 use Rattle.varisat_theory.proofs.SearchFits.{same_insert, same_front, same_equal, clauses_at, clauses_join, clause_in, plain, carried, proved_implied}
 
 -- what is settled stays so where more literals are fixed
-pub settled_more : (s t : Search) (c : Clause) → s.fixed ⊆ t.fixed → IsSettled s c → IsSettled t c
-settled_more s t c h (inl a) = inl a
-settled_more s t c h (inr (l, i, j)) = inr (l, i, h l j)
+pub discharged_more : (s t : Search) (c : Clause) → s.fixed ⊆ t.fixed → IsDischarged s c → IsDischarged t c
+discharged_more s t c h (inl a) = inl a
+discharged_more s t c h (inr (l, i, j)) = inr (l, i, h l j)
 
-pub settled_wider : (s : Search) (c d : Clause) → c ⊆ d → IsSettled s c → IsSettled s d
-settled_wider s c d h (inl (l, i, j)) = inl (l, h l i, h (opposite l) j)
-settled_wider s c d h (inr (l, i, j)) = inr (l, h l i, j)
+pub discharged_wider : (s : Search) (c d : Clause) → c ⊆ d → IsDischarged s c → IsDischarged s d
+discharged_wider s c d h (inl (l, i, j)) = inl (l, h l i, h (opposite l) j)
+discharged_wider s c d h (inr (l, i, j)) = inr (l, h l i, j)
 
 -- a unit clause joins the others
 pub more_units : (s t : Search) (O : List Clause) (c : Clause) (l : Literal) → IsUnit l c → t.proved ≡ s.proved ++ l ∷ [] →
@@ -36,10 +36,10 @@ more_units s t O c l u e f m h =
     (λ i. ⊎_elim (λ g. (c, ∈-append_right c O (c ∷ []) (inl refl), subst (λ x. IsUnit x c) (sym g) u)) (λ z. absurd z) i)
     (∈-append_cases m s.proved (l ∷ []) (subst (λ x. m ∈ x) e h))
 
-pub more_settled : (t : Search) (O : List Clause) (c : Clause) → ((d : Clause) → d ∈ O → IsSettled t d) → IsSettled t c → (d : Clause) →
-    d ∈ (O ++ c ∷ []) → IsSettled t d
-more_settled t O c f g d h =
-    ⊎_elim (f d) (λ i. ⊎_elim (λ e. subst (IsSettled t) (sym e) g) (λ z. absurd z) i) (∈-append_cases d O (c ∷ []) h)
+pub more_discharged : (t : Search) (O : List Clause) (c : Clause) → ((d : Clause) → d ∈ O → IsDischarged t d) → IsDischarged t c → (d : Clause) →
+    d ∈ (O ++ c ∷ []) → IsDischarged t d
+more_discharged t O c f g d h =
+    ⊎_elim (f d) (λ i. ⊎_elim (λ e. subst (IsDischarged t) (sym e) g) (λ z. absurd z) i) (∈-append_cases d O (c ∷ []) h)
 
 pub moves_prove : (s t : Search) → SameClauses (clauses_of s.kept) (clauses_of t.kept) →
     ((k : KeptClause) → k ∈ s.kept → k.learned ≡ false → (j : KeptClause) × (j ∈ t.kept) × (j.learned ≡ false) × (j.clause ⊆ k.clause)) →
@@ -52,13 +52,13 @@ moves_prove s t q g x p y = record {
       others = f.others;
       same = same_clauses-through held (clauses_of s.kept ++ f.others) (clauses_of t.kept ++ f.others) f.same
           (same_front (clauses_of s.kept) (clauses_of t.kept) f.others q);
-      settled = λ c h. settled_more s t c x (f.settled c h);
+      settled = λ c h. discharged_more s t c x (f.settled c h);
       units = λ l h. f.units l (p l h);
     },
   );
   covers = λ P v c h.
       ⊎_elim
-      (λ a. inl (settled_more s t c x a))
+      (λ a. inl (discharged_more s t c x a))
       (λ (k, i, e, w). let (j, i', e', w') = g k i e in inr (j, i', e', λ m r. w m (w' m r)))
       (v c h);
   speaks = tt;
@@ -90,7 +90,7 @@ unit_is_proved s l k x h i u = record {
           others = f.others ++ (l ∷ []) ∷ [];
           same = same_equal (plain held s f ++ (l ∷ []) ∷ []) (clauses_of s.kept ++ (f.others ++ (l ∷ []) ∷ []))
               (append_assoc (clauses_of s.kept) f.others ((l ∷ []) ∷ []));
-          settled = more_settled s f.others (l ∷ []) f.settled (inr (l, inl refl, x));
+          settled = more_discharged s f.others (l ∷ []) f.settled (inr (l, inl refl, x));
           units = more_units s (record s { proved = s.proved ++ l ∷ [] }) f.others (l ∷ []) l unit refl f.units;
         },
       );
@@ -101,20 +101,20 @@ unit_is_proved s l k x h i u = record {
 
 -- What is covered stays so where other clauses take a kept one's place, if they cover what it did.
 covers_replaced : (s : Search) (front back middle : List KeptClause) (k : KeptClause) → s.kept ≡ front ++ (k ∷ back) →
-    ((d : Clause) → k.learned ≡ false → k.clause ⊆ d → IsSettled s d ⊎ ((j : KeptClause) × (j ∈ middle) × (j.learned ≡ false) × (j.clause ⊆ d))) →
+    ((d : Clause) → k.learned ≡ false → k.clause ⊆ d → IsDischarged s d ⊎ ((j : KeptClause) × (j ∈ middle) × (j.learned ≡ false) × (j.clause ⊆ d))) →
     (P : List Clause) → Covers P s → Covers P (record s { kept = front ++ (middle ++ back) })
 covers_replaced s front back middle k e w P v d h = ⊎_elim (λ a. inl a)
     (λ (j, i, g, r). go j g r (∈-append_cases j front (k ∷ back) (subst (λ x. j ∈ x) e i))) (v d h)
   where
-    at : (j : KeptClause) → j.learned ≡ false → j.clause ⊆ d → j ∈ (front ++ (middle ++ back)) → IsSettled s d
+    at : (j : KeptClause) → j.learned ≡ false → j.clause ⊆ d → j ∈ (front ++ (middle ++ back)) → IsDischarged s d
         ⊎ ((j : KeptClause) × (j ∈ (front ++ (middle ++ back))) × (j.learned ≡ false) × (j.clause ⊆ d))
     at j g r i = inr (j, i, g, r)
 
-    replaced : (k.learned ≡ false) → k.clause ⊆ d → IsSettled s d
+    replaced : (k.learned ≡ false) → k.clause ⊆ d → IsDischarged s d
         ⊎ ((j : KeptClause) × (j ∈ (front ++ (middle ++ back))) × (j.learned ≡ false) × (j.clause ⊆ d))
     replaced g r = ⊎_elim (λ a. inl a) (λ (j, i, n, y). at j n y (∈-append_right j front (middle ++ back) (∈-append_left j middle back i))) (w d g r)
 
-    go : (j : KeptClause) → j.learned ≡ false → j.clause ⊆ d → (j ∈ front) ⊎ (j ∈ (k ∷ back)) → IsSettled s d
+    go : (j : KeptClause) → j.learned ≡ false → j.clause ⊆ d → (j ∈ front) ⊎ (j ∈ (k ∷ back)) → IsDischarged s d
         ⊎ ((j : KeptClause) × (j ∈ (front ++ (middle ++ back))) × (j.learned ≡ false) × (j.clause ⊆ d))
     go j g r (inl a) = at j g r (∈-append_left j front (middle ++ back) a)
     go j g r (inr (inl m)) = replaced (sym (ap (λ x. x.learned) m) ∙ g) (λ x o. r x (subst (λ n. x ∈ n.clause) (sym m) o))
@@ -122,7 +122,7 @@ covers_replaced s front back middle k e w P v d h = ⊎_elim (λ a. inl a)
 
 -- a kept clause is deleted that is learned or settled
 pub is_deleted : (s : Search) (front back : List KeptClause) (k : KeptClause) (c : Clause) → s.kept ≡ front ++ (k ∷ back) → SameSet k.clause c →
-    (k.learned ≡ true) ⊎ IsSettled s k.clause → Proves 0 s (record s { kept = front ++ back }) (Delete c ∷ [])
+    (k.learned ≡ true) ⊎ IsDischarged s k.clause → Proves 0 s (record s { kept = front ++ back }) (Delete c ∷ [])
 is_deleted s front back k c e q w = record {
   holds = λ held f.
       let F = clauses_of front in
@@ -138,7 +138,7 @@ is_deleted s front back k c e q w = record {
           units = f.units;
         },
       );
-  covers = covers_replaced s front back [] k e (λ d n r. inl (⊎_elim (λ y. absurd (let z : true ≡ false = sym y ∙ n in cc)) (settled_wider s k.clause d r) w));
+  covers = covers_replaced s front back [] k e (λ d n r. inl (⊎_elim (λ y. absurd (let z : true ≡ false = sym y ∙ n in cc)) (discharged_wider s k.clause d r) w));
   speaks = (λ l i. inr (k, at_place s front back k e, q.1 l i), tt);
   within = fewer_within s front back k e;
 }

@@ -5,12 +5,12 @@ use Rattle.varisat_theory.specs.Literals.{Literal, Clause, opposite}
 use Rattle.varisat_theory.specs.Derivations.{Line}
 use Rattle.varisat_theory.specs.Renaming.{KeepsOpposites}
 use Rattle.varisat_theory.proofs.Members.{∈-append_cases}
-use Rattle.varisat_theory.specs.Searches.{KeptClause, Search, IsSettled, Covers, IsCoveredBySearch, Tautology, KnownTrue, FixedTrue, Kept, CoversBy}
+use Rattle.varisat_theory.specs.Searches.{KeptClause, Search, IsDischarged, Covers, IsCoveredBySearch, Tautology, KnownTrue, FixedTrue, Kept, CoversBy}
 use Rattle.varisat_theory.specs.Outcomes.{Unknown, Proves, MakesSteps, Loads}
 
 -- a clause is covered, by the search's own names
 abbrev IsCoveredIn : Search → Clause → Type 0
-IsCoveredIn s d = IsSettled s d ⊎ ((k : KeptClause) × (k ∈ s.kept) × (k.learned ≡ false) × (k.clause ⊆ d))
+IsCoveredIn s d = IsDischarged s d ⊎ ((k : KeptClause) × (k ∈ s.kept) × (k.learned ≡ false) × (k.clause ⊆ d))
 
 module _ (t : Search) (to : Literal → Literal) (known : Literal → Bool) (keeps : KeepsOpposites to) where
   -- so is one in which its literals stand under other names

@@ -7,7 +7,7 @@ use Rattle.varisat_theory.specs.Propagation.{LeavesOnly}
 use Rattle.varisat_theory.specs.Derivations.{Add}
 use Rattle.varisat_theory.specs.Held.{SameClauses, mentions, unless, without}
 use Rattle.varisat_theory.proofs.HeldDrops.{same_without, without_less}
-use Rattle.varisat_theory.specs.Searches.{KeptClause, Search, clauses_of, IsSettled, Fits}
+use Rattle.varisat_theory.specs.Searches.{KeptClause, Search, clauses_of, IsDischarged, Fits}
 use Rattle.varisat_theory.specs.Outcomes.{Proves}
 use Rattle.varisat_theory.specs.StepLaws.{unit_lines}
 use Rattle.varisat_theory.proofs.StepParts.{no_part, parts_join}
@@ -93,6 +93,6 @@ variable_is_dropped s t v held e g x p f = record {
       (d, without_keeps v f.others d j (not_mentioned v d (λ m o. subst (λ y. variable_of y ≢ v) (sym (u.1 m o)) n)), u);
 }
   where
-    stays : (c : Clause) → mentions v c ≡ false → IsSettled s c → IsSettled t c
+    stays : (c : Clause) → mentions v c ≡ false → IsDischarged s c → IsDischarged t c
     stays c q (inl a) = inl a
     stays c q (inr (l, i, j)) = inr (l, i, x l j (mentioned v c l i q))

@@ -10,12 +10,12 @@ use Rattle.varisat_theory.proofs.Held.{same_set-back, same_clauses-through, same
 use Rattle.varisat_theory.proofs.Assigned.{assigned_satisfies, same_set_satisfied, tautology_satisfied}
 use Rattle.varisat_theory.proofs.Implication.{implied_false}
 use Rattle.varisat_theory.specs.Counted.{IsNew, AddsNew}
-use Rattle.varisat_theory.specs.Searches.{KeptClause, Search, clauses_of, IsSettled, Fits, Covers, IsLiteralOf}
+use Rattle.varisat_theory.specs.Searches.{KeptClause, Search, clauses_of, IsDischarged, Fits, Covers, IsLiteralOf}
 use Rattle.varisat_theory.specs.Outcomes.{Unknown, Sat, Unsat, UnsatUnder, Steps}
 use Rattle.varisat_theory.specs.StepLaws.{FollowsFrom, IsNewTo, IsFresh, IsSolution}
 use Rattle.varisat_theory.proofs.SearchFits.{same_between, clauses_last, clause_from, plain, proved_implied}
 use Rattle.varisat_theory.proofs.Spoken.{kept_within, unit_within}
-use Rattle.varisat_theory.proofs.StepChanges.{settled_more, more_units, more_settled, in_plain}
+use Rattle.varisat_theory.proofs.StepChanges.{discharged_more, more_units, more_discharged, in_plain}
 
 -- no held clause is a part of a fresh one
 pub fresh_is_new : (s : Search) (c : Clause) → IsFresh s c → IsNewTo s c
@@ -49,12 +49,12 @@ pub covers_kept : (s : Search) (k : KeptClause) (P : List Clause) → Covers P s
 covers_kept s k P v d h = ⊎_elim (λ a. inl a) (λ (j, i, e, w). inr (j, ∈-append_left j s.kept (k ∷ []) i, e, w)) (v d h)
 
 -- a clause that is settled joins the others
-pub fits_settled : (s : Search) (held : List Clause) (c : Clause) → IsSettled s c → Fits held s → Fits (held ++ c ∷ []) s
-fits_settled s held c a f = record {
+pub fits_discharged : (s : Search) (held : List Clause) (c : Clause) → IsDischarged s c → Fits held s → Fits (held ++ c ∷ []) s
+fits_discharged s held c a f = record {
   others = f.others ++ c ∷ [];
   same = subst (SameClauses (held ++ c ∷ [])) (append_assoc (clauses_of s.kept) f.others (c ∷ []))
       (same_add held (plain held s f) c c f.same (same_set-self c));
-  settled = more_settled s f.others c f.settled a;
+  settled = more_discharged s f.others c f.settled a;
   units = λ l h. let (d, i, u) = f.units l h in (d, ∈-append_left d f.others (c ∷ []) i, u);
 }
 
@@ -69,14 +69,14 @@ fits_unit s held c l u f =
       others = f.others ++ c ∷ [];
       same = subst (SameClauses (held ++ c ∷ [])) (append_assoc (clauses_of s.kept) f.others (c ∷ []))
           (same_add held (plain held s f) c c f.same (same_set-self c));
-      settled = more_settled (with_unit s l) f.others c (λ d h. settled_more s (with_unit s l) d more (f.settled d h))
+      settled = more_discharged (with_unit s l) f.others c (λ d h. discharged_more s (with_unit s l) d more (f.settled d h))
           (inr (l, u.0, ∈-append_right l s.fixed (l ∷ []) (inl refl)));
       units = more_units s (with_unit s l) f.others c l u refl f.units;
     }
 
 pub covers_unit : (s : Search) (l : Literal) (P : List Clause) → Covers P s → Covers P (with_unit s l)
 covers_unit s l P v d h =
-    ⊎_elim (λ a. inl (settled_more s (with_unit s l) d (λ x i. ∈-append_left x s.fixed (l ∷ []) i) a)) inr (v d h)
+    ⊎_elim (λ a. inl (discharged_more s (with_unit s l) d (λ x i. ∈-append_left x s.fixed (l ∷ []) i) a)) inr (v d h)
 
 new_line : (held : List Clause) (c : Clause) → IsNew held c → AddsNew held (Add c ∷ [])
 new_line held c n = record {

@@ -7,20 +7,20 @@ use Rattle.varisat_theory.specs.Analysis.{Implied}
 use Rattle.varisat_theory.proofs.Members.{∈-append_left, ∈-append_right, ∈-append_cases}
 use Rattle.varisat_theory.proofs.Implication.{implied_false, implied_more}
 use Rattle.varisat_theory.proofs.Held.{same_set-back}
-use Rattle.varisat_theory.specs.Searches.{KeptClause, Search, IsSettled, Covers, IsLiteralOf}
+use Rattle.varisat_theory.specs.Searches.{KeptClause, Search, IsDischarged, Covers, IsLiteralOf}
 use Rattle.varisat_theory.specs.Counted.{DerivesBy}
 use Rattle.varisat_theory.specs.Outcomes.{Outcome, Unknown, Unsat, Holds, Proves, Loads, IsContradicted, IsLiteralOfEither}
 use Rattle.varisat_theory.proofs.StepCounts.{by_append}
 use Rattle.varisat_theory.specs.StepLaws.{IsGrounded}
 use Rattle.varisat_theory.proofs.Spoken.{spoken_wider, spoken_after, kept_within, unit_within}
 use Rattle.varisat_theory.proofs.StepStands.{unknown_is_open}
-use Rattle.varisat_theory.proofs.StepEnds.{fits_kept, covers_kept, fits_settled, with_unit, fits_unit, covers_unit}
+use Rattle.varisat_theory.proofs.StepEnds.{fits_kept, covers_kept, fits_discharged, with_unit, fits_unit, covers_unit}
 
 -- one more clause is covered
-one_more : (s : Search) (P : List Clause) (c : Clause) → Covers P s → IsSettled s c
+one_more : (s : Search) (P : List Clause) (c : Clause) → Covers P s → IsDischarged s c
     ⊎ ((k : KeptClause) × (k ∈ s.kept) × (k.learned ≡ false) × (k.clause ⊆ c)) → Covers (P ++ c ∷ []) s
 one_more s P c v w d h =
-    ⊎_elim (v d) (λ i. ⊎_elim (λ e. subst (λ x. IsSettled s x ⊎ ((k : KeptClause) × (k ∈ s.kept) × (k.learned ≡ false) × (k.clause ⊆ x))) (sym e) w)
+    ⊎_elim (v d) (λ i. ⊎_elim (λ e. subst (λ x. IsDischarged s x ⊎ ((k : KeptClause) × (k ∈ s.kept) × (k.learned ≡ false) × (k.clause ⊆ x))) (sym e) w)
     (λ z. absurd z) i) (∈-append_cases d P (c ∷ []) h)
 
 pub loaded_is_kept : (s : Search) (c : Clause) (k : KeptClause) → SameSet k.clause c → k.learned ≡ false → (IsContradicted s c → ⊥) →
@@ -49,16 +49,16 @@ loaded_is_unit s c l u n = record {
   within = λ y. unit_within s (IsLiteralOfEither s c) l (λ m h. inl h) (inr u.0);
 }
 
-pub loaded_is_settled : (s : Search) (c : Clause) → IsSettled s c → (IsContradicted s c → ⊥) → Loads s s c Unknown []
-loaded_is_settled s c a n = record {
-  holds = λ held f. (held ++ c ∷ [], refl, fits_settled s held c a f);
+pub loaded_is_discharged : (s : Search) (c : Clause) → IsDischarged s c → (IsContradicted s c → ⊥) → Loads s s c Unknown []
+loaded_is_discharged s c a n = record {
+  holds = λ held f. (held ++ c ∷ [], refl, fits_discharged s held c a f);
   answers = λ P v. one_more s P c v (inl a);
   verdict = inr (n, refl);
   speaks = tt;
   within = λ y l h. inl h;
 }
 
-pub loaded_is_deleted : (s : Search) (c d : Clause) → IsSettled s c → (IsContradicted s c → ⊥) → SameSet d c → Loads s s c Unknown (Delete d ∷ [])
+pub loaded_is_deleted : (s : Search) (c d : Clause) → IsDischarged s c → (IsContradicted s c → ⊥) → SameSet d c → Loads s s c Unknown (Delete d ∷ [])
 loaded_is_deleted s c d a n q = record {
   holds = λ held f. (held, (held, (held, c, [], refl, same_set-back d c q, sym (none held)), refl), f);
   answers = λ P v. one_more s P c v (inl a);

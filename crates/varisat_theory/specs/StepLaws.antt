@@ -8,7 +8,7 @@ use Rattle.varisat_theory.specs.Held.{SameClauses, mentions, without}
 use Rattle.varisat_theory.specs.Analysis.{Implied}
 use Rattle.varisat_theory.specs.Renaming.{KeepsOpposites}
 use Rattle.varisat_theory.specs.Counted.{IsNew, DerivesBy, AddsManyNew, DeletesNone, added}
-use Rattle.varisat_theory.specs.Searches.{KeptClause, Search, clauses_of, IsTautology, IsSettled, Fits, Covers, CoversBy, IsLiteralOf}
+use Rattle.varisat_theory.specs.Searches.{KeptClause, Search, clauses_of, IsTautology, IsDischarged, Fits, Covers, CoversBy, IsLiteralOf}
 use Rattle.varisat_theory.specs.Outcomes.{Outcome, Unknown, Sat, Unsat, UnsatUnder, Proves, Steps, Loads, IsContradicted, Stands, MakesSteps}
 
 -- 1. How parts join.
@@ -162,13 +162,13 @@ LoadedIsUnit =
     Loads s (record s { fixed = s.fixed ++ l ∷ []; proved = s.proved ++ l ∷ [] }) c Unknown []
 
 -- a tautology, and a unit that is true at level 0, are held and no more
-abbrev pub LoadedIsSettled : Type 0
-LoadedIsSettled = (s : Search) (c : Clause) → IsSettled s c → (IsContradicted s c → ⊥) → Loads s s c Unknown []
+abbrev pub LoadedIsDischarged : Type 0
+LoadedIsDischarged = (s : Search) (c : Clause) → IsDischarged s c → (IsContradicted s c → ⊥) → Loads s s c Unknown []
 
 -- another clause with a literal that is true at level 0 is deleted at once
 abbrev pub LoadedIsDeleted : Type 0
 LoadedIsDeleted =
-    (s : Search) (c d : Clause) → IsSettled s c → (IsContradicted s c → ⊥) → SameSet d c → Loads s s c Unknown (Delete d ∷ [])
+    (s : Search) (c d : Clause) → IsDischarged s c → (IsContradicted s c → ⊥) → SameSet d c → Loads s s c Unknown (Delete d ∷ [])
 
 -- whatever fits implies the literals of level 0
 abbrev pub IsGrounded : Search → Type 0

@@ -9,7 +9,7 @@ ghost use Rattle.varisat_prop.specs.View.{view_of};
 ghost use Rattle.varisat_prop.specs.Looks.{IsInRange};
 ghost use Rattle.varisat_prop.specs.Watches.{with_watches, literal_in, IsWatchedBy, IsRearranged};
 ghost use Rattle.varisat_prop.specs.Visits.{IsPair, HasNoOther, HasOther, IsFound};
-ghost use Rattle.varisat_prop.specs.QueueSteps.{IsNext, EndsPropagation, IsNextSettled, IsWatchOf, IsReorderedAt, PartsPropagate, PartsKeep, PartsGoOn, PartsVisit};
+ghost use Rattle.varisat_prop.specs.QueueSteps.{IsNext, EndsPropagation, WatchesHoldNext, IsWatchOf, IsReorderedAt, PartsPropagate, PartsKeep, PartsGoOn, PartsVisit};
 
 use crate::binary::BinaryClauses;
 use crate::clause::{ClauseAlloc, ClauseRef};
@@ -210,7 +210,7 @@ fn visit_watches<A: Allocator + Copy>(
     ensures keeps { OnOk result (PartsKeep alloc.old alloc.new binary.now assignment.old assignment.new trail.old trail.new graph.old graph.new) }
     ensures next { IfOk result (λ v. IsNext (with_watches watchlists.new lit (take v.kept watches.new))
         (view_of alloc.new binary.now assignment.new trail.new graph.new) lit) }
-    ensures ends { IfOk result (λ v. EndsPropagation IsNextSettled (view_of alloc.new binary.now assignment.new trail.new graph.new) v.end) }
+    ensures ends { IfOk result (λ v. EndsPropagation WatchesHoldNext (view_of alloc.new binary.now assignment.new trail.new graph.new) v.end) }
     ensures lists { OnOk result (length watchlists.new.lists ≡ length watchlists.old.lists) }
     ensures count { length watches.new ≡ length watches.old }
     ensures within { IfOk result (λ v. v.kept ≤ length watches.old) }
@@ -265,7 +265,7 @@ pub(crate) fn visit_list<A: Allocator + Copy>(
     ensures propagates { OnOk result (PartsPropagate alloc.old alloc.new binary.now assignment.old assignment.new trail.old trail.new graph.old graph.new) }
     ensures keeps { OnOk result (PartsKeep alloc.old alloc.new binary.now assignment.old assignment.new trail.old trail.new graph.old graph.new) }
     ensures next { OnOk result (IsNext (with_watches watchlists.new lit list.new) (view_of alloc.new binary.now assignment.new trail.new graph.new) lit) }
-    ensures ends { IfOk result (EndsPropagation IsNextSettled (view_of alloc.new binary.now assignment.new trail.new graph.new)) }
+    ensures ends { IfOk result (EndsPropagation WatchesHoldNext (view_of alloc.new binary.now assignment.new trail.new graph.new)) }
     ensures lists { OnOk result (length watchlists.new.lists ≡ length watchlists.old.lists) }
 {
     let count = list.count as usize;
@@ -297,7 +297,7 @@ pub fn propagate_long<A: Allocator + Copy>(
 ) -> Result<Result<(), Conflict>, AllocError>
     requires { IsNext watchlists.old (view_of alloc.old binary.now assignment.old trail.old graph.old) lit }
     ensures goes { OnOk result (PartsGoOn alloc.old alloc.new binary.now assignment.old assignment.new trail.old trail.new graph.old graph.new watchlists.new) }
-    ensures ends { IfOk result (EndsPropagation IsNextSettled (view_of alloc.new binary.now assignment.new trail.new graph.new)) }
+    ensures ends { IfOk result (EndsPropagation WatchesHoldNext (view_of alloc.new binary.now assignment.new trail.new graph.new)) }
 {
     let mut list = watchlists.take_list(lit);
     let end = visit_list(

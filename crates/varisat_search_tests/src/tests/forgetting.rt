@@ -1,13 +1,13 @@
 //! Searches that forget variables.
 ghost use Rattle.std.specs.Prelude.{◌≡◌, length, map, is_some, OnOk, IfOk};
 ghost use Rattle.varisat_search.specs.Contexts.{view, IsReady};
-ghost use Rattle.varisat_search.specs.SettledUnits.{IsSettledDown};
+ghost use Rattle.varisat_search.specs.RootSimplified.{IsRootSimplified};
 
 use super::searches::{loaded, step};
 use std::alloc::{AllocError, Allocator};
 use std::test::Fail;
 use varisat_prop::prop::Assignment;
-use varisat_search::cdcl::settle;
+use varisat_search::cdcl::simplify_root;
 use varisat_search::context::Context;
 use varisat_search::error::StepError;
 use varisat_search::forgetting::drop_variables;
@@ -31,7 +31,7 @@ fn assigned<A: Allocator + Copy>(
 /// Forgets the variables, which are those that have a value, where nothing is assumed.
 fn forget<A: Allocator + Copy>(ctx: &mut Context<A>, gone: &[bool])
     requires ready { IsReady ctx.old }
-    requires settled { IsSettledDown (view ctx.old) }
+    requires settled { IsRootSimplified (view ctx.old) }
     requires assigned { gone.now ≡ map is_some ctx.old.assignment.current }
     ensures { IsReady ctx.new }
 {
@@ -43,7 +43,7 @@ fn forget<A: Allocator + Copy>(ctx: &mut Context<A>, gone: &[bool])
 /// Forgets the variables that have a value, where nothing is assumed.
 fn forget_assigned<A: Allocator + Copy>(alloc: A, ctx: &mut Context<A>) -> Result<(), AllocError>
     requires ready { IsReady ctx.old }
-    requires settled { IsSettledDown (view ctx.old) }
+    requires settled { IsRootSimplified (view ctx.old) }
     ensures { OnOk result (IsReady ctx.new) }
 {
     let gone = assigned(alloc, &ctx.assignment)?;
@@ -56,7 +56,7 @@ fn forget_units<A: Allocator + Copy>(alloc: A, ctx: &mut Context<A>) -> Result<b
     requires { IsReady ctx.old }
     ensures { OnOk result (IsReady ctx.new) }
 {
-    if ctx.trail.current_level() > 0 || settle(ctx, &mut NoTracer {})?.is_err() {
+    if ctx.trail.current_level() > 0 || simplify_root(ctx, &mut NoTracer {})?.is_err() {
         return Ok(false);
     }
     forget_assigned(alloc, ctx)?;
@@ -82,10 +82,10 @@ fn forgets<A: Allocator + Copy>(
 ) -> Result<(bool, [Option<bool>; 5]), StepError>
     requires { IsReady ctx.old }
 {
-    let is_settled = forget_units(alloc, ctx)?;
+    let is_root_simplified = forget_units(alloc, ctx)?;
     let is_empty = ctx.trail.trail().is_empty() & (values(ctx) == [None; 5]);
     step(ctx)?;
-    Ok((is_settled & is_empty, values(ctx)))
+    Ok((is_root_simplified & is_empty, values(ctx)))
 }
 
 fn forgets_loaded<A: Allocator + Copy>(alloc: A) -> Result<(bool, [Option<bool>; 5]), StepError> {

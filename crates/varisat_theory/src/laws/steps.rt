@@ -1,7 +1,7 @@
 //! What the lines of a step, of a call and of loading do to the clauses that a proof holds, and what that says of the
 //! accepted ones.
 
-ghost use Rattle.varisat_theory.specs.StepLaws.{PartsJoin, PartsJoinStep, StepIsPart, MovesProve, UnitIsProved, UnitsAreProved, SatisfiedIsDeleted, LearnedIsDeleted, ClauseIsShortened, VariableIsDropped, ClauseIsLearned, FreshIsNew, EmptyIsAdded, ContradictionIsFound, ModelIsFound, CoreIsFound, LoadedIsKept, LoadedIsUnit, LoadedIsSettled, LoadedIsDeleted, LoadedIsContradicted, PartsJoinLoad, NoStepIsMade, StepIsMade, NewAreAdded, StepsOfCall, PartsJoinSteps, StepsRefute, FirstStands, PartStands, StepStands, StepsStand, LoadStands, VerdictsAreRight, CountedDerives, KeptAreHeld, NamesAreCovered, NamesStayCovered, NamesAreLoaded, DroppedAreCovered, NamesAreSatisfied};
+ghost use Rattle.varisat_theory.specs.StepLaws.{PartsJoin, PartsJoinStep, StepIsPart, MovesProve, UnitIsProved, UnitsAreProved, SatisfiedIsDeleted, LearnedIsDeleted, ClauseIsShortened, VariableIsDropped, ClauseIsLearned, FreshIsNew, EmptyIsAdded, ContradictionIsFound, ModelIsFound, CoreIsFound, LoadedIsKept, LoadedIsUnit, LoadedIsDischarged, LoadedIsDeleted, LoadedIsContradicted, PartsJoinLoad, NoStepIsMade, StepIsMade, NewAreAdded, StepsOfCall, PartsJoinSteps, StepsRefute, FirstStands, PartStands, StepStands, StepsStand, LoadStands, VerdictsAreRight, CountedDerives, KeptAreHeld, NamesAreCovered, NamesStayCovered, NamesAreLoaded, DroppedAreCovered, NamesAreSatisfied};
 
 /// Two parts of a step in turn are one.
 pub fn parts_join()
@@ -94,8 +94,8 @@ pub fn loaded_is_unit()
 {}
 
 /// A loaded clause that says nothing more is held.
-pub fn loaded_is_settled()
-    ensures { LoadedIsSettled }
+pub fn loaded_is_discharged()
+    ensures { LoadedIsDischarged }
 {}
 
 /// A loaded clause that is satisfied is deleted.

@@ -1,5 +1,5 @@
 use Rattle.std.proofs.Common.{◌≡◌, sym, ◌∙◌, subst}
-use Rattle.varisat_prop.specs.View.{View, WellFormed, LevelsSettled}
+use Rattle.varisat_prop.specs.View.{View, WellFormed, PropagatedBeforeDecisions}
 use Rattle.varisat_prop.specs.Changes.{IsConflicting}
 use Rattle.varisat_search.specs.Contexts.{view}
 use Rattle.varisat_search.proofs.Frames.{shown}
@@ -16,7 +16,7 @@ analyze_conflict-requires g c κs within =
         shown x g.s ready e,
         (
           subst WellFormed e ready.well,
-          (subst LevelsSettled e ready.settled, (conflict, ready.analysis ∙ sym ready.well.nodes_are)),
+          (subst PropagatedBeforeDecisions e ready.settled, (conflict, ready.analysis ∙ sym ready.well.nodes_are)),
         ),
       ),
     )

@@ -17,7 +17,7 @@ use Rattle.varisat_search.proofs.ReadyAfter.{decided-ready, ready-with}
 use Rattle.varisat_search.proofs.StepOutcome.{decided-longer}
 use Rattle.std.proofs.lemmas.Grind.{common_steps}
 use Rattle.varisat_prop.proofs.ViewGrowth.{grows-refl}
-use Rattle.varisat_search.specs.SettledUnits.{FixesNone}
+use Rattle.varisat_search.specs.RootSimplified.{FixesNone}
 use Rattle.varisat_search.proofs.FixedLiterals.{fixed-decided, fixed-still}
 use Rattle.varisat_search.proofs.Frames.{schedule-through, forward-through, searches-fails}
 use Rattle.varisat_search.proofs.cdcl.decide.Given.{Over}

@@ -7,7 +7,7 @@ use Rattle.varisat_search.specs.Contexts.{view, KeepsSchedule, IsReady}
 use Rattle.varisat_search.specs.Frames.{GoesForward}
 use Rattle.varisat_search.proofs.AssumedTruths.{takes-refl, takes-trans}
 use Rattle.varisat_search.proofs.DecidableVariables.{propagated-same}
-use Rattle.varisat_search.specs.SettledUnits.{IsUnsettled, FixesNone}
+use Rattle.varisat_search.specs.RootSimplified.{HasRootNews, FixesNone}
 use Rattle.varisat_search.proofs.Frames.{schedule-nothing, schedule-through, forward-nothing, forward-through, searches-fails}
 use Rattle.varisat_search.proofs.FixedLiterals.{fixed-propagated, fixes-through}
 use Rattle.varisat_search.proofs.PropagatedContext.{propagated-ready}
@@ -35,7 +35,7 @@ grown : (g : Over) (c : After-count g) → GrowsTrail (view c.args.ctx.now) (vie
 grown g c = grows-trans (view c.args.ctx.now) (view c.levels.ctx) (view (mid g c)) c.levels.invariant.grows (propagated g c).grows
 
 -- and makes nothing true at level 0 where all of it was propagated
-fixed : (g : Over) (c : After-count g) → (IsUnsettled (view c.args.ctx.now) → ⊥) → FixesNone (view c.args.ctx.now) (view (mid g c))
+fixed : (g : Over) (c : After-count g) → (HasRootNews (view c.args.ctx.now) → ⊥) → FixesNone (view c.args.ctx.now) (view (mid g c))
 fixed g c calm =
     let (same, quiet) = c.levels.invariant.fixed calm in
     fixes-through (view c.args.ctx.now) (view c.levels.ctx) (view (mid g c)) (same, quiet)

@@ -6,7 +6,7 @@ use Rattle.varisat_theory.specs.Membership.{◌∈◌, SameSet, IsDistinct}
 use Rattle.varisat_theory.specs.Literals.{Clause, variable_of, Literal}
 use Rattle.varisat_theory.specs.Derivations.{TakesOut}
 use Rattle.varisat_theory.specs.Held.{SameClauses}
-use Rattle.varisat_theory.specs.Searches.{Search, clauses_of, IsSettled, Fits}
+use Rattle.varisat_theory.specs.Searches.{Search, clauses_of, IsDischarged, Fits}
 use Rattle.varisat_prop.specs.Leaving.{leaves}
 use Rattle.varisat_prop.proofs.Leaving.{staying-was, was-staying, staying-shorter}
 use Rattle.varisat_prop.proofs.SimplifiedPairs.{filter-∈, ∈-filter}
@@ -104,7 +104,7 @@ module _ (gone : List Bool) where
 
   -- What a proof holds still fits once the clauses are left out that name the variables.
   module _ (s : Search) (unnamed : (c : Clause) → c ∈ clauses_of s.kept → AreStaying gone c) where
-    still-settled : (c : Clause) → stays c ≡ true → IsSettled s c → IsSettled (search_without gone s) c
+    still-settled : (c : Clause) → stays c ≡ true → IsDischarged s c → IsDischarged (search_without gone s) c
     still-settled c e (inl t) = inl t
     still-settled c e (inr (l, i, j)) = inr (l, i, was-staying gone s.fixed l j (names-none c (not-true (names c) e) l i))
 

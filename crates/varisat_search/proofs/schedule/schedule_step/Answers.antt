@@ -22,7 +22,7 @@ use Rattle.varisat_search.proofs.StepErrors.{trace-broken, step-passed}
 use Rattle.varisat_schedule.specs.Plans.{Plan, step_begun}
 use Rattle.varisat_theory.specs.Luby.{luby, saturated}
 use Rattle.varisat_search.specs.Progress.{outcome_at}
-use Rattle.varisat_search.specs.SettledUnits.{SettlesThenSteps, SettlesFirst, LearnsAlone}
+use Rattle.varisat_search.specs.RootSimplified.{SimplifiesThenSteps, SimplifiesRootFirst, LearnsAlone}
 use Rattle.varisat_search.proofs.MadeSteps.{made-with}
 use Rattle.varisat_trace.specs.Traces.{TakesLines, TakesStep}
 use Rattle.varisat_trace.proofs.Traced.{step-more}
@@ -66,9 +66,9 @@ module _ {A : Type 0} (x t u : Context A) (r : IsReady x) (b : RestartsIfDue x.s
       (subst (λ c. KeepsAssumptions (search_of (view u)) v c a) same h))
 
 -- the schedule's count is no part of how the units were settled
-counted : {A : Type 0} {lines : List Line} {x z : Context A} {plan : Plan} → SettlesThenSteps lines x z →
-    SettlesThenSteps lines x (record z { schedule = plan })
-counted d = record { settled = d.settled; end = d.end; first = d.first; rest = d.rest; parts = d.parts; settles = d.settles; steps = d.steps }
+counted : {A : Type 0} {lines : List Line} {x z : Context A} {plan : Plan} → SimplifiesThenSteps lines x z →
+    SimplifiesThenSteps lines x (record z { schedule = plan })
+counted d = record { settled = d.settled; end = d.end; first = d.first; rest = d.rest; parts = d.parts; simplifies_root = d.simplifies_root; steps = d.steps }
 
 pub returns-clause-steps : goal.returns-clause-steps
 returns-clause-steps g c =
@@ -82,12 +82,12 @@ returns-clause-steps g c =
     let p1 = c.begin_step.new.proof in
     let p2 = c.conflict_step.new.proof in
     let v = outcome_at z in
-    let m = made-with u z (λ lines. SettlesFirst lines u z × LearnsAlone lines u z × TakesStep takes p1 lines v p2) c.in_ok-conflict_step.ensures.made in
+    let m = made-with u z (λ lines. SimplifiesRootFirst lines u z × LearnsAlone lines u z × TakesStep takes p1 lines v p2) c.in_ok-conflict_step.ensures.made in
     scheduled-steps x t u c.requires.ready b.restarts
     (keeps-are (λ lines. Proves 0 (search_of (view t)) (search_of (view u)) lines × (ReducesIfDue lines t u × TakesLines takes p0 lines p1))
     (λ lines p i. (p, i)) b.reduces)
     (view z) v
-    (λ lines. Steps (search_of (view u)) (search_of (view z)) v lines × (SettlesFirst lines u z × LearnsAlone lines u z × TakesStep takes p1 lines v p2))
+    (λ lines. Steps (search_of (view u)) (search_of (view z)) v lines × (SimplifiesRootFirst lines u z × LearnsAlone lines u z × TakesStep takes p1 lines v p2))
     (λ lines. GoesBySchedule lines x (record z { schedule = c.end_step.new.self }) × TakesStep takes p0 lines v p2)
     (λ first more (d, (r, i)) (p, (s, a, j)). (
       record {
@@ -101,7 +101,7 @@ returns-clause-steps g c =
         reduces = r;
         deletes =
             d;
-        settles = λ h. counted (s h);
+        simplifies_root = λ h. counted (s h);
         steps = (more, p, refl);
       },
       step-more takes g.met.P.ProofTracer.takes_more p0 p1 p2 first more v i j,

@@ -2,4 +2,4 @@ use Rattle.varisat_simplify.proofs.StateLemmas.{becomes_then}
 use Rattle.varisat_simplify.proofs.propagate.pass.Goals as goal
 
 pub loop-preserved : goal.loop-preserved
-loop-preserved g c = becomes_then c.args.db.now c.loop.db c.settle.new.db c.loop.invariant (c.in_ok-is_new.ensures {u = tt})
+loop-preserved g c = becomes_then c.args.db.now c.loop.db c.use_or_note.new.db c.loop.invariant (c.in_ok-is_new.ensures {u = tt})

@@ -86,7 +86,7 @@ can-tell g c = logs-on (record { tables = c.mark_joined.new.variables; proof = c
 -- the verdict is not Unsat when the clause is loaded
 opened : (g : Over) (c : In_ok-solver_from_user_lits g) → c.solver_from_user_lits.new.ctx.solver_state.sat_state ≢ verdict.Unsat
 opened g c e =
-    reopened-not c.args.ctx.now.solver_state.sat_state c.requires.unsettled
+    reopened-not c.args.ctx.now.solver_state.sat_state c.requires.undecided_before
     (ap (λ (x : SolverState). x.sat_state) (sym c.reopen.ensures) ∙ ap (λ (x : SolverState). x.sat_state) (sym (have g c).verdict.state) ∙ e)
 
 -- the solver stands for the state once the names have solver variables

@@ -5,7 +5,7 @@ use Rattle.varisat_trace.proofs.Broken.{passed-on}
 use Rattle.varisat_trace.specs.Traces.{faults_of}
 use Rattle.std.proofs.Common.{◌≡◌, ◌≢◌, inl, inr, ⊎_elim, length, ap, ◌∙◌, sym, subst, refl, arith}
 use Rattle.varisat_prop.specs.Changes.{IsConflicting}
-use Rattle.varisat_search.specs.SettledUnits.{IsUnsettled}
+use Rattle.varisat_search.specs.RootSimplified.{HasRootNews}
 use Rattle.varisat_search.proofs.FixedLiterals.{fixed-undecided}
 use Rattle.varisat_solver.specs.Dropping.{AreOverAssumed}
 use Rattle.varisat_solver.proofs.SinceSteps.{failed-there, come-settled}
@@ -14,7 +14,7 @@ use Rattle.varisat_tracer.specs.Tracing.{tracer_state, open_parts, BreaksProof}
 use Rattle.varisat_proof.specs.Proving.{ProofParts}
 use Rattle.varisat_tracer.proofs.Logging.{logs-logged, breaks-proof, open-unbroken, proof-breaks-on}
 use Rattle.varisat_solver.specs.Searches.{LogsSome, Turn, ComesOn}
-use Rattle.varisat_solver.proofs.SettledParts.{settled-parts}
+use Rattle.varisat_solver.proofs.RootSimplifiedParts.{settled-parts}
 use Rattle.varisat_solver.specs.Summaries.{undecided_spaces, IsKept}
 use Rattle.varisat_solver.proofs.SearchVerdicts.{kept-on}
 use Rattle.varisat_solver.proofs.dropping.drop_fixed.Given.{Over}
@@ -25,40 +25,40 @@ use Rattle.varisat_solver.proofs.CheckedHeld.{relied}
 use Rattle.varisat_solver.proofs.SolverSteps.{some-through, comes-nowhere, comes-through, leaving-comes, unknown-undecided, part-comes, some-none}
 use Rattle.varisat_solver.proofs.dropping.drop_fixed.Goals as goal
 
-pub settle-requires-clause-holds : goal.settle-requires-clause-holds
-settle-requires-clause-holds g c = relied c.args.tracer.now.tables c.args.tracer.now.proof
+pub simplify_root-requires-clause-holds : goal.simplify_root-requires-clause-holds
+simplify_root-requires-clause-holds g c = relied c.args.tracer.now.tables c.args.tracer.now.proof
     (view c.args.ctx.now) c.args.ctx.now.assumptions c.requires.logs c.requires.stands
 
 -- what settling comes to
 begun : (g : Over) (c : In-Ok g) (at : Turn) → ComesOn at 0 (undecided_spaces c.args.tracer.now.tables c.args.tracer.now.proof.checker c.args.ctx.now)
-    (undecided_spaces c.settle.new.proof.tables c.settle.new.proof.proof.checker c.settle.new.ctx) c.args.tracer.now.proof c.settle.new.proof.proof
+    (undecided_spaces c.simplify_root.new.proof.tables c.simplify_root.new.proof.proof.checker c.simplify_root.new.ctx) c.args.tracer.now.proof c.simplify_root.new.proof.proof
 begun g c at =
     let e = c.in-Ok.ensures {u = tt} in
     let goes = e.goes_on in
-    let (lines, proves, (settles, takes)) = goes.proves in
-    part-comes at (tracer_state c.args.tracer.now) (tracer_state c.settle.new.proof) c.args.ctx.now c.settle.new.ctx lines c.requires.kept
-    (λ due held after d f. settled-parts lines (view c.args.ctx.now) (view c.settle.new.ctx) c.in-Ok.settled settles goes.ready.well e.settled held after d f)
+    let (lines, proves, (simplifies_root, takes)) = goes.proves in
+    part-comes at (tracer_state c.args.tracer.now) (tracer_state c.simplify_root.new.proof) c.args.ctx.now c.simplify_root.new.ctx lines c.requires.kept
+    (λ due held after d f. settled-parts lines (view c.args.ctx.now) (view c.simplify_root.new.ctx) c.in-Ok.settled simplifies_root goes.ready.well e.settled held after d f)
     proves takes
     goes.ready goes.extends.count goes.decidable
-    (ap (λ (z : Context g.row.A.Denot). z.assumptions) c.settle.ensures.kept)
+    (ap (λ (z : Context g.row.A.Denot). z.assumptions) c.simplify_root.ensures.kept)
 
 -- and what the proof was told
-settled-logged : (g : Over) (c : In-Ok g) → LogsSome c.args.tracer.now.proof c.settle.new.proof.proof
+settled-logged : (g : Over) (c : In-Ok g) → LogsSome c.args.tracer.now.proof c.simplify_root.new.proof.proof
 settled-logged g c = (_, (c.in-Ok.ensures {u = tt}).goes_on.proves.2.1.logged)
 
 -- and of variables that left
-left-logged : (g : Over) (c : In_ok-drop_unneeded g) → LogsSome c.settle.new.proof.proof c.drop_unneeded.new.tracer.proof
-left-logged g c = some-through c.settle.new.proof.proof c.drop_listed.new.tracer.proof c.drop_unneeded.new.tracer.proof
+left-logged : (g : Over) (c : In_ok-drop_unneeded g) → LogsSome c.simplify_root.new.proof.proof c.drop_unneeded.new.tracer.proof
+left-logged g c = some-through c.simplify_root.new.proof.proof c.drop_listed.new.tracer.proof c.drop_unneeded.new.tracer.proof
     (c.in_ok-drop_listed.ensures {u = tt}).leave.given (c.in_ok-drop_unneeded.ensures {u = tt}).leave.given
 
 -- the solver keeps what it did
-kept : (g : Over) (c : In-Ok g) → IsKept c.settle.new.proof.tables c.settle.new.ctx
+kept : (g : Over) (c : In-Ok g) → IsKept c.simplify_root.new.proof.tables c.simplify_root.new.ctx
 kept g c =
     let x = c.args.ctx.now in
     let goes = (c.in-Ok.ensures {u = tt}).goes_on in
-    let same = ap (λ (z : Context g.row.A.Denot). z.assumptions) c.settle.ensures.kept in
-    subst (λ (t : Tables). IsKept t c.settle.new.ctx) (sym goes.proves.2.1.tables)
-    (kept-on c.args.tracer.now.tables x c.settle.new.ctx c.requires.kept goes.ready goes.extends.count goes.decidable same)
+    let same = ap (λ (z : Context g.row.A.Denot). z.assumptions) c.simplify_root.ensures.kept in
+    subst (λ (t : Tables). IsKept t c.simplify_root.new.ctx) (sym goes.proves.2.1.tables)
+    (kept-on c.args.tracer.now.tables x c.simplify_root.new.ctx c.requires.kept goes.ready goes.extends.count goes.decidable same)
 
 pub returns-then-is_err-clause-kept : goal.returns-then-is_err-clause-kept
 returns-then-is_err-clause-kept g c = kept g (goal.at.returns-then-is_err-clause-kept g c).In-Ok
@@ -78,7 +78,7 @@ returns-clause-count g c =
 
 pub returns-then-current_level-gt0-clause-leaves : goal.returns-then-current_level-gt0-clause-leaves
 returns-then-current_level-gt0-clause-leaves g c h =
-    let calm : IsUnsettled (view c.args.ctx.now) → ⊥ = λ u.
+    let calm : HasRootNews (view c.args.ctx.now) → ⊥ = λ u.
     elim c.then-current_level-gt0.branch [
       | then-current_level-gt0-via-then-current_level-gt0 w ↦ (let n = ap length u.0 in omega (arith, n, c.current_level.ensures, w.if-current_level-gt0.true))
       | then-current_level-gt0-via-else-current_level-gt0+then-fully_propagated w ↦
@@ -91,7 +91,7 @@ returns-then-is_err-clause-leaves g c h =
     let e = c.in-Ok.ensures {u = tt} in
     inr (
       e.at_zero,
-      failed-there c.in-Ok.settled (λ _. Unit {0}) (IsConflicting (view c.settle.new.ctx))
+      failed-there c.in-Ok.settled (λ _. Unit {0}) (IsConflicting (view c.simplify_root.new.ctx))
           (sym c.is_err.ensures.value ∙ c.if-is_err.true) e.conflict,
     )
 
@@ -113,7 +113,7 @@ returns-then-is_err-clause-logged g c = settled-logged g (goal.at.returns-then-i
 
 pub returns-clause-logged : goal.returns-clause-logged
 returns-clause-logged g c =
-    some-through c.args.tracer.now.proof c.settle.new.proof.proof c.drop_unneeded.new.tracer.proof
+    some-through c.args.tracer.now.proof c.simplify_root.new.proof.proof c.drop_unneeded.new.tracer.proof
     (settled-logged g (goal.at.returns-clause-logged g c).In-Ok) (left-logged g (goal.at.returns-clause-logged g c).In_ok-drop_unneeded)
 
 pub returns-clause-logs : goal.returns-clause-logs
@@ -131,11 +131,11 @@ returns-then-is_err-clause-stands g c at = begun g (goal.at.returns-then-is_err-
 pub returns-clause-stands : goal.returns-clause-stands
 returns-clause-stands g c at =
     let p = c.args.tracer.now in
-    let q = c.settle.new.proof in
+    let q = c.simplify_root.new.proof in
     let r = c.drop_listed.new.tracer in
     let last = c.drop_unneeded.new.tracer in
     let x = c.args.ctx.now in
-    let y = c.settle.new.ctx in
+    let y = c.simplify_root.new.ctx in
     let u = c.drop_listed.new.ctx in
     let z = c.drop_unneeded.new.ctx in
     comes-through at p.proof q.proof last.proof (undecided_spaces p.tables p.proof.checker x) (undecided_spaces q.tables q.proof.checker y)
@@ -161,7 +161,7 @@ returns-then-is_err-clause-calm g c =
     let e = c.in-Ok.ensures {u = tt} in
     inr (
       e.at_zero,
-      failed-there c.in-Ok.settled (λ _. Unit {0}) (IsConflicting (view c.settle.new.ctx))
+      failed-there c.in-Ok.settled (λ _. Unit {0}) (IsConflicting (view c.simplify_root.new.ctx))
           (sym c.is_err.ensures.value ∙ c.if-is_err.true) e.conflict,
     )
 
@@ -172,21 +172,21 @@ returns-clause-calm g c =
 
 pub returns-then-is_err-clause-within : goal.returns-then-is_err-clause-within
 returns-then-is_err-clause-within g c =
-    come-settled _ c.args.ctx.now c.settle.new.ctx (c.in-Ok.ensures {u = tt}).goes_on
-    (ap (λ (z : Context g.row.A.Denot). z.solver_config) c.settle.ensures.kept)
+    come-settled _ c.args.ctx.now c.simplify_root.new.ctx (c.in-Ok.ensures {u = tt}).goes_on
+    (ap (λ (z : Context g.row.A.Denot). z.solver_config) c.simplify_root.ensures.kept)
 
 pub returns-clause-within : goal.returns-clause-within
 returns-clause-within g c i q k =
     (c.in_ok-drop_unneeded.ensures {u = tt}).leave.within i q
     ((c.in_ok-drop_listed.ensures {u = tt}).leave.within i q
-    (come-settled _ c.args.ctx.now c.settle.new.ctx (c.in-Ok.ensures {u = tt}).goes_on
-    (ap (λ (z : Context g.row.A.Denot). z.solver_config) c.settle.ensures.kept) i q k))
+    (come-settled _ c.args.ctx.now c.simplify_root.new.ctx (c.in-Ok.ensures {u = tt}).goes_on
+    (ap (λ (z : Context g.row.A.Denot). z.solver_config) c.simplify_root.ensures.kept) i q k))
 
 pub returns-in-Err-clause-broken : goal.returns-in-Err-clause-broken
 returns-in-Err-clause-broken g c =
     let e = c.in-Err.error in
     let p = c.args.tracer.now in
-    let q = c.settle.new.proof in
+    let q = c.simplify_root.new.proof in
     subst (λ z. BreaksProof p.proof (step_faults z) q.proof) (sym c.from.ensures)
     (subst (λ n. BreaksProof p.proof n q.proof) (trace-faults e)
     (breaks-proof (tracer_state p) (tracer_state q) (faults_of e) (c.in-Err.ensures {u = tt}).broken))
@@ -201,7 +201,7 @@ unwritten p q r (given, logged) same = proof-breaks-on p q r given 0 logged (ope
 pub returns-in_err-drop_listed-clause-broken : goal.returns-in_err-drop_listed-clause-broken
 returns-in_err-drop_listed-clause-broken g c =
     let p = c.args.tracer.now.proof in
-    let q = c.settle.new.proof.proof in
+    let q = c.simplify_root.new.proof.proof in
     let r = c.drop_listed.new.tracer.proof in
     passed-on c.from_residual.result step.Memory (λ z. BreaksProof p (step_faults z) r) c.from_residual.ensures
     (unwritten p q r (settled-logged g (goal.at.returns-in_err-drop_listed-clause-broken g c).In-Ok) c.drop_listed.ensures.opened)
@@ -209,7 +209,7 @@ returns-in_err-drop_listed-clause-broken g c =
 pub returns-in_err-drop_unneeded-clause-broken : goal.returns-in_err-drop_unneeded-clause-broken
 returns-in_err-drop_unneeded-clause-broken g c =
     let p = c.args.tracer.now.proof in
-    let q = c.settle.new.proof.proof in
+    let q = c.simplify_root.new.proof.proof in
     let r = c.drop_unneeded.new.tracer.proof in
     passed-on c.from_residual-in_err-drop_unneeded.result step.Memory (λ z. BreaksProof p (step_faults z) r) c.from_residual-in_err-drop_unneeded.ensures
     (unwritten p q r (settled-logged g (goal.at.returns-in_err-drop_unneeded-clause-broken g c).In-Ok)

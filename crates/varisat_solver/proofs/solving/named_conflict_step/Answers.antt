@@ -22,7 +22,7 @@ pub name_core-requires : goal.name_core-requires
 name_core-requires g c l h =
     let mid = c.conflict_step.new.ctx in
     let m = (c.in_ok-conflict_step.ensures {u = tt}).made in
-    let (lines, steps, (settles, learns, takes)) = m.goes.steps in
+    let (lines, steps, (simplifies_root, learns, takes)) = m.goes.steps in
     let under = ap (outcome_of (view mid) mid.assumptions.failed_core) c.in-UnsatUnderAssumptions.is in
     subst (λ (t : Tables). HasUser t (variable_of l)) (sym takes.tables)
     (assumed-named c.args.tracer.now.tables (variable_of l) (c.requires.kept.working l ((m.assumes.core mid.assumptions.failed_core under).0 l h)))
@@ -50,6 +50,6 @@ pub returns-in_err-name_core-clause-broken : goal.returns-in_err-name_core-claus
 returns-in_err-name_core-clause-broken g c =
     let p = c.args.tracer.now in
     let q = c.conflict_step.new.proof in
-    let (lines, steps, (settles, learns, takes)) = (c.in_ok-conflict_step.ensures {u = tt}).made.goes.steps in
+    let (lines, steps, (simplifies_root, learns, takes)) = (c.in_ok-conflict_step.ensures {u = tt}).made.goes.steps in
     passed-on c.from_residual-in_err-name_core.result step.Memory (λ z. BreaksProof p.proof (step_faults z) q.proof) c.from_residual-in_err-name_core.ensures
     (proof-breaks-on p.proof q.proof q.proof _ 0 takes.logged (proof-unbroken q.proof))

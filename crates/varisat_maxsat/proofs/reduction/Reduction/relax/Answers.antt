@@ -17,7 +17,7 @@ take_weight-requires g c = λ d i. c.least_weight-weight.ensures d (subst (λ xs
 
 pub returns : goal.returns
 returns g c = rw (← c.self.view_is) (λ p t st.
-    c.in_ok-settle.ensures {u = tt} p (relax-step p _ t _ c.in_ok-kept.field-0.kept.items c.deref-3.result.now _ _
+    c.in_ok-join_pending.ensures {u = tt} p (relax-step p _ t _ c.in_ok-kept.field-0.kept.items c.deref-3.result.now _ _
     (λ q r. subst (λ xs. IsSplit q.core c.self.inside.charges.items c.in_ok-kept.field-0.kept.items xs) (sym c.deref-3.ensures.value)
     (subst (λ xs. IsSplit q.core xs c.in_ok-kept.field-0.kept.items c.in_ok-kept.field-0.failed.items) c.deref.ensures.value (c.in_ok-kept.ensures q r)))
     c.in_ok-pending.ensures st))

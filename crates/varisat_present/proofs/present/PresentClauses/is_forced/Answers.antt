@@ -5,22 +5,22 @@ use Rattle.varisat_present.specs.Knowing.{Keeps}
 use Rattle.varisat_present.proofs.RatPlaces.{forced, unforced}
 use Rattle.varisat_present.proofs.present.PresentClauses.is_forced.Goals as goal
 
-pub settle-requires : goal.settle-requires
-settle-requires g c =
+pub propagate_to_end-requires : goal.propagate_to_end-requires
+propagate_to_end-requires g c =
     subst (λ (P : List Clause). Keeps c.self.inside.is_saturated P c.self.inside.known) (sym (ap present c.deref.ensures.value)) c.self.invariant.0
 
 pub invariant_of-self : goal.invariant_of-self
 invariant_of-self g c = (
-  subst (λ (P : List Clause). Keeps (not c.in-Ok.found) P c.settle.new.known) (ap present c.deref.ensures.value) c.in-Ok.ensures.keeps,
+  subst (λ (P : List Clause). Keeps (not c.in-Ok.found) P c.propagate_to_end.new.known) (ap present c.deref.ensures.value) c.in-Ok.ensures.keeps,
   c.self.invariant.1,
 )
 
 pub returns-in-Ok-clause-yes : goal.returns-in-Ok-clause-yes
 returns-in-Ok-clause-yes g c =
-    λ e. forced (present c.deref.result.now) c.args.self.now c.settle.new.known c.args.clause.now (ap present c.deref.ensures.value ∙ c.self.view_is)
+    λ e. forced (present c.deref.result.now) c.args.self.now c.propagate_to_end.new.known c.args.clause.now (ap present c.deref.ensures.value ∙ c.self.view_is)
     c.in-Ok.ensures.keeps.implied (c.leaves_one.ensures.yes e)
 
 pub returns-in-Ok-clause-no : goal.returns-in-Ok-clause-no
 returns-in-Ok-clause-no g c =
-    λ e n f. unforced (present c.deref.result.now) c.args.self.now c.settle.new.known c.args.clause.now c.in-Ok.found
+    λ e n f. unforced (present c.deref.result.now) c.args.self.now c.propagate_to_end.new.known c.args.clause.now c.in-Ok.found
     (ap present c.deref.ensures.value ∙ c.self.view_is) c.in-Ok.ensures (c.leaves_one.ensures.no e) n f

@@ -5,13 +5,13 @@ use Rattle.varisat_present.specs.Knowing.{Keeps}
 use Rattle.varisat_present.proofs.KeptLiterals.{found_there}
 use Rattle.varisat_present.proofs.present.PresentClauses.is_refuted.Goals as goal
 
-pub settle-requires : goal.settle-requires
-settle-requires g c =
+pub propagate_to_end-requires : goal.propagate_to_end-requires
+propagate_to_end-requires g c =
     subst (λ (P : List Clause). Keeps c.self.inside.is_saturated P c.self.inside.known) (sym (ap present c.deref.ensures.value)) c.self.invariant.0
 
 pub invariant_of-self : goal.invariant_of-self
 invariant_of-self g c = (
-  subst (λ (P : List Clause). Keeps (not c.in-Ok.found) P c.settle.new.known) (ap present c.deref.ensures.value) c.in-Ok.ensures.keeps,
+  subst (λ (P : List Clause). Keeps (not c.in-Ok.found) P c.propagate_to_end.new.known) (ap present c.deref.ensures.value) c.in-Ok.ensures.keeps,
   c.self.invariant.1,
 )
 

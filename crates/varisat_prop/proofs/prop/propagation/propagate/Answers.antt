@@ -2,10 +2,10 @@ use Rattle.std.proofs.Common.{◌≡◌, ◌≤◌, length, refl, subst, arith}
 use Rattle.varisat_clause.specs.Stored.{literals_of}
 use Rattle.varisat_clause.proofs.StoreSound.{is-sound}
 use Rattle.varisat_prop.specs.View.{view_of, pairs_from}
-use Rattle.varisat_prop.specs.Watches.{IsSettledTo, IsImpliedTo}
+use Rattle.varisat_prop.specs.Watches.{WatchesHoldTo, IsImpliedTo}
 use Rattle.varisat_prop.proofs.PropagateSteps.{propagates-refl}
 use Rattle.varisat_prop.proofs.LongVisited.{listed}
-use Rattle.varisat_prop.proofs.WatchSettled.{settled-complete, pairs-complete, complete-both}
+use Rattle.varisat_prop.proofs.WatchesHold.{settled-complete, pairs-complete, complete-both}
 use Rattle.varisat_prop.proofs.WellFormedChanges.{stored-kept}
 use Rattle.varisat_prop.proofs.PropagateQueue.{at-end, watched-enabled, watched-propagated}
 use Rattle.varisat_prop.proofs.NextLiteral.{next-taken, queue-more, queue-next, queue-shorter}
@@ -68,7 +68,7 @@ returns-clause-ends g c =
     let w = c.queue.invariant.watched in
     let e : t.queue_head ≡ length t.trail = (let n = w.within in omega (arith, n, past)) in (
       complete-both (literals_of t.clauses) (pairs_from 0 t.binary) t.trail
-          (settled-complete t c.queue.invariant.propagates.well (subst (IsSettledTo t) e w.settled))
+          (settled-complete t c.queue.invariant.propagates.well (subst (WatchesHoldTo t) e w.settled))
           (pairs-complete t c.queue.invariant.propagates.well (subst (IsImpliedTo t) e w.implied)),
       e,
     )

@@ -20,8 +20,8 @@ use Rattle.varisat_search.specs.Simplifications.{IsSimplified, pair_lines, claus
 use Rattle.varisat_search.specs.Steps.{IsPropagatedToEnd, ExtendsTrail}
 
 -- at level 0 literals are still to be propagated
-abbrev pub IsUnsettled : View → Type 0
-IsUnsettled s = (s.decisions ≡ []) × (s.queue_head < length s.trail)
+abbrev pub HasRootNews : View → Type 0
+HasRootNews s = (s.decisions ≡ []) × (s.queue_head < length s.trail)
 
 -- the literals that stand before the first of the decisions
 abbrev pub before_decisions : List ℕ → List Literal → List Literal
@@ -34,22 +34,22 @@ fixed_literals s = before_decisions s.decisions s.trail
 
 -- The literals of level 0 stay, and all of them are propagated.
 abbrev pub FixesNone : View → View → Type 0
-FixesNone s t = (fixed_literals t ≡ fixed_literals s) × (IsUnsettled t → ⊥)
+FixesNone s t = (fixed_literals t ≡ fixed_literals s) × (HasRootNews t → ⊥)
 
 -- They stay, or at level 0 some are still to be propagated.
 abbrev pub KeepsFixed : View → View → Type 0
-KeepsFixed s t = (fixed_literals t ≡ fixed_literals s) ⊎ IsUnsettled t
+KeepsFixed s t = (fixed_literals t ≡ fixed_literals s) ⊎ HasRootNews t
 
 -- What a step makes of the literals of level 0. Where all of them are propagated as it begins they stay, or it ends at level 0
 -- with one that is still to be propagated. Where a clause is false at level 0 it comes to Unsat.
 pub record FixesByLearning {A : Type 0} (x y : Context A) : Type 0 where
-  pub keeps : (IsUnsettled (view x) → ⊥) → y.solver_state.sat_state ≢ verdict.Unsat → KeepsFixed (view x) (view y)
+  pub keeps : (HasRootNews (view x) → ⊥) → y.solver_state.sat_state ≢ verdict.Unsat → KeepsFixed (view x) (view y)
   pub refutes : x.trail.decisions ≡ [] → (conflict : Conflict) → IsConflicting (view x) conflict → y.solver_state.sat_state ≡ verdict.Unsat
 
 -- Propagation came to its end or to a false clause, and each unit was proved, by one line for each that a clause implied.
 -- Then, unless a clause is false, the clauses were simplified: one that goes is deleted, and one that becomes shorter is
 -- deleted once the shorter one was added. There are no other lines, and they come in this order.
-pub record SettlesUnits (lines : List Line) (s t : View) (end : Result (Unit {0}) Conflict) : Type 0 where
+pub record SimplifiesRoot (lines : List Line) (s t : View) (end : Result (Unit {0}) Conflict) : Type 0 where
   pub propagated : View
   pub proved : View
   pub propagates : Propagates s propagated
@@ -69,35 +69,35 @@ pub record GoesOnByLines {A : Type 0} (are : List Line → Type 0) (x y : Contex
   pub last : y.assignment.last ≡ x.assignment.last
 
 -- units are settled, by lines for which `are` holds
-abbrev pub SettlesByLines : {A : Type 0} → (List Line → Type 0) → Context A → Context A → Result (Unit {0}) Conflict → Type 0
-SettlesByLines are x y end = GoesOnByLines (λ lines. SettlesUnits lines (view x) (view y) end × are lines) x y
+abbrev pub SimplifiesRootByLines : {A : Type 0} → (List Line → Type 0) → Context A → Context A → Result (Unit {0}) Conflict → Type 0
+SimplifiesRootByLines are x y end = GoesOnByLines (λ lines. SimplifiesRoot lines (view x) (view y) end × are lines) x y
 
 -- Where some are unsettled they are settled, and else there is no line. In any case the search goes on by lines for which `are` holds.
-abbrev pub SettlesIfUnsettled : {A : Type 0} → (List Line → Type 0) → Context A → Context A → Result (Unit {0}) Conflict → Type 0
-SettlesIfUnsettled are x y end = GoesOnByLines
-    (λ lines. (IsUnsettled (view x) → SettlesUnits lines (view x) (view y) end) × ((IsUnsettled (view x) → ⊥) → lines ≡ []) × are lines) x y
+abbrev pub SimplifiesRootIfNews : {A : Type 0} → (List Line → Type 0) → Context A → Context A → Result (Unit {0}) Conflict → Type 0
+SimplifiesRootIfNews are x y end = GoesOnByLines
+    (λ lines. (HasRootNews (view x) → SimplifiesRoot lines (view x) (view y) end) × ((HasRootNews (view x) → ⊥) → lines ≡ []) × are lines) x y
 
 -- Units are settled, and the step goes on from there: the lines are those of both, in turn.
-pub record SettlesThenSteps {A : Type 0} (lines : List Line) (x z : Context A) : Type 0 where
+pub record SimplifiesThenSteps {A : Type 0} (lines : List Line) (x z : Context A) : Type 0 where
   pub settled : Context A
   pub end : Result (Unit {0}) Conflict
   pub first : List Line
   pub rest : List Line
   pub parts : lines ≡ first ++ rest
-  pub settles : SettlesUnits first (view x) (view settled) end
+  pub simplifies_root : SimplifiesRoot first (view x) (view settled) end
   pub steps : StepsTo (λ ls. ls ≡ rest) settled z
 
 -- a step that begins unsettled settles its units first
-abbrev pub SettlesFirst : {A : Type 0} → List Line → Context A → Context A → Type 0
-SettlesFirst lines x z = IsUnsettled (view x) → SettlesThenSteps lines x z
+abbrev pub SimplifiesRootFirst : {A : Type 0} → List Line → Context A → Context A → Type 0
+SimplifiesRootFirst lines x z = HasRootNews (view x) → SimplifiesThenSteps lines x z
 
 -- a step that has none to settle, and after which the search goes on, deletes nothing: it adds what was learned
 abbrev pub LearnsAlone : {A : Type 0} → List Line → Context A → Context A → Type 0
-LearnsAlone lines x z = (IsUnsettled (view x) → ⊥) → AddOneIfUnknown lines z
+LearnsAlone lines x z = (HasRootNews (view x) → ⊥) → AddOneIfUnknown lines z
 
 -- such a step was made, by lines for which `are` holds
-abbrev pub SettlesAndSteps : {A : Type 0} → (List Line → Type 0) → Context A → Context A → Type 0
-SettlesAndSteps are x y = MakesStep (λ lines. SettlesFirst lines x y × LearnsAlone lines x y × are lines) x y
+abbrev pub SimplifiesAndSteps : {A : Type 0} → (List Line → Type 0) → Context A → Context A → Type 0
+SimplifiesAndSteps are x y = MakesStep (λ lines. SimplifiesRootFirst lines x y × LearnsAlone lines x y × are lines) x y
 
 -- A search may be simplified: at level 0 propagation came to its end, and each literal of the trail is a unit.
 pub record CanSimplify {A : Type 0} (x : Context A) : Type 0 where
@@ -108,7 +108,7 @@ pub record CanSimplify {A : Type 0} (x : Context A) : Type 0 where
   pub proved : (k : ℕ) → k < length x.trail.literals → (node_at (view x) k).reason ≡ reason.Unit
 
 -- At level 0 all of the trail is propagated and proved, and no kept clause names a variable that has a value.
-pub record IsSettledDown (s : View) : Type 0 where
+pub record IsRootSimplified (s : View) : Type 0 where
   pub undecided : s.decisions ≡ []
   pub propagated : IsPropagatedToEnd s
   pub proved : (k : ℕ) → k < length s.trail → (node_at s k).reason ≡ reason.Unit

@@ -21,7 +21,7 @@ use Rattle.varisat_search.specs.Frames.{ChangesPropagated, ChangesSimplified}
 use Rattle.varisat_search.specs.Decisions.{SameDecidable}
 use Rattle.varisat_search.specs.ProvedUnits.{implied_units, ProvesUnits}
 use Rattle.varisat_search.specs.Seen.{search_of}
-use Rattle.varisat_search.specs.SettledUnits.{SettlesUnits, GoesOnByLines, IsSettledDown}
+use Rattle.varisat_search.specs.RootSimplified.{SimplifiesRoot, GoesOnByLines, IsRootSimplified}
 use Rattle.varisat_search.specs.Simplifications.{IsSimplified, pair_lines, clause_lines}
 use Rattle.varisat_search.specs.Steps.{Remembers}
 use Rattle.varisat_search.proofs.AssumptionSteps.{keeps-after-part}
@@ -134,12 +134,12 @@ module _ {A : Type 0} (x m p : Context A) (d : ProvedAfter x m p) where
       (goes-propagated x m d.ready d.mid_ready d.propagates d.last d.kept)
       (goes-proved m p P d.mid_ready d.end_ready d.none d.proved (unit_lines (implied_units (view m))) d.proves i d.end_kept)
 
-  pub settles-to-units : (lines : List Line) (t : View) (end : Result (Unit {0}) Conflict) →
+  pub simplifies_root-to-units : (lines : List Line) (t : View) (end : Result (Unit {0}) Conflict) →
       MatchResult end (λ _. IsSimplified (view p) t
       × (lines ≡ unit_lines (implied_units (view m)) ++ (pair_lines (view p) ++ clause_lines (view p))))
       (λ f. (t ≡ view p) × IsConflicting t f × (lines ≡ unit_lines (implied_units (view m)))) →
-      MatchResult end (λ _. IsComplete (kept (view m)) (view m).trail) (λ _. Unit {0}) → SettlesUnits lines (view x) t end
-  settles-to-units lines t end e complete = record {
+      MatchResult end (λ _. IsComplete (kept (view m)) (view m).trail) (λ _. Unit {0}) → SimplifiesRoot lines (view x) t end
+  simplifies_root-to-units lines t end e complete = record {
     propagated = view m;
     proved = view p;
     propagates = d.propagates;
@@ -157,8 +157,8 @@ still-conflicting s t f p c = subst (λ (y : View). IsConflicting y f) (sym p.re
     go (conflict.Long p) c = c
 
 -- Once clauses are simplified, too, nothing is left of the literals of level 0 but their being true.
-pub settled-down : (s t : View) → s.decisions ≡ [] → s.queue_head ≡ length s.trail → HasUnits s → IsSimplified s t → IsSettledDown t
-settled-down s t d q h p = subst IsSettledDown (sym p.rest) record { undecided = d; propagated = q; proved = h; unassigned = p.unassigned }
+pub settled-down : (s t : View) → s.decisions ≡ [] → s.queue_head ≡ length s.trail → HasUnits s → IsSimplified s t → IsRootSimplified t
+settled-down s t d q h p = subst IsRootSimplified (sym p.rest) record { undecided = d; propagated = q; proved = h; unassigned = p.unassigned }
 
 -- What comes after the units were settled.
 module _ {A : Type 0} (x y : Context A) (P : List Line → Type 0) (a : GoesOnByLines P x y) where

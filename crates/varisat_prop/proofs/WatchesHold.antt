@@ -21,7 +21,7 @@ use Rattle.varisat_prop.proofs.ViewGrowth.{grows-longer, literal-stays}
 use Rattle.varisat_prop.proofs.WellFormedChanges.{kept-here}
 use Rattle.varisat_prop.proofs.KeptPairs.{pair-in}
 use Rattle.varisat_prop.proofs.ClauseOrder.{reordered}
-use Rattle.varisat_prop.specs.Watches.{literal_in, HasWatch, IsSatisfied, IsCovered, IsSettledTo, IsImpliedTo, IsRearranged}
+use Rattle.varisat_prop.specs.Watches.{literal_in, HasWatch, IsSatisfied, IsCovered, WatchesHoldTo, IsImpliedTo, IsRearranged}
 
 pub two : (P : ℕ → Type 0) → P 0 → P 1 → (j : ℕ) → j < 2 → P j
 two P a b zero h = a
@@ -54,7 +54,7 @@ covered-longer s t c p g (k, a, m, d) = (
   subst (λ (ds : List ℕ). (j : ℕ) → j < length ds → p < get_or ds j 0 → k < get_or ds j 0) (sym g.decisions) d,
 )
 
-pub settled-longer : (s t : View) (q : ℕ) → Lengthens s t → q ≤ length s.trail → IsSettledTo s q → IsSettledTo t q
+pub settled-longer : (s t : View) (q : ℕ) → Lengthens s t → q ≤ length s.trail → WatchesHoldTo s q → WatchesHoldTo t q
 settled-longer s t q g n st = λ i j p a b h e.
     let f : clause_at t i ≡ clause_at s i = ap (λ P. literals_at P i) g.clauses in
     subst (λ c. IsCovered t c p) (sym f)
@@ -76,7 +76,7 @@ satisfied-longer s t c g (k, a, m) = (k, (let n = g.longer in omega (arith, a, n
 -- the literals of one clause change their order: a new one among the first two isn't false by a literal before q
 pub settled-reordered : (s : View) (i q : ℕ) (d : Clause) → IsRearranged (clause_at s i) d
     → ((j : ℕ) → j < 2 → ((h : ℕ) × (h < 2) × (literal_in d j ≡ literal_in (clause_at s i) h)) ⊎ ((p : ℕ) → p < q → literal_at s p ≢ opposite (literal_in d j)))
-    → IsSettledTo s q → IsSettledTo (reordered s i d) q
+    → WatchesHoldTo s q → WatchesHoldTo (reordered s i d) q
 settled-reordered s i q d r w st = λ k j p a b h e.
     let a' : IsPlace s.clauses k = reordered-place-back s.clauses (with_literals s.clauses i d) k (with-reordered s.clauses i d r.same) a in
     ⊎_elim
@@ -95,12 +95,12 @@ settled-reordered s i q d r w st = λ k j p a b h e.
     (equal_or_not k i)
 
 -- Of the clauses with a false literal l among the first two, those without a watch left are true.
-abbrev pub IsSettledBut : View → Literal → List Watch → Type 0
-IsSettledBut s l rest = (i j : ℕ) → IsPlace s.clauses i → j < 2 → l ≡ opposite (literal_in (clause_at s i) j) → HasWatch rest i ⊎ IsSatisfied s (clause_at s i)
+abbrev pub WatchesHoldBut : View → Literal → List Watch → Type 0
+WatchesHoldBut s l rest = (i j : ℕ) → IsPlace s.clauses i → j < 2 → l ≡ opposite (literal_in (clause_at s i) j) → HasWatch rest i ⊎ IsSatisfied s (clause_at s i)
 
 -- the next literal is settled too, where no decision stands behind it
 pub settled-next : (s : View) (q : ℕ) (l : Literal) → literal_at s q ≡ l → ((j : ℕ) → j < length s.decisions → decision_at s j ≤ q) →
-    IsSettledTo s q → IsSettledBut s l [] → IsSettledTo s (suc q)
+    WatchesHoldTo s q → WatchesHoldBut s l [] → WatchesHoldTo s (suc q)
 settled-next s q l e d st but = λ i j p a b h f.
     ⊎_elim
     (λ g. st i j p a b g f)
@@ -110,7 +110,7 @@ settled-next s q l e d st but = λ i j p a b h f.
     (cases_lt p q)
 
 -- where all is settled, no clause is false and none leaves a literal that isn't true
-pub settled-complete : (s : View) → WellFormed s → IsSettledTo s (length s.trail) → IsComplete (literals_of s.clauses) s.trail
+pub settled-complete : (s : View) → WellFormed s → WatchesHoldTo s (length s.trail) → IsComplete (literals_of s.clauses) s.trail
 settled-complete s w st = record {
   no_false = λ (c, h, f). let (i, a, e) = named c h in
       not-false i a (λ m k. f m (subst (λ x. m ∈ x) e k));
@@ -224,11 +224,11 @@ module _ (s t : View) (level q : ℕ) (a : level < length s.decisions) (n : deci
             omega (arith, q', w),
       )
 
-  back : IsSettledTo s q → IsSettledTo cut (decision_at s level)
+  back : WatchesHoldTo s q → WatchesHoldTo cut (decision_at s level)
   back st = λ i j p h b c f. covered-cut (clause_at s i) p c (st i j p h b (omega (arith, c, n)) (sym (get_or-take (decision_at s level) s.trail p 0 c) ∙ f))
 
-  pub settled-back : t ≡ cut → IsSettledTo s q → IsSettledTo t (decision_at s level)
-  settled-back e st = subst (λ x. IsSettledTo x (decision_at s level)) (sym e) (back st)
+  pub settled-back : t ≡ cut → WatchesHoldTo s q → WatchesHoldTo t (decision_at s level)
+  settled-back e st = subst (λ x. WatchesHoldTo x (decision_at s level)) (sym e) (back st)
 
   implied-cut : IsImpliedTo s q → IsImpliedTo cut (decision_at s level)
   implied-cut st = λ v p c i. covered-cut (v ∷ []) p c

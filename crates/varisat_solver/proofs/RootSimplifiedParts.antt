@@ -22,7 +22,7 @@ use Rattle.varisat_prop.proofs.SimplifiedPairs.{∈-filter, all-unassigned, each
 use Rattle.varisat_prop.proofs.TrailValues.{on-trail, trail-true}
 use Rattle.varisat_search.specs.ProvedUnits.{implied_units}
 use Rattle.varisat_search.specs.Seen.{search_of}
-use Rattle.varisat_search.specs.SettledUnits.{SettlesUnits, IsSettledDown}
+use Rattle.varisat_search.specs.RootSimplified.{SimplifiesRoot, IsRootSimplified}
 use Rattle.varisat_search.specs.Simplifications.{has_true, unassigned, pair_lines, lines_of_clause, lines_of_clauses, clause_lines}
 use Rattle.varisat_search.proofs.LoadView.{no-decision}
 use Rattle.varisat_search.proofs.SimplifiedSearch.{is-false}
@@ -152,7 +152,7 @@ gone-lines s units w done e h =
 -- 3. What is kept.
 
 -- a literal that is true is held as a unit clause
-unit-held : (t : View) (after : List Clause) (e : Clause) (l : Literal) → WellFormed t → IsSettledDown t → Fits after (search_of t) →
+unit-held : (t : View) (after : List Clause) (e : Clause) (l : Literal) → WellFormed t → IsRootSimplified t → Fits after (search_of t) →
     IsMadeTrue t.values l → l ∈ e → (d : Clause) × (d ∈ after) × (d ⊆ e)
 unit-held t after e l w d f h i =
     let (k, a, q) = w.stands l h in
@@ -163,7 +163,7 @@ unit-held t after e l w d f h i =
     (x, j, λ m y. subst (λ z. z ∈ e) (sym (is.1 m (same.0 m y))) i)
 
 gone-kept : (s t : View) (lines : List Line) (held after : List Clause) → IsPresentAfter held lines after → t.values ≡ s.values →
-    ((e : Clause) → Delete e ∈ lines → IsGone s.values lines e) → WellFormed t → IsSettledDown t → Fits after (search_of t) →
+    ((e : Clause) → Delete e ∈ lines → IsGone s.values lines e) → WellFormed t → IsRootSimplified t → Fits after (search_of t) →
     KeepsParts [] held after
 gone-kept s t lines held after p same gone w d f c h =
     ⊎_elim
@@ -192,8 +192,8 @@ units-kept units lines held after e p c h =
     (λ (x, i, same-set). absurd (no-units-go units x (subst (λ ls. Delete x ∈ ls) e i)))
     (deleted-or-there held lines after p c h)
 
-pub settled-parts : (lines : List Line) (s t : View) (end : Result (Unit {0}) Conflict) → SettlesUnits lines s t end → WellFormed t →
-    MatchResult end (λ _. IsSettledDown t) (λ _. Unit {0}) → (held after : List Clause) → IsPresentAfter held lines after → Fits after (search_of t) →
+pub settled-parts : (lines : List Line) (s t : View) (end : Result (Unit {0}) Conflict) → SimplifiesRoot lines s t end → WellFormed t →
+    MatchResult end (λ _. IsRootSimplified t) (λ _. Unit {0}) → (held after : List Clause) → IsPresentAfter held lines after → Fits after (search_of t) →
     KeepsParts [] held after
 settled-parts lines s t (Ok none) u w d held after p f =
     let v = u.propagated in

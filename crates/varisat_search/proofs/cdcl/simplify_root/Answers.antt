@@ -11,7 +11,7 @@ use Rattle.varisat_search.specs.Contexts.{view, IsReady}
 use Rattle.varisat_search.specs.ProvedUnits.{implied_units, ProvesUnits}
 use Rattle.varisat_search.specs.Seen.{search_of}
 use Rattle.varisat_theory.specs.Derivations.{Line}
-use Rattle.varisat_search.specs.SettledUnits.{SettlesUnits}
+use Rattle.varisat_search.specs.RootSimplified.{SimplifiesRoot}
 use Rattle.varisat_search.specs.Simplifications.{pair_lines, clause_lines}
 use Rattle.varisat_trace.specs.Traces.{TakesLines, HoldsFor}
 use Rattle.varisat_trace.proofs.Traced.{lines-more, holds_on, holds_still}
@@ -19,10 +19,10 @@ use Rattle.varisat_search.proofs.StepWithoutLines.{grows_prove}
 use Rattle.varisat_search.proofs.FixedLiterals.{none-was-conflicting}
 use Rattle.varisat_search.proofs.PropagatedContext.{propagated-ready}
 use Rattle.varisat_search.proofs.ProvedUnits.{units-all}
-use Rattle.varisat_search.proofs.SettledUnits.{ProvedAfter, goes-trans, goes-simplified, goes-to-units, settles-to-units, still-conflicting, settled-down}
-use Rattle.varisat_search.proofs.cdcl.settle.Given.{Over}
-use Rattle.varisat_search.proofs.cdcl.settle.Goals.{After-count}
-use Rattle.varisat_search.proofs.cdcl.settle.Goals as goal
+use Rattle.varisat_search.proofs.RootSimplified.{ProvedAfter, goes-trans, goes-simplified, goes-to-units, simplifies_root-to-units, still-conflicting, settled-down}
+use Rattle.varisat_search.proofs.cdcl.simplify_root.Given.{Over}
+use Rattle.varisat_search.proofs.cdcl.simplify_root.Goals.{After-count}
+use Rattle.varisat_search.proofs.cdcl.simplify_root.Goals as goal
 
 -- the context after propagation
 abbrev mid : (g : Over) (c : After-count g) → Context g.row.A.Denot
@@ -111,9 +111,9 @@ returns-in-Err-clause-goes_on g c =
     let ends = subst (λ r. MatchResult r (λ _. IsComplete (kept (view m)) m.trail.literals × (m.trail.queue_head ≡ length m.trail.literals))
     (λ f. IsConflicting (view m) f)) c.in-Err.is c.in_ok-propagated.ensures.ends in
     goes-to-units c.args.ctx.now m c.prove_units.new.ctx d
-    (λ lines. SettlesUnits lines (view c.args.ctx.now) t (Err c.in-Err.conflict)
+    (λ lines. SimplifiesRoot lines (view c.args.ctx.now) t (Err c.in-Err.conflict)
     × TakesLines g.P.ProofTracer.takes c.args.proof.now lines c.prove_units.new.proof) (
-      settles-to-units c.args.ctx.now m c.prove_units.new.ctx d (unit_lines (implied_units (view m))) t (Err c.in-Err.conflict)
+      simplifies_root-to-units c.args.ctx.now m c.prove_units.new.ctx d (unit_lines (implied_units (view m))) t (Err c.in-Err.conflict)
           (refl, still-conflicting (view m) t c.in-Err.conflict (p.proved (none g h)) ends, refl) tt,
       p.takes (none g h),
     )
@@ -168,9 +168,9 @@ returns-clause-goes_on g c =
     let ends = subst (λ r. MatchResult r (λ _. IsComplete (kept (view m)) m.trail.literals × (m.trail.queue_head ≡ length m.trail.literals))
     (λ f. IsConflicting (view m) f)) c.in_default.is c.in_ok-propagated.ensures.ends in
     goes-trans x y z (λ lines. (lines ≡ units) × TakesLines takes p0 lines p1) (λ lines. (lines ≡ left) × TakesLines takes p1 lines p2)
-    (λ lines. SettlesUnits lines (view x) (view z) (Ok tt) × TakesLines takes p0 lines p2)
+    (λ lines. SimplifiesRoot lines (view x) (view z) (Ok tt) × TakesLines takes p0 lines p2)
     (λ first more (e, i) (f, j). (
-      settles-to-units x m y d (first ++ more) (view z) (Ok tt) (q.simplified, ap₂ (λ (xs ys : List Line). xs ++ ys) e f) ends.0,
+      simplifies_root-to-units x m y d (first ++ more) (view z) (Ok tt) (q.simplified, ap₂ (λ (xs ys : List Line). xs ++ ys) e f) ends.0,
       lines-more takes g.met.P.ProofTracer.takes_more p0 p1 p2 first more i j,
     ))
     (goes-to-units x m y d (λ lines. (lines ≡ units) × TakesLines takes p0 lines p1) (refl, p.takes (none g h)))

@@ -9,7 +9,7 @@ use Rattle.varisat_theory.proofs.Values.{parity}
 use Rattle.varisat_literals.specs.Numbers.{polarity_of}
 use Rattle.varisat_prop.specs.Parts.{is_true_value}
 use Rattle.varisat_clause.specs.Stored.{AreReordered}
-use Rattle.varisat_prop.specs.View.{View, kept, IsTrueIn, decision_at, WellFormed, LevelsSettled, GrowsTrail}
+use Rattle.varisat_prop.specs.View.{View, kept, IsTrueIn, decision_at, WellFormed, PropagatedBeforeDecisions, GrowsTrail}
 use Rattle.varisat_prop.specs.Changes.{decided_on}
 use Rattle.varisat_prop.proofs.LiteralValues.{variable-opposite, polarity-opposite}
 use Rattle.varisat_prop.proofs.TrailExtend.{get_or-last}
@@ -21,7 +21,7 @@ pub complete-reordered : (s t : View) (known : List Literal) → AreReordered s.
 complete-reordered s t known a b = complete_shorter (kept s) (kept t) known
     (λ d h. let (c, i, e) = kept-reordered s t a b d h in (c, i, e.0, λ m k. inl (e.1 m k)))
 
-pub settled-grows : (s t : View) → WellFormed s → GrowsTrail s t → t.decisions ≡ s.decisions → LevelsSettled s → LevelsSettled t
+pub settled-grows : (s t : View) → WellFormed s → GrowsTrail s t → t.decisions ≡ s.decisions → PropagatedBeforeDecisions s → PropagatedBeforeDecisions t
 settled-grows s t w g e q j h =
     let n = ap (λ (x : List ℕ). length x) e in
     let h' : j < length s.decisions = omega (arith, h, n) in
@@ -36,7 +36,7 @@ take-whole [] [] = refl
 take-whole [] (y ∷ ys) = refl
 take-whole (x ∷ xs) ys = ap (λ z. x ∷ z) (take-whole xs ys)
 
-pub settled-decided : (s : View) (l : Literal) → WellFormed s → IsComplete (kept s) s.trail → LevelsSettled s → LevelsSettled (decided_on s l)
+pub settled-decided : (s : View) (l : Literal) → WellFormed s → IsComplete (kept s) s.trail → PropagatedBeforeDecisions s → PropagatedBeforeDecisions (decided_on s l)
 settled-decided s l w q v j h =
     let n = length-append s.decisions (length s.trail ∷ []) in
     ⊎_elim

@@ -1,0 +1,5 @@
+use Rattle.varisat_theory.proofs.StepLoads.{loaded_is_discharged}
+use Rattle.varisat_theory.proofs.laws.steps.loaded_is_discharged.Goals as goal
+
+pub returns : goal.returns
+returns c = loaded_is_discharged

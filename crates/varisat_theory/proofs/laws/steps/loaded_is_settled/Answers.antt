@@ -1,5 +1,0 @@
-use Rattle.varisat_theory.proofs.StepLoads.{loaded_is_settled}
-use Rattle.varisat_theory.proofs.laws.steps.loaded_is_settled.Goals as goal
-
-pub returns : goal.returns
-returns c = loaded_is_settled

@@ -5,7 +5,7 @@ use Rattle.varisat_theory.specs.Literals.{Literal, Clause}
 use Rattle.varisat_theory.specs.CallBounds.{AreFew}
 use Rattle.varisat_theory.proofs.CallBounds.{few_none}
 use Rattle.varisat_formula.specs.Dimacs.{Reading}
-use Rattle.varisat_formula.specs.Streams.{Stand, Taken}
+use Rattle.varisat_formula.specs.Streams.{Input, Taken}
 use Rattle.varisat_formula.specs.declared.dimacs.error.DimacsError.{DimacsError}
 use Rattle.varisat_names.specs.declared.config.SolverConfigUpdate.{SolverConfigUpdate}
 use Rattle.varisat_solver.specs.States.{Known, State, Ledger}
@@ -166,7 +166,7 @@ module _ {V : Type 0} (by : Verdicts V) where
   add-reading s t R r (ClauseRefused e k a) h = add-all s t R.clauses (Err e) a h
   add-reading s t R r (ClausesAdded mid a f) h = tell-fault mid t R.fault r f (add-all s mid R.clauses (Ok tt) a h)
 
-  add-text : (s t : Known V) (old new : Stand) (r : Result (Unit {0}) SolverError) → additions.AddsText by s old r new t → HasFewSteps s → HasFewSteps t
+  add-text : (s t : Known V) (old new : Input) (r : Result (Unit {0}) SolverError) → additions.AddsText by s old r new t → HasFewSteps s → HasFewSteps t
   add-text s t old new r (Read v R g a) h = add-reading s t R r a h
   add-text s t old new r (RefusedEarly v ended g e k a) h = add-all s t ended (Err e) a h
   add-text s t old new r (Unread e (v, k) n) h = same s t k h
@@ -188,7 +188,7 @@ module _ {V : Type 0} (by : Verdicts V) where
   solve s t (Err (ProofIoError cause)) (o, inr a) h = no-way _ t a.1
   solve s t (Err e) a h = absurd a
 
-  call-keeps : {W S A : Type 0} (seen : S → Stand) (taken : W → Taken) (c : Call W S A) (a : Answer W S A) (s t : Known V) → Makes by seen taken s c a t →
+  call-keeps : {W S A : Type 0} (seen : S → Input) (taken : W → Taken) (c : Call W S A) (a : Answer W S A) (s t : Known V) → Makes by seen taken s c a t →
       HasFewSteps s → HasFewSteps t
   call-keeps seen taken (call.AddClause d) (answer.AddClause r) s t m h = add-clause s t d.items r m h
   call-keeps seen taken (call.AddFormula f) (answer.AddFormula r) s t m h = add-list s t f.clauses r m h
@@ -211,7 +211,7 @@ module _ {V : Type 0} (by : Verdicts V) where
   call-keeps seen taken call.EnableSelfChecking (answer.EnableSelfChecking r) s t m h = enable-checking s t r m h
   call-keeps seen taken _ _ s t m h = absurd m
 
-  along : {W S A : Type 0} (seen : S → Stand) (taken : W → Taken) (calls : List (Call W S A)) (answers : List (Answer W S A)) (s : Known V) →
+  along : {W S A : Type 0} (seen : S → Input) (taken : W → Taken) (calls : List (Call W S A)) (answers : List (Answer W S A)) (s : Known V) →
       HasFewSteps s → HasFewStepsAlong by seen taken s calls answers
   along seen taken calls answers s h zero t r = same s t r h
   along seen taken [] [] s h (suc k) t r = same s t r h
@@ -222,11 +222,11 @@ module _ {V : Type 0} (by : Verdicts V) where
 -- 2. Runs.
 
 -- from a state with few steps on they stay few
-pub run-stays-few : {W S A : Type 0} (seen : S → Stand) (taken : W → Taken) (calls : List (Call W S A)) (answers : List (Answer W S A))
+pub run-stays-few : {W S A : Type 0} (seen : S → Input) (taken : W → Taken) (calls : List (Call W S A)) (answers : List (Answer W S A))
     (s : State) → HasFewSteps s → HasFewStepsAlong by_state seen taken s calls answers
 run-stays-few seen taken calls answers s h = along by_state seen taken calls answers s h
 
 -- from the first call on they are few
-pub answers-stay-few : {W S A : Type 0} (seen : S → Stand) (taken : W → Taken) (calls : List (Call W S A)) (answers : List (Answer W S A)) →
+pub answers-stay-few : {W S A : Type 0} (seen : S → Input) (taken : W → Taken) (calls : List (Call W S A)) (answers : List (Answer W S A)) →
     HasFewStepsAlong by_answers seen taken empty_past calls answers
 answers-stay-few seen taken calls answers = along by_answers seen taken calls answers empty_past (λ v. none-is-few 0 0 refl)

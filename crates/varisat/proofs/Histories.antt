@@ -1,7 +1,7 @@
 -- What a run says of the answers alone.
 use Rattle.std.proofs.Common.{false, List, [], ◌∷◌, ap, refl, Result, Ok, Err}
 use Rattle.std.specs.Result.{IfOk}
-use Rattle.varisat_formula.specs.Streams.{Stand, Taken}
+use Rattle.varisat_formula.specs.Streams.{Input, Taken}
 use Rattle.varisat.specs.declared.session.Call.{Call}
 use Rattle.varisat.specs.declared.session.Answer.{Answer}
 use Rattle.varisat.specs.declared.session.Call.TheVariants as call
@@ -25,7 +25,7 @@ of-ok (Ok x) P Q f h = f x h
 of-ok (Err e) P Q f h = tt
 
 -- a call moves the past and the state alike
-is-true : {W S A : Type 0} (seen : S → Stand) (taken : W → Taken) (c : Call W S A) (a : Answer W S A) (v : Findings) (s t : State) → Agrees v s →
+is-true : {W S A : Type 0} (seen : S → Input) (taken : W → Taken) (c : Call W S A) (a : Answer W S A) (v : Findings) (s t : State) → Agrees v s →
     MakesCall seen taken s c a t → Leads (Makes by_answers seen taken (past_of v s) c a) t
 is-true seen taken (call.AddClause d) (answer.AddClause r) v s t g m = add-clause v s t d.items r g m
 is-true seen taken (call.AddFormula f) (answer.AddFormula r) v s t g m = add-formula v s t f.clauses r g m
@@ -66,7 +66,7 @@ past-journal v s g logged within c =
       readable = j.readable;
     }
 
-are-true : {W S A : Type 0} (seen : S → Stand) (taken : W → Taken) (calls : List (Call W S A)) (answers : List (Answer W S A)) (v : Findings)
+are-true : {W S A : Type 0} (seen : S → Input) (taken : W → Taken) (calls : List (Call W S A)) (answers : List (Answer W S A)) (v : Findings)
     (s t : State) → Agrees v s → (IsValid s → IsLoggedWithin s.ledger.steps s.logged) → Run seen taken s calls answers t →
     AreTrue seen taken (past_of v s) calls answers
 are-true seen taken [] [] v s t g w r = (past_of v s, refl)
@@ -79,7 +79,7 @@ are-true seen taken (c ∷ calls) (a ∷ answers) v s t g w (mid, m, logged, r) 
     (last, (past_of x mid, y, past-journal x mid h logged within, rest))
 
 -- each run of a new solver gives answers that are true
-pub run-is-true : {W S A : Type 0} (seen : S → Stand) (taken : W → Taken) (calls : List (Call W S A)) (answers : List (Answer W S A)) (t : State) →
+pub run-is-true : {W S A : Type 0} (seen : S → Input) (taken : W → Taken) (calls : List (Call W S A)) (answers : List (Answer W S A)) (t : State) →
     Run seen taken empty_state calls answers t → AreTrue seen taken empty_past calls answers
 run-is-true seen taken calls answers t r =
     are-true seen taken calls answers empty_past.verdict empty_state t (new-agrees false) (λ v. ([], refl)) r

@@ -15,7 +15,7 @@ use Rattle.std.proofs.lemmas.List.Elements.{All-from_recursion, recursion_from_A
 use Rattle.std.proofs.lemmas.List.Splits.{slice_split_none, slice_split_at, join_with_byte-slice_split, length-slice_split}
 use Rattle.varisat_literals.specs.Numbers.{literal_number}
 use Rattle.varisat_literals.specs.Numbers.{literal_text, variable_text}
-use Rattle.varisat_formula.specs.Streams.{Stand, Taken}
+use Rattle.varisat_formula.specs.Streams.{Input, Taken}
 use Rattle.varisat.specs.Runs.{MayStillFail}
 use Rattle.varisat.specs.declared.session.Call.{Call}
 use Rattle.varisat.specs.declared.session.Call.TheVariants as call
@@ -473,7 +473,7 @@ pub hide_read : (text number : List ℕ) (v : ℕ) → pointwise nat_eq (take 5 
 hide_read text number v t d e h = record { spelled = ap (λ xs. codes "hide " ++ xs) e ∙ behind_name text (codes "hide ") number 5 t d; in_range = h }
 
 -- what a command asks for reads no source, and opens a proof in memory
-pub asked-ready : {S A : Type 0} (seen : S → Stand) (c : Call Taken S A) (command : Command) → AsksFor c command → MayStillFail seen (λ t. t) c
+pub asked-ready : {S A : Type 0} (seen : S → Input) (c : Call Taken S A) (command : Command) → AsksFor c command → MayStillFail seen (λ t. t) c
 asked-ready seen (call.WriteProof target format) ProofText (e, f) = subst (λ (t : Taken). t.faults < 2 ^ 64 - 1) (sym e) (omega arith)
 asked-ready seen (call.WriteProof target format) ProofBinary (e, f) = subst (λ (t : Taken). t.faults < 2 ^ 64 - 1) (sym e) (omega arith)
 asked-ready seen (call.WriteProof target format) ProofMarked (e, f) = subst (λ (t : Taken). t.faults < 2 ^ 64 - 1) (sym e) (omega arith)

@@ -7,7 +7,7 @@ use Rattle.varisat_theory.specs.Journals.{Entry, Leads, lines_of}
 use Rattle.varisat_theory.specs.NewClauses.{GoesOnAdding}
 use Rattle.varisat_theory.proofs.Journals.{leads_append, by_leads, lines_append}
 use Rattle.varisat_theory.proofs.NewClauses.{adding_leads, adding_adds}
-use Rattle.varisat_theory.proofs.StepStands.{added_append}
+use Rattle.varisat_theory.proofs.StepAccounts.{added_append}
 use Rattle.varisat_solver.specs.Journals.{LogsMore, AreDerived}
 
 -- What was told leads somewhere, and its lines add at least as many clauses as interrupted calls made steps.

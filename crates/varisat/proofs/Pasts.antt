@@ -8,7 +8,7 @@ use Rattle.varisat_theory.specs.Literals.{Literal, Clause, Assignment, variable_
 use Rattle.varisat_theory.specs.Journals.{Accepts, Assumes}
 use Rattle.varisat_formula.specs.declared.dimacs.error.DimacsError.{DimacsError}
 use Rattle.varisat_formula.specs.Dimacs.{Reading}
-use Rattle.varisat_formula.specs.Streams.{Stand, Taken}
+use Rattle.varisat_formula.specs.Streams.{Input, Taken}
 use Rattle.varisat_proof.specs.declared.proof.format.ProofFormat.{ProofFormat}
 use Rattle.varisat_proof.specs.Assumed.{lists_of}
 use Rattle.varisat_names.specs.declared.config.SolverConfigUpdate.{SolverConfigUpdate}
@@ -265,7 +265,7 @@ add-reading v s t R r g (ClausesAdded mid a f) =
     let (w, b, h) = add-all v s mid R.clauses (Ok tt) g a in
     let (x, c, i) = tell-fault w mid t R.fault r h f in (x, ClausesAdded (past_of w mid) b c, i)
 
-pub add-text : (v : Findings) (s t : State) (old new : Stand) (r : Result (Unit {0}) SolverError) → Agrees v s → additions.AddsText by_state s old r new t →
+pub add-text : (v : Findings) (s t : State) (old new : Input) (r : Result (Unit {0}) SolverError) → Agrees v s → additions.AddsText by_state s old r new t →
     Leads (additions.AddsText by_answers (past_of v s) old r new) t
 add-text v s t old new r g (Read c R y a) = let (w, b, h) = add-reading v s t R r g a in (w, Read c R y b, h)
 add-text v s t old new r g (RefusedEarly c ended y e k a) = let (w, b, h) = add-all v s t ended (Err e) g a in (w, RefusedEarly c ended y e k b, h)

@@ -12,7 +12,7 @@ use Rattle.varisat_theory.proofs.Members.{∈-append_cases}
 use Rattle.varisat_theory.proofs.Count.{length-distinct}
 use Rattle.varisat_theory.proofs.Assigned.{satisfies_fewer}
 use Rattle.varisat_formula.specs.Dimacs.{Reading, dimacs}
-use Rattle.varisat_formula.specs.Streams.{Stand, Taken, Reads, HasEnded}
+use Rattle.varisat_formula.specs.Streams.{Input, Taken, Reads, HasEnded}
 use Rattle.varisat_formula.proofs.ParsedSources.{gives_whole}
 use Rattle.varisat_names.specs.declared.config.SolverConfigUpdate.{SolverConfigUpdate}
 use Rattle.varisat_names.specs.Settings.{Settings, no_update}
@@ -215,14 +215,14 @@ reading-whole p q R (ClausesAdded m a (MemoryFault y n k e b)) = absurd cc
 reading-whole p q R (ClausesAdded m a (Fault y n k e b)) = absurd cc
 
 -- a text that was taken in whole
-record Takes (old new : Stand) (p q : Past) : Type 0 where
+record Takes (old new : Input) (p q : Past) : Type 0 where
   text : List ℕ
   reads : Reads old text new
   ended : HasEnded new
   fine : (dimacs text).fault ≡ None
   all : AddsWhole p (dimacs text).clauses q
 
-takes : (old new : Stand) (p q : Past) → additions.AddsText by_answers p old done new q → Takes old new p q
+takes : (old new : Input) (p q : Past) → additions.AddsText by_answers p old done new q → Takes old new p q
 takes old new p q (Read v R g a) =
     let (fine, all) = reading-whole p q R a in
     let w = gives_whole old new R g fine in
@@ -304,7 +304,7 @@ no-target None h = refl
 no-target (Some target) h = absurd (h target refl)
 
 -- A new solver took a text in, and then is asked.
-module _ (check : Bool) (proof : Option OpenProof) (limit : Option ℕ) (old new : Stand) (s t : State) (is : s ≡ begun check proof limit)
+module _ (check : Bool) (proof : Option OpenProof) (limit : Option ℕ) (old new : Input) (s t : State) (is : s ≡ begun check proof limit)
     (adds : AddsDimacs s old done new t) where
   text-taken : (v : Findings) × additions.AddsText by_answers (begun_past check proof limit) old done new (past_of v t) × Agrees v t
   text-taken = add-text empty_past.verdict (begun check proof limit) t old new done (begun-agrees check proof limit)
@@ -390,7 +390,7 @@ module _ (check : Bool) (proof : Option OpenProof) (limit : Option ℕ) (old new
 
 -- The status.
 
-pub outcome-is-true : (max_steps : ℕ) (old new : Stand) (outcome : Conclusion) (status : ℕ) → Decides max_steps old new outcome →
+pub outcome-is-true : (max_steps : ℕ) (old new : Input) (outcome : Conclusion) (status : ℕ) → Decides max_steps old new outcome →
     status ≡ conclusion_status outcome → StatusIsTrue old new status
 outcome-is-true max_steps old new outcome status d e = record {
   ended = λ n. d.ended.reported;

@@ -3,7 +3,7 @@ use Rattle.std.proofs.Common.{◌≡◌, ◌≢◌, ◌∙◌, ℕ, true, false,
 use Rattle.std.proofs.lemmas.List.{append_cancel_left}
 use Rattle.varisat_theory.specs.Literals.{Clause, Literal}
 use Rattle.varisat_formula.specs.Dimacs.{Reading, dimacs}
-use Rattle.varisat_formula.specs.Streams.{Stand, Taken}
+use Rattle.varisat_formula.specs.Streams.{Input, Taken}
 use Rattle.varisat_formula.proofs.ParsedSources.{gives_whole}
 use Rattle.varisat_solver.specs.States.{State, Unknown, Unsat, Ledger, Verdict, Sat, UnsatUnderAssumptions, IsRight}
 use Rattle.varisat_solver.specs.Names.{AreInOrder}
@@ -96,7 +96,7 @@ first-read n s t R o (ClausesAdded m a (MemoryFault y f k e b)) = absurd cc
 first-read n s t R o (ClausesAdded m a (Fault y f k e b)) = absurd cc
 
 -- those of a text that was taken in whole
-pub first-of-text : (n : ℕ) (s t : State) (old new : Stand) → AreInOrder n s.naming → AddsDimacs s old done new t →
+pub first-of-text : (n : ℕ) (s t : State) (old new : Input) → AreInOrder n s.naming → AddsDimacs s old done new t →
     (text : List ℕ) × (new.given ≡ old.given ++ text) × AreFirst (dimacs text).clauses s t
 first-of-text n s t old new o (Read v R g a) =
     let (fine, first) = first-read n s t R o a in
@@ -150,7 +150,7 @@ keeps-reading s t R (ClausesAdded m a (NoFault n k e)) = keeps-through s m t (ke
 keeps-reading s t R (ClausesAdded m a (MemoryFault y n k e b)) = absurd cc
 keeps-reading s t R (ClausesAdded m a (Fault y n k e b)) = absurd cc
 
-keeps-text : (s t : State) (old new : Stand) → AddsDimacs s old done new t → Keeps s t
+keeps-text : (s t : State) (old new : Input) → AddsDimacs s old done new t → Keeps s t
 keeps-text s t old new (Read v R g a) = keeps-reading s t R a
 keeps-text s t old new (RefusedEarly v ended g e k a) = absurd cc
 keeps-text s t old new (Unread e k n) = absurd cc
@@ -254,7 +254,7 @@ proven-bytes taken format target back u bytes P c e h has unassumed carries give
           };
     }
 
-pub proven : {W : Type 0} (taken : W → Taken) (format : ProofFormat) (check : Bool) (limit : Option ℕ) (old new : Stand) (target back : Option W) (t u : State)
+pub proven : {W : Type 0} (taken : W → Taken) (format : ProofFormat) (check : Bool) (limit : Option ℕ) (old new : Input) (target back : Option W) (t u : State)
     (c : Conclusion) (opened : Option OpenState) → AddsDimacs (prepared taken format check limit target) old done new t → Concludes t c u →
     IsProofIfOpen by_state u → opened ≡ opened_state u.proof → IsClosed {E = SolverError} taken opened (Ok back) →
     DecidesProven taken format (allowed_steps limit) old new target back c
@@ -298,7 +298,7 @@ proven {W = W} taken format check limit old new target back t u c opened adds fi
 
 -- 4. Errors.
 
-pub fails-reported : (A : Type 0) {W : Type 0} (taken : W → Taken) (s : State) (old new : Stand) (t u : State) (e : SolverError) →
+pub fails-reported : (A : Type 0) {W : Type 0} (taken : W → Taken) (s : State) (old new : Input) (t u : State) (e : SolverError) →
     AddsDimacs s old done new t → Reports {A = A} t (Err e) u → Fails taken s old new e
 fails-reported A taken s old new t u OutOfMemory a (inl f) = AsSearched t u a f (λ e. cc)
 fails-reported A taken s old new t u OutOfMemory a (inr f) = AsListed t u a f refl

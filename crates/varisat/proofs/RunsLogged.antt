@@ -1,7 +1,7 @@
 -- What the calls of a run tell together.
 use Rattle.std.proofs.Common.{List, [], ◌∷◌, ◌++◌, refl, subst, ◌≡◌, ℕ, ◌+◌, ◌-◌, Bool, true, false, Option, None, map, inl, inr, Result, Ok, Err, sym, ap, ◌∙◌, arith}
 use Rattle.std.specs.declared.alloc.AllocError.{AllocError}
-use Rattle.varisat_formula.specs.Streams.{Stand, Taken}
+use Rattle.varisat_formula.specs.Streams.{Input, Taken}
 use Rattle.varisat_solver.specs.States.{State, Ledger, empty_state}
 use Rattle.varisat_solver.specs.Calls.{IsValid}
 use Rattle.varisat_solver.specs.Journals.{IsJournal, IsLoggedWithin, LogsMore}
@@ -33,7 +33,7 @@ use Rattle.varisat.specs.declared.session.Answer.TheVariants as answer
 -- Runs that go on.
 
 -- one more call
-pub run-push : {W S A : Type 0} (seen : S → Stand) (taken : W → Taken) (s t u : State) (calls : List (Call W S A)) (answers : List (Answer W S A))
+pub run-push : {W S A : Type 0} (seen : S → Input) (taken : W → Taken) (s t u : State) (calls : List (Call W S A)) (answers : List (Answer W S A))
     (c : Call W S A) (a : Answer W S A) → Run seen taken s calls answers t → MakesCall seen taken t c a u → (IsValid u → IsJournal u) →
     Run seen taken s (calls ++ c ∷ []) (answers ++ a ∷ []) u
 run-push seen taken s t u [] [] c a r g j = (u, subst (λ x. MakesCall seen taken x c a u) r g, j, refl)
@@ -42,7 +42,7 @@ run-push seen taken s t u (d ∷ calls) [] c a r g j = absurd r
 run-push seen taken s t u (d ∷ calls) (b ∷ answers) c a r g j = (r.0, r.1, r.2, run-push seen taken r.0 t u calls answers c a r.3 g j)
 
 -- what calls that go on are given is ready
-pub ready-next : {W S A : Type 0} (seen : S → Stand) (taken : W → Taken) (before after : List (Call W S A)) (c : Call W S A) →
+pub ready-next : {W S A : Type 0} (seen : S → Input) (taken : W → Taken) (before after : List (Call W S A)) (c : Call W S A) →
     AreReady seen taken (before ++ c ∷ after) → MayStillFail seen taken c
 ready-next seen taken [] after c r = r.0
 ready-next seen taken (b ∷ before) after c r = ready-next seen taken before after c r.1
@@ -130,7 +130,7 @@ add-reading s t R r (ClauseRefused e k a) w = add-all s t R.clauses (Err e) a w
 add-reading s t R r (ClausesAdded mid a f) w = let second = tell-fault mid t R.fault r f w in
     through s mid t (add-all s mid R.clauses (Ok tt) a second.valid) second
 
-add-text : (s t : State) (old new : Stand) (r : Result (Unit {0}) SolverError) → AddsDimacs s old r new t → state.IsValid t → LogsOn s t
+add-text : (s t : State) (old new : Input) (r : Result (Unit {0}) SolverError) → AddsDimacs s old r new t → state.IsValid t → LogsOn s t
 add-text s t old new r (Read v R g a) w = add-reading s t R r a w
 add-text s t old new r (RefusedEarly v ended g e k a) w = add-all s t ended (Err e) a w
 add-text s t old new r (Unread e (v, k) n) w = logs-same s t k w
@@ -239,7 +239,7 @@ enable-checking s t (Err e) a w = absurd a
 
 -- 4. Runs.
 
-call-logs : {W S A : Type 0} (seen : S → Stand) (taken : W → Taken) (c : Call W S A) (a : Answer W S A) (s t : State) →
+call-logs : {W S A : Type 0} (seen : S → Input) (taken : W → Taken) (c : Call W S A) (a : Answer W S A) (s t : State) →
     MakesCall seen taken s c a t → state.IsValid t → LogsOn s t
 call-logs seen taken (call.AddClause d) (answer.AddClause r) s t m w = add-clause s t d.items r m w
 call-logs seen taken (call.AddFormula f) (answer.AddFormula r) s t m w = add-formula s t f.clauses r m w
@@ -263,11 +263,11 @@ call-logs seen taken call.EnableSelfChecking (answer.EnableSelfChecking r) s t m
 call-logs seen taken _ _ s t m w = absurd m
 
 -- what is told in all, from call to call
-pub call-within : {W S A : Type 0} (seen : S → Stand) (taken : W → Taken) (c : Call W S A) (a : Answer W S A) (s t : State) →
+pub call-within : {W S A : Type 0} (seen : S → Input) (taken : W → Taken) (c : Call W S A) (a : Answer W S A) (s t : State) →
     MakesCall seen taken s c a t → (state.IsValid s → IsLoggedWithin s.ledger.steps s.logged) → state.IsValid t → IsLoggedWithin t.ledger.steps t.logged
 call-within seen taken c a s t m w v = let on = call-logs seen taken c a s t m v in within-on s t on (w on.valid)
 
-pub run-logs : {W S A : Type 0} (seen : S → Stand) (taken : W → Taken) (calls : List (Call W S A)) (answers : List (Answer W S A)) (s t : State) →
+pub run-logs : {W S A : Type 0} (seen : S → Input) (taken : W → Taken) (calls : List (Call W S A)) (answers : List (Answer W S A)) (s t : State) →
     Run seen taken s calls answers t → state.IsValid t → LogsOn s t
 run-logs seen taken [] [] s t r w = logs-same s t r w
 run-logs seen taken [] (a ∷ answers) s t r w = absurd r
@@ -277,7 +277,7 @@ run-logs seen taken (c ∷ calls) (a ∷ answers) s t (mid, m, logged, r) w =
     through s mid t (call-logs seen taken c a s mid m second.valid) second
 
 -- from the beginning: as many count at most as steps were made in all
-pub run-counts : {W S A : Type 0} (seen : S → Stand) (taken : W → Taken) (calls : List (Call W S A)) (answers : List (Answer W S A)) (t : State) →
+pub run-counts : {W S A : Type 0} (seen : S → Input) (taken : W → Taken) (calls : List (Call W S A)) (answers : List (Answer W S A)) (t : State) →
     Run seen taken empty_state calls answers t → state.IsValid t → (held : List Clause) × LeadsBy t.ledger.steps [] t.logged held
 run-counts seen taken calls answers t r w =
     let all = run-logs seen taken calls answers empty_state t r w in

@@ -6,7 +6,7 @@ use Rattle.varisat_theory.specs.Membership.{◌⊆◌}
 use Rattle.varisat_theory.specs.Literals.{Literal, Clause, variable_of}
 use Rattle.varisat_theory.proofs.Members.{∈-append_left, ∈-append_right}
 use Rattle.varisat_formula.specs.declared.dimacs.error.DimacsError.{DimacsError}
-use Rattle.varisat_formula.specs.Streams.{Stand, Taken}
+use Rattle.varisat_formula.specs.Streams.{Input, Taken}
 use Rattle.varisat_proof.specs.declared.proof.format.ProofFormat.{ProofFormat}
 use Rattle.varisat_names.specs.declared.config.SolverConfigUpdate.{SolverConfigUpdate}
 use Rattle.varisat_solver.specs.OpenProofs.{OpenProof, BarsAssumptions}
@@ -22,7 +22,7 @@ use Rattle.varisat_solver.specs.Calls.{is_valid, IsValid, Invalidates, IsRefused
 use Rattle.varisat_solver.specs.Usage as usage
 use Rattle.varisat_solver.specs.ReturnedLists.{returned_list, returned_variables}
 use Rattle.varisat.specs.Turns.{Makes}
-use Rattle.varisat_solver.specs.Summaries.{Summary, StandsFor}
+use Rattle.varisat_solver.specs.Summaries.{Summary, Represents}
 use Rattle.varisat.specs.Runs.{Run, found_in, story_now}
 use Rattle.varisat.specs.Answers.{Story, with_names, reopened, with_clause, with_assumptions, ended, IsRefused, Outcome, Accepts, Joined, PassedOver, AcceptsAll, EndsText, AcceptsText, ToItsEnd, ToARefusal, IfValid, IsTrueAnswer, IsTrueModel, IsTrueCore, IsAnswered, AreAnswered}
 use Rattle.varisat.specs.declared.session.Call.{Call}
@@ -197,7 +197,7 @@ tell-fault y p q x r h (MemoryFault d n m e b) =
     (ended y, subst (λ o. EndsText o y r (ended y)) (sym n) (inr (e, refl)), Over (over p q b) refl refl)
 tell-fault y p q x r h (Fault d n m e k) = (y, subst (λ o. EndsText o y r y) (sym n) (inl (e, refl)), same y p q h k)
 
-add-text : (y : Story) (p q : State) (old new : Stand) (r : Result (Unit {0}) SolverError) → Sees y p → additions.AddsText by_state p old r new q →
+add-text : (y : Story) (p q : State) (old new : Input) (r : Result (Unit {0}) SolverError) → Sees y p → additions.AddsText by_state p old r new q →
     Leads (λ z. IfValid y r (AcceptsText y old r new z) z) q
 add-text y p q old new r h (Read c R g (ClauseRefused e k a)) =
     let (z, b, l) = add-all-as y p q R.clauses r (Err e) k h a in (z, inl (now-valid y p h c, ToARefusal R.clauses e (inl (R, g, refl)) k b), l)
@@ -408,7 +408,7 @@ close-refused taken target y p q e h a = absurd a
 
 -- 9. Calls in turn.
 
-is-answered : {W S A : Type 0} (seen : S → Stand) (taken : W → Taken) (c : Call W S A) (a : Answer W S A) (y : Story) (p q : State) → Sees y p →
+is-answered : {W S A : Type 0} (seen : S → Input) (taken : W → Taken) (c : Call W S A) (a : Answer W S A) (y : Story) (p q : State) → Sees y p →
     Makes by_state seen taken p c a q → Leads (IsAnswered seen y c a) q
 is-answered seen taken (call.AddClause d) (answer.AddClause r) y p q h m = add-clause y p q d.items r h m
 is-answered seen taken (call.AddFormula f) (answer.AddFormula r) y p q h m = add-formula y p q f.clauses r h m
@@ -436,7 +436,7 @@ is-answered seen taken call.CloseProof (answer.CloseProof (Err (e, back))) y p q
 is-answered seen taken call.EnableSelfChecking (answer.EnableSelfChecking r) y p q h m = enable-checking y p q r h m
 is-answered seen taken _ _ y p q h m = absurd m
 
-are-answered : {W S A : Type 0} (seen : S → Stand) (taken : W → Taken) (calls : List (Call W S A)) (answers : List (Answer W S A)) (y : Story)
+are-answered : {W S A : Type 0} (seen : S → Input) (taken : W → Taken) (calls : List (Call W S A)) (answers : List (Answer W S A)) (y : Story)
     (p q : State) → Sees y p → Run seen taken p calls answers q → AreAnswered seen y calls answers
 are-answered seen taken [] [] y p q h r = tt
 are-answered seen taken [] (a ∷ answers) y p q h r = absurd r
@@ -457,8 +457,8 @@ sees-now p h = go p.ledger.valid refl
     go false e = Over e e (at false e)
 
 -- each run gives true answers
-pub run-is-answered : {W S A : Type 0} (seen : S → Stand) (taken : W → Taken) (calls : List (Call W S A)) (answers : List (Answer W S A)) (g : Summary)
-    (p q : State) → StandsFor g p → Run seen taken p calls answers q → AreAnswered seen (story_now p) calls answers
+pub run-is-answered : {W S A : Type 0} (seen : S → Input) (taken : W → Taken) (calls : List (Call W S A)) (answers : List (Answer W S A)) (g : Summary)
+    (p q : State) → Represents g p → Run seen taken p calls answers q → AreAnswered seen (story_now p) calls answers
 run-is-answered seen taken calls answers g p q st r =
     are-answered seen taken calls answers (story_now p) p q
     (sees-now p (λ v. let (w, k) = st.fits (ap (λ (l : Ledger). l.valid) (sym st.ledger) ∙ v) in (k.well_formed.free, k.right))) r

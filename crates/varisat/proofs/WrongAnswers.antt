@@ -2,7 +2,7 @@
 use Rattle.std.proofs.Common.{◌≡◌, Bool, true, false, [], ◌∷◌, ◌++◌, inl, inr, sym, ap, ◌∙◌, subst, refl, Option, Some, None, Ok, Err, not, nat_eq, arith}
 use Rattle.varisat_theory.specs.Membership.{◌∈◌}
 use Rattle.varisat_theory.specs.Literals.{Literal, Clause, Assignment, value, IsSatisfiable, IsSatisfiableWith, SatisfiesAll, MakesTrue}
-use Rattle.varisat_formula.specs.Streams.{Stand}
+use Rattle.varisat_formula.specs.Streams.{Input}
 use Rattle.varisat_formula.specs.Formulas.{Formula}
 use Rattle.varisat_formula.specs.Dimacs.{Reading, dimacs}
 use Rattle.varisat_formula.proofs.ParsedSources.{GivesWhole, gives_whole}
@@ -181,7 +181,7 @@ formula : (f : Formula) → f.clauses ≡ (0 ∷ []) ∷ (1 ∷ []) ∷ [] →
 formula f ef (s, inl (v, a), (t, (w, (sat, et)), rest)) = list-sat s (subst (λ P. AcceptsAll empty_story P (Ok tt) s) ef a) sat
 formula f ef (s, inr (e, refused), rest) = cc
 
-text : (source back : Stand) → source.given ≡ [] → back.given ≡ 49 ∷ 32 ∷ 48 ∷ 10 ∷ 45 ∷ 49 ∷ 32 ∷ 48 ∷ 10 ∷ [] →
+text : (source back : Input) → source.given ≡ [] → back.given ≡ 49 ∷ 32 ∷ 48 ∷ 10 ∷ 45 ∷ 49 ∷ 32 ∷ 48 ∷ 10 ∷ [] →
     FitNoStory (call.AddDimacsCnf source ∷ call.Solve ∷ []) (answer.AddDimacsCnf (Ok tt) back ∷ answer.Solve (Ok true) ∷ [])
 text source back eo en (s, inr (e, refused), rest) = cc
 text source back eo en (s, inl (v, ToARefusal cs e g x a), rest) = let z : Ok tt ≡ Err e = x in cc

@@ -5,7 +5,7 @@ use Rattle.std.specs.Prelude.{◌≡◌, ◌≢◌, ℕ, Bool, true, false, Opti
 use Rattle.varisat_theory.specs.Literals.{Literal, Clause, variable_of, IsSatisfiable, IsSatisfiableWith, IsFailedCore}
 use Rattle.varisat_formula.specs.declared.dimacs.error.DimacsError.{DimacsError}
 use Rattle.varisat_formula.specs.Dimacs.{Reading}
-use Rattle.varisat_formula.specs.Streams.{Stand}
+use Rattle.varisat_formula.specs.Streams.{Input}
 use Rattle.varisat_formula.specs.Parsed.{GivesReading}
 use Rattle.varisat_formula.specs.TakenTexts.{GivesFirst}
 use Rattle.varisat_solver.specs.Names.{Naming, Sample, Witness, no_names, name_one, name_all, through_names, set_mode, free_name, IsLeastFree, AreShown}
@@ -95,7 +95,7 @@ IfValid s r does t = ((s.valid ≡ true) × does) ⊎ ((r ≡ Err Invalid) × Is
 -- 3. Texts in DIMACS CNF. Who reads none may pass this over, and all that it cites.
 
 -- these clauses ended in what a source gave meanwhile: all that its text gives, or the first of them
-abbrev pub GaveClauses : Stand → List Clause → Stand → Type 0
+abbrev pub GaveClauses : Input → List Clause → Input → Type 0
 GaveClauses old cs new = ((reading : Reading) × GivesReading old reading new × (reading.clauses ≡ cs)) ⊎ GivesFirst old cs new
 
 -- what is returned at the end of a text: its fault, if it has one, or that memory ran out in the reader
@@ -104,7 +104,7 @@ EndsText None s r t = (r ≡ Ok tt) × (t ≡ s)
 EndsText (Some fault) s r t = ((r ≡ Err (Dimacs fault)) × (t ≡ s)) ⊎ ((r ≡ Err OutOfMemory) × (t ≡ ended s))
 
 -- all clauses that a text gives are accepted, and then its end is told; or one of those that ended is refused
-pub data AcceptsText (s : Story) (old : Stand) (r : Result (Unit {0}) SolverError) (new : Stand) (t : Story) : Type 0 where
+pub data AcceptsText (s : Story) (old : Input) (r : Result (Unit {0}) SolverError) (new : Input) (t : Story) : Type 0 where
   ToItsEnd : (reading : Reading) (mid : Story) → GivesReading old reading new → AcceptsAll s reading.clauses (Ok tt) mid →
       EndsText reading.fault mid r t → AcceptsText s old r new t
   ToARefusal : (cs : List Clause) (e : SolverError) → GaveClauses old cs new → r ≡ Err e → AcceptsAll s cs r t → AcceptsText s old r new t
@@ -131,7 +131,7 @@ IsTrueCore s (Some core) = (s.valid ≡ true) × AreNamesInUse s.naming core × 
 -- 5. The answers of all calls.
 
 -- In the story s the call may have the answer, and then the story is t. `seen` tells how a source stands.
-abbrev pub IsAnswered : {W S A : Type 0} → (S → Stand) → Story → Call W S A → Answer W S A → Story → Type 0
+abbrev pub IsAnswered : {W S A : Type 0} → (S → Input) → Story → Call W S A → Answer W S A → Story → Type 0
 IsAnswered seen s (call.AddClause c) (answer.AddClause r) t = Outcome (λ _. Accepts s c.items) s r t
 IsAnswered seen s (call.AddFormula f) (answer.AddFormula r) t = IfValid s r (AcceptsAll s f.clauses r t) t
 IsAnswered seen s (call.AddDimacsCnf source) (answer.AddDimacsCnf r back) t = IfValid s r (AcceptsText s (seen source) r (seen back) t) t
@@ -157,7 +157,7 @@ IsAnswered seen s call.EnableSelfChecking (answer.EnableSelfChecking r) t = Outc
 IsAnswered seen s _ _ t = ⊥
 
 -- Each call in turn has its answer, in the story behind those before it.
-abbrev pub AreAnswered : {W S A : Type 0} → (S → Stand) → Story → List (Call W S A) → List (Answer W S A) → Type 0
+abbrev pub AreAnswered : {W S A : Type 0} → (S → Input) → Story → List (Call W S A) → List (Answer W S A) → Type 0
 AreAnswered seen s [] [] = Unit {0}
 AreAnswered seen s (c ∷ cs) (a ∷ answers) = (t : Story) × IsAnswered seen s c a t × AreAnswered seen t cs answers
 AreAnswered seen s _ _ = ⊥

@@ -4,7 +4,7 @@ use Rattle.std.specs.Option.{unwrap_or}
 use Rattle.varisat_theory.specs.Membership.{◌∈◌}
 use Rattle.varisat_theory.specs.Literals.{Literal, Clause, Assignment, variable_of, SatisfiesAll, MakesTrue, IsSatisfiable}
 use Rattle.varisat_formula.specs.Dimacs.{dimacs}
-use Rattle.varisat_formula.specs.Streams.{Stand, Reads, HasEnded}
+use Rattle.varisat_formula.specs.Streams.{Input, Reads, HasEnded}
 use Rattle.varisat_proof.specs.Verified.{fault_status}
 use Rattle.varisat_solver.specs.States.{join_counted}
 use Rattle.varisat_solver.specs.Models.{IsRising}
@@ -60,7 +60,7 @@ IsConclusion max_steps P (Decided outcome) = IsOutcome P outcome
 IsConclusion max_steps P Unknown = min max_steps (2 ^ 64 - 1) < 2 ^ (2 * length (named_variables [] P) + 3)
 
 -- What a source gave in a call, up to its end, is a text without a fault, and this is the conclusion for its clauses.
-pub record Decides (max_steps : ℕ) (old new : Stand) (conclusion : Conclusion) : Type 0 where
+pub record Decides (max_steps : ℕ) (old new : Input) (conclusion : Conclusion) : Type 0 where
   pub text : List ℕ
   pub reads : Reads old text new
   pub ended : HasEnded new
@@ -93,7 +93,7 @@ conclusion_status Unknown = 0
 
 -- What a status says of the text that the source gave since, whatever is known of the source: 10 only at the end of a text
 -- without a fault whose clauses some assignment satisfies, 20 only of one whose clauses none does.
-pub record StatusIsTrue (old new : Stand) (status : ℕ) : Type 0 where
+pub record StatusIsTrue (old new : Input) (status : ℕ) : Type 0 where
   pub ended : status ≢ fault_status → new.ended ≡ true
   pub fine : (text : List ℕ) → new.given ≡ old.given ++ text → status ≢ fault_status → (dimacs text).fault ≡ None
   pub satisfiable : (text : List ℕ) → new.given ≡ old.given ++ text → status ≡ 10 → IsSatisfiable (dimacs text).clauses

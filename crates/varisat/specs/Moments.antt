@@ -1,7 +1,7 @@
 -- What holds at each moment of a run.
 use Rattle.std.specs.Prelude.{ℕ, List, length, take}
 use Rattle.varisat_theory.specs.CallBounds.{AreFew}
-use Rattle.varisat_formula.specs.Streams.{Stand, Taken}
+use Rattle.varisat_formula.specs.Streams.{Input, Taken}
 use Rattle.varisat_solver.specs.States.{Known}
 use Rattle.varisat_solver.specs.Calls.{IsValid, Verdicts}
 use Rattle.varisat.specs.Turns.{MakesInTurn}
@@ -13,6 +13,6 @@ abbrev pub HasFewSteps : {V : Type 0} → Known V → Type 0
 HasFewSteps s = IsValid s → AreFew (length s.counted) s.ledger.since
 
 -- So it is at each moment of the run, which is behind the first k calls, for each k.
-abbrev pub HasFewStepsAlong : {V W S A : Type 0} → Verdicts V → (S → Stand) → (W → Taken) → Known V → List (Call W S A) → List (Answer W S A) → Type 0
+abbrev pub HasFewStepsAlong : {V W S A : Type 0} → Verdicts V → (S → Input) → (W → Taken) → Known V → List (Call W S A) → List (Answer W S A) → Type 0
 HasFewStepsAlong {V} by seen taken s calls answers =
     (k : ℕ) (t : Known V) → MakesInTurn by seen taken s (take k calls) (take k answers) t → HasFewSteps t

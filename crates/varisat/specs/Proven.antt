@@ -4,7 +4,7 @@ use Rattle.varisat_theory.specs.Literals.{Clause}
 use Rattle.varisat_theory.specs.Derivations.{IsDerivation, Refutes}
 use Rattle.varisat_theory.specs.Journals.{Entry, lines_of}
 use Rattle.varisat_formula.specs.Dimacs.{dimacs}
-use Rattle.varisat_formula.specs.Streams.{Stand, Taken, Output}
+use Rattle.varisat_formula.specs.Streams.{Input, Taken, Output}
 use Rattle.varisat_names.specs.declared.config.SolverConfigUpdate.{SolverConfigUpdate}
 use Rattle.varisat_names.specs.Settings.{no_update}
 use Rattle.varisat_proof.specs.declared.proof.format.Encoding.TheVariants.{Text}
@@ -86,14 +86,14 @@ IsProvenIf taken format clauses conclusion (Some target) None = ⊥
 IsProvenIf taken format clauses conclusion (Some target) (Some back) = IsProven format clauses conclusion (taken target) (taken back)
 
 -- The text that a source gave is decided, and the target has a proof of that, where there is one.
-pub record DecidesProven {W : Type 0} (taken : W → Taken) (format : ProofFormat) (max_steps : ℕ) (old new : Stand)
+pub record DecidesProven {W : Type 0} (taken : W → Taken) (format : ProofFormat) (max_steps : ℕ) (old new : Input)
     (target back : Option W) (conclusion : Conclusion) : Type 0 where
   pub decides : Decides max_steps old new conclusion
   pub proven : IsProvenIf taken format (dimacs decides.text).clauses conclusion target back
 
 -- When deciding a text fails with the error, where the solver was in the state s before: as it takes the text in; as it searches, or
 -- lists the model that it found; or as its proof is closed.
-pub data Fails {W : Type 0} (taken : W → Taken) (s : State) (old new : Stand) (e : SolverError) : Type 0 where
+pub data Fails {W : Type 0} (taken : W → Taken) (s : State) (old new : Input) (e : SolverError) : Type 0 where
   AsRead : (t : State) → AddsDimacs s old (Err e) new t → Fails taken s old new e
   AsSearched : (t u : State) → AddsDimacs s old (Ok tt) new t → Solves by_state t (Err e) u → e ≢ Interrupted → Fails taken s old new e
   AsListed : (t u : State) → AddsDimacs s old (Ok tt) new t → Solves by_state t (Ok true) u → e ≡ OutOfMemory → Fails taken s old new e
@@ -101,17 +101,17 @@ pub data Fails {W : Type 0} (taken : W → Taken) (s : State) (old new : Stand) 
       Fails taken s old new e
 
 -- the text is decided as the options ask
-abbrev pub DecidesBy : {W : Type 0} → (W → Taken) → SolveOptions → Stand → Stand → Option W → Option W → Conclusion → Type 0
+abbrev pub DecidesBy : {W : Type 0} → (W → Taken) → SolveOptions → Input → Input → Option W → Option W → Conclusion → Type 0
 DecidesBy taken o old new target back conclusion =
     DecidesProven taken o.format (allowed_steps o.max_steps) old new target back conclusion
 
 -- so it is, to a conclusion of this status
-abbrev pub DecidesWithStatus : {W : Type 0} → (W → Taken) → SolveOptions → Stand → Stand → Option W → Option W → ℕ → Type 0
+abbrev pub DecidesWithStatus : {W : Type 0} → (W → Taken) → SolveOptions → Input → Input → Option W → Option W → ℕ → Type 0
 DecidesWithStatus taken o old new target back status =
     (conclusion : Conclusion) × DecidesBy taken o old new target back conclusion × (status ≡ conclusion_status conclusion)
 
 -- deciding the text fails with the error, by a new solver that has settings, a checker and a proof as the options ask
-abbrev pub FailsBy : {W : Type 0} → (W → Taken) → SolveOptions → Option W → Stand → Stand → SolverError → Type 0
+abbrev pub FailsBy : {W : Type 0} → (W → Taken) → SolveOptions → Option W → Input → Input → SolverError → Type 0
 FailsBy taken o target old new e = Fails taken (prepared taken o.format o.check o.max_steps target) old new e
 
 -- the conclusion is printed with its status, or a beginning of it where a call of the target fails
@@ -120,7 +120,7 @@ Prints conclusion status before printed = EndsPrinting (conclusion_status conclu
 
 -- What the program's `solve` comes to: deciding fails, nothing is printed, and the status tells a fault; or the text is decided, and
 -- the conclusion is printed.
-abbrev pub SolvesText : {W : Type 0} → (W → Taken) → SolveOptions → Stand → Stand → Option W → Option W →
+abbrev pub SolvesText : {W : Type 0} → (W → Taken) → SolveOptions → Input → Input → Option W → Option W →
     Taken → Taken → ℕ → Type 0
 SolvesText taken o old new target back before printed status =
     ((error : SolverError) × FailsBy taken o target old new error × (status ≡ fault_status) × (printed ≡ before))

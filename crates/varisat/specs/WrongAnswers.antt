@@ -2,7 +2,7 @@
 -- A literal 0 is the first name's, 1 its opposite, 2 the second name's.
 use Rattle.std.specs.Prelude.{◌≡◌, ℕ, Bool, true, false, Some, None, List, [], ◌∷◌, Ok, Err, Vec}
 use Rattle.varisat_formula.specs.Formulas.{Formula}
-use Rattle.varisat_formula.specs.Streams.{Stand}
+use Rattle.varisat_formula.specs.Streams.{Input}
 use Rattle.varisat.specs.Answers.{AreAnswered, empty_story}
 use Rattle.varisat.specs.declared.session.Call.{Call}
 use Rattle.varisat.specs.declared.session.Answer.{Answer}
@@ -15,10 +15,10 @@ abbrev pub Literals : Type 0
 Literals = Vec ℕ (Unit {0})
 
 abbrev pub OneCall : Type 0
-OneCall = Call (Unit {0}) Stand (Unit {0})
+OneCall = Call (Unit {0}) Input (Unit {0})
 
 abbrev pub OneAnswer : Type 0
-OneAnswer = Answer (Unit {0}) Stand (Unit {0})
+OneAnswer = Answer (Unit {0}) Input (Unit {0})
 
 -- no story fits these answers to the calls of a new solver
 abbrev pub FitNoStory : List OneCall → List OneAnswer → Type 0
@@ -55,7 +55,7 @@ pub record WrongVerdicts : Type 0 where
       (answer.AddClause (Ok tt) ∷ answer.AddClause (Ok tt) ∷ answer.Solve (Ok true) ∷ [])
   pub formula : (f : Formula) → f.clauses ≡ (0 ∷ []) ∷ (1 ∷ []) ∷ [] →
       FitNoStory (call.AddFormula f ∷ call.Solve ∷ []) (answer.AddFormula (Ok tt) ∷ answer.Solve (Ok true) ∷ [])
-  pub text : (source back : Stand) → source.given ≡ [] → back.given ≡ 49 ∷ 32 ∷ 48 ∷ 10 ∷ 45 ∷ 49 ∷ 32 ∷ 48 ∷ 10 ∷ [] →
+  pub text : (source back : Input) → source.given ≡ [] → back.given ≡ 49 ∷ 32 ∷ 48 ∷ 10 ∷ 45 ∷ 49 ∷ 32 ∷ 48 ∷ 10 ∷ [] →
       FitNoStory (call.AddDimacsCnf source ∷ call.Solve ∷ []) (answer.AddDimacsCnf (Ok tt) back ∷ answer.Solve (Ok true) ∷ [])
   pub satisfiable : (c : Literals) → c.items ≡ 0 ∷ [] →
       FitNoStory (call.AddClause c ∷ call.Solve ∷ []) (answer.AddClause (Ok tt) ∷ answer.Solve (Ok false) ∷ [])

@@ -2,7 +2,7 @@
 ghost use Rattle.std.specs.Prelude.{◌≡◌, ◌-◌, ◌^◌, ◌<◌, true, Ok, Err, IfOk, IfErr, IsSome};
 ghost use Rattle.varisat_proof.specs.Proving.{IsClosed};
 ghost use Rattle.varisat_solver.specs.States.{State, new_state};
-ghost use Rattle.varisat_solver.specs.Summaries.{StandsFor};
+ghost use Rattle.varisat_solver.specs.Summaries.{Represents};
 ghost use Rattle.varisat_solver.specs.ProofCalls.{ClosesProof};
 ghost use Rattle.varisat.specs.Decided.{concluded};
 ghost use Rattle.varisat.specs.Proven.{CanCountFault, prepared, Reports, DecidesBy, FailsBy};
@@ -58,10 +58,10 @@ pub fn decide_text<W: ProofTarget, A: Allocator + Copy, S: ByteSource, E: Write>
     options: SolveOptions,
     err: &mut E,
 ) -> Result<Report<A>, SolverError>
-    requires faults { (S.stand cnf.old).faults < 2 ^ 64 - 1 }
+    requires faults { (S.input cnf.old).faults < 2 ^ 64 - 1 }
     requires room { CanCountFault W.taken target.old }
-    ensures decided { IfOk result (λ report. DecidesBy W.taken options (S.stand cnf.old) (S.stand cnf.new) target.old target.new (concluded report)) }
-    ensures fails { IfErr result (λ error. FailsBy W.taken options target.old (S.stand cnf.old) (S.stand cnf.new) error) }
+    ensures decided { IfOk result (λ report. DecidesBy W.taken options (S.input cnf.old) (S.input cnf.new) target.old target.new (concluded report)) }
+    ensures fails { IfErr result (λ error. FailsBy W.taken options target.old (S.input cnf.old) (S.input cnf.new) error) }
 {
     let mut solver: Solver<W, A> = new_solver(alloc, options.check);
     let report = decide_in(&mut solver, cnf, target, options, err);
@@ -79,7 +79,7 @@ pub fn decide_text<W: ProofTarget, A: Allocator + Copy, S: ByteSource, E: Write>
 
 /// A new solver, inside which a checker runs where that is wanted. Before anything is accepted that is not refused.
 pub fn new_solver<W: ProofTarget, A: Allocator + Copy>(alloc: A, is_checked: bool) -> Solver<W, A>
-    ensures stands { StandsFor result (new_state is_checked) }
+    ensures stands { Represents result (new_state is_checked) }
     ensures checks { is_checked ≡ true → IsSome result.checker }
 {
     let mut solver = Solver::new_in(alloc);
@@ -97,12 +97,12 @@ fn decide_in<W: ProofTarget, A: Allocator + Copy, S: ByteSource, E: Write>(
     options: SolveOptions,
     err: &mut E,
 ) -> Result<Report<A>, SolverError>
-    requires new { StandsFor solver.old (new_state options.check) }
+    requires new { Represents solver.old (new_state options.check) }
     requires checks { options.check ≡ true → IsSome solver.old.checker }
-    requires faults { (S.stand cnf.old).faults < 2 ^ 64 - 1 }
+    requires faults { (S.input cnf.old).faults < 2 ^ 64 - 1 }
     requires room { CanCountFault W.taken target.old }
-    ensures decided { IfOk result (λ report. DecidesBy W.taken options (S.stand cnf.old) (S.stand cnf.new) target.old target.new (concluded report)) }
-    ensures fails { IfErr result (λ error. FailsBy W.taken options target.old (S.stand cnf.old) (S.stand cnf.new) error) }
+    ensures decided { IfOk result (λ report. DecidesBy W.taken options (S.input cnf.old) (S.input cnf.new) target.old target.new (concluded report)) }
+    ensures fails { IfErr result (λ error. FailsBy W.taken options target.old (S.input cnf.old) (S.input cnf.new) error) }
 {
     prepare(solver, target.take(), options);
     solver.add_dimacs_cnf(cnf)?;
@@ -119,9 +119,9 @@ pub fn prepare<W: ProofTarget, A: Allocator + Copy>(
     target: Option<W>,
     options: SolveOptions,
 )
-    requires new { StandsFor solver.old (new_state options.check) }
+    requires new { Represents solver.old (new_state options.check) }
     requires room { CanCountFault W.taken target }
-    ensures { StandsFor solver.new (prepared W.taken options.format options.check options.max_steps target) }
+    ensures { Represents solver.new (prepared W.taken options.format options.check options.max_steps target) }
 {
     let mut update = SolverConfigUpdate::new();
     update.reduce_locals_interval = Some(REDUCE_LOCALS_INTERVAL);
@@ -139,7 +139,7 @@ pub fn find_report<W: ProofTarget, A: Allocator + Copy, E: Write>(
     progress: Option<u64>,
     err: &mut E,
 ) -> Result<Report<A>, SolverError>
-    ensures { (s : State) → StandsFor solver.old s → (t : State) × Reports s result t × StandsFor solver.new t }
+    ensures { (s : State) → Represents solver.old s → (t : State) × Reports s result t × Represents solver.new t }
 {
     match search(solver, progress, err) {
         Ok(true) => match solver.model() {
@@ -157,7 +157,7 @@ pub fn close<W: ProofTarget, A: Allocator + Copy>(
     solver: &mut Solver<W, A>,
 ) -> Result<Option<W>, SolverError>
     ensures handed { IfOk result (λ back. IsClosed {E = SolverError} W.taken solver.old.opened (Ok back)) }
-    ensures fails { (s : State) → StandsFor solver.old s → IfErr result (λ error. (back : W) × (t : State) × ClosesProof W.taken s (Err (error, back)) t) }
+    ensures fails { (s : State) → Represents solver.old s → IfErr result (λ error. (back : W) × (t : State) × ClosesProof W.taken s (Err (error, back)) t) }
 {
     match solver.close_proof() {
         Ok(target) => Ok(target),

@@ -1,7 +1,7 @@
 //! Any list of calls of a solver.
 ghost use Rattle.std.specs.Prelude.{◌≡◌, [], IfOk, OnErr};
 ghost use Rattle.varisat_solver.specs.States.{State, empty_state};
-ghost use Rattle.varisat_solver.specs.Summaries.{StandsFor, StandsOnce};
+ghost use Rattle.varisat_solver.specs.Summaries.{Represents, LeadsRepresented};
 ghost use Rattle.varisat.specs.Runs.{MakesCall, Run, HasRightLog, MayStillFail, AreReady, story_now};
 ghost use Rattle.varisat_solver.specs.Calls.{by_state};
 ghost use Rattle.varisat.specs.Pasts.{empty_past, by_answers};
@@ -71,8 +71,8 @@ pub fn make_call<W: ProofTarget, S: ByteSource, A: Allocator + Copy>(
     solver: &mut Solver<W, A>,
     call: Call<W, S, A>,
 ) -> Answer<W, S, A>
-    requires { MayStillFail S.stand W.taken call }
-    ensures { (s : State) → StandsFor solver.old s → (t : State) × MakesCall S.stand W.taken s call result t × StandsFor solver.new t }
+    requires { MayStillFail S.input W.taken call }
+    ensures { (s : State) → Represents solver.old s → (t : State) × MakesCall S.input W.taken s call result t × Represents solver.new t }
 {
     match call {
         Call::AddClause(clause) => Answer::AddClause(solver.add_clause(&clause)),
@@ -111,11 +111,11 @@ pub fn run<W: ProofTarget, S: ByteSource, A: Allocator + Copy>(
     solver: &mut Solver<W, A>,
     calls: Vec<Call<W, S, A>, A>,
 ) -> Result<Vec<Answer<W, S, A>, A>, AllocError>
-    requires { AreReady S.stand W.taken calls.items }
-    ensures run { IfOk result (λ answers. StandsOnce solver.old (λ s t. Run S.stand W.taken s calls.items answers.items t) solver.new) }
-    ensures answers { IfOk result (λ answers. (s : State) → StandsFor solver.old s → AreAnswered S.stand (story_now s) calls.items answers.items) }
-    ensures few { IfOk result (λ answers. (s : State) → StandsFor solver.old s →
-        HasFewStepsAlong by_state S.stand W.taken s calls.items answers.items) }
+    requires { AreReady S.input W.taken calls.items }
+    ensures run { IfOk result (λ answers. LeadsRepresented solver.old (λ s t. Run S.input W.taken s calls.items answers.items t) solver.new) }
+    ensures answers { IfOk result (λ answers. (s : State) → Represents solver.old s → AreAnswered S.input (story_now s) calls.items answers.items) }
+    ensures few { IfOk result (λ answers. (s : State) → Represents solver.old s →
+        HasFewStepsAlong by_state S.input W.taken s calls.items answers.items) }
     ensures err { OnErr result (solver.new ≡ solver.old) }
 {
     solver.prove_journal();
@@ -134,11 +134,11 @@ pub fn run<W: ProofTarget, S: ByteSource, A: Allocator + Copy>(
 pub fn answers_of<W: ProofTarget, S: ByteSource, A: Allocator + Copy>(
     calls: Vec<Call<W, S, A>, A>,
 ) -> Result<Vec<Answer<W, S, A>, A>, AllocError>
-    requires { AreReady S.stand W.taken calls.items }
-    ensures run { IfOk result (λ answers. (t : State) × Run S.stand W.taken empty_state calls.items answers.items t × HasRightLog t) }
-    ensures answers { IfOk result (λ answers. AreAnswered S.stand empty_story calls.items answers.items) }
-    ensures truth { IfOk result (λ answers. AreTrue S.stand W.taken empty_past calls.items answers.items) }
-    ensures few { IfOk result (λ answers. HasFewStepsAlong by_answers S.stand W.taken empty_past calls.items answers.items) }
+    requires { AreReady S.input W.taken calls.items }
+    ensures run { IfOk result (λ answers. (t : State) × Run S.input W.taken empty_state calls.items answers.items t × HasRightLog t) }
+    ensures answers { IfOk result (λ answers. AreAnswered S.input empty_story calls.items answers.items) }
+    ensures truth { IfOk result (λ answers. AreTrue S.input W.taken empty_past calls.items answers.items) }
+    ensures few { IfOk result (λ answers. HasFewStepsAlong by_answers S.input W.taken empty_past calls.items answers.items) }
 {
     let mut solver: Solver<W, A> = Solver::new_in(*calls.allocator());
     let answers = run(&mut solver, calls);

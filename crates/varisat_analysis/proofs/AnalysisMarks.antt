@@ -6,7 +6,7 @@ use Rattle.varisat_theory.specs.Literals.{Literal, Clause, variable_of, opposite
 use Rattle.varisat_theory.specs.Propagation.{IsFalse}
 use Rattle.varisat_theory.proofs.Members.{equal_or_not, ∈-append_left, ∈-append_right, ∈-append_cases, distinct_append}
 use Rattle.varisat_theory.proofs.Places.{∈-take_more}
-use Rattle.varisat_prop.specs.View.{View, literal_at, node_at, level_of, StandsBefore, WellFormed}
+use Rattle.varisat_prop.specs.View.{View, literal_at, node_at, level_of, IsOnTrailBefore, WellFormed}
 use Rattle.varisat_prop.proofs.LiteralValues.{variable-opposite}
 use Rattle.varisat_prop.proofs.ViewGrowth.{append-nil}
 use Rattle.varisat_prop.proofs.ReadElements.{element, item-∈}
@@ -151,16 +151,16 @@ module _ (s : View) (w : WellFormed s) (m : Literal) (x : Marking) (h : variable
     involved = refl;
   }
     where
-      current-at : (i : ℕ) → StandsBefore s i (opposite m) → i ≤ length s.trail → (k : ℕ) × (k < i) × (k < length s.trail)
+      current-at : (i : ℕ) → IsOnTrailBefore s i (opposite m) → i ≤ length s.trail → (k : ℕ) × (k < i) × (k < length s.trail)
           × ((node_at s k).level ≡ current_level s) × (variable_of (literal_at s k) ≡ variable_of m)
       current-at i (k, a, e) b =
           let p : (node_at s k).level ≡ level_of s (opposite m) = ap (level_of s) e in
           (k, a, omega (arith, a, b), p ∙ level-opposite s m ∙ l, ap variable_of e ∙ variable-opposite m)
 
-      late-place : (i : ℕ) → i ≤ length s.trail → StandsBefore s i (opposite m) → (v : ℕ) → v ≡ variable_of m → IsMarkOf s i seen v
+      late-place : (i : ℕ) → i ≤ length s.trail → IsOnTrailBefore s i (opposite m) → (v : ℕ) → v ≡ variable_of m → IsMarkOf s i seen v
       late-place i o b v e = let (k, p, q, r, u) = current-at i b o in OfCurrentLevel k p (q, r) (u ∙ sym e)
 
-      more-one : (i : ℕ) → i ≤ length s.trail → StandsBefore s i (opposite m) → open_below s g i ≡ open_below s x.flags i + 1
+      more-one : (i : ℕ) → i ≤ length s.trail → IsOnTrailBefore s i (opposite m) → open_below s g i ≡ open_below s x.flags i + 1
       more-one i b a =
           let (k, p, q, r, e) = current-at i a b in
           count-more s x.flags g i k p
@@ -253,7 +253,7 @@ adds-more s lits k m n d x y z l e a b = record {
     front i h o j = h o (take-grow k lits o j)
 
     one : (i : ℕ) → AreFalseBefore s i (take (k + 1) lits) → AreFalseBefore s i (m ∷ [])
-    one i h o j = ⊎_elim (λ g. subst (λ q. StandsBefore s i (opposite q)) (sym g) (h m last)) (λ g. absurd g) j
+    one i h o j = ⊎_elim (λ g. subst (λ q. IsOnTrailBefore s i (opposite q)) (sym g) (h m last)) (λ g. absurd g) j
 
 -- A loop over false literals is at place k, and the literal's variable has a flag.
 pub record IsAt (s : View) (lits : List Literal) (flags : List Bool) (k m : ℕ) : Type 0 where

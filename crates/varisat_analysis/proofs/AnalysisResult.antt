@@ -18,7 +18,7 @@ use Rattle.varisat_prop.specs.View.{View, literal_at, node_of, level_of, is_clau
 use Rattle.varisat_prop.specs.Watches.{IsRearranged}
 use Rattle.varisat_prop.proofs.LongRearranged.{swap-rearranged, swap-at}
 use Rattle.std.specs.List.{swap}
-use Rattle.varisat_analysis.specs.Learned.{current_level, implying_clause, reason_clause, StandsBehind, IsOfConflict, IsLevelOf, IsAsserting, IsOfKept, IsLearned, ListsInvolved}
+use Rattle.varisat_analysis.specs.Learned.{current_level, implying_clause, reason_clause, IsLaterInLevel, IsOfConflict, IsLevelOf, IsAsserting, IsOfKept, IsLearned, ListsInvolved}
 use Rattle.varisat_analysis.specs.Bumps.{literals_among, AreVariablesAbove}
 use Rattle.varisat_analysis.specs.Marks.{Marking, MarksAreListed, IsLower, IsResolved, Minimizes, Teaches}
 use Rattle.varisat_analysis.proofs.WellFormedViews.{named-kept, reason-kept, level-opposite, level-small, fixed-implied}
@@ -74,7 +74,7 @@ has-literal l m s (reason.Long p) h = refl
 
 -- the opposite of a reached literal is one of a kept clause
 reached-of-kept : (s : View) (w : WellFormed s) (cf : Conflict) (k : ℕ) (l : Literal) → NamesKeptClause s cf →
-    Reached (named_in s.clauses cf) (reason_clause s) (StandsBehind s k) l → IsOfKept s (opposite l)
+    Reached (named_in s.clauses cf) (reason_clause s) (IsLaterInLevel s k) l → IsOfKept s (opposite l)
 reached-of-kept s w cf k l n (AtStart h) = let (d, i, same) = named-kept s w cf n in (d, i, same.1 (opposite l) h)
 reached-of-kept s w cf k l n (InReason m r (j, a, c, e) h o) =
     let here : opposite l ∈ implying_clause s (literal_at s j) (node_of s (literal_at s j)).reason = subst (λ x. opposite l ∈ reason_clause s x) (sym e) h in

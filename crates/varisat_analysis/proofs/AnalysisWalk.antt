@@ -14,7 +14,7 @@ use Rattle.varisat_prop.specs.declared.prop.graph.Conflict.{Conflict}
 use Rattle.varisat_prop.specs.declared.prop.graph.Conflict.TheVariants as conflict
 use Rattle.varisat_prop.specs.Changes.{others_of, causes_of, named_in, NamesKeptClause, IsConflicting}
 use Rattle.varisat_prop.proofs.ReadElements.{element}
-use Rattle.varisat_prop.specs.View.{View, clause_at, literal_at, decision_at, node_of, node_at, level_of, is_clause, StandsBefore, Implies, IsReason, WellFormed, ViewFits}
+use Rattle.varisat_prop.specs.View.{View, clause_at, literal_at, decision_at, node_of, node_at, level_of, is_clause, IsOnTrailBefore, Implies, IsReason, WellFormed, ViewFits}
 use Rattle.varisat_prop.proofs.LiteralValues.{variable-opposite}
 use Rattle.varisat_analysis.specs.Flags.{IsFlagged}
 use Rattle.varisat_analysis.specs.Bumps.{literals_among, AreVariablesAbove}
@@ -191,7 +191,7 @@ module _ (s : View) (w : WellFormed s) (cf : Conflict) where
 
   -- a literal that was added is in the clause, or seen, or false at level 0
   passed-literal : (mark : Marking) (i : ℕ) (m : Literal) (held : List Clause) → i ≤ length s.trail → Marks s i mark → ViewFits held s →
-      (0 < level_of s m → IsFlagged mark.flags (variable_of m)) → StandsBefore s i (opposite m) → (m ∈ mark.clause)
+      (0 < level_of s m → IsFlagged mark.flags (variable_of m)) → IsOnTrailBefore s i (opposite m) → (m ∈ mark.clause)
       ⊎ IsPassed held s.trail (Seen s mark.flags) i m
   passed-literal mark i m held l k h a b =
       let ft = stands-∈ s w i (opposite m) l b in
@@ -540,14 +540,14 @@ module _ (s : View) (w : WellFormed s) (cf : Conflict) where
         split : (m : Literal) → m ∈ clause → (m ≡ literal_at s j) ⊎ (m ∈ lits)
         split m i = subst (λ x. (m ≡ literal_at s j) ⊎ (m ∈ x)) (sym (causes-are s (literal_at s j) r)) (split-others clause (first-is s j r c why) m i)
 
-        before-binary : (ms : List Literal) → IsReason s j (reason.Binary ms) → (m : Literal) → m ∈ ms → StandsBefore s j (opposite m)
-        before-binary ms (n, e, a, b) m i = ⊎_elim (λ f. subst (λ x. StandsBefore s j (opposite x)) (sym f) b) (λ z. absurd z) (subst (λ x. m ∈ x) e i)
+        before-binary : (ms : List Literal) → IsReason s j (reason.Binary ms) → (m : Literal) → m ∈ ms → IsOnTrailBefore s j (opposite m)
+        before-binary ms (n, e, a, b) m i = ⊎_elim (λ f. subst (λ x. IsOnTrailBefore s j (opposite x)) (sym f) b) (λ z. absurd z) (subst (λ x. m ∈ x) e i)
 
-        before-others : (x : Clause) → Implies s x j → (m : Literal) → m ∈ others_of x → StandsBefore s j (opposite m)
+        before-others : (x : Clause) → Implies s x j → (m : Literal) → m ∈ others_of x → IsOnTrailBefore s j (opposite m)
         before-others [] q m i = absurd i
         before-others (y ∷ x) q m i = q.1 m i
 
-        before-in : (q : Reason) → IsReason s j q → (m : Literal) → m ∈ causes_of s.clauses q → StandsBefore s j (opposite m)
+        before-in : (q : Reason) → IsReason s j q → (m : Literal) → m ∈ causes_of s.clauses q → IsOnTrailBefore s j (opposite m)
         before-in reason.Unit h m i = absurd i
         before-in (reason.Binary ms) h m i = before-binary ms h m i
         before-in (reason.Long p) h m i = before-others (clause_at s p) h.1 m i
@@ -561,7 +561,7 @@ module _ (s : View) (w : WellFormed s) (cf : Conflict) where
             by [] k = absurd k
             by (x ∷ d) k = inr k
 
-        join : (m : Literal) → m ∈ lits → (m ∈ clause) × StandsBefore s j (opposite m)
+        join : (m : Literal) → m ∈ lits → (m ∈ clause) × IsOnTrailBefore s j (opposite m)
         join m i = (lits-in r (literal_at s j) m i, before-in r why m i)
 
         pub false-before : AreFalseBefore s j lits

@@ -11,7 +11,7 @@ use Rattle.varisat_prop.specs.declared.prop.graph.Reason.{Reason}
 use Rattle.varisat_prop.specs.declared.prop.graph.Reason.TheVariants as reason
 use Rattle.varisat_prop.specs.declared.prop.graph.Conflict.{Conflict}
 use Rattle.varisat_prop.specs.declared.prop.graph.ImplNode.{ImplNode}
-use Rattle.varisat_prop.specs.View.{View, clause_at, literal_at, node_at, level_of, StandsBefore, Implies, IsReason, WellFormed}
+use Rattle.varisat_prop.specs.View.{View, clause_at, literal_at, node_at, level_of, IsOnTrailBefore, Implies, IsReason, WellFormed}
 use Rattle.varisat_prop.specs.Changes.{named_in, IsConflicting}
 use Rattle.varisat_prop.proofs.LiteralValues.{made-inside, variable-opposite}
 use Rattle.varisat_prop.proofs.TrailValues.{trail-short, trail-true, decisions-few}
@@ -61,7 +61,7 @@ module _ (s : View) (w : WellFormed s) where
     clear = λ n. ap (λ xs. get_or xs n false) e ∙ false-all (2 * length s.values) n;
   }
 
-  on-trail : (k : ℕ) (l : Literal) → k < length s.trail → StandsBefore s k l → l ∈ s.trail
+  on-trail : (k : ℕ) (l : Literal) → k < length s.trail → IsOnTrailBefore s k l → l ∈ s.trail
   on-trail k l h (j, i, e) = subst (λ x. x ∈ s.trail) e (∈-get_or s.trail j 0 (omega (arith, h, i)))
 
   implied-assigned : (k : ℕ) (c : Clause) (l : Literal) → k < length s.trail → Implies s c k → l ∈ c → IsAssigned s l

@@ -15,7 +15,7 @@ use Rattle.varisat_prop.specs.declared.prop.graph.Reason.TheVariants as reason
 use Rattle.varisat_prop.specs.declared.prop.graph.ImplNode.{ImplNode}
 use Rattle.varisat_clause.specs.Stored.{StoredClause}
 use Rattle.varisat_prop.specs.Changes.{others_of, causes_of}
-use Rattle.varisat_prop.specs.View.{View, literal_at, decision_at, node_of, node_at, level_of, StandsBefore, IsReason, WellFormed, ViewFits, no_node}
+use Rattle.varisat_prop.specs.View.{View, literal_at, decision_at, node_of, node_at, level_of, IsOnTrailBefore, IsReason, WellFormed, ViewFits, no_node}
 use Rattle.varisat_prop.proofs.LiteralValues.{made-inside}
 use Rattle.varisat_prop.proofs.ReadElements.{element, item-∈}
 use Rattle.varisat_prop.proofs.TrailValues.{trail-true}
@@ -92,10 +92,10 @@ WasPassed s failed i l = (j : ℕ) × (i ≤ j) × (j < length s.trail) × (lite
 pub record CoreWalk (s : View) (failed : Literal) (core : List Literal) (flags : List Bool) (i : ℕ) : Type 0 where
   pub within : i ≤ length s.trail
   -- what is flagged is reached
-  pub flagged : (l : Literal) → IsFlagged flags l → StandsBefore s i l × (0 < level_of s l) × IsReachedFrom s failed l
+  pub flagged : (l : Literal) → IsFlagged flags l → IsOnTrailBefore s i l × (0 < level_of s l) × IsReachedFrom s failed l
   -- the failed literal's opposite is flagged, and what made a reached literal true that was passed
-  pub start : StandsBefore s i (opposite failed) → 0 < level_of s (opposite failed) → IsFlagged flags (opposite failed)
-  pub passed : (j : ℕ) (l : Literal) → i ≤ j → j < length s.trail → IsReachedFrom s failed (literal_at s j) → StandsBefore s i l →
+  pub start : IsOnTrailBefore s i (opposite failed) → 0 < level_of s (opposite failed) → IsFlagged flags (opposite failed)
+  pub passed : (j : ℕ) (l : Literal) → i ≤ j → j < length s.trail → IsReachedFrom s failed (literal_at s j) → IsOnTrailBefore s i l →
       0 < level_of s l → opposite l ∈ reason_clause s (literal_at s j) → IsFlagged flags l
   -- the core has the failed literal and just the reached decisions that were passed
   pub failed_in : failed ∈ core
@@ -113,7 +113,7 @@ cause-in s l (reason.Long p) m h = other-in (implying_clause s l (reason.Long p)
     other-in [] i = absurd i
     other-in (x ∷ c) i = inr i
 
-stands-more : (s : View) (i j : ℕ) (l : Literal) → i ≤ j → StandsBefore s i l → StandsBefore s j l
+stands-more : (s : View) (i j : ℕ) (l : Literal) → i ≤ j → IsOnTrailBefore s i l → IsOnTrailBefore s j l
 stands-more s i j l h (k, a, e) = (k, omega (arith, a, h), e)
 
 module _ (s : View) (w : WellFormed s) (failed : Literal) (false_now : opposite failed ∈ s.trail) where
@@ -138,13 +138,13 @@ module _ (s : View) (w : WellFormed s) (failed : Literal) (false_now : opposite 
       (subst (IsReason s j) r (w.reason_is j h))
 
   -- the places of different literals
-  earlier : (i : ℕ) (l : Literal) → StandsBefore s (suc i) l → l ≢ literal_at s i → StandsBefore s i l
+  earlier : (i : ℕ) (l : Literal) → IsOnTrailBefore s (suc i) l → l ≢ literal_at s i → IsOnTrailBefore s i l
   earlier i l (k, a, e) n = (k, below k i a (λ q. n (sym e ∙ ap (literal_at s) q)), e)
     where
       below : (k i : ℕ) → k < suc i → (k ≡ i → ⊥) → k < i
       below k i a n = grind arith
 
-  other-literal : (i : ℕ) (l : Literal) → i < length s.trail → StandsBefore s i l → l ≢ literal_at s i
+  other-literal : (i : ℕ) (l : Literal) → i < length s.trail → IsOnTrailBefore s i l → l ≢ literal_at s i
   other-literal i l h (k, a, e) q =
       let o = same-place s w k i (omega (arith, a, h)) h (ap variable_of (e ∙ q)) in
       omega (arith, o, a)
@@ -156,23 +156,23 @@ module _ (s : View) (w : WellFormed s) (failed : Literal) (false_now : opposite 
     at-true : literal_at s i ∈ s.trail
     at-true = ∈-get_or s.trail i 0 at
 
-    stands-here : StandsBefore s (suc i) (literal_at s i)
+    stands-here : IsOnTrailBefore s (suc i) (literal_at s i)
     stands-here = (i, omega arith, refl)
 
     -- a reached literal above level 0 is flagged when the walk comes to it
     reached-flagged : (x : Literal) → literal_at s i ≡ x → 0 < level_of s x → IsReachedFrom s failed x → IsFlagged flags x
     reached-flagged x e a (AtStart h) =
         let o : x ≡ opposite failed = sym (opposite_twice x) ∙ ap opposite (⊎_elim (λ q. q) (λ z. absurd z) h) in
-        subst (IsFlagged flags) (sym o) (u.start (subst (StandsBefore s (suc i)) (e ∙ o) stands-here) (subst (λ y. 0 < level_of s y) o a))
+        subst (IsFlagged flags) (sym o) (u.start (subst (IsOnTrailBefore s (suc i)) (e ∙ o) stands-here) (subst (λ y. 0 < level_of s y) o a))
     reached-flagged x e a (InReason y r t o n) =
         let (j, b, g) = place_in y s.trail 0 t in
         let o' : opposite x ∈ reason_clause s (literal_at s j) = subst (λ z. opposite x ∈ reason_clause s z) (sym g) o in
         let (k, d, p) = causes-before s w j x b (subst (λ z. z ∈ s.trail) e at-true) o' in
         let q = same-place s w k i (omega (arith, d, b)) at (ap variable_of (p ∙ sym e)) in
-        u.passed j x (omega (arith, d, q)) b (subst (IsReachedFrom s failed) (sym g) r) (subst (StandsBefore s (suc i)) e stands-here) a o'
+        u.passed j x (omega (arith, d, q)) b (subst (IsReachedFrom s failed) (sym g) r) (subst (IsOnTrailBefore s (suc i)) e stands-here) a o'
 
     -- what the reason of a literal of level 0 makes true is of level 0
-    cause-above : (l : Literal) → StandsBefore s i l → 0 < level_of s l → 0 < (node_at s i).level
+    cause-above : (l : Literal) → IsOnTrailBefore s i l → 0 < level_of s l → 0 < (node_at s i).level
     cause-above l (k, a, e) d = ⊎_elim
         (λ h. h)
         (λ (h : (node_at s i).level ≤ 0).
@@ -252,7 +252,7 @@ module _ (s : View) (w : WellFormed s) (failed : Literal) (false_now : opposite 
           reached : IsReachedFrom s failed (literal_at s i)
           reached = (u.flagged (literal_at s i) m).2
 
-          still-flagged : (l : Literal) → IsFlagged (set flags (literal_at s i) false) l → StandsBefore s i l × (0 < level_of s l) × IsReachedFrom s failed l
+          still-flagged : (l : Literal) → IsFlagged (set flags (literal_at s i) false) l → IsOnTrailBefore s i l × (0 < level_of s l) × IsReachedFrom s failed l
           still-flagged l h = ⊎_elim
               (λ e. absurd (not-flagged (set flags (literal_at s i) false) l
               (subst (λ x. get_or (set flags (literal_at s i) false) x false ≡ false) (sym e)
@@ -260,10 +260,10 @@ module _ (s : View) (w : WellFormed s) (failed : Literal) (false_now : opposite 
               (λ n. let (b, a, r) = u.flagged l (sym (get_or-set_other flags (literal_at s i) l false false n) ∙ h) in (earlier i l b n, a, r))
               (equal_or_not l (literal_at s i))
 
-          keeps : (l : Literal) → StandsBefore s i l → IsFlagged flags l → IsFlagged g l
+          keeps : (l : Literal) → IsOnTrailBefore s i l → IsFlagged flags l → IsFlagged g l
           keeps l b h = c.more l (get_or-set_other flags (literal_at s i) l false false (other-literal i l at b) ∙ h)
 
-          cause-stands : (l : Literal) → opposite l ∈ causes_of s.clauses (node_at s i).reason → StandsBefore s i l
+          cause-stands : (l : Literal) → opposite l ∈ causes_of s.clauses (node_at s i).reason → IsOnTrailBefore s i l
           cause-stands l o =
               causes-before s w i l at (subst (λ x. x ∈ s.trail) (opposite_twice l) (causes-false s w (literal_at s i) at-true (opposite l) o))
               (cause-in s (literal_at s i) (node_at s i).reason (opposite l) o)
@@ -273,7 +273,7 @@ module _ (s : View) (w : WellFormed s) (failed : Literal) (false_now : opposite 
               InReason (literal_at s i) reached at-true (cause-in s (literal_at s i) (node_at s i).reason (opposite l) o)
               (λ e. no-clash s w l (stands-∈ s w i l (omega (arith, at)) (cause-stands l o)) (subst (λ x. x ∈ s.trail) (sym e) at-true))
 
-          new-flag : (l : Literal) → StandsBefore s i l → 0 < level_of s l → opposite l ∈ reason_clause s (literal_at s i) → IsFlagged g l
+          new-flag : (l : Literal) → IsOnTrailBefore s i l → 0 < level_of s l → opposite l ∈ reason_clause s (literal_at s i) → IsFlagged g l
           new-flag l b a q = ⊎_elim
               (λ e. absurd (no-clash s w l (stands-∈ s w i l (omega (arith, at)) b) (subst (λ x. x ∈ s.trail) (sym e) at-true)))
               (λ (o, z). subst (IsFlagged g) (opposite_twice l) (c.all (opposite l) o (let p = level-opposite s l in omega (arith, p, a))))
@@ -348,7 +348,7 @@ module _ (s : View) (w : WellFormed s) (failed : Literal) (false_now : opposite 
     where
       others : (q : Reason) → (node_at s k).reason ≡ q →
           ((o : ℕ) → o < n → o < length s.trail → IsReachedFrom s failed (literal_at s o) → Implied held core (literal_at s o)) → (m : Literal) →
-          m ∈ implying_clause s (literal_at s k) q → StandsBefore s k (opposite m) → Implied held core (opposite m)
+          m ∈ implying_clause s (literal_at s k) q → IsOnTrailBefore s k (opposite m) → Implied held core (opposite m)
       others q e rec m i (o, b, d) =
           let t : opposite m ∈ s.trail = subst (λ x. x ∈ s.trail) d (∈-get_or s.trail o 0 (omega (arith, b, h))) in
           let i' : opposite (opposite m) ∈ reason_clause s (literal_at s k) =

@@ -17,7 +17,7 @@ use Rattle.varisat_clause.specs.Stored.{literals_of, AreReordered}
 use Rattle.varisat_clause.proofs.StoredClauses.{reordered-old}
 use Rattle.varisat_prop.proofs.WellFormedChanges.{stored-kept, kept-here}
 use Rattle.varisat_prop.proofs.KeptPairs.{implied-kept}
-use Rattle.varisat_prop.specs.View.{View, pairs_from, kept, clause_at, literal_at, decision_at, no_node, node_of, node_at, level_of, is_clause, StandsBefore, Implies, IsReason, WellFormed, PropagatedBeforeDecisions, ViewFits}
+use Rattle.varisat_prop.specs.View.{View, pairs_from, kept, clause_at, literal_at, decision_at, no_node, node_of, node_at, level_of, is_clause, IsOnTrailBefore, Implies, IsReason, WellFormed, PropagatedBeforeDecisions, ViewFits}
 use Rattle.varisat_prop.specs.Changes.{NamesClause, NamesPlace, others_of, causes_of, named_in, NamesKeptClause, IsConflicting}
 use Rattle.varisat_prop.proofs.LiteralValues.{same-variable, variable-opposite, made-clash, made-inside}
 use Rattle.varisat_prop.proofs.TrailValues.{trail-true}
@@ -74,10 +74,10 @@ module _ (s : View) (w : WellFormed s) where
       let d' = w.depth_is k b in
       omega (arith, d, d', g)
 
-  pub place-of : (x : Literal) → x ∈ s.trail → StandsBefore s (length s.trail) x
+  pub place-of : (x : Literal) → x ∈ s.trail → IsOnTrailBefore s (length s.trail) x
   place-of x h = let (k, a, e) = place_in x s.trail 0 h in (k, a, e)
 
-  pub stands-∈ : (i : ℕ) (x : Literal) → i ≤ length s.trail → StandsBefore s i x → x ∈ s.trail
+  pub stands-∈ : (i : ℕ) (x : Literal) → i ≤ length s.trail → IsOnTrailBefore s i x → x ∈ s.trail
   stands-∈ i x h (k, a, e) = subst (λ y. y ∈ s.trail) e (∈-get_or s.trail k 0 (omega (arith, a, h)))
 
   -- a literal and its opposite are not both true
@@ -116,25 +116,25 @@ module _ (s : View) (w : WellFormed s) where
 
   -- the other literals of a clause that is a reason stand before the literal
   pub reason-before : (k : ℕ) (r : Reason) (m : Literal) → IsReason s k r → m ∈ implying_clause s (literal_at s k) r → (m ≡ literal_at s k)
-      ⊎ StandsBefore s k (opposite m)
+      ⊎ IsOnTrailBefore s k (opposite m)
   reason-before k reason.Unit m h i = absurd i
   reason-before k (reason.Binary ms) m (n, e, a, b) i = ⊎_elim
       inl
-      (λ j. ⊎_elim (λ f. inr (subst (λ x. StandsBefore s k (opposite x)) (sym f) b)) (λ z. absurd z) (subst (λ x. m ∈ x) e j))
+      (λ j. ⊎_elim (λ f. inr (subst (λ x. IsOnTrailBefore s k (opposite x)) (sym f) b)) (λ z. absurd z) (subst (λ x. m ∈ x) e j))
       i
   reason-before k (reason.Long c) m h i = by (clause_at s c) h.1 i
     where
-      by : (d : Clause) → Implies s d k → m ∈ d → (m ≡ literal_at s k) ⊎ StandsBefore s k (opposite m)
+      by : (d : Clause) → Implies s d k → m ∈ d → (m ≡ literal_at s k) ⊎ IsOnTrailBefore s k (opposite m)
       by [] g j = absurd j
       by (x ∷ d) g (inl e) = inl (e ∙ g.0)
       by (x ∷ d) g (inr j) = inr (g.1 m j)
 
   -- what the reason of the literal at place k makes false stands before it
-  pub causes-before : (k : ℕ) (x : Literal) → k < length s.trail → x ∈ s.trail → opposite x ∈ reason_clause s (literal_at s k) → StandsBefore s k x
+  pub causes-before : (k : ℕ) (x : Literal) → k < length s.trail → x ∈ s.trail → opposite x ∈ reason_clause s (literal_at s k) → IsOnTrailBefore s k x
   causes-before k x h t i =
       ⊎_elim
       (λ e. absurd (no-clash x t (subst (λ y. y ∈ s.trail) (sym e) (∈-get_or s.trail k 0 h))))
-      (λ b. subst (StandsBefore s k) (opposite_twice x) b)
+      (λ b. subst (IsOnTrailBefore s k) (opposite_twice x) b)
       (reason-before k (node_at s k).reason (opposite x) (w.reason_is k h) i)
 
   -- a reason's clause is kept
@@ -156,14 +156,14 @@ module _ (s : View) (w : WellFormed s) where
 
   -- the clause is the literal and what the reason makes false, which is false by literals before it
   pub reason-split : (k : ℕ) (r : Reason) (m : Literal) → IsReason s k r → m ∈ implying_clause s (literal_at s k) r → (m ≡ literal_at s k)
-      ⊎ ((m ∈ causes_of s.clauses r) × StandsBefore s k (opposite m))
+      ⊎ ((m ∈ causes_of s.clauses r) × IsOnTrailBefore s k (opposite m))
   reason-split k reason.Unit m h i = absurd i
   reason-split k (reason.Binary ms) m h (inl e) = inl e
   reason-split k (reason.Binary ms) m (n, e, a, b) (inr i) = inr
-      (i, ⊎_elim (λ f. subst (λ x. StandsBefore s k (opposite x)) (sym f) b) (λ z. absurd z) (subst (λ x. m ∈ x) e i))
+      (i, ⊎_elim (λ f. subst (λ x. IsOnTrailBefore s k (opposite x)) (sym f) b) (λ z. absurd z) (subst (λ x. m ∈ x) e i))
   reason-split k (reason.Long p) m h i = by (clause_at s p) h.1 i
     where
-      by : (d : Clause) → Implies s d k → m ∈ d → (m ≡ literal_at s k) ⊎ ((m ∈ others_of d) × StandsBefore s k (opposite m))
+      by : (d : Clause) → Implies s d k → m ∈ d → (m ≡ literal_at s k) ⊎ ((m ∈ others_of d) × IsOnTrailBefore s k (opposite m))
       by [] g j = absurd j
       by (x ∷ d) g (inl e) = inl (e ∙ g.0)
       by (x ∷ d) g (inr j) = inr (j, g.1 m j)
@@ -229,7 +229,7 @@ module _ (s : View) (w : WellFormed s) where
 
   -- a literal with a kept clause as its reason is implied where the opposites of the clause's others are
   pub implied-by : (held : List Clause) (base : List Literal) → ViewFits held s → (k : ℕ) (r : Reason) → is_clause r ≡ true → IsReason s k r →
-      ((m : Literal) → m ∈ implying_clause s (literal_at s k) r → StandsBefore s k (opposite m) → Implied held base (opposite m)) →
+      ((m : Literal) → m ∈ implying_clause s (literal_at s k) r → IsOnTrailBefore s k (opposite m) → Implied held base (opposite m)) →
       Implied held base (literal_at s k)
   implied-by held base f k r c h g =
       let (x, y, z) = reason-kept k r c h in
@@ -276,13 +276,13 @@ module _ (s : View) (w : WellFormed s) where
       subst (λ y. IsFalse s.trail (causes_of s.clauses (node_of s y).reason)) e
       (λ m i. stands-∈ k (opposite m) (omega (arith, a)) (by k (node_at s k).reason (w.reason_is k a) m i))
     where
-      before : (k : ℕ) (c : Clause) → Implies s c k → (m : Literal) → m ∈ others_of c → StandsBefore s k (opposite m)
+      before : (k : ℕ) (c : Clause) → Implies s c k → (m : Literal) → m ∈ others_of c → IsOnTrailBefore s k (opposite m)
       before k [] q m i = absurd i
       before k (y ∷ c) q m i = q.1 m i
 
-      by : (k : ℕ) (r : Reason) → IsReason s k r → (m : Literal) → m ∈ causes_of s.clauses r → StandsBefore s k (opposite m)
+      by : (k : ℕ) (r : Reason) → IsReason s k r → (m : Literal) → m ∈ causes_of s.clauses r → IsOnTrailBefore s k (opposite m)
       by k reason.Unit q m i = absurd i
-      by k (reason.Binary ms) (n, e, a, b) m i = ⊎_elim (λ f. subst (λ x. StandsBefore s k (opposite x)) (sym f) b) (λ z. absurd z) (subst (λ x. m ∈ x) e i)
+      by k (reason.Binary ms) (n, e, a, b) m i = ⊎_elim (λ f. subst (λ x. IsOnTrailBefore s k (opposite x)) (sym f) b) (λ z. absurd z) (subst (λ x. m ∈ x) e i)
       by k (reason.Long c) q m i = before k (clause_at s c) q.1 m i
 
   pub inside-true : (x : Literal) → x ∈ s.trail → variable_of x < length s.nodes

@@ -59,12 +59,12 @@ abbrev pub reason_clause : View → Literal → Clause
 reason_clause s l = implying_clause s l (node_of s l).reason
 
 -- the literal is one of the current level behind place k
-abbrev pub StandsBehind : View → ℕ → Literal → Type 0
-StandsBehind s k l = (j : ℕ) × (k < j) × IsOfCurrentLevel s j × (literal_at s j ≡ l)
+abbrev pub IsLaterInLevel : View → ℕ → Literal → Type 0
+IsLaterInLevel s k l = (j : ℕ) × (k < j) × IsOfCurrentLevel s j × (literal_at s j ≡ l)
 
 -- From the conflict's clause the literal is reached over reasons of reached literals of the current level behind place k.
 abbrev pub IsReachedDownTo : View → Conflict → ℕ → Literal → Type 0
-IsReachedDownTo s f k l = Reached (named_in s.clauses f) (reason_clause s) (StandsBehind s k) l
+IsReachedDownTo s f k l = Reached (named_in s.clauses f) (reason_clause s) (IsLaterInLevel s k) l
 
 -- The literal at place k is of the current level and is reached, while no earlier one of that level is.
 pub record IsImplicationPoint (s : View) (f : Conflict) (k : ℕ) : Type 0 where

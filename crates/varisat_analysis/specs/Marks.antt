@@ -7,7 +7,7 @@ use Rattle.varisat_prop.specs.declared.prop.graph.Conflict.{Conflict}
 use Rattle.varisat_clause.specs.Stores.{IsSound}
 use Rattle.varisat_clause.specs.Collected.{live_clauses}
 use Rattle.varisat_prop.specs.Changes.{causes_of, IsConflicting}
-use Rattle.varisat_prop.specs.View.{View, literal_at, node_at, node_of, level_of, StandsBefore, WellFormed, PropagatedBeforeDecisions, ViewFits}
+use Rattle.varisat_prop.specs.View.{View, literal_at, node_at, node_of, level_of, IsOnTrailBefore, WellFormed, PropagatedBeforeDecisions, ViewFits}
 use Rattle.varisat_analysis.specs.Flags.{IsFlagged}
 use Rattle.varisat_analysis.specs.Bumps.{literals_among, AreVariablesAbove}
 use Rattle.varisat_analysis.specs.declared.analyze_conflict.Parts.{Parts}
@@ -124,7 +124,7 @@ open_below s flags (suc i) = open_below s flags i + one_if (is_open s flags i)
 
 -- the literals' opposites stand before the place
 abbrev pub AreFalseBefore : View → ℕ → List Literal → Type 0
-AreFalseBefore s i lits = (m : Literal) → m ∈ lits → StandsBefore s i (opposite m)
+AreFalseBefore s i lits = (m : Literal) → m ∈ lits → IsOnTrailBefore s i (opposite m)
 
 -- the literals are those of kept clauses
 abbrev pub AreOfKept : View → List Literal → Type 0

@@ -8,7 +8,7 @@ use Rattle.core.specs.contracts.clone.Clone+copy.TheImpl as copied
 use Rattle.std_heap.specs.contracts.Global as heap
 use Rattle.std_heap.specs.contracts.GlobalAllocator.TheImpl as impl
 use Rattle.varisat_client.specs.Pasts.{Past}
-use Rattle.varisat_client.specs.Clients.{Client, StandsForPast, Moves}
+use Rattle.varisat_client.specs.Clients.{Client, RepresentsPast, Moves}
 use Rattle.varisat_c.specs.Slots.{slot_owns}
 use Rattle.varisat_client.specs.contracts.client.Client as client
 
@@ -31,5 +31,5 @@ MovesHeld R _ _ = ⊥
 
 -- What is told holds of all that the client behind the handle stands for.
 abbrev pub IsTrueBehind : (Past → Type 0) → Option Client → Type 0
-IsTrueBehind P (Some g) = (p : Past) → StandsForPast g p → P p
+IsTrueBehind P (Some g) = (p : Past) → RepresentsPast g p → P p
 IsTrueBehind P None = ⊥

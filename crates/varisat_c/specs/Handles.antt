@@ -9,7 +9,7 @@ use Rattle.std_heap.specs.contracts.Global as heap
 use Rattle.std_heap.specs.contracts.GlobalAllocator.TheImpl as impl
 use Rattle.varisat_theory.specs.Literals.{IsSatisfiableWith}
 use Rattle.varisat_solver.specs.States.{State}
-use Rattle.varisat_solver.specs.Summaries.{StandsFor}
+use Rattle.varisat_solver.specs.Summaries.{Represents}
 use Rattle.varisat_calls.specs.Callers.{Caller}
 use Rattle.varisat_c.specs.Slots.{slot_owns}
 use Rattle.varisat_calls.specs.contracts.caller.Caller as caller
@@ -38,8 +38,8 @@ IsTrueBehind P None = ⊥
 
 -- some assignment satisfies the accepted clauses and makes the assumptions true
 abbrev pub IsSatisfiableNow : Caller → Type 0
-IsSatisfiableNow g = (s : State) → StandsFor g.solver s → IsSatisfiableWith s.clauses s.assumptions
+IsSatisfiableNow g = (s : State) → Represents g.solver s → IsSatisfiableWith s.clauses s.assumptions
 
 -- none does
 abbrev pub IsUnsatisfiableNow : Caller → Type 0
-IsUnsatisfiableNow g = (s : State) → StandsFor g.solver s → IsSatisfiableWith s.clauses s.assumptions → ⊥
+IsUnsatisfiableNow g = (s : State) → Represents g.solver s → IsSatisfiableWith s.clauses s.assumptions → ⊥

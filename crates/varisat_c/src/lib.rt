@@ -3,7 +3,7 @@
 #![tactic(auto)]
 
 ghost use Rattle.std.specs.Prelude.{◌≡◌, ◌↔◌, ◌≤◌, min, length, take, drop, Some, None, IsSome, IsTrue, IfSome};
-ghost use Rattle.varisat_solver.specs.Summaries.{StandsOnce};
+ghost use Rattle.varisat_solver.specs.Summaries.{LeadsRepresented};
 ghost use Rattle.varisat_solver.specs.Calls.{AddsClause, Assumes, ReturnsList, ReturnsSteps, ReturnsValid, by_state};
 ghost use Rattle.varisat_solver.specs.ProofCalls.{EnablesChecking};
 ghost use Rattle.varisat_calls.specs.Codes.{field_numbered, format_numbered, mode_numbered};
@@ -316,7 +316,7 @@ pub extern "C" fn caller_take_written(alloc: Global, handle: &mut Handle) -> usi
 pub extern "C" fn caller_steps(alloc: Global, handle: &mut Handle) -> u64
     requires { IsSome handle.old.held }
     ensures same { handle.new.held ≡ handle.old.held }
-    ensures steps { IsTrueBehind (λ g. StandsOnce g.solver (λ s t. ReturnsSteps s result t) g.solver) handle.old.held }
+    ensures steps { IsTrueBehind (λ g. LeadsRepresented g.solver (λ s t. ReturnsSteps s result t) g.solver) handle.old.held }
 {
     let caller = handle.take(alloc);
     let answer = caller.steps();
@@ -341,7 +341,7 @@ pub extern "C" fn caller_counter(alloc: Global, handle: &mut Handle, number: u8)
 pub extern "C" fn caller_is_valid(alloc: Global, handle: &mut Handle) -> bool
     requires { IsSome handle.old.held }
     ensures same { handle.new.held ≡ handle.old.held }
-    ensures valid { IsTrueBehind (λ g. StandsOnce g.solver (λ s t. ReturnsValid s result t) g.solver) handle.old.held }
+    ensures valid { IsTrueBehind (λ g. LeadsRepresented g.solver (λ s t. ReturnsValid s result t) g.solver) handle.old.held }
 {
     let caller = handle.take(alloc);
     let answer = caller.is_valid();

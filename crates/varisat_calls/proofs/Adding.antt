@@ -2,7 +2,7 @@
 use Rattle.std.proofs.Common.{◌≡◌, ℕ, ℤ, pos, Bool, true, false, Some, None, List, [], ◌∷◌, ◌++◌, refl, sym, ap, subst, ◌∙◌}
 use Rattle.varisat_theory.specs.Literals.{Literal}
 use Rattle.varisat_literals.specs.Numbers.{literal_numbered}
-use Rattle.varisat_solver.specs.Summaries.{StandsOnce}
+use Rattle.varisat_solver.specs.Summaries.{LeadsRepresented}
 use Rattle.varisat_solver.specs.Calls.{AddsClause}
 use Rattle.varisat_calls.specs.Codes.{answer_number}
 use Rattle.varisat_calls.specs.Callers.{Answer, Caller, clause_of, with_clause, AddsNumber, Put, Ended}
@@ -19,10 +19,10 @@ clause-put number g h lost c items other kept given put rest =
 -- the clause is given to the solver
 pub clause-ended : (g mid h : Caller) (n : ℕ) (answer : Answer) (lost : Bool) (c given left : List Literal) → lost ≡ false →
     g.clause ≡ clause_of lost c → given ≡ c → n ≡ answer_number answer → h ≡ mid → left ≡ [] →
-    StandsOnce g.solver (λ s t. AddsClause s given answer t) mid.solver →
+    LeadsRepresented g.solver (λ s t. AddsClause s given answer t) mid.solver →
     mid ≡ record (with_clause (clause_of lost left) g) { solver = mid.solver } → AddsNumber (pos 0) g n h
 clause-ended g mid h n answer lost c given left is held own number same none call rest =
-    let adds = subst (λ ls. StandsOnce g.solver (λ s t. AddsClause s ls answer t) mid.solver) own call in
+    let adds = subst (λ ls. LeadsRepresented g.solver (λ s t. AddsClause s ls answer t) mid.solver) own call in
     let on : Bool → Caller = λ b. record (with_clause (clause_of b left) g) { solver = mid.solver } in
     let with : List Literal → Caller = λ ls. record (with_clause (Some ls) g) { solver = mid.solver } in
     let kept = rest ∙ (ap on is ∙ ap with none) in

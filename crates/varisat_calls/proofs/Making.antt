@@ -12,7 +12,7 @@ use Rattle.varisat_names.specs.declared.config.SolverConfigUpdate.{SolverConfigU
 use Rattle.varisat_names.specs.declared.variables.data.SamplingMode.{SamplingMode}
 use Rattle.varisat_proof.specs.declared.proof.format.ProofFormat.{ProofFormat}
 use Rattle.varisat_solver.specs.States.{State}
-use Rattle.varisat_solver.specs.Summaries.{Summary, StandsFor, StandsOnce}
+use Rattle.varisat_solver.specs.Summaries.{Summary, Represents, LeadsRepresented}
 use Rattle.varisat_solver.specs.Calls.{Solves, Configures, by_state}
 use Rattle.varisat_solver.specs.ClauseCalls.{AddsFormula}
 use Rattle.varisat_solver.specs.ProofCalls.{OpensProof}
@@ -29,27 +29,27 @@ use Rattle.varisat_calls.specs.Texts.{ReadsPiece, AddsClauses, AddsRead, GoesOn,
 
 -- A call was made that left the caller as `mid`, which is kept.
 pub made : {X : Type 0} (R : State → X → State → Type 0) (g mid h : Caller) (answer : X) → h ≡ mid →
-    StandsOnce g.solver (λ s t. R s answer t) mid.solver → mid ≡ record g { solver = mid.solver } → Makes R g answer h
+    LeadsRepresented g.solver (λ s t. R s answer t) mid.solver → mid ≡ record g { solver = mid.solver } → Makes R g answer h
 made R g mid h answer same call rest = subst (λ x. Makes R g answer x) (sym same) (record { call = call; rest = rest })
 
 -- so it was over the literals of the numbers
 pub call-over : (numbers : List ℤ) (lits : List Literal) (R : State → List Literal → Answer → State → Type 0) (g mid h : Caller)
     (n : ℕ) (answer : Answer) → (pos 0 ∈ numbers → ⊥) → lits ≡ map literal_numbered numbers → n ≡ answer_number answer → h ≡ mid →
-    StandsOnce g.solver (λ s t. R s lits answer t) mid.solver → mid ≡ record g { solver = mid.solver } → MakesOver numbers R g n h
+    LeadsRepresented g.solver (λ s t. R s lits answer t) mid.solver → mid ≡ record g { solver = mid.solver } → MakesOver numbers R g n h
 call-over numbers lits R g mid h n answer absent own number same call rest =
     Made absent (
       answer,
       number,
-      made (over numbers R) g mid h answer same (subst (λ ls. StandsOnce g.solver (λ s t. R s ls answer t) mid.solver) own call) rest,
+      made (over numbers R) g mid h answer same (subst (λ ls. LeadsRepresented g.solver (λ s t. R s ls answer t) mid.solver) own call) rest,
     )
 
 -- a setting was set
 pub configured : (field : ConfigField) (value : ℕ) (update : SolverConfigUpdate) (g mid h : Caller) (n : ℕ) (answer : Answer) →
     update ≡ update_of field value → n ≡ answer_number answer → h ≡ mid →
-    StandsOnce g.solver (λ s t. Configures s update answer t) mid.solver → mid ≡ record g { solver = mid.solver } →
+    LeadsRepresented g.solver (λ s t. Configures s update answer t) mid.solver → mid ≡ record g { solver = mid.solver } →
     MakesNumbered (λ s r t. Configures s (update_of field value) r t) g n h
 configured field value update g mid h n answer is number same call rest =
-    let sets = subst (λ u. StandsOnce g.solver (λ s t. Configures s u answer t) mid.solver) is call in
+    let sets = subst (λ u. LeadsRepresented g.solver (λ s t. Configures s u answer t) mid.solver) is call in
     (answer, number, made (λ s r t. Configures s (update_of field value) r t) g mid h answer same sets rest)
 
 -- so was that of the number
@@ -69,7 +69,7 @@ mode-set variable found mode u g mid h n answer is positive named number same ma
 
 -- the list is told that the solver told
 pub list-returned : (R : State → Result (Option (List Literal)) AllocError → State → Type 0) (g h : Caller) (list : List Literal) →
-    StandsOnce g.solver (λ s t. R s (Ok (Some list)) t) h.solver → h.returned ≡ returned_numbers list → h ≡ record g { returned = h.returned } →
+    LeadsRepresented g.solver (λ s t. R s (Ok (Some list)) t) h.solver → h.returned ≡ returned_numbers list → h ≡ record g { returned = h.returned } →
     ReturnsListOf R g 0 h
 list-returned R g h list call returned rest =
     Returned list refl call (rest ∙ ap (λ ts. let made : Caller = record g { returned = ts } in made) returned)
@@ -106,16 +106,16 @@ back-empty f target back (error.Dimacs x) s t o = absurd o
 
 -- a proof opened for the target, which has no bytes
 pub proof-opened : (format : Option ProofFormat) (f : ProofFormat) (target : Taken) (g h : Caller) → format ≡ Some f → target ≡ no_bytes →
-    StandsOnce g.solver (λ s t. OpensProof {W = Taken} (λ w. w) target f s (Ok tt) t) h.solver → h ≡ record g { solver = h.solver } →
+    LeadsRepresented g.solver (λ s t. OpensProof {W = Taken} (λ w. w) target f s (Ok tt) t) h.solver → h ≡ record g { solver = h.solver } →
     Opens format g 0 h
 proof-opened format f target g h is new call rest =
-    let opens = subst (λ w. StandsOnce g.solver (λ s t. OpensProof {W = Taken} (λ w. w) w f s (Ok tt) t) h.solver) new call in
+    let opens = subst (λ w. LeadsRepresented g.solver (λ s t. OpensProof {W = Taken} (λ w. w) w f s (Ok tt) t) h.solver) new call in
     Opened f is refl (record { call = opens; rest = rest })
 
 -- or it was refused
 pub proof-refused : (format : Option ProofFormat) (f : ProofFormat) (target back : Taken) (e : SolverError) (g mid h : Caller) (n : ℕ) →
     format ≡ Some f → n ≡ refusal_number e → h ≡ mid →
-    StandsOnce g.solver (λ s t. OpensProof {W = Taken} (λ w. w) target f s (Err (e, back)) t) mid.solver →
+    LeadsRepresented g.solver (λ s t. OpensProof {W = Taken} (λ w. w) target f s (Err (e, back)) t) mid.solver →
     mid ≡ record g { solver = mid.solver } → Opens format g n h
 proof-refused format f target back e g mid h n is number same call rest =
     Refused f e is number (made (opening f) g mid h (Err (e, no_bytes)) same
@@ -125,10 +125,10 @@ proof-refused format f target back e g mid h n is number same call rest =
 
 -- clauses were added that were read
 pub clauses-added : (read : Progress) (clauses : List Clause) (answer : Answer) (g h : Caller) → clauses ≡ read.reading.clauses →
-    StandsOnce g.solver (λ s t. AddsFormula s clauses answer t) h.solver → h ≡ record g { solver = h.solver } →
+    LeadsRepresented g.solver (λ s t. AddsFormula s clauses answer t) h.solver → h ≡ record g { solver = h.solver } →
     AddsClauses read answer g.text g h
 clauses-added read clauses answer g h own call rest =
-    record { call = subst (λ cs. StandsOnce g.solver (λ s t. AddsFormula s cs answer t) h.solver) own call; rest = rest }
+    record { call = subst (λ cs. LeadsRepresented g.solver (λ s t. AddsFormula s cs answer t) h.solver) own call; rest = rest }
 
 -- what a caller read behind its text
 pub read-behind : (piece : List ℕ) (begun from read : Progress) → begun ≡ from → ReadsPiece begun piece read → ReadsPiece from piece read
@@ -141,7 +141,7 @@ text-taken read answer g mid last h taken adds same =
     let kept : Caller → Caller = λ x. record x { solver = last.solver } in
     subst (λ x. AddsClauses read answer None g x) (sym same)
     (record {
-      call = subst (λ x. StandsOnce x (λ s t. AddsFormula s read.reading.clauses answer t) last.solver) (ap (λ x. x.solver) taken) adds.call;
+      call = subst (λ x. LeadsRepresented x (λ s t. AddsFormula s read.reading.clauses answer t) last.solver) (ap (λ x. x.solver) taken) adds.call;
       rest = adds.rest ∙ ap kept taken;
     })
 
@@ -159,7 +159,7 @@ text-goes-on read left g mid last h taken adds fine behind rest =
 -- 5. Searches.
 
 -- `solve` is never refused by the number of an answer
-pub never-ten : (g h : Summary) (e : SolverError) → refusal_number e ≡ 10 → StandsOnce g (λ s t. Solves by_state s (Err e) t) h → (s : State) → StandsFor g s → ⊥
+pub never-ten : (g h : Summary) (e : SolverError) → refusal_number e ≡ 10 → LeadsRepresented g (λ s t. Solves by_state s (Err e) t) h → (s : State) → Represents g s → ⊥
 never-ten g h error.Interrupted n call s st = absurd cc
 never-ten g h (error.ProofIoError x) n call s st = absurd cc
 never-ten g h error.OutOfMemory n call s st = absurd cc

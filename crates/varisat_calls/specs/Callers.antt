@@ -13,7 +13,7 @@ use Rattle.varisat_names.specs.declared.config.ConfigField.{ConfigField}
 use Rattle.varisat_names.specs.declared.variables.data.SamplingMode.{SamplingMode}
 use Rattle.varisat_proof.specs.declared.proof.format.ProofFormat.{ProofFormat}
 use Rattle.varisat_solver.specs.States.{State, empty_state}
-use Rattle.varisat_solver.specs.Summaries.{Summary, StandsFor, StandsOnce}
+use Rattle.varisat_solver.specs.Summaries.{Summary, Represents, LeadsRepresented}
 use Rattle.varisat_solver.specs.Refusals.{refusal_number}
 use Rattle.varisat_solver.specs.Calls.{AddsClause, Solves, Configures, MakesVar, with_max_steps, by_state}
 use Rattle.varisat_solver.specs.Usage.{ChangesMode, Observes}
@@ -37,7 +37,7 @@ clause_of false c = Some c
 
 -- a caller of a new solver, to which nothing was told yet
 pub record IsNew (g : Caller) : Type 0 where
-  pub solver : StandsFor g.solver empty_state
+  pub solver : Represents g.solver empty_state
   pub clause : g.clause ≡ Some []
   pub returned : g.returned ≡ []
   pub text : g.text ≡ None
@@ -48,7 +48,7 @@ Answer = Result (Unit {0}) SolverError
 
 -- The solver made the call, which had this answer; nothing else changed.
 pub record Makes {X : Type 0} (R : State → X → State → Type 0) (g : Caller) (answer : X) (h : Caller) : Type 0 where
-  pub call : StandsOnce g.solver (λ s t. R s answer t) h.solver
+  pub call : LeadsRepresented g.solver (λ s t. R s answer t) h.solver
   pub rest : h ≡ record g { solver = h.solver }
 
 -- The solver made the call, whose answer has this number.
@@ -86,7 +86,7 @@ pub data AddsNumber (number : ℤ) (g : Caller) (n : ℕ) (h : Caller) : Type 0 
 
 -- A call of `solve` may make so many steps. The steps since the last change are counted on.
 pub record LimitsSteps (steps : ℕ) (g h : Caller) : Type 0 where
-  pub call : StandsOnce g.solver (λ s t. t ≡ with_max_steps steps s) h.solver
+  pub call : LeadsRepresented g.solver (λ s t. t ≡ with_max_steps steps s) h.solver
   pub rest : h ≡ record g { solver = h.solver }
 
 -- the solver searched
@@ -115,14 +115,14 @@ pub data SetsMode (variable : ℤ) (mode : Option SamplingMode) (g : Caller) (n 
 -- The list is told that the solver tells, if it does. It is 3 where there was no room for the list, and then another one may be told.
 pub data ReturnsListOf (R : State → Result (Option (List Literal)) AllocError → State → Type 0) (g : Caller)
     (n : ℕ) (h : Caller) : Type 0 where
-  Returned : (list : List Literal) → n ≡ 0 → StandsOnce g.solver (λ s t. R s (Ok (Some list)) t) h.solver →
+  Returned : (list : List Literal) → n ≡ 0 → LeadsRepresented g.solver (λ s t. R s (Ok (Some list)) t) h.solver →
       h ≡ record g { returned = returned_numbers list } → ReturnsListOf R g n h
-  Nothing : n ≡ 15 → StandsOnce g.solver (λ s t. R s (Ok None) t) h.solver → h ≡ g → ReturnsListOf R g n h
+  Nothing : n ≡ 15 → LeadsRepresented g.solver (λ s t. R s (Ok None) t) h.solver → h ≡ g → ReturnsListOf R g n h
   NoRoom : n ≡ 3 → h ≡ record g { returned = h.returned } → ReturnsListOf R g n h
 
 -- hidden variables come back under these names
 abbrev pub ShowsNames : List ℕ → Caller → Caller → Type 0
-ShowsNames us g h = StandsOnce g.solver (λ s t. Observes s (Ok us) t) h.solver
+ShowsNames us g h = LeadsRepresented g.solver (λ s t. Observes s (Ok us) t) h.solver
 
 -- Hidden variables come back, and their names are told, or there is no room for that; or the call is refused.
 pub data Shows (g : Caller) (n : ℕ) (h : Caller) : Type 0 where

@@ -6,7 +6,7 @@ use Rattle.varisat_theory.specs.Literals.{Literal, opposite}
 use Rattle.varisat_literals.specs.Numbers.{literal_numbered}
 use Rattle.varisat_client.specs.LiteralSets.{Has, IsSetOf}
 use Rattle.varisat_solver.specs.States.{State}
-use Rattle.varisat_solver.specs.Summaries.{Summary, StandsOnce}
+use Rattle.varisat_solver.specs.Summaries.{Summary, LeadsRepresented}
 use Rattle.varisat_solver.specs.Calls.{ReturnsList, by_state}
 use Rattle.varisat_calls.specs.Callers.{Caller, IsWrong}
 use Rattle.varisat_calls.specs.declared.lookups.Kept.{Kept}
@@ -21,17 +21,17 @@ TellsCore s r t = ReturnsList (by_state.core s) s r t
 
 -- the list is the one that `model` tells, or there is none
 abbrev pub IsModel : Summary → List Literal → Type 0
-IsModel g m = StandsOnce g (λ s t. TellsModel s (Ok (Some m)) t) g
+IsModel g m = LeadsRepresented g (λ s t. TellsModel s (Ok (Some m)) t) g
 
 abbrev pub HasNoModel : Summary → Type 0
-HasNoModel g = StandsOnce g (λ s t. TellsModel s (Ok None) t) g
+HasNoModel g = LeadsRepresented g (λ s t. TellsModel s (Ok None) t) g
 
 -- the list is the one that `failed_core` tells, or there is none
 abbrev pub IsCore : Summary → List Literal → Type 0
-IsCore g m = StandsOnce g (λ s t. TellsCore s (Ok (Some m)) t) g
+IsCore g m = LeadsRepresented g (λ s t. TellsCore s (Ok (Some m)) t) g
 
 abbrev pub HasNoCore : Summary → Type 0
-HasNoCore g = StandsOnce g (λ s t. TellsCore s (Ok None) t) g
+HasNoCore g = LeadsRepresented g (λ s t. TellsCore s (Ok None) t) g
 
 -- which list has its literals kept, and these as a set
 pub record Lookups : Type 0 where

@@ -6,7 +6,7 @@ use Rattle.varisat_formula.specs.Dimacs.{dimacs}
 use Rattle.varisat_formula.specs.Rest.{Progress, begin, AdvancesBy, RunsOutIn, IsEnding}
 use Rattle.varisat_solver.specs.ClauseCalls.{AddsFormula}
 use Rattle.varisat_solver.specs.Refusals.{refusal_number}
-use Rattle.varisat_solver.specs.Summaries.{StandsOnce}
+use Rattle.varisat_solver.specs.Summaries.{LeadsRepresented}
 use Rattle.varisat_solver.specs.declared.solver.SolverError.{SolverError}
 use Rattle.varisat_calls.specs.Callers.{Answer, Caller}
 
@@ -25,7 +25,7 @@ ReadsPiece p piece q = AdvancesBy p piece q ⊎ RunsOutIn p piece q
 
 -- The clauses that were read are added, which had this answer, and this text is being given then; nothing else changed.
 pub record AddsClauses (read : Progress) (answer : Answer) (text : Option Progress) (g h : Caller) : Type 0 where
-  pub call : StandsOnce g.solver (λ s t. AddsFormula s read.reading.clauses answer t) h.solver
+  pub call : LeadsRepresented g.solver (λ s t. AddsFormula s read.reading.clauses answer t) h.solver
   pub rest : h ≡ record g { solver = h.solver; text = text }
 
 -- The clauses that ended are added, and then the text goes on, or its fault is told. A text that is refused is over.

@@ -67,7 +67,7 @@ impl<A: Allocator + Copy> Model for Caller<A> {
 impl<A: Allocator + Copy> Caller<A> {
     ghost use Rattle.std.specs.Prelude.{Ok, Err};
     ghost use Rattle.varisat_solver.specs.States.{State};
-    ghost use Rattle.varisat_solver.specs.Summaries.{StandsFor, StandsOnce};
+    ghost use Rattle.varisat_solver.specs.Summaries.{Represents, LeadsRepresented};
     ghost use Rattle.varisat_solver.specs.Calls.{AddsClause, Assumes, ReturnsList, ReturnsSteps, ReturnsValid, by_state};
     ghost use Rattle.varisat_solver.specs.ProofCalls.{EnablesChecking};
     ghost use Rattle.varisat_solver.specs.Usage.{ChangesMode};
@@ -194,9 +194,9 @@ impl<A: Allocator + Copy> Caller<A> {
     pub fn solve(&mut self) -> u8
         ensures call { Searches self.old result self.new }
         ensures satisfiable { result ≡ 10 →
-            (s : State) → StandsFor self.old.solver s → IsSatisfiableWith s.clauses s.assumptions }
+            (s : State) → Represents self.old.solver s → IsSatisfiableWith s.clauses s.assumptions }
         ensures unsatisfiable { result ≡ 20 →
-            (s : State) → StandsFor self.old.solver s → IsSatisfiableWith s.clauses s.assumptions → ⊥ }
+            (s : State) → Represents self.old.solver s → IsSatisfiableWith s.clauses s.assumptions → ⊥ }
     {
         self.lookups.forget();
         match self.solver.solve() {
@@ -334,7 +334,7 @@ impl<A: Allocator + Copy> Caller<A> {
 
     /// All steps made.
     pub fn steps(&self) -> u64
-        ensures { StandsOnce self.now.solver (λ s t. ReturnsSteps s result t) self.now.solver }
+        ensures { LeadsRepresented self.now.solver (λ s t. ReturnsSteps s result t) self.now.solver }
     {
         self.solver.steps()
     }
@@ -356,7 +356,7 @@ impl<A: Allocator + Copy> Caller<A> {
 
     /// Whether no refusal came from which there is no way back.
     pub fn is_valid(&self) -> bool
-        ensures { StandsOnce self.now.solver (λ s t. ReturnsValid s result t) self.now.solver }
+        ensures { LeadsRepresented self.now.solver (λ s t. ReturnsValid s result t) self.now.solver }
     {
         self.solver.is_valid()
     }

@@ -16,7 +16,7 @@ use Rattle.varisat.proofs.NameLaws.{none-in-order}
 use Rattle.varisat_solver.specs.Calls.{AddsClause, Assumes, Solves, Configures, by_state}
 use Rattle.varisat_solver.specs.declared.solver.SolverError.{SolverError}
 use Rattle.varisat_solver.specs.declared.solver.SolverError.TheVariants as error
-use Rattle.varisat_solver.specs.Summaries.{Summary, StandsFor, HasFullStore}
+use Rattle.varisat_solver.specs.Summaries.{Summary, Represents, HasFullStore}
 use Rattle.varisat_client.specs.declared.client.SearchEnd.{SearchEnd}
 use Rattle.varisat_client.specs.declared.client.SearchEnd.TheVariants as end
 use Rattle.varisat_client.specs.declared.refusal.Refusal.{Refusal}
@@ -25,7 +25,7 @@ use Rattle.varisat_client.specs.Refusals.{refusal_for}
 use Rattle.varisat_client.specs.LiteralSets.{Has, IsSetOf}
 use Rattle.varisat_client.specs.Pasts.{Past, empty_past, refuse, count, Again, Memory, AddsNumber, AssumesNumber, Begins, LimitsSteps, IsSearchEnd, ReturnsFailed}
 use Rattle.varisat_client.specs.Pasts as past
-use Rattle.varisat_client.specs.Clients.{Client, HoldsPast, StandsForPast, Moves, KeepsModel, KeepsCore}
+use Rattle.varisat_client.specs.Clients.{Client, HoldsPast, RepresentsPast, Moves, KeepsModel, KeepsCore}
 use Rattle.varisat_client.specs.Clients as client
 use Rattle.varisat_client.proofs.Fitting as fitting
 use Rattle.varisat_client.proofs.Refusing.{is-full, clause-refused, list-refused, list-stored, search-refused, never-refused}
@@ -33,12 +33,12 @@ use Rattle.varisat_client.proofs.Refusing.{is-full, clause-refused, list-refused
 -- 1. A new client.
 
 -- what a client stands for that refused no call
-stands-free : (g : Client) (p : Past) → g.refusal ≡ p.refusal → p.refusal ≡ None → HoldsPast g p → StandsForPast g p
+stands-free : (g : Client) (p : Past) → g.refusal ≡ p.refusal → p.refusal ≡ None → HoldsPast g p → RepresentsPast g p
 stands-free g p e free k = record { refusal = e; full = λ f. absurd (let z : None ≡ Some ClauseStoreFull = sym free ∙ f in cc); holds = λ _. k }
 
 -- nothing was given yet
-pub is-new : (g : Client) → g.refusal ≡ None → StandsFor g.solver (configured false None) → g.clause ≡ [] → g.assumptions ≡ [] → IsSetOf [] g.model → IsSetOf [] g.core →
-    StandsForPast g empty_past
+pub is-new : (g : Client) → g.refusal ≡ None → Represents g.solver (configured false None) → g.clause ≡ [] → g.assumptions ≡ [] → IsSetOf [] g.model → IsSetOf [] g.core →
+    RepresentsPast g empty_past
 is-new g r s c a m k = stands-free g empty_past r refl (record {
   state = configured false None;
   stands = s;
@@ -66,11 +66,11 @@ is-new g r s c a m k = stands-free g empty_past r refl (record {
 -- 2. Refusals.
 
 -- no call was refused
-pub not-refused : (g : Client) (p : Past) → StandsForPast g p → is_some g.refusal ≡ false → p.refusal ≡ None
+pub not-refused : (g : Client) (p : Past) → RepresentsPast g p → is_some g.refusal ≡ false → p.refusal ≡ None
 not-refused g p st e = is_none-none p.refusal (ap is_some (sym st.refusal) ∙ e)
 
 -- one was
-pub was-refused : (g : Client) (p : Past) → StandsForPast g p → is_some g.refusal ≡ true → p.refusal ≢ None
+pub was-refused : (g : Client) (p : Past) → RepresentsPast g p → is_some g.refusal ≡ true → p.refusal ≢ None
 was-refused g p st e n = let z : true ≡ false = sym e ∙ ap is_some (st.refusal ∙ n) in cc
 
 -- each call is refused once one was
@@ -79,7 +79,7 @@ stays-refused R g e f p st = (p, f p (was-refused g p st e), st)
 
 -- the first call that is refused
 refused-now : (R : Past → Past → Type 0) (g h : Client) (why : Refusal) → is_some g.refusal ≡ false → h.refusal ≡ Some why →
-    ((p : Past) → StandsForPast g p → p.refusal ≡ None → R p (refuse why p) × (why ≡ ClauseStoreFull → HasFullStore h.solver)) → Moves R g h
+    ((p : Past) → RepresentsPast g p → p.refusal ≡ None → R p (refuse why p) × (why ≡ ClauseStoreFull → HasFullStore h.solver)) → Moves R g h
 refused-now R g h why e f r p st =
     let (moves, full) = r p st (not-refused g p st e) in (
       refuse why p,
@@ -115,7 +115,7 @@ add-stays n g e = stays-refused (AddsNumber n) g e (λ p r. at n p r)
 
 -- a clause that is not taken
 pub end-refused : (n : ℤ) (g h : Client) (d : List Literal) (e : SolverError) → n ≡ pos 0 → is_some g.refusal ≡ false → d ≡ g.clause →
-    ((s : State) → StandsFor g.solver s → (t : State) × AddsClause s d (Err e) t × StandsFor h.solver t) →
+    ((s : State) → Represents g.solver s → (t : State) × AddsClause s d (Err e) t × Represents h.solver t) →
     (e ≡ error.ClauseStoreFull → HasFullStore h.solver) → h.refusal ≡ Some (refusal_for e) → Moves (AddsNumber n) g h
 end-refused n g h d e z free own call full why = refused-now (AddsNumber n) g h (refusal_for e) free why (λ p st r.
     let k = st.holds r in
@@ -126,7 +126,7 @@ end-refused n g h d e z free own call full why = refused-now (AddsNumber n) g h 
 
 -- assumptions that are not
 pub begin-refused : (g h : Client) (d : List Literal) (e : SolverError) → is_some g.refusal ≡ false → d ≡ g.assumptions →
-    ((s : State) → StandsFor g.solver s → (t : State) × Assumes s d (Err e) t × StandsFor h.solver t) → h.refusal ≡ Some (refusal_for e) → Moves Begins g h
+    ((s : State) → Represents g.solver s → (t : State) × Assumes s d (Err e) t × Represents h.solver t) → h.refusal ≡ Some (refusal_for e) → Moves Begins g h
 begin-refused g h d e free own call why = refused-now Begins g h (refusal_for e) free why (λ p st r.
     let k = st.holds r in
     let (t, assumes, stands) = call k.state k.stands in (
@@ -136,7 +136,7 @@ begin-refused g h d e free own call why = refused-now Begins g h (refusal_for e)
 
 -- a search
 pub search-fails : (g h : Client) (e : SolverError) → is_some g.refusal ≡ false →
-    ((s : State) → StandsFor g.solver s → (t : State) × Solves by_state s (Err e) t × StandsFor h.solver t) →
+    ((s : State) → Represents g.solver s → (t : State) × Solves by_state s (Err e) t × Represents h.solver t) →
     (e ≡ error.ClauseStoreFull → HasFullStore h.solver) → h.refusal ≡ Some (refusal_for e) → Moves (IsSearchEnd end.Refused) g h
 search-fails g h e free call full why = refused-now (IsSearchEnd end.Refused) g h (refusal_for e) free why (λ p st r.
     let k = st.holds r in
@@ -156,7 +156,7 @@ put-literal n g h z e put q p st =
       past.Put z r refl,
       stands-free h to (ap (λ (x : Client). x.refusal) q ∙ st.refusal) r (record {
         state = k.state;
-        stands = subst (λ (x : Client). StandsFor x.solver k.state) (sym q) k.stands;
+        stands = subst (λ (x : Client). Represents x.solver k.state) (sym q) k.stands;
         fits = k.fits;
         counted = k.counted;
         clause = put ∙ ap (λ (ls : List Literal). ls ++ literal_numbered n ∷ []) k.clause;
@@ -177,7 +177,7 @@ put-assumption n g h z e put q p st =
       past.Put z r refl,
       stands-free h to (ap (λ (x : Client). x.refusal) q ∙ st.refusal) r (record {
         state = k.state;
-        stands = subst (λ (x : Client). StandsFor x.solver k.state) (sym q) k.stands;
+        stands = subst (λ (x : Client). Represents x.solver k.state) (sym q) k.stands;
         fits = k.fits;
         counted = k.counted;
         clause = ap (λ (x : Client). x.clause) q ∙ k.clause;
@@ -195,7 +195,7 @@ put-nothing n g e p st = (p, past.Nothing e refl, st)
 
 -- the clause ends
 pub ends-clause : (n : ℤ) (g h : Client) (d : List Literal) → n ≡ pos 0 → is_some g.refusal ≡ false → d ≡ g.clause →
-    ((s : State) → StandsFor g.solver s → (t : State) × AddsClause s d (Ok tt) t × StandsFor h.solver t) → h.clause ≡ [] →
+    ((s : State) → Represents g.solver s → (t : State) × AddsClause s d (Ok tt) t × Represents h.solver t) → h.clause ≡ [] →
     h ≡ record g { solver = h.solver; clause = h.clause } → Moves (AddsNumber n) g h
 ends-clause n g h d z e own call none q p st =
     let r = not-refused g p st e in
@@ -218,7 +218,7 @@ ends-clause n g h d z e own call none q p st =
 
 -- a search begins
 pub begins-search : (g h : Client) (d : List Literal) → is_some g.refusal ≡ false → d ≡ g.assumptions →
-    ((s : State) → StandsFor g.solver s → (t : State) × Assumes s d (Ok tt) t × StandsFor h.solver t) → h.assumptions ≡ [] →
+    ((s : State) → Represents g.solver s → (t : State) × Assumes s d (Ok tt) t × Represents h.solver t) → h.assumptions ≡ [] →
     h ≡ record g { solver = h.solver; assumptions = h.assumptions } → Moves Begins g h
 begins-search g h d e own call none q p st =
     let r = not-refused g p st e in
@@ -241,7 +241,7 @@ begins-search g h d e own call none q p st =
 
 -- so many steps in one call
 pub limits-steps : (steps : ℕ) (u : SolverConfigUpdate) (g h : Client) → is_some g.refusal ≡ false → u ≡ update_of MaxSteps steps →
-    ((s : State) → StandsFor g.solver s → (t : State) × Configures s u (Ok tt) t × StandsFor h.solver t) → h ≡ record g { solver = h.solver } →
+    ((s : State) → Represents g.solver s → (t : State) × Configures s u (Ok tt) t × Represents h.solver t) → h ≡ record g { solver = h.solver } →
     Moves (LimitsSteps steps) g h
 limits-steps steps u g h e given call q p st =
     let r = not-refused g p st e in
@@ -264,7 +264,7 @@ limits-steps steps u g h e given call q p st =
 
 -- which is never refused
 pub limit-refused : (steps : ℕ) (u : SolverConfigUpdate) (g h : Client) (after : Summary) (e : SolverError) → is_some g.refusal ≡ false →
-    u ≡ update_of MaxSteps steps → ((s : State) → StandsFor g.solver s → (t : State) × Configures s u (Err e) t × StandsFor after t) →
+    u ≡ update_of MaxSteps steps → ((s : State) → Represents g.solver s → (t : State) × Configures s u (Err e) t × Represents after t) →
     Moves (LimitsSteps steps) g h
 limit-refused steps u g h after e free given call p st =
     let k = st.holds (not-refused g p st free) in
@@ -275,7 +275,7 @@ limit-refused steps u g h after e free given call p st =
 
 -- a search that found a model
 pub finds-model : (r : SearchEnd) (g m h : Client) → is_some g.refusal ≡ false → m ≡ record g { solver = m.solver } →
-    ((s : State) → StandsFor g.solver s → (t : State) × Solves by_state s (Ok true) t × StandsFor m.solver t) → KeepsModel r m h → Moves (IsSearchEnd r) g h
+    ((s : State) → Represents g.solver s → (t : State) × Solves by_state s (Ok true) t × Represents m.solver t) → KeepsModel r m h → Moves (IsSearchEnd r) g h
 finds-model r g m h e q call (client.Refused x) = runs-out (IsSearchEnd r) g h e x.refusal (λ p free. past.Refused x.answer (Memory free refl))
 finds-model r g m h e q call (client.Kept list found tells set o) = λ p st.
     let free = not-refused g p st e in
@@ -288,7 +288,7 @@ finds-model r g m h e q call (client.Kept list found tells set o) = λ p st.
           (fitting.decided-few k.state t true p.counted p.steps solves k.counted k.fits.steps) refl,
       stands-free h to (ap (λ (x : Client). x.refusal) o ∙ ap (λ (x : Client). x.refusal) q ∙ st.refusal) free (record {
         state = t;
-        stands = subst (λ (x : Client). StandsFor x.solver t) (sym o) stands;
+        stands = subst (λ (x : Client). Represents x.solver t) (sym o) stands;
         fits = fits;
         counted = fitting.counts-same k.state t p.counted (same-counted solves.rest) k.counted;
         clause = ap (λ (x : Client). x.clause) o ∙ ap (λ (x : Client). x.clause) q ∙ k.clause;
@@ -300,7 +300,7 @@ finds-model r g m h e q call (client.Kept list found tells set o) = λ p st.
 
 -- a search that found that there is none
 pub finds-core : (r : SearchEnd) (g m h : Client) → is_some g.refusal ≡ false → m ≡ record g { solver = m.solver } →
-    ((s : State) → StandsFor g.solver s → (t : State) × Solves by_state s (Ok false) t × StandsFor m.solver t) → KeepsCore r m h → Moves (IsSearchEnd r) g h
+    ((s : State) → Represents g.solver s → (t : State) × Solves by_state s (Ok false) t × Represents m.solver t) → KeepsCore r m h → Moves (IsSearchEnd r) g h
 finds-core r g m h e q call (client.Refused x) = runs-out (IsSearchEnd r) g h e x.refusal (λ p free. past.Refused x.answer (Memory free refl))
 finds-core r g m h e q call (client.Kept core found tells set o) = λ p st.
     let free = not-refused g p st e in
@@ -314,7 +314,7 @@ finds-core r g m h e q call (client.Kept core found tells set o) = λ p st.
           (fitting.decided-few k.state t false p.counted p.steps solves k.counted k.fits.steps) refl,
       stands-free h to (ap (λ (x : Client). x.refusal) o ∙ ap (λ (x : Client). x.refusal) q ∙ st.refusal) free (record {
         state = t;
-        stands = subst (λ (x : Client). StandsFor x.solver t) (sym o) stands;
+        stands = subst (λ (x : Client). Represents x.solver t) (sym o) stands;
         fits = fits;
         counted = fitting.counts-same k.state t p.counted (same-counted solves.rest) k.counted;
         clause = ap (λ (x : Client). x.clause) o ∙ ap (λ (x : Client). x.clause) q ∙ k.clause;
@@ -326,7 +326,7 @@ finds-core r g m h e q call (client.Kept core found tells set o) = λ p st.
 
 -- a search whose steps are spent
 pub spends-steps : (g h : Client) → is_some g.refusal ≡ false → h ≡ record g { solver = h.solver } →
-    ((s : State) → StandsFor g.solver s → (t : State) × Solves by_state s (Err error.Interrupted) t × StandsFor h.solver t) →
+    ((s : State) → Represents g.solver s → (t : State) × Solves by_state s (Err error.Interrupted) t × Represents h.solver t) →
     Moves (IsSearchEnd end.Interrupted) g h
 spends-steps g h e q call p st =
     let free = not-refused g p st e in
@@ -351,11 +351,11 @@ spends-steps g h e q call p st =
 -- 6. What is asked of the last model and the last core.
 
 -- whether a literal is in the model
-pub in-model : (g : Client) (p : Past) (l k : Literal) → StandsForPast g p → is_some g.refusal ≡ false → l ≡ k → Has g.model l ↔ (k ∈ p.model)
+pub in-model : (g : Client) (p : Past) (l k : Literal) → RepresentsPast g p → is_some g.refusal ≡ false → l ≡ k → Has g.model l ↔ (k ∈ p.model)
 in-model g p l k st e q = subst (λ x. Has g.model l ↔ (x ∈ p.model)) q ((st.holds (not-refused g p st e)).model l)
 
 -- or in the core
-pub tells-failed : (n : ℤ) (b : Bool) (g : Client) (p : Past) (l : Literal) → n ≢ pos 0 → StandsForPast g p → is_some g.refusal ≡ false →
+pub tells-failed : (n : ℤ) (b : Bool) (g : Client) (p : Past) (l : Literal) → n ≢ pos 0 → RepresentsPast g p → is_some g.refusal ≡ false →
     l ≡ literal_numbered n →
     IsTrue b ↔ Has g.core l → ReturnsFailed n b p
 tells-failed n true g p l z st e q (f, h) =

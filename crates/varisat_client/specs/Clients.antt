@@ -6,7 +6,7 @@ use Rattle.varisat_literals.specs.Numbers.{variable_limit}
 use Rattle.varisat_solver.specs.States.{State, Unsat}
 use Rattle.varisat_solver.specs.Names.{through_names, AreInOrder}
 use Rattle.varisat_solver.specs.Models.{IsCompletable, AreNamesInUse}
-use Rattle.varisat_solver.specs.Summaries.{Summary, StandsFor, HasFullStore}
+use Rattle.varisat_solver.specs.Summaries.{Summary, Represents, HasFullStore}
 use Rattle.varisat_client.specs.LiteralSets.{IsSetOf}
 use Rattle.varisat_client.specs.Pasts.{Past}
 use Rattle.varisat_client.specs.declared.client.SearchEnd.{SearchEnd}
@@ -49,7 +49,7 @@ pub record CountsAmong (s : State) (known : List ℕ) : Type 0 where
 -- What is held stands for the past, where no call was refused.
 pub record HoldsPast (g : Client) (p : Past) : Type 0 where
   pub state : State
-  pub stands : StandsFor g.solver state
+  pub stands : Represents g.solver state
   pub fits : WasGiven state p.clauses p.assumed p.steps p.limit
   pub counted : CountsAmong state p.counted
   pub clause : g.clause ≡ p.clause
@@ -59,14 +59,14 @@ pub record HoldsPast (g : Client) (p : Past) : Type 0 where
 
 -- The client stands for the past. Of one that refused a call only the reason is told, and where that is a full store of clauses, that
 -- a clause of all variables of the search would bring it to 2^32 words or more.
-pub record StandsForPast (g : Client) (p : Past) : Type 0 where
+pub record RepresentsPast (g : Client) (p : Past) : Type 0 where
   pub refusal : g.refusal ≡ p.refusal
   pub full : p.refusal ≡ Some ClauseStoreFull → HasFullStore g.solver
   pub holds : p.refusal ≡ None → HoldsPast g p
 
 -- The call moves any past that the client stands for so.
 abbrev pub Moves : (Past → Past → Type 0) → Client → Client → Type 0
-Moves R g h = (p : Past) → StandsForPast g p → (q : Past) × R p q × StandsForPast h q
+Moves R g h = (p : Past) → RepresentsPast g p → (q : Past) × R p q × RepresentsPast h q
 
 -- memory ran out
 pub record RunsOutOfMemory (r : SearchEnd) (h : Client) : Type 0 where
@@ -77,12 +77,12 @@ pub record RunsOutOfMemory (r : SearchEnd) (h : Client) : Type 0 where
 pub data KeepsModel (r : SearchEnd) (g h : Client) : Type 0 where
   Refused : RunsOutOfMemory r h → KeepsModel r g h
   Kept : (m : List Literal) → r ≡ end.Satisfiable →
-      ((s : State) → StandsFor g.solver s → IsCompletable s.naming s.clauses s.assumptions s.counted m) →
+      ((s : State) → Represents g.solver s → IsCompletable s.naming s.clauses s.assumptions s.counted m) →
       IsSetOf m h.model → h ≡ record g { model = h.model } → KeepsModel r g h
 
 -- The core is kept that the solver tells, or memory ran out.
 pub data KeepsCore (r : SearchEnd) (g h : Client) : Type 0 where
   Refused : RunsOutOfMemory r h → KeepsCore r g h
   Kept : (core : List Literal) → r ≡ end.Unsatisfiable →
-      ((s : State) → StandsFor g.solver s → AreNamesInUse s.naming core × IsFailedCore s.clauses s.assumptions (map (through_names s.naming) core)) →
+      ((s : State) → Represents g.solver s → AreNamesInUse s.naming core × IsFailedCore s.clauses s.assumptions (map (through_names s.naming) core)) →
       IsSetOf core h.core → h ≡ record g { core = h.core } → KeepsCore r g h

@@ -1,7 +1,7 @@
 //! A client of the solver that takes clauses and assumptions a literal at a time, and tells values one at a time.
 ghost use Rattle.std.specs.Prelude.{◌≡◌, ◌≢◌, ◌∷◌, [], ◌++◌, pos, OnOk, false, None};
 ghost use Rattle.varisat_literals.specs.Numbers.{literal_numbered};
-ghost use Rattle.varisat_solver.specs.Summaries.{StandsFor};
+ghost use Rattle.varisat_solver.specs.Summaries.{Represents};
 ghost use Rattle.varisat.specs.Proven.{configured};
 
 use crate::literal_set::LitSet;
@@ -51,7 +51,7 @@ fn put_number<A: Allocator + Copy>(list: &mut Vec<Lit, A>, number: i32) -> Resul
 
 /// A new solver with the settings of a client. It takes no memory.
 fn new_solver<A: Allocator + Copy>(alloc: A) -> Solver<MemoryTarget<A>, A>
-    ensures { StandsFor result (configured false None) }
+    ensures { Represents result (configured false None) }
 {
     let mut solver = Solver::new_in(alloc);
     let mut update = SolverConfigUpdate::new();
@@ -91,11 +91,11 @@ impl<A: Allocator + Copy> Model for Client<A> {
 
 impl<A: Allocator + Copy> Client<A> {
     ghost use Rattle.varisat_client.specs.Pasts.{Past, empty_past, AddsNumber, AssumesNumber, Begins, LimitsSteps, IsSearchEnd, ReturnsValue, ReturnsFailed};
-    ghost use Rattle.varisat_client.specs.Clients.{StandsForPast, Moves, RunsOutOfMemory, KeepsModel, KeepsCore};
+    ghost use Rattle.varisat_client.specs.Clients.{RepresentsPast, Moves, RunsOutOfMemory, KeepsModel, KeepsCore};
 
     /// A client with a new solver. It takes no memory.
     pub fn new_in(alloc: A) -> Client<A>
-        ensures { StandsForPast result empty_past }
+        ensures { RepresentsPast result empty_past }
     {
         Client {
             solver: new_solver(alloc),
@@ -225,7 +225,7 @@ impl<A: Allocator + Copy> Client<A> {
 
     /// The number where its literal is true in the model that was found last, the opposite number where that is, else 0.
     pub fn value(&self, number: i32) -> i32
-        ensures { (p : Past) → StandsForPast self.now p → ReturnsValue number result p }
+        ensures { (p : Past) → RepresentsPast self.now p → ReturnsValue number result p }
     {
         if self.refusal.is_some() {
             return 0;
@@ -245,7 +245,7 @@ impl<A: Allocator + Copy> Client<A> {
 
     /// Whether the literal of the number is in the core that was found last.
     pub fn has_failed(&self, number: i32) -> bool
-        ensures { (p : Past) → StandsForPast self.now p → ReturnsFailed number result p }
+        ensures { (p : Past) → RepresentsPast self.now p → ReturnsFailed number result p }
     {
         if self.refusal.is_some() {
             return false;
@@ -258,7 +258,7 @@ impl<A: Allocator + Copy> Client<A> {
 
     /// Why calls are refused, if they are.
     pub fn refusal(&self) -> Option<Refusal>
-        ensures { (p : Past) → StandsForPast self.now p → result ≡ p.refusal }
+        ensures { (p : Past) → RepresentsPast self.now p → result ≡ p.refusal }
     {
         self.refusal
     }

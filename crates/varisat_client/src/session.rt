@@ -1,7 +1,7 @@
 //! Any list of calls of a client.
 ghost use Rattle.std.specs.Prelude.{◌≡◌, IfOk, OnErr};
 ghost use Rattle.varisat_client.specs.Pasts.{Past, empty_past};
-ghost use Rattle.varisat_client.specs.Clients.{Moves, StandsForPast};
+ghost use Rattle.varisat_client.specs.Clients.{Moves, RepresentsPast};
 ghost use Rattle.varisat_client.specs.Runs.{Makes, MakeInTurn};
 ghost use Rattle.varisat_client.specs.Given.{none_given, AreDecided};
 

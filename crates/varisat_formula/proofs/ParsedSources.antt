@@ -6,7 +6,7 @@ use Rattle.varisat_formula.specs.declared.dimacs.error.DimacsError.{DimacsError}
 use Rattle.varisat_formula.specs.declared.dimacs.error.DimacsErrorKind.{DimacsErrorKind}
 use Rattle.varisat_formula.specs.declared.dimacs.error.DimacsErrorKind.TheVariants.{Io, OutOfMemory}
 use Rattle.varisat_formula.specs.Formulas.{Formula}
-use Rattle.varisat_formula.specs.Streams.{Stand, Reads, HasEnded}
+use Rattle.varisat_formula.specs.Streams.{Input, Reads, HasEnded}
 use Rattle.varisat_formula.specs.Dimacs.{Reading, nothing, items, read, lines, last_line, is_blank, Ending, Ends, GoesOn, BreaksOff, close_by, gives, dimacs, so_far, broken}
 use Rattle.varisat_formula.specs.Rest.{Progress, begin, gives_from, so_far_from, AdvancesBy, KeepsToken, IsEnding, RunsOutIn, failing, failing_by, with_front}
 use Rattle.varisat_formula.specs.Parsed.{EndsInFault, PieceHasFault, PieceWantsRoom, SourceFailed, TakesPiece, EndsToken, GivesReading, Whole, FaultInText, TextFailed, ReaderRanOut}
@@ -31,10 +31,10 @@ consumes_more (Some us) None c xs ys f g = absurd f
 consumes_more (Some us) (Some vs) None xs ys f g = absurd g
 consumes_more (Some us) (Some vs) (Some ws) xs ys f g = f ∙ ap (λ z. xs ++ z) g ∙ sym (append_assoc xs ys ws)
 
-pub reads_none : (s : Stand) → Reads s [] s
+pub reads_none : (s : Input) → Reads s [] s
 reads_none s = record { gave = sym (append-nil s.given); consumed = consumes_self s.left; no_more = omega arith }
 
-pub reads_more : (s t u : Stand) (xs ys : List ℕ) → Reads s xs t → Reads t ys u → Reads s (xs ++ ys) u
+pub reads_more : (s t u : Input) (xs ys : List ℕ) → Reads s xs t → Reads t ys u → Reads s (xs ++ ys) u
 reads_more s t u xs ys f g =
     let a = f.no_more in
     let b = g.no_more in
@@ -46,7 +46,7 @@ reads_more s t u xs ys f g =
 
 -- 2. A piece.
 -- the source failed
-pub source_failed : (s t : Stand) (p q : Progress) (e : DimacsError) → t.given ≡ s.given → Keeps s.left t.left → t.pieces ≤ s.pieces →
+pub source_failed : (s t : Input) (p q : Progress) (e : DimacsError) → t.given ≡ s.given → Keeps s.left t.left → t.pieces ≤ s.pieces →
     t.faults ≡ s.faults + 1 → e ≡ failing p → q.reading ≡ gives_from (BreaksOff Io) p [] → TakesPiece s p (Err e) t q
 source_failed s t p q e v k n f h b = record {
   piece = [];
@@ -58,7 +58,7 @@ source_failed s t p q e v k n f h b = record {
 }
 
 -- the text has a fault, or memory ran out in it
-pub piece_failed : (s t : Stand) (p q : Progress) (piece : List ℕ) (e : DimacsError) → Reads s piece t → t.faults ≡ s.faults → AdvancesBy p piece q
+pub piece_failed : (s t : Input) (p q : Progress) (piece : List ℕ) (e : DimacsError) → Reads s piece t → t.faults ≡ s.faults → AdvancesBy p piece q
     ⊎ RunsOutIn p piece q → q.reading.fault ≡ Some e → TakesPiece s p (Err e) t q
 piece_failed s t p q piece e k f w h = record {
   piece = piece;
@@ -84,21 +84,21 @@ failing_told p e o h = by_fault p.reading.fault refl
     by_fault (Some x) g = ap (λ z. z.fault) (gives_failed (BreaksOff Io) p x g []) ∙ g ∙ ap Some (sym (h ∙ ap (λ f. failing_by f p.line) g))
 
 -- a token ends before a blank
-blank_ends : (t : Stand) (i : ℕ) (piece : List ℕ) → is_blank (get_or piece i 0) ≡ true → EndsToken (drop i piece) t
+blank_ends : (t : Input) (i : ℕ) (piece : List ℕ) → is_blank (get_or piece i 0) ≡ true → EndsToken (drop i piece) t
 blank_ends t zero [] h = absurd cc
 blank_ends t (suc i) [] h = absurd cc
 blank_ends t zero (b ∷ bs) h = h
 blank_ends t (suc i) (b ∷ bs) h = blank_ends t i bs h
 
 -- 3. What was read so far, without a fault, where the clauses `front` were taken of the reader.
-pub record ReadSo (s t : Stand) (p : Progress) (front : List Clause) : Type 0 where
+pub record ReadSo (s t : Input) (p : Progress) (front : List Clause) : Type 0 where
   pub text : List ℕ
   pub reads : Reads s text t
   pub same : (ending : Ending) (rest : List ℕ) → gives ending (text ++ rest) ≡ with_front front (gives_from ending p rest)
   pub fine : p.reading.fault ≡ None
   pub quiet : t.faults ≡ s.faults
 
-pub read_nothing : (s : Stand) (p : Progress) → p ≡ begin → ReadSo s s p []
+pub read_nothing : (s : Input) (p : Progress) → p ≡ begin → ReadSo s s p []
 read_nothing s p e = record {
   text = [];
   reads = reads_none s;
@@ -107,13 +107,13 @@ read_nothing s p e = record {
   quiet = refl;
 }
 
-piece_same : (s t : Stand) (p q : Progress) (front : List Clause) (piece : List ℕ) (w : ReadSo s t p front) → AdvancesBy p piece q →
+piece_same : (s t : Input) (p q : Progress) (front : List Clause) (piece : List ℕ) (w : ReadSo s t p front) → AdvancesBy p piece q →
     (ending : Ending) (rest : List ℕ) →
     gives ending ((w.text ++ piece) ++ rest) ≡ with_front front (gives_from ending q rest)
 piece_same s t p q front piece w f ending rest =
     ap (λ x. gives ending x) (append_assoc w.text piece rest) ∙ w.same ending (piece ++ rest) ∙ ap (λ x. with_front front x) (sym (f.same ending rest))
 
-pub read_more : (s t u : Stand) (p q : Progress) (front : List Clause) (more : Bool) (r : Result Bool DimacsError) → ReadSo s t p front →
+pub read_more : (s t u : Input) (p q : Progress) (front : List Clause) (more : Bool) (r : Result Bool DimacsError) → ReadSo s t p front →
     TakesPiece t p r u q → r ≡ Ok more → ReadSo s u q front
 read_more s t u p q front more r w k e =
     let g = k.good more e in
@@ -126,7 +126,7 @@ read_more s t u p q front more r w k e =
     }
 
 -- the clauses that ended are taken
-pub read_taken : (s t : Stand) (p q : Progress) (front : List Clause) (f : Formula) → ReadSo s t p front →
+pub read_taken : (s t : Input) (p q : Progress) (front : List Clause) (f : Formula) → ReadSo s t p front →
     q ≡ record p { reading = record p.reading { clauses = [] } } →
     ((ending : Ending) (rest : List ℕ) → gives_from ending p rest ≡ with_front f.clauses (gives_from ending q rest)) → ReadSo s t q (front ++ f.clauses)
 read_taken s t p q front f w e l = record {
@@ -139,7 +139,7 @@ read_taken s t p q front f w e l = record {
 }
 
 -- they are the first of the text, whatever comes behind
-pub gives_first : (s t : Stand) (p : Progress) (front : List Clause) → ReadSo s t p front → GivesFirst s front t
+pub gives_first : (s t : Input) (p : Progress) (front : List Clause) → ReadSo s t p front → GivesFirst s front t
 gives_first s t p front w = record {
   text = w.text;
   reads = w.reads;
@@ -159,7 +159,7 @@ broken_fails x text e =
     let r : Reading = read nothing (items false 1 (lines text)) in closed_broken r.fault x r (last_line 1 (lines text)) refl e
 
 -- so the reader of a text without a fault is open still
-still_open : (s t : Stand) (p : Progress) (front : List Clause) → ReadSo s t p front → p.over ≡ false
+still_open : (s t : Input) (p : Progress) (front : List Clause) → ReadSo s t p front → p.over ≡ false
 still_open s t p front w = by_over p.over refl
   where
     by_over : (o : Bool) → p.over ≡ o → p.over ≡ false
@@ -168,7 +168,7 @@ still_open s t p front w = by_over p.over refl
         ap (λ x. x.fault) (over_gives (BreaksOff Io) p [] e) ∙ w.fine))
 
 -- the fault that a piece had is the reader's
-pub piece_told : (s t u : Stand) (p q : Progress) (front : List Clause) (e : DimacsError) (r : Result Bool DimacsError) → ReadSo s t p front →
+pub piece_told : (s t u : Input) (p q : Progress) (front : List Clause) (e : DimacsError) (r : Result Bool DimacsError) → ReadSo s t p front →
     TakesPiece t p r u q → r ≡ Err e → q.reading.fault ≡ Some e
 piece_told s t u p q front e r w k h = by_why (k.bad e h).0 (k.bad e h).1
   where
@@ -178,13 +178,13 @@ piece_told s t u p q front e r w k h = by_why (k.bad e h).0 (k.bad e h).1
     by_why rise (SourceFailed b d n f) = ap (λ z. z.fault) b ∙ failing_told p e (still_open s t p front w) d
 
 -- a source that gave a text without a fault gave all of it
-pub record GivesWhole (s : Stand) (reading : Reading) (t : Stand) : Type 0 where
+pub record GivesWhole (s : Input) (reading : Reading) (t : Input) : Type 0 where
   pub text : List ℕ
   pub reads : Reads s text t
   pub ended : HasEnded t
   pub is : reading ≡ dimacs text
 
-pub gives_whole : (s t : Stand) (reading : Reading) → GivesReading s reading t → reading.fault ≡ None → GivesWhole s reading t
+pub gives_whole : (s t : Input) (reading : Reading) → GivesReading s reading t → reading.fault ≡ None → GivesWhole s reading t
 gives_whole s t reading (Whole text r h q e) f = record { text = text; reads = r; ended = h; is = e }
 gives_whole s t reading (FaultInText text r q e n) f = absurd (n f)
 gives_whole s t reading (TextFailed text r q e) f = absurd (broken_fails Io text (ap (λ x. x.fault) (sym e) ∙ f))
@@ -203,7 +203,7 @@ kept_behind text begun front p same k =
     (record { fine = k.fine; more = λ e. k.more (front_same front _ _ e) })
 
 -- the text or the source has a fault
-pub text_broken : (s t u : Stand) (p q : Progress) (front : List Clause) (x : DimacsError) (r : Result Bool DimacsError) → ReadSo s t p front →
+pub text_broken : (s t u : Input) (p q : Progress) (front : List Clause) (x : DimacsError) (r : Result Bool DimacsError) → ReadSo s t p front →
     TakesPiece t p r u q → r ≡ Err x → GivesReading s (with_front front q.reading) u
 text_broken s t u p q front x r w k is = why (k.bad x is).0 (k.bad x is).1 (k.bad x is).2
   where
@@ -227,7 +227,7 @@ text_broken s t u p q front x r w k is = why (k.bad x is).0 (k.bad x is).1 (k.ba
         (sym (ap (λ v. broken Io (w.text ++ v)) e ∙ w.same (BreaksOff Io) [] ∙ ap (λ v. with_front front v) (sym g)))
 
 -- the source is at its end, and the text was ended
-pub text_ended : (s t : Stand) (p q : Progress) (front : List Clause) → ReadSo s t p front → HasEnded t → IsEnding p q →
+pub text_ended : (s t : Input) (p q : Progress) (front : List Clause) → ReadSo s t p front → HasEnded t → IsEnding p q →
     GivesReading s (with_front front q.reading) t
 text_ended s t p q front w l k = by_end k
   where
@@ -248,7 +248,7 @@ ends_failed p q e h (inl g) = g ∙ gives_failed Ends p e h []
 ends_failed p q e h (inr o) = o.reading ∙ gives_failed (BreaksOff OutOfMemory) p e h []
 
 -- no piece goes on, and the text was ended
-pub text_over : (s t u : Stand) (p q o : Progress) (front : List Clause) (r : Result Bool DimacsError) → ReadSo s t p front → TakesPiece t p r u q →
+pub text_over : (s t u : Input) (p q o : Progress) (front : List Clause) (r : Result Bool DimacsError) → ReadSo s t p front → TakesPiece t p r u q →
     (r ≡ Ok false) ⊎ ((x : DimacsError) × (r ≡ Err x)) → IsEnding q o → GivesReading s (with_front front o.reading) u
 text_over s t u p q o front r w k (inl n) l =
     text_ended s u q o front (read_more s t u p q front false r w k n) (k.ends n).1 l

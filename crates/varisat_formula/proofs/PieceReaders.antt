@@ -8,8 +8,8 @@ use Rattle.varisat_formula.specs.Dimacs.{Reading, Ends, GoesOn, BreaksOff}
 use Rattle.varisat_formula.specs.Rest.{Progress, begin, dimacs_from, AdvancesBy, IsEnding, fault_of}
 use Rattle.varisat_formula.proofs.ParserMemory.{kept_by}
 use Rattle.varisat_formula.proofs.ParserProgress.{over_gives, breaks_off}
-use Rattle.varisat_formula.specs.Streams.{Stand}
-use Rattle.varisat_formula.specs.Parsed.{Standing, Calling, TakesPiece, GivesReading, Turn, Turns, TakesEnd, Finishes, Takes, HasFault, IsRefused, Refuses}
+use Rattle.varisat_formula.specs.Streams.{Input}
+use Rattle.varisat_formula.specs.Parsed.{ParseState, Calling, TakesPiece, GivesReading, Turn, Turns, TakesEnd, Finishes, Takes, HasFault, IsRefused, Refuses}
 use Rattle.varisat_formula.proofs.ParsedSources.{ReadSo, read_nothing, read_more, piece_told, text_broken, text_ended}
 
 -- the end of a text that was read, without a fault
@@ -40,20 +40,20 @@ module _ {F P E : Type 0} (by : Calling F P E) where
   abbrev pub IsIdle : Type 0
   IsIdle = (f g : F) (p q : P) (r : Result (Unit {0}) E) → by.calls f p r g q → (r ≡ Ok tt) × (by.progress q ≡ by.progress p)
 
-  read_in_turns : (source : Stand) (pieces : List (List ℕ)) (a b : Standing F P) → IsIdle → ReadSo source a.source (by.progress a.reader) [] →
+  read_in_turns : (source : Input) (pieces : List (List ℕ)) (a b : ParseState F P) → IsIdle → ReadSo source a.source (by.progress a.reader) [] →
       FoldsTo (Turn by) a pieces b → ReadSo source b.source (by.progress b.reader) []
-  read_in_turns source [] a b idle w e = subst (λ (x : Standing F P). ReadSo source x.source (by.progress x.reader) []) e w
+  read_in_turns source [] a b idle w e = subst (λ (x : ParseState F P). ReadSo source x.source (by.progress x.reader) []) e w
   read_in_turns source (piece ∷ pieces) a b idle w (m, k, rest) =
       read_in_turns source pieces m b idle
       (subst (λ x. ReadSo source m.source x []) (sym (idle _ _ _ _ _ k.calls).1)
       (read_more source a.source m.source (by.progress a.reader) (by.progress k.read) [] true (Ok true) w k.takes refl)) rest
 
-  read_by : (source : Stand) (f : F) (now : Standing F P) → IsIdle → Turns by source f now → ReadSo source now.source (by.progress now.reader) []
+  read_by : (source : Input) (f : F) (now : ParseState F P) → IsIdle → Turns by source f now → ReadSo source now.source (by.progress now.reader) []
   read_by source f now idle w =
       read_in_turns source w.pieces (record { source = source; reader = w.start; function = f }) now idle
       (read_nothing source (by.progress w.start) w.begins) w.turns
 
-  end_read : (source : Stand) (s : Standing F P) (r : Result (Unit {0}) DimacsError) (t : Stand) (read : P) →
+  end_read : (source : Input) (s : ParseState F P) (r : Result (Unit {0}) DimacsError) (t : Input) (read : P) →
       ReadSo source s.source (by.progress s.reader) [] → TakesEnd by s r t read → GivesReading source (by.progress read).reading t
   end_read source s r t read w k =
       let m : Progress = by.progress k.behind in
@@ -61,7 +61,7 @@ module _ {F P E : Type 0} (by : Calling F P E) where
       text_ended source t m (by.progress read) [] (read_more source s.source t (by.progress s.reader) m [] false (Ok false) w k.takes refl)
       (k.takes.ends refl).1 (ends_before m (by.progress s.reader) (by.progress read) (advances_back (by.progress s.reader) m z) k.reads)
 
-  pub finishes_read : (source after : Stand) (f : F) (reader : P) → IsIdle → Finishes by source f after reader →
+  pub finishes_read : (source after : Input) (f : F) (reader : P) → IsIdle → Finishes by source f after reader →
       GivesReading source (by.progress reader).reading after × ((by.progress reader).reading.fault ≡ None)
   finishes_read source after f reader idle w =
       let e = (idle _ _ _ _ _ w.calls).1 in (
@@ -70,7 +70,7 @@ module _ {F P E : Type 0} (by : Calling F P E) where
         ap (λ x. x.reading.fault) e ∙ sym w.ends.answer,
       )
 
-  pub refuses_read : (source after : Stand) (f : F) (e : E) → IsIdle → Refuses by source f after e →
+  pub refuses_read : (source after : Input) (f : F) (e : E) → IsIdle → Refuses by source f after e →
       (d : DimacsError) × by.made d e × (reading : Reading) × GivesReading source reading after × (reading.fault ≡ Some d)
   refuses_read source after f e idle w = why w.why
     where
@@ -91,11 +91,11 @@ module _ {F P E : Type 0} (by : Calling F P E) where
       why (inl h) = let (reading, g, n) = fault_in h.fault h.read h.takes in (h.fault, h.made, reading, g, n)
       why (inr h) = absurd (let x : Err e ≡ Ok tt = (idle _ _ _ _ _ h.calls).0 in cc)
 
-  pub turns_none : (source : Stand) (f : F) (reader : P) → by.progress reader ≡ begin →
+  pub turns_none : (source : Input) (f : F) (reader : P) → by.progress reader ≡ begin →
       Turns by source f (record { source = source; reader = reader; function = f })
   turns_none source f reader e = record { start = reader; begins = e; pieces = []; turns = refl }
 
-  pub turns_more : (source : Stand) (f : F) (now next : Stand) (p m q : P) (g h : F) (more : Bool) (r : Result Bool DimacsError) →
+  pub turns_more : (source : Input) (f : F) (now next : Input) (p m q : P) (g h : F) (more : Bool) (r : Result Bool DimacsError) →
       Turns by source f (record { source = now; reader = p; function = g }) →
       TakesPiece now (by.progress p) r next (by.progress m) → r ≡ Ok more → more ≡ true → by.calls g m (Ok tt) h q →
       Turns by source f (record { source = next; reader = q; function = h })
@@ -109,7 +109,7 @@ module _ {F P E : Type 0} (by : Calling F P E) where
         turns = FoldsTo-push (Turn by) _ w.pieces _ x.piece _ w.turns (record { read = m; takes = x; piece_is = refl; calls = c });
       }
 
-  pub ends_text : (now after : Stand) (p m q : P) (g : F) (more : Bool) (r : Result Bool DimacsError) (a : Result (Unit {0}) DimacsError) →
+  pub ends_text : (now after : Input) (p m q : P) (g : F) (more : Bool) (r : Result Bool DimacsError) (a : Result (Unit {0}) DimacsError) →
       TakesPiece now (by.progress p) r after (by.progress m) → r ≡ Ok more → more ≡ false →
       IsEnding (by.progress m) (by.progress q) → fault_of a ≡ (by.progress q).reading.fault → (by.progress q).over ≡ true →
       TakesEnd by (record { source = now; reader = p; function = g }) a after q
@@ -125,7 +125,7 @@ module _ {F P E : Type 0} (by : Calling F P E) where
         over = o;
       }
 
-  pub finishes : (source : Stand) (f : F) (now after : Stand) (p q s : P) (g h : F) → Turns by source f (record { source = now; reader = p; function = g }) →
+  pub finishes : (source : Input) (f : F) (now after : Input) (p q s : P) (g h : F) → Turns by source f (record { source = now; reader = p; function = g }) →
       TakesEnd by (record { source = now; reader = p; function = g }) (Ok tt) after q → by.calls g q (Ok tt) h s → Finishes by source f after s
   finishes source f now after p q s g h w k c =
       let m : Progress = by.progress k.behind in
@@ -141,7 +141,7 @@ module _ {F P E : Type 0} (by : Calling F P E) where
         calls = c;
       }
 
-  pub has_fault : (source : Stand) (f : F) (now next : Stand) (p m : P) (g : F) (d : DimacsError) (r : Result Bool DimacsError) (e : E) →
+  pub has_fault : (source : Input) (f : F) (now next : Input) (p m : P) (g : F) (d : DimacsError) (r : Result Bool DimacsError) (e : E) →
       Turns by source f (record { source = now; reader = p; function = g }) →
       TakesPiece now (by.progress p) r next (by.progress m) → r ≡ Err d → by.made d e → Refuses by source f next e
   has_fault source f now next p m g d r e w k h c = record {
@@ -150,7 +150,7 @@ module _ {F P E : Type 0} (by : Calling F P E) where
     why = inl (record { fault = d; read = m; takes = inl (subst (λ y. TakesPiece now (by.progress p) y next (by.progress m)) h k); made = c });
   }
 
-  pub end_has_fault : (source : Stand) (f : F) (now after : Stand) (p q : P) (g : F) (d : DimacsError) (e : E) →
+  pub end_has_fault : (source : Input) (f : F) (now after : Input) (p q : P) (g : F) (d : DimacsError) (e : E) →
       Turns by source f (record { source = now; reader = p; function = g }) →
       TakesEnd by (record { source = now; reader = p; function = g }) (Err d) after q → by.made d e → Refuses by source f after e
   end_has_fault source f now after p q g d e w k c = record {
@@ -159,7 +159,7 @@ module _ {F P E : Type 0} (by : Calling F P E) where
     why = inl (record { fault = d; read = q; takes = inr k; made = c });
   }
 
-  pub is_refused : (source : Stand) (f : F) (now next : Stand) (p m q : P) (g h : F) (more : Bool) (r : Result Bool DimacsError) (e : E) →
+  pub is_refused : (source : Input) (f : F) (now next : Input) (p m q : P) (g h : F) (more : Bool) (r : Result Bool DimacsError) (e : E) →
       Turns by source f (record { source = now; reader = p; function = g }) →
       TakesPiece now (by.progress p) r next (by.progress m) → r ≡ Ok more → more ≡ true → by.calls g m (Err e) h q → Refuses by source f next e
   is_refused source f now next p m q g h more r e w k b d c = record {
@@ -175,7 +175,7 @@ module _ {F P E : Type 0} (by : Calling F P E) where
     });
   }
 
-  pub end_is_refused : (source : Stand) (f : F) (now after : Stand) (p q s : P) (g h : F) (e : E) →
+  pub end_is_refused : (source : Input) (f : F) (now after : Input) (p q s : P) (g h : F) (e : E) →
       Turns by source f (record { source = now; reader = p; function = g }) →
       TakesEnd by (record { source = now; reader = p; function = g }) (Ok tt) after q → by.calls g q (Err e) h s → Refuses by source f after e
   end_is_refused source f now after p q s g h e w k c = record {

@@ -5,7 +5,7 @@ use Rattle.varisat_theory.specs.Literals.{Clause}
 use Rattle.varisat_formula.specs.declared.dimacs.error.DimacsError.{DimacsError}
 use Rattle.varisat_formula.specs.Dimacs.{Reading}
 use Rattle.varisat_formula.specs.Rest.{fault_of, with_front}
-use Rattle.varisat_formula.specs.Streams.{Stand}
+use Rattle.varisat_formula.specs.Streams.{Input}
 use Rattle.varisat_formula.specs.Parsed.{GivesReading}
 use Rattle.varisat_formula.specs.TakenTexts.{TakesInTurn, InOne, InMore, TakesText, RefusesClause}
 
@@ -25,7 +25,7 @@ module _ {S E : Type 0} (takes : S → List Clause → Result (Unit {0}) E → S
       subst (λ P. TakesInTurn takes s P r t) (sym (append_assoc front clauses rest)) (w (clauses ++ rest) r t (InMore clauses rest now refl k more))
 
   -- a reading was given, of which the sink took the last clauses
-  pub takes_text : (old new : Stand) (s mid t : S) (front clauses : List Clause) (R : Reading) (fault : Option DimacsError) →
+  pub takes_text : (old new : Input) (s mid t : S) (front clauses : List Clause) (R : Reading) (fault : Option DimacsError) →
       TakesBehind s front mid → GivesReading old (with_front front R) new → clauses ≡ R.clauses → fault ≡ R.fault → takes mid clauses (Ok tt) t →
       TakesText takes old s fault new t
   takes_text old new s mid t front clauses R fault w g e f k = record {
@@ -36,7 +36,7 @@ module _ {S E : Type 0} (takes : S → List Clause → Result (Unit {0}) E → S
   }
 
   -- or refused one of them
-  pub refuses_last : (old new : Stand) (s mid t : S) (front clauses : List Clause) (R : Reading) (e : E) → TakesBehind s front mid →
+  pub refuses_last : (old new : Input) (s mid t : S) (front clauses : List Clause) (R : Reading) (e : E) → TakesBehind s front mid →
       GivesReading old (with_front front R) new → clauses ≡ R.clauses → takes mid clauses (Err e) t → RefusesClause takes old s e new t
   refuses_last old new s mid t front clauses R e w g h k = record {
     clauses = front ++ R.clauses;

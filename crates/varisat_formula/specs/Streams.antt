@@ -4,7 +4,7 @@ use Rattle.std.specs.Io.KnownBytes.{Consumes, IsAtEnd}
 
 -- the bytes that were given; those that are left, where they are known; how many pieces may still come; how many faults there
 -- were; and whether the source told its end
-pub record Stand : Type 0 where
+pub record Input : Type 0 where
   pub given : List ℕ
   pub left : Option (List ℕ)
   pub pieces : ℕ
@@ -26,13 +26,13 @@ ended_after before (Ok n) buffer = ended_at before n buffer
 ended_after before (Err e) buffer = before
 
 -- between s and t just this text was read of the source
-pub record Reads (s : Stand) (text : List ℕ) (t : Stand) : Type 0 where
+pub record Reads (s : Input) (text : List ℕ) (t : Input) : Type 0 where
   pub gave : t.given ≡ s.given ++ text
   pub consumed : Consumes s.left t.left text
   pub no_more : t.pieces ≤ s.pieces
 
 -- the source told its end, and no byte is left that is known
-pub record HasEnded (t : Stand) : Type 0 where
+pub record HasEnded (t : Input) : Type 0 where
   pub reported : t.ended ≡ true
   pub at_end : IsAtEnd t.left
 
@@ -89,8 +89,8 @@ abbrev pub piece_count : CutText → ℕ → ℕ
 piece_count s room = min (min (length (drop s.place s.text)) room) (piece_size s.place s.first s.size)
 
 -- how the source stands: it gave the text up to the place, and each further piece has a byte at least
-abbrev pub cut_stand : CutText → Stand
-cut_stand s = record {
+abbrev pub cut_input : CutText → Input
+cut_input s = record {
   given = take s.place s.text;
   left = Some (drop s.place s.text);
   pieces = length s.text - s.place;

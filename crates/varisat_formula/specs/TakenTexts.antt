@@ -3,7 +3,7 @@ use Rattle.std.specs.Prelude.{◌≡◌, ℕ, List, ◌++◌, ◌⊎◌, Option,
 use Rattle.varisat_theory.specs.Literals.{Clause}
 use Rattle.varisat_formula.specs.declared.dimacs.error.DimacsError.{DimacsError}
 use Rattle.varisat_formula.specs.Dimacs.{Reading, dimacs}
-use Rattle.varisat_formula.specs.Streams.{Stand, Reads}
+use Rattle.varisat_formula.specs.Streams.{Input, Reads}
 use Rattle.varisat_formula.specs.Parsed.{GivesReading}
 
 -- the first clauses of the list
@@ -11,7 +11,7 @@ abbrev pub IsBeginning : List Clause → List Clause → Type 0
 IsBeginning P clauses = (rest : List Clause) × (clauses ≡ P ++ rest)
 
 -- these clauses ended in what a source gave meanwhile, whatever comes behind
-pub record GivesFirst (old : Stand) (clauses : List Clause) (new : Stand) : Type 0 where
+pub record GivesFirst (old : Input) (clauses : List Clause) (new : Input) : Type 0 where
   pub text : List ℕ
   pub reads : Reads old text new
   pub quiet : new.faults ≡ old.faults
@@ -25,14 +25,14 @@ module _ {S E : Type 0} (takes : S → List Clause → Result (Unit {0}) E → S
         takes s first (Ok tt) mid → TakesInTurn mid rest r t → TakesInTurn s clauses r t
 
   -- it took all clauses that a text gives, and the text's fault is told, if there is one
-  pub record TakesText (old : Stand) (s : S) (fault : Option DimacsError) (new : Stand) (t : S) : Type 0 where
+  pub record TakesText (old : Input) (s : S) (fault : Option DimacsError) (new : Input) (t : S) : Type 0 where
     pub reading : Reading
     pub gives : GivesReading old reading new
     pub reported : fault ≡ reading.fault
     pub takes_all : TakesInTurn s reading.clauses (Ok tt) t
 
   -- it refused one of these clauses, which are all that a text gives, or the first of them
-  pub record RefusesClause (old : Stand) (s : S) (e : E) (new : Stand) (t : S) : Type 0 where
+  pub record RefusesClause (old : Input) (s : S) (e : E) (new : Input) (t : S) : Type 0 where
     pub clauses : List Clause
     pub given : ((reading : Reading) × GivesReading old reading new × (reading.clauses ≡ clauses)) ⊎ GivesFirst old clauses new
     pub takes_some : TakesInTurn s clauses (Err e) t

@@ -8,7 +8,7 @@ use Rattle.varisat_theory.proofs.Values.{not_both}
 use Rattle.varisat_literals.specs.Numbers.{literal_numbered}
 use Rattle.varisat_client.specs.Pasts.{Past, refuse, Refuses, count, AddsNumber, AssumesNumber, Begins, IsSearchEnd, IsFoundModel, ReturnsFailed, ReturnsValue}
 use Rattle.varisat_client.specs.Pasts as past
-use Rattle.varisat_client.specs.Clients.{Client, StandsForPast}
+use Rattle.varisat_client.specs.Clients.{Client, RepresentsPast}
 use Rattle.varisat_client.specs.declared.client.SearchEnd.{SearchEnd}
 use Rattle.varisat_client.specs.declared.client.SearchEnd.TheVariants as end
 use Rattle.varisat_maxsat.specs.Charges.{AreAssumed, IsSplit, AreValues}
@@ -53,7 +53,7 @@ pub gives-none : (g : Client) → GivesSoFar g [] g
 gives-none g = record { far = λ p r. (p, r.stands, (λ e. ap (λ x. record p { clause = x }) r.clause)) }
 
 pub gives-next : (g h i : Client) (ls : List Literal) (k : ℕ) (l : Literal) (n : ℤ) → k < length ls → l ≡ get_or ls k l → literal_numbered n ≡ l → n ≢ pos 0 →
-    ((p : Past) → StandsForPast h p → (q : Past) × AddsNumber n p q × StandsForPast i q) → GivesSoFar g (take k ls) h → GivesSoFar g (take (k + 1) ls) i
+    ((p : Past) → RepresentsPast h p → (q : Past) × AddsNumber n p q × RepresentsPast i q) → GivesSoFar g (take k ls) h → GivesSoFar g (take (k + 1) ls) i
 gives-next g h i ls k l n b at e z moves so = record {
   far = λ p r.
       let (q, st, f) = so.far p r in
@@ -67,8 +67,8 @@ gives-next g h i ls k l n b at e z moves so = record {
       );
 }
 
-pub gives-all : (g h i : Client) (ls taken : List Literal) → taken ≡ ls → ((p : Past) → StandsForPast h p → (q : Past) × AddsNumber (pos 0) p q × StandsForPast i q) →
-    ((p : Past) → StandsForPast i p → p.refusal ≡ None) → GivesSoFar g taken h →
+pub gives-all : (g h i : Client) (ls taken : List Literal) → taken ≡ ls → ((p : Past) → RepresentsPast h p → (q : Past) × AddsNumber (pos 0) p q × RepresentsPast i q) →
+    ((p : Past) → RepresentsPast i p → p.refusal ≡ None) → GivesSoFar g taken h →
     (p : Past) → IsReady g p → IsReady i (record (count ls p) { clauses = p.clauses ++ ls ∷ [] })
 gives-all g h i ls taken whole moves accepted so p r =
     let (q, st, f) = so.far p r in
@@ -79,7 +79,7 @@ gives-all g h i ls taken whole moves accepted so p r =
     ∙ ap (λ x. record (count x p) { clauses = p.clauses ++ x ∷ []; clause = [] }) whole
     ∙ ap (λ x. record (count ls p) { clauses = p.clauses ++ ls ∷ []; clause = x }) (sym r.clause) in
     record {
-      stands = subst (StandsForPast i) e su;
+      stands = subst (RepresentsPast i) e su;
       refusal = r.refusal;
       clause = r.clause;
       assumptions = r.assumptions;
@@ -91,7 +91,7 @@ assumes-start g t = record { far = λ p r. (p, [], assumes-none t, r.stands, (λ
 
 pub assumes-next : (g h i : Client) (t : ℕ) (cs : List Charge) (k : ℕ) (c : Charge) (n : ℤ) → k < length cs → c ≡ get_or cs k c →
     literal_numbered n ≡ opposite c.literal → n ≢ pos 0 →
-    ((p : Past) → StandsForPast h p → (q : Past) × AssumesNumber n p q × StandsForPast i q) → AssumesSoFar g t (take k cs) h →
+    ((p : Past) → RepresentsPast h p → (q : Past) × AssumesNumber n p q × RepresentsPast i q) → AssumesSoFar g t (take k cs) h →
     AssumesSoFar g t (take (k + 1) cs) i
 assumes-next g h i t cs k c n b at e z moves so = record {
   far = λ p r.
@@ -116,8 +116,8 @@ assumes-skip g h t cs k c b at w so = record {
       (q, ls, subst (λ x. AreAssumed t x ls) (sym (take-item cs k c b at)) (assumes-not c w from), st, f);
 }
 
-pub assumed-all : (g h i : Client) (t : ℕ) (cs taken : List Charge) → taken ≡ cs → ((p : Past) → StandsForPast h p → (q : Past) × Begins p q × StandsForPast i q) →
-    ((p : Past) → StandsForPast i p → p.refusal ≡ None) → AssumesSoFar g t taken h → (p : Past) → IsReady g p → HasBegun t cs p i
+pub assumed-all : (g h i : Client) (t : ℕ) (cs taken : List Charge) → taken ≡ cs → ((p : Past) → RepresentsPast h p → (q : Past) × Begins p q × RepresentsPast i q) →
+    ((p : Past) → RepresentsPast i p → p.refusal ≡ None) → AssumesSoFar g t taken h → (p : Past) → IsReady g p → HasBegun t cs p i
 assumed-all g h i t cs taken whole moves accepted so p r =
     let (q, ls, from, st, f) = so.far p r in
     let (u, m, su) = moves q st in
@@ -128,12 +128,12 @@ assumed-all g h i t cs taken whole moves accepted so p r =
     record {
       assumed = ls;
       from = subst (λ x. AreAssumed t x ls) whole from;
-      ready = record { stands = subst (StandsForPast i) e su; refusal = r.refusal; clause = r.clause; assumptions = r.assumptions };
+      ready = record { stands = subst (RepresentsPast i) e su; refusal = r.refusal; clause = r.clause; assumptions = r.assumptions };
     }
 
 -- how a search ends that is not refused
 pub search-finds : (r : SearchEnd) (p q : Past) (t : ℕ) (cs : List Charge) (h : Client) (ls : List Literal) → r ≡ end.Satisfiable → IsSearchEnd r p q →
-    StandsForPast h q → AreAssumed t cs ls → p.assumed ≡ ls → p.clause ≡ [] → p.assumptions ≡ [] → FindsModel t cs p.clauses h
+    RepresentsPast h q → AreAssumed t cs ls → p.assumed ≡ ls → p.clause ≡ [] → p.assumptions ≡ [] → FindsModel t cs p.clauses h
 search-finds r p q t cs h ls e (past.Refused o f) st from eq cl su = let z = sym o ∙ e in absurd cc
 search-finds r p q t cs h ls e (past.Unsatisfiable o n m few f) st from eq cl su = let z = sym o ∙ e in absurd cc
 search-finds r p q t cs h ls e (past.Interrupted o n m few f) st from eq cl su = let z = sym o ∙ e in absurd cc
@@ -147,7 +147,7 @@ search-finds r p q t cs h ls e (past.Satisfiable o n m few f) st from eq cl su =
 }
 
 pub search-fails : (r : SearchEnd) (p q : Past) (t : ℕ) (cs : List Charge) (h : Client) (ls : List Literal) → r ≡ end.Unsatisfiable → IsSearchEnd r p q →
-    StandsForPast h q → AreAssumed t cs ls → p.assumed ≡ ls → p.clause ≡ [] → p.assumptions ≡ [] → FindsCore t cs p.clauses h
+    RepresentsPast h q → AreAssumed t cs ls → p.assumed ≡ ls → p.clause ≡ [] → p.assumptions ≡ [] → FindsCore t cs p.clauses h
 search-fails r p q t cs h ls e (past.Refused o f) st from eq cl su = let z = sym o ∙ e in absurd cc
 search-fails r p q t cs h ls e (past.Satisfiable o n m few f) st from eq cl su = let z = sym o ∙ e in absurd cc
 search-fails r p q t cs h ls e (past.Interrupted o n m few f) st from eq cl su = let z = sym o ∙ e in absurd cc
@@ -161,13 +161,13 @@ search-fails r p q t cs h ls e (past.Unsatisfiable o n m few f) st from eq cl su
 }
 
 pub begun-finds : (t : ℕ) (cs : List Charge) (p : Past) (g h : Client) (r : SearchEnd) → r ≡ end.Satisfiable → HasBegun t cs p g →
-    ((p : Past) → StandsForPast g p → (q : Past) × IsSearchEnd r p q × StandsForPast h q) → FindsModel t cs p.clauses h
+    ((p : Past) → RepresentsPast g p → (q : Past) × IsSearchEnd r p q × RepresentsPast h q) → FindsModel t cs p.clauses h
 begun-finds t cs p g h r e b moves =
     let (q, m, st) = moves (record (count b.assumed p) { assumed = b.assumed }) b.ready.stands in
     search-finds r (record (count b.assumed p) { assumed = b.assumed }) q t cs h b.assumed e m st b.from refl b.ready.clause b.ready.assumptions
 
 pub begun-fails : (t : ℕ) (cs : List Charge) (p : Past) (g h : Client) (r : SearchEnd) → r ≡ end.Unsatisfiable → HasBegun t cs p g →
-    ((p : Past) → StandsForPast g p → (q : Past) × IsSearchEnd r p q × StandsForPast h q) → FindsCore t cs p.clauses h
+    ((p : Past) → RepresentsPast g p → (q : Past) × IsSearchEnd r p q × RepresentsPast h q) → FindsCore t cs p.clauses h
 begun-fails t cs p g h r e b moves =
     let (q, m, st) = moves (record (count b.assumed p) { assumed = b.assumed }) b.ready.stands in
     search-fails r (record (count b.assumed p) { assumed = b.assumed }) q t cs h b.assumed e m st b.from refl b.ready.clause b.ready.assumptions
@@ -187,7 +187,7 @@ divides-failed g cs k c kept failed more b at e so p r =
     (subst (λ x. IsSplit p.core (take k cs ++ c ∷ []) kept x) (sym e) (splits-failed c (so p r)))
 
 pub divides-kept : (g : Client) (cs : List Charge) (k : ℕ) (c : Charge) (kept failed more : List Charge) (n : ℤ) (x : Bool) → k < length cs → c ≡ get_or cs k c →
-    more ≡ kept ++ c ∷ [] → literal_numbered n ≡ opposite c.literal → n ≢ pos 0 → ((p : Past) → StandsForPast g p → ReturnsFailed n x p) → x ≡ false →
+    more ≡ kept ++ c ∷ [] → literal_numbered n ≡ opposite c.literal → n ≢ pos 0 → ((p : Past) → RepresentsPast g p → ReturnsFailed n x p) → x ≡ false →
     ((p : Past) → IsReady g p → IsSplit p.core (take k cs) kept failed) → (p : Past) → IsReady g p → IsSplit p.core (take (k + 1) cs) more failed
 divides-kept g cs k c kept failed more n x b at e l z tells f so p r =
     subst (λ y. IsSplit p.core y more failed) (sym (take-item cs k c b at))
@@ -241,7 +241,7 @@ pub values-start : (g : Client) (p : Past) → IsReady g p → (a : Assignment) 
 values-start g p r a t = record { each = refl; read = λ v h. absurd (omega arith) }
 
 pub values-next : (g : Client) (k : ℕ) (n r : ℤ) (x : Bool) (vs : List Bool) → literal_numbered n ≡ 2 * k → n ≢ pos 0 → (x ≡ true) ↔ (r ≡ n) →
-    ((p : Past) → StandsForPast g p → ReturnsValue n r p) → ((p : Past) → IsReady g p → (a : Assignment) → MakesTrue a p.model → AreValues k p.model vs) →
+    ((p : Past) → RepresentsPast g p → ReturnsValue n r p) → ((p : Past) → IsReady g p → (a : Assignment) → MakesTrue a p.model → AreValues k p.model vs) →
     (p : Past) → IsReady g p → (a : Assignment) → MakesTrue a p.model → AreValues (k + 1) p.model (vs ++ x ∷ [])
 values-next g k n r x vs l z same tells so p d a t =
     let e = tells-positive k r p a n (number-positive n k l z) (tells p d.stands) d.refusal t in

@@ -6,10 +6,10 @@ use Rattle.varisat_formula.specs.Formulas.{Formula, with_one_more, variables_of}
 use Rattle.varisat_theory.specs.Membership.{◌∈◌}
 use Rattle.varisat_theory.specs.Literals.{Literal, Clause, Assignment, opposite, MakesTrue, IsSatisfiable}
 use Rattle.varisat_client.specs.Pasts.{Past, empty_past, count}
-use Rattle.varisat_client.specs.Clients.{Client, StandsForPast}
+use Rattle.varisat_client.specs.Clients.{Client, RepresentsPast}
 use Rattle.varisat_maxsat.specs.Problems.{Soft, Problem, with_hard, with_soft, paired, IsOptimum}
 use Rattle.varisat_maxsat.specs.Charges.{AreBelow, Reduces, IsSplit, TakesWeight, AreValues, IsPending}
-use Rattle.varisat_maxsat.specs.Reductions.{IsReady, Finds, FindsModel, FindsCore, Reduction, Stands, StandsWith, StandsAfter}
+use Rattle.varisat_maxsat.specs.Reductions.{IsReady, Finds, FindsModel, FindsCore, Reduction, ReducesTo, ReducesToWith, ReducesToAfter}
 use Rattle.varisat_maxsat.specs.declared.charge.Charge.{Charge}
 use Rattle.varisat_maxsat.proofs.Adding.{nothing-added, hard-added, weightless-soft-added, soft-literal-added, soft-clause-added}
 use Rattle.varisat_maxsat.proofs.Taking.{core-charge, core-pending, core-taken}
@@ -20,8 +20,8 @@ use Rattle.varisat_maxsat.proofs.Ending.{unsatisfiable, optimum}
 abbrev pub Gives : Clause → Client → Client → Type 0
 Gives c g h = (q : Past) → IsReady g q → IsReady h (record (count c q) { clauses = q.clauses ++ c ∷ [] })
 
-pub stands-first : (n : ℕ) (r : Reduction) → StandsForPast r.client empty_past → r.variables ≡ n → r.named ≡ n → r.charges ≡ [] → r.bound ≡ 0 →
-    Stands (record { variables = n; hard = []; soft = [] }) r
+pub stands-first : (n : ℕ) (r : Reduction) → RepresentsPast r.client empty_past → r.variables ≡ n → r.named ≡ n → r.charges ≡ [] → r.bound ≡ 0 →
+    ReducesTo (record { variables = n; hard = []; soft = [] }) r
 stands-first n r st v m cs k = record {
   past = empty_past;
   ready = record { stands = st; refusal = refl; clause = refl; assumptions = refl };
@@ -31,15 +31,15 @@ stands-first n r st v m cs k = record {
 }
 
 pub stands-hard : (p : Problem) (r s : Reduction) (c : Clause) → AreBelow r.variables c → Gives c r.client s.client → s ≡ record r { client = s.client } →
-    Stands p r → Stands (with_hard c p) s
-stands-hard p r s c b gives e st = subst (Stands (with_hard c p)) (sym e) (record {
+    ReducesTo p r → ReducesTo (with_hard c p) s
+stands-hard p r s c b gives e st = subst (ReducesTo (with_hard c p)) (sym e) (record {
   past = record (count c st.past) { clauses = st.past.clauses ++ c ∷ [] };
   ready = gives st.past st.ready;
   variables = st.variables;
   reduces = hard-added c (subst (λ n. AreBelow n c) st.variables b) st.reduces;
 })
 
-pub stands-nothing : (p : Problem) (r : Reduction) (c : Clause) (w : ℕ) → w ≡ 0 → AreBelow r.variables c → Stands p r → Stands (with_soft w c p) r
+pub stands-nothing : (p : Problem) (r : Reduction) (c : Clause) (w : ℕ) → w ≡ 0 → AreBelow r.variables c → ReducesTo p r → ReducesTo (with_soft w c p) r
 stands-nothing p r c w z b st = record {
   past = st.past;
   ready = st.ready;
@@ -48,8 +48,8 @@ stands-nothing p r c w z b st = record {
 }
 
 pub stands-literal : (p : Problem) (r s : Reduction) (c : Clause) (l : Literal) (w : ℕ) → c ≡ l ∷ [] → AreBelow r.variables c →
-    s ≡ record r { charges = r.charges ++ record { literal = opposite l; weight = w } ∷ [] } → Stands p r → Stands (with_soft w c p) s
-stands-literal p r s c l w f b e st = subst (Stands (with_soft w c p)) (sym e) (subst (λ d. Stands (with_soft w d p) (record r { charges = r.charges ++ record { literal = opposite l; weight = w } ∷ [] })) (sym f) (record {
+    s ≡ record r { charges = r.charges ++ record { literal = opposite l; weight = w } ∷ [] } → ReducesTo p r → ReducesTo (with_soft w c p) s
+stands-literal p r s c l w f b e st = subst (ReducesTo (with_soft w c p)) (sym e) (subst (λ d. ReducesTo (with_soft w d p) (record r { charges = r.charges ++ record { literal = opposite l; weight = w } ∷ [] })) (sym f) (record {
   past = st.past;
   ready = st.ready;
   variables = st.variables;
@@ -58,8 +58,8 @@ stands-literal p r s c l w f b e st = subst (Stands (with_soft w c p)) (sym e) (
 
 pub stands-clause : (p : Problem) (r s : Reduction) (c : Clause) (w : ℕ) → AreBelow r.variables c → Gives (c ++ (2 * r.named) ∷ []) r.client s.client →
     s ≡ record r { client = s.client; named = r.named + 1; charges = r.charges ++ record { literal = 2 * r.named; weight = w } ∷ [] } →
-    Stands p r → Stands (with_soft w c p) s
-stands-clause p r s c w b gives e st = subst (Stands (with_soft w c p)) (sym e) (record {
+    ReducesTo p r → ReducesTo (with_soft w c p) s
+stands-clause p r s c w b gives e st = subst (ReducesTo (with_soft w c p)) (sym e) (record {
   past = record (count (c ++ (2 * r.named) ∷ []) st.past) { clauses = st.past.clauses ++ (c ++ (2 * r.named) ∷ []) ∷ [] };
   ready = gives st.past st.ready;
   variables = st.variables;
@@ -71,8 +71,8 @@ finds-moves : (b : Bool) (t : ℕ) (cs : List Charge) (P : List Clause) (g h : C
 finds-moves b t cs P g h f q r e = subst (λ x. Finds b t cs x h) e (f q r)
 
 pub stands-after : (p : Problem) (r s : Reduction) (b : Bool) (t : ℕ) → ((q : Past) → IsReady r.client q → Finds b t r.charges q.clauses s.client) →
-    s ≡ record r { client = s.client } → Stands p r → StandsAfter b t p s
-stands-after p r s b t f e st = subst (StandsAfter b t p) (sym e) (record {
+    s ≡ record r { client = s.client } → ReducesTo p r → ReducesToAfter b t p s
+stands-after p r s b t f e st = subst (ReducesToAfter b t p) (sym e) (record {
   clauses = st.past.clauses;
   finds = f st.past st.ready;
   variables = st.variables;
@@ -81,7 +81,7 @@ stands-after p r s b t f e st = subst (StandsAfter b t p) (sym e) (record {
 
 -- a core that names no charge
 pub core-empty : (p : Problem) (r : Reduction) (t : ℕ) (kept failed : List Charge) → failed ≡ [] →
-    ((q : Past) → IsReady r.client q → IsSplit q.core r.charges kept failed) → StandsAfter false t p r → IsSatisfiable p.hard → ⊥
+    ((q : Past) → IsReady r.client q → IsSplit q.core r.charges kept failed) → ReducesToAfter false t p r → IsSatisfiable p.hard → ⊥
 core-empty p r t kept failed e split st =
     let f : FindsCore t r.charges st.clauses r.client = st.finds in
     unsatisfiable st.reduces
@@ -90,10 +90,10 @@ core-empty p r t kept failed e split st =
 -- one that does
 pub core-relaxes : (p : Problem) (r s : Reduction) (t w : ℕ) (kept failed after : List Charge) (pending : List Literal) →
     ((q : Past) → IsReady r.client q → IsSplit q.core r.charges kept failed) → TakesWeight w failed kept after pending →
-    s ≡ record r { charges = after } → StandsAfter false t p r → StandsWith p pending w s
+    s ≡ record r { charges = after } → ReducesToAfter false t p r → ReducesToWith p pending w s
 core-relaxes p r s t w kept failed after pending split takes e st =
     let f : FindsCore t r.charges st.clauses r.client = st.finds in
-    subst (StandsWith p pending w) (sym e) (record {
+    subst (ReducesToWith p pending w) (sym e) (record {
       past = f.past;
       ready = f.ready;
       variables = st.variables;
@@ -108,8 +108,8 @@ pub stands-joined : (p : Problem) (r s : Reduction) (x y : Literal) (rest : List
     Gives (opposite x ∷ (2 * r.named) ∷ []) r.client g → Gives (opposite y ∷ (2 * r.named) ∷ []) g h →
     Gives (opposite x ∷ opposite y ∷ (2 * (r.named + 1)) ∷ []) h s.client →
     s ≡ record r { client = s.client; named = r.named + 1 + 1; charges = r.charges ++ record { literal = 2 * (r.named + 1); weight = w } ∷ [] } →
-    StandsWith p (x ∷ y ∷ rest) w r → StandsWith p (rest ++ (2 * r.named) ∷ []) w s
-stands-joined p r s x y rest w g h first second third e st = subst (StandsWith p (rest ++ (2 * r.named) ∷ []) w) (sym e) (record {
+    ReducesToWith p (x ∷ y ∷ rest) w r → ReducesToWith p (rest ++ (2 * r.named) ∷ []) w s
+stands-joined p r s x y rest w g h first second third e st = subst (ReducesToWith p (rest ++ (2 * r.named) ∷ []) w) (sym e) (record {
   past = record (count (opposite x ∷ opposite y ∷ (2 * (r.named + 1)) ∷ []) (count (opposite y ∷ (2 * r.named) ∷ [])
       (count (opposite x ∷ (2 * r.named) ∷ []) st.past))) { clauses = gate x y r.named st.past.clauses };
   ready = third _ (second _ (first st.past st.ready));
@@ -120,8 +120,8 @@ stands-joined p r s x y rest w g h first second third e st = subst (StandsWith p
 
 -- the last one is settled
 pub stands-settled : (p : Problem) (r s : Reduction) (x : Literal) (w k : ℕ) → Gives (x ∷ []) r.client s.client → k ≡ r.bound + w →
-    s ≡ record r { client = s.client; bound = k } → StandsWith p (x ∷ []) w r → Stands p s
-stands-settled p r s x w k gives f e st = subst (Stands p) (sym e) (record {
+    s ≡ record r { client = s.client; bound = k } → ReducesToWith p (x ∷ []) w r → ReducesTo p s
+stands-settled p r s x w k gives f e st = subst (ReducesTo p) (sym e) (record {
   past = record (count (x ∷ []) st.past) { clauses = st.past.clauses ++ (x ∷ []) ∷ [] };
   ready = gives st.past st.ready;
   variables = st.variables;
@@ -129,7 +129,7 @@ stands-settled p r s x w k gives f e st = subst (Stands p) (sym e) (record {
 })
 
 -- none is pending
-pub stands-none : (p : Problem) (r : Reduction) (w : ℕ) → StandsWith p [] w r → Stands p r
+pub stands-none : (p : Problem) (r : Reduction) (w : ℕ) → ReducesToWith p [] w r → ReducesTo p r
 stands-none p r w st = record {
   past = st.past;
   ready = st.ready;
@@ -149,7 +149,7 @@ stands-none p r w st = record {
 -- no charge is due in the model
 pub stands-optimal : (p : Problem) (r : Reduction) (n : ℕ) (vs short : List Bool) →
     ((q : Past) → IsReady r.client q → (a : Assignment) → MakesTrue a q.model → AreValues n q.model vs) → n ≡ r.named → short ≡ take r.variables vs →
-    StandsAfter true 0 p r → IsOptimum p r.bound short
+    ReducesToAfter true 0 p r → IsOptimum p r.bound short
 stands-optimal p r n vs short values m e st =
     let f : FindsModel 0 r.charges st.clauses r.client = st.finds in
     let (a, makes, all, assumes) = f.found.satisfied in
@@ -167,18 +167,18 @@ charge-put : (cs after : List Charge) (k l : Literal) (w : ℕ) → after ≡ cs
     after ≡ cs ++ record { literal = l; weight = w } ∷ []
 charge-put cs after k l w e f = e ∙ ap (λ (x : Literal). cs ++ record { literal = x; weight = w } ∷ []) f
 
-pub hard-step : (p : Problem) (r : Reduction) (h : Client) (c : Clause) → AreBelow r.variables c → Gives c r.client h → Stands p r →
-    Stands (with_hard c p) (record r { client = h })
+pub hard-step : (p : Problem) (r : Reduction) (h : Client) (c : Clause) → AreBelow r.variables c → Gives c r.client h → ReducesTo p r →
+    ReducesTo (with_hard c p) (record r { client = h })
 hard-step p r h c b gives st = stands-hard p r (record r { client = h }) c b gives refl st
 
 pub literal-step : (p : Problem) (r : Reduction) (after : List Charge) (c : Clause) (k l : Literal) (w : ℕ) → c ≡ l ∷ [] → AreBelow r.variables c →
-    after ≡ r.charges ++ record { literal = k; weight = w } ∷ [] → k ≡ opposite l → Stands p r → Stands (with_soft w c p) (record r { charges = after })
+    after ≡ r.charges ++ record { literal = k; weight = w } ∷ [] → k ≡ opposite l → ReducesTo p r → ReducesTo (with_soft w c p) (record r { charges = after })
 literal-step p r after c k l w f b e o st =
     stands-literal p r (record r { charges = after }) c l w f b (ap (λ x. record r { charges = x }) (charge-put r.charges after k (opposite l) w e o)) st
 
 pub clause-step : (p : Problem) (r u : Reduction) (h : Client) (after : List Charge) (c longer : Clause) (k : Literal) (w : ℕ) → AreBelow r.variables c →
     u ≡ record r { named = r.named + 1 } → Gives longer u.client h → longer ≡ c ++ k ∷ [] → k ≡ 2 * r.named →
-    after ≡ u.charges ++ record { literal = k; weight = w } ∷ [] → Stands p r → Stands (with_soft w c p) (record u { client = h; charges = after })
+    after ≡ u.charges ++ record { literal = k; weight = w } ∷ [] → ReducesTo p r → ReducesTo (with_soft w c p) (record u { client = h; charges = after })
 clause-step p r u h after c longer k w b e gives f o a st =
     stands-clause p r (record u { client = h; charges = after }) c w b
     (subst (λ d. Gives d r.client h) (f ∙ ap (λ x. c ++ x ∷ []) o) (subst (λ x. Gives longer x h) (ap (λ (x : Reduction). x.client) e) gives))
@@ -189,10 +189,10 @@ pub join-step : (p : Problem) (r v u : Reduction) (g h i : Client) (after : List
     v ≡ record r { named = r.named + 1 } → u ≡ record v { named = v.named + 1 } → either ≡ 2 * r.named → both ≡ 2 * v.named →
     nx ≡ opposite x → ny ≡ opposite y → mx ≡ opposite x → my ≡ opposite y →
     Gives (nx ∷ either ∷ []) u.client g → Gives (ny ∷ either ∷ []) g h → Gives (mx ∷ my ∷ both ∷ []) h i →
-    after ≡ u.charges ++ record { literal = both; weight = w } ∷ [] → StandsWith p (x ∷ y ∷ rest) w r →
-    StandsWith p (rest ++ either ∷ []) w (record u { client = i; charges = after })
+    after ≡ u.charges ++ record { literal = both; weight = w } ∷ [] → ReducesToWith p (x ∷ y ∷ rest) w r →
+    ReducesToWith p (rest ++ either ∷ []) w (record u { client = i; charges = after })
 join-step p r v u g h i after x y nx ny mx my either both rest w e f ei bo a b c d g1 g2 g3 q st =
-    subst (λ l. StandsWith p (rest ++ l ∷ []) w (record u { client = i; charges = after })) (sym ei)
+    subst (λ l. ReducesToWith p (rest ++ l ∷ []) w (record u { client = i; charges = after })) (sym ei)
     (stands-joined p r (record u { client = i; charges = after }) x y rest w g h
     (subst (λ k. Gives (opposite x ∷ k ∷ []) r.client g) ei
     (subst (λ k. Gives (k ∷ either ∷ []) r.client g) a (subst (λ k. Gives (nx ∷ either ∷ []) k g) (ap (λ (z : Reduction). z.client) whole) g1)))
@@ -209,16 +209,16 @@ join-step p r v u g h i after x y nx ny mx my either both rest w e f ei bo a b c
     last = bo ∙ ap (λ (z : Reduction). 2 * z.named) e
 
 pub join_pending-step : (p : Problem) (r : Reduction) (h : Client) (x : Literal) (w k : ℕ) → Gives (x ∷ []) r.client h → k ≡ r.bound + w →
-    StandsWith p (x ∷ []) w r → Stands p (record r { client = h; bound = k })
+    ReducesToWith p (x ∷ []) w r → ReducesTo p (record r { client = h; bound = k })
 join_pending-step p r h x w k gives f st = stands-settled p r (record r { client = h; bound = k }) x w k gives f refl st
 
 pub relax-step : (p : Problem) (r : Reduction) (t w : ℕ) (kept failed after : List Charge) (pending : List Literal) →
     ((q : Past) → IsReady r.client q → IsSplit q.core r.charges kept failed) → TakesWeight w failed kept after pending →
-    StandsAfter false t p r → StandsWith p pending w (record r { charges = after })
+    ReducesToAfter false t p r → ReducesToWith p pending w (record r { charges = after })
 relax-step p r t w kept failed after pending split takes st = core-relaxes p r (record r { charges = after }) t w kept failed after pending split takes refl st
 
 pub search-step : (p : Problem) (r : Reduction) (h : Client) (b : Bool) (t : ℕ) → ((q : Past) → IsReady r.client q → Finds b t r.charges q.clauses h) →
-    Stands p r → StandsAfter b t p (record r { client = h })
+    ReducesTo p r → ReducesToAfter b t p (record r { client = h })
 search-step p r h b t f st = stands-after p r (record r { client = h }) b t f refl st
 
 -- what a queue gives that has nothing more
@@ -226,11 +226,11 @@ pub empty-by : (xs ys : List ℕ) → xs ≡ ys → ys ≡ drop 1 xs → xs ≡ 
 empty-by [] ys e f = refl
 empty-by (x ∷ xs) ys e f = let g : length (x ∷ xs) ≡ length xs = ap length (e ∙ f) in absurd (omega arith)
 
-pub with-pending : (p : Problem) (r : Reduction) (w : ℕ) (xs ys : List Literal) → xs ≡ ys → StandsWith p xs w r → StandsWith p ys w r
-with-pending p r w xs ys e st = subst (λ x. StandsWith p x w r) e st
+pub with-pending : (p : Problem) (r : Reduction) (w : ℕ) (xs ys : List Literal) → xs ≡ ys → ReducesToWith p xs w r → ReducesToWith p ys w r
+with-pending p r w xs ys e st = subst (λ x. ReducesToWith p x w r) e st
 
 -- a search is forgotten
-pub stands-still : (p : Problem) (r : Reduction) (b : Bool) (t : ℕ) → StandsAfter b t p r → Stands p r
+pub stands-still : (p : Problem) (r : Reduction) (b : Bool) (t : ℕ) → ReducesToAfter b t p r → ReducesTo p r
 stands-still p r true t st =
     let f : FindsModel t r.charges st.clauses r.client = st.finds in
     record {
@@ -263,17 +263,17 @@ paired-next ws i cs c h e =
     ∙ paired-append (take i ws) cs (get_or ws i 0) c (length-take-le i ws (let l = h in omega arith) ∙ e)
 
 pub soft-next : (p : Problem) (r : Reduction) (ws : List ℕ) (i : ℕ) (cs ds : List Clause) (c : Clause) → i < length ws → i ≡ length cs → ds ≡ cs ++ c ∷ [] →
-    Stands (with_soft (get_or ws i 0) c (record p { soft = p.soft ++ paired (take i ws) cs })) r →
-    Stands (record p { soft = p.soft ++ paired (take (i + 1) ws) ds }) r
+    ReducesTo (with_soft (get_or ws i 0) c (record p { soft = p.soft ++ paired (take i ws) cs })) r →
+    ReducesTo (record p { soft = p.soft ++ paired (take (i + 1) ws) ds }) r
 soft-next p r ws i cs ds c h e f st =
-    subst (λ x. Stands (record p { soft = x }) r)
+    subst (λ x. ReducesTo (record p { soft = x }) r)
     (append_assoc p.soft (paired (take i ws) cs) (record { weight = get_or ws i 0; clause = c } ∷ []) ∙ ap (λ x. p.soft ++ x) (sym (paired-next ws i cs c h e))
     ∙ ap (λ x. p.soft ++ paired (take (i + 1) ws) x) (sym f)) st
 
-pub hard-next : (p : Problem) (r : Reduction) (cs ds : List Clause) (c : Clause) → ds ≡ cs ++ c ∷ [] → Stands (with_hard c (record p { hard = p.hard ++ cs })) r →
-    Stands (record p { hard = p.hard ++ ds }) r
+pub hard-next : (p : Problem) (r : Reduction) (cs ds : List Clause) (c : Clause) → ds ≡ cs ++ c ∷ [] → ReducesTo (with_hard c (record p { hard = p.hard ++ cs })) r →
+    ReducesTo (record p { hard = p.hard ++ ds }) r
 hard-next p r cs ds c f st =
-    subst (λ x. Stands (record p { hard = x }) r) (append_assoc p.hard cs (c ∷ []) ∙ ap (λ x. p.hard ++ x) (sym f)) st
+    subst (λ x. ReducesTo (record p { hard = x }) r) (append_assoc p.hard cs (c ∷ []) ∙ ap (λ x. p.hard ++ x) (sym f)) st
 
 -- the next clause has a weight
 pub clause-room : (i : ℕ) (ws : List ℕ) (cs ds all : List Clause) (c : Clause) → i ≡ length cs → cs ++ (c ∷ ds) ≡ all → length ws ≡ length all → i < length ws

@@ -2,14 +2,14 @@
 use Rattle.std.specs.Prelude.{◌≡◌, ℕ, Bool, true, false, None, List, []}
 use Rattle.varisat_theory.specs.Literals.{Literal, Clause, IsFailedCore, IsSatisfiable}
 use Rattle.varisat_client.specs.Pasts.{Past, IsFoundModel, count}
-use Rattle.varisat_client.specs.Clients.{Client, StandsForPast}
+use Rattle.varisat_client.specs.Clients.{Client, RepresentsPast}
 use Rattle.varisat_maxsat.specs.Problems.{Problem}
 use Rattle.varisat_maxsat.specs.Charges.{Reduces, AreAssumed, IsPending}
 use Rattle.varisat_maxsat.specs.declared.charge.Charge.{Charge}
 
 -- No call was refused, and neither a clause nor an assumption is begun.
 pub record IsReady (g : Client) (p : Past) : Type 0 where
-  pub stands : StandsForPast g p
+  pub stands : RepresentsPast g p
   pub refusal : p.refusal ≡ None
   pub clause : p.clause ≡ []
   pub assumptions : p.assumptions ≡ []
@@ -50,14 +50,14 @@ pub record Reduction : Type 0 where
   pub bound : ℕ
 
 -- the problem was brought down so far
-pub record Stands (p : Problem) (r : Reduction) : Type 0 where
+pub record ReducesTo (p : Problem) (r : Reduction) : Type 0 where
   pub past : Past
   pub ready : IsReady r.client past
   pub variables : r.variables ≡ p.variables
   pub reduces : Reduces p.hard p.soft p.variables r.named past.clauses r.charges [] 0 r.bound
 
 -- the same, with literals that are pending, of which one is true
-pub record StandsWith (p : Problem) (pending : List Literal) (w : ℕ) (r : Reduction) : Type 0 where
+pub record ReducesToWith (p : Problem) (pending : List Literal) (w : ℕ) (r : Reduction) : Type 0 where
   pub past : Past
   pub ready : IsReady r.client past
   pub variables : r.variables ≡ p.variables
@@ -65,7 +65,7 @@ pub record StandsWith (p : Problem) (pending : List Literal) (w : ℕ) (r : Redu
   pub one_true : IsPending past.clauses pending
 
 -- the same, after a search
-pub record StandsAfter (found : Bool) (threshold : ℕ) (p : Problem) (r : Reduction) : Type 0 where
+pub record ReducesToAfter (found : Bool) (threshold : ℕ) (p : Problem) (r : Reduction) : Type 0 where
   pub clauses : List Clause
   pub finds : Finds found threshold r.charges clauses r.client
   pub variables : r.variables ≡ p.variables
@@ -73,19 +73,19 @@ pub record StandsAfter (found : Bool) (threshold : ℕ) (p : Problem) (r : Reduc
 
 -- The problem was brought further down, or no assignment satisfies its hard clauses.
 abbrev pub IsRelaxed : Bool → Problem → Reduction → Type 0
-IsRelaxed true p r = Stands p r
+IsRelaxed true p r = ReducesTo p r
 IsRelaxed false p r = IsSatisfiable p.hard → ⊥
 
 -- A model was found in which nothing is charged, or no assignment satisfies the hard clauses.
 abbrev pub Ends : Bool → Problem → Reduction → Type 0
-Ends true p r = StandsAfter true 0 p r
+Ends true p r = ReducesToAfter true 0 p r
 Ends false p r = IsSatisfiable p.hard → ⊥
 
 -- A clause was given as far as these literals.
 pub record GivesSoFar (g : Client) (ls : List Literal) (h : Client) : Type 0 where
-  pub far : (p : Past) → IsReady g p → (q : Past) × StandsForPast h q × (q.refusal ≡ None → q ≡ record p { clause = ls })
+  pub far : (p : Past) → IsReady g p → (q : Past) × RepresentsPast h q × (q.refusal ≡ None → q ≡ record p { clause = ls })
 
 -- Assumptions were given for these charges.
 pub record AssumesSoFar (g : Client) (threshold : ℕ) (charges : List Charge) (h : Client) : Type 0 where
-  pub far : (p : Past) → IsReady g p → (q : Past) × (ls : List Literal) × AreAssumed threshold charges ls × StandsForPast h q
+  pub far : (p : Past) → IsReady g p → (q : Past) × (ls : List Literal) × AreAssumed threshold charges ls × RepresentsPast h q
       × (q.refusal ≡ None → q ≡ record p { assumptions = ls })

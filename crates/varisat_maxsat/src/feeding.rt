@@ -3,7 +3,7 @@ ghost use Rattle.std.specs.Prelude.{◌≡◌, ◌≢◌, ◌++◌, ◌∷◌, [
 ghost use Rattle.varisat_theory.specs.Literals.{Assignment, MakesTrue};
 ghost use Rattle.varisat_literals.specs.Numbers.{literal_numbered};
 ghost use Rattle.varisat_client.specs.Pasts.{Past, count};
-ghost use Rattle.varisat_client.specs.Clients.{StandsForPast};
+ghost use Rattle.varisat_client.specs.Clients.{RepresentsPast};
 ghost use Rattle.varisat_maxsat.specs.Charges.{AreBelow, IsSplit, AreValues};
 ghost use Rattle.varisat_maxsat.specs.Reductions.{IsReady, HasBegun, Finds};
 
@@ -45,7 +45,7 @@ pub(crate) fn ensure_below(clause: &[Lit], count: usize) -> Result<(), MaxSatErr
 
 /// Refuses where the client refused a call.
 fn ensure_accepted<A: Allocator + Copy>(client: &Client<A>) -> Result<(), MaxSatError>
-    ensures { OnOk result ((p : Past) → StandsForPast client.now p → p.refusal ≡ None) }
+    ensures { OnOk result ((p : Past) → RepresentsPast client.now p → p.refusal ≡ None) }
 {
     match client.refusal() {
         Some(refusal) => Err(MaxSatError::from(refusal)),

@@ -2,7 +2,7 @@
 ghost use Rattle.std.specs.Prelude.{◌≡◌, ◌++◌, ◌∷◌, [], ◌+◌, max, OnOk, OnErr, IfOk, ◌≤◌, ◌^◌, length};
 ghost use Rattle.varisat_formula.specs.Formulas.{variables_of};
 ghost use Rattle.varisat_maxsat.specs.Problems.{Problem as Asked, starting, paired, with_hard, with_soft};
-ghost use Rattle.varisat_maxsat.specs.Reductions.{Stands};
+ghost use Rattle.varisat_maxsat.specs.Reductions.{ReducesTo};
 
 use crate::reduction::Reduction;
 use crate::refusal::MaxSatError;
@@ -35,7 +35,7 @@ fn add_all_hard<A: Allocator + Copy>(
     reduction: &mut Reduction<A>,
     formula: &CnfFormula<A>,
 ) -> Result<(), MaxSatError>
-    ensures { OnOk result ((p : Asked) → Stands p reduction.old → Stands (record p { hard = p.hard ++ formula.now.clauses }) reduction.new) }
+    ensures { OnOk result ((p : Asked) → ReducesTo p reduction.old → ReducesTo (record p { hard = p.hard ++ formula.now.clauses }) reduction.new) }
 {
     for clause in formula.iter() {
         reduction.add_hard(clause)?;
@@ -50,7 +50,7 @@ fn add_all_soft<A: Allocator + Copy>(
     weights: &[u64],
 ) -> Result<(), MaxSatError>
     requires { length weights.now ≡ length formula.now.clauses }
-    ensures { OnOk result ((p : Asked) → Stands p reduction.old → Stands (record p { soft = p.soft ++ paired weights.now formula.now.clauses }) reduction.new) }
+    ensures { OnOk result ((p : Asked) → ReducesTo p reduction.old → ReducesTo (record p { soft = p.soft ++ paired weights.now formula.now.clauses }) reduction.new) }
 {
     let mut index = 0;
     for clause in formula.iter() {
@@ -110,7 +110,7 @@ impl<A: Allocator + Copy> Problem<A> {
 
     /// Brings the problem down.
     pub(crate) fn reduce(&self, reduction: &mut Reduction<A>) -> Result<(), MaxSatError>
-        ensures { OnOk result (Stands (starting self.now.variables) reduction.old → Stands self.now reduction.new) }
+        ensures { OnOk result (ReducesTo (starting self.now.variables) reduction.old → ReducesTo self.now reduction.new) }
     {
         add_all_hard(reduction, &self.hard)?;
         add_all_soft(reduction, &self.soft, &self.weights)?;

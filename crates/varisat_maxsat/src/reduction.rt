@@ -1,7 +1,7 @@
 //! A problem that is reduced to hard clauses, and literals that cost a weight each.
 ghost use Rattle.std.specs.Prelude.{◌≡◌, ◌+◌, ◌*◌, ◌++◌, ◌∷◌, [], List, ℕ, OnOk, IfOk, true, false};
 ghost use Rattle.varisat_maxsat.specs.Problems.{Problem, with_hard, with_soft, IsOptimum};
-ghost use Rattle.varisat_maxsat.specs.Reductions.{Stands, StandsWith, StandsAfter, IsRelaxed};
+ghost use Rattle.varisat_maxsat.specs.Reductions.{ReducesTo, ReducesToWith, ReducesToAfter, IsRelaxed};
 
 use crate::charge::{Charge, least_weight, take_weight};
 use crate::feeding::{Split, divide, ensure_below, give, search, values};
@@ -34,7 +34,7 @@ impl<A: Allocator + Copy> Model for Reduction<A> {
 impl<A: Allocator + Copy> Reduction<A> {
     /// No clauses over so many variables.
     pub fn new_in(alloc: A, variables: usize) -> Reduction<A>
-        ensures { Stands (record { variables = variables; hard = []; soft = [] }) result }
+        ensures { ReducesTo (record { variables = variables; hard = []; soft = [] }) result }
     {
         Reduction {
             client: Client::new_in(alloc),
@@ -66,7 +66,7 @@ impl<A: Allocator + Copy> Reduction<A> {
 
     /// Takes a hard clause.
     pub fn add_hard(&mut self, clause: &[Lit]) -> Result<(), MaxSatError>
-        ensures { OnOk result ((p : Problem) → Stands p self.old → Stands (with_hard clause.now p) self.new) }
+        ensures { OnOk result ((p : Problem) → ReducesTo p self.old → ReducesTo (with_hard clause.now p) self.new) }
     {
         ensure_below(clause, self.variables)?;
         give(&mut self.client, clause)?;
@@ -75,7 +75,7 @@ impl<A: Allocator + Copy> Reduction<A> {
 
     /// Takes a soft clause.
     pub fn add_soft(&mut self, weight: u64, clause: &[Lit]) -> Result<(), MaxSatError>
-        ensures { OnOk result ((p : Problem) → Stands p self.old → Stands (with_soft weight clause.now p) self.new) }
+        ensures { OnOk result ((p : Problem) → ReducesTo p self.old → ReducesTo (with_soft weight clause.now p) self.new) }
     {
         ensure_below(clause, self.variables)?;
         if weight == 0 {
@@ -99,7 +99,7 @@ impl<A: Allocator + Copy> Reduction<A> {
 
     /// Searches for a model in which no literal is true whose weight is no less than the threshold.
     pub fn search(&mut self, threshold: u64) -> Result<bool, MaxSatError>
-        ensures { IfOk result (λ b. (p : Problem) → Stands p self.old → StandsAfter b threshold p self.new) }
+        ensures { IfOk result (λ b. (p : Problem) → ReducesTo p self.old → ReducesToAfter b threshold p self.new) }
     {
         let found = search(&mut self.client, &self.charges, threshold)?;
         Ok(found)
@@ -107,7 +107,7 @@ impl<A: Allocator + Copy> Reduction<A> {
 
     /// Brings the problem further down by the core. False is for one that no assignment satisfies.
     pub fn relax(&mut self) -> Result<bool, MaxSatError>
-        ensures { IfOk result (λ b. (p : Problem) (t : ℕ) → StandsAfter false t p self.old → IsRelaxed b p self.new) }
+        ensures { IfOk result (λ b. (p : Problem) (t : ℕ) → ReducesToAfter false t p self.old → IsRelaxed b p self.new) }
     {
         let Split { mut kept, failed } = divide(&self.client, &self.charges, self.alloc)?;
         if failed.is_empty() {
@@ -122,7 +122,7 @@ impl<A: Allocator + Copy> Reduction<A> {
 
     /// Joins the literals, of which one is true, and raises the bound by their weight.
     fn join_pending(&mut self, mut pending: VecDeque<Lit, A>, weight: u64) -> Result<(), MaxSatError>
-        ensures { OnOk result ((p : Problem) → StandsWith p pending.items weight self.old → Stands p self.new) }
+        ensures { OnOk result ((p : Problem) → ReducesToWith p pending.items weight self.old → ReducesTo p self.new) }
     {
         'gates: while let Some(first) = pending.pop_front() {
             let Some(second) = pending.pop_front() else {
@@ -139,7 +139,7 @@ impl<A: Allocator + Copy> Reduction<A> {
     /// In place of two literals: one that is true where either is, which is returned, and one that is true where both are,
     /// which is charged.
     fn join(&mut self, first: Lit, second: Lit, weight: u64) -> Result<Lit, MaxSatError>
-        ensures { IfOk result (λ d. (p : Problem) (rest : List ℕ) → StandsWith p (first ∷ second ∷ rest) weight self.old → StandsWith p (rest ++ d ∷ []) weight self.new) }
+        ensures { IfOk result (λ d. (p : Problem) (rest : List ℕ) → ReducesToWith p (first ∷ second ∷ rest) weight self.old → ReducesToWith p (rest ++ d ∷ []) weight self.new) }
     {
         let either = self.fresh()?;
         let both = self.fresh()?;
@@ -162,7 +162,7 @@ impl<A: Allocator + Copy> Reduction<A> {
 
     /// The values of the problem's variables in the model.
     pub fn values(&self) -> Result<Vec<bool, A>, MaxSatError>
-        ensures { IfOk result (λ vs. (p : Problem) → StandsAfter true 0 p self.now → IsOptimum p self.now.bound vs.items) }
+        ensures { IfOk result (λ vs. (p : Problem) → ReducesToAfter true 0 p self.now → IsOptimum p self.now.bound vs.items) }
     {
         let mut values = values(&self.client, self.named, self.alloc)?;
         values.truncate(self.variables);

@@ -2,7 +2,7 @@
 ghost use Rattle.std.specs.Prelude.{IfOk, MatchOption, true};
 ghost use Rattle.varisat_theory.specs.Literals.{IsSatisfiable};
 ghost use Rattle.varisat_maxsat.specs.Problems.{Problem as Asked, IsOptimum, starting};
-ghost use Rattle.varisat_maxsat.specs.Reductions.{Stands, StandsAfter, Ends};
+ghost use Rattle.varisat_maxsat.specs.Reductions.{ReducesTo, ReducesToAfter, Ends};
 
 use crate::charge::greatest_weight;
 use crate::problem::Problem;
@@ -19,7 +19,7 @@ pub struct Optimum<A: Allocator + Copy> {
 
 /// The bound with the values of the model.
 fn optimum_of<A: Allocator + Copy>(reduction: &Reduction<A>) -> Result<Optimum<A>, MaxSatError>
-    ensures { IfOk result (λ m. (p : Asked) → StandsAfter true 0 p reduction.now → IsOptimum p m.cost m.values.items) }
+    ensures { IfOk result (λ m. (p : Asked) → ReducesToAfter true 0 p reduction.now → IsOptimum p m.cost m.values.items) }
 {
     let values = reduction.values()?;
     Ok(Optimum {
@@ -30,7 +30,7 @@ fn optimum_of<A: Allocator + Copy>(reduction: &Reduction<A>) -> Result<Optimum<A
 
 /// Searches, and relaxes the problem by each core, until the model is one that nothing is charged in.
 fn descend<A: Allocator + Copy>(reduction: &mut Reduction<A>) -> Result<bool, MaxSatError>
-    ensures { IfOk result (λ b. (p : Asked) → Stands p reduction.old → Ends b p reduction.new) }
+    ensures { IfOk result (λ b. (p : Asked) → ReducesTo p reduction.old → Ends b p reduction.new) }
 {
     let mut threshold = greatest_weight(reduction.charges());
     'turns: for _ in 0..u64::MAX {
@@ -51,7 +51,7 @@ fn solve<A: Allocator + Copy>(
     problem: &Problem<A>,
     reduction: &mut Reduction<A>,
 ) -> Result<Option<Optimum<A>>, MaxSatError>
-    ensures { IfOk result (λ o. Stands (starting problem.now.variables) reduction.old → MatchOption o (IsSatisfiable problem.now.hard → ⊥) (λ m. IsOptimum problem.now m.cost m.values.items)) }
+    ensures { IfOk result (λ o. ReducesTo (starting problem.now.variables) reduction.old → MatchOption o (IsSatisfiable problem.now.hard → ⊥) (λ m. IsOptimum problem.now m.cost m.values.items)) }
 {
     problem.reduce(reduction)?;
     if !descend(reduction)? {

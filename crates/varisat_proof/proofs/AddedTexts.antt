@@ -9,7 +9,7 @@ use Rattle.varisat_formula.specs.Parsed.{GivesReading, Whole, FaultInText, TextF
 use Rattle.varisat_formula.specs.TakenTexts.{GivesFirst, TakesInTurn, InOne, InMore, RefusesClause}
 use Rattle.varisat_proof.specs.declared.checker.error.CheckerError.{CheckerError}
 use Rattle.varisat_proof.specs.declared.checker.error.CheckerError.TheVariants.{CheckFailed, NoSuchClause, CoreNotAssumed, Parse, Io, OutOfMemory, Dimacs, Spent}
-use Rattle.varisat_proof.specs.Calls.{CheckerState, CheckerStanding, Becomes, BecomesOrRefuses, AddsRead, AddsText, ClauseRanOut}
+use Rattle.varisat_proof.specs.Calls.{CheckerState, CheckerAtInput, Becomes, BecomesOrRefuses, AddsRead, AddsText, ClauseRanOut}
 use Rattle.varisat_proof.specs.Checks.{RefusesText}
 
 -- the clauses join those that are present, or the call is refused
@@ -53,7 +53,7 @@ refused_reading old mid new R fault (Io x) w f h = absurd h
 refused_reading old mid new R fault Spent w f h = absurd h
 
 -- memory ran out for a clause
-clause_refused : (old new : CheckerStanding) (clauses : List Clause) (text : List ℕ) (e : CheckerError) → Reads old.source text new.source →
+clause_refused : (old new : CheckerAtInput) (clauses : List Clause) (text : List ℕ) (e : CheckerError) → Reads old.source text new.source →
     old.checker.spent ≡ false → Joins old.checker clauses (Err e) new.checker → AddsText old (Err e) new
 clause_refused old new clauses text OutOfMemory k u h = ClauseRanOut text k refl h
 clause_refused old new clauses text Spent k u h = absurd (let f : true ≡ false = sym h.0 ∙ u in cc)
@@ -64,7 +64,7 @@ clause_refused old new clauses text (Parse o) k u h = absurd h
 clause_refused old new clauses text (Io x) k u h = absurd h
 clause_refused old new clauses text (Dimacs x) k u h = absurd h
 
-pub text_refused : (old new : CheckerStanding) (e : CheckerError) → old.checker.spent ≡ false →
+pub text_refused : (old new : CheckerAtInput) (e : CheckerError) → old.checker.spent ≡ false →
     RefusesClause Joins old.source old.checker e new.source new.checker → AddsText old (Err e) new
 text_refused old new e u w = by_text w.given
   where

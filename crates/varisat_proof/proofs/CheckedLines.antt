@@ -24,7 +24,7 @@ use Rattle.varisat_proof.specs.Grammar.{Accepted, Faulty, tag_kind}
 use Rattle.varisat_proof.specs.Machine.{Place, Parsed, ReaderState, line_at, number_event, begin_event, event, begin_line, after_number, moved, last_symbol, put, at_end, happens, after, parsed, parsed_from, begin, last_event, last_place, last_offset}
 use Rattle.varisat_proof.specs.Means.{BytesMean, Means}
 use Rattle.varisat_proof.specs.Marked.{MarkedLog, ProofState, Rules, strict_rules, GoesBy, IsCheckBy, state_of}
-use Rattle.varisat_proof.specs.Checks.{IsLineStatus, StandsBy, StandsAfterLines, LastIsWrong, IsWrongLast, with_lines, HasRead, CheckBreaksOff, EndsWith, result_at_end}
+use Rattle.varisat_proof.specs.Checks.{IsLineStatus, StopsBehind, IsAfterLines, LastIsWrong, IsWrongLast, with_lines, HasRead, CheckBreaksOff, EndsWith, result_at_end}
 use Rattle.varisat_proof.proofs.TokenLines.{parsed_means}
 
 -- 1. Lines.
@@ -53,8 +53,8 @@ module _ (R : Rules) where
   )
   goes_more (l ∷ lines) s t line r g n h = (g.0, g.1, g.2, goes_more lines g.1 t line r g.3 n h)
 
-  pub still_refuted : (b : Bool) (s : ProofState) (lines : List ProofLine) (t : ProofState) (n : ℕ) (l : ProofLine) → b ≡ true → StandsBy R b s lines t n →
-      StandsBy R b s (lines ++ l ∷ []) t n
+  pub still_refuted : (b : Bool) (s : ProofState) (lines : List ProofLine) (t : ProofState) (n : ℕ) (l : ProofLine) → b ≡ true → StopsBehind R b s lines t n →
+      StopsBehind R b s (lines ++ l ∷ []) t n
   still_refuted true s lines t n l e h = record {
     front = h.front;
     back = h.back ++ l ∷ [];
@@ -65,7 +65,7 @@ module _ (R : Rules) where
   }
   still_refuted false s lines t n l e h = absurd cc
 
-  going : (b : Bool) (s : ProofState) (lines : List ProofLine) (t : ProofState) (n : ℕ) → b ≡ false → StandsBy R b s lines t n → StandsBy R false s lines t n
+  going : (b : Bool) (s : ProofState) (lines : List ProofLine) (t : ProofState) (n : ℕ) → b ≡ false → StopsBehind R b s lines t n → StopsBehind R false s lines t n
   going true s lines t n e h = absurd cc
   going false s lines t n e h = h
 
@@ -77,8 +77,8 @@ module _ (R : Rules) where
   longer (x ∷ lines) line = ap suc (longer lines line)
 
   module _ (b : Bool) (s : ProofState) (lines : List ProofLine) (t r : ProofState) (n step : ℕ) (line : ProofLine) (is_open : b ≡ false)
-      (stands : StandsBy R b s lines t n) (number : step ≡ min (n + 1) (2 ^ 64 - 1)) where
-    now : StandsBy R false s lines t n
+      (stands : StopsBehind R b s lines t n) (number : step ≡ min (n + 1) (2 ^ 64 - 1)) where
+    now : StopsBehind R false s lines t n
     now = going b s lines t n is_open stands
 
     last_wrong : (status : LineStatus) → R.wrong t line status → r ≡ t → LastIsWrong R s (lines ++ line ∷ []) status step r
@@ -103,7 +103,7 @@ module _ (R : Rules) where
         IsWrongLast R s (lines ++ line ∷ []) error r
     on_wrong status error e k h = subst (λ x. IsWrongLast R s (lines ++ line ∷ []) x r) (sym e) (wrong_last status k (h now.1))
 
-    taken : (f : Bool) → IsTrue f ↔ Conflicts r.present [] → R.takes t line r → StandsBy R f s (lines ++ line ∷ []) r step
+    taken : (f : Bool) → IsTrue f ↔ Conflicts r.present [] → R.takes t line r → StopsBehind R f s (lines ++ line ∷ []) r step
     taken true h k = record {
       front = lines ++ line ∷ [];
       back = [];
@@ -121,12 +121,12 @@ module _ (R : Rules) where
 
     pub on_taken : (status : LineStatus) (f : Bool) → status ≡ Taken → ((Conflicts t.present [] → ⊥) → IsLineStatus R t line status r) →
         IsTrue f ↔ Conflicts r.present [] →
-        StandsBy R f s (lines ++ line ∷ []) r step
+        StopsBehind R f s (lines ++ line ∷ []) r step
     on_taken status f e h k = taken f k (subst (λ x. IsLineStatus R t line x r) e (h now.1))
 
   -- 2. Results.
   fault_result : (b : Bool) (f : Encoding) (P : ProofState) (bytes : List ℕ) (lines : List ProofLine) (o : ℕ) (Q : ProofState) (n : ℕ) →
-      BytesMean f bytes lines (Some o) → StandsBy R b P lines Q n → IsCheckBy R f P bytes (Err (Parse o)) Q
+      BytesMean f bytes lines (Some o) → StopsBehind R b P lines Q n → IsCheckBy R f P bytes (Err (Parse o)) Q
   fault_result true f P bytes lines o Q n m s = record {
     lines = lines;
     fault = Some o;
@@ -150,7 +150,7 @@ module _ (R : Rules) where
   }
 
   whole_result : (b : Bool) (f : Encoding) (P : ProofState) (bytes : List ℕ) (lines : List ProofLine) (Q : ProofState) (n : ℕ) →
-      BytesMean f bytes lines None → StandsBy R b P lines Q n → IsCheckBy R f P bytes (Ok (if b then Refutation else Derivation)) Q
+      BytesMean f bytes lines None → StopsBehind R b P lines Q n → IsCheckBy R f P bytes (Ok (if b then Refutation else Derivation)) Q
   whole_result true f P bytes lines Q n m s = record {
     lines = lines;
     fault = None;
@@ -244,7 +244,7 @@ module _ (R : Rules) where
   accepted f bytes lines e = subst (λ t. Means f bytes t) e (parsed_means f bytes)
 
   pub reads_fault : (f : Encoding) (P : ProofState) (text more : List ℕ) (lines : List ProofLine) (p : ReaderState) (b : ℕ) (Q : ProofState)
-      (count : Count) → HasRead f text lines p → Fault ≡ happens p b → StandsAfterLines R P lines Q count →
+      (count : Count) → HasRead f text lines p → Fault ≡ happens p b → IsAfterLines R P lines Q count →
       CheckBreaksOff R f P ((text ++ b ∷ []) ++ more) (Parse p.start) Q
   reads_fault f P text more lines p b Q count r h s = λ rest.
       fault_result count.refuted f P (((text ++ b ∷ []) ++ more) ++ rest) lines p.start Q count.steps
@@ -292,14 +292,14 @@ module _ (R : Rules) where
   }
 
   pub ends_fault : (f : Encoding) (P : ProofState) (text : List ℕ) (lines : List ProofLine) (p : ReaderState) (Q : ProofState) (count : Count) →
-      HasRead f text lines p → Fault ≡ last_event p → StandsAfterLines R P lines Q count → EndsWith R f P text (Err (Parse (last_offset p))) Q
+      HasRead f text lines p → Fault ≡ last_event p → IsAfterLines R P lines Q count → EndsWith R f P text (Err (Parse (last_offset p))) Q
   ends_fault f P text lines p Q count r h s =
       fault_result count.refuted f P text lines (last_offset p) Q count.steps
       (faulty f text lines (last_offset p) (closing_is f text lines p Fault r (sym h) ∙
       ap (λ x. let t : Parsed = record { lines = x; fault = Some (last_offset p) } in t) (append-nil lines))) s
 
   ends_inside : (f : Encoding) (P : ProofState) (text : List ℕ) (lines : List ProofLine) (q : ReaderState) (Q : ProofState) (count : Count) →
-      ParsedWhole f text lines q → q.place.inside ≡ true → StandsAfterLines R P lines Q count → EndsWith R f P text (Err (Parse q.at)) Q
+      ParsedWhole f text lines q → q.place.inside ≡ true → IsAfterLines R P lines Q count → EndsWith R f P text (Err (Parse q.at)) Q
   ends_inside f P text lines q Q count t h s =
       fault_result count.refuted f P text lines q.at Q count.steps
       (faulty f text lines q.at (t.whole ∙ ap (λ x. let t : Parsed = record { lines = lines ++ []; fault = if x then Some q.at else None } in t) h ∙
@@ -311,7 +311,7 @@ module _ (R : Rules) where
       ap (λ x. let t : Parsed = record { lines = x; fault = None } in t) (append-nil lines))
 
   ends_whole : (f : Encoding) (P : ProofState) (text : List ℕ) (lines : List ProofLine) (q : ReaderState) (Q : ProofState) (count : Count) →
-      ParsedWhole f text lines q → q.place.inside ≡ false → StandsAfterLines R P lines Q count →
+      ParsedWhole f text lines q → q.place.inside ≡ false → IsAfterLines R P lines Q count →
       EndsWith R f P text (Ok (if count.refuted then Refutation else Derivation)) Q
   ends_whole f P text lines q Q count t h s = whole_result count.refuted f P text lines Q count.steps (whole f text lines q t h) s
 
@@ -325,7 +325,7 @@ module _ (R : Rules) where
 
   -- where a reader and a checker stand behind a text
   abbrev pub SoFar : Encoding → ProofState → List ℕ → ProofState → Count → ReaderState → Type 0
-  SoFar f P text Q count p = (lines : List ProofLine) × HasRead f text lines p × StandsAfterLines R P lines Q count
+  SoFar f P text Q count p = (lines : List ProofLine) × HasRead f text lines p × IsAfterLines R P lines Q count
 
   -- the line that ended there
   pub record LineEnds (q : ReaderState) (d : LineKind) (c : Clause) : Type 0 where
@@ -336,7 +336,7 @@ module _ (R : Rules) where
   line_ends q d c w = ap (λ x. line_of_kind x c) w.kind ∙ ap (λ x. line_of_kind q.place.kind x) w.clause
 
   pub so_far_start : (f : Encoding) (P : ProofState) (text : List ℕ) (lines : List ProofLine) (Q : ProofState) (count : Count) (p : ReaderState) →
-      HasRead f text lines p → StandsAfterLines R P lines Q count → SoFar f P (text ++ []) Q count p
+      HasRead f text lines p → IsAfterLines R P lines Q count → SoFar f P (text ++ []) Q count p
   so_far_start f P text lines Q count p r s = (lines, subst (λ x. HasRead f x lines p) (sym (append-nil text)) r, s)
 
   pub so_far_more : (f : Encoding) (P : ProofState) (text piece : List ℕ) (i : ℕ) (Q Q' : ProofState) (count count' : Count) (p q : ReaderState) →
@@ -345,19 +345,19 @@ module _ (R : Rules) where
   so_far_more f P text piece i Q Q' count count' p q h s e g a b = (
     s.0,
     subst (λ x. HasRead f x s.0 q) (piece_step text piece i h) (reads_more f (text ++ take i piece) s.0 p q (get_or piece i 0) s.1 e g),
-    subst (λ x. StandsAfterLines R P s.0 x count') (sym a) (subst (λ x. StandsAfterLines R P s.0 Q x) (sym b) s.2),
+    subst (λ x. IsAfterLines R P s.0 x count') (sym a) (subst (λ x. IsAfterLines R P s.0 Q x) (sym b) s.2),
   )
 
   pub so_far_line : (f : Encoding) (P : ProofState) (text piece : List ℕ) (i : ℕ) (Q Q' : ProofState) (count count' : Count) (p q : ReaderState)
       (d : LineKind) (c : Clause) → i < length piece → SoFar f P (text ++ take i piece) Q count p →
       Ended ≡ happens p (get_or piece i 0) → q ≡ after p (get_or piece i 0) → LineEnds q d c →
-      ((P : ProofState) (lines : List ProofLine) → StandsAfterLines R P lines Q count → StandsAfterLines R P (lines ++ line_of_kind d c ∷ []) Q' count') →
+      ((P : ProofState) (lines : List ProofLine) → IsAfterLines R P lines Q count → IsAfterLines R P (lines ++ line_of_kind d c ∷ []) Q' count') →
       SoFar f P (text ++ take (i + 1) piece) Q' count' q
   so_far_line f P text piece i Q Q' count count' p q d c h s e g w t = (
     s.0 ++ line_at q.place ∷ [],
     subst (λ x. HasRead f x (s.0 ++ line_at q.place ∷ []) q) (piece_step text piece i h)
         (reads_line f (text ++ take i piece) s.0 p q (get_or piece i 0) s.1 e g),
-    subst (λ x. StandsAfterLines R P (s.0 ++ x ∷ []) Q' count')
+    subst (λ x. IsAfterLines R P (s.0 ++ x ∷ []) Q' count')
         (line_ends q d c w) (t P s.0 s.2),
   )
 
@@ -372,7 +372,7 @@ module _ (R : Rules) where
   pub piece_wrong : (f : Encoding) (P : ProofState) (text piece : List ℕ) (i : ℕ) (Q Q' : ProofState) (count : Count) (p q : ReaderState) (d : LineKind)
       (c : Clause) (error : CheckerError) → i < length piece → SoFar f P (text ++ take i piece) Q count p →
       Ended ≡ happens p (get_or piece i 0) → q ≡ after p (get_or piece i 0) → LineEnds q d c →
-      ((P : ProofState) (lines : List ProofLine) → StandsAfterLines R P lines Q count → IsWrongLast R P (lines ++ line_of_kind d c ∷ []) error Q') →
+      ((P : ProofState) (lines : List ProofLine) → IsAfterLines R P lines Q count → IsWrongLast R P (lines ++ line_of_kind d c ∷ []) error Q') →
       CheckBreaksOff R f P (text ++ piece) error Q'
   piece_wrong f P text piece i Q Q' count p q d c error h s e g w t =
       subst (λ x. CheckBreaksOff R f P x error Q') (piece_whole text piece i h)
@@ -386,35 +386,35 @@ module _ (R : Rules) where
 
   -- 6. Where reader and checker stand at the end.
   abbrev pub EndsAt : Encoding → ProofState → List ℕ → ProofState → Count → ReaderState → Type 0
-  EndsAt f P text Q count q = (lines : List ProofLine) × ParsedWhole f text lines q × StandsAfterLines R P lines Q count
+  EndsAt f P text Q count q = (lines : List ProofLine) × ParsedWhole f text lines q × IsAfterLines R P lines Q count
 
   pub ends_at_more : (f : Encoding) (P : ProofState) (text : List ℕ) (lines : List ProofLine) (Q Q' : ProofState) (count count' : Count)
-      (p q : ReaderState) → HasRead f text lines p → StandsAfterLines R P lines Q count →
+      (p q : ReaderState) → HasRead f text lines p → IsAfterLines R P lines Q count →
       More ≡ last_event p → q ≡ record p { place = last_place p } → Q' ≡ Q → count' ≡ count → EndsAt f P text Q' count' q
   ends_at_more f P text lines Q Q' count count' p q r s e g a b = (
     lines,
     ends_more f text lines p q r e g,
-    subst (λ x. StandsAfterLines R P lines x count')
-        (sym a) (subst (λ x. StandsAfterLines R P lines Q x) (sym b) s),
+    subst (λ x. IsAfterLines R P lines x count')
+        (sym a) (subst (λ x. IsAfterLines R P lines Q x) (sym b) s),
   )
 
   pub ends_at_line : (f : Encoding) (P : ProofState) (text : List ℕ) (lines : List ProofLine) (Q Q' Q'' : ProofState) (count count' count'' : Count)
-      (p q : ReaderState) (d : LineKind) (c : Clause) → HasRead f text lines p → StandsAfterLines R P lines Q count →
+      (p q : ReaderState) (d : LineKind) (c : Clause) → HasRead f text lines p → IsAfterLines R P lines Q count →
       Ended ≡ last_event p → q ≡ record p { place = last_place p } → LineEnds q d c →
-      ((P : ProofState) (lines : List ProofLine) → StandsAfterLines R P lines Q count → StandsAfterLines R P (lines ++ line_of_kind d c ∷ []) Q' count') →
+      ((P : ProofState) (lines : List ProofLine) → IsAfterLines R P lines Q count → IsAfterLines R P (lines ++ line_of_kind d c ∷ []) Q' count') →
       Q'' ≡ Q' → count'' ≡ count' → EndsAt f P text Q'' count'' q
   ends_at_line f P text lines Q Q' Q'' count count' count'' p q d c r s e g w t a b =
       let all = lines ++ line_at q.place ∷ [] in (
         all,
         ends_line f text lines p q r e g,
-        subst (λ x. StandsAfterLines R P all x count'') (sym a)
-            (subst (λ x. StandsAfterLines R P all Q' x) (sym b) (subst (λ x. StandsAfterLines R P (lines ++ x ∷ []) Q' count') (line_ends q d c w) (t P lines s))),
+        subst (λ x. IsAfterLines R P all x count'') (sym a)
+            (subst (λ x. IsAfterLines R P all Q' x) (sym b) (subst (λ x. IsAfterLines R P (lines ++ x ∷ []) Q' count') (line_ends q d c w) (t P lines s))),
       )
 
   pub end_wrong : (f : Encoding) (P : ProofState) (text : List ℕ) (lines : List ProofLine) (Q Q' : ProofState) (count : Count) (p q : ReaderState)
-      (d : LineKind) (c : Clause) (error : CheckerError) → HasRead f text lines p → StandsAfterLines R P lines Q count →
+      (d : LineKind) (c : Clause) (error : CheckerError) → HasRead f text lines p → IsAfterLines R P lines Q count →
       Ended ≡ last_event p → q ≡ record p { place = last_place p } → LineEnds q d c → q.place.inside ≡ false →
-      ((P : ProofState) (lines : List ProofLine) → StandsAfterLines R P lines Q count → IsWrongLast R P (lines ++ line_of_kind d c ∷ []) error Q') →
+      ((P : ProofState) (lines : List ProofLine) → IsAfterLines R P lines Q count → IsWrongLast R P (lines ++ line_of_kind d c ∷ []) error Q') →
       EndsWith R f P text (Err error) Q'
   end_wrong f P text lines Q Q' count p q d c error r s e g w o t = by_error error
       (subst (λ x. IsWrongLast R P (lines ++ x ∷ []) error Q') (line_ends q d c w) (t P lines s))
@@ -487,6 +487,6 @@ module _ (R : Rules) where
       by true h = absurd cc
       by false h = symbol_outside p.encoding p.place.inside p.place.kind p.place.clause s h
 
-  pub stands_along : (P : ProofState) (lines : List ProofLine) (Q Q' : ProofState) (count count' : Count) → StandsAfterLines R P lines Q count → Q' ≡ Q →
-      count' ≡ count → StandsAfterLines R P lines Q' count'
-  stands_along P lines Q Q' count count' s a b = subst (λ x. StandsAfterLines R P lines x count') (sym a) (subst (λ x. StandsAfterLines R P lines Q x) (sym b) s)
+  pub stands_along : (P : ProofState) (lines : List ProofLine) (Q Q' : ProofState) (count count' : Count) → IsAfterLines R P lines Q count → Q' ≡ Q →
+      count' ≡ count → IsAfterLines R P lines Q' count'
+  stands_along P lines Q Q' count count' s a b = subst (λ x. IsAfterLines R P lines x count') (sym a) (subst (λ x. IsAfterLines R P lines Q x) (sym b) s)

@@ -3,7 +3,7 @@ use Rattle.std.proofs.Common.{◌≡◌, ℕ, List, [], ◌∷◌, ◌++◌, inl
 use Rattle.varisat_theory.specs.Literals.{Clause, IsSatisfiable}
 use Rattle.varisat_theory.specs.Derivations.{Add, Delete}
 use Rattle.varisat_theory.proofs.RatLines.{rat_sound, drat_line_sound, drat_refutes}
-use Rattle.varisat_formula.specs.Streams.{Stand}
+use Rattle.varisat_formula.specs.Streams.{Input}
 use Rattle.varisat_present.specs.declared.present.Deletion.{Deletion}
 use Rattle.varisat_present.specs.declared.present.Deletion.TheVariants as deletion
 use Rattle.varisat_present.specs.Resolving.{IsDeletionOf}
@@ -82,7 +82,7 @@ drat_bytes format e P logged t r Q bytes g n q k =
     (subst (λ x. IsCheckBy drat_rules x (from logged) bytes r t) g k))
 
 pub drat_ok : (format : ProofFormat) (e : Encoding) (P : List Clause) (logged : MarkedLog) (t : ProofState) (v : CheckVerdict) (Q : List Clause)
-    (old new : Stand) → e ≡ plain_encoding format → logged ≡ nothing_logged → Q ≡ t.present →
+    (old new : Input) → e ≡ plain_encoding format → logged ≡ nothing_logged → Q ≡ t.present →
     ChecksBytes (λ bytes. IsCheckBy drat_rules e (state_of P logged) bytes (Ok v) t) old (Ok v) new →
     ChecksBytes (λ bytes. IsDratResult format P bytes (Ok v) Q) old (Ok v) new
 drat_ok format e P logged t v Q old new g n q k =
@@ -91,7 +91,7 @@ drat_ok format e P logged t v Q old new g n q k =
     (λ bytes h. drat_bytes format e P logged t (Ok v) Q bytes g n q h) k
 
 pub drat_err : (format : ProofFormat) (e : Encoding) (P : List Clause) (logged : MarkedLog) (t : ProofState) (x : CheckerError) (Q : List Clause)
-    (old new : Stand) → e ≡ plain_encoding format → logged ≡ nothing_logged → Q ≡ t.present →
+    (old new : Input) → e ≡ plain_encoding format → logged ≡ nothing_logged → Q ≡ t.present →
     ChecksBytes {V = CheckVerdict} (λ bytes. IsCheckBy drat_rules e (state_of P logged) bytes (Err x) t) old (Err x) new →
     ChecksBytes {V = CheckVerdict} (λ bytes. IsDratResult format P bytes (Err x) Q) old (Err x) new
 drat_err format e P logged t x Q old new g n q k =
@@ -103,13 +103,13 @@ drat_err format e P logged t x Q old new g n q k =
 refuted_sound : (format : ProofFormat) (P Q : List Clause) (bytes : List ℕ) → IsDratResult format P bytes (Ok Refutation) Q → IsSatisfiable P → ⊥
 refuted_sound format P Q bytes k s = drat_refutes Q [] Q refl k.stops.1 (goes_sound k.front (state_of P nothing_logged) (state_of Q nothing_logged) k.goes s)
 
-pub drat_check_sound : (format : ProofFormat) (P Q : List Clause) (v : CheckVerdict) (old new : Stand) → v ≡ Refutation →
+pub drat_check_sound : (format : ProofFormat) (P Q : List Clause) (v : CheckVerdict) (old new : Input) → v ≡ Refutation →
     ChecksBytes (λ bytes. IsDratResult format P bytes (Ok v) Q) old (Ok v) new → IsSatisfiable P → ⊥
 drat_check_sound format P Q v old new e k =
     let w = checks_right (λ bytes. IsDratResult format P bytes (Ok v) Q) old new v k in
     refuted_sound format P Q w.0 (subst (λ (x : CheckVerdict). IsDratResult format P w.0 (Ok x) Q) e w.1)
 
-pub drat_checks_sound : (format : ProofFormat) (P Q : List Clause) (r : Result CheckVerdict CheckerError) (old new : Stand) → r ≡ Ok Refutation →
+pub drat_checks_sound : (format : ProofFormat) (P Q : List Clause) (r : Result CheckVerdict CheckerError) (old new : Input) → r ≡ Ok Refutation →
     ChecksBytes (λ bytes. IsDratResult format P bytes r Q) old r new → IsSatisfiable P → ⊥
 drat_checks_sound format P Q (Ok v) old new e k = let h : v ≡ Refutation = cc in drat_check_sound format P Q v old new h k
 drat_checks_sound format P Q (Err x) old new e k = absurd cc

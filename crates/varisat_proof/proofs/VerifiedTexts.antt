@@ -4,7 +4,7 @@ use Rattle.varisat_theory.specs.Membership.{◌∈◌, SameSet}
 use Rattle.varisat_theory.specs.Literals.{Clause, IsSatisfiable}
 use Rattle.varisat_theory.proofs.Members.{∈-append_right, ∈-append_cases}
 use Rattle.varisat_formula.specs.Dimacs.{Reading}
-use Rattle.varisat_formula.specs.Streams.{Stand, Taken}
+use Rattle.varisat_formula.specs.Streams.{Input, Taken}
 use Rattle.varisat_formula.specs.Parsed.{GivesReading}
 use Rattle.varisat_formula.proofs.ParsedSources.{gives_whole}
 use Rattle.varisat_proof.specs.declared.proof.format.ProofFormat.{ProofFormat}
@@ -27,17 +27,17 @@ use Rattle.varisat_proof.proofs.DratCheck.{drat_checks_sound}
 use Rattle.varisat_proof.proofs.CheckedSources.{checks_ok, checks_err, checks_right}
 use Rattle.varisat_proof.proofs.MarkedReports.{refutation_sound}
 
-whole_text : (s t : Stand) (reading : Reading) → GivesReading s reading t → reading.fault ≡ None → GivesClauses s reading.clauses t
+whole_text : (s t : Input) (reading : Reading) → GivesReading s reading t → reading.fault ≡ None → GivesClauses s reading.clauses t
 whole_text s t reading g f =
     let w = gives_whole s t reading g f in
     record { text = w.text; reads = w.reads; ended = w.ended; fine = ap (λ x. x.fault) (sym w.is) ∙ f; clauses_are = ap (λ x. x.clauses) w.is }
 
 -- a new checker took the text
-record Took (s t : Stand) (mid : CheckerState) : Type 0 where
+record Took (s t : Input) (mid : CheckerState) : Type 0 where
   given : GivesClauses s mid.clauses t
   now : mid ≡ record { clauses = mid.clauses; spent = false }
 
-took : (s t : Stand) (mid : CheckerState) → AddsText (record { checker = record { clauses = []; spent = false }; source = s }) (Ok tt)
+took : (s t : Input) (mid : CheckerState) → AddsText (record { checker = record { clauses = []; spent = false }; source = s }) (Ok tt)
     (record { checker = mid; source = t }) → Took s t mid
 took s t mid (Added reading g a) =
     let e : mid ≡ record { clauses = reading.clauses; spent = false } = a.1.now in
@@ -48,7 +48,7 @@ took s t mid (Added reading g a) =
 took s t mid (ClauseRanOut text r e h) = absurd cc
 took s t mid (Unread e h g) = absurd cc
 
-pub verifies : (f : ProofFormat) (s t p q : Stand) (start mid new : CheckerState) (r : Result CheckVerdict CheckerError) (v : Bool) →
+pub verifies : (f : ProofFormat) (s t p q : Input) (start mid new : CheckerState) (r : Result CheckVerdict CheckerError) (v : Bool) →
     start ≡ record { clauses = []; spent = false } →
     AddsText (record { checker = start; source = s }) (Ok tt) (record { checker = mid; source = t }) →
     (mid.spent ≡ false → Checks f (record { checker = mid; source = p }) r (record { checker = new; source = q })) →
@@ -81,7 +81,7 @@ verified_unsatisfiable f old new v e w =
     (w.clauses, w.given, checks_sound f w.clauses w.left.clauses w.result_is old.proof new.proof (is_refutation w.result_is (w.verdict ∙ ap Some e)) w.checks)
 
 -- a check of a marked proof by a new checker
-pub marked_ok : {A : Type 0} (other new : CheckerState) (report : MarkedReport A) (p q : Stand) → other ≡ record { clauses = []; spent = false } →
+pub marked_ok : {A : Type 0} (other new : CheckerState) (report : MarkedReport A) (p q : Input) → other ≡ record { clauses = []; spent = false } →
     (other.spent ≡ false → ChecksMarked (record { checker = other; source = p }) (Ok report) (record { checker = new; source = q })) →
     ChecksBytes {V = CheckVerdict} (λ bytes. IsMarkedCheck bytes (Ok report.verdict) report.inputs.clauses new.clauses) p (Ok report.verdict) q
 marked_ok other new report p q e h =
@@ -94,7 +94,7 @@ marked_ok other new report p q e h =
           (ap (λ x. x.clauses) e) k.1,
     )) (h (ap (λ x. x.spent) e))
 
-pub marked_err : {A : Type 0} (other new : CheckerState) (x : CheckerError) (p q : Stand) → other ≡ record { clauses = []; spent = false } →
+pub marked_err : {A : Type 0} (other new : CheckerState) (x : CheckerError) (p q : Input) → other ≡ record { clauses = []; spent = false } →
     (other.spent ≡ false → ChecksBytes {V = MarkedReport A} (λ bytes. (logged : MarkedLog)
     × IsCheckOf (Text true) (state_of other.clauses nothing_logged) bytes (Err x) (state_of new.clauses logged)) p (Err x) q) →
     ChecksBytes {V = CheckVerdict} (λ bytes. IsMarkedCheck bytes (Err x) [] new.clauses) p (Err x) q
@@ -107,7 +107,7 @@ marked_err other new x p q e h =
           (ap (λ x. x.clauses) e) k.1,
     )) (h (ap (λ x. x.spent) e))
 
-pub verifies_marked : (s t p q : Stand) (start mid : CheckerState) (r : Result CheckVerdict CheckerError) (inputs Q : List Clause) (v : Bool) →
+pub verifies_marked : (s t p q : Input) (start mid : CheckerState) (r : Result CheckVerdict CheckerError) (inputs Q : List Clause) (v : Bool) →
     start ≡ record { clauses = []; spent = false } →
     AddsText (record { checker = start; source = s }) (Ok tt) (record { checker = mid; source = t }) →
     ChecksBytes {V = CheckVerdict} (λ bytes. IsMarkedCheck bytes r inputs Q) p r q → IsMarkedVerdict mid.clauses r inputs v →
@@ -126,7 +126,7 @@ given_more P cs c g w x m = ⊎_elim (λ k. g x k) (λ k. ⊎_elim (λ e. subst 
 given_satisfied : (P cs : List Clause) → AreGiven P cs → IsSatisfiable P → IsSatisfiable cs
 given_satisfied P cs g (a, s) = (a, λ c m. let w = g c m in let x = s w.0 w.1 in (x.0, w.2.0 x.0 x.1, x.2))
 
-marked_refutes : (P inputs Q : List Clause) (r : Result CheckVerdict CheckerError) (old new : Stand) →
+marked_refutes : (P inputs Q : List Clause) (r : Result CheckVerdict CheckerError) (old new : Input) →
     ChecksBytes {V = CheckVerdict} (λ bytes. IsMarkedCheck bytes r inputs Q) old r new → IsMarkedVerdict P r inputs true → IsSatisfiable P → ⊥
 marked_refutes P inputs Q (Ok v) old new c d i =
     let h = d.0 refl in
@@ -152,13 +152,13 @@ status_is_true f old new v n text before after e w z =
 
 -- A check that comes to no verdict.
 
-pub fails_reading : (s t p : Stand) (start left : CheckerState) (e : CheckerError) → start ≡ record { clauses = []; spent = false } →
+pub fails_reading : (s t p : Input) (start left : CheckerState) (e : CheckerError) → start ≡ record { clauses = []; spent = false } →
     AddsText (record { checker = start; source = s }) (Err e) (record { checker = left; source = t }) →
     FailsCheck (record { cnf = s; proof = p }) (record { cnf = t; proof = p }) e
 fails_reading s t p start left e b a =
     AsRead left (subst (λ x. AddsText (record { checker = x; source = s }) (Err e) (record { checker = left; source = t })) b a) refl
 
-no_bytes : {V : Type 0} (is_right : List ℕ → Type 0) (old new : Stand) (e : CheckerError) → ((bytes : List ℕ) → is_right bytes → ⊥) →
+no_bytes : {V : Type 0} (is_right : List ℕ → Type 0) (old new : Input) (e : CheckerError) → ((bytes : List ℕ) → is_right bytes → ⊥) →
     ChecksBytes {V = V} is_right old (Err e) new → FailsToRead old e new
 no_bytes is_right old new e never (AtEnd text r h q i) = absurd (never text i)
 no_bytes is_right old new e never (InText text r q i) = absurd (never (text ++ []) (i []))
@@ -182,7 +182,7 @@ no_result f P bytes e Q n i =
     let z : Some b ≡ None = sym logged ∙ ap verdict_of (sym i.result_is) ∙ n in
     cc
 
-pub fails_checking : (f : ProofFormat) (s t p q : Stand) (start mid new : CheckerState) (r : Result CheckVerdict CheckerError) (e : CheckerError) →
+pub fails_checking : (f : ProofFormat) (s t p q : Input) (start mid new : CheckerState) (r : Result CheckVerdict CheckerError) (e : CheckerError) →
     start ≡ record { clauses = []; spent = false } →
     AddsText (record { checker = start; source = s }) (Ok tt) (record { checker = mid; source = t }) →
     (mid.spent ≡ false → Checks f (record { checker = mid; source = p }) r (record { checker = new; source = q })) →
@@ -204,7 +204,7 @@ no_marked bytes OutOfMemory inputs Q f (logged, i) = i.stops
 no_marked bytes (Dimacs x) inputs Q f (logged, i) = i.stops
 no_marked bytes Spent inputs Q f (logged, i) = i.stops
 
-pub fails_marked : (s t p q : Stand) (start mid : CheckerState) (e : CheckerError) (Q : List Clause) →
+pub fails_marked : (s t p q : Input) (start mid : CheckerState) (e : CheckerError) (Q : List Clause) →
     start ≡ record { clauses = []; spent = false } →
     AddsText (record { checker = start; source = s }) (Ok tt) (record { checker = mid; source = t }) →
     ChecksBytes {V = CheckVerdict} (λ bytes. IsMarkedCheck bytes (Err e) [] Q) p (Err e) q → is_of_bytes e ≡ false →
@@ -215,7 +215,7 @@ fails_marked s t p q start mid e Q b a c f =
 
 -- A check of a DRAT proof.
 
-pub verifies_drat : (f : ProofFormat) (s t p q : Stand) (start mid new : CheckerState) (r : Result CheckVerdict CheckerError) (v : Bool) →
+pub verifies_drat : (f : ProofFormat) (s t p q : Input) (start mid new : CheckerState) (r : Result CheckVerdict CheckerError) (v : Bool) →
     start ≡ record { clauses = []; spent = false } →
     AddsText (record { checker = start; source = s }) (Ok tt) (record { checker = mid; source = t }) →
     (mid.spent ≡ false → ChecksDrat f (record { checker = mid; source = p }) r (record { checker = new; source = q })) →
@@ -242,7 +242,7 @@ no_drat f P bytes OutOfMemory Q z i = i.stops
 no_drat f P bytes (Dimacs x) Q z i = i.stops
 no_drat f P bytes Spent Q z i = i.stops
 
-pub fails_drat : (f : ProofFormat) (s t p q : Stand) (start mid new : CheckerState) (r : Result CheckVerdict CheckerError) (e : CheckerError) →
+pub fails_drat : (f : ProofFormat) (s t p q : Input) (start mid new : CheckerState) (r : Result CheckVerdict CheckerError) (e : CheckerError) →
     start ≡ record { clauses = []; spent = false } →
     AddsText (record { checker = start; source = s }) (Ok tt) (record { checker = mid; source = t }) →
     (mid.spent ≡ false → ChecksDrat f (record { checker = mid; source = p }) r (record { checker = new; source = q })) →
@@ -258,6 +258,6 @@ pub drat_unsatisfiable : (f : ProofFormat) (old new : Sources) (v : Bool) → Ve
 drat_unsatisfiable f old new v w e =
     (w.clauses, w.given, drat_checks_sound f w.clauses w.left.clauses w.result_is old.proof new.proof (is_refutation w.result_is (w.verdict ∙ ap Some e)) w.checks)
 
-pub drat_status : (s t : Stand) (v : Bool) (n : ℕ) (text : List ℕ) (before after : Taken) → EndsPrinting (verdict_status v) text n before after →
+pub drat_status : (s t : Input) (v : Bool) (n : ℕ) (text : List ℕ) (before after : Taken) → EndsPrinting (verdict_status v) text n before after →
     (v ≡ true → GivesUnsatisfiable s t) → n ≡ 0 → GivesUnsatisfiable s t
 drat_status s t v n text before after e h z = h (only_verified v n text before after e z)

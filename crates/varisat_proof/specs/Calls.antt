@@ -9,7 +9,7 @@ use Rattle.varisat_theory.specs.Held.{without}
 use Rattle.varisat_formula.specs.declared.dimacs.error.DimacsErrorKind.TheVariants as kind
 use Rattle.varisat_formula.specs.Dimacs.{Reading}
 use Rattle.varisat_formula.specs.Streams as streams
-use Rattle.varisat_formula.specs.Streams.{Stand, HasEnded}
+use Rattle.varisat_formula.specs.Streams.{Input, HasEnded}
 use Rattle.varisat_formula.specs.Parsed.{GivesReading}
 use Rattle.varisat_proof.specs.declared.proof.format.ProofFormat.{ProofFormat}
 use Rattle.varisat_trace.specs.declared.step.ProofStep.{ProofStep}
@@ -99,13 +99,13 @@ IsStep old step (Err error) new = ⊥
 
 -- 2. Proofs.
 -- a checker, and the source that it reads
-pub record CheckerStanding : Type 0 where
+pub record CheckerAtInput : Type 0 where
   pub checker : CheckerState
-  pub source : Stand
+  pub source : Input
 
 -- both together
-abbrev pub standing_of : CheckerState → Stand → CheckerStanding
-standing_of checker source = record { checker = checker; source = source }
+abbrev pub at_input : CheckerState → Input → CheckerAtInput
+at_input checker source = record { checker = checker; source = source }
 
 -- an error that speaks of the bytes
 abbrev pub is_of_bytes : CheckerError → Bool
@@ -121,11 +121,11 @@ IsOfBytes (Ok v) = Unit {0}
 IsOfBytes (Err e) = is_of_bytes e ≡ true
 
 -- Where the source had these bytes left, and the result speaks of them, it is right for them.
-abbrev pub IsRightFor : {V : Type 0} → CheckerStanding → Result V CheckerError → (List ℕ → Type 0) → Type 0
+abbrev pub IsRightFor : {V : Type 0} → CheckerAtInput → Result V CheckerError → (List ℕ → Type 0) → Type 0
 IsRightFor old result is_right = (bytes : List ℕ) → old.checker.spent ≡ false → old.source.left ≡ Some bytes → IsOfBytes result → is_right bytes
 
 -- What a check of a source returns, where its result is right for some bytes, over what the source gave meanwhile.
-pub data ChecksBytes {V : Type 0} (is_right : List ℕ → Type 0) (old : Stand) (result : Result V CheckerError) (new : Stand) : Type 0 where
+pub data ChecksBytes {V : Type 0} (is_right : List ℕ → Type 0) (old : Input) (result : Result V CheckerError) (new : Input) : Type 0 where
   -- the source ended, and the result is that of all it gave
   AtEnd : (text : List ℕ) → streams.Reads old text new → HasEnded new → new.faults ≡ old.faults → is_right text → ChecksBytes is_right old result new
   -- whatever comes behind what the source gave, this is the result
@@ -136,7 +136,7 @@ pub data ChecksBytes {V : Type 0} (is_right : List ℕ → Type 0) (old : Stand)
   RanOut : (text : List ℕ) → streams.Reads old text new → new.faults ≡ old.faults → result ≡ Err OutOfMemory → ChecksBytes is_right old result new
 
 -- what a check of a DRAT proof returns
-abbrev pub Checks : ProofFormat → CheckerStanding → Result CheckVerdict CheckerError → CheckerStanding → Type 0
+abbrev pub Checks : ProofFormat → CheckerAtInput → Result CheckVerdict CheckerError → CheckerAtInput → Type 0
 Checks format old result new = ChecksBytes (λ bytes. IsResult format old.checker.clauses bytes result new.checker.clauses) old.source result new.source
 
 -- the cores as lists
@@ -155,7 +155,7 @@ IsMarkedResult P bytes (Ok report) Q =
 IsMarkedResult P bytes (Err e) Q = (logged : MarkedLog) × IsCheckOf (Text true) (state_of P nothing_logged) bytes (Err e) (state_of Q logged)
 
 -- what a check of a marked proof returns
-abbrev pub ChecksMarked : {A : Type 0} → CheckerStanding → Result (MarkedReport A) CheckerError → CheckerStanding → Type 0
+abbrev pub ChecksMarked : {A : Type 0} → CheckerAtInput → Result (MarkedReport A) CheckerError → CheckerAtInput → Type 0
 ChecksMarked old result new = ChecksBytes (λ bytes. IsMarkedResult old.checker.clauses bytes result new.checker.clauses) old.source result new.source
 
 -- A report is true: what is called a refutation is one, and no assignment satisfies a core together with the clauses that the checker
@@ -176,7 +176,7 @@ AddsRead old reading (Err OutOfMemory) new = IsRefusal old OutOfMemory new
 AddsRead old reading (Err error) new = ⊥
 
 -- a text is added that a source gives; a spent checker reads nothing
-pub data AddsText (old : CheckerStanding) (result : Result (Unit {0}) CheckerError) (new : CheckerStanding) : Type 0 where
+pub data AddsText (old : CheckerAtInput) (result : Result (Unit {0}) CheckerError) (new : CheckerAtInput) : Type 0 where
   Added : (reading : Reading) → GivesReading old.source reading new.source → AddsRead old.checker reading result new.checker → AddsText old result new
   -- memory ran out for a clause that was read
   ClauseRanOut : (text : List ℕ) → streams.Reads old.source text new.source → result ≡ Err OutOfMemory → IsRefusal old.checker OutOfMemory new.checker →

@@ -19,7 +19,7 @@ use Rattle.varisat_proof.specs.Lines.{ProofLine, line_of_kind, step_number}
 use Rattle.varisat_proof.specs.Machine.{Parsed, ReaderState, parsed, parsed_from}
 use Rattle.varisat_proof.specs.Marked.{ProofState, MarkedLog, Rules, state_of, GoesBy, IsCheckBy}
 use Rattle.varisat_theory.specs.StepLaws.{unit_lines}
-use Rattle.varisat_proof.specs.Calls.{CheckerState, CheckerStanding, ChecksBytes, FailsAt}
+use Rattle.varisat_proof.specs.Calls.{CheckerState, CheckerAtInput, ChecksBytes, FailsAt}
 
 -- 1. Lines, by some rules.
 -- what becomes of a line: it is taken, or it is wrong and nothing changes
@@ -41,13 +41,13 @@ pub record HasRefuted (R : Rules) (s : ProofState) (lines : List ProofLine) (t :
   pub conflict : Conflicts t.present []
 
 -- t is there behind lines that have refuted, or behind all of them, which have not
-abbrev pub StandsBy : Rules → Bool → ProofState → List ProofLine → ProofState → ℕ → Type 0
-StandsBy R true s lines t steps = HasRefuted R s lines t
-StandsBy R false s lines t steps = GoesBy R s lines t × (Conflicts t.present [] → ⊥) × (steps ≡ step_number (length lines))
+abbrev pub StopsBehind : Rules → Bool → ProofState → List ProofLine → ProofState → ℕ → Type 0
+StopsBehind R true s lines t steps = HasRefuted R s lines t
+StopsBehind R false s lines t steps = GoesBy R s lines t × (Conflicts t.present [] → ⊥) × (steps ≡ step_number (length lines))
 
 -- The lines were taken, or, once propagation conflicted, only read; and they were counted.
-abbrev pub StandsAfterLines : Rules → ProofState → List ProofLine → ProofState → Count → Type 0
-StandsAfterLines R s lines t count = StandsBy R count.refuted s lines t count.steps
+abbrev pub IsAfterLines : Rules → ProofState → List ProofLine → ProofState → Count → Type 0
+IsAfterLines R s lines t count = StopsBehind R count.refuted s lines t count.steps
 
 -- the last line is the first wrong one, and t is there before it
 pub record LastIsWrong (R : Rules) (s : ProofState) (lines : List ProofLine) (status : LineStatus) (step : ℕ) (t : ProofState) : Type 0 where
@@ -69,14 +69,14 @@ IsWrongLast R s lines error t = ⊥
 
 -- a line more
 abbrev pub TakesLine : Rules → ProofState → List ProofLine → Result (Unit {0}) CheckerError → ProofState → Count → Type 0
-TakesLine R s lines (Ok u) t count = StandsAfterLines R s lines t count
+TakesLine R s lines (Ok u) t count = IsAfterLines R s lines t count
 TakesLine R s lines (Err e) t count = IsWrongLast R s lines e t
 
 -- whichever lines were looked at before
 abbrev pub TakesNext : Rules → ProofState → Count → LineKind → Clause → Result (Unit {0}) CheckerError → ProofState → Count → Type 0
 TakesNext R old before kind clause result new after =
     (s : ProofState) (lines : List ProofLine)
-    → StandsAfterLines R s lines old before → TakesLine R s (lines ++ line_of_kind kind clause ∷ []) result new after
+    → IsAfterLines R s lines old before → TakesLine R s (lines ++ line_of_kind kind clause ∷ []) result new after
 
 -- 2. Bytes.
 abbrev pub with_lines : List ProofLine → Parsed → Parsed
@@ -103,14 +103,14 @@ CheckBreaksOff R encoding s text e t = (rest : List ℕ) → IsCheckBy R encodin
 
 -- a piece more of the text was read
 abbrev pub ReadsPiece : Rules → Encoding → ProofState → List ℕ → Result (Unit {0}) CheckerError → Position → Type 0
-ReadsPiece R encoding s text (Ok u) at = (lines : List ProofLine) × HasRead encoding text lines at.progress × StandsAfterLines R s lines at.state at.count
+ReadsPiece R encoding s text (Ok u) at = (lines : List ProofLine) × HasRead encoding text lines at.progress × IsAfterLines R s lines at.state at.count
 ReadsPiece R encoding s text (Err e) at = CheckBreaksOff R encoding s text e at.state
 
 -- whatever was read before
 abbrev pub ReadsNext : Rules → List ℕ → Position → Result (Unit {0}) CheckerError → Position → Type 0
 ReadsNext R piece old result new =
     (e : Encoding) (s : ProofState) (text : List ℕ) (lines : List ProofLine)
-    → HasRead e text lines old.progress → StandsAfterLines R s lines old.state old.count → ReadsPiece R e s (text ++ piece) result new
+    → HasRead e text lines old.progress → IsAfterLines R s lines old.state old.count → ReadsPiece R e s (text ++ piece) result new
 
 -- what a check returns where the bytes end, of which all lines were checked
 abbrev pub result_at_end : ReaderState → Count → Result CheckVerdict CheckerError
@@ -125,10 +125,10 @@ EndsWith R encoding s text result t = IsCheckBy R encoding s text result t
 abbrev pub EndsBehind : Rules → Position → Result CheckVerdict CheckerError → ProofState → Type 0
 EndsBehind R old result t =
     (e : Encoding) (s : ProofState) (text : List ℕ) (lines : List ProofLine)
-    → HasRead e text lines old.progress → StandsAfterLines R s lines old.state old.count → EndsWith R e s text result t
+    → HasRead e text lines old.progress → IsAfterLines R s lines old.state old.count → EndsWith R e s text result t
 
 -- a source is read as one proof
-abbrev pub ChecksFrom : Rules → Encoding → CheckerStanding → MarkedLog → Result CheckVerdict CheckerError → CheckerStanding → MarkedLog → Type 0
+abbrev pub ChecksFrom : Rules → Encoding → CheckerAtInput → MarkedLog → Result CheckVerdict CheckerError → CheckerAtInput → MarkedLog → Type 0
 ChecksFrom R encoding old before result new after =
     ChecksBytes (λ bytes. IsCheckBy R encoding (state_of old.checker.clauses before) bytes result (state_of new.checker.clauses after))
     old.source result new.source

@@ -18,7 +18,7 @@ use Rattle.varisat_proof.specs.declared.checker.error.CheckVerdict.{CheckVerdict
 use Rattle.varisat_proof.specs.declared.checker.error.CheckerError.{CheckerError}
 use Rattle.varisat_proof.specs.Lines.{plain_encoding}
 use Rattle.varisat_proof.specs.Marked.{Rules, strict_rules, state_of, nothing_logged, IsCheckBy}
-use Rattle.varisat_proof.specs.Calls.{CheckerStanding, ChecksBytes}
+use Rattle.varisat_proof.specs.Calls.{CheckerAtInput, ChecksBytes}
 
 -- the clause neither follows nor is RAT
 abbrev pub IsNeither : List Clause → Clause → Type 0
@@ -49,7 +49,7 @@ IsDratResult format P bytes result Q =
     IsCheckBy drat_rules (plain_encoding format) (state_of P nothing_logged) bytes result (state_of Q nothing_logged)
 
 -- what a check of DRAT lines returns
-abbrev pub ChecksDrat : ProofFormat → CheckerStanding → Result CheckVerdict CheckerError → CheckerStanding → Type 0
+abbrev pub ChecksDrat : ProofFormat → CheckerAtInput → Result CheckVerdict CheckerError → CheckerAtInput → Type 0
 ChecksDrat format old result new =
     ChecksBytes (λ bytes. IsDratResult format old.checker.clauses bytes result new.checker.clauses) old.source result new.source
 

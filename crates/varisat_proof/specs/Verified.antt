@@ -4,7 +4,7 @@ use Rattle.varisat_theory.specs.Membership.{◌∈◌, SameSet}
 use Rattle.varisat_theory.specs.Literals.{Clause, IsSatisfiable}
 use Rattle.varisat_formula.specs.Dimacs.{dimacs}
 use Rattle.varisat_formula.specs.Streams as streams
-use Rattle.varisat_formula.specs.Streams.{Stand, HasEnded, Taken}
+use Rattle.varisat_formula.specs.Streams.{Input, HasEnded, Taken}
 use Rattle.varisat_proof.specs.declared.proof.format.ProofFormat.{ProofFormat}
 use Rattle.varisat_proof.specs.declared.proof.format.ProofFormat.TheVariants.{Drat, BinaryDrat, Marked}
 use Rattle.varisat_proof.specs.declared.proof.format.Encoding.TheVariants.{Text}
@@ -12,12 +12,12 @@ use Rattle.varisat_proof.specs.declared.checker.error.CheckVerdict.{CheckVerdict
 use Rattle.varisat_proof.specs.declared.checker.error.CheckVerdict.TheVariants.{Refutation, Derivation}
 use Rattle.varisat_proof.specs.declared.checker.error.CheckerError.{CheckerError}
 use Rattle.varisat_proof.specs.declared.checker.error.CheckerError.TheVariants.{CheckFailed, NoSuchClause, CoreNotAssumed, Parse, Io, OutOfMemory, Dimacs, Spent}
-use Rattle.varisat_proof.specs.Calls.{CheckerState, standing_of, AddsText, Checks, ChecksBytes, is_of_bytes, is_io}
+use Rattle.varisat_proof.specs.Calls.{CheckerState, at_input, AddsText, Checks, ChecksBytes, is_of_bytes, is_io}
 use Rattle.varisat_proof.specs.Marked.{MarkedLog, nothing_logged, state_of, IsCheckOf}
 use Rattle.varisat_proof.specs.DratChecks.{ChecksDrat}
 
 -- the source gave a whole text without a fault, which has these clauses
-pub record GivesClauses (old : Stand) (clauses : List Clause) (new : Stand) : Type 0 where
+pub record GivesClauses (old : Input) (clauses : List Clause) (new : Input) : Type 0 where
   pub text : List ℕ
   pub reads : streams.Reads old text new
   pub ended : HasEnded new
@@ -39,11 +39,11 @@ verdict_of (Err Spent) = None
 
 -- the sources of a text and of a proof
 pub record Sources : Type 0 where
-  pub cnf : Stand
-  pub proof : Stand
+  pub cnf : Input
+  pub proof : Input
 
 -- both together
-abbrev pub sources_of : Stand → Stand → Sources
+abbrev pub sources_of : Input → Input → Sources
 sources_of cnf proof = record { cnf = cnf; proof = proof }
 
 -- The text has clauses, and a check of the proof from these on gave the verdict.
@@ -52,7 +52,7 @@ pub record Verifies (format : ProofFormat) (old new : Sources) (verified : Bool)
   pub given : GivesClauses old.cnf clauses new.cnf
   pub left : CheckerState
   pub result_is : Result CheckVerdict CheckerError
-  pub checks : Checks format (standing_of (record { clauses = clauses; spent = false }) old.proof) result_is (standing_of left new.proof)
+  pub checks : Checks format (at_input (record { clauses = clauses; spent = false }) old.proof) result_is (at_input left new.proof)
   pub verdict : verdict_of result_is ≡ Some verified
 
 -- each of the clauses is equal as a set to one of P
@@ -88,19 +88,19 @@ VerifiesBy BinaryDrat old new verified = Verifies BinaryDrat old new verified
 VerifiesBy Marked old new verified = VerifiesMarked old new verified
 
 -- reading a proof fails: its source does, or memory runs out
-abbrev pub FailsToRead : Stand → CheckerError → Stand → Type 0
+abbrev pub FailsToRead : Input → CheckerError → Input → Type 0
 FailsToRead old e new =
     (text : List ℕ) × streams.Reads old text new
     × (((is_io e ≡ true) × (new.faults ≡ old.faults + 1)) ⊎ ((e ≡ OutOfMemory) × (new.faults ≡ old.faults)))
 
 -- When a check comes to no verdict, but to the error: a new checker does not take the text; or it does, and reading the proof fails.
 pub data FailsCheck (old new : Sources) (e : CheckerError) : Type 0 where
-  AsRead : (left : CheckerState) → AddsText (standing_of (record { clauses = []; spent = false }) old.cnf) (Err e) (standing_of left new.cnf) →
+  AsRead : (left : CheckerState) → AddsText (at_input (record { clauses = []; spent = false }) old.cnf) (Err e) (at_input left new.cnf) →
       new.proof ≡ old.proof → FailsCheck old new e
   AsChecked : (clauses : List Clause) → GivesClauses old.cnf clauses new.cnf → FailsToRead old.proof e new.proof → FailsCheck old new e
 
 -- the source gave a whole text without a fault, whose clauses no assignment satisfies
-abbrev pub GivesUnsatisfiable : Stand → Stand → Type 0
+abbrev pub GivesUnsatisfiable : Input → Input → Type 0
 GivesUnsatisfiable old new = (clauses : List Clause) × GivesClauses old clauses new × (IsSatisfiable clauses → ⊥)
 
 -- what is printed, and the status
@@ -136,7 +136,7 @@ EndsCheck format old new status before after =
     ⊎ ((verified : Bool) × VerifiesBy format old new verified × PrintsVerdict verified status before after)
 
 -- the same, by the sources
-abbrev pub EndsBy : ProofFormat → Stand → Stand → Stand → Stand → ℕ → Taken → Taken → Type 0
+abbrev pub EndsBy : ProofFormat → Input → Input → Input → Input → ℕ → Taken → Taken → Type 0
 EndsBy format cnf proof cnf' proof' status before after = EndsCheck format (sources_of cnf proof) (sources_of cnf' proof') status before after
 
 -- The text has clauses, and a check of the proof's DRAT lines from these on gave the verdict.
@@ -145,7 +145,7 @@ pub record VerifiesDrat (format : ProofFormat) (old new : Sources) (verified : B
   pub given : GivesClauses old.cnf clauses new.cnf
   pub left : CheckerState
   pub result_is : Result CheckVerdict CheckerError
-  pub checks : ChecksDrat format (standing_of (record { clauses = clauses; spent = false }) old.proof) result_is (standing_of left new.proof)
+  pub checks : ChecksDrat format (at_input (record { clauses = clauses; spent = false }) old.proof) result_is (at_input left new.proof)
   pub verdict : verdict_of result_is ≡ Some verified
 
 -- how such a check ends
@@ -155,5 +155,5 @@ EndsDrat format old new status before after =
     ⊎ ((verified : Bool) × VerifiesDrat format old new verified × PrintsVerdict verified status before after)
 
 -- the same, by the sources
-abbrev pub EndsByDrat : ProofFormat → Stand → Stand → Stand → Stand → ℕ → Taken → Taken → Type 0
+abbrev pub EndsByDrat : ProofFormat → Input → Input → Input → Input → ℕ → Taken → Taken → Type 0
 EndsByDrat format cnf proof cnf' proof' status before after = EndsDrat format (sources_of cnf proof) (sources_of cnf' proof') status before after

@@ -38,12 +38,12 @@ pub fn check_lines<A: Allocator + Copy, S: ByteSource, P: ByteSource, T: ProofTa
     out: &mut T,
     err: &mut E,
 ) -> u8
-    requires cnf_faults { (S.stand cnf.old).faults < 2 ^ 64 - 1 }
-    requires proof_faults { (P.stand proof.old).faults < 2 ^ 64 - 1 }
+    requires cnf_faults { (S.input cnf.old).faults < 2 ^ 64 - 1 }
+    requires proof_faults { (P.input proof.old).faults < 2 ^ 64 - 1 }
     requires out_faults { (T.taken out.old).faults < 2 ^ 64 - 1 }
-    ensures outcome { EndsBy format (S.stand cnf.old) (P.stand proof.old) (S.stand cnf.new) (P.stand proof.new)
+    ensures outcome { EndsBy format (S.input cnf.old) (P.input proof.old) (S.input cnf.new) (P.input proof.new)
         result (T.taken out.old) (T.taken out.new) }
-    ensures truth { result ≡ 0 → GivesUnsatisfiable (S.stand cnf.old) (S.stand cnf.new) }
+    ensures truth { result ≡ 0 → GivesUnsatisfiable (S.input cnf.old) (S.input cnf.new) }
 {
     match verify_by(alloc, cnf, proof, format) {
         Ok(verified) => print_verdict(out, err, verified),
@@ -61,12 +61,12 @@ pub fn check_drat_lines<
     T: ProofTarget,
     E: Write,
 >(alloc: A, cnf: &mut S, proof: &mut P, format: ProofFormat, out: &mut T, err: &mut E) -> u8
-    requires cnf_faults { (S.stand cnf.old).faults < 2 ^ 64 - 1 }
-    requires proof_faults { (P.stand proof.old).faults < 2 ^ 64 - 1 }
+    requires cnf_faults { (S.input cnf.old).faults < 2 ^ 64 - 1 }
+    requires proof_faults { (P.input proof.old).faults < 2 ^ 64 - 1 }
     requires out_faults { (T.taken out.old).faults < 2 ^ 64 - 1 }
-    ensures outcome { EndsByDrat format (S.stand cnf.old) (P.stand proof.old) (S.stand cnf.new) (P.stand proof.new)
+    ensures outcome { EndsByDrat format (S.input cnf.old) (P.input proof.old) (S.input cnf.new) (P.input proof.new)
         result (T.taken out.old) (T.taken out.new) }
-    ensures truth { result ≡ 0 → GivesUnsatisfiable (S.stand cnf.old) (S.stand cnf.new) }
+    ensures truth { result ≡ 0 → GivesUnsatisfiable (S.input cnf.old) (S.input cnf.new) }
 {
     match verify_drat(alloc, cnf, proof, format, err) {
         Ok(verified) => print_verdict(out, err, verified),
@@ -82,10 +82,10 @@ fn verify_drat<A: Allocator + Copy, S: ByteSource, P: ByteSource, E: Write>(
     format: ProofFormat,
     err: &mut E,
 ) -> Result<bool, CheckerError>
-    requires cnf_faults { (S.stand cnf.old).faults < 2 ^ 64 - 1 }
-    requires proof_faults { (P.stand proof.old).faults < 2 ^ 64 - 1 }
-    ensures verified { IfOk result (VerifiesDrat format (sources_of (S.stand cnf.old) (P.stand proof.old)) (sources_of (S.stand cnf.new) (P.stand proof.new))) }
-    ensures fails { IfErr result (FailsCheck (sources_of (S.stand cnf.old) (P.stand proof.old)) (sources_of (S.stand cnf.new) (P.stand proof.new))) }
+    requires cnf_faults { (S.input cnf.old).faults < 2 ^ 64 - 1 }
+    requires proof_faults { (P.input proof.old).faults < 2 ^ 64 - 1 }
+    ensures verified { IfOk result (VerifiesDrat format (sources_of (S.input cnf.old) (P.input proof.old)) (sources_of (S.input cnf.new) (P.input proof.new))) }
+    ensures fails { IfErr result (FailsCheck (sources_of (S.input cnf.old) (P.input proof.old)) (sources_of (S.input cnf.new) (P.input proof.new))) }
 {
     let mut checker = Checker::new_in(alloc);
     let verified = verify_drat_in(&mut checker, cnf, proof, format, err);
@@ -102,10 +102,10 @@ fn verify_drat_in<A: Allocator + Copy, S: ByteSource, P: ByteSource, E: Write>(
     err: &mut E,
 ) -> Result<bool, CheckerError>
     requires new { checker.old ≡ record { clauses = []; spent = false } }
-    requires cnf_faults { (S.stand cnf.old).faults < 2 ^ 64 - 1 }
-    requires proof_faults { (P.stand proof.old).faults < 2 ^ 64 - 1 }
-    ensures verified { IfOk result (VerifiesDrat format (sources_of (S.stand cnf.old) (P.stand proof.old)) (sources_of (S.stand cnf.new) (P.stand proof.new))) }
-    ensures fails { IfErr result (FailsCheck (sources_of (S.stand cnf.old) (P.stand proof.old)) (sources_of (S.stand cnf.new) (P.stand proof.new))) }
+    requires cnf_faults { (S.input cnf.old).faults < 2 ^ 64 - 1 }
+    requires proof_faults { (P.input proof.old).faults < 2 ^ 64 - 1 }
+    ensures verified { IfOk result (VerifiesDrat format (sources_of (S.input cnf.old) (P.input proof.old)) (sources_of (S.input cnf.new) (P.input proof.new))) }
+    ensures fails { IfErr result (FailsCheck (sources_of (S.input cnf.old) (P.input proof.old)) (sources_of (S.input cnf.new) (P.input proof.new))) }
 {
     match checker.add_dimacs_cnf(cnf) {
         Ok(()) => {}
@@ -178,10 +178,10 @@ fn verify_by<A: Allocator + Copy, S: ByteSource, P: ByteSource>(
     proof: &mut P,
     format: ProofFormat,
 ) -> Result<bool, CheckerError>
-    requires cnf_faults { (S.stand cnf.old).faults < 2 ^ 64 - 1 }
-    requires proof_faults { (P.stand proof.old).faults < 2 ^ 64 - 1 }
-    ensures verified { IfOk result (VerifiesBy format (sources_of (S.stand cnf.old) (P.stand proof.old)) (sources_of (S.stand cnf.new) (P.stand proof.new))) }
-    ensures fails { IfErr result (FailsCheck (sources_of (S.stand cnf.old) (P.stand proof.old)) (sources_of (S.stand cnf.new) (P.stand proof.new))) }
+    requires cnf_faults { (S.input cnf.old).faults < 2 ^ 64 - 1 }
+    requires proof_faults { (P.input proof.old).faults < 2 ^ 64 - 1 }
+    ensures verified { IfOk result (VerifiesBy format (sources_of (S.input cnf.old) (P.input proof.old)) (sources_of (S.input cnf.new) (P.input proof.new))) }
+    ensures fails { IfErr result (FailsCheck (sources_of (S.input cnf.old) (P.input proof.old)) (sources_of (S.input cnf.new) (P.input proof.new))) }
 {
     match format {
         ProofFormat::Drat => verify(alloc, cnf, proof, ProofFormat::Drat),
@@ -239,10 +239,10 @@ fn verify_marked_in<A: Allocator + Copy, S: ByteSource, P: ByteSource>(
 ) -> Result<bool, CheckerError>
     requires new { given.old ≡ record { clauses = []; spent = false } }
     requires checker_new { checker.old ≡ record { clauses = []; spent = false } }
-    requires cnf_faults { (S.stand cnf.old).faults < 2 ^ 64 - 1 }
-    requires proof_faults { (P.stand proof.old).faults < 2 ^ 64 - 1 }
-    ensures verified { IfOk result (VerifiesMarked (sources_of (S.stand cnf.old) (P.stand proof.old)) (sources_of (S.stand cnf.new) (P.stand proof.new))) }
-    ensures fails { IfErr result (FailsCheck (sources_of (S.stand cnf.old) (P.stand proof.old)) (sources_of (S.stand cnf.new) (P.stand proof.new))) }
+    requires cnf_faults { (S.input cnf.old).faults < 2 ^ 64 - 1 }
+    requires proof_faults { (P.input proof.old).faults < 2 ^ 64 - 1 }
+    ensures verified { IfOk result (VerifiesMarked (sources_of (S.input cnf.old) (P.input proof.old)) (sources_of (S.input cnf.new) (P.input proof.new))) }
+    ensures fails { IfErr result (FailsCheck (sources_of (S.input cnf.old) (P.input proof.old)) (sources_of (S.input cnf.new) (P.input proof.new))) }
 {
     match given.add_dimacs_cnf(cnf) {
         Ok(()) => {}
@@ -264,10 +264,10 @@ fn verify_marked<A: Allocator + Copy, S: ByteSource, P: ByteSource>(
     cnf: &mut S,
     proof: &mut P,
 ) -> Result<bool, CheckerError>
-    requires cnf_faults { (S.stand cnf.old).faults < 2 ^ 64 - 1 }
-    requires proof_faults { (P.stand proof.old).faults < 2 ^ 64 - 1 }
-    ensures verified { IfOk result (VerifiesMarked (sources_of (S.stand cnf.old) (P.stand proof.old)) (sources_of (S.stand cnf.new) (P.stand proof.new))) }
-    ensures fails { IfErr result (FailsCheck (sources_of (S.stand cnf.old) (P.stand proof.old)) (sources_of (S.stand cnf.new) (P.stand proof.new))) }
+    requires cnf_faults { (S.input cnf.old).faults < 2 ^ 64 - 1 }
+    requires proof_faults { (P.input proof.old).faults < 2 ^ 64 - 1 }
+    ensures verified { IfOk result (VerifiesMarked (sources_of (S.input cnf.old) (P.input proof.old)) (sources_of (S.input cnf.new) (P.input proof.new))) }
+    ensures fails { IfErr result (FailsCheck (sources_of (S.input cnf.old) (P.input proof.old)) (sources_of (S.input cnf.new) (P.input proof.new))) }
 {
     let mut given = Checker::new_in(alloc);
     let mut checker = Checker::new_in(alloc);
@@ -286,10 +286,10 @@ fn verify<A: Allocator + Copy, S: ByteSource, P: ByteSource>(
     proof: &mut P,
     format: ProofFormat,
 ) -> Result<bool, CheckerError>
-    requires cnf_faults { (S.stand cnf.old).faults < 2 ^ 64 - 1 }
-    requires proof_faults { (P.stand proof.old).faults < 2 ^ 64 - 1 }
-    ensures verified { IfOk result (Verifies format (sources_of (S.stand cnf.old) (P.stand proof.old)) (sources_of (S.stand cnf.new) (P.stand proof.new))) }
-    ensures fails { IfErr result (FailsCheck (sources_of (S.stand cnf.old) (P.stand proof.old)) (sources_of (S.stand cnf.new) (P.stand proof.new))) }
+    requires cnf_faults { (S.input cnf.old).faults < 2 ^ 64 - 1 }
+    requires proof_faults { (P.input proof.old).faults < 2 ^ 64 - 1 }
+    ensures verified { IfOk result (Verifies format (sources_of (S.input cnf.old) (P.input proof.old)) (sources_of (S.input cnf.new) (P.input proof.new))) }
+    ensures fails { IfErr result (FailsCheck (sources_of (S.input cnf.old) (P.input proof.old)) (sources_of (S.input cnf.new) (P.input proof.new))) }
 {
     let mut checker = Checker::new_in(alloc);
     let verified = verify_in(&mut checker, cnf, proof, format);
@@ -321,10 +321,10 @@ fn verify_in<A: Allocator + Copy, S: ByteSource, P: ByteSource>(
     format: ProofFormat,
 ) -> Result<bool, CheckerError>
     requires new { checker.old ≡ record { clauses = []; spent = false } }
-    requires cnf_faults { (S.stand cnf.old).faults < 2 ^ 64 - 1 }
-    requires proof_faults { (P.stand proof.old).faults < 2 ^ 64 - 1 }
-    ensures verified { IfOk result (Verifies format (sources_of (S.stand cnf.old) (P.stand proof.old)) (sources_of (S.stand cnf.new) (P.stand proof.new))) }
-    ensures fails { IfErr result (FailsCheck (sources_of (S.stand cnf.old) (P.stand proof.old)) (sources_of (S.stand cnf.new) (P.stand proof.new))) }
+    requires cnf_faults { (S.input cnf.old).faults < 2 ^ 64 - 1 }
+    requires proof_faults { (P.input proof.old).faults < 2 ^ 64 - 1 }
+    ensures verified { IfOk result (Verifies format (sources_of (S.input cnf.old) (P.input proof.old)) (sources_of (S.input cnf.new) (P.input proof.new))) }
+    ensures fails { IfErr result (FailsCheck (sources_of (S.input cnf.old) (P.input proof.old)) (sources_of (S.input cnf.new) (P.input proof.new))) }
 {
     match checker.add_dimacs_cnf(cnf) {
         Ok(()) => {}

@@ -8,7 +8,7 @@ use Rattle.varisat_literals.specs.Numbers.{polarity_of}
 use Rattle.varisat_prop.specs.declared.prop.graph.Reason.{Reason}
 use Rattle.varisat_prop.specs.declared.prop.graph.Reason.TheVariants as reason
 use Rattle.varisat_prop.specs.declared.prop.graph.ImplNode.{ImplNode}
-use Rattle.varisat_prop.specs.View.{View, implied_by, IsTrueIn, clause_at, literal_at, node_of, node_at, no_node, StandsBefore, Implies, IsReason, WellFormed}
+use Rattle.varisat_prop.specs.View.{View, implied_by, IsTrueIn, clause_at, literal_at, node_of, node_at, no_node, IsOnTrailBefore, Implies, IsReason, WellFormed}
 use Rattle.varisat_prop.specs.Changes.{enqueued}
 use Rattle.varisat_prop.proofs.LiteralValues.{none-made, made-new, made-old, made-cases}
 
@@ -66,7 +66,7 @@ module _ (s : View) (l : Literal) (r : Reason) (ds : List ℕ) (w : WellFormed s
   pub each-place : (P : ℕ → Type 0) → ((k : ℕ) → k < length s.trail → P k) → P (length s.trail) → (k : ℕ) → k < length ext.trail → P k
   each-place P old new k h = ⊎_elim (old k) (λ e. subst P (sym e) new) (place-cases k h)
 
-  stands-old : (k : ℕ) (m : Literal) → k ≤ length s.trail → StandsBefore s k m → StandsBefore ext k m
+  stands-old : (k : ℕ) (m : Literal) → k ≤ length s.trail → IsOnTrailBefore s k m → IsOnTrailBefore ext k m
   stands-old k m h (j, a, e) = (j, a, literal-old j (omega (arith, a, h)) ∙ e)
 
   implies-old : (c : Clause) (k : ℕ) → k < length s.trail → Implies s c k → Implies ext c k

@@ -98,18 +98,18 @@ abbrev pub node_at : View → ℕ → ImplNode
 node_at s k = node_of s (literal_at s k)
 
 -- the literal stands on the trail before place k
-abbrev pub StandsBefore : View → ℕ → Literal → Type 0
-StandsBefore s k l = (j : ℕ) × (j < k) × (literal_at s j ≡ l)
+abbrev pub IsOnTrailBefore : View → ℕ → Literal → Type 0
+IsOnTrailBefore s k l = (j : ℕ) × (j < k) × (literal_at s j ≡ l)
 
 -- The clause is a reason for the literal at place k: that is its first literal, and its others are false by literals before it.
 abbrev pub Implies : View → Clause → ℕ → Type 0
 Implies s [] k = ⊥
-Implies s (l ∷ others) k = (l ≡ literal_at s k) × ((m : Literal) → m ∈ others → StandsBefore s k (opposite m))
+Implies s (l ∷ others) k = (l ≡ literal_at s k) × ((m : Literal) → m ∈ others → IsOnTrailBefore s k (opposite m))
 
 -- Why the literal at place k may stand there. A reason Unit is a decision's, which is listed among the decisions, or that of a literal at level 0.
 abbrev pub IsReason : View → ℕ → Reason → Type 0
 IsReason s k reason.Unit = (k ∈ s.decisions) ⊎ ((node_at s k).level ≡ 0)
-IsReason s k (reason.Binary ms) = (m : Literal) × (ms ≡ m ∷ []) × (literal_at s k ∈ implied_by s (opposite m)) × StandsBefore s k (opposite m)
+IsReason s k (reason.Binary ms) = (m : Literal) × (ms ≡ m ∷ []) × (literal_at s k ∈ implied_by s (opposite m)) × IsOnTrailBefore s k (opposite m)
 IsReason s k (reason.Long p) = IsPlace s.clauses p × Implies s (clause_at s p) k
 
 -- What keeps the code safe: the lists fit one another.
@@ -129,7 +129,7 @@ pub record WellFormed (s : View) : Type 0 where
   pub binary_other : (l m : Literal) → m ∈ implied_by s l → m ≢ opposite l
   -- exactly the literals of the trail are true
   pub is_true : (k : ℕ) → k < length s.trail → IsTrueIn s (literal_at s k)
-  pub stands : (l : Literal) → IsTrueIn s l → StandsBefore s (length s.trail) l
+  pub stands : (l : Literal) → IsTrueIn s l → IsOnTrailBefore s (length s.trail) l
   pub head : s.queue_head ≤ length s.trail
   -- a literal's depth tells its place, so that none stands twice
   pub depth_is : (k : ℕ) → k < length s.trail → (node_at s k).depth ≡ suc k

@@ -9,7 +9,7 @@ use Rattle.varisat_theory.proofs.Places.{∈-get_or, place_in}
 use Rattle.varisat_theory.proofs.Members.{equal_or_not}
 use Rattle.varisat_prop.specs.declared.prop.graph.Reason.{Reason}
 use Rattle.varisat_prop.specs.declared.prop.graph.Reason.TheVariants as reason
-use Rattle.varisat_prop.specs.View.{View, kept, implied_by, IsTrueIn, clause_at, literal_at, decision_at, node_of, node_at, StandsBefore, Implies, IsReason, WellFormed, IsFixed, PropagatedBeforeDecisions}
+use Rattle.varisat_prop.specs.View.{View, kept, implied_by, IsTrueIn, clause_at, literal_at, decision_at, node_of, node_at, IsOnTrailBefore, Implies, IsReason, WellFormed, IsFixed, PropagatedBeforeDecisions}
 use Rattle.varisat_prop.proofs.LiteralValues.{made-inside}
 use Rattle.varisat_prop.specs.Watches.{Watches, IsPropagated}
 use Rattle.varisat_prop.proofs.WatchKept.{propagated-back}
@@ -103,7 +103,7 @@ module _ (s t : View) (level : ℕ) (w : WellFormed s) (h : level < length s.dec
   pub was-true : (x : Literal) → IsTrueIn u x → IsTrueIn s x
   was-true x q = sym (c.stays (variable_of x) (not-leaving x q)) ∙ q
 
-  pub only : (x : Literal) → IsTrueIn u x → StandsBefore s p x
+  pub only : (x : Literal) → IsTrueIn u x → IsOnTrailBefore s p x
   only x q =
       let (j, a, e) = w.stands x (was-true x q) in
       ⊎_elim (λ o. (j, o, e)) (λ o. absurd (not-leaving x q (j, o, a, ap variable_of e))) (cases_lt j p)
@@ -167,7 +167,7 @@ module _ (s t : View) (level : ℕ) (w : WellFormed s) (h : level < length s.dec
   pub cut-well : WellFormed t
   cut-well = subst WellFormed (sym c.rest) cut-well-u
 
-  pub fixed-before : (x : Literal) → IsFixed s x → StandsBefore s p x
+  pub fixed-before : (x : Literal) → IsFixed s x → IsOnTrailBefore s p x
   fixed-before x q =
       let (j, i, e) = w.stands x q.0 in
       let z : (node_at s j).level ≡ 0 = ap (λ y. (node_of s y).level) e ∙ q.1 in

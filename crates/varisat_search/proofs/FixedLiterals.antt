@@ -14,7 +14,7 @@ use Rattle.varisat_schedule.proofs.CallSteps.{due-or-not}
 use Rattle.varisat_prop.specs.declared.prop.graph.Reason.{Reason}
 use Rattle.varisat_prop.specs.declared.prop.graph.Reason.TheVariants as reason
 use Rattle.varisat_prop.specs.declared.prop.graph.Conflict.{Conflict}
-use Rattle.varisat_prop.specs.View.{View, pairs_from, kept, clause_at, literal_at, decision_at, node_at, is_clause, StandsBefore, Implies, IsReason, WellFormed, GrowsTrail}
+use Rattle.varisat_prop.specs.View.{View, pairs_from, kept, clause_at, literal_at, decision_at, node_at, is_clause, IsOnTrailBefore, Implies, IsReason, WellFormed, GrowsTrail}
 use Rattle.varisat_prop.specs.Changes.{IsConflicting, decided_on}
 use Rattle.varisat_prop.specs.Looks.{Propagates}
 use Rattle.varisat_prop.specs.Watches.{WatchesHoldTo, IsImpliedTo}
@@ -137,7 +137,7 @@ none-was-conflicting s t w g q f (named, is_false) =
 
 -- What is propagated at level 0 where nothing is left to be propagated: the trail gets no longer.
 module _ (s t : View) (w : WellFormed s) (p : Propagates s t) (none : s.decisions ≡ []) (q : IsComplete (kept s) s.trail) where
-  before : (x : Literal) → StandsBefore t (length s.trail) x → x ∈ s.trail
+  before : (x : Literal) → IsOnTrailBefore t (length s.trail) x → x ∈ s.trail
   before x (j, a, e) = subst (λ y. y ∈ s.trail) (sym (literal-stays s t p.grows j a) ∙ e) (∈-get_or s.trail j 0 a)
 
   -- the other literals of a reason are false before
@@ -147,7 +147,7 @@ module _ (s t : View) (w : WellFormed s) (p : Propagates s t) (none : s.decision
   others (reason.Binary ms) (n, e, a, b) m (inl i) = inl i
   others (reason.Binary ms) (n, e, a, b) m (inr i) =
       inr (subst (λ ks. m ∈ ks → opposite m ∈ s.trail) (sym e)
-      (λ j. ⊎_elim (λ o. before (opposite m) (subst (λ y. StandsBefore t (length s.trail) (opposite y)) (sym o) b)) (λ o. absurd o) j) i)
+      (λ j. ⊎_elim (λ o. before (opposite m) (subst (λ y. IsOnTrailBefore t (length s.trail) (opposite y)) (sym o) b)) (λ o. absurd o) j) i)
   others (reason.Long n) (place, implies) m i = by (clause_at t n) implies i
     where
       by : (c : Clause) → Implies t c (length s.trail) → m ∈ c → (m ≡ literal_at t (length s.trail)) ⊎ (opposite m ∈ s.trail)

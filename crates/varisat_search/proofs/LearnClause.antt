@@ -41,7 +41,7 @@ use Rattle.varisat_analysis.specs.Learned.{IsAsserting, IsLevelOf}
 use Rattle.varisat_search.specs.Steps.{IsCut, LeavesFrom}
 use Rattle.varisat_search.proofs.Backtrack.{end-inside, still, cut-well, cut-settled, cut-propagated, level-length}
 use Rattle.varisat_search.proofs.AddedClause.{kept-last, kept-well}
-use Rattle.varisat_search.proofs.PairSearch.{StandsIn, pair-same, pair-seen, long-same, long-seen}
+use Rattle.varisat_search.proofs.PairSearch.{HasInputPart, pair-same, pair-seen, long-same, long-seen}
 
 take-∈ : (n : ℕ) (xs : List ℕ) (j : ℕ) → j < n → j < length xs → get_or xs j 0 ∈ take n xs
 take-∈ zero xs j h l = absurd (omega (arith, h))
@@ -220,7 +220,7 @@ pub record Joins (t : View) (k : Keeping) (c : Clause) (l : Literal) (r : Reason
   pub implies : MayImply (keeping t k) l r
   pub clause : is_clause r ≡ true
   pub same : SameClauses (kept t ++ c ∷ []) (kept (keeping t k))
-  pub seen : (j : KeptClause) → j ∈ ((search_of t).kept ++ learned c ∷ []) → j.learned ≡ false → StandsIn (search_of (keeping t k)).kept j
+  pub seen : (j : KeptClause) → j ∈ ((search_of t).kept ++ learned c ∷ []) → j.learned ≡ false → HasInputPart (search_of (keeping t k)).kept j
 
 -- completeness reads clauses as sets
 pub complete-same : (P Q : List Clause) (known : List Literal) → SameClauses P Q → IsComplete P known → IsComplete Q known
@@ -375,7 +375,7 @@ module _ (s t : View) (i : Conflict) (level : ℕ) (c : Clause) (w : WellFormed 
                 clause = refl;
                 same = long-same t (record t { clauses = t.clauses ++ j ∷ [] }) j refl refl;
                 seen = subst (λ (x : KeptClause). (i : KeptClause) → i ∈ ((search_of t).kept ++ x ∷ []) → i.learned ≡ false →
-                    StandsIn (search_of (record t { clauses = t.clauses ++ j ∷ [] })).kept i)
+                    HasInputPart (search_of (record t { clauses = t.clauses ++ j ∷ [] })).kept i)
                     (ap (λ (u : Bool). record { clause = d; learned = not u }) redundant)
                     (long-seen t (record t { clauses = t.clauses ++ j ∷ [] }) j refl refl);
               }))

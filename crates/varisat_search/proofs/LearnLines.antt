@@ -29,7 +29,7 @@ use Rattle.varisat_theory.specs.StepLaws.{FollowsFrom, IsNewTo}
 use Rattle.varisat_theory.proofs.SearchFits.{same_equal}
 use Rattle.varisat_theory.proofs.StepChanges.{moves_prove}
 use Rattle.varisat_theory.proofs.StepEnds.{learned_kept, learned_unit}
-use Rattle.varisat_theory.proofs.StepStands.{step_part}
+use Rattle.varisat_theory.proofs.StepAccounts.{step_part}
 use Rattle.varisat_search.specs.Seen.{search_of, IsProved}
 use Rattle.varisat_search.proofs.ViewSearch.{fixed_from, fixed_to, proved_from, proved_to, of_search, view_reads, view_moves}
 use Rattle.varisat_prop.proofs.TrailValues.{on-trail, trail-true}

@@ -10,7 +10,7 @@ use Rattle.varisat_prop.specs.declared.prop.graph.Conflict.{Conflict}
 use Rattle.varisat_prop.specs.declared.prop.graph.Conflict.TheVariants as conflict
 use Rattle.varisat_prop.specs.Changes.{named_in}
 use Rattle.varisat_prop.specs.View.{View, node_of, WellFormed}
-use Rattle.varisat_analysis.specs.Learned.{implying_clause, reason_clause, StandsBehind, IsReachedDownTo, IsImplicationPoint, IsFirstPoint, IsLevelOf, IsAsserting, IsLearned}
+use Rattle.varisat_analysis.specs.Learned.{implying_clause, reason_clause, IsLaterInLevel, IsReachedDownTo, IsImplicationPoint, IsFirstPoint, IsLevelOf, IsAsserting, IsLearned}
 use Rattle.varisat_analysis.specs.HeaderChanges.{SameButHeaders, ChangesHeaders}
 use Rattle.varisat_analysis.proofs.SameButHeaders.{headers-at}
 use Rattle.varisat_search.proofs.HeaderChanges.{header-kept, header-well, header-fits}
@@ -39,7 +39,7 @@ module _ (s : View) (ks js : List StoredClause) (e : SameButHeaders ks js) where
 
   pub reached-there : (f : Conflict) (k : ℕ) (l : Literal) → IsReachedDownTo a f k l → IsReachedDownTo b f k l
   reached-there f k l h =
-      reached-more (named_in ks f) (named_in js f) (reason_clause a) (reason_clause b) (StandsBehind s k)
+      reached-more (named_in ks f) (named_in js f) (reason_clause a) (reason_clause b) (IsLaterInLevel s k)
       (λ x i. subst (λ c. x ∈ c) (sym (named-same f)) i) (λ m x i. subst (λ c. x ∈ c) (sym (clause-same m (node_of s m).reason)) i) l h
 
   level-there : (c : Clause) (level : ℕ) → IsLevelOf a c level → IsLevelOf b c level

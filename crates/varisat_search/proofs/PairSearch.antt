@@ -24,8 +24,8 @@ abbrev pub with_clause : Search → KeptClause → Search
 with_clause S k = record S { kept = S.kept ++ k ∷ [] }
 
 -- a kept clause stands for one that is not learned
-abbrev pub StandsIn : List KeptClause → KeptClause → Type 0
-StandsIn ks k = (j : KeptClause) × (j ∈ ks) × (j.learned ≡ false) × (j.clause ⊆ k.clause)
+abbrev pub HasInputPart : List KeptClause → KeptClause → Type 0
+HasInputPart ks k = (j : KeptClause) × (j ∈ ks) × (j.learned ≡ false) × (j.clause ⊆ k.clause)
 
 -- the clauses of a search with one more are those of the view, and that one
 clauses-last : (s : View) (k : KeptClause) → clauses_of ((search_of s).kept ++ k ∷ []) ≡ kept s ++ k.clause ∷ []
@@ -50,7 +50,7 @@ module _ (s z : View) (a b : Literal) (k : KeptClause) (first : opposite a < len
       (same_insert (kept s) [] i.front i.back k.clause p (same_set-through k.clause (a ∷ b ∷ []) p same (same_set-back p (a ∷ b ∷ []) q))
       (same_equal (kept s ++ []) (i.front ++ i.back) (append-nil (kept s) ∙ i.old)))
 
-  pub pair-seen : (j : KeptClause) → j ∈ ((search_of s).kept ++ k ∷ []) → j.learned ≡ false → StandsIn (search_of z).kept j
+  pub pair-seen : (j : KeptClause) → j ∈ ((search_of s).kept ++ k ∷ []) → j.learned ≡ false → HasInputPart (search_of z).kept j
   pair-seen j h e =
       let (p, i, q, _) = inserts-pair s.binary a b first second other in
       let M = map kept_clause s.clauses in
@@ -69,7 +69,7 @@ module _ (s z : View) (a b : Literal) (k : KeptClause) (first : opposite a < len
       (λ t. ∈-append_right j F (kept_pair p ∷ B) (inr t))
       (∈-append_cases j F B (subst (λ ks. j ∈ ks) (ap (λ ps. map kept_pair ps) i.old ∙ map-append kept_pair i.front i.back) r))))
       (∈-append_cases j M (map kept_pair (pairs_from 0 s.binary)) o) in
-      subst (λ ks. StandsIn ks j) (sym now)
+      subst (λ ks. HasInputPart ks j) (sym now)
       (⊎_elim
       (λ o. (j, old o, e, λ x y. y))
       (λ o. ⊎_elim
@@ -100,14 +100,14 @@ module _ (s z : View) (i : StoredClause) (clauses : z.clauses ≡ s.clauses ++ i
       subst (SameClauses (kept s ++ i.literals ∷ [])) (sym now)
       (same_between (literals_of s.clauses) (pairs_from 0 s.binary) i.literals i.literals (same_set-self i.literals))
 
-  pub long-seen : (j : KeptClause) → j ∈ ((search_of s).kept ++ kept_clause i ∷ []) → j.learned ≡ false → StandsIn (search_of z).kept j
+  pub long-seen : (j : KeptClause) → j ∈ ((search_of s).kept ++ kept_clause i ∷ []) → j.learned ≡ false → HasInputPart (search_of z).kept j
   long-seen j h e =
       let M = map kept_clause s.clauses in
       let N = map kept_pair (pairs_from 0 s.binary) in
       let now : (search_of z).kept ≡ (M ++ kept_clause i ∷ []) ++ N = ap (λ B. map kept_clause z.clauses ++ map kept_pair (pairs_from 0 B)) binary
       ∙ ap (λ ks. ks ++ N) (ap (map kept_clause) clauses ∙ map-append kept_clause s.clauses (i ∷ [])) in
       let front : j ∈ (M ++ kept_clause i ∷ []) → j ∈ ((M ++ kept_clause i ∷ []) ++ N) = λ o. ∈-append_left j (M ++ kept_clause i ∷ []) N o in
-      subst (λ ks. StandsIn ks j) (sym now) (
+      subst (λ ks. HasInputPart ks j) (sym now) (
         j,
         ⊎_elim
             (λ o. ⊎_elim (λ l. front (∈-append_left j M (kept_clause i ∷ []) l)) (λ r. ∈-append_right j (M ++ kept_clause i ∷ []) N r) (∈-append_cases j M N o))

@@ -5,7 +5,7 @@ use Rattle.std.proofs.lemmas.Bool.{cases_lt}
 use Rattle.varisat_theory.specs.Rank.{rank}
 use Rattle.varisat_theory.specs.Derivations.{Line}
 use Rattle.varisat_theory.specs.Outcomes.{Outcome, Proves, Steps}
-use Rattle.varisat_theory.proofs.StepStands.{part_step}
+use Rattle.varisat_theory.proofs.StepAccounts.{part_step}
 use Rattle.varisat_prop.specs.View.{View, WellFormed, PropagatedBeforeDecisions, node_of, is_implied, kinds}
 use Rattle.varisat_prop.specs.Watches.{Watches, IsPropagated}
 use Rattle.varisat_schedule.specs.Plans.{Plan}

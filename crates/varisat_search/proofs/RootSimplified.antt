@@ -5,7 +5,7 @@ use Rattle.varisat_theory.specs.Outcomes.{Outcome, Proves, Steps}
 use Rattle.varisat_theory.specs.Rank.{rank}
 use Rattle.varisat_theory.specs.StepLaws.{unit_lines}
 use Rattle.varisat_theory.proofs.StepParts.{no_part, parts_join}
-use Rattle.varisat_theory.proofs.StepStands.{part_step}
+use Rattle.varisat_theory.proofs.StepAccounts.{part_step}
 use Rattle.varisat_prop.specs.declared.prop.graph.Conflict.{Conflict}
 use Rattle.varisat_prop.specs.declared.prop.graph.Conflict.TheVariants as conflict
 use Rattle.varisat_theory.specs.Propagation.{IsComplete}

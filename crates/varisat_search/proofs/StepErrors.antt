@@ -14,7 +14,7 @@ use Rattle.varisat_search.proofs.StepWithoutLines.{grows_prove}
 use Rattle.varisat_theory.specs.Outcomes.{Outcome, Sat, Steps}
 use Rattle.varisat_theory.proofs.SearchFits.{clause_in}
 use Rattle.varisat_theory.proofs.StepEnds.{model_is_found}
-use Rattle.varisat_theory.proofs.StepStands.{part_step}
+use Rattle.varisat_theory.proofs.StepAccounts.{part_step}
 use Rattle.std.specs.Prelude.{Result, Ok, Err}
 use Rattle.std.specs.Result.{IsErr, IfErr, IsErrAnd}
 use Rattle.varisat_clause.specs.declared.alloc.StoreError.{StoreError}

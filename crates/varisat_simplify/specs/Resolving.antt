@@ -2,17 +2,17 @@
 use Rattle.std.specs.Prelude.{◌≡◌, ℕ, ◌⊎◌, [], ◌∷◌}
 use Rattle.varisat_theory.specs.Membership.{◌∈◌, ◌⊆◌}
 use Rattle.varisat_theory.specs.Literals.{Literal, Clause, opposite}
-use Rattle.varisat_simplify.specs.declared.resolve.Standing.{Standing}
-use Rattle.varisat_simplify.specs.declared.resolve.Standing.TheVariants.{Absent, Same, Opposite}
+use Rattle.varisat_simplify.specs.declared.resolve.Sign.{Sign}
+use Rattle.varisat_simplify.specs.declared.resolve.Sign.TheVariants.{Absent, Same, Opposite}
 use Rattle.varisat_simplify.specs.declared.resolve.Relation.{Relation}
 use Rattle.varisat_simplify.specs.declared.resolve.Relation.TheVariants.{Nothing, Subsumes, Strengthens}
 use Rattle.varisat_simplify.specs.States.{State, clause_at, IsLive}
 
 -- the literal stands so in the clause
-abbrev pub Stands : Clause → Literal → Standing → Type 0
-Stands c l Absent = Unit {0}
-Stands c l Same = l ∈ c
-Stands c l Opposite = opposite l ∈ c
+abbrev pub OccursAs : Clause → Literal → Sign → Type 0
+OccursAs c l Absent = Unit {0}
+OccursAs c l Same = l ∈ c
+OccursAs c l Opposite = opposite l ∈ c
 
 -- what the first clause makes of the second
 abbrev pub Relates : Clause → Clause → Relation → Type 0

@@ -2,7 +2,7 @@
 ghost use Rattle.std.specs.Prelude.{◌≡◌, ◌↔◌, true, false, IsTrue, IfOk, OnOk, MatchBool};
 ghost use Rattle.varisat_theory.specs.Literals.{opposite};
 ghost use Rattle.varisat_theory.specs.Membership.{◌∈◌, SameSet};
-ghost use Rattle.varisat_simplify.specs.Resolving.{Stands, Relates, LeavesOut, Resolves, Clashes};
+ghost use Rattle.varisat_simplify.specs.Resolving.{OccursAs, Relates, LeavesOut, Resolves, Clashes};
 ghost use Rattle.varisat_theory.specs.Searches.{IsTautology};
 
 use std::alloc::{AllocError, Allocator};
@@ -10,7 +10,7 @@ use varisat_literals::Lit;
 
 /// How a literal stands in a clause.
 #[derive(Clone, Copy)]
-pub enum Standing {
+pub enum Sign {
     /// Not known.
     Absent,
     /// The clause has it.
@@ -20,18 +20,18 @@ pub enum Standing {
 }
 
 /// How the literal stands in the clause, by the first of its variable.
-pub fn standing_of(clause: &[Lit], lit: Lit) -> Standing
-    ensures { Stands clause.now lit result }
+pub fn sign_of(clause: &[Lit], lit: Lit) -> Sign
+    ensures { OccursAs clause.now lit result }
 {
     for other in clause {
         if other.index() == lit.index() {
             if other.code() == lit.code() {
-                return Standing::Same;
+                return Sign::Same;
             }
-            return Standing::Opposite;
+            return Sign::Opposite;
         }
     }
-    Standing::Absent
+    Sign::Absent
 }
 
 /// Whether the clause has the literal.
@@ -63,10 +63,10 @@ pub fn relation_of(clause: &[Lit], other: &[Lit]) -> Relation
 {
     let mut flipped: Option<Lit> = None;
     for lit in clause {
-        match standing_of(other, *lit) {
-            Standing::Absent => return Relation::Nothing,
-            Standing::Same => {}
-            Standing::Opposite => {
+        match sign_of(other, *lit) {
+            Sign::Absent => return Relation::Nothing,
+            Sign::Same => {}
+            Sign::Opposite => {
                 if flipped.is_some() {
                     return Relation::Nothing;
                 }
@@ -114,10 +114,10 @@ pub fn resolve<A: Allocator + Copy>(
     without(other, !lit, out)?;
     for one in clause {
         if one.code() != lit.code() {
-            match standing_of(other, *one) {
-                Standing::Same => {}
-                Standing::Opposite => return Ok(false),
-                Standing::Absent => out.push(*one)?,
+            match sign_of(other, *one) {
+                Sign::Same => {}
+                Sign::Opposite => return Ok(false),
+                Sign::Absent => out.push(*one)?,
             }
         }
     }
@@ -140,10 +140,10 @@ pub fn normalize<A: Allocator + Copy>(
         return Ok(true);
     }
     for lit in clause {
-        match standing_of(out, *lit) {
-            Standing::Same => {}
-            Standing::Opposite => return Ok(false),
-            Standing::Absent => out.push(*lit)?,
+        match sign_of(out, *lit) {
+            Sign::Same => {}
+            Sign::Opposite => return Ok(false),
+            Sign::Absent => out.push(*lit)?,
         }
     }
     Ok(true)

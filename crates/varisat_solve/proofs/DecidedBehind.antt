@@ -7,7 +7,7 @@ use Rattle.varisat_literals.specs.Numbers.{variable_limit}
 use Rattle.varisat_formula.specs.Dimacs.{Reading, dimacs}
 use Rattle.varisat_formula.specs.Formulas.{Formula, AllBelow, AreBelow}
 use Rattle.varisat_formula.specs.Parsed.{Parses, Whole}
-use Rattle.varisat_formula.specs.Streams.{Stand, Taken}
+use Rattle.varisat_formula.specs.Streams.{Input, Taken}
 use Rattle.varisat_formula.specs.Written.{formula_text}
 use Rattle.varisat_formula.proofs.ParsedSources.{gives_whole}
 use Rattle.varisat_formula.proofs.WrittenTexts.{reads_back}
@@ -44,10 +44,10 @@ are-below (c ∷ P) h = (all-below c (λ l i. h c l (inl refl) i), are-below P (
 abbrev spelled : List Clause → List ℕ
 spelled P = formula_text (record { var_count = variable_limit; clauses = P })
 
-abbrev before : Stand
+abbrev before : Input
 before = record { given = []; left = None; pieces = 0; faults = 0; ended = false }
 
-abbrev behind : List Clause → Stand
+abbrev behind : List Clause → Input
 behind P = record { given = spelled P; left = None; pieces = 0; faults = 0; ended = true }
 
 adds-text : (s : State) (P : List Clause) (t : State) → AreLow P → length P < 2 ^ 64 → AddsFormula s P (Ok tt) t →
@@ -78,7 +78,7 @@ concluded-of {W = W} taken format check limit P target back t u c opened low few
     }
 
 -- 3. What that says of the text.
-pub parsed-low : (old new : Stand) (f : Formula) → Parses old (Ok f) new → AreLow f.clauses
+pub parsed-low : (old new : Input) (f : Formula) → Parses old (Ok f) new → AreLow f.clauses
 parsed-low old new f p =
     let w = gives_whole old new p.reading p.gives p.tells.1 in
     subst AreLow (sym (ap (λ (x : Formula). x.clauses) p.tells.0 ∙ ap (λ (x : Reading). x.clauses) w.is)) (text-low w.text)
@@ -97,7 +97,7 @@ led-proven taken format f g stack lines c d (Some target) (Some led) (Some back)
     proven-behind format f g stack lines c d (taken target) (taken led) (taken back) plain low made
     (λ n. none-of-all stack (named_count f.clauses) c (sym e ∙ n)) h p
 
-pub decides-text : {W : Type 0} (taken : W → Taken) (format : ProofFormat) (max_steps : ℕ) (old new : Stand) (f g : Formula) (stack : List Clause)
+pub decides-text : {W : Type 0} (taken : W → Taken) (format : ProofFormat) (max_steps : ℕ) (old new : Input) (f g : Formula) (stack : List Clause)
     (lines : List Line) (c d : Conclusion) (target led back : Option W) → has_marks format ≡ false → Parses old (Ok f) new →
     IsMadeOf f g stack lines → d ≡ conclusion_of_all stack (named_count f.clauses) c → TakesLead taken format target lines (Ok tt) led →
     Concluded taken format max_steps g.clauses led back c → DecidesProven taken format max_steps old new target back d

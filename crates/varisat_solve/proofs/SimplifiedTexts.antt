@@ -4,7 +4,7 @@ use Rattle.varisat_theory.specs.Literals.{Literal, Clause}
 use Rattle.varisat_theory.specs.Derivations.{Line}
 use Rattle.varisat_formula.specs.Formulas.{Formula}
 use Rattle.varisat_formula.specs.Parsed.{Parses}
-use Rattle.varisat_formula.specs.Streams.{Stand, Taken}
+use Rattle.varisat_formula.specs.Streams.{Input, Taken}
 use Rattle.varisat_proof.specs.Lines.{has_marks}
 use Rattle.varisat_simplify.specs.Simplified.{IsMadeOf}
 use Rattle.varisat.specs.Decided.{Conclusion, Decided, IsConclusion, allowed_steps}
@@ -16,14 +16,14 @@ use Rattle.varisat_solve.specs.Extending.{named_count, conclusion_of_all}
 use Rattle.varisat_solve.specs.Solving.{AreLow, Made, TakesLead, Concluded, FailsSimplified, AsExtended}
 use Rattle.varisat_solve.proofs.DecidedBehind.{parsed-low, made-low, decides-text}
 
-pub low-made : (old new : Stand) (f g : Formula) (stack : List Clause) (lines : List Line) → Parses old (Ok f) new → IsMadeOf f g stack lines →
+pub low-made : (old new : Input) (f g : Formula) (stack : List Clause) (lines : List Line) → Parses old (Ok f) new → IsMadeOf f g stack lines →
     AreLow g.clauses
 low-made old new f g stack lines p made = made-low f g stack lines made (parsed-low old new f p)
 
-abbrev pub made-of : (old new : Stand) (f g : Formula) (stack : List Clause) (lines : List Line) → Parses old (Ok f) new → IsMadeOf f g stack lines → Made old new
+abbrev pub made-of : (old new : Input) (f g : Formula) (stack : List Clause) (lines : List Line) → Parses old (Ok f) new → IsMadeOf f g stack lines → Made old new
 made-of old new f g stack lines p made = record { formula = f; parses = p; into = g; stack = stack; lines = lines; made = made }
 
-pub decided-by : {W : Type 0} (taken : W → Taken) (o : SolveOptions) (old new : Stand) (f g : Formula) (stack : List Clause) (lines : List Line) (n : ℕ)
+pub decided-by : {W : Type 0} (taken : W → Taken) (o : SolveOptions) (old new : Input) (f g : Formula) (stack : List Clause) (lines : List Line) (n : ℕ)
     (c d : Conclusion) (target led back : Option W) → has_marks o.format ≡ false → Parses old (Ok f) new → IsMadeOf f g stack lines →
     n ≡ named_count f.clauses → d ≡ conclusion_of_all stack n c → TakesLead taken o.format target lines (Ok tt) led →
     Concluded taken o.format (allowed_steps o.max_steps) g.clauses led back c → DecidesBy taken o old new target back d
@@ -31,7 +31,7 @@ decided-by taken o old new f g stack lines n c d target led back plain p made is
     decides-text taken o.format (allowed_steps o.max_steps) old new f g stack lines c d target led back plain p made
     (e ∙ ap (λ m. conclusion_of_all stack m c) is) takes k
 
-pub extended-fails : {W : Type 0} (taken : W → Taken) (o : SolveOptions) (old new : Stand) (f g : Formula) (stack : List Clause) (lines : List Line)
+pub extended-fails : {W : Type 0} (taken : W → Taken) (o : SolveOptions) (old new : Input) (f g : Formula) (stack : List Clause) (lines : List Line)
     (c : Conclusion) (model : List Literal) (target led back : Option W) (e : SolverError) → Parses old (Ok f) new → IsMadeOf f g stack lines →
     TakesLead taken o.format target lines (Ok tt) led → Concluded taken o.format (allowed_steps o.max_steps) g.clauses led back c →
     c ≡ Decided (Some model) → e ≡ OutOfMemory → FailsSimplified taken o target old new e

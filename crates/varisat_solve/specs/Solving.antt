@@ -7,7 +7,7 @@ use Rattle.varisat_formula.specs.declared.dimacs.error.DimacsError.{DimacsError}
 use Rattle.varisat_formula.specs.declared.dimacs.error.DimacsErrorKind.TheVariants as kind
 use Rattle.varisat_formula.specs.Formulas.{Formula}
 use Rattle.varisat_formula.specs.Parsed.{Parses}
-use Rattle.varisat_formula.specs.Streams.{Stand, Taken}
+use Rattle.varisat_formula.specs.Streams.{Input, Taken}
 use Rattle.varisat_proof.specs.declared.proof.format.ProofFormat.{ProofFormat}
 use Rattle.varisat_proof.specs.declared.proof.writer.WriteError.{WriteError}
 use Rattle.varisat_proof.specs.declared.proof.writer.WriteError.TheVariants as write
@@ -40,7 +40,7 @@ abbrev pub AreLow : List Clause → Type 0
 AreLow P = (c : Clause) (l : Literal) → c ∈ P → l ∈ c → l < 2 ^ 29
 
 -- A formula of a text, what it is made into, and what its models are extended by. The lines lead from the one to the other.
-pub record Made (old new : Stand) : Type 0 where
+pub record Made (old new : Input) : Type 0 where
   pub formula : Formula
   pub parses : Parses old (Ok formula) new
   pub into : Formula
@@ -72,7 +72,7 @@ pub data FailsOver {W : Type 0} (taken : W → Taken) (s : State) (P : List Clau
 -- When deciding a text fails whose formula is simplified first: the text has a fault, or its source, or is not kept; there is no memory
 -- to simplify; the lines that lead to what it is made into are not written; deciding that fails, by a new solver behind these lines; or it
 -- has a model, and there is no memory to extend that.
-pub data FailsSimplified {W : Type 0} (taken : W → Taken) (o : SolveOptions) (target : Option W) (old new : Stand) (e : SolverError) : Type 0 where
+pub data FailsSimplified {W : Type 0} (taken : W → Taken) (o : SolveOptions) (target : Option W) (old new : Input) (e : SolverError) : Type 0 where
   AsParsed : (fault : DimacsError) → Parses old (Err fault) new → IsRefusedText fault e → FailsSimplified taken o target old new e
   AsSimplified : (f : Formula) → Parses old (Ok f) new → e ≡ OutOfMemory → FailsSimplified taken o target old new e
   AsLed : (m : Made old new) (fault : WriteError) (led : Option W) → TakesLead taken o.format target m.lines (Err fault) led → e ≡ line_refusal fault →
@@ -83,14 +83,14 @@ pub data FailsSimplified {W : Type 0} (taken : W → Taken) (o : SolveOptions) (
       IsModel m.into.clauses model → e ≡ OutOfMemory → FailsSimplified taken o target old new e
 
 -- The formula is simplified first, if that is wanted, and unless a proof has lines for the clauses of the text.
-abbrev pub FailsFirst : {W : Type 0} → (W → Taken) → ProgramOptions → Option W → Stand → Stand → SolverError → Type 0
+abbrev pub FailsFirst : {W : Type 0} → (W → Taken) → ProgramOptions → Option W → Input → Input → SolverError → Type 0
 FailsFirst taken o target old new e =
     FailsBy taken o.search target old new e
     ⊎ ((o.simplify ≡ true) × (has_marks o.search.format ≡ false) × FailsSimplified taken o.search target old new e)
 
 -- What the program's `solve` comes to: deciding fails, nothing is printed, and the status tells a fault; or the text is decided, with a
 -- proof from its own clauses, and the conclusion for these is printed.
-abbrev pub SolvesFirst : {W : Type 0} → (W → Taken) → ProgramOptions → Stand → Stand → Option W → Option W → Taken → Taken → ℕ → Type 0
+abbrev pub SolvesFirst : {W : Type 0} → (W → Taken) → ProgramOptions → Input → Input → Option W → Option W → Taken → Taken → ℕ → Type 0
 SolvesFirst taken o old new target back before printed status =
     ((error : SolverError) × FailsFirst taken o target old new error × (status ≡ fault_status) × (printed ≡ before))
     ⊎ ((conclusion : Conclusion) × DecidesBy taken o.search old new target back conclusion × Prints conclusion status before printed)

@@ -3,7 +3,7 @@ ghost use Rattle.std.specs.Prelude.{◌≡◌, ◌-◌, ◌^◌, ◌<◌, ◌≤
 ghost use Rattle.varisat_proof.specs.Lines.{has_marks};
 ghost use Rattle.varisat_simplify.specs.Simplified.{IsMadeOf};
 ghost use Rattle.varisat_solver.specs.States.{new_state};
-ghost use Rattle.varisat_solver.specs.Summaries.{StandsFor};
+ghost use Rattle.varisat_solver.specs.Summaries.{Represents};
 ghost use Rattle.varisat.specs.Decided.{Decided, concluded, allowed_steps};
 ghost use Rattle.varisat.specs.Proven.{CanCountFault, prepared, DecidesBy};
 ghost use Rattle.varisat_solve.specs.Extending.{conclusion_of_all};
@@ -45,10 +45,10 @@ pub fn decide<W: ProofTarget, A: Allocator + Copy, S: ByteSource, E: Write, C: C
     clock: &C,
     err: &mut E,
 ) -> Result<Report<A>, SolverError>
-    requires faults { (S.stand cnf.old).faults < 2 ^ 64 - 1 }
+    requires faults { (S.input cnf.old).faults < 2 ^ 64 - 1 }
     requires room { CanCountFault W.taken target.old }
-    ensures decided { IfOk result (λ report. DecidesBy W.taken options.search (S.stand cnf.old) (S.stand cnf.new) target.old target.new (concluded report)) }
-    ensures fails { IfErr result (λ error. FailsFirst W.taken options target.old (S.stand cnf.old) (S.stand cnf.new) error) }
+    ensures decided { IfOk result (λ report. DecidesBy W.taken options.search (S.input cnf.old) (S.input cnf.new) target.old target.new (concluded report)) }
+    ensures fails { IfErr result (λ error. FailsFirst W.taken options target.old (S.input cnf.old) (S.input cnf.new) error) }
 {
     if options.simplify && !matches!(options.search.format, ProofFormat::Marked) {
         decide_simplified(alloc, cnf, target, options.search, clock, err)
@@ -86,11 +86,11 @@ fn decide_simplified<W: ProofTarget, A: Allocator + Copy, S: ByteSource, E: Writ
     clock: &C,
     err: &mut E,
 ) -> Result<Report<A>, SolverError>
-    requires faults { (S.stand cnf.old).faults < 2 ^ 64 - 1 }
+    requires faults { (S.input cnf.old).faults < 2 ^ 64 - 1 }
     requires room { CanCountFault W.taken target.old }
     requires plain { has_marks options.format ≡ false }
-    ensures decided { IfOk result (λ report. DecidesBy W.taken options (S.stand cnf.old) (S.stand cnf.new) target.old target.new (concluded report)) }
-    ensures fails { IfErr result (λ error. FailsSimplified W.taken options target.old (S.stand cnf.old) (S.stand cnf.new) error) }
+    ensures decided { IfOk result (λ report. DecidesBy W.taken options (S.input cnf.old) (S.input cnf.new) target.old target.new (concluded report)) }
+    ensures fails { IfErr result (λ error. FailsSimplified W.taken options target.old (S.input cnf.old) (S.input cnf.new) error) }
 {
     let formula = match DimacsParser::parse(alloc, cnf) {
         Ok(formula) => formula,
@@ -220,7 +220,7 @@ fn decide_in<W: ProofTarget, A: Allocator + Copy, E: Write>(
     options: SolveOptions,
     err: &mut E,
 ) -> Result<Report<A>, SolverError>
-    requires new { StandsFor solver.old (new_state options.check) }
+    requires new { Represents solver.old (new_state options.check) }
     requires checks { options.check ≡ true → IsSome solver.old.checker }
     requires room { CanCountFault W.taken target.old }
     requires low { AreLow formula.clauses }

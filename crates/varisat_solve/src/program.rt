@@ -33,13 +33,13 @@ pub fn solve_lines<
     out: &mut T,
     err: &mut E,
 ) -> u8
-    requires faults { (S.stand cnf.old).faults < 2 ^ 64 - 1 }
+    requires faults { (S.input cnf.old).faults < 2 ^ 64 - 1 }
     requires room { CanCountFault P.taken proof.old }
     requires out_faults { (T.taken out.old).faults < 2 ^ 64 - 1 }
     // Deciding fails, and nothing is printed; or the source gave a whole text, which was decided if the steps allowed it, with
     // a proof in the target, and the outcome was printed, or a beginning of it where a call of `out` failed.
-    ensures outcome { SolvesFirst P.taken options (S.stand cnf.old) (S.stand cnf.new) proof.old proof.new (T.taken out.old) (T.taken out.new) result }
-    ensures truth { StatusIsTrue (S.stand cnf.old) (S.stand cnf.new) result }
+    ensures outcome { SolvesFirst P.taken options (S.input cnf.old) (S.input cnf.new) proof.old proof.new (T.taken out.old) (T.taken out.new) result }
+    ensures truth { StatusIsTrue (S.input cnf.old) (S.input cnf.new) result }
 {
     match decide(alloc, cnf, proof, options, clock, err) {
         Ok(report) => match print_report(out, &report) {

@@ -38,7 +38,7 @@ use Rattle.varisat_proof.specs.Proving.{IsCheckedIf}
 use Rattle.varisat_tracer.specs.Tracing.{global_literal}
 use Rattle.varisat_solver.specs.OpenProofs.{OpenProof}
 use Rattle.varisat_solver.specs.Journals.{with_entries, LogsStaying}
-use Rattle.varisat_solver.specs.Summaries.{Summary, spaces, spaces_of, StandsFor}
+use Rattle.varisat_solver.specs.Summaries.{Summary, spaces, spaces_of, Represents}
 use Rattle.varisat_solver.specs.Accepting.{HasSolver, AreJoined}
 use Rattle.varisat_solver.proofs.SpacesAgree.{give, take_solver, count, solver_literal, accept}
 use Rattle.varisat_solver.proofs.VariableMoves.{given-near}
@@ -397,5 +397,5 @@ clause-accepted g n d joined new parts after checker t checks (w1, k1) =
     )
 
 -- where the search is not at Unsat, the state isn't
-pub not-refuted : (g : Summary) (s : State) → StandsFor g s → g.ledger.valid ≡ true → g.sat_state ≢ verdict.Unsat → s.verdict ≢ Unsat
+pub not-refuted : (g : Summary) (s : State) → Represents g s → g.ledger.valid ≡ true → g.sat_state ≢ verdict.Unsat → s.verdict ≢ Unsat
 not-refuted g s st v n = let (w, k) = st.fits v in not-unsat g.search g.assumed.failed_core g.sat_state w.identity (spaces g).model s.verdict n k.verdict

@@ -8,7 +8,7 @@ use Rattle.varisat_solver.specs.Calls.{IsValid, Ignored, Accepted, AddsClause, b
 use Rattle.varisat_solver.specs.declared.solver.SolverError.{SolverError}
 use Rattle.varisat_solver.proofs.CallStates.{same-ledger}
 use Rattle.varisat_formula.specs.Dimacs.{Reading}
-use Rattle.varisat_formula.specs.Streams.{Stand}
+use Rattle.varisat_formula.specs.Streams.{Input}
 use Rattle.varisat_formula.specs.Parsed.{GivesReading}
 use Rattle.varisat_formula.specs.TakenTexts.{GivesFirst, TakesInTurn, InOne, InMore}
 use Rattle.varisat_solver.specs.ClauseCalls.{AddsDimacs}
@@ -71,7 +71,7 @@ takes-in-turn g h clauses r (InMore first rest mid e k more) =
           (t, adds-more s u t first rest r a b, z);
     })
 
-pub text-refused : (s t : State) (old new : Stand) (clauses : List Clause) (e : SolverError) → IsValid s →
+pub text-refused : (s t : State) (old new : Input) (clauses : List Clause) (e : SolverError) → IsValid s →
     ((R : Reading) × GivesReading old R new × (R.clauses ≡ clauses)) ⊎ GivesFirst old clauses new → AddsAll by_state s clauses (Err e) t →
     AddsDimacs s old (Err e) new t
 text-refused s t old new clauses e v (inl (R, g, i)) a = Read v R g (ClauseRefused e refl (subst (λ P. AddsAll by_state s P (Err e) t) (sym i) a))

@@ -15,7 +15,7 @@ use Rattle.varisat_solver.proofs.OpenProofs.{goes-on-none, goes-on-unfailed, bar
 use Rattle.varisat_proof.specs.Assumed.{lists_of}
 use Rattle.varisat_solver.proofs.LoggedEntries.{stays-nothing}
 use Rattle.varisat_solver.specs.Spaces.{SpacesFit}
-use Rattle.varisat_solver.specs.Summaries.{Summary, spaces, StandsFor}
+use Rattle.varisat_solver.specs.Summaries.{Summary, spaces, Represents}
 use Rattle.varisat_search.specs.declared.error.StepError.TheVariants as step
 
 -- What stays where what is known is alike.
@@ -134,11 +134,11 @@ pub same-since : (changed_at before after since : ℕ) → after ≡ before → 
 same-since changed_at before after since e h = omega (arith, e, h)
 
 -- a solver and a state for which it stands are valid alike
-pub stands-valid : (g : Summary) (s : State) → StandsFor g s → g.ledger.valid ≡ true → IsValid s
+pub stands-valid : (g : Summary) (s : State) → Represents g s → g.ledger.valid ≡ true → IsValid s
 stands-valid g s st v = ap (λ x. x.valid) st.ledger ∙ v
 
 -- its proof fits what is known of it
-pub proof-fits : {g : Summary} {s : State} → StandsFor g s → g.ledger.valid ≡ true → ProofFits g.opened s.variables s.logged s.proof
+pub proof-fits : {g : Summary} {s : State} → Represents g s → g.ledger.valid ≡ true → ProofFits g.opened s.variables s.logged s.proof
 proof-fits st v = record { same = st.same; written = st.written v }
 
 -- What is known as a call begins on a solver that is valid.
@@ -150,7 +150,7 @@ pub record Begins (g : Summary) (s : State) : Type 0 where
   pub proof : ProofFits g.opened s.variables s.logged s.proof
   pub flags : FlagsFit s
 
-pub begins : {g : Summary} {s : State} → StandsFor g s → g.ledger.valid ≡ true → Begins g s
+pub begins : {g : Summary} {s : State} → Represents g s → g.ledger.valid ≡ true → Begins g s
 begins {g} {s} st v = record {
   valid = stands-valid g s st v;
   ledger = st.ledger;

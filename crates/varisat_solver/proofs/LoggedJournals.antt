@@ -38,7 +38,7 @@ use Rattle.varisat_solver.specs.ProofCalls.{IsProofIfOpen}
 use Rattle.varisat_solver.specs.Calls.{IsRefuted, by_state}
 use Rattle.varisat_tracer.specs.Carried.{carry, variable_or_first}
 use Rattle.varisat_solver.specs.Spaces.{Spaces, Carrying, Links, Translation, IsCounted, AllSpeakOf, HeldFits, VerdictFits, without_core}
-use Rattle.varisat_solver.specs.Summaries.{Summary, spaces, StandsFor}
+use Rattle.varisat_solver.specs.Summaries.{Summary, spaces, Represents}
 use Rattle.varisat_solver.proofs.LoggedEntries.{all-wider, lines-speak, OnlyLeave, unspoken, only-leave}
 use Rattle.varisat_solver.proofs.SearchLinks.{relinked}
 use Rattle.varisat_solver.proofs.SolverCalls.{logged-refuted}
@@ -51,7 +51,7 @@ led-of r fixed share outcome.Unsat (held, led, conflict) = (held, led)
 led-of r fixed share (outcome.UnsatUnder core) q = (q.held, q.led)
 
 -- Where nothing was ever hidden each identity is that of the global variable of its number, and so no more were made than may be.
-few-made : (g : Summary) (s : State) → StandsFor g s → g.ledger.valid ≡ true → s.ever_hidden ≡ false → s.naming.made ≤ variable_limit
+few-made : (g : Summary) (s : State) → Represents g s → g.ledger.valid ≡ true → s.ever_hidden ≡ false → s.naming.made ≤ variable_limit
 few-made g s st v h =
     let (w, k) = st.fits v in
     let n = length g.tables.kept in
@@ -115,7 +115,7 @@ module _ (variables : ℕ → Option ℕ) (below : (i x : ℕ) → variables i �
   logged-over (Fails core ∷ es) line l (inr h) i = logged-over es line l h i
   logged-over (Leaves v ∷ es) line l h i = logged-over es line l h i
 
-pub journal-of : (g : Summary) (s : State) → StandsFor g s → g.ledger.valid ≡ true → IsJournal s
+pub journal-of : (g : Summary) (s : State) → Represents g s → g.ledger.valid ≡ true → IsJournal s
 journal-of g s st v =
     let (w, k) = st.fits v in
     let (held, led) = led-of _ (spaces g).search.fixed k.holds.held (spaces g).outcome k.holds.logged in
@@ -152,7 +152,7 @@ lines-none w p s k clauses counted =
     unspoken [] s.logged held (λ i. false) (λ c h. absurd h) led (k.logged.accepted ∙ clauses) none
 
 -- nor anything else but that variables left
-pub left-alone : (g : Summary) (s : State) → StandsFor g s → g.ledger.valid ≡ true → s.ledger.started ≡ false → OnlyLeave s.logged
+pub left-alone : (g : Summary) (s : State) → Represents g s → g.ledger.valid ≡ true → s.ledger.started ≡ false → OnlyLeave s.logged
 left-alone g s st v fresh =
     let (w, k) = st.fits v in
     let (held, led) = led-of _ (spaces g).search.fixed k.holds.held (spaces g).outcome k.holds.logged in
@@ -192,7 +192,7 @@ checking-begins w p s k clauses counted =
     })
 
 -- Where nothing is assumed no literal is one of a core, so that the answer false comes from the clauses alone.
-pub unassumed-refuted : (g : Summary) (s : State) → StandsFor g s → g.ledger.valid ≡ true → s.assumptions ≡ [] → answer_of s.verdict ≡ Some false →
+pub unassumed-refuted : (g : Summary) (s : State) → Represents g s → g.ledger.valid ≡ true → s.assumptions ≡ [] → answer_of s.verdict ≡ Some false →
     s.verdict ≡ Unsat
 unassumed-refuted g s st v none-assumed e =
     let (w, k) = st.fits v in
@@ -214,14 +214,14 @@ unassumed-refuted g s st v none-assumed e =
     go (outcome.UnsatUnder found) (UnsatUnderAssumptions core) e id m f r = absurd (f (none core r.0))
 
 -- a proof that is open claims no more than that
-claims-refuted : (g : Summary) (s : State) → StandsFor g s → g.ledger.valid ≡ true → (p : OpenProof) → s.proof ≡ Some p → (f : ProofFormat) →
+claims-refuted : (g : Summary) (s : State) → Represents g s → g.ledger.valid ≡ true → (p : OpenProof) → s.proof ≡ Some p → (f : ProofFormat) →
     p.format ≡ f → IsRefuted by_state f s → s.verdict ≡ Unsat
 claims-refuted g s st v p e Drat f a = unassumed-refuted g s st v ((st.flags v).unassumed (p, e, ap has_marks f)) a.0
 claims-refuted g s st v p e BinaryDrat f a = unassumed-refuted g s st v ((st.flags v).unassumed (p, e, ap has_marks f)) a.0
 claims-refuted g s st v p e Marked f a = a.1 refl
 
 -- where nothing was ever hidden a marked proof is one of the clauses and the assumptions
-marked-of : (g : Summary) (s : State) → StandsFor g s → g.ledger.valid ≡ true → s.ever_hidden ≡ false → (refuted : Type 0) →
+marked-of : (g : Summary) (s : State) → Represents g s → g.ledger.valid ≡ true → s.ever_hidden ≡ false → (refuted : Type 0) →
     (refuted → s.verdict ≡ Unsat) → IsMarkedDerivation s.logged s.clauses s.assumptions refuted
 marked-of g s st v shown refuted u =
     let (w, k) = st.fits v in
@@ -239,7 +239,7 @@ marked-of g s st v shown refuted u =
     }
 
 -- the bytes of a proof
-pub proof-of : (g : Summary) (s : State) → StandsFor g s → g.ledger.valid ≡ true → IsProofIfOpen by_state s
+pub proof-of : (g : Summary) (s : State) → Represents g s → g.ledger.valid ≡ true → IsProofIfOpen by_state s
 proof-of g s st v p e =
     let j = journal-of g s st v in
     let w : IsWrittenAs s.variables s.logged p = subst (IsWrittenWhereOpen s.variables s.logged) e j.written in

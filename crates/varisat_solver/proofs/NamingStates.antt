@@ -9,7 +9,7 @@ use Rattle.varisat_solver.specs.States.{State}
 use Rattle.varisat_solver.specs.Names.{Mode, Sample, Witness, name_all, IsWitness, NameNoWitness, IsFirstWitness}
 use Rattle.varisat_solver.specs.Calls.{IsCrowded, IsPastLimit, MayConstrain, MayAccept, AddsClause, Assumes, by_state}
 use Rattle.varisat_solver.specs.Spaces.{Carrying, ModeFits, Links}
-use Rattle.varisat_solver.specs.Summaries.{Summary, spaces, StandsFor}
+use Rattle.varisat_solver.specs.Summaries.{Summary, spaces, Represents}
 use Rattle.varisat_solver.specs.Accepting.{mode_of, naming_of, CanBeNamed, ChecksNames}
 use Rattle.varisat_solver.proofs.NamesComing.{AreAlike, all-alike, alike-crowded}
 use Rattle.varisat_solver.specs.declared.solver.SolverError.{SolverError}
@@ -74,7 +74,7 @@ module _ (w : Carrying) (g : Summary) (s : State) (k : Links w (spaces g) s) whe
   pub witness-state : (d : List Literal) (u : ℕ) → IsFirstWitness (naming_of g.tables) d u → IsFirstWitness s.naming d u
   witness-state d u (front, l, rest, e, n, v, a) = (front, l, rest, e, no-witness-state front n, v, is-witness u a)
 
-module _ (g : Summary) (s : State) (st : StandsFor g s) (valid : g.ledger.valid ≡ true) (d : List Literal) where
+module _ (g : Summary) (s : State) (st : Represents g s) (valid : g.ledger.valid ≡ true) (d : List Literal) where
   -- the names may be constrained
   pub may-constrain : CanBeNamed d g.tables → NameNoWitness (naming_of g.tables) d → MayConstrain s.naming d
   may-constrain c n = let (w, k) = st.fits valid in record { in_range = c.in_range; sampled = no-witness-state w g s k d n }

@@ -8,7 +8,7 @@ use Rattle.varisat_proof.specs.Proving.{marked_searched}
 use Rattle.varisat_solver.specs.OpenProofs.{OpenProof, opened_state, IsOpen, GoesOnWriting, GoesOnFailing, searched_under, lines_over}
 use Rattle.varisat_solver.specs.States.{State, Ledger, Unknown, Unsat}
 use Rattle.varisat_solver.specs.ProofCalls.{with_proof}
-use Rattle.varisat_solver.specs.Summaries.{Summary, StandsFor, EndsSearch, spaces}
+use Rattle.varisat_solver.specs.Summaries.{Summary, Represents, EndsSearch, spaces}
 use Rattle.varisat_solver.specs.Calls.{IsLike, IsValid, is_valid, Invalidates, CountsCall, CountsIf, Decided, Searched, HasVerdict, Searches, Solves, with_steps, once_searched, by_state, ReturnsVerdict, IsSpent, FailsStep, IsStoreFull, with_max_steps, with_verdict}
 use Rattle.varisat_solver.specs.declared.solver.SolverError.{SolverError}
 use Rattle.varisat_solver.specs.declared.solver.SolverError.TheVariants.{Interrupted, ProofIoError, OutOfMemory, Invalid, ClauseStoreFull, WitnessVar, VariableLimit, AssumedVar, ClauseAfterSolve, ProofOpen, ProofTooLate, ConfigOutOfRange, Dimacs}
@@ -140,7 +140,7 @@ ends-badly s t (Err e) cause now h v o f = absurd h
 -- 2. What stands for them.
 
 -- the same solver, where `solve` was called under an open proof
-pub stands-searched : (g : Summary) (s : State) → StandsFor g s → StandsFor (record g { opened = marked_searched g.opened }) (once_searched s)
+pub stands-searched : (g : Summary) (s : State) → Represents g s → Represents (record g { opened = marked_searched g.opened }) (once_searched s)
 stands-searched g s st = record {
   ledger = st.ledger;
   words = st.words;
@@ -152,8 +152,8 @@ stands-searched g s st = record {
 }
 
 -- before that it stood for such a state too
-pub stood-before : (g : Summary) (s : State) → g.ledger.valid ≡ true → StandsFor (record g { opened = marked_searched g.opened }) s →
-    (proof : Option OpenProof) × StandsFor g (with_proof proof s)
+pub stood-before : (g : Summary) (s : State) → g.ledger.valid ≡ true → Represents (record g { opened = marked_searched g.opened }) s →
+    (proof : Option OpenProof) × Represents g (with_proof proof s)
 stood-before g s v st =
     let (before, f) = fitted-before g.opened s.variables s.logged s.proof (proof-fits st v) in (
       before,
@@ -171,7 +171,7 @@ stood-before g s v st =
 
 -- the solver became invalid
 stands-broken : (g h : Summary) (s : State) (now : Option OpenProof) → h ≡ record g { opened = h.opened; ledger = record g.ledger { valid = false } } →
-    h.opened ≡ opened_state now → StandsFor g s → StandsFor h (broken now s.words s)
+    h.opened ≡ opened_state now → Represents g s → Represents h (broken now s.words s)
 stands-broken g h s now e opened st =
     let same : h.ledger ≡ record g.ledger { valid = false } = ap (λ (x : Summary). x.ledger) e in
     let bad : h.ledger.valid ≡ false = ap (λ (l : Ledger). l.valid) same in
@@ -185,13 +185,13 @@ stands-broken g h s now e opened st =
       bounded = λ v. absurd (let z : false ≡ true = sym bad ∙ v in cc);
     }
 
-pub solve-ends : (g h : Summary) (s t : State) (r : Result Bool SolverError) → Searches s r t → StandsFor g t → g.ledger.valid ≡ true →
-    EndsSearch g (Ok tt) h → (u : State) × Solves by_state s r u × StandsFor h u
+pub solve-ends : (g h : Summary) (s t : State) (r : Result Bool SolverError) → Searches s r t → Represents g t → g.ledger.valid ≡ true →
+    EndsSearch g (Ok tt) h → (u : State) × Solves by_state s r u × Represents h u
 solve-ends g h s t r k st v e =
-    (once_searched t, ends-well s t r k (stands-valid g t st v), subst (λ (x : Summary). StandsFor x (once_searched t)) (sym e) (stands-searched g t st))
+    (once_searched t, ends-well s t r k (stands-valid g t st v), subst (λ (x : Summary). Represents x (once_searched t)) (sym e) (stands-searched g t st))
 
-pub solve-fails : (g h : Summary) (s t : State) (r : Result Bool SolverError) (e : SolverError) → Searches s r t → StandsFor g t →
-    g.ledger.valid ≡ true → EndsSearch g (Err e) h → (u : State) × Solves by_state s (Err e) u × StandsFor h u
+pub solve-fails : (g h : Summary) (s t : State) (r : Result Bool SolverError) (e : SolverError) → Searches s r t → Represents g t →
+    g.ledger.valid ≡ true → EndsSearch g (Err e) h → (u : State) × Solves by_state s (Err e) u × Represents h u
 solve-fails g h s t r (ProofIoError cause) k st v (o, e) =
     let (now, f, same) = flushed-on g.opened h.opened cause t.proof st.same o in (
       broken now t.words t,

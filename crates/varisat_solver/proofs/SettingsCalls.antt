@@ -17,7 +17,7 @@ use Rattle.varisat_solver.specs.States.{State, Ledger}
 use Rattle.varisat_solver.specs.SinceChange.{CountsSince}
 use Rattle.varisat_solver.specs.Spaces.{SpacesFit, Links}
 use Rattle.varisat_solver.specs.Calls.{with_update, with_max_steps, count_anew}
-use Rattle.varisat_solver.specs.Summaries.{Summary, IsKept, StandsFor, spaces_of, spaces_with, StandsForSome}
+use Rattle.varisat_solver.specs.Summaries.{Summary, IsKept, Represents, spaces_of, spaces_with, RepresentsSome}
 use Rattle.varisat_proof.specs.Calls.{CheckerState}
 use Rattle.varisat_proof.specs.Proving.{ProofParts, is_there}
 use Rattle.varisat_solver.specs.OpenProofs.{OpenProof, opened_state, BarsAssumptions, IsWrittenWhereOpen}
@@ -62,10 +62,10 @@ summary_of parts started changed_at x =
 pub stands-updated : {A : Type 0} (parts : TracerState) (started : Bool) (changed_at anew : ℕ) (x y : Context A) (u : SolverConfigUpdate)
     (b : ActivityScale) (a : Activities) (s : State) → y ≡ record x
     { clause_activity = b; solver_config = updated_settings x.solver_config u; vsids = a } → anew ≡ y.schedule.steps →
-    StandsFor (summary_of parts started changed_at x) s → StandsFor (summary_of parts started anew y) (with_update u s)
+    Represents (summary_of parts started changed_at x) s → Represents (summary_of parts started anew y) (with_update u s)
 stands-updated {A = A} parts started changed_at anew x y u b a s e n st =
     let same : anew ≡ x.schedule.steps = n ∙ ap (λ (z : Context A). z.schedule.steps) e in
-    subst (λ (z : Context A). StandsFor (summary_of parts started anew z) (with_update u s)) (sym e) (record {
+    subst (λ (z : Context A). Represents (summary_of parts started anew z) (with_update u s)) (sym e) (record {
       ledger = ap (λ (l : Ledger). record l { since = 0; settings = updated_settings l.settings u }) st.ledger
           ∙ ap (λ k. ledger_of (not x.solver_state.state_is_invalid) started x.schedule.steps k (updated_settings x.solver_config u)
           (is_there parts.proof.checker))
@@ -84,8 +84,8 @@ stands-updated {A = A} parts started changed_at anew x y u b a s e n st =
     })
 
 pub stands-same : {A : Type 0} (parts : TracerState) (started : Bool) (changed_at : ℕ) (x y : Context A) (s : State) → y ≡ x →
-    StandsFor (summary_of parts started changed_at x) s → StandsFor (summary_of parts started changed_at y) s
-stands-same {A = A} parts started changed_at x y s e st = subst (λ (z : Context A). StandsFor (summary_of parts started changed_at z) s) (sym e) st
+    Represents (summary_of parts started changed_at x) s → Represents (summary_of parts started changed_at y) s
+stands-same {A = A} parts started changed_at x y s e st = subst (λ (z : Context A). Represents (summary_of parts started changed_at z) s) (sym e) st
 
 -- Other settings, where the limit of steps alone is another one. What decays is as before.
 abbrev pub IsLimited : {A : Type 0} → ℕ → Context A → Context A → Type 0
@@ -121,9 +121,9 @@ limits-steps {A} n x y u r e h =
 -- the same solver, in which a call may make so many steps
 pub stands-limited : {A : Type 0} (parts : TracerState) (started : Bool) (changed_at n : ℕ) (x y : Context A) (b : ActivityScale) (a : Activities)
     (s : State) → y ≡ record x { clause_activity = b; solver_config = record x.solver_config { max_steps = n }; vsids = a } →
-    StandsFor (summary_of parts started changed_at x) s → StandsFor (summary_of parts started changed_at y) (with_max_steps n s)
+    Represents (summary_of parts started changed_at x) s → Represents (summary_of parts started changed_at y) (with_max_steps n s)
 stands-limited {A = A} parts started changed_at n x y b a s e st =
-    subst (λ (z : Context A). StandsFor (summary_of parts started changed_at z) (with_max_steps n s)) (sym e) (record {
+    subst (λ (z : Context A). Represents (summary_of parts started changed_at z) (with_max_steps n s)) (sym e) (record {
       ledger = ap (λ (l : Ledger). record l { settings = record l.settings { max_steps = n } }) st.ledger;
       fits = λ v. let (w, k) = st.fits v in (
         w,
@@ -162,7 +162,7 @@ counts-limited {A = A} changed_at n x y b a e g k =
 
 -- the same solver, where steps are counted anew
 pub stands-anew : {A : Type 0} (parts : TracerState) (started : Bool) (changed_at anew : ℕ) (x : Context A) (s : State) → anew ≡ x.schedule.steps →
-    StandsFor (summary_of parts started changed_at x) s → StandsFor (summary_of parts started anew x) (count_anew s)
+    Represents (summary_of parts started changed_at x) s → Represents (summary_of parts started anew x) (count_anew s)
 stands-anew parts started changed_at anew x s n st = record {
   ledger = ap (λ (l : Ledger). record l { since = 0 }) st.ledger
       ∙ ap (λ k. ledger_of (not x.solver_state.state_is_invalid) started x.schedule.steps k x.solver_config (is_there parts.proof.checker))
@@ -181,8 +181,8 @@ stands-anew parts started changed_at anew x s n st = record {
 pub stands-with-proof : {A : Type 0} (tables : Tables) (p q : ProofParts) (started : Bool) (changed_at : ℕ) (x : Context A) (s : State)
     (proof : Option OpenProof) → q.checker ≡ p.checker → q.opened ≡ opened_state proof →
     (not x.solver_state.state_is_invalid ≡ true → IsWrittenWhereOpen s.variables s.logged proof) → (BarsAssumptions proof → s.assumptions ≡ []) →
-    StandsFor (summary_of (record { tables = tables; proof = p }) started changed_at x) s →
-    StandsFor (summary_of (record { tables = tables; proof = q }) started changed_at x) (with_proof proof s)
+    Represents (summary_of (record { tables = tables; proof = p }) started changed_at x) s →
+    Represents (summary_of (record { tables = tables; proof = q }) started changed_at x) (with_proof proof s)
 stands-with-proof tables p q started changed_at x s proof checker e f unassumed st = record {
   ledger = st.ledger
       ∙ ap (λ (o : Option CheckerState). ledger_of (not x.solver_state.state_is_invalid) started x.schedule.steps (x.schedule.steps - changed_at)
@@ -251,12 +251,12 @@ spaces-checking tables p q x s (inl e) none few (w, k) =
 spaces-checking tables p q x s (inr e) none few fit = subst (λ (r : ProofParts). SpacesFit (spaces_with tables r.checker x) s) (sym e) fit
 
 pub some-checking : {A : Type 0} (tables : Tables) (p q : ProofParts) (x : Context A) (started : Bool) → Checks p q → started ≡ false →
-    StandsForSome (spaces_with tables p.checker x) started → StandsForSome (spaces_with tables q.checker x) started
+    RepresentsSome (spaces_with tables p.checker x) started → RepresentsSome (spaces_with tables q.checker x) started
 some-checking tables p q x started e fresh (s, fit, f) = let (none, few) = f fresh in (s, spaces-checking tables p q x s e none few fit, f)
 
 pub stands-checking : {A : Type 0} (tables : Tables) (p q : ProofParts) (started : Bool) (changed_at : ℕ) (x : Context A) (s : State) →
-    Checks p q → is_there q.checker ≡ true → s.ledger.started ≡ false → StandsFor (summary_of (record { tables = tables; proof = p }) started changed_at x) s →
-    StandsFor (summary_of (record { tables = tables; proof = q }) started changed_at x) (with_checking s)
+    Checks p q → is_there q.checker ≡ true → s.ledger.started ≡ false → Represents (summary_of (record { tables = tables; proof = p }) started changed_at x) s →
+    Represents (summary_of (record { tables = tables; proof = q }) started changed_at x) (with_checking s)
 stands-checking tables p q started changed_at x s e runs fresh st = record {
   ledger = ap (λ (l : Ledger). record l { checking = true }) st.ledger
       ∙ ap (λ b. ledger_of (not x.solver_state.state_is_invalid) started x.schedule.steps (x.schedule.steps - changed_at) x.solver_config b) (sym runs);

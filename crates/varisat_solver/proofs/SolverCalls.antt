@@ -9,7 +9,7 @@ use Rattle.varisat_theory.specs.Outcomes.{Outcome, MakesSteps}
 use Rattle.varisat_theory.specs.Outcomes as outcome
 use Rattle.varisat_theory.proofs.Renaming.{map-∈}
 use Rattle.varisat_prop.proofs.LiteralValues.{same-literal}
-use Rattle.varisat_theory.proofs.StepStands.{first_stands}
+use Rattle.varisat_theory.proofs.StepAccounts.{first_accounts}
 use Rattle.varisat_prop.specs.Parts.{is_true_value}
 use Rattle.varisat_prop.specs.View.{View, WellFormed}
 use Rattle.varisat_search.specs.declared.state.SatState.{SatState}
@@ -51,7 +51,7 @@ use Rattle.varisat_proof.specs.Passing.{LogsConflict}
 use Rattle.varisat_solver.specs.Journals.{with_entries, LogsMore}
 use Rattle.varisat_solver.proofs.LoggedEntries.{logs-nothing}
 use Rattle.varisat_solver.specs.Spaces.{Carrying, Translation, HeldFits, translation, without_core, CoreFits, VerdictFits, Links, SpacesFit, FitWithNew, list_globals}
-use Rattle.varisat_solver.specs.Summaries.{Summary, IsKept, StandsFor, spaces, spaces_of, list_tables}
+use Rattle.varisat_solver.specs.Summaries.{Summary, IsKept, Represents, spaces, spaces_of, list_tables}
 use Rattle.varisat_solver.proofs.SpacesAgree.{map-map, AreInUse}
 use Rattle.varisat_solver.proofs.CallStates.{like-still}
 use Rattle.varisat_solver.proofs.SearchVerdicts.{right-false, right-core}
@@ -84,7 +84,7 @@ first-kept t c e r n s d = record {
 pub first-spaces : (s : View) → search_of s ≡ first_search → length s.values ≡ 0 →
     SpacesFit (spaces_of no_variables None s no_assumptions verdict.Unknown) empty_state
 first-spaces s e n =
-    let f = first_stands (search_of s) e in (
+    let f = first_accounts (search_of s) e in (
       record { identity = λ x. None; global = λ i. None; forced = λ i. None },
       record {
         identities = record {
@@ -406,13 +406,13 @@ not-valid true e = let z : false ≡ true = e in absurd cc
 not-valid false e = refl
 
 -- few steps were made since the last change
-pub counted-few : (g : Summary) (s : State) → StandsFor g s → g.ledger.valid ≡ true →
+pub counted-few : (g : Summary) (s : State) → Represents g s → g.ledger.valid ≡ true →
     ((n : ℕ) → length g.search.values ≤ n → AreFew n g.ledger.since) → AreFew (length s.counted) s.ledger.since
 counted-few g s st v few = subst (AreFew (length s.counted)) (sym (ap (λ (l : Ledger). l.since) st.ledger))
     (few (length s.counted) (st.fits v).1.few)
 
 -- how the steps are counted, for the state
-pub counted-call : (g : Summary) (s : State) (max_steps after : ℕ) (a r : Result Bool SolverError) → StandsFor g s → g.ledger.valid ≡ true →
+pub counted-call : (g : Summary) (s : State) (max_steps after : ℕ) (a r : Result Bool SolverError) → Represents g s → g.ledger.valid ≡ true →
     max_steps ≡ g.ledger.settings.max_steps → a ≡ r →
     ((n : ℕ) → length g.search.values ≤ n → CountsSteps n max_steps g.ledger.since g.ledger.steps after a) →
     CountsSteps (length s.counted) s.ledger.settings.max_steps s.ledger.since s.ledger.steps after r
@@ -425,7 +425,7 @@ counted-call g s max_steps after a r st v m e c =
     (subst (CountsSteps (length s.counted) max_steps g.ledger.since g.ledger.steps after) e k)))
 
 -- before that the verdict was unknown
-pub was-unknown : (g : Summary) (s : State) → StandsFor g s → g.ledger.valid ≡ true → g.sat_state ≡ verdict.Unknown → s.verdict ≡ Unknown
+pub was-unknown : (g : Summary) (s : State) → Represents g s → g.ledger.valid ≡ true → g.sat_state ≡ verdict.Unknown → s.verdict ≡ Unknown
 was-unknown g s st v e = let (w, k) = st.fits v in is-unknown w.identity (spaces g).model s.verdict
     (subst (λ y. VerdictFits w.identity (spaces g).model y s.verdict) (ap (outcome_of g.search g.assumed.failed_core) e) k.verdict)
 
@@ -436,7 +436,7 @@ tables-listed g zero u = refl
 tables-listed g (suc k) u = ap (put_name u (at g.tables.users.forward u) (spaces g).model) (tables-listed g k (suc u))
 
 -- where a model was found it is told, and can be completed
-pub sat-model : (g : Summary) (s : State) → StandsFor g s → g.ledger.valid ≡ true → g.sat_state ≡ verdict.Sat →
+pub sat-model : (g : Summary) (s : State) → Represents g s → g.ledger.valid ≡ true → g.sat_state ≡ verdict.Sat →
     (model_of s.naming s.verdict ≡ Some (list_tables g.tables g.search.values 0 (length g.tables.users.forward)))
     × IsCompletable s.naming s.clauses s.assumptions s.counted (list_tables g.tables g.search.values 0 (length g.tables.users.forward))
 sat-model g s st v e =
@@ -464,7 +464,7 @@ tables-push t vs m e (suc k) u =
 
 -- 5. What a verdict says.
 
-pub sat-right : (g : Summary) (s : State) → StandsFor g s → g.ledger.valid ≡ true → g.sat_state ≡ verdict.Sat → IsSatisfiableWith s.clauses s.assumptions
+pub sat-right : (g : Summary) (s : State) → Represents g s → g.ledger.valid ≡ true → g.sat_state ≡ verdict.Sat → IsSatisfiableWith s.clauses s.assumptions
 sat-right g s st valid e =
     let (w, k) = st.fits valid in
     let (a, v, f) = is-sat w.identity (spaces g).model (assignment_of g.search) s.verdict
@@ -489,11 +489,11 @@ answers-fit id m t failed verdict.Unsat Unsat f = refl
 answers-fit id m t failed verdict.UnsatUnderAssumptions (UnsatUnderAssumptions core) f = refl
 answers-fit id m t failed sat v f = absurd f
 
-pub answers-alike : (g : Summary) (s : State) → StandsFor g s → g.ledger.valid ≡ true → answer_of s.verdict ≡ answer_at g.sat_state
+pub answers-alike : (g : Summary) (s : State) → Represents g s → g.ledger.valid ≡ true → answer_of s.verdict ≡ answer_at g.sat_state
 answers-alike g s st v = let (w, k) = st.fits v in answers-fit w.identity (spaces g).model g.search g.assumed.failed_core g.sat_state s.verdict k.verdict
 
 -- under assumptions that failed the core is told that is kept over names
-pub core-to-tell : (g : Summary) (s : State) → StandsFor g s → g.ledger.valid ≡ true → g.sat_state ≡ verdict.UnsatUnderAssumptions →
+pub core-to-tell : (g : Summary) (s : State) → Represents g s → g.ledger.valid ≡ true → g.sat_state ≡ verdict.UnsatUnderAssumptions →
     IsReturnedCore s (Some g.assumed.user_core)
 core-to-tell g s st v e =
     let (w, k) = st.fits v in
@@ -502,13 +502,13 @@ core-to-tell g s st v e =
     let (named, same) = subst (CoreFits s.naming.names g.assumed.user_core) q k.core in
     (named, ap core_of q ∙ ap Some same)
 
-pub unsat-known : (g : Summary) (s : State) → StandsFor g s → g.ledger.valid ≡ true → g.sat_state ≡ verdict.Unsat → s.verdict ≡ Unsat
+pub unsat-known : (g : Summary) (s : State) → Represents g s → g.ledger.valid ≡ true → g.sat_state ≡ verdict.Unsat → s.verdict ≡ Unsat
 unsat-known g s st v e =
     let (w, k) = st.fits v in
     is-unsat w.identity (spaces g).model s.verdict
     (subst (λ y. VerdictFits w.identity (spaces g).model y s.verdict) (ap (outcome_of g.search g.assumed.failed_core) e) k.verdict)
 
-pub unsat-to-tell : (g : Summary) (s : State) → StandsFor g s → g.ledger.valid ≡ true → g.sat_state ≡ verdict.Unsat → IsReturnedCore s (Some [])
+pub unsat-to-tell : (g : Summary) (s : State) → Represents g s → g.ledger.valid ≡ true → g.sat_state ≡ verdict.Unsat → IsReturnedCore s (Some [])
 unsat-to-tell g s st v e =
     let (w, k) = st.fits v in
     let q = is-unsat w.identity (spaces g).model s.verdict
@@ -535,7 +535,7 @@ unsat-logged id m r fixed share outcome.Unknown x e f h = absurd (subst (Verdict
 unsat-logged id m r fixed share (outcome.Sat found) x e f h = absurd (subst (VerdictFits id m (outcome.Sat found)) e f)
 unsat-logged id m r fixed share (outcome.UnsatUnder core) x e f h = absurd (subst (VerdictFits id m (outcome.UnsatUnder core)) e f)
 
-pub logged-refuted : (g : Summary) (s : State) → StandsFor g s → g.ledger.valid ≡ true → s.verdict ≡ Unsat → LogsConflict s.logged
+pub logged-refuted : (g : Summary) (s : State) → Represents g s → g.ledger.valid ≡ true → s.verdict ≡ Unsat → LogsConflict s.logged
 logged-refuted g s st v e = let (w, k) = st.fits v in unsat-logged w.identity (spaces g).model (translation w (spaces g) s.logged)
     (spaces g).search.fixed k.holds.held (spaces g).outcome s.verdict e k.verdict k.holds.logged
 
@@ -547,7 +547,7 @@ core-not-empty id m (outcome.Sat found) x list e f = absurd (subst (VerdictFits 
 core-not-empty id m outcome.Unsat x list e f = absurd (subst (VerdictFits id m outcome.Unsat) e f)
 core-not-empty id m (outcome.UnsatUnder found) x list e f = subst (VerdictFits id m (outcome.UnsatUnder found)) e f
 
-pub known-logged : (g : Summary) (s : State) (b : Bool) → StandsFor g s → g.ledger.valid ≡ true → answer_at g.sat_state ≡ Some b → ReturnsVerdict by_state s b s
+pub known-logged : (g : Summary) (s : State) (b : Bool) → Represents g s → g.ledger.valid ≡ true → answer_at g.sat_state ≡ Some b → ReturnsVerdict by_state s b s
 known-logged g s b st v e =
     let a = answers-alike g s st v ∙ e in
     record {
@@ -566,11 +566,11 @@ known-logged g s b st v e =
       rest = like-still s;
     }
 
-pub false-right : (g : Summary) (s : State) → StandsFor g s → g.ledger.valid ≡ true → answer_at g.sat_state ≡ Some false →
+pub false-right : (g : Summary) (s : State) → Represents g s → g.ledger.valid ≡ true → answer_at g.sat_state ≡ Some false →
     IsSatisfiableWith s.clauses s.assumptions → ⊥
 false-right g s st v e = right-false s.clauses s.assumptions s.counted s.verdict (answers-alike g s st v ∙ e) (st.fits v).1.right
 
-pub false-core : (g : Summary) (s : State) → StandsFor g s → g.ledger.valid ≡ true → answer_at g.sat_state ≡ Some false → (core : List Literal)
+pub false-core : (g : Summary) (s : State) → Represents g s → g.ledger.valid ≡ true → answer_at g.sat_state ≡ Some false → (core : List Literal)
     × (core_of s.verdict ≡ Some core) × IsFailedCore s.clauses s.assumptions core
 false-core g s st v e = right-core s.clauses s.assumptions s.counted s.verdict (answers-alike g s st v ∙ e) (st.fits v).1.right
 

@@ -27,8 +27,8 @@ IsWithinIdentities d p x y =
 
 -- The clause was accepted: the journal goes on with it, and then with lines, and so does what a proof was told. Identities that are
 -- new have variables then.
-abbrev pub StandsOnceAccepted : {A : Type 0} → Clause → TracerState → Context A → TracerState → Context A → Type 0
-StandsOnceAccepted d p x q y =
+abbrev pub RepresentsOnceAccepted : {A : Type 0} → Clause → TracerState → Context A → TracerState → Context A → Type 0
+RepresentsOnceAccepted d p x q y =
     (s : State) → SpacesFit (spaces_with p.tables p.proof.checker x) s →
     (v : Verdict) × (logged : List Entry) × (variables : ℕ → Option ℕ) × VerdictAfter s.clauses (identity_literals s d) s.verdict v
     × LogsStaying 0 (s.logged ++ Accepts (identity_literals s d) ∷ []) logged
@@ -38,8 +38,8 @@ StandsOnceAccepted d p x q y =
 
 -- The list is assumed in place of the one before, and the journal goes on with it, and so does what a proof was told. Identities
 -- that are new have variables then.
-abbrev pub StandsOnceAssumed : {A : Type 0} → List Literal → TracerState → Context A → TracerState → Context A → Type 0
-StandsOnceAssumed d p x q y =
+abbrev pub RepresentsOnceAssumed : {A : Type 0} → List Literal → TracerState → Context A → TracerState → Context A → Type 0
+RepresentsOnceAssumed d p x q y =
     (s : State) → SpacesFit (spaces_with p.tables p.proof.checker x) s →
     (variables : ℕ → Option ℕ) × KeepVariables s.naming.made s.variables variables
     × LogsToProof variables s.logged (s.logged ++ Assumes (identity_literals s d) ∷ []) p.proof q.proof

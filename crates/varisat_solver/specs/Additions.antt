@@ -4,7 +4,7 @@ use Rattle.varisat_theory.specs.Literals.{Clause}
 use Rattle.varisat_formula.specs.declared.dimacs.error.DimacsError.{DimacsError}
 use Rattle.varisat_formula.specs.declared.dimacs.error.DimacsErrorKind.TheVariants as kind
 use Rattle.varisat_formula.specs.Dimacs.{Reading}
-use Rattle.varisat_formula.specs.Streams.{Stand}
+use Rattle.varisat_formula.specs.Streams.{Input}
 use Rattle.varisat_formula.specs.Parsed.{GivesReading}
 use Rattle.varisat_formula.specs.TakenTexts.{GivesFirst}
 use Rattle.varisat_solver.specs.States.{Known}
@@ -37,7 +37,7 @@ module _ {V : Type 0} (by : Verdicts V) where
     ClausesAdded : (mid : Known V) → AddsAll s reading.clauses (Ok tt) mid → ReturnsFault reading.fault mid r t → AddsReading s reading r t
 
   -- A text is added that a source gives. An invalid solver refuses it, and reads nothing.
-  pub data AddsText (s : Known V) (old : Stand) (r : Result (Unit {0}) SolverError) (new : Stand) (t : Known V) : Type 0 where
+  pub data AddsText (s : Known V) (old : Input) (r : Result (Unit {0}) SolverError) (new : Input) (t : Known V) : Type 0 where
     Read : IsValid s → (reading : Reading) → GivesReading old reading new → AddsReading s reading r t → AddsText s old r new t
     -- a clause is refused that ended in what the source gave, whatever comes behind
     RefusedEarly : IsValid s → (ended : List Clause) → GivesFirst old ended new → (e : SolverError) → r ≡ Err e → AddsAll s ended (Err e) t →

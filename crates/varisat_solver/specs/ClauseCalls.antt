@@ -1,7 +1,7 @@
 -- How calls add lists and texts of clauses to a state.
 use Rattle.std.specs.Prelude.{List, Result}
 use Rattle.varisat_theory.specs.Literals.{Clause}
-use Rattle.varisat_formula.specs.Streams.{Stand}
+use Rattle.varisat_formula.specs.Streams.{Input}
 use Rattle.varisat_solver.specs.States.{State}
 use Rattle.varisat_solver.specs.Calls.{by_state}
 use Rattle.varisat_solver.specs.Additions as additions
@@ -12,5 +12,5 @@ abbrev pub AddsFormula : State → List Clause → Result (Unit {0}) SolverError
 AddsFormula s P r t = additions.AddsList by_state s P r t
 
 -- the clauses of the text that the source gives, up to the first refusal or fault; those before it stay
-abbrev pub AddsDimacs : State → Stand → Result (Unit {0}) SolverError → Stand → State → Type 0
+abbrev pub AddsDimacs : State → Input → Result (Unit {0}) SolverError → Input → State → Type 0
 AddsDimacs s old r new t = additions.AddsText by_state s old r new t

@@ -102,8 +102,8 @@ pub record IsKept {A : Type 0} (tables : Tables) (search : Context A) : Type 0 w
 
 -- Some state stands for what is held. Before a clause, a variable or a list of assumptions was accepted it has no clauses, and
 -- counts nothing.
-abbrev pub StandsForSome : Spaces → Bool → Type 0
-StandsForSome p started = (s : State) × SpacesFit p s × (started ≡ false → (s.clauses ≡ []) × (s.counted ≡ []))
+abbrev pub RepresentsSome : Spaces → Bool → Type 0
+RepresentsSome p started = (s : State) × SpacesFit p s × (started ≡ false → (s.clauses ≡ []) × (s.counted ≡ []))
 
 -- What it keeps beside that: its proof can be told entries, it counts the steps since its last change, before which `changed_at`
 -- were made, and it stands for some state, so that its checker finds each step right that it is told.
@@ -111,12 +111,12 @@ pub record IsKeptSince {A : Type 0} (tables : Tables) (proof : ProofParts) (sear
   pub kept : IsKept tables search
   pub logs : CanLog proof
   pub counts : CountsSince changed_at search
-  pub stands : StandsForSome (spaces_with tables proof.checker search) started
+  pub stands : RepresentsSome (spaces_with tables proof.checker search) started
 
 -- The solver stands for the state: both have the same ledger and as many words in the store, and the same proof is open, whose
 -- target has the bytes that the state says; and where it is valid, what the solver holds stands for it, these are the bytes of the
 -- lines that were told, and no variable is past the limit.
-pub record StandsFor (g : Summary) (s : State) : Type 0 where
+pub record Represents (g : Summary) (s : State) : Type 0 where
   pub ledger : s.ledger ≡ g.ledger
   pub words : s.words ≡ g.words
   pub same : g.opened ≡ opened_state s.proof
@@ -126,8 +126,8 @@ pub record StandsFor (g : Summary) (s : State) : Type 0 where
   pub bounded : g.ledger.valid ≡ true → AreBounded g.tables
 
 -- From each state that the solver g stands for the relation leads to one that it stands for as h.
-abbrev pub StandsOnce : Summary → (State → State → Type 0) → Summary → Type 0
-StandsOnce g R h = (s : State) → StandsFor g s → (t : State) × R s t × StandsFor h t
+abbrev pub LeadsRepresented : Summary → (State → State → Type 0) → Summary → Type 0
+LeadsRepresented g R h = (s : State) → Represents g s → (t : State) × R s t × Represents h t
 
 -- A search ends in a valid solver: an open proof is one under which `solve` was called. Where it can't be flushed the solver is invalid.
 abbrev pub EndsSearch : Summary → Result (Unit {0}) SolverError → Summary → Type 0

@@ -3,7 +3,7 @@ use Rattle.std.specs.Prelude.{◌≡◌, List, Result, Err}
 use Rattle.varisat_theory.specs.Literals.{Clause}
 use Rattle.varisat_solver.specs.Calls.{by_state}
 use Rattle.varisat_solver.specs.Additions.{AddsAll}
-use Rattle.varisat_solver.specs.Summaries.{Summary, StandsOnce, HasFullStore}
+use Rattle.varisat_solver.specs.Summaries.{Summary, LeadsRepresented, HasFullStore}
 use Rattle.varisat_solver.specs.Targets.{WritesOn}
 use Rattle.varisat_solver.specs.declared.solver.SolverError.{SolverError}
 use Rattle.varisat_solver.specs.declared.solver.SolverError.TheVariants.{ClauseStoreFull}
@@ -12,4 +12,4 @@ use Rattle.varisat_solver.specs.declared.solver.SolverError.TheVariants.{ClauseS
 pub record TakesClauses (g : Summary) (clauses : List Clause) (r : Result (Unit {0}) SolverError) (h : Summary) : Type 0 where
   pub target : WritesOn g.opened r h.opened
   pub full : r ≡ Err ClauseStoreFull → HasFullStore h
-  pub call : StandsOnce g (λ s t. AddsAll by_state s clauses r t) h
+  pub call : LeadsRepresented g (λ s t. AddsAll by_state s clauses r t) h

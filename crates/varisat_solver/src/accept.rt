@@ -6,7 +6,7 @@ ghost use Rattle.varisat_theory.specs.Literals.{Literal, variable_of};
 ghost use Rattle.varisat_names.specs.VarData.{kept_at};
 ghost use Rattle.varisat_names.specs.VarMap.{at};
 ghost use Rattle.varisat_search.specs.Contexts.{IsNotUnsat, KeepsSchedule};
-ghost use Rattle.varisat_solver.specs.Accepted.{KeepsValidity, IsWithinIdentities, StandsOnceAccepted, StandsOnceAssumed};
+ghost use Rattle.varisat_solver.specs.Accepted.{KeepsValidity, IsWithinIdentities, RepresentsOnceAccepted, RepresentsOnceAssumed};
 ghost use Rattle.varisat_theory.specs.Journals.{Accepts, Assumes};
 ghost use Rattle.varisat_tracer.specs.Tracing.{tracer_state, TakesGlobally, BreaksProof, CanLog};
 ghost use Rattle.varisat_search.specs.StepErrors.{step_faults, HasNoRoom};
@@ -111,7 +111,7 @@ pub fn accept_user_clause<W: ProofTarget, A: Allocator + Copy>(
         record ctx.old.solver_state { sat_state = ctx.new.solver_state.sat_state; formula_is_empty = false }) }
     ensures schedule { KeepsSchedule ctx.old ctx.new }
     ensures logged { OnOk result (LogsSome tracer.old.proof tracer.new.proof) }
-    ensures accepted { OnOk result (StandsOnceAccepted clause.now (tracer_state tracer.old) ctx.old (tracer_state tracer.new) ctx.new) }
+    ensures accepted { OnOk result (RepresentsOnceAccepted clause.now (tracer_state tracer.old) ctx.old (tracer_state tracer.new) ctx.new) }
     // What the target of an open proof has after an error.
     ensures broken { IfErr result (λ error. BreaksProof tracer.old.proof (step_faults error) tracer.new.proof) }
     ensures full { IfErr result (λ error. error ≡ StepError.Full → HasNoRoom ctx.new) }
@@ -145,7 +145,7 @@ pub fn assume_list<W: ProofTarget, A: Allocator + Copy>(
     ensures state { OnOk result (KeepsValidity ctx.old.solver_state ctx.new.solver_state) }
     ensures schedule { KeepsSchedule ctx.old ctx.new }
     ensures logged { OnOk result (LogsSome tracer.old.proof tracer.new.proof) }
-    ensures assumed { OnOk result (StandsOnceAssumed list.now (tracer_state tracer.old) ctx.old (tracer_state tracer.new) ctx.new) }
+    ensures assumed { OnOk result (RepresentsOnceAssumed list.now (tracer_state tracer.old) ctx.old (tracer_state tracer.new) ctx.new) }
     // What the target of an open proof has after an error. The clause store is not asked for room.
     ensures broken { IfErr result (λ error. BreaksProof tracer.old.proof (step_faults error) tracer.new.proof) }
     ensures unstored { IfErr result (λ error. error ≢ StepError.Full) }

@@ -1,7 +1,7 @@
 //! A search in rounds, behind each of which it is told how far it is.
 ghost use Rattle.std.specs.Prelude.{◌≡◌, ◌↔◌, ◌<◌, ◌≤◌, IsTrue, Err};
 ghost use Rattle.varisat_solver.specs.States.{State};
-ghost use Rattle.varisat_solver.specs.Summaries.{StandsFor, StandsOnce};
+ghost use Rattle.varisat_solver.specs.Summaries.{Represents, LeadsRepresented};
 ghost use Rattle.varisat_solver.specs.Calls.{SearchesWithin, Solves, by_state};
 
 use crate::progress::{write_head, write_row, write_summary};
@@ -17,7 +17,7 @@ pub fn search<W: ProofTarget, A: Allocator + Copy, E: Write>(
     interval: Option<u64>,
     err: &mut E,
 ) -> Result<bool, SolverError>
-    ensures { (s : State) → StandsFor solver.old s → (t : State) × Solves by_state s result t × StandsFor solver.new t }
+    ensures { (s : State) → Represents solver.old s → (t : State) × Solves by_state s result t × Represents solver.new t }
 {
     match interval {
         Some(interval) => search_in_rounds(solver, interval, err),
@@ -31,7 +31,7 @@ fn search_in_rounds<W: ProofTarget, A: Allocator + Copy, E: Write>(
     interval: u64,
     err: &mut E,
 ) -> Result<bool, SolverError>
-    ensures { (s : State) → StandsFor solver.old s → (t : State) × Solves by_state s result t × StandsFor solver.new t }
+    ensures { (s : State) → Represents solver.old s → (t : State) × Solves by_state s result t × Represents solver.new t }
 {
     let max_steps = solver.max_steps();
     // Of a writer that fails here nothing is left to tell.
@@ -55,7 +55,7 @@ fn seek_in_rounds<W: ProofTarget, A: Allocator + Copy, E: Write>(
     interval: u64,
     err: &mut E,
 ) -> Result<bool, SolverError>
-    ensures { StandsOnce solver.old (λ s t. SearchesWithin max_steps s result t) solver.new }
+    ensures { LeadsRepresented solver.old (λ s t. SearchesWithin max_steps s result t) solver.new }
 {
     let mut rest = max_steps;
     'rounds: loop {

@@ -268,7 +268,7 @@ impl<W: ProofTarget, A: Allocator + Copy> Solver<W, A> {
     ghost use Rattle.varisat_solver.specs.ClauseCalls.{AddsFormula, AddsDimacs};
     ghost use Rattle.varisat_solver.specs.Additions.{AddsAll, ReturnsFault};
     ghost use Rattle.varisat_solver.specs.ReturnedLists.{returned_list, lent_list};
-    ghost use Rattle.varisat_solver.specs.Summaries.{StandsFor, StandsOnce, EndsSearch, HasFullStore};
+    ghost use Rattle.varisat_solver.specs.Summaries.{Represents, LeadsRepresented, EndsSearch, HasFullStore};
     ghost use Rattle.varisat_solver.specs.Targets.{WritesOn, WritesAll};
     ghost use Rattle.varisat_proof.specs.Proving.{marked_searched};
     ghost use Rattle.varisat_solver.specs.Journals.{IsJournal};
@@ -279,7 +279,7 @@ impl<W: ProofTarget, A: Allocator + Copy> Solver<W, A> {
 
     /// A solver with no clause. It takes no memory.
     pub fn new_in(alloc: A) -> Self
-        ensures { StandsFor result empty_state }
+        ensures { Represents result empty_state }
     {
         Solver {
             alloc,
@@ -294,7 +294,7 @@ impl<W: ProofTarget, A: Allocator + Copy> Solver<W, A> {
     /// Changes the settings for which the update has values. Refused in an invalid solver, and where a value is out of
     /// its range: then nothing changes, and the first such setting is told.
     pub fn config(&mut self, update: &SolverConfigUpdate) -> Result<(), SolverError>
-        ensures { StandsOnce self.old (λ s t. Configures s update.now result t) self.new }
+        ensures { LeadsRepresented self.old (λ s t. Configures s update.now result t) self.new }
     {
         ensure_valid(&self.ctx)?;
         match self.ctx.config_changed(update) {
@@ -315,7 +315,7 @@ impl<W: ProofTarget, A: Allocator + Copy> Solver<W, A> {
     /// Sets how many steps a call of `solve` may make. Unlike `config` this is no change, so that the steps since the last
     /// change are counted on: a search can be made in rounds of steps.
     pub fn set_max_steps(&mut self, max_steps: u64)
-        ensures { (s : State) → StandsFor self.old s → StandsFor self.new (with_max_steps max_steps s) }
+        ensures { (s : State) → Represents self.old s → Represents self.new (with_max_steps max_steps s) }
     {
         let mut update = SolverConfigUpdate::new();
         update.max_steps = Some(max_steps);
@@ -324,7 +324,7 @@ impl<W: ProofTarget, A: Allocator + Copy> Solver<W, A> {
 
     /// How many steps all calls of `solve` made together.
     pub fn steps(&self) -> u64
-        ensures { StandsOnce self.now (λ s t. ReturnsSteps s result t) self.now }
+        ensures { LeadsRepresented self.now (λ s t. ReturnsSteps s result t) self.now }
     {
         self.ctx.schedule.steps()
     }
@@ -334,7 +334,7 @@ impl<W: ProofTarget, A: Allocator + Copy> Solver<W, A> {
     /// valid solver they are fewer than (n+2)*2^(n+2), and so than 2^(2n+3), where the clauses and all assumptions so far
     /// name n variables, however often a call was interrupted.
     pub fn steps_since_change(&self) -> u64
-        ensures { StandsOnce self.now (λ s t. ReturnsSince s result t) self.now }
+        ensures { LeadsRepresented self.now (λ s t. ReturnsSince s result t) self.now }
     {
         self.ctx.schedule.steps().saturating_sub(self.changed_at)
     }
@@ -362,7 +362,7 @@ impl<W: ProofTarget, A: Allocator + Copy> Solver<W, A> {
     /// Counts steps anew from here on.
     fn begin_count(&mut self)
         ensures rest { self.new ≡ record self.old { ledger = self.new.ledger } }
-        ensures call { (s : State) → StandsFor self.old s → StandsFor self.new (count_anew s) }
+        ensures call { (s : State) → Represents self.old s → Represents self.new (count_anew s) }
     {
         self.changed_at = self.ctx.schedule.steps();
     }
@@ -382,7 +382,7 @@ impl<W: ProofTarget, A: Allocator + Copy> Solver<W, A> {
     /// `failed_core` return None, and `close_proof` hands back the target as it is.
     pub fn is_valid(&self) -> bool
         ensures now { result ≡ self.now.ledger.valid }
-        ensures call { StandsOnce self.now (λ s t. ReturnsValid s result t) self.now }
+        ensures call { LeadsRepresented self.now (λ s t. ReturnsValid s result t) self.now }
     {
         !self.ctx.solver_state.state_is_invalid
     }
@@ -392,8 +392,8 @@ impl<W: ProofTarget, A: Allocator + Copy> Solver<W, A> {
     /// the accepted clauses, which refutes them once they are known to be unsatisfiable. And few steps were made since the
     /// last change.
     pub fn prove_journal(&self)
-        ensures journal { (s : State) → StandsFor self.now s → IsValid s → IsJournal s }
-        ensures few { (s : State) → StandsFor self.now s → IsValid s → AreFew (length s.counted) s.ledger.since }
+        ensures journal { (s : State) → Represents self.now s → IsValid s → IsJournal s }
+        ensures few { (s : State) → Represents self.now s → IsValid s → AreFew (length s.counted) s.ledger.since }
     {
         let _is_valid = !self.ctx.solver_state.state_is_invalid;
     }
@@ -406,7 +406,7 @@ impl<W: ProofTarget, A: Allocator + Copy> Solver<W, A> {
     pub fn add_clause(&mut self, clause: &[Lit]) -> Result<(), SolverError>
         ensures target { WritesOn self.old.opened result self.new.opened }
         ensures full { result ≡ Err SolverError.ClauseStoreFull → HasFullStore self.new }
-        ensures call { StandsOnce self.old (λ s t. AddsClause s clause.now result t) self.new }
+        ensures call { LeadsRepresented self.old (λ s t. AddsClause s clause.now result t) self.new }
     {
         ensure_valid(&self.ctx)?;
         if let SatState::Unsat = self.ctx.solver_state.sat_state {
@@ -436,7 +436,7 @@ impl<W: ProofTarget, A: Allocator + Copy> Solver<W, A> {
     ) -> Result<(), SolverError>
         ensures target { WritesOn self.old.opened result self.new.opened }
         ensures full { result ≡ Err SolverError.ClauseStoreFull → HasFullStore self.new }
-        ensures call { StandsOnce self.old (λ s t. AddsAll by_state s formula.now.clauses result t) self.new }
+        ensures call { LeadsRepresented self.old (λ s t. AddsAll by_state s formula.now.clauses result t) self.new }
     {
         for clause in formula.iter() {
             self.add_clause(clause)?;
@@ -452,7 +452,7 @@ impl<W: ProofTarget, A: Allocator + Copy> Solver<W, A> {
     ) -> Result<(), SolverError>
         ensures target { WritesOn self.old.opened result self.new.opened }
         ensures full { result ≡ Err SolverError.ClauseStoreFull → HasFullStore self.new }
-        ensures call { StandsOnce self.old (λ s t. AddsFormula s formula.now.clauses result t) self.new }
+        ensures call { LeadsRepresented self.old (λ s t. AddsFormula s formula.now.clauses result t) self.new }
     {
         ensure_valid(&self.ctx)?;
         self.add_clauses(formula)?;
@@ -465,7 +465,7 @@ impl<W: ProofTarget, A: Allocator + Copy> Solver<W, A> {
         ensures same { self.new.opened ≡ self.old.opened }
         ensures faults { returned_faults result ≡ 0 }
         ensures full { result ≢ SolverError.ClauseStoreFull }
-        ensures call { (s : State) → StandsFor self.old s → IsValid s → (t : State) × ReturnsFault by_state (Some fault) s (Err result) t × StandsFor self.new t }
+        ensures call { (s : State) → Represents self.old s → IsValid s → (t : State) × ReturnsFault by_state (Some fault) s (Err result) t × Represents self.new t }
     {
         if let DimacsErrorKind::OutOfMemory = fault.kind {
             return invalidate(&mut self.ctx, SolverError::OutOfMemory);
@@ -477,10 +477,10 @@ impl<W: ProofTarget, A: Allocator + Copy> Solver<W, A> {
     /// which is then returned, whatever the pieces in which the source gives the text. The clauses before it stay. Out
     /// of memory in the reader is returned as in any call.
     pub fn add_dimacs_cnf<S: ByteSource>(&mut self, source: &mut S) -> Result<(), SolverError>
-        requires { (S.stand source.old).faults < 2 ^ 64 - 1 }
+        requires { (S.input source.old).faults < 2 ^ 64 - 1 }
         ensures target { WritesOn self.old.opened result self.new.opened }
         ensures full { result ≡ Err SolverError.ClauseStoreFull → HasFullStore self.new }
-        ensures call { StandsOnce self.old (λ s t. AddsDimacs s (S.stand source.old) result (S.stand source.new) t) self.new }
+        ensures call { LeadsRepresented self.old (λ s t. AddsDimacs s (S.input source.old) result (S.input source.new) t) self.new }
     {
         ensure_valid(&self.ctx)?;
         match read_clauses(self.alloc, source, self) {
@@ -496,7 +496,7 @@ impl<W: ProofTarget, A: Allocator + Copy> Solver<W, A> {
     /// Brings the least free name into use. Refused in an invalid solver, where all 2^28 names are in use or so many
     /// variables were made, and then nothing changes; and where memory runs out, which makes the solver invalid.
     pub fn new_var(&mut self) -> Result<Var, SolverError>
-        ensures { StandsOnce self.old (λ s t. MakesVar s result t) self.new }
+        ensures { LeadsRepresented self.old (λ s t. MakesVar s result t) self.new }
     {
         ensure_valid(&self.ctx)?;
         let next = self.tracer.tables.next_unmapped_user();
@@ -518,7 +518,7 @@ impl<W: ProofTarget, A: Allocator + Copy> Solver<W, A> {
     /// the target is handed back. The target has to have counted fewer than 2^64-1 faults.
     pub fn write_proof(&mut self, target: W, format: ProofFormat) -> Result<(), (SolverError, W)>
         requires { (W.taken target).faults < 2 ^ 64 - 1 }
-        ensures { StandsOnce self.old (λ s t. OpensProof W.taken target format s result t) self.new }
+        ensures { LeadsRepresented self.old (λ s t. OpensProof W.taken target format s result t) self.new }
     {
         match ensure_valid(&self.ctx) {
             Ok(()) => {}
@@ -540,7 +540,7 @@ impl<W: ProofTarget, A: Allocator + Copy> Solver<W, A> {
     /// no memory itself. Refused in an invalid solver, and once a clause, a variable or a list of assumptions was
     /// accepted: then nothing changes. Where a checker runs already, that one goes on.
     pub fn enable_self_checking(&mut self) -> Result<(), SolverError>
-        ensures call { StandsOnce self.old (λ s t. EnablesChecking s result t) self.new }
+        ensures call { LeadsRepresented self.old (λ s t. EnablesChecking s result t) self.new }
         ensures runs { result ≡ Ok tt → IsSome self.new.checker }
     {
         ensure_valid(&self.ctx)?;
@@ -563,7 +563,7 @@ impl<W: ProofTarget, A: Allocator + Copy> Solver<W, A> {
     /// Closes the proof, if one is open: flushes its target and hands it back, also where that fails, which makes the
     /// solver invalid. An invalid solver hands the target back without a flush. None where no proof is open.
     pub fn close_proof(&mut self) -> Result<Option<W>, (SolverError, W)>
-        ensures call { StandsOnce self.old (λ s t. ClosesProof W.taken s result t) self.new }
+        ensures call { LeadsRepresented self.old (λ s t. ClosesProof W.taken s result t) self.new }
         // Also an invalid solver hands back just the target that it has, with what this took.
         ensures handed { IsClosed W.taken self.old.opened result }
         ensures closed { self.new.opened ≡ None }
@@ -591,7 +591,7 @@ impl<W: ProofTarget, A: Allocator + Copy> Solver<W, A> {
     /// solver is invalid.
     pub fn assume(&mut self, lits: &[Lit]) -> Result<(), SolverError>
         ensures target { WritesOn self.old.opened result self.new.opened }
-        ensures call { StandsOnce self.old (λ s t. Assumes s lits.now result t) self.new }
+        ensures call { LeadsRepresented self.old (λ s t. Assumes s lits.now result t) self.new }
         // The target is asked last: where it fails the list is assumed already, so that there was memory for it.
         ensures last { (cause : Error) → result ≡ Err (SolverError.ProofIoError cause) → self.new.assumed.user ≡ lits.now }
     {
@@ -613,11 +613,11 @@ impl<W: ProofTarget, A: Allocator + Copy> Solver<W, A> {
     /// The next call then goes on. Where memory runs out, the clause store is full or the target of an open proof fails,
     /// the solver is invalid; a proof that cannot be flushed is told in place of spent steps.
     pub fn solve(&mut self) -> Result<bool, SolverError>
-        ensures call { StandsOnce self.old (λ s t. Solves by_state s result t) self.new }
-        ensures satisfiable { result ≡ Ok true → (s : State) → StandsFor self.old s → IsSatisfiableWith s.clauses s.assumptions }
-        ensures unsatisfiable { result ≡ Ok false → (s : State) → StandsFor self.old s → IsSatisfiableWith s.clauses s.assumptions → ⊥ }
-        ensures model { result ≡ Ok true → (s : State) → StandsFor self.new s → HasModel s }
-        ensures core { result ≡ Ok false → (s : State) → StandsFor self.new s → HasCore s }
+        ensures call { LeadsRepresented self.old (λ s t. Solves by_state s result t) self.new }
+        ensures satisfiable { result ≡ Ok true → (s : State) → Represents self.old s → IsSatisfiableWith s.clauses s.assumptions }
+        ensures unsatisfiable { result ≡ Ok false → (s : State) → Represents self.old s → IsSatisfiableWith s.clauses s.assumptions → ⊥ }
+        ensures model { result ≡ Ok true → (s : State) → Represents self.new s → HasModel s }
+        ensures core { result ≡ Ok false → (s : State) → Represents self.new s → HasCore s }
         // The target is as after the steps, but that a search is noted to have run under the proof.
         ensures target { WritesOn (marked_searched self.old.opened) result (marked_searched self.new.opened) }
         ensures full { result ≡ Err SolverError.ClauseStoreFull → HasFullStore self.new }
@@ -655,11 +655,11 @@ impl<W: ProofTarget, A: Allocator + Copy> Solver<W, A> {
     /// Makes steps until it is known whether some assignment satisfies the accepted clauses and makes the assumptions
     /// true; none where that is known. Errors are those of `solve`, but for that of a flush.
     pub(crate) fn seek(&mut self) -> Result<bool, SolverError>
-        ensures call { StandsOnce self.old (λ s t. Searches s result t) self.new }
-        ensures satisfiable { result ≡ Ok true → (s : State) → StandsFor self.old s → IsSatisfiableWith s.clauses s.assumptions }
-        ensures unsatisfiable { result ≡ Ok false → (s : State) → StandsFor self.old s → IsSatisfiableWith s.clauses s.assumptions → ⊥ }
-        ensures model { result ≡ Ok true → (s : State) → StandsFor self.new s → HasModel s }
-        ensures core { result ≡ Ok false → (s : State) → StandsFor self.new s → HasCore s }
+        ensures call { LeadsRepresented self.old (λ s t. Searches s result t) self.new }
+        ensures satisfiable { result ≡ Ok true → (s : State) → Represents self.old s → IsSatisfiableWith s.clauses s.assumptions }
+        ensures unsatisfiable { result ≡ Ok false → (s : State) → Represents self.old s → IsSatisfiableWith s.clauses s.assumptions → ⊥ }
+        ensures model { result ≡ Ok true → (s : State) → Represents self.new s → HasModel s }
+        ensures core { result ≡ Ok false → (s : State) → Represents self.new s → HasCore s }
         ensures target { WritesOn self.old.opened result self.new.opened }
         // In a valid solver it has all lines.
         ensures whole { self.new.ledger.valid ≡ true → WritesAll self.old.opened self.new.opened }
@@ -689,9 +689,9 @@ impl<W: ProofTarget, A: Allocator + Copy> Solver<W, A> {
     /// The names in use in increasing order with the values that were found, if the last thing that was found out is
     /// that the clauses are satisfiable; else None, as in an invalid solver. Where memory runs out nothing changes.
     pub fn model(&self) -> Result<Option<Vec<Lit, A>>, AllocError>
-        ensures call { StandsOnce self.now (λ s t. ReturnsList (by_state.model s) s (returned_list result) t) self.now }
-        ensures completable { (m : List ℕ) → returned_list result ≡ Ok (Some m) → (s : State) → StandsFor self.now s → IsCompletableIn s m }
-        ensures absent { returned_list result ≡ Ok None → (s : State) → StandsFor self.now s → IsValid s → answer_of s.verdict ≡ Some true → ⊥ }
+        ensures call { LeadsRepresented self.now (λ s t. ReturnsList (by_state.model s) s (returned_list result) t) self.now }
+        ensures completable { (m : List ℕ) → returned_list result ≡ Ok (Some m) → (s : State) → Represents self.now s → IsCompletableIn s m }
+        ensures absent { returned_list result ≡ Ok None → (s : State) → Represents self.now s → IsValid s → answer_of s.verdict ≡ Some true → ⊥ }
     {
         if self.ctx.solver_state.state_is_invalid {
             return Ok(None);
@@ -710,9 +710,9 @@ impl<W: ProofTarget, A: Allocator + Copy> Solver<W, A> {
     /// that was found out is that these are unsatisfiable under the assumptions; an empty list where the clauses alone
     /// are; else None, as in an invalid solver.
     pub fn failed_core(&self) -> Option<&[Lit]>
-        ensures call { StandsOnce self.now (λ s t. ReturnsList (by_state.core s) s (Ok (lent_list result)) t) self.now }
-        ensures fails { (core : List ℕ) → lent_list result ≡ Some core → (s : State) → StandsFor self.now s → IsNamedCore s core }
-        ensures absent { lent_list result ≡ None → (s : State) → StandsFor self.now s → IsValid s → answer_of s.verdict ≡ Some false → ⊥ }
+        ensures call { LeadsRepresented self.now (λ s t. ReturnsList (by_state.core s) s (Ok (lent_list result)) t) self.now }
+        ensures fails { (core : List ℕ) → lent_list result ≡ Some core → (s : State) → Represents self.now s → IsNamedCore s core }
+        ensures absent { lent_list result ≡ None → (s : State) → Represents self.now s → IsValid s → answer_of s.verdict ≡ Some false → ⊥ }
     {
         if self.ctx.solver_state.state_is_invalid {
             return None;
@@ -727,7 +727,7 @@ impl<W: ProofTarget, A: Allocator + Copy> Solver<W, A> {
 
     /// A copy of the failed core. Where memory runs out nothing changes.
     pub fn copy_core(&self) -> Result<Option<Vec<Lit, A>>, AllocError>
-        ensures { StandsOnce self.now (λ s t. ReturnsList (by_state.core s) s (returned_list result) t) self.now }
+        ensures { LeadsRepresented self.now (λ s t. ReturnsList (by_state.core s) s (returned_list result) t) self.now }
     {
         match self.failed_core() {
             Some(core) => {
@@ -742,11 +742,11 @@ impl<W: ProofTarget, A: Allocator + Copy> Solver<W, A> {
 impl<W: ProofTarget, A: Allocator + Copy> Solver<W, A> {
     ghost use Rattle.varisat_solver.specs.ReturnedLists.{returned_variables};
     ghost use Rattle.varisat_solver.specs.Usage.{ChangesMode, SamplesVar, WitnessesVar, HidesVar, Observes};
-    ghost use Rattle.varisat_solver.specs.Summaries.{StandsOnce};
+    ghost use Rattle.varisat_solver.specs.Summaries.{LeadsRepresented};
 
     /// Names the variable, and changes its mode. Refused as `sample_var` is.
     fn set_mode(&mut self, var: Var, mode: SamplingMode) -> Result<(), SolverError>
-        ensures { StandsOnce self.old (λ s t. ChangesMode mode s var result t) self.new }
+        ensures { LeadsRepresented self.old (λ s t. ChangesMode mode s var result t) self.new }
     {
         ensure_valid(&self.ctx)?;
         check_change(&self.tracer.tables, var)?;
@@ -759,7 +759,7 @@ impl<W: ProofTarget, A: Allocator + Copy> Solver<W, A> {
     /// Lets clauses and assumptions name the variable, as they may from the first. A free name comes into use. Refused
     /// as a clause is for its name, and where the variable is assumed; then nothing changes.
     pub fn sample_var(&mut self, var: Var) -> Result<(), SolverError>
-        ensures { StandsOnce self.old (λ s t. SamplesVar s var result t) self.new }
+        ensures { LeadsRepresented self.old (λ s t. SamplesVar s var result t) self.new }
     {
         self.set_mode(var, SamplingMode::Sample)
     }
@@ -767,7 +767,7 @@ impl<W: ProofTarget, A: Allocator + Copy> Solver<W, A> {
     /// Makes the variable a witness: from then on no clause and no assumption may name it, and models list it as
     /// before. A free name comes into use. Refused as `sample_var` is.
     pub fn witness_var(&mut self, var: Var) -> Result<(), SolverError>
-        ensures { StandsOnce self.old (λ s t. WitnessesVar s var result t) self.new }
+        ensures { LeadsRepresented self.old (λ s t. WitnessesVar s var result t) self.new }
     {
         self.set_mode(var, SamplingMode::Witness)
     }
@@ -776,7 +776,7 @@ impl<W: ProofTarget, A: Allocator + Copy> Solver<W, A> {
     /// variable. A free name comes into use first. The variable may leave for good, as one does that no clause holds,
     /// unless the clauses are known to be unsatisfiable; the clause permits it. Refused as `sample_var` is.
     pub fn hide_var(&mut self, var: Var) -> Result<(), SolverError>
-        ensures { StandsOnce self.old (λ s t. HidesVar s var result t) self.new }
+        ensures { LeadsRepresented self.old (λ s t. HidesVar s var result t) self.new }
     {
         self.set_mode(var, SamplingMode::Hide)
     }
@@ -786,7 +786,7 @@ impl<W: ProofTarget, A: Allocator + Copy> Solver<W, A> {
     /// names it, or if the clauses force its value. Refused in an invalid solver, and then nothing changes, and where
     /// memory runs out. There are no more variables than names below the limit.
     pub fn observe_internal_vars(&mut self) -> Result<Vec<Var, A>, SolverError>
-        ensures { StandsOnce self.old (λ s t. Observes s (returned_variables result) t) self.new }
+        ensures { LeadsRepresented self.old (λ s t. Observes s (returned_variables result) t) self.new }
     {
         ensure_valid(&self.ctx)?;
         self.tracer.tables.prove_linked();
@@ -798,13 +798,13 @@ impl<W: ProofTarget, A: Allocator + Copy> Solver<W, A> {
 
 impl<W: ProofTarget, A: Allocator + Copy> ExtendFormula for Solver<W, A> {
     ghost use Rattle.varisat_solver.specs.Calls.{AddsClause, MakesVar};
-    ghost use Rattle.varisat_solver.specs.Summaries.{StandsOnce};
+    ghost use Rattle.varisat_solver.specs.Summaries.{LeadsRepresented};
 
     type Error = SolverError;
 
-    ghost adds_clause = { λ g c r h. StandsOnce g (λ s t. AddsClause s c r t) h };
+    ghost adds_clause = { λ g c r h. LeadsRepresented g (λ s t. AddsClause s c r t) h };
 
-    ghost makes_var = { λ g r h. StandsOnce g (λ s t. MakesVar s r t) h };
+    ghost makes_var = { λ g r h. LeadsRepresented g (λ s t. MakesVar s r t) h };
 
     fn add_clause(&mut self, literals: &[Lit]) -> Result<(), SolverError> {
         Solver::add_clause(self, literals)

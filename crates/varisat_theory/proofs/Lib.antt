@@ -28,7 +28,7 @@ pub mod Spoken
 pub mod StepChanges
 pub mod StepEnds
 pub mod StepLoads
-pub mod StepStands
+pub mod StepAccounts
 pub mod StepDrops
 pub mod StepCovers
 pub mod StepsMade

@@ -14,7 +14,7 @@ use Rattle.varisat_theory.specs.Searches.{Search, IsTautology, IsDischarged, Fit
 use Rattle.varisat_theory.proofs.Held.{same_set-self, same_clauses-self, same_clauses-back, same_clauses_find, takes_out_unique}
 use Rattle.varisat_theory.proofs.SearchFits.{fits_same}
 use Rattle.varisat_theory.proofs.StepEnds.{fits_discharged}
-use Rattle.varisat_theory.proofs.StepStands.{added_append}
+use Rattle.varisat_theory.proofs.StepAccounts.{added_append}
 use Rattle.varisat_theory.proofs.Renaming.{∈-map, map-∈, map-⊆}
 use Rattle.varisat_theory.proofs.Lines.{present_unique, derives_present}
 use Rattle.varisat_theory.proofs.StepCounts.{by_derives, new_same, among_same}

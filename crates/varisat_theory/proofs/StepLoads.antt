@@ -13,7 +13,7 @@ use Rattle.varisat_theory.specs.Outcomes.{Outcome, Unknown, Unsat, Holds, Proves
 use Rattle.varisat_theory.proofs.StepCounts.{by_append}
 use Rattle.varisat_theory.specs.StepLaws.{IsGrounded}
 use Rattle.varisat_theory.proofs.Spoken.{spoken_wider, spoken_after, kept_within, unit_within}
-use Rattle.varisat_theory.proofs.StepStands.{unknown_is_open}
+use Rattle.varisat_theory.proofs.StepAccounts.{unknown_is_open}
 use Rattle.varisat_theory.proofs.StepEnds.{fits_kept, covers_kept, fits_discharged, with_unit, fits_unit, covers_unit}
 
 -- one more clause is covered

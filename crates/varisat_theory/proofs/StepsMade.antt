@@ -6,12 +6,12 @@ use Rattle.varisat_theory.specs.Literals.{Literal, Clause, Assignment, value, Sa
 use Rattle.varisat_theory.specs.Derivations.{Line, Derives, Refutes}
 use Rattle.varisat_theory.specs.Counted.{DerivesBy, AddsNew, AddsManyNew, DeletesNone}
 use Rattle.varisat_theory.specs.Searches.{KeptClause, Search, Fits, Covers, IsCoveredBySearch, Tautology, KnownTrue, FixedTrue, Kept, CoversBy, IsLiteralOf}
-use Rattle.varisat_theory.specs.Outcomes.{Outcome, Unknown, Sat, Unsat, UnsatUnder, Proves, Steps, MakesSteps, Stands}
+use Rattle.varisat_theory.specs.Outcomes.{Outcome, Unknown, Sat, Unsat, UnsatUnder, Proves, Steps, MakesSteps, AccountsFor}
 use Rattle.varisat_theory.specs.StepLaws.{joined}
 use Rattle.varisat_theory.proofs.Assigned.{tautology_satisfied}
 use Rattle.varisat_theory.proofs.Lines.{refutes_from, derives_present}
 use Rattle.varisat_theory.proofs.StepCounts.{by_derives, by_append, new_before, present_append}
-use Rattle.varisat_theory.proofs.StepStands.{unknown_is_open, stands_after}
+use Rattle.varisat_theory.proofs.StepAccounts.{unknown_is_open, accounts_after}
 use Rattle.varisat_theory.proofs.Spoken.{spoken_after}
 
 -- new clauses stay new where lines come behind them that delete nothing
@@ -131,11 +131,11 @@ part_after_found k s t u found first second p q = record {
   within = λ n l h. p.within (found_is_open found) l (q.within l h);
 }
 
-pub steps_stand : (k : ℕ) (P held : List Clause) (s t : Search) (v : Outcome) (lines : List Line) → Stands P held s Unknown →
-    MakesSteps k s t v lines → (after : List Clause) × DerivesBy k held lines after × Stands P after t v × (v ≡ Unknown → AddsManyNew k held lines)
-steps_stand k P held s t v lines w p =
+pub steps_account : (k : ℕ) (P held : List Clause) (s t : Search) (v : Outcome) (lines : List Line) → AccountsFor P held s Unknown →
+    MakesSteps k s t v lines → (after : List Clause) × DerivesBy k held lines after × AccountsFor P after t v × (v ≡ Unknown → AddsManyNew k held lines)
+steps_account k P held s t v lines w p =
     let (after, d, h) = p.holds held w.holds in
-    (after, d, stands_after k P held after s t v lines w d h (p.answers P w.answers), p.adds held w.holds)
+    (after, d, accounts_after k P held after s t v lines w d h (p.answers P w.answers), p.adds held w.holds)
 
 pub steps_refute : (k : ℕ) (held : List Clause) (s t : Search) (lines : List Line) → Fits held s → MakesSteps k s t Unsat lines → Refutes held lines
 steps_refute k held s t lines f p =

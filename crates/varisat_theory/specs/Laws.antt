@@ -312,8 +312,8 @@ StepRaisesRank =
 
 -- Units counted in front: a unit that is removed from the trail's beginning and counted leaves the flags as they were, so that
 -- the rank keeps its bound and rises as before.
-abbrev pub UnitsStandFirst : Type 0
-UnitsStandFirst =
+abbrev pub UnitsComeFirst : Type 0
+UnitsComeFirst =
     ((u v : ℕ) (trail : List Bool) → with_units u (with_units v trail) ≡ with_units (u + v) trail)
     × ((n u : ℕ) (trail : List Bool) → u + length trail ≤ n → rank n (with_units u trail) < 2 ^ suc n)
     × ((n u : ℕ) (front old new : List Bool) → u + length (front ++ (false ∷ old)) ≤ n →

@@ -74,7 +74,7 @@ pub record Loads (s t : Search) (c : Clause) (v : Outcome) (lines : List Line) :
   pub within : v ≢ Unsat → (l : Literal) → IsLiteralOf t l → IsLiteralOfEither s c l
 
 -- What a solver with accepted clauses P keeps of the clauses that a proof holds.
-pub record Stands (P held : List Clause) (s : Search) (v : Outcome) : Type 0 where
+pub record AccountsFor (P held : List Clause) (s : Search) (v : Outcome) : Type 0 where
   pub implied : (a : Assignment) → SatisfiesAll a P → SatisfiesAll a held
   pub holds : Holds held s v
   pub answers : Answers P s v

@@ -9,7 +9,7 @@ use Rattle.varisat_theory.specs.Analysis.{Implied}
 use Rattle.varisat_theory.specs.Renaming.{KeepsOpposites}
 use Rattle.varisat_theory.specs.Counted.{IsNew, DerivesBy, AddsManyNew, DeletesNone, added}
 use Rattle.varisat_theory.specs.Searches.{KeptClause, Search, clauses_of, IsTautology, IsDischarged, Fits, Covers, CoversBy, IsLiteralOf}
-use Rattle.varisat_theory.specs.Outcomes.{Outcome, Unknown, Sat, Unsat, UnsatUnder, Proves, Steps, Loads, IsContradicted, Stands, MakesSteps}
+use Rattle.varisat_theory.specs.Outcomes.{Outcome, Unknown, Sat, Unsat, UnsatUnder, Proves, Steps, Loads, IsContradicted, AccountsFor, MakesSteps}
 
 -- 1. How parts join.
 
@@ -229,42 +229,42 @@ StepsRefute = (k : ℕ) (held : List Clause) (s t : Search) (lines : List Line) 
 -- 6. What follows for the accepted clauses.
 
 -- the first search, which keeps nothing, stands for no clauses
-abbrev pub FirstStands : Type 0
-FirstStands = (s : Search) → s ≡ record { kept = []; fixed = []; proved = [] } → Stands [] [] s Unknown
+abbrev pub FirstAccounts : Type 0
+FirstAccounts = (s : Search) → s ≡ record { kept = []; fixed = []; proved = [] } → AccountsFor [] [] s Unknown
 
 -- A part of a step keeps what a solver has of the accepted clauses.
-abbrev pub PartStands : Type 0
-PartStands =
-    (n : ℕ) (P held : List Clause) (s t : Search) (lines : List Line) → Stands P held s Unknown → Proves n s t lines → (after : List Clause)
-    × DerivesBy n held lines after × Stands P after t Unknown
+abbrev pub PartAccounts : Type 0
+PartAccounts =
+    (n : ℕ) (P held : List Clause) (s t : Search) (lines : List Line) → AccountsFor P held s Unknown → Proves n s t lines → (after : List Clause)
+    × DerivesBy n held lines after × AccountsFor P after t Unknown
 
 -- So does a step.
-abbrev pub StepStands : Type 0
-StepStands =
-    (P held : List Clause) (s t : Search) (v : Outcome) (lines : List Line) → Stands P held s Unknown → Steps s t v lines → (after : List Clause)
-    × DerivesBy 1 held lines after × Stands P after t v × (v ≡ Unknown → 1 ≤ added lines)
+abbrev pub StepAccounts : Type 0
+StepAccounts =
+    (P held : List Clause) (s t : Search) (v : Outcome) (lines : List Line) → AccountsFor P held s Unknown → Steps s t v lines → (after : List Clause)
+    × DerivesBy 1 held lines after × AccountsFor P after t v × (v ≡ Unknown → 1 ≤ added lines)
 
 -- So do k steps.
-abbrev pub StepsStand : Type 0
-StepsStand =
+abbrev pub StepsAccount : Type 0
+StepsAccount =
     (k : ℕ) (P held : List Clause) (s t : Search) (v : Outcome) (lines : List Line) →
-    Stands P held s Unknown →
+    AccountsFor P held s Unknown →
     MakesSteps k s t v lines →
-    (after : List Clause) × DerivesBy k held lines after × Stands P after t v × (v ≡ Unknown → AddsManyNew k held lines)
+    (after : List Clause) × DerivesBy k held lines after × AccountsFor P after t v × (v ≡ Unknown → AddsManyNew k held lines)
 
 -- Loading adds a clause to them.
-abbrev pub LoadStands : Type 0
-LoadStands =
-    (P held : List Clause) (s t : Search) (c : Clause) (v w : Outcome) (lines : List Line) → Stands P held s v → v ≢ Unsat → Loads s t c w lines →
-    (after : List Clause) × DerivesBy 0 (held ++ c ∷ []) lines after × Stands (P ++ c ∷ []) after t w
+abbrev pub LoadAccounts : Type 0
+LoadAccounts =
+    (P held : List Clause) (s t : Search) (c : Clause) (v w : Outcome) (lines : List Line) → AccountsFor P held s v → v ≢ Unsat → Loads s t c w lines →
+    (after : List Clause) × DerivesBy 0 (held ++ c ∷ []) lines after × AccountsFor (P ++ c ∷ []) after t w
 
 -- What the verdicts say of the accepted clauses. Under Unsat one more changes nothing.
 abbrev pub VerdictsAreRight : Type 0
 VerdictsAreRight =
-    ((P held : List Clause) (s : Search) (a : Assignment) → Stands P held s (Sat a) → SatisfiesAll a P)
-    × ((P held : List Clause) (s : Search) → Stands P held s Unsat → IsSatisfiable P → ⊥)
-    × ((P held : List Clause) (s : Search) (core : List Literal) → Stands P held s (UnsatUnder core) → IsSatisfiableWith P core → ⊥)
-    × ((P held : List Clause) (s : Search) (c : Clause) → Stands P held s Unsat → Stands (P ++ c ∷ []) (held ++ c ∷ []) s Unsat)
+    ((P held : List Clause) (s : Search) (a : Assignment) → AccountsFor P held s (Sat a) → SatisfiesAll a P)
+    × ((P held : List Clause) (s : Search) → AccountsFor P held s Unsat → IsSatisfiable P → ⊥)
+    × ((P held : List Clause) (s : Search) (core : List Literal) → AccountsFor P held s (UnsatUnder core) → IsSatisfiableWith P core → ⊥)
+    × ((P held : List Clause) (s : Search) (c : Clause) → AccountsFor P held s Unsat → AccountsFor (P ++ c ∷ []) (held ++ c ∷ []) s Unsat)
 
 -- a derivation that counts is one
 abbrev pub CountedDerives : Type 0

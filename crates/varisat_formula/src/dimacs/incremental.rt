@@ -23,9 +23,9 @@ pub trait PieceReader<A: Allocator + Copy>: Drop {
         source: &mut S,
         buffer: &mut [u8],
     ) -> Result<bool, DimacsError>
-        requires few { (S.stand source.old).faults < 2 ^ 64 - 1 }
+        requires few { (S.input source.old).faults < 2 ^ 64 - 1 }
         requires room { 0 < length buffer.old }
-        ensures { TakesPiece (S.stand source.old) (progress self.old) result (S.stand source.new) (progress self.new) };
+        ensures { TakesPiece (S.input source.old) (progress self.old) result (S.input source.new) (progress self.new) };
 
     /// Ends the text, and returns its first fault.
     fn end(&mut self) -> Result<(), DimacsError>
@@ -44,10 +44,10 @@ pub trait PieceReader<A: Allocator + Copy>: Drop {
     where
         Self: Sized,
         F: Drop,
-        requires few { (S.stand source.old).faults < 2 ^ 64 - 1 }
+        requires few { (S.input source.old).faults < 2 ^ 64 - 1 }
         requires callable { (state : F) (x : _) → F.pre state x }
-        ensures ok { IfOk result (Finishes (reading_with progress F.FnMut E.from_gives) (S.stand source.old) f (S.stand source.new)) }
-        ensures err { IfErr result (Refuses (reading_with progress F.FnMut E.from_gives) (S.stand source.old) f (S.stand source.new)) }
+        ensures ok { IfOk result (Finishes (reading_with progress F.FnMut E.from_gives) (S.input source.old) f (S.input source.new)) }
+        ensures err { IfErr result (Refuses (reading_with progress F.FnMut E.from_gives) (S.input source.old) f (S.input source.new)) }
     {
         let mut parser = Self::begin_in(alloc);
         let mut buffer = [0; PIECE];

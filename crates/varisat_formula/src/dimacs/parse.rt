@@ -19,9 +19,9 @@ impl<A: Allocator + Copy> DimacsParser<A> {
         source: &mut S,
         buffer: &mut [u8],
     ) -> Result<bool, DimacsError>
-        requires few { (S.stand source.old).faults < 2 ^ 64 - 1 }
+        requires few { (S.input source.old).faults < 2 ^ 64 - 1 }
         requires room { 0 < length buffer.old }
-        ensures takes { TakesPiece (S.stand source.old) self.old result (S.stand source.new) self.new }
+        ensures takes { TakesPiece (S.input source.old) self.old result (S.input source.new) self.new }
         ensures open { self.new.over ≡ self.old.over }
     {
         let count = match source.fill(buffer) {
@@ -36,8 +36,8 @@ impl<A: Allocator + Copy> DimacsParser<A> {
 
     /// Reads all of the source as one text, and returns its formula or its first fault.
     pub fn parse<S: ByteSource>(alloc: A, source: &mut S) -> Result<CnfFormula<A>, DimacsError>
-        requires { (S.stand source.old).faults < 2 ^ 64 - 1 }
-        ensures { Parses (S.stand source.old) result (S.stand source.new) }
+        requires { (S.input source.old).faults < 2 ^ 64 - 1 }
+        ensures { Parses (S.input source.old) result (S.input source.new) }
     {
         let parsed: Result<DimacsParser<A>, DimacsError> = DimacsParser::parse_incremental(
             alloc,
@@ -75,9 +75,9 @@ pub fn read_clauses<S: ByteSource, T: ClauseSink, A: Allocator + Copy>(
     source: &mut S,
     sink: &mut T,
 ) -> Result<Option<DimacsError>, T::Error>
-    requires { (S.stand source.old).faults < 2 ^ 64 - 1 }
-    ensures taken { IfOk result (λ fault. TakesText T.takes (S.stand source.old) sink.old fault (S.stand source.new) sink.new) }
-    ensures refused { IfErr result (λ e. RefusesClause T.takes (S.stand source.old) sink.old e (S.stand source.new) sink.new) }
+    requires { (S.input source.old).faults < 2 ^ 64 - 1 }
+    ensures taken { IfOk result (λ fault. TakesText T.takes (S.input source.old) sink.old fault (S.input source.new) sink.new) }
+    ensures refused { IfErr result (λ e. RefusesClause T.takes (S.input source.old) sink.old e (S.input source.new) sink.new) }
 {
     let mut parser = DimacsParser::new_in(alloc);
     let mut buffer = [0; PIECE];

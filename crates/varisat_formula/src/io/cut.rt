@@ -1,7 +1,7 @@
 //! A target and a source of which a chosen call fails, for tests of what comes of a fault.
 ghost use Rattle.std.specs.Prelude.{◌≡◌, ◌≢◌, ℕ, List, [], Some, ◌++◌, ◌+◌, ◌-◌, ◌<◌, ◌≤◌, ◌^◌, length, take, drop, min, false, OnOk, OnErr, IfOk};
 ghost use Rattle.std.specs.Io.KnownBytes.{ReadConsumes};
-ghost use Rattle.varisat_formula.specs.Streams.{FillsFrom, TakesPart, cut_stand, ended_after, ended_at, counted, piece_count, piece_size};
+ghost use Rattle.varisat_formula.specs.Streams.{FillsFrom, TakesPart, cut_input, ended_after, ended_at, counted, piece_count, piece_size};
 
 use crate::io::{ByteSource, ProofTarget};
 use std::alloc::Allocator;
@@ -274,17 +274,17 @@ impl<'a> CutSource<'a> {
 }
 
 impl<'a> ByteSource for CutSource<'a> {
-    ghost stand = { cut_stand };
+    ghost input = { cut_input };
 
     /// Fails where it is the chosen call, and else gives the next piece.
     fn fill(&mut self, buffer: &mut [u8]) -> io::Result<usize>
         requires { self.old.faults < 2 ^ 64 - 1 }
         ensures bound { IfOk result (λ n. n ≤ length buffer.new) }
-        ensures bytes { ReadConsumes (cut_stand self.old).left (cut_stand self.new).left result buffer.new }
-        ensures gives { FillsFrom (cut_stand self.old).given (cut_stand self.new).given result buffer.new }
+        ensures bytes { ReadConsumes (cut_input self.old).left (cut_input self.new).left result buffer.new }
+        ensures gives { FillsFrom (cut_input self.old).given (cut_input self.new).given result buffer.new }
         ensures ends { self.new.ended ≡ ended_after self.old.ended result buffer.new }
-        ensures pieces { IfOk result (λ n. 0 < n → (cut_stand self.new).pieces < (cut_stand self.old).pieces) }
-        ensures no_more { (cut_stand self.new).pieces ≤ (cut_stand self.old).pieces }
+        ensures pieces { IfOk result (λ n. 0 < n → (cut_input self.new).pieces < (cut_input self.old).pieces) }
+        ensures no_more { (cut_input self.new).pieces ≤ (cut_input self.old).pieces }
         ensures quiet { OnOk result (self.new.faults ≡ self.old.faults) }
         ensures fault { OnErr result (self.new.faults ≡ self.old.faults + 1) }
         ensures counts { self.new ≡

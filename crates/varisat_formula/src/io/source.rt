@@ -1,7 +1,7 @@
 //! Where bytes are read from.
 ghost use Rattle.std.specs.Prelude.{◌≡◌, ℕ, List, [], Option, Some, ◌+◌, ◌-◌, ◌<◌, ◌≤◌, ◌^◌, min, length, false, OnOk, OnErr, IfOk};
 ghost use Rattle.std.specs.Io.KnownBytes.{ReadConsumes};
-ghost use Rattle.varisat_formula.specs.Streams.{Stand, FillsFrom, ended_after, Reads, HasEnded};
+ghost use Rattle.varisat_formula.specs.Streams.{Input, FillsFrom, ended_after, Reads, HasEnded};
 
 use crate::io::history::{History, Part};
 use std::io;
@@ -15,29 +15,29 @@ pub const PIECE: usize = 0x2000;
 pub trait ByteSource: Drop {
     /// The bytes that it gave and those that are left, the pieces that may come, the faults, and whether it told its
     /// end.
-    ghost stand: { Self → Stand };
+    ghost input: { Self → Input };
 
     /// Writes the next bytes into the buffer from its front on, and returns how many: 0 for a buffer that is not empty
     /// is the end.
     fn fill(&mut self, buffer: &mut [u8]) -> io::Result<usize>
-        requires { (stand self.old).faults < 2 ^ 64 - 1 }
+        requires { (input self.old).faults < 2 ^ 64 - 1 }
         ensures bound { IfOk result (λ n. n ≤ length buffer.new) }
-        ensures bytes { ReadConsumes (stand self.old).left (stand self.new).left result buffer.new }
-        ensures gives { FillsFrom (stand self.old).given (stand self.new).given result buffer.new }
-        ensures ends { (stand self.new).ended ≡ ended_after (stand self.old).ended result buffer.new }
-        ensures pieces { IfOk result (λ n. 0 < n → (stand self.new).pieces < (stand self.old).pieces) }
-        ensures no_more { (stand self.new).pieces ≤ (stand self.old).pieces }
-        ensures quiet { OnOk result ((stand self.new).faults ≡ (stand self.old).faults) }
-        ensures fault { OnErr result ((stand self.new).faults ≡ (stand self.old).faults + 1) };
+        ensures bytes { ReadConsumes (input self.old).left (input self.new).left result buffer.new }
+        ensures gives { FillsFrom (input self.old).given (input self.new).given result buffer.new }
+        ensures ends { (input self.new).ended ≡ ended_after (input self.old).ended result buffer.new }
+        ensures pieces { IfOk result (λ n. 0 < n → (input self.new).pieces < (input self.old).pieces) }
+        ensures no_more { (input self.new).pieces ≤ (input self.old).pieces }
+        ensures quiet { OnOk result ((input self.new).faults ≡ (input self.old).faults) }
+        ensures fault { OnErr result ((input self.new).faults ≡ (input self.old).faults + 1) };
 
     /// How many calls returned Err.
     fn faults(&self) -> u64
-        ensures { result ≡ (stand self.now).faults };
+        ensures { result ≡ (input self.now).faults };
 }
 
 /// A law for proofs: what a source over known bytes gave until it told its end is all of them.
 pub fn known_bytes_are_read()
-    ensures { (s t : Stand) (text known : List ℕ) → s.left ≡ Some known → Reads s text t → HasEnded t → text ≡ known }
+    ensures { (s t : Input) (text known : List ℕ) → s.left ≡ Some known → Reads s text t → HasEnded t → text ≡ known }
 {}
 
 /// A source over a reader. A read that fails, also one that is interrupted, is a fault, and so is each call after
@@ -52,7 +52,7 @@ pub struct ReadSource<R: Read + Drop> {
 }
 
 impl<R: Read + Drop> Model for ReadSource<R> {
-    ghost Value = { Stand };
+    ghost Value = { Input };
 
     ghost view = { λ s. record { given = s.history.bytes; left = R.remaining s.reader; pieces = s.pieces; faults = s.faults; ended = s.ended } };
 }
@@ -80,7 +80,7 @@ impl<R: Read + Drop> ReadSource<R> {
 }
 
 impl<R: Read + Drop> ByteSource for ReadSource<R> {
-    ghost stand = { λ s. s };
+    ghost input = { λ s. s };
 
     /// A piece that has bytes lowers the pieces left by one, and no other call changes them. With none left the call
     /// returns Err.

@@ -55,7 +55,7 @@ fn solve_prints<S: ByteSource>(
     max_steps: Option<u64>,
     wanted: Printed,
 ) -> bool
-    requires { (S.stand cnf.old).faults < 2 ^ 64 - 1 }
+    requires { (S.input cnf.old).faults < 2 ^ 64 - 1 }
 {
     let mut out = MemoryTarget::new_in(alloc);
     let mut err = Vec::new(alloc);

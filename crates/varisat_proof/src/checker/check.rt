@@ -16,7 +16,7 @@ ghost use Rattle.varisat_proof.specs.Marked.{state_of, strict_rules};
 ghost use Rattle.varisat_proof.specs.Results.{IsResult};
 ghost use Rattle.varisat_proof.specs.DratChecks.{rules_of, IsDratStatusOf, IsDratResult, ChecksDrat};
 ghost use Rattle.varisat_proof.specs.Checks.{ReturnsStatus, TakesNext, position_of, ReadsNext, EndsBehind, ChecksFrom, result_at_end, ChecksLine, ChecksUnits, ChecksCore, RefusesText};
-ghost use Rattle.varisat_proof.specs.Calls.{with_clause, standing_of, BecomesOrRefuses, AddsText, IsStep, Checks, ChecksMarked, IsMarkedResult, IsTrueReport, IsRightFor, spends};
+ghost use Rattle.varisat_proof.specs.Calls.{with_clause, at_input, BecomesOrRefuses, AddsText, IsStep, Checks, ChecksMarked, IsMarkedResult, IsTrueReport, IsRightFor, spends};
 
 use crate::checker::drat::{DratCounts, take_drat_line};
 use crate::checker::error::{CheckVerdict, CheckerError};
@@ -174,8 +174,8 @@ impl<A: Allocator + Copy> Checker<A> {
     /// Adds the clauses of a DIMACS CNF text in turn, without a check. The text's first fault is returned, and the
     /// clauses that ended before it stay. Where memory runs out, also in the reader, the checker is spent.
     pub fn add_dimacs_cnf<S: ByteSource>(&mut self, source: &mut S) -> Result<(), CheckerError>
-        requires { (S.stand source.old).faults < 2 ^ 64 - 1 }
-        ensures { AddsText (standing_of self.old (S.stand source.old)) result (standing_of self.new (S.stand source.new)) }
+        requires { (S.input source.old).faults < 2 ^ 64 - 1 }
+        ensures { AddsText (at_input self.old (S.input source.old)) result (at_input self.new (S.input source.new)) }
     {
         if self.spent {
             return Err(CheckerError::Spent);
@@ -468,9 +468,9 @@ impl<A: Allocator + Copy> Checker<A> {
         source: &mut S,
         encoding: Encoding,
     ) -> Result<CheckVerdict, CheckerError>
-        requires few { (S.stand source.old).faults < 2 ^ 64 - 1 }
-        ensures checks { ChecksFrom (rules_of rules) encoding (standing_of self.old (S.stand source.old)) builder.old result
-            (standing_of self.new (S.stand source.new)) builder.new }
+        requires few { (S.input source.old).faults < 2 ^ 64 - 1 }
+        ensures checks { ChecksFrom (rules_of rules) encoding (at_input self.old (S.input source.old)) builder.old result
+            (at_input self.new (S.input source.new)) builder.new }
         ensures spent { self.new.spent ≡ self.old.spent }
     {
         let refuted = match self.is_refuted() {
@@ -598,12 +598,12 @@ impl<A: Allocator + Copy> Checker<A> {
         source: &mut S,
         format: ProofFormat,
     ) -> Result<CheckVerdict, CheckerError>
-        requires few { (S.stand source.old).faults < 2 ^ 64 - 1 }
-        ensures checks { self.old.spent ≡ false → Checks format (standing_of self.old (S.stand source.old)) result (standing_of self.new (S.stand source.new)) }
+        requires few { (S.input source.old).faults < 2 ^ 64 - 1 }
+        ensures checks { self.old.spent ≡ false → Checks format (at_input self.old (S.input source.old)) result (at_input self.new (S.input source.new)) }
         ensures refused { self.old.spent ≡ true → (result ≡ Err Spent) × (self.new ≡ self.old) × (source.new ≡ source.old) }
         ensures usable { OnOk result (self.new.spent ≡ self.old.spent) }
         ensures spends { IfErr result (λ e. self.new.spent ≡ (self.old.spent || spends e)) }
-        ensures exact { IsRightFor (standing_of self.old (S.stand source.old)) result
+        ensures exact { IsRightFor (at_input self.old (S.input source.old)) result
             (λ bytes. IsResult format self.old.clauses bytes result self.new.clauses) }
         ensures sound { result ≡ Ok Refutation → IsSatisfiable self.old.clauses → ⊥ }
     {
@@ -639,13 +639,13 @@ impl<A: Allocator + Copy> Checker<A> {
         format: ProofFormat,
         counts: &mut DratCounts,
     ) -> Result<CheckVerdict, CheckerError>
-        requires few { (S.stand source.old).faults < 2 ^ 64 - 1 }
-        ensures checks { self.old.spent ≡ false → ChecksDrat format (standing_of self.old (S.stand source.old)) result
-            (standing_of self.new (S.stand source.new)) }
+        requires few { (S.input source.old).faults < 2 ^ 64 - 1 }
+        ensures checks { self.old.spent ≡ false → ChecksDrat format (at_input self.old (S.input source.old)) result
+            (at_input self.new (S.input source.new)) }
         ensures refused { self.old.spent ≡ true → (result ≡ Err Spent) × (self.new ≡ self.old) × (source.new ≡ source.old) }
         ensures usable { OnOk result (self.new.spent ≡ self.old.spent) }
         ensures spends { IfErr result (λ e. self.new.spent ≡ (self.old.spent || spends e)) }
-        ensures exact { IsRightFor (standing_of self.old (S.stand source.old)) result
+        ensures exact { IsRightFor (at_input self.old (S.input source.old)) result
             (λ bytes. IsDratResult format self.old.clauses bytes result self.new.clauses) }
         ensures sound { result ≡ Ok Refutation → IsSatisfiable self.old.clauses → ⊥ }
     {
@@ -686,12 +686,12 @@ impl<A: Allocator + Copy> Checker<A> {
         &mut self,
         source: &mut S,
     ) -> Result<MarkedReport<A>, CheckerError>
-        requires few { (S.stand source.old).faults < 2 ^ 64 - 1 }
-        ensures checks { self.old.spent ≡ false → ChecksMarked (standing_of self.old (S.stand source.old)) result (standing_of self.new (S.stand source.new)) }
+        requires few { (S.input source.old).faults < 2 ^ 64 - 1 }
+        ensures checks { self.old.spent ≡ false → ChecksMarked (at_input self.old (S.input source.old)) result (at_input self.new (S.input source.new)) }
         ensures refused { self.old.spent ≡ true → (result ≡ Err Spent) × (self.new ≡ self.old) × (source.new ≡ source.old) }
         ensures usable { OnOk result (self.new.spent ≡ self.old.spent) }
         ensures spends { IfErr result (λ e. self.new.spent ≡ (self.old.spent || spends e)) }
-        ensures exact { IsRightFor (standing_of self.old (S.stand source.old)) result
+        ensures exact { IsRightFor (at_input self.old (S.input source.old)) result
             (λ bytes. IsMarkedResult self.old.clauses bytes result self.new.clauses) }
         ensures sound { IfOk result (λ report. IsTrueReport self.old.clauses report) }
     {

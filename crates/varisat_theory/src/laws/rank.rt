@@ -1,6 +1,6 @@
 //! The rank of a trail, and the number of steps of a call.
 
-ghost use Rattle.varisat_theory.specs.Laws.{BoundIsAPower, CallIsBounded, DistinctIsShort, IntervalsAreBounded, ProgressIsBounded, RankIsBounded, RankRises, RanksAreSteady, RisingIsShort, StepRaisesRank, UnitsStandFirst};
+ghost use Rattle.varisat_theory.specs.Laws.{BoundIsAPower, CallIsBounded, DistinctIsShort, IntervalsAreBounded, ProgressIsBounded, RankIsBounded, RankRises, RanksAreSteady, RisingIsShort, StepRaisesRank, UnitsComeFirst};
 
 /// A trail's rank is below 2^(n+1).
 pub fn rank_is_bounded()
@@ -23,8 +23,8 @@ pub fn step_raises_rank()
 {}
 
 /// Units that were removed are counted in front.
-pub fn units_stand_first()
-    ensures { UnitsStandFirst }
+pub fn units_come_first()
+    ensures { UnitsComeFirst }
 {}
 
 /// Steps that raise the rank are at most as many as it.

@@ -1,7 +1,7 @@
 //! What the lines of a step, of a call and of loading do to the clauses that a proof holds, and what that says of the
 //! accepted ones.
 
-ghost use Rattle.varisat_theory.specs.StepLaws.{PartsJoin, PartsJoinStep, StepIsPart, MovesProve, UnitIsProved, UnitsAreProved, SatisfiedIsDeleted, LearnedIsDeleted, ClauseIsShortened, VariableIsDropped, ClauseIsLearned, FreshIsNew, EmptyIsAdded, ContradictionIsFound, ModelIsFound, CoreIsFound, LoadedIsKept, LoadedIsUnit, LoadedIsDischarged, LoadedIsDeleted, LoadedIsContradicted, PartsJoinLoad, NoStepIsMade, StepIsMade, NewAreAdded, StepsOfCall, PartsJoinSteps, StepsRefute, FirstStands, PartStands, StepStands, StepsStand, LoadStands, VerdictsAreRight, CountedDerives, KeptAreHeld, NamesAreCovered, NamesStayCovered, NamesAreLoaded, DroppedAreCovered, NamesAreSatisfied};
+ghost use Rattle.varisat_theory.specs.StepLaws.{PartsJoin, PartsJoinStep, StepIsPart, MovesProve, UnitIsProved, UnitsAreProved, SatisfiedIsDeleted, LearnedIsDeleted, ClauseIsShortened, VariableIsDropped, ClauseIsLearned, FreshIsNew, EmptyIsAdded, ContradictionIsFound, ModelIsFound, CoreIsFound, LoadedIsKept, LoadedIsUnit, LoadedIsDischarged, LoadedIsDeleted, LoadedIsContradicted, PartsJoinLoad, NoStepIsMade, StepIsMade, NewAreAdded, StepsOfCall, PartsJoinSteps, StepsRefute, FirstAccounts, PartAccounts, StepAccounts, StepsAccount, LoadAccounts, VerdictsAreRight, CountedDerives, KeptAreHeld, NamesAreCovered, NamesStayCovered, NamesAreLoaded, DroppedAreCovered, NamesAreSatisfied};
 
 /// Two parts of a step in turn are one.
 pub fn parts_join()
@@ -144,28 +144,28 @@ pub fn steps_refute()
 {}
 
 /// The first search stands for no clauses.
-pub fn first_stands()
-    ensures { FirstStands }
+pub fn first_accounts()
+    ensures { FirstAccounts }
 {}
 
 /// A part of a step keeps what a solver has.
-pub fn part_stands()
-    ensures { PartStands }
+pub fn part_accounts()
+    ensures { PartAccounts }
 {}
 
 /// So does a step.
-pub fn step_stands()
-    ensures { StepStands }
+pub fn step_accounts()
+    ensures { StepAccounts }
 {}
 
 /// So do k steps.
-pub fn steps_stand()
-    ensures { StepsStand }
+pub fn steps_account()
+    ensures { StepsAccount }
 {}
 
 /// Loading keeps it for one more accepted clause.
-pub fn load_stands()
-    ensures { LoadStands }
+pub fn load_accounts()
+    ensures { LoadAccounts }
 {}
 
 /// The verdicts are right.

@@ -21,4 +21,4 @@ returns-clause-truth g c = of-ok c.run-answers.result _ _
 
 pub returns-clause-few : goal.returns-clause-few
 returns-clause-few g c = of-ok c.run-answers.result _ _
-    (λ answers h. answers-stay-few g.S.ByteSource.stand g.W.ProofTarget.taken c.args.calls.items answers.items) c.run-answers.ensures.run
+    (λ answers h. answers-stay-few g.S.ByteSource.input g.W.ProofTarget.taken c.args.calls.items answers.items) c.run-answers.ensures.run

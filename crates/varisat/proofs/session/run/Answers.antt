@@ -14,7 +14,7 @@ loop-call-init g c = record {
   so_far = λ s st. (
     s,
     (let none : c.in_ok-answers.answers.items ≡ [] = search rules in
-        subst (λ answers. Run g.S.ByteSource.stand g.W.ProofTarget.taken s [] answers s) (sym none) refl),
+        subst (λ answers. Run g.S.ByteSource.input g.W.ProofTarget.taken s [] answers s) (sym none) refl),
     st,
   );
   room = search rules;
@@ -24,8 +24,8 @@ loop-call-init g c = record {
 
 pub make_call-requires : goal.make_call-requires
 make_call-requires g c =
-    ready-next g.S.ByteSource.stand g.W.ProofTarget.taken c.loop-call.yielded _ c.in-Some.call
-    (subst (λ cs. AreReady g.S.ByteSource.stand g.W.ProofTarget.taken cs)
+    ready-next g.S.ByteSource.input g.W.ProofTarget.taken c.loop-call.yielded _ c.in-Some.call
+    (subst (λ cs. AreReady g.S.ByteSource.input g.W.ProofTarget.taken cs)
     (sym (ap (λ xs. c.loop-call.yielded ++ xs) (sym c.in-Some.ensures.steps.0) ∙ c.loop-call.invariant.whole)) c.requires)
 
 pub loop-call-preserved : goal.loop-call-preserved
@@ -49,16 +49,16 @@ returns-clause-run g c s st =
     let none = nil_from_length (into_iter_items c.loop-call.call-iterator) (sym c.loop-call.invariant.left ∙ c.in-None.ensures.steps.0) in
     let e = sym (append-nil c.loop-call.yielded) ∙ ap (λ xs. c.loop-call.yielded ++ xs) (sym none) ∙ c.loop-call.invariant.whole in
     let (t, r, q) = c.loop-call.invariant.so_far s st in
-    (t, subst (λ cs. Run g.S.ByteSource.stand g.W.ProofTarget.taken s cs c.loop-call.answers.items t) e r, q)
+    (t, subst (λ cs. Run g.S.ByteSource.input g.W.ProofTarget.taken s cs c.loop-call.answers.items t) e r, q)
 
 pub returns-clause-answers : goal.returns-clause-answers
 returns-clause-answers g c s st =
     let none = nil_from_length (into_iter_items c.loop-call.call-iterator) (sym c.loop-call.invariant.left ∙ c.in-None.ensures.steps.0) in
     let e = sym (append-nil c.loop-call.yielded) ∙ ap (λ xs. c.loop-call.yielded ++ xs) (sym none) ∙ c.loop-call.invariant.whole in
     let (t, r, q) = c.loop-call.invariant.so_far s st in
-    run-is-answered g.S.ByteSource.stand g.W.ProofTarget.taken c.args.calls.items c.loop-call.answers.items _ s t st
-    (subst (λ cs. Run g.S.ByteSource.stand g.W.ProofTarget.taken s cs c.loop-call.answers.items t) e r)
+    run-is-answered g.S.ByteSource.input g.W.ProofTarget.taken c.args.calls.items c.loop-call.answers.items _ s t st
+    (subst (λ cs. Run g.S.ByteSource.input g.W.ProofTarget.taken s cs c.loop-call.answers.items t) e r)
 
 pub returns-clause-few : goal.returns-clause-few
 returns-clause-few g c s st =
-    run-stays-few g.S.ByteSource.stand g.W.ProofTarget.taken c.args.calls.items c.loop-call.answers.items s (c.prove_journal.ensures.few s st)
+    run-stays-few g.S.ByteSource.input g.W.ProofTarget.taken c.args.calls.items c.loop-call.answers.items s (c.prove_journal.ensures.few s st)

@@ -3,7 +3,7 @@ use Rattle.std.proofs.Common.{◌≡◌, Some, None, false, refl, subst}
 use Rattle.varisat_names.specs.Settings.{no_update}
 use Rattle.varisat_names.specs.declared.config.SolverConfigUpdate.{SolverConfigUpdate}
 use Rattle.varisat_solver.specs.States.{State, empty_state}
-use Rattle.varisat_solver.specs.Summaries.{StandsFor}
+use Rattle.varisat_solver.specs.Summaries.{Represents}
 use Rattle.varisat_solver.specs.Calls.{Configures}
 use Rattle.varisat.proofs.ProgramDecides.{configures-new}
 use Rattle.varisat_client.proofs.client.new_solver.Goals as goal
@@ -14,4 +14,4 @@ returns g c =
     let b = subst
     (λ (u : SolverConfigUpdate). Configures empty_state
     (record u { reduce_locals_interval = Some 2000; luby_restart_interval_scale = Some 64 }) c.config.result s) c.new-update.ensures a in
-    subst (λ (o : State). StandsFor c.config.new.self o) (configures-new false None no_update c.config.result s refl b) x
+    subst (λ (o : State). Represents c.config.new.self o) (configures-new false None no_update c.config.result s refl b) x

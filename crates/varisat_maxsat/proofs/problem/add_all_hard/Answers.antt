@@ -1,12 +1,12 @@
 use Rattle.std.proofs.Common.{◌≡◌, ◌∙◌, ◌++◌, ◌∷◌, [], sym, ap, subst, map, append_assoc, append-nil}
 use Rattle.std.proofs.lemmas.List.{map-append}
-use Rattle.varisat_maxsat.specs.Reductions.{Stands}
+use Rattle.varisat_maxsat.specs.Reductions.{ReducesTo}
 use Rattle.varisat_maxsat.proofs.Standing.{hard-next}
 use Rattle.varisat_maxsat.proofs.problem.add_all_hard.Goals as goal
 
 pub loop-clause-init : goal.loop-clause-init
 loop-clause-init g c = record {
-  so_far = λ p st. subst (λ x. Stands (record p { hard = x }) c.args.reduction.now) (sym (append-nil p.hard)) st;
+  so_far = λ p st. subst (λ x. ReducesTo (record p { hard = x }) c.args.reduction.now) (sym (append-nil p.hard)) st;
   whole = c.into_iter-clause-iterator.ensures.into_iter_gives ∙ c.iter-clause-items.ensures;
 }
 
@@ -25,4 +25,4 @@ pub returns : goal.returns
 returns g c = λ p st.
     let all = sym (append-nil (map (λ c. c.now) c.loop-clause.yielded))
     ∙ ap (λ xs. map (λ c. c.now) c.loop-clause.yielded ++ xs) (sym (c.in-None.ensures {u = tt}).steps.0) ∙ c.loop-clause.invariant.whole in
-    subst (λ x. Stands (record p { hard = p.hard ++ x }) c.loop-clause.reduction) all (c.loop-clause.invariant.so_far p st)
+    subst (λ x. ReducesTo (record p { hard = p.hard ++ x }) c.loop-clause.reduction) all (c.loop-clause.invariant.so_far p st)

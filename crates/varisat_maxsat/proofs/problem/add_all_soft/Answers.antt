@@ -1,13 +1,13 @@
 use Rattle.std.proofs.Common.{◌≡◌, ◌<◌, ◌∙◌, ◌+◌, ◌++◌, ◌∷◌, [], refl, sym, ap, subst, map, take, length, append_assoc, append-nil, arith}
 use Rattle.std.proofs.lemmas.List.{map-append, length-append, take_all}
 use Rattle.varisat_maxsat.specs.Problems.{paired}
-use Rattle.varisat_maxsat.specs.Reductions.{Stands}
+use Rattle.varisat_maxsat.specs.Reductions.{ReducesTo}
 use Rattle.varisat_maxsat.proofs.Standing.{soft-next, clause-room}
 use Rattle.varisat_maxsat.proofs.problem.add_all_soft.Goals as goal
 
 pub loop-clause-init : goal.loop-clause-init
 loop-clause-init g c = record {
-  so_far = λ p st. subst (λ x. Stands (record p { soft = x }) c.args.reduction.now) (sym (append-nil p.soft)) st;
+  so_far = λ p st. subst (λ x. ReducesTo (record p { soft = x }) c.args.reduction.now) (sym (append-nil p.soft)) st;
   whole = c.into_iter-clause-iterator.ensures.into_iter_gives ∙ c.iter-clause-items.ensures;
   place = refl;
 }
@@ -36,7 +36,7 @@ pub returns : goal.returns
 returns g c = λ p st.
     let all = sym (append-nil (map (λ c. c.now) c.loop-clause.yielded))
     ∙ ap (λ xs. map (λ c. c.now) c.loop-clause.yielded ++ xs) (sym (c.in-None.ensures {u = tt}).steps.0) ∙ c.loop-clause.invariant.whole in
-    subst (λ x. Stands (record p { soft = p.soft ++ paired x c.args.formula.now.clauses }) c.loop-clause.reduction)
+    subst (λ x. ReducesTo (record p { soft = p.soft ++ paired x c.args.formula.now.clauses }) c.loop-clause.reduction)
     (take_all c.loop-clause.index c.args.weights.now (let e = ap length all in let f = c.loop-clause.invariant.place in let h = c.requires in omega arith))
-    (subst (λ x. Stands (record p { soft = p.soft ++ paired (take c.loop-clause.index c.args.weights.now) x }) c.loop-clause.reduction) all
+    (subst (λ x. ReducesTo (record p { soft = p.soft ++ paired (take c.loop-clause.index c.args.weights.now) x }) c.loop-clause.reduction) all
     (c.loop-clause.invariant.so_far p st))

@@ -1,10 +1,10 @@
 use Rattle.std.proofs.Common.{subst}
 use Rattle.varisat_maxsat.specs.Problems.{starting}
-use Rattle.varisat_maxsat.specs.Reductions.{Stands}
+use Rattle.varisat_maxsat.specs.Reductions.{ReducesTo}
 use Rattle.varisat_maxsat.proofs.Standing.{if-ok}
 use Rattle.varisat_maxsat.proofs.solving.optimize.Goals as goal
 
 pub returns : goal.returns
 returns g c =
-    if-ok c.solve-found.result _ _ (λ o f. f (subst (λ n. Stands (starting n) c.new_in-reduction.result) c.var_count.ensures.count c.new_in-reduction.ensures))
+    if-ok c.solve-found.result _ _ (λ o f. f (subst (λ n. ReducesTo (starting n) c.new_in-reduction.result) c.var_count.ensures.count c.new_in-reduction.ensures))
     c.solve-found.ensures

@@ -14,8 +14,8 @@ returns-in-Err-clause-fails g c = fails_reading _ _ _ c.args.checker.now _ c.in-
 pub returns-in_err-verified-clause-fails : goal.returns-in_err-verified-clause-fails
 returns-in_err-verified-clause-fails g c =
     passed-on c.from_residual.result c.in_err-verified.field-0.0 (FailsCheck
-    (sources_of (g.S.ByteSource.stand c.args.cnf.now) (g.P.ByteSource.stand c.args.proof.now))
-    (sources_of (g.S.ByteSource.stand c.add_dimacs_cnf.new.source) (g.P.ByteSource.stand c.check_proof.new.source))) c.from_residual.ensures
+    (sources_of (g.S.ByteSource.input c.args.cnf.now) (g.P.ByteSource.input c.args.proof.now))
+    (sources_of (g.S.ByteSource.input c.add_dimacs_cnf.new.source) (g.P.ByteSource.input c.check_proof.new.source))) c.from_residual.ensures
     (fails_checking c.args.format _ _ _ _ c.args.checker.now c.add_dimacs_cnf.new.self c.check_proof.new.self c.check_proof.result
     c.in_err-verified.field-0.0 c.requires.new c.in-Ok.ensures c.check_proof.ensures.checks c.in_err-verified.ensures.fault.0
     c.in_err-verified.ensures.fault.1)

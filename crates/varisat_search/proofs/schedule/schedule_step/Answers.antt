@@ -2,7 +2,7 @@ use Rattle.std.proofs.Common.{◌≡◌, if◌then◌else◌, nat_eq, ℕ, suc, 
 use Rattle.varisat_theory.specs.Rank.{rank}
 use Rattle.varisat_theory.specs.Derivations.{Line}
 use Rattle.varisat_theory.specs.Outcomes.{Outcome, Steps, Proves}
-use Rattle.varisat_theory.proofs.StepStands.{part_step}
+use Rattle.varisat_theory.proofs.StepAccounts.{part_step}
 use Rattle.varisat_prop.specs.View.{View, kinds}
 use Rattle.varisat_schedule.specs.CallSteps.{IsPlannedStep}
 use Rattle.varisat_search.specs.declared.context.Context.{Context}

@@ -25,7 +25,7 @@ use Rattle.varisat_theory.proofs.SearchFits.{same_equal, clause_from}
 use Rattle.varisat_theory.proofs.StepChanges.{moves_prove}
 use Rattle.varisat_theory.proofs.StepDrops.{units_are_proved}
 use Rattle.varisat_theory.proofs.StepParts.{parts_join}
-use Rattle.varisat_prop.specs.View.{View, IsTrueIn, literal_at, node_of, node_at, level_of, StandsBefore, WellFormed, is_clause}
+use Rattle.varisat_prop.specs.View.{View, IsTrueIn, literal_at, node_of, node_at, level_of, IsOnTrailBefore, WellFormed, is_clause}
 use Rattle.varisat_prop.proofs.ViewGrowth.{append-nil}
 use Rattle.varisat_prop.proofs.SimplifiedPairs.{filter-∈}
 use Rattle.varisat_prop.proofs.TrailValues.{trail-true}
@@ -118,7 +118,7 @@ module _ (s : View) (w : WellFormed s) (none : s.decisions ≡ []) where
     is-clause : is_clause (node_at s place).reason ≡ true
     is-clause = ap implied stands ∙ split.picked
 
-    proved-before : (m : Literal) → StandsBefore s place m → m ∈ (S.proved ++ front)
+    proved-before : (m : Literal) → IsOnTrailBefore s place m → m ∈ (S.proved ++ front)
     proved-before m (j, h, q) =
         let i : m ∈ split.before = subst (λ x. x ∈ split.before) (sym (ap (λ (xs : List ℕ). get_or xs j 0) split.whole) ∙ q)
         (before-split split.before (l ∷ split.behind) j h) in

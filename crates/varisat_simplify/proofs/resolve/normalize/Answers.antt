@@ -14,10 +14,10 @@ returns-in-Opposite g c =
 pub loop-lit-preserved : goal.loop-lit-preserved
 loop-lit-preserved g c =
     let at = item_at c.args.clause.now c.loop-lit.lit-index c.lit-item.result c.loop-lit-test.true c.lit-item.is in
-    elim c.match-standing_of.branch [
-      | in-Same w ↦ set_same c.args.clause.now c.loop-lit.out.items c.match-standing_of.out.items c.loop-lit.lit-index c.lit-item.result at
+    elim c.match-sign_of.branch [
+      | in-Same w ↦ set_same c.args.clause.now c.loop-lit.out.items c.match-sign_of.out.items c.loop-lit.lit-index c.lit-item.result at
           (subst (λ (x : List ℕ). c.lit-item.result ∈ x) c.deref.ensures.value (w.in-Same.ensures {u = tt})) (ap (λ v. v.items) w.out-is) c.loop-lit.invariant
-      | in-Absent+in_ok-push-in-Absent w ↦ set_added c.args.clause.now c.loop-lit.out.items c.match-standing_of.out.items c.loop-lit.lit-index
+      | in-Absent+in_ok-push-in-Absent w ↦ set_added c.args.clause.now c.loop-lit.out.items c.match-sign_of.out.items c.loop-lit.lit-index
           c.lit-item.result c.loop-lit-test.true at (ap (λ v. v.items) w.out-is ∙ w.in_ok-push-in-Absent.ensures.items) c.loop-lit.invariant
     ]
 

@@ -6,11 +6,11 @@ use Rattle.varisat_simplify.proofs.resolve.relation_of.Goals.{in-Same, in-Opposi
 pub loop-lit-preserved : goal.loop-lit-preserved
 loop-lit-preserved c =
     let at = item_at c.args.clause.now c.loop-lit.lit-index c.lit-item.result c.loop-lit-test.true c.lit-item.is in
-    elim c.match-standing_of.branch [
-      | in-Same w ↦ related_kept c.args.clause.now c.args.other.now c.loop-lit.lit-index c.lit-item.result c.loop-lit.flipped c.match-standing_of.flipped
+    elim c.match-sign_of.branch [
+      | in-Same w ↦ related_kept c.args.clause.now c.args.other.now c.loop-lit.lit-index c.lit-item.result c.loop-lit.flipped c.match-sign_of.flipped
           w.flipped-is at (w.in-Same.ensures {u = tt}) c.loop-lit.invariant
       | in-Opposite+else-is_some w ↦ related_first c.args.clause.now c.args.other.now c.loop-lit.lit-index c.lit-item.result c.loop-lit.flipped
-          c.match-standing_of.flipped w.flipped-is (sym w.is_some.ensures ∙ w.if-is_some.false) c.loop-lit-test.true at c.loop-lit.invariant
+          c.match-sign_of.flipped w.flipped-is (sym w.is_some.ensures ∙ w.if-is_some.false) c.loop-lit-test.true at c.loop-lit.invariant
     ]
 
 pub returns-in-None : goal.returns-in-None

@@ -1,7 +1,7 @@
 -- The calls of a new solver, each from the state that the one before leads to.
 use Rattle.std.proofs.Common.{sym, ap, ◌∙◌, subst}
 use Rattle.varisat_solver.specs.States.{Ledger}
-use Rattle.varisat_solver.specs.Summaries.{StandsFor}
+use Rattle.varisat_solver.specs.Summaries.{Represents}
 use Rattle.varisat.specs.Decided.{concluded}
 use Rattle.varisat.specs.Proven.{prepared}
 use Rattle.varisat_trace.proofs.Broken.{passed-on}
@@ -15,7 +15,7 @@ pub returns-in_err-add_formula-clause-fails : goal.returns-in_err-add_formula-cl
 returns-in_err-add_formula-clause-fails g c =
     let taken = g.W.ProofTarget.taken in
     let s = prepared taken c.args.options.format c.args.options.check c.args.options.max_steps c.args.target.now in
-    let x = subst (λ o. StandsFor c.prepare.new.solver (prepared taken c.args.options.format c.args.options.check c.args.options.max_steps o))
+    let x = subst (λ o. Represents c.prepare.new.solver (prepared taken c.args.options.format c.args.options.check c.args.options.max_steps o))
     c.take.ensures.value
     c.prepare.ensures in
     let (t, a, y) = (c.in_err-add_formula.ensures {u = tt}).call s x in
@@ -25,7 +25,7 @@ pub returns-in_err-report-clause-fails : goal.returns-in_err-report-clause-fails
 returns-in_err-report-clause-fails g c =
     let taken = g.W.ProofTarget.taken in
     let s = prepared taken c.args.options.format c.args.options.check c.args.options.max_steps c.args.target.now in
-    let x = subst (λ o. StandsFor c.prepare.new.solver (prepared taken c.args.options.format c.args.options.check c.args.options.max_steps o))
+    let x = subst (λ o. Represents c.prepare.new.solver (prepared taken c.args.options.format c.args.options.check c.args.options.max_steps o))
     c.take.ensures.value
     c.prepare.ensures in
     let (t, a, y) = (c.in_ok-add_formula.ensures {u = tt}).call s x in
@@ -37,7 +37,7 @@ pub returns-in_err-back-clause-fails : goal.returns-in_err-back-clause-fails
 returns-in_err-back-clause-fails g c =
     let taken = g.W.ProofTarget.taken in
     let s = prepared taken c.args.options.format c.args.options.check c.args.options.max_steps c.args.target.now in
-    let x = subst (λ o. StandsFor c.prepare.new.solver (prepared taken c.args.options.format c.args.options.check c.args.options.max_steps o))
+    let x = subst (λ o. Represents c.prepare.new.solver (prepared taken c.args.options.format c.args.options.check c.args.options.max_steps o))
     c.take.ensures.value
     c.prepare.ensures in
     let (t, a, y) = (c.in_ok-add_formula.ensures {u = tt}).call s x in
@@ -52,7 +52,7 @@ returns-clause-decided g c =
     let format = c.args.options.format in
     let check = c.args.options.check in
     let limit = c.args.options.max_steps in
-    let x = subst (λ o. StandsFor c.prepare.new.solver (prepared taken format check limit o)) c.take.ensures.value c.prepare.ensures in
+    let x = subst (λ o. Represents c.prepare.new.solver (prepared taken format check limit o)) c.take.ensures.value c.prepare.ensures in
     let (t, a, y) = (c.in_ok-add_formula.ensures {u = tt}).call (prepared taken format check limit c.args.target.now) x in
     let (u, f, z) = c.in_ok-report.ensures {u = tt} t y in
     let report = concluded c.in_ok-report.report in

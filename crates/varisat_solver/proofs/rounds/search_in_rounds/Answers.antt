@@ -1,7 +1,7 @@
 -- The limit of steps is put back, and the search ends as that of `solve` does.
 use Rattle.std.proofs.Common.{◌≡◌, ◌∙◌, ℕ, Bool, Result, sym, ap, subst}
 use Rattle.varisat_solver.specs.States.{State, Ledger}
-use Rattle.varisat_solver.specs.Summaries.{Summary, StandsFor}
+use Rattle.varisat_solver.specs.Summaries.{Summary, Represents}
 use Rattle.varisat_solver.specs.Calls.{Searches, Solves, with_max_steps, by_state}
 use Rattle.varisat_solver.specs.declared.solver.SolverError.{SolverError}
 use Rattle.varisat_solver.proofs.Additions.{logged-error}
@@ -9,7 +9,7 @@ use Rattle.varisat_solver.proofs.SearchRounds.{ends-early, solve-ends, solve-fai
 use Rattle.varisat_solver.proofs.rounds.search_in_rounds.Goals as goal
 
 -- what the rounds came to, under the limit that the solver had
-found-under : (n : ℕ) (g : Summary) (s t : State) (r : Result Bool SolverError) → n ≡ g.ledger.settings.max_steps → StandsFor g s →
+found-under : (n : ℕ) (g : Summary) (s t : State) (r : Result Bool SolverError) → n ≡ g.ledger.settings.max_steps → Represents g s →
     Searches (with_max_steps n s) r (with_max_steps n t) → Searches s r (with_max_steps n t)
 found-under n g s t r limit st h =
     subst (λ z. Searches z r (with_max_steps n t)) (sym (same-limit n s (ap (λ (l : Ledger). l.settings.max_steps) st.ledger ∙ sym limit))) h

@@ -1,13 +1,13 @@
 use Rattle.std.proofs.Common.{◌-◌, ◌≤◌}
 use Rattle.varisat_solver.specs.States.{State}
-use Rattle.varisat_solver.specs.Summaries.{StandsFor}
+use Rattle.varisat_solver.specs.Summaries.{Represents}
 use Rattle.varisat_solver.proofs.SearchRounds.{WentOn}
 use Rattle.varisat_solver.proofs.rounds.seek_in_rounds.Given as goal
 
 abbrev pub invariant-rounds : goal.invariant-rounds
 invariant-rounds g l = record {
   left : l.rest ≤ l.max_steps;
-  went : (s : State) → StandsFor l.fn.solver s → (m : State) × WentOn (l.max_steps - l.rest) s m × StandsFor l.solver m;
+  went : (s : State) → Represents l.fn.solver s → (m : State) × WentOn (l.max_steps - l.rest) s m × Represents l.solver m;
 }
 
 abbrev pub decreases-rounds : goal.decreases-rounds

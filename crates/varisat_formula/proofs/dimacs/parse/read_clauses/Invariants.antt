@@ -8,9 +8,9 @@ use Rattle.varisat_formula.proofs.dimacs.parse.read_clauses.Given as goal
 abbrev pub invariant-pieces : goal.invariant-pieces
 invariant-pieces g l = record {
   front : List Clause;
-  read : ReadSo (g.S.ByteSource.stand l.fn.source) (g.S.ByteSource.stand l.source) l.parser front;
+  read : ReadSo (g.S.ByteSource.input l.fn.source) (g.S.ByteSource.input l.source) l.parser front;
   takes : TakesBehind g.T.ClauseSink.takes l.fn.sink front l.sink;
 }
 
 abbrev pub decreases-pieces : goal.decreases-pieces
-decreases-pieces g l = (g.S.ByteSource.stand l.source).pieces
+decreases-pieces g l = (g.S.ByteSource.input l.source).pieces

@@ -9,7 +9,7 @@ use Rattle.varisat_solver.proofs.AcceptClause.{not-refuted}
 use Rattle.varisat_tracer.specs.Tracing.{tracer_state, BreaksProof}
 use Rattle.varisat_search.specs.StepErrors.{step_faults}
 use Rattle.varisat_solver.specs.Refusals.{returned_faults}
-use Rattle.varisat_solver.specs.Summaries.{Summary, StandsFor, spaces_with}
+use Rattle.varisat_solver.specs.Summaries.{Summary, Represents, spaces_with}
 use Rattle.varisat_solver.specs.Targets.{WritesAll, WritesUpTo}
 use Rattle.varisat_solver.specs.declared.solver.SolverError.TheVariants.{ClauseStoreFull, Invalid, ClauseAfterSolve}
 use Rattle.varisat_solver.proofs.Targets.{writes-nothing, refused-unwritten, logs-writes, breaks-writes, names-unwritten, names-not-full, refused-full, same-error}
@@ -55,7 +55,7 @@ returns-in_err-check_names-clause-call g c s st =
     )
 
 -- the state in which the clause is accepted
-joins : (g : Over) (c : In_ok-end_change g) (s : State) → StandsFor
+joins : (g : Over) (c : In_ok-end_change g) (s : State) → Represents
     (summary_of (tracer_state c.self.inside.tracer) c.self.inside.started c.self.inside.changed_at c.self.inside.ctx) s →
     ClauseJoins s c.args.clause.now
     (spaces_with c.accept_user_clause-accepted.new.tracer.tables c.accept_user_clause-accepted.new.tracer.proof.checker c.accept_user_clause-accepted.new.ctx)

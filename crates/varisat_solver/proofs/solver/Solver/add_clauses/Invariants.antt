@@ -3,13 +3,13 @@ use Rattle.std.proofs.Common.{◌≡◌, ◌++◌, map, Ok}
 use Rattle.varisat_solver.specs.States.{State}
 use Rattle.varisat_solver.specs.Calls.{by_state}
 use Rattle.varisat_solver.specs.Additions.{AddsAll}
-use Rattle.varisat_solver.specs.Summaries.{StandsFor}
+use Rattle.varisat_solver.specs.Summaries.{Represents}
 use Rattle.varisat_solver.specs.Targets.{WritesAll}
 use Rattle.varisat_solver.proofs.solver.Solver.add_clauses.Given as goal
 
 abbrev pub invariant-loop-clause : goal.invariant-loop-clause
 invariant-loop-clause g l = record {
   target : WritesAll l.initial.self.opened l.self.opened;
-  so_far : (s : State) → StandsFor l.initial.self s → (t : State) × AddsAll by_state s (map (λ c. c.now) l.yielded) (Ok tt) t × StandsFor l.self t;
+  so_far : (s : State) → Represents l.initial.self s → (t : State) × AddsAll by_state s (map (λ c. c.now) l.yielded) (Ok tt) t × Represents l.self t;
   whole : map (λ c. c.now) l.yielded ++ l.clause-iterator ≡ l.fn.formula.clauses;
 }

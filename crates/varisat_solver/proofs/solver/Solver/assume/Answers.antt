@@ -7,7 +7,7 @@ use Rattle.varisat_search.specs.StepErrors.{step_faults}
 use Rattle.varisat_solver.specs.Targets.{WritesUpTo}
 use Rattle.varisat_tracer.specs.Tracing.{tracer_state, BreaksProof}
 use Rattle.varisat_solver.specs.OpenProofs.{BarsAssumptions}
-use Rattle.varisat_solver.specs.Summaries.{StandsFor, spaces_with}
+use Rattle.varisat_solver.specs.Summaries.{Represents, spaces_with}
 use Rattle.varisat_solver.proofs.ChangeEnds.{kept-changed, stands-changed, stands-broken, stands-invalid, invalid-logged}
 use Rattle.varisat_solver.proofs.SettingsCalls.{summary_of}
 use Rattle.varisat_solver.proofs.Joins.{ListJoins, list-joins}
@@ -49,7 +49,7 @@ returns-in_err-check_names-clause-call g c s st =
     )
 
 -- the state in which the list is assumed
-joins : (g : Over) (c : In_ok-end_change g) (s : State) → StandsFor
+joins : (g : Over) (c : In_ok-end_change g) (s : State) → Represents
     (summary_of (tracer_state c.self.inside.tracer) c.self.inside.started c.self.inside.changed_at c.self.inside.ctx) s → (BarsAssumptions s.proof → ⊥) →
     ListJoins s c.args.lits.now
     (spaces_with c.assume_list-assumed.new.tracer.tables c.assume_list-assumed.new.tracer.proof.checker c.assume_list-assumed.new.ctx)

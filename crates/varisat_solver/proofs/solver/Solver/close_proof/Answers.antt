@@ -6,7 +6,7 @@ use Rattle.varisat_solver.specs.OpenProofs.{opened_state}
 use Rattle.varisat_solver.specs.declared.solver.SolverError.{SolverError}
 use Rattle.varisat_solver.specs.declared.solver.SolverError.TheVariants.{ProofIoError}
 use Rattle.varisat_solver.specs.States.{Ledger}
-use Rattle.varisat_solver.specs.Summaries.{Summary, spaces_with, StandsForSome}
+use Rattle.varisat_solver.specs.Summaries.{Summary, spaces_with, RepresentsSome}
 use Rattle.varisat_solver.specs.Calls.{count_anew}
 use Rattle.varisat_solver.specs.ProofCalls.{with_proof, ClosesProof}
 use Rattle.varisat_solver.proofs.CallStates.{stands-valid, broken, broken-invalid}
@@ -25,7 +25,7 @@ invariant_of-self-in-Ok g c v =
     record {
       kept = k.kept;
       logs = subst CanLog (sym c.close_proof.ensures.closed) (record { room = tt; usable = k.logs.usable });
-      stands = subst (λ (p : ProofParts). StandsForSome (spaces_with c.self.inside.tracer.tables p.checker c.self.inside.ctx)
+      stands = subst (λ (p : ProofParts). RepresentsSome (spaces_with c.self.inside.tracer.tables p.checker c.self.inside.ctx)
           c.self.inside.started) (sym c.close_proof.ensures.closed) k.stands;
       counts = k.counts;
     }

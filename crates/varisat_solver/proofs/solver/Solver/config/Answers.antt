@@ -1,6 +1,6 @@
 use Rattle.std.proofs.Common.{not, refl, ap, sym, subst}
 use Rattle.varisat_search.specs.declared.context.Context.{Context}
-use Rattle.varisat_solver.specs.Summaries.{spaces_with, StandsForSome}
+use Rattle.varisat_solver.specs.Summaries.{spaces_with, RepresentsSome}
 use Rattle.varisat_tracer.specs.Tracing.{tracer_state}
 use Rattle.varisat_solver.specs.Calls.{with_update, Configures}
 use Rattle.varisat_solver.proofs.CallStates.{stands-valid}
@@ -39,7 +39,7 @@ invariant_of-self-2 g c v =
     let ready = c.config_changed.ensures.ready k.ready in
     record {
       kept = kept-updated c.self.inside.tracer.tables x y c.args.update.now _ _ e.1 ready c.config_changed.ensures.decidable k;
-      stands = subst (λ (z : Context g.row.A.Denot). StandsForSome
+      stands = subst (λ (z : Context g.row.A.Denot). RepresentsSome
           (spaces_with c.self.inside.tracer.tables c.self.inside.tracer.proof.checker z) c.self.inside.started) (sym e.1)
           (c.self.invariant c.in_ok-ensure_valid.ensures).stands;
       logs = (c.self.invariant c.in_ok-ensure_valid.ensures).logs;

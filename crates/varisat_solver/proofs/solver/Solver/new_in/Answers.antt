@@ -11,7 +11,7 @@ use Rattle.varisat_clause.specs.Stores.{Store}
 use Rattle.varisat_tracer.specs.Tracing.{CanLog}
 use Rattle.varisat_solver.specs.States.{empty_state}
 use Rattle.varisat_solver.specs.Spaces.{SpacesFit}
-use Rattle.varisat_solver.specs.Summaries.{spaces_of, spaces_with, StandsForSome}
+use Rattle.varisat_solver.specs.Summaries.{spaces_of, spaces_with, RepresentsSome}
 use Rattle.varisat_proof.specs.Proving.{ProofParts, is_there}
 use Rattle.varisat_solver.proofs.CallStates.{ledger-is}
 use Rattle.varisat_solver.proofs.SolverCalls.{first-spaces, first-kept}
@@ -21,7 +21,7 @@ use Rattle.varisat_solver.proofs.solver.Solver.new_in.Goals as goal
 -- a new solver stands for the empty state
 begun : {A : Type 0} (t : Tables) (p : ProofParts) (x : Context A) → t ≡ no_variables → p ≡ record { opened = None; checker = None } →
     x.assumptions ≡ no_assumptions → x.solver_state.sat_state ≡ verdict.Unknown → search_of (view x) ≡ first_search →
-    length x.assignment.current ≡ 0 → StandsForSome (spaces_with t p.checker x) false
+    length x.assignment.current ≡ 0 → RepresentsSome (spaces_with t p.checker x) false
 begun t p x tables proof assumed unknown seen empty = (
   empty_state,
   subst (λ (o : ProofParts). SpacesFit (spaces_of t o.checker (view x) x.assumptions x.solver_state.sat_state) empty_state) (sym proof)

@@ -18,7 +18,7 @@ use Rattle.varisat_names.specs.Variables.{Tables}
 use Rattle.varisat_proof.specs.Calls.{CheckerState}
 use Rattle.varisat_proof.specs.Proving.{ProofParts}
 use Rattle.varisat_solver.specs.Spaces.{Spaces, SpacesFit}
-use Rattle.varisat_solver.specs.Summaries.{StandsFor, StandsForSome, spaces_of, spaces_with, undecided_spaces}
+use Rattle.varisat_solver.specs.Summaries.{Represents, RepresentsSome, spaces_of, spaces_with, undecided_spaces}
 use Rattle.varisat_solver.specs.Calls.{by_state, with_steps, Searches, IsSpent, ReturnsVerdict}
 use Rattle.varisat_solver.specs.declared.solver.SolverError.{SolverError}
 use Rattle.varisat_solver.specs.declared.solver.SolverError.TheVariants.{Interrupted, ClauseStoreFull, Invalid}
@@ -40,7 +40,7 @@ use Rattle.varisat_solver.proofs.solver.Solver.seek.Goals as goal
 
 -- The solver x became y as its tracer p became q, and it stood for the state.
 record Sought {A : Type 0} (p q : TracerState) (started : Bool) (changed_at : ℕ) (x y : Context A) (found : Option Bool) (s : State) : Type 0 where
-  stood : StandsFor (summary_of p started changed_at x) s
+  stood : Represents (summary_of p started changed_at x) s
   valid : not x.solver_state.state_is_invalid ≡ true
   unknown : x.solver_state.sat_state ≡ verdict.Unknown
   finds : FindsVerdict p q x y found
@@ -78,7 +78,7 @@ module _ {A : Type 0} {p q : TracerState} {started : Bool} {changed_at : ℕ} {x
 
   -- the solver stands for the state that it came to
   stands-after : {r : Result Bool SolverError} → CountsSteps (length s.counted) s.ledger.settings.max_steps s.ledger.since s.ledger.steps
-      y.schedule.steps r → StandsFor (summary_of q started changed_at y)
+      y.schedule.steps r → Represents (summary_of q started changed_at y)
       (after-solve comes.logged comes.verdict y.schedule.steps goes-on.0 (length y.clause_alloc.words) s)
   stands-after k = record {
     ledger = ledger-is _ _ _ _ _ _ _ (ap (λ (l : Ledger). l.valid) d.stood.ledger
@@ -99,7 +99,7 @@ module _ {A : Type 0} {p q : TracerState} {started : Bool} {changed_at : ℕ} {x
 found-call : {A : Type 0} {p q : TracerState} {started : Bool} {changed_at : ℕ} {x y : Context A} {b : Bool} {s : State}
     (d : Sought p q started changed_at x y (Some b) s) → CountsSteps
     (length s.counted) s.ledger.settings.max_steps s.ledger.since s.ledger.steps y.schedule.steps (Ok b) → (t : State) × ReturnsVerdict by_state s b t
-    × StandsFor (summary_of q started changed_at y) t
+    × Represents (summary_of q started changed_at y) t
 found-call {p = p} {q = q} {started = started} {changed_at = changed_at} {x = x} {y = y} {b = b} {s = s} d k = (
   after-solve (comes d).logged (comes d).verdict y.schedule.steps (goes-on d).0 (length y.clause_alloc.words) s,
   comes-verdict q.tables y (comes d) y.schedule.steps (goes-on d).0 (length y.clause_alloc.words) b
@@ -112,7 +112,7 @@ found-call {p = p} {q = q} {started = started} {changed_at = changed_at} {x = x}
 moved-call : {A : Type 0} {p q : TracerState} {started : Bool} {changed_at : ℕ} {x y : Context A} {s : State}
     (d : Sought p q started changed_at x y None s) → CountsSteps
     (length s.counted) s.ledger.settings.max_steps s.ledger.since s.ledger.steps y.schedule.steps (Err Interrupted) →
-    s.ledger.steps < y.schedule.steps → (t : State) × IsSpent by_state s t × StandsFor (summary_of q started changed_at y) t
+    s.ledger.steps < y.schedule.steps → (t : State) × IsSpent by_state s t × Represents (summary_of q started changed_at y) t
 moved-call {p = p} {q = q} {started = started} {changed_at = changed_at} {x = x} {y = y} {s = s} d k h =
     let last = answered-none y.solver_state.sat_state (sym d.finds.answer) in
     let unknown = unknown-undecided q.tables q.proof.checker y
@@ -131,28 +131,28 @@ moved-call {p = p} {q = q} {started = started} {changed_at = changed_at} {x = x}
 still-call : {A : Type 0} {p q : TracerState} {started : Bool} {changed_at : ℕ} {x y : Context A} {s : State}
     (d : Sought p q started changed_at x y None s) → CountsSteps
     (length s.counted) s.ledger.settings.max_steps s.ledger.since s.ledger.steps y.schedule.steps (Err Interrupted) →
-    y.schedule.steps ≡ s.ledger.steps → (t : State) × IsSpent by_state s t × StandsFor (summary_of q started changed_at y) t
+    y.schedule.steps ≡ s.ledger.steps → (t : State) × IsSpent by_state s t × Represents (summary_of q started changed_at y) t
 still-call {A} {p} {q} {started} {changed_at} {x} {y} {s} d k e =
     let (same, parts) = d.finds.still (e ∙ ap (λ (l : Ledger). l.steps) d.stood.ledger) in (
       s,
       interrupted-still s (stands-valid (summary_of p started changed_at x) s d.stood d.valid)
           (was-unknown (summary_of p started changed_at x) s d.stood d.valid d.unknown)
           (subst (λ m. CountsSteps (length s.counted) s.ledger.settings.max_steps s.ledger.since s.ledger.steps m (Err Interrupted)) e k),
-      subst (λ (z : Context A). StandsFor (summary_of q started changed_at z) s) (sym same)
-          (subst (λ (t : TracerState). StandsFor (summary_of t started changed_at x) s) (sym parts) d.stood),
+      subst (λ (z : Context A). Represents (summary_of q started changed_at z) s) (sym same)
+          (subst (λ (t : TracerState). Represents (summary_of t started changed_at x) s) (sym parts) d.stood),
     )
 
 spent-call : {A : Type 0} {p q : TracerState} {started : Bool} {changed_at : ℕ} {x y : Context A} {s : State}
     (d : Sought p q started changed_at x y None s) → CountsSteps
     (length s.counted) s.ledger.settings.max_steps s.ledger.since s.ledger.steps y.schedule.steps (Err Interrupted) → (t : State)
-    × IsSpent by_state s t × StandsFor (summary_of q started changed_at y) t
+    × IsSpent by_state s t × Represents (summary_of q started changed_at y) t
 spent-call {A} {p} {q} {started} {changed_at} {x} {y} {s} d k =
     ⊎_elim (λ (h : s.ledger.steps < y.schedule.steps). moved-call d k h)
     (λ (h : y.schedule.steps ≤ s.ledger.steps). still-call d k (let e = k.count in omega (arith, e, h))) (cases_lt s.ledger.steps y.schedule.steps)
 
 -- 2. The answers.
 
-sought-some : (g : Over) (c : In-Ok-Some g) (s : State) → StandsFor
+sought-some : (g : Over) (c : In-Ok-Some g) (s : State) → Represents
     (summary_of (tracer_state c.self.inside.tracer) c.self.inside.started c.self.inside.changed_at c.self.inside.ctx) s →
     Sought (tracer_state c.self.inside.tracer) (tracer_state c.find_verdict.new.tracer) c.self.inside.started c.self.inside.changed_at c.self.inside.ctx
     c.find_verdict.new.ctx (Some c.in-Ok-Some.found) s
@@ -165,7 +165,7 @@ sought-some g c s st = record {
   low = (c.self.invariant c.in_ok-ensure_valid.ensures).counts.low;
 }
 
-sought-none : (g : Over) (c : In-Ok-None g) (s : State) → StandsFor
+sought-none : (g : Over) (c : In-Ok-None g) (s : State) → Represents
     (summary_of (tracer_state c.self.inside.tracer) c.self.inside.started c.self.inside.changed_at c.self.inside.ctx) s →
     Sought (tracer_state c.self.inside.tracer) (tracer_state c.find_verdict.new.tracer) c.self.inside.started c.self.inside.changed_at c.self.inside.ctx
     c.find_verdict.new.ctx None s
@@ -180,12 +180,12 @@ sought-none g c s st = record {
 
 -- some state stands before the search
 begins : {A : Type 0} (t : Tables) (checker : Option CheckerState) (started : Bool) (x : Context A) → x.solver_state.sat_state ≡ verdict.Unknown →
-    StandsForSome (spaces_with t checker x) started → StandsForSome (undecided_spaces t checker x) started
-begins t checker started x e f = subst (λ b. StandsForSome (spaces_of t checker (view x) x.assumptions b) started) e f
+    RepresentsSome (spaces_with t checker x) started → RepresentsSome (undecided_spaces t checker x) started
+begins t checker started x e f = subst (λ b. RepresentsSome (spaces_of t checker (view x) x.assumptions b) started) e f
 
 -- and after what it came to
-on : {at : Turn} {n : ℕ} {before after : Spaces} {p q : ProofParts} {started : Bool} → ComesOn at n before after p q → StandsForSome before started →
-    StandsForSome after started
+on : {at : Turn} {n : ℕ} {before after : Spaces} {p q : ProofParts} {started : Bool} → ComesOn at n before after p q → RepresentsSome before started →
+    RepresentsSome after started
 on comes (s, fits, fresh) = let c = comes s fits in (_, c.fits, fresh)
 
 pub find_verdict-requires-clause-stands : goal.find_verdict-requires-clause-stands

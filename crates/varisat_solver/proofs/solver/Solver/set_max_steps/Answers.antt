@@ -3,7 +3,7 @@ use Rattle.std.proofs.Common.{Some, ap, sym, ◌∙◌, subst}
 use Rattle.varisat_names.specs.Settings.{no_update}
 use Rattle.varisat_search.specs.declared.context.Context.{Context}
 use Rattle.varisat_tracer.specs.Tracing.{tracer_state}
-use Rattle.varisat_solver.specs.Summaries.{spaces_with, StandsForSome}
+use Rattle.varisat_solver.specs.Summaries.{spaces_with, RepresentsSome}
 use Rattle.varisat_solver.proofs.SettingsCalls.{limits-steps, stands-limited, counts-limited, kept-updated}
 use Rattle.varisat_solver.proofs.solver.Solver.set_max_steps.Goals as goal
 
@@ -26,7 +26,7 @@ invariant_of-self g c v =
     record {
       kept = kept-updated c.self.inside.tracer.tables x y (record no_update { max_steps = Some n }) b a e
           (c.config_changed.ensures.ready k.kept.ready) c.config_changed.ensures.decidable k.kept;
-      stands = subst (λ (z : Context g.row.A.Denot). StandsForSome
+      stands = subst (λ (z : Context g.row.A.Denot). RepresentsSome
           (spaces_with c.self.inside.tracer.tables c.self.inside.tracer.proof.checker z) c.self.inside.started) (sym e) k.stands;
       logs = k.logs;
       counts = counts-limited c.self.inside.changed_at n x y b a e c.config_changed.ensures.decidable k.counts;

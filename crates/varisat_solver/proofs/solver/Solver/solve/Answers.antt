@@ -5,14 +5,14 @@ use Rattle.varisat_solver.specs.declared.solver.SolverError.TheVariants.{ClauseS
 use Rattle.varisat_solver.proofs.Targets.{writes-marked, ends-writing, fails-writing, ends-not-full, still-full, same-error, ends-badly-invalid}
 use Rattle.varisat_solver.specs.Calls.{Solves, by_state}
 use Rattle.varisat_solver.specs.ProofCalls.{with_proof}
-use Rattle.varisat_solver.specs.Summaries.{Summary, StandsFor}
+use Rattle.varisat_solver.specs.Summaries.{Summary, Represents}
 use Rattle.varisat_solver.proofs.Additions.{logged-error}
 use Rattle.varisat_solver.proofs.SearchRounds.{solve-ends, solve-fails, stood-before}
 use Rattle.varisat_solver.proofs.solver.Solver.solve.Goals as goal
 
 pub returns-in_err-end_search-clause-call : goal.returns-in_err-end_search-clause-call
 returns-in_err-end_search-clause-call g c s st =
-    let (t, k, w) = c.seek-found.ensures.call s (subst (λ (x : Summary). StandsFor x s) (sym c.begin_search.ensures) st) in
+    let (t, k, w) = c.seek-found.ensures.call s (subst (λ (x : Summary). Represents x s) (sym c.begin_search.ensures) st) in
     let valid = subst (λ (x : Summary). x.ledger.valid ≡ true) c.self.view_is (ap not c.if-self.false) in
     let (u, f, z) =
     solve-fails c.seek-found.new.self c.end_search.new.self s t c.seek-found.result c.in_err-end_search.field-0.0 k w valid c.in_err-end_search.ensures
@@ -20,20 +20,20 @@ returns-in_err-end_search-clause-call g c s st =
 
 pub returns-clause-call : goal.returns-clause-call
 returns-clause-call g c s st =
-    let (t, k, w) = c.seek-found.ensures.call s (subst (λ (x : Summary). StandsFor x s) (sym c.begin_search.ensures) st) in
+    let (t, k, w) = c.seek-found.ensures.call s (subst (λ (x : Summary). Represents x s) (sym c.begin_search.ensures) st) in
     let valid = subst (λ (x : Summary). x.ledger.valid ≡ true) c.self.view_is (ap not c.if-self.false) in
     solve-ends c.seek-found.new.self c.end_search.new.self s t c.seek-found.result k w valid c.in_ok-end_search.ensures
 
 pub returns-clause-model : goal.returns-clause-model
 returns-clause-model g c e s st =
     let valid = subst (λ (x : Summary). x.ledger.valid ≡ true) c.self.view_is (ap not c.if-self.false) in
-    let (proof, q) = stood-before c.seek-found.new.self s valid (subst (λ (x : Summary). StandsFor x s) c.in_ok-end_search.ensures st) in
+    let (proof, q) = stood-before c.seek-found.new.self s valid (subst (λ (x : Summary). Represents x s) c.in_ok-end_search.ensures st) in
     c.seek-found.ensures.model e (with_proof proof s) q
 
 pub returns-clause-core : goal.returns-clause-core
 returns-clause-core g c e s st =
     let valid = subst (λ (x : Summary). x.ledger.valid ≡ true) c.self.view_is (ap not c.if-self.false) in
-    let (proof, q) = stood-before c.seek-found.new.self s valid (subst (λ (x : Summary). StandsFor x s) c.in_ok-end_search.ensures st) in
+    let (proof, q) = stood-before c.seek-found.new.self s valid (subst (λ (x : Summary). Represents x s) c.in_ok-end_search.ensures st) in
     c.seek-found.ensures.core e (with_proof proof s) q
 
 pub returns-then-self-clause-target : goal.returns-then-self-clause-target

@@ -3,7 +3,7 @@ use Rattle.varisat_proof.specs.Proving.{ProofParts}
 use Rattle.varisat_tracer.specs.Tracing.{CanLog}
 use Rattle.varisat_solver.specs.OpenProofs.{first_proof}
 use Rattle.varisat_solver.specs.States.{Ledger}
-use Rattle.varisat_solver.specs.Summaries.{spaces_with, StandsForSome}
+use Rattle.varisat_solver.specs.Summaries.{spaces_with, RepresentsSome}
 use Rattle.varisat_solver.specs.Calls.{count_anew}
 use Rattle.varisat_solver.specs.ProofCalls.{with_proof, OpensProof}
 use Rattle.varisat_solver.proofs.ChangeEnds.{stands-invalid}
@@ -19,7 +19,7 @@ invariant_of-self g c v =
     record {
       kept = k.kept;
       logs = subst CanLog (sym c.write_proof.ensures) (record { room = c.requires; usable = k.logs.usable });
-      stands = subst (λ (p : ProofParts). StandsForSome (spaces_with c.self.inside.tracer.tables p.checker c.self.inside.ctx)
+      stands = subst (λ (p : ProofParts). RepresentsSome (spaces_with c.self.inside.tracer.tables p.checker c.self.inside.ctx)
           c.self.inside.started) (sym c.write_proof.ensures) k.stands;
       counts = k.counts;
     }

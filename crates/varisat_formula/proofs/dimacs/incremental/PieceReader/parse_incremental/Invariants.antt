@@ -5,10 +5,10 @@ use Rattle.varisat_formula.proofs.dimacs.incremental.PieceReader.parse_increment
 abbrev pub invariant-pieces : goal.invariant-pieces
 invariant-pieces g l = record {
   turns : Turns (reading_with g.Self.PieceReader.progress g.F.FnMut g.E.From.from_gives)
-      (g.S.ByteSource.stand l.fn.source) l.fn.f
-      (record { source = g.S.ByteSource.stand l.source; reader = l.parser; function = l.f });
-  quiet : (g.S.ByteSource.stand l.source).faults ≡ (g.S.ByteSource.stand l.fn.source).faults;
+      (g.S.ByteSource.input l.fn.source) l.fn.f
+      (record { source = g.S.ByteSource.input l.source; reader = l.parser; function = l.f });
+  quiet : (g.S.ByteSource.input l.source).faults ≡ (g.S.ByteSource.input l.fn.source).faults;
 }
 
 abbrev pub decreases-pieces : goal.decreases-pieces
-decreases-pieces g l = (g.S.ByteSource.stand l.source).pieces
+decreases-pieces g l = (g.S.ByteSource.input l.source).pieces

@@ -3,7 +3,7 @@ use Rattle.varisat_theory.specs.Literals.{Clause}
 use Rattle.varisat_proof.specs.declared.checker.line.LineStatus.TheVariants.{Taken}
 use Rattle.varisat_proof.specs.declared.checker.error.CheckerError.TheVariants.{CheckFailed, NoSuchClause, CoreNotAssumed}
 use Rattle.varisat_proof.specs.Lines.{line_of_kind}
-use Rattle.varisat_proof.specs.Checks.{StandsBy}
+use Rattle.varisat_proof.specs.Checks.{StopsBehind}
 use Rattle.varisat_proof.proofs.CheckedLines.{error_of, still_refuted, on_wrong, on_taken}
 use Rattle.varisat_proof.specs.Marked.{state_of}
 use Rattle.varisat_proof.proofs.checker.check.Checker.next_line.Goals as goal
@@ -35,7 +35,7 @@ returns-in-Unassumed-clause-takes g c =
 
 pub returns-clause-takes : goal.returns-clause-takes
 returns-clause-takes g c =
-    λ s lines h. subst (λ (Q : List Clause). StandsBy (rules_of c.args.rules) c.in-Ok-is_refuted.refuted s (lines ++ line_of_kind c.args.kind c.args.clause.now ∷ [])
+    λ s lines h. subst (λ (Q : List Clause). StopsBehind (rules_of c.args.rules) c.in-Ok-is_refuted.refuted s (lines ++ line_of_kind c.args.kind c.args.clause.now ∷ [])
     (state_of Q c.take_line.new.builder) c.saturating_add-step.result) (sym (ap (λ h. h.clauses) c.is_refuted.ensures.stays))
     (on_taken (rules_of c.args.rules) c.args.count.now.refuted s lines (state_of c.args.self.now.clauses c.args.builder.now)
     (state_of c.take_line.new.self.clauses c.take_line.new.builder) c.args.count.now.steps c.saturating_add-step.result

@@ -7,7 +7,7 @@ use Rattle.varisat_proof.specs.DratChecks.{rules_of}
 
 pub pieces-init : goal.pieces-init
 pieces-init g c = record {
-  so = underway_start (rules_of c.args.rules) c.args.encoding (state_of c.args.self.now.clauses c.args.builder.now) _ (g.S.ByteSource.stand c.args.source.now) _
+  so = underway_start (rules_of c.args.rules) c.args.encoding (state_of c.args.self.now.clauses c.args.builder.now) _ (g.S.ByteSource.input c.args.source.now) _
       c.new_in-reader.result (state_is _ _ _ _ (ap (λ h. h.clauses) c.is_refuted.ensures.stays) refl) c.new_in-reader.ensures refl c.in-Ok.ensures.found;
   spent = ap (λ s. s.spent) c.is_refuted.ensures.stays;
 }
@@ -15,8 +15,8 @@ pieces-init g c = record {
 pub pieces-preserved : goal.pieces-preserved
 pieces-preserved g c = record {
   so = underway_more (rules_of c.args.rules) c.args.encoding (state_of c.args.self.now.clauses c.args.builder.now) (state_of c.pieces.self.clauses c.pieces.builder)
-      (state_of c.read_piece.new.self.clauses c.read_piece.new.builder) (g.S.ByteSource.stand c.args.source.now) (g.S.ByteSource.stand c.pieces.source)
-      (g.S.ByteSource.stand c.fill.new.self) c.pieces.count c.read_piece.new.count c.pieces.reader c.read_piece.new.reader
+      (state_of c.read_piece.new.self.clauses c.read_piece.new.builder) (g.S.ByteSource.input c.args.source.now) (g.S.ByteSource.input c.pieces.source)
+      (g.S.ByteSource.input c.fill.new.self) c.pieces.count c.read_piece.new.count c.pieces.reader c.read_piece.new.reader
       (take c.in-Ok-fill.size c.fill.new.buffer) c.pieces.invariant.so
       (record {
         reads = record { gave = c.in-Ok-fill.ensures.gives; consumed = c.in-Ok-fill.ensures.bytes.0; no_more = c.fill.ensures.no_more };
@@ -26,20 +26,20 @@ pieces-preserved g c = record {
 }
 
 pub returns-in-Err-clause-checks : goal.returns-in-Err-clause-checks
-returns-in-Err-clause-checks g c = no_memory (rules_of c.args.rules) c.args.encoding (state_of c.args.self.now.clauses c.args.builder.now) _ (g.S.ByteSource.stand c.args.source.now)
+returns-in-Err-clause-checks g c = no_memory (rules_of c.args.rules) c.args.encoding (state_of c.args.self.now.clauses c.args.builder.now) _ (g.S.ByteSource.input c.args.source.now)
 
 pub returns-in-Err-fill-clause-checks : goal.returns-in-Err-fill-clause-checks
 returns-in-Err-fill-clause-checks g c =
     source_fails (rules_of c.args.rules) c.args.encoding (state_of c.args.self.now.clauses c.args.builder.now) (state_of c.pieces.self.clauses c.pieces.builder)
-    (g.S.ByteSource.stand c.args.source.now) (g.S.ByteSource.stand c.pieces.source) (g.S.ByteSource.stand c.fill.new.self) c.pieces.count
+    (g.S.ByteSource.input c.args.source.now) (g.S.ByteSource.input c.pieces.source) (g.S.ByteSource.input c.fill.new.self) c.pieces.count
     c.pieces.reader _ c.pieces.invariant.so
     (gave_nothing _ _ c.in-Err-fill.ensures.gives c.in-Err-fill.ensures.bytes c.fill.ensures.no_more) c.in-Err-fill.ensures.fault refl
 
 pub returns-in-Err-read_piece-clause-checks : goal.returns-in-Err-read_piece-clause-checks
 returns-in-Err-read_piece-clause-checks g c =
     breaks_inside (rules_of c.args.rules) c.args.encoding (state_of c.args.self.now.clauses c.args.builder.now) (state_of c.pieces.self.clauses c.pieces.builder)
-    (state_of c.read_piece.new.self.clauses c.read_piece.new.builder) (g.S.ByteSource.stand c.args.source.now) (g.S.ByteSource.stand c.pieces.source)
-    (g.S.ByteSource.stand c.fill.new.self) c.pieces.count c.pieces.reader (take c.in-Ok-fill.size c.fill.new.buffer) c.in-Err-read_piece.error
+    (state_of c.read_piece.new.self.clauses c.read_piece.new.builder) (g.S.ByteSource.input c.args.source.now) (g.S.ByteSource.input c.pieces.source)
+    (g.S.ByteSource.input c.fill.new.self) c.pieces.count c.pieces.reader (take c.in-Ok-fill.size c.fill.new.buffer) c.in-Err-read_piece.error
     c.pieces.invariant.so
     (record {
       reads = record { gave = c.in-Ok-fill.ensures.gives; consumed = c.in-Ok-fill.ensures.bytes.0; no_more = c.fill.ensures.no_more };
@@ -50,9 +50,9 @@ pub returns-in-Ok-end_proof-clause-checks : goal.returns-in-Ok-end_proof-clause-
 returns-in-Ok-end_proof-clause-checks g c =
     let room : 0 < length c.fill.new.buffer = search rules in
     ends_check (rules_of c.args.rules) c.args.encoding (state_of c.args.self.now.clauses c.args.builder.now) (state_of c.pieces.self.clauses c.pieces.builder)
-    (state_of c.end_proof.new.self.clauses c.end_proof.new.builder) (g.S.ByteSource.stand c.args.source.now) (g.S.ByteSource.stand c.pieces.source)
-    (g.S.ByteSource.stand c.fill.new.self) c.pieces.count c.pieces.reader (Ok c.in-Ok-end_proof.verdict) c.pieces.invariant.so
-    (subst (λ n. Gave (g.S.ByteSource.stand c.pieces.source) (take n c.fill.new.buffer) (g.S.ByteSource.stand c.fill.new.self)) c.if-size-eq0.true
+    (state_of c.end_proof.new.self.clauses c.end_proof.new.builder) (g.S.ByteSource.input c.args.source.now) (g.S.ByteSource.input c.pieces.source)
+    (g.S.ByteSource.input c.fill.new.self) c.pieces.count c.pieces.reader (Ok c.in-Ok-end_proof.verdict) c.pieces.invariant.so
+    (subst (λ n. Gave (g.S.ByteSource.input c.pieces.source) (take n c.fill.new.buffer) (g.S.ByteSource.input c.fill.new.self)) c.if-size-eq0.true
     (record {
       reads = record { gave = c.in-Ok-fill.ensures.gives; consumed = c.in-Ok-fill.ensures.bytes.0; no_more = c.fill.ensures.no_more };
       quiet = c.in-Ok-fill.ensures.quiet;
@@ -66,9 +66,9 @@ pub returns-clause-checks : goal.returns-clause-checks
 returns-clause-checks g c =
     let room : 0 < length c.fill.new.buffer = search rules in
     ends_check (rules_of c.args.rules) c.args.encoding (state_of c.args.self.now.clauses c.args.builder.now) (state_of c.pieces.self.clauses c.pieces.builder)
-    (state_of c.end_proof.new.self.clauses c.end_proof.new.builder) (g.S.ByteSource.stand c.args.source.now) (g.S.ByteSource.stand c.pieces.source)
-    (g.S.ByteSource.stand c.fill.new.self) c.pieces.count c.pieces.reader (Err c.in-Err-end_proof.error) c.pieces.invariant.so
-    (subst (λ n. Gave (g.S.ByteSource.stand c.pieces.source) (take n c.fill.new.buffer) (g.S.ByteSource.stand c.fill.new.self)) c.if-size-eq0.true
+    (state_of c.end_proof.new.self.clauses c.end_proof.new.builder) (g.S.ByteSource.input c.args.source.now) (g.S.ByteSource.input c.pieces.source)
+    (g.S.ByteSource.input c.fill.new.self) c.pieces.count c.pieces.reader (Err c.in-Err-end_proof.error) c.pieces.invariant.so
+    (subst (λ n. Gave (g.S.ByteSource.input c.pieces.source) (take n c.fill.new.buffer) (g.S.ByteSource.input c.fill.new.self)) c.if-size-eq0.true
     (record {
       reads = record { gave = c.in-Ok-fill.ensures.gives; consumed = c.in-Ok-fill.ensures.bytes.0; no_more = c.fill.ensures.no_more };
       quiet = c.in-Ok-fill.ensures.quiet;

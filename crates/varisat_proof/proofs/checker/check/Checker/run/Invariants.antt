@@ -6,10 +6,10 @@ use Rattle.varisat_proof.specs.DratChecks.{rules_of}
 
 abbrev pub invariant-pieces : goal.invariant-pieces
 invariant-pieces g l = record {
-  so : Underway (rules_of l.fn.rules) l.fn.encoding (state_of l.fn.self.clauses l.fn.builder) (state_of l.self.clauses l.builder) (g.S.ByteSource.stand l.fn.source)
-      (g.S.ByteSource.stand l.source) l.count l.reader;
+  so : Underway (rules_of l.fn.rules) l.fn.encoding (state_of l.fn.self.clauses l.fn.builder) (state_of l.self.clauses l.builder) (g.S.ByteSource.input l.fn.source)
+      (g.S.ByteSource.input l.source) l.count l.reader;
   spent : l.self.spent ≡ l.fn.self.spent;
 }
 
 abbrev pub decreases-pieces : goal.decreases-pieces
-decreases-pieces g l = (g.S.ByteSource.stand l.source).pieces
+decreases-pieces g l = (g.S.ByteSource.input l.source).pieces

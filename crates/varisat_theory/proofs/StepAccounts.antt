@@ -8,7 +8,7 @@ use Rattle.varisat_theory.proofs.Sound.{derives_sound, conflicts_sound}
 use Rattle.varisat_theory.proofs.Assigned.{satisfies_more, satisfies_fewer}
 use Rattle.varisat_theory.specs.Counted.{DerivesBy, AddsNew, AddsManyNew, DeletesNone, added}
 use Rattle.varisat_theory.specs.Searches.{Search, Fits, Covers, IsLiteralOf}
-use Rattle.varisat_theory.specs.Outcomes.{Outcome, Unknown, Sat, Unsat, UnsatUnder, Holds, Answers, Proves, Steps, Loads, Stands}
+use Rattle.varisat_theory.specs.Outcomes.{Outcome, Unknown, Sat, Unsat, UnsatUnder, Holds, Answers, Proves, Steps, Loads, AccountsFor}
 use Rattle.varisat_theory.proofs.StepCounts.{by_derives, by_append, new_before, new_after}
 use Rattle.varisat_theory.proofs.Spoken.{spoken_after}
 
@@ -75,25 +75,25 @@ pub step_adds : (s t : Search) (lines : List Line) (held : List Clause) → Step
 step_adds s t lines held p f = adds_one held lines ((p.holds held f).3 refl)
 
 -- what lines lead to stands for the same accepted clauses
-pub stands_after : (n : ℕ) (P held after : List Clause) (s t : Search) (v : Outcome) (lines : List Line) → Stands P held s Unknown →
-    DerivesBy n held lines after → Holds after t v → Answers P t v → Stands P after t v
-stands_after n P held after s t v lines w d h a = record {
+pub accounts_after : (n : ℕ) (P held after : List Clause) (s t : Search) (v : Outcome) (lines : List Line) → AccountsFor P held s Unknown →
+    DerivesBy n held lines after → Holds after t v → Answers P t v → AccountsFor P after t v
+accounts_after n P held after s t v lines w d h a = record {
   implied = λ x m. derives_sound held lines after x (by_derives n held lines after d) (w.implied x m);
   holds = h;
   answers = a;
 }
 
-pub step_stands : (P held : List Clause) (s t : Search) (v : Outcome) (lines : List Line) → Stands P held s Unknown → Steps s t v lines →
-    (after : List Clause) × DerivesBy 1 held lines after × Stands P after t v × (v ≡ Unknown → 1 ≤ added lines)
-step_stands P held s t v lines w p =
+pub step_accounts : (P held : List Clause) (s t : Search) (v : Outcome) (lines : List Line) → AccountsFor P held s Unknown → Steps s t v lines →
+    (after : List Clause) × DerivesBy 1 held lines after × AccountsFor P after t v × (v ≡ Unknown → 1 ≤ added lines)
+step_accounts P held s t v lines w p =
     let (after, d, h, n) = p.holds held w.holds in
-    (after, d, stands_after 1 P held after s t v lines w d h (p.answers P w.answers), λ e. adds_one held lines (n e))
+    (after, d, accounts_after 1 P held after s t v lines w d h (p.answers P w.answers), λ e. adds_one held lines (n e))
 
-pub part_stands : (n : ℕ) (P held : List Clause) (s t : Search) (lines : List Line) → Stands P held s Unknown → Proves n s t lines →
-    (after : List Clause) × DerivesBy n held lines after × Stands P after t Unknown
-part_stands n P held s t lines w p =
+pub part_accounts : (n : ℕ) (P held : List Clause) (s t : Search) (lines : List Line) → AccountsFor P held s Unknown → Proves n s t lines →
+    (after : List Clause) × DerivesBy n held lines after × AccountsFor P after t Unknown
+part_accounts n P held s t lines w p =
     let (after, d, h) = p.holds held w.holds in
-    (after, d, stands_after n P held after s t Unknown lines w d h (p.covers P w.answers))
+    (after, d, accounts_after n P held after s t Unknown lines w d h (p.covers P w.answers))
 
 open_fits : (held : List Clause) (s : Search) (v : Outcome) → v ≢ Unsat → Holds held s v → Fits held s
 open_fits held s Unknown n h = h
@@ -112,9 +112,9 @@ implied_more : (P held : List Clause) (c : Clause) → ((a : Assignment) → Sat
 implied_more P held c g a m =
     satisfies_more a held c (g a (satisfies_fewer a P (c ∷ []) m)) (m c (∈-append_right c P (c ∷ []) (inl refl)))
 
-pub load_stands : (P held : List Clause) (s t : Search) (c : Clause) (v w : Outcome) (lines : List Line) → Stands P held s v → v ≢ Unsat →
-    Loads s t c w lines → (after : List Clause) × DerivesBy 0 (held ++ c ∷ []) lines after × Stands (P ++ c ∷ []) after t w
-load_stands P held s t c v w lines x n p =
+pub load_accounts : (P held : List Clause) (s t : Search) (c : Clause) (v w : Outcome) (lines : List Line) → AccountsFor P held s v → v ≢ Unsat →
+    Loads s t c w lines → (after : List Clause) × DerivesBy 0 (held ++ c ∷ []) lines after × AccountsFor (P ++ c ∷ []) after t w
+load_accounts P held s t c v w lines x n p =
     let (after, d, h) = p.holds held (open_fits held s v n x.holds) in (
       after,
       d,
@@ -125,10 +125,10 @@ load_stands P held s t c v w lines x n p =
       },
     )
 
-pub verdicts_are_right : ((P held : List Clause) (s : Search) (a : Assignment) → Stands P held s (Sat a) → SatisfiesAll a P)
-    × ((P held : List Clause) (s : Search) → Stands P held s Unsat → IsSatisfiable P → ⊥)
-    × ((P held : List Clause) (s : Search) (core : List Literal) → Stands P held s (UnsatUnder core) → IsSatisfiableWith P core → ⊥)
-    × ((P held : List Clause) (s : Search) (c : Clause) → Stands P held s Unsat → Stands (P ++ c ∷ []) (held ++ c ∷ []) s Unsat)
+pub verdicts_are_right : ((P held : List Clause) (s : Search) (a : Assignment) → AccountsFor P held s (Sat a) → SatisfiesAll a P)
+    × ((P held : List Clause) (s : Search) → AccountsFor P held s Unsat → IsSatisfiable P → ⊥)
+    × ((P held : List Clause) (s : Search) (core : List Literal) → AccountsFor P held s (UnsatUnder core) → IsSatisfiableWith P core → ⊥)
+    × ((P held : List Clause) (s : Search) (c : Clause) → AccountsFor P held s Unsat → AccountsFor (P ++ c ∷ []) (held ++ c ∷ []) s Unsat)
 verdicts_are_right = (
   λ P held s a w. w.answers.1,
   λ P held s w (a, m). conflicts_sound held [] a (w.implied a m) (λ l h. absurd h) w.holds,
@@ -140,9 +140,9 @@ verdicts_are_right = (
   },
 )
 
-pub first_stands : (s : Search) → s ≡ record { kept = []; fixed = []; proved = [] } → Stands [] [] s Unknown
-first_stands s e =
-    subst (λ x. Stands [] [] x Unknown) (sym e) (record {
+pub first_accounts : (s : Search) → s ≡ record { kept = []; fixed = []; proved = [] } → AccountsFor [] [] s Unknown
+first_accounts s e =
+    subst (λ x. AccountsFor [] [] x Unknown) (sym e) (record {
       implied = λ a m c h. absurd h;
       holds = record { others = []; same = refl; settled = λ c h. absurd h; units = λ l h. absurd h };
       answers = λ c h. absurd h;

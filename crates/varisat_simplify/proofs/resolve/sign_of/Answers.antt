@@ -1,6 +1,6 @@
 use Rattle.std.proofs.Common.{sym, ◌∙◌}
 use Rattle.varisat_simplify.proofs.ResolveLemmas.{item_at, found_same, found_opposite}
-use Rattle.varisat_simplify.proofs.resolve.standing_of.Goals as goal
+use Rattle.varisat_simplify.proofs.resolve.sign_of.Goals as goal
 
 pub returns-then-code : goal.returns-then-code
 returns-then-code c =

@@ -1,0 +1,5 @@
+use Rattle.varisat_theory.proofs.StepAccounts.{first_accounts}
+use Rattle.varisat_theory.proofs.laws.steps.first_accounts.Goals as goal
+
+pub returns : goal.returns
+returns c = first_accounts

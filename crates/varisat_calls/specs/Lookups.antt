@@ -39,7 +39,7 @@ pub record Lookups : Type 0 where
   pub literals : List Bool
 
 -- what is kept is what the solver tells
-pub record IsKept (c : Lookups) (solver : Summary) : Type 0 where
+pub record IsValidSolver (c : Lookups) (solver : Summary) : Type 0 where
   pub model : c.kept ≡ kept.Model → (m : List Literal) × IsModel solver m × IsSetOf m c.literals
   pub core : c.kept ≡ kept.Core → (m : List Literal) × IsCore solver m × IsSetOf m c.literals
 

@@ -11,11 +11,11 @@ use Rattle.varisat_formula.proofs.ParserProgress.{open_gives, goes_on, breaks_of
 longer : {X : Type 0} (xs : List X) (x : X) → xs ++ x ∷ [] ≡ xs → ⊥
 longer xs x e = let f = ap length e in let g = length-append xs (x ∷ []) in absurd (omega arith)
 
-kept_at : (r s t : Reading) → t ≡ s → KeepsToken r s → KeepsToken r t
-kept_at r s t e k = subst (λ x. KeepsToken r x) (sym e) k
+data_at : (r s t : Reading) → t ≡ s → KeepsToken r s → KeepsToken r t
+data_at r s t e k = subst (λ x. KeepsToken r x) (sym e) k
 
 pub kept_by : (a b r s : Reading) → a ≡ r → b ≡ s → KeepsToken r s → KeepsToken a b
-kept_by a b r s e f k = subst (λ x. KeepsToken x b) (sym e) (kept_at r s b f k)
+kept_by a b r s e f k = subst (λ x. KeepsToken x b) (sym e) (data_at r s b f k)
 
 -- a blank ends the token
 blank_gives : (s : Progress) (w : Word) → s.over ≡ false → s.place ≡ Plain w → so_far_from s (32 ∷ []) ≡ read s.reading (word_items s.line w)

@@ -2,7 +2,7 @@
 use Rattle.std.proofs.Common.{◌≡◌, ◌<◌, ℕ, zero, suc, true, false, Option, Some, None, Result, Ok, Err, OnOk, OnErr, List, [], ◌∷◌, length, ◌⊎◌, ⊎_elim, sym, ap, ◌∙◌, subst, refl, arith}
 use Rattle.varisat_names.specs.VarMap.{at}
 use Rattle.varisat_names.specs.VarBiMap.{BiMap, turned, IsJoined, IsParted}
-use Rattle.varisat_names.specs.VarData.{dead, kept_at, IsKeptAs, AreDeleted}
+use Rattle.varisat_names.specs.VarData.{dead, data_at, IsDataAt, AreDeleted}
 use Rattle.varisat_names.specs.Variables.{Tables, AreLinked, unused}
 use Rattle.varisat_names.specs.declared.variables.data.VarData.{VarData}
 use Rattle.std.specs.BTreeSet.{BTreeSet}
@@ -17,52 +17,52 @@ pub parted-turned : (old new : BiMap) (from into : ℕ) → IsParted old new fro
 parted-turned old new from into p = record { forward = p.backward; backward = p.forward }
 
 -- a variable that is not live has no name
-pub dead-unnamed : (t : Tables) (x : ℕ) → AreLinked t → (kept_at t.kept x).deleted ≡ true → at t.users.backward x ≡ None
+pub dead-unnamed : (t : Tables) (x : ℕ) → AreLinked t → (data_at t.kept x).deleted ≡ true → at t.users.backward x ≡ None
 dead-unnamed t x l d = ⊎_elim (λ e. e) (λ (u, e). let z : true ≡ false = sym d ∙ l.named x u e in absurd cc) (is-some (at t.users.backward x))
 
 -- data of a live variable
-pub keep-live : (t : Tables) (kept : List VarData) (x : ℕ) (d : VarData) → AreLinked t → d.deleted ≡ false → IsKeptAs t.kept x d kept →
+pub keep-live : (t : Tables) (kept : List VarData) (x : ℕ) (d : VarData) → AreLinked t → d.deleted ≡ false → IsDataAt t.kept x d kept →
     AreLinked (record t { kept = kept })
 keep-live t kept x d l e k = record {
   users = l.users;
   solvers = l.solvers;
-  named = λ y u h. ap (λ z. z.deleted) (k.at_each y) ∙ updated-all (λ _ z. z.deleted ≡ false) (kept_at t.kept) x d e y (λ _. l.named y u h);
-  taken = λ y v h. ap (λ z. z.deleted) (k.at_each y) ∙ updated-all (λ _ z. z.deleted ≡ false) (kept_at t.kept) x d e y (λ _. l.taken y v h);
+  named = λ y u h. ap (λ z. z.deleted) (k.at_each y) ∙ updated-all (λ _ z. z.deleted ≡ false) (data_at t.kept) x d e y (λ _. l.named y u h);
+  taken = λ y v h. ap (λ z. z.deleted) (k.at_each y) ∙ updated-all (λ _ z. z.deleted ≡ false) (data_at t.kept) x d e y (λ _. l.taken y v h);
 }
 
 -- a variable without a name and a solver variable
 pub keep-dead : (t : Tables) (kept : List VarData) (x : ℕ) (d : VarData) → AreLinked t → at t.users.backward x ≡ None →
-    at t.solvers.forward x ≡ None → IsKeptAs t.kept x d kept → AreLinked (record t { kept = kept })
+    at t.solvers.forward x ≡ None → IsDataAt t.kept x d kept → AreLinked (record t { kept = kept })
 keep-dead t kept x d l a b k = record {
   users = l.users;
   solvers = l.solvers;
   named = λ y u h. ap (λ z. z.deleted)
-      (k.at_each y ∙ updated-other (kept_at t.kept) x d y (λ q. let z : None ≡ Some u = sym a ∙ ap (at t.users.backward) (sym q) ∙ h in absurd cc))
+      (k.at_each y ∙ updated-other (data_at t.kept) x d y (λ q. let z : None ≡ Some u = sym a ∙ ap (at t.users.backward) (sym q) ∙ h in absurd cc))
       ∙ l.named y u h;
   taken = λ y v h. ap (λ z. z.deleted)
-      (k.at_each y ∙ updated-other (kept_at t.kept) x d y (λ q. let z : None ≡ Some v = sym b ∙ ap (at t.solvers.forward) (sym q) ∙ h in absurd cc))
+      (k.at_each y ∙ updated-other (data_at t.kept) x d y (λ q. let z : None ≡ Some v = sym b ∙ ap (at t.solvers.forward) (sym q) ∙ h in absurd cc))
       ∙ l.taken y v h;
 }
 
 -- a live variable gets a name
-pub join-users : (t : Tables) (users : BiMap) (u x : ℕ) → AreLinked t → (kept_at t.kept x).deleted ≡ false → at t.users.forward u ≡ None →
+pub join-users : (t : Tables) (users : BiMap) (u x : ℕ) → AreLinked t → (data_at t.kept x).deleted ≡ false → at t.users.forward u ≡ None →
     at t.users.backward x ≡ None → IsJoined t.users users u x → AreLinked (record t { users = users })
 join-users t users u x l d a b j = record {
   users = joined-inverse t.users.forward t.users.backward users.forward users.backward u x l.users a b j.forward j.backward;
   solvers = l.solvers;
-  named = λ y w h. updated-all (λ y o. o ≡ Some w → (kept_at t.kept y).deleted ≡ false) (at t.users.backward) x (Some u) (λ _. d) y
+  named = λ y w h. updated-all (λ y o. o ≡ Some w → (data_at t.kept y).deleted ≡ false) (at t.users.backward) x (Some u) (λ _. d) y
       (λ _ e. l.named y w e) (sym (j.backward.at_each y) ∙ h);
   taken = l.taken;
 }
 
 -- a live variable gets a solver variable
-pub join-solvers : (t : Tables) (solvers : BiMap) (x v : ℕ) → AreLinked t → (kept_at t.kept x).deleted ≡ false → at t.solvers.forward x ≡ None →
+pub join-solvers : (t : Tables) (solvers : BiMap) (x v : ℕ) → AreLinked t → (data_at t.kept x).deleted ≡ false → at t.solvers.forward x ≡ None →
     at t.solvers.backward v ≡ None → IsJoined t.solvers solvers x v → AreLinked (record t { solvers = solvers })
 join-solvers t solvers x v l d a b j = record {
   users = l.users;
   solvers = joined-inverse t.solvers.forward t.solvers.backward solvers.forward solvers.backward x v l.solvers a b j.forward j.backward;
   named = l.named;
-  taken = λ y w h. updated-all (λ y o. o ≡ Some w → (kept_at t.kept y).deleted ≡ false) (at t.solvers.forward) x (Some v) (λ _. d) y
+  taken = λ y w h. updated-all (λ y o. o ≡ Some w → (data_at t.kept y).deleted ≡ false) (at t.solvers.forward) x (Some v) (λ _. d) y
       (λ _ e. l.taken y w e) (sym (j.forward.at_each y) ∙ h);
 }
 
@@ -72,7 +72,7 @@ pub part-users : (t : Tables) (users : BiMap) (u x : ℕ) → AreLinked t → at
 part-users t users u x l a p = record {
   users = parted-inverse t.users.forward t.users.backward users.forward users.backward u x l.users a p.forward p.backward;
   solvers = l.solvers;
-  named = λ y w h. updated-all (λ y o. o ≡ Some w → (kept_at t.kept y).deleted ≡ false) (at t.users.backward) x None (λ e. absurd cc) y
+  named = λ y w h. updated-all (λ y o. o ≡ Some w → (data_at t.kept y).deleted ≡ false) (at t.users.backward) x None (λ e. absurd cc) y
       (λ _ e. l.named y w e) (sym (p.backward.at_each y) ∙ h);
   taken = l.taken;
 }
@@ -84,26 +84,26 @@ part-solvers t solvers x v l a p = record {
   users = l.users;
   solvers = parted-inverse t.solvers.forward t.solvers.backward solvers.forward solvers.backward x v l.solvers a p.forward p.backward;
   named = l.named;
-  taken = λ y w h. updated-all (λ y o. o ≡ Some w → (kept_at t.kept y).deleted ≡ false) (at t.solvers.forward) x None (λ e. absurd cc) y
+  taken = λ y w h. updated-all (λ y o. o ≡ Some w → (data_at t.kept y).deleted ≡ false) (at t.solvers.forward) x None (λ e. absurd cc) y
       (λ _ e. l.taken y w e) (sym (p.forward.at_each y) ∙ h);
 }
 
 -- a variable that just came into use gets a name
 pub give-users : (t : Tables) (users : BiMap) (kept : List VarData) (u x : ℕ) (d : VarData) → AreLinked t → d.deleted ≡ false →
-    (kept_at t.kept x).deleted ≡ true → at t.users.forward u ≡ None → IsJoined t.users users u x → IsKeptAs t.kept x d kept →
+    (data_at t.kept x).deleted ≡ true → at t.users.forward u ≡ None → IsJoined t.users users u x → IsDataAt t.kept x d kept →
     AreLinked (record t { users = users; kept = kept })
 give-users t users kept u x d l e c a j k =
     join-users (record t { kept = kept }) users u x (keep-live t kept x d l e k)
-    (ap (λ z. z.deleted) (k.at_each x ∙ updated-at (kept_at t.kept) x d) ∙ e) a (dead-unnamed t x l c) j
+    (ap (λ z. z.deleted) (k.at_each x ∙ updated-at (data_at t.kept) x d) ∙ e) a (dead-unnamed t x l c) j
 
 -- a name is free again, and other data is kept of its variable, which is live
 pub hide-users : (t : Tables) (users : BiMap) (kept : List VarData) (u x : ℕ) (d : VarData) → AreLinked t → d.deleted ≡ false →
-    at t.users.forward u ≡ Some x → IsParted t.users users u x → IsKeptAs t.kept x d kept → AreLinked (record t { users = users; kept = kept })
+    at t.users.forward u ≡ Some x → IsParted t.users users u x → IsDataAt t.kept x d kept → AreLinked (record t { users = users; kept = kept })
 hide-users t users kept u x d l e a p k = keep-live (record t { users = users }) kept x d (part-users t users u x l a p) e k
 
 -- a solver variable is free again, and the variable that had it
 pub free-solvers : (t : Tables) (solvers : BiMap) (kept : List VarData) (x v : ℕ) → AreLinked t → at t.solvers.forward x ≡ Some v →
-    at t.users.backward x ≡ None → IsParted t.solvers solvers x v → IsKeptAs t.kept x dead kept → AreLinked (record t { solvers = solvers; kept = kept })
+    at t.users.backward x ≡ None → IsParted t.solvers solvers x v → IsDataAt t.kept x dead kept → AreLinked (record t { solvers = solvers; kept = kept })
 free-solvers t solvers kept x v l a b p k = keep-dead (record t { solvers = solvers }) kept x dead (part-solvers t solvers x v l a p) b
     (p.forward.at_each x ∙ updated-at (at t.solvers.forward) x None) k
 
@@ -127,20 +127,20 @@ on-either-two (Ok x) p s q t f h = f p s
 on-either-two (Err e) p s q t f h = h q t
 
 -- lists that keep the same of each variable
-same-kept : (xs ys : List VarData) → length xs ≡ length ys → ((i : ℕ) → kept_at xs i ≡ kept_at ys i) → xs ≡ ys
+same-kept : (xs ys : List VarData) → length xs ≡ length ys → ((i : ℕ) → data_at xs i ≡ data_at ys i) → xs ≡ ys
 same-kept [] [] l h = refl
 same-kept [] (y ∷ ys) l h = absurd omega (arith, l)
 same-kept (x ∷ xs) [] l h = absurd omega (arith, l)
 same-kept (x ∷ xs) (y ∷ ys) l h = ap (λ z. z ∷ xs) (h zero) ∙ ap (λ zs. y ∷ zs) (same-kept xs ys (omega (arith, l)) (λ i. h (suc i)))
 
 -- a variable that was deleted and got its data back
-pub restored : (old mid new : List VarData) (x : ℕ) (d : VarData) → x < length old → d ≡ kept_at old x → IsKeptAs old x dead mid →
-    IsKeptAs mid x d new → new ≡ old
+pub restored : (old mid new : List VarData) (x : ℕ) (d : VarData) → x < length old → d ≡ data_at old x → IsDataAt old x dead mid →
+    IsDataAt mid x d new → new ≡ old
 restored old mid new x d b e k m =
     let p = k.count in
     let q = m.count in
     same-kept new old (omega (arith, b, p, q))
-    (λ i. m.at_each i ∙ updated-all (λ i z. z ≡ kept_at old i) (kept_at mid) x d e i (λ n. k.at_each i ∙ updated-other (kept_at old) x dead i n))
+    (λ i. m.at_each i ∙ updated-all (λ i z. z ≡ data_at old i) (data_at mid) x d e i (λ n. k.at_each i ∙ updated-other (data_at old) x dead i n))
 
 -- a variable that loses its name or its solver variable
 pub unused-none : (o : Option ℕ) (d : VarData) → unused o d ≡ true → o ≡ None

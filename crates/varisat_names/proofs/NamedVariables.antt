@@ -3,7 +3,7 @@ use Rattle.std.proofs.Common.{◌≡◌, ℕ, ◌+◌, ◌-◌, ◌<◌, ◌≤�
 use Rattle.std.proofs.lemmas.Bool.{cases_lt}
 use Rattle.varisat_theory.proofs.Members.{equal_or_not}
 use Rattle.varisat_names.specs.VarMap.{at, IsLeastUnmapped}
-use Rattle.varisat_names.specs.VarData.{kept_at}
+use Rattle.varisat_names.specs.VarData.{data_at}
 use Rattle.varisat_names.specs.Variables.{Tables, IsNamed, InUse, Free, Above, IsShown}
 use Rattle.varisat_names.specs.declared.variables.data.VarData.{VarData}
 use Rattle.varisat_names.specs.declared.variables.data.SamplingMode.TheVariants as sampling
@@ -30,7 +30,7 @@ unmapped-same map u v a b =
     (λ h. ⊎_elim (λ i. absurd (a.1 v i b.0)) (λ i. let z : u ≡ v = omega (arith, h, i) in z) (cases_lt v u))
     (cases_lt u v)
 
-pub shown-more : (us : List ℕ) (old mid new : Tables) (x u : ℕ) → AreShownInTurn us old mid → (kept_at mid.kept x).deleted ≡ false →
+pub shown-more : (us : List ℕ) (old mid new : Tables) (x u : ℕ) → AreShownInTurn us old mid → (data_at mid.kept x).deleted ≡ false →
     at mid.users.backward x ≡ None → IsShown mid new x sampling.Witness u → AreShownInTurn (us ++ u ∷ []) old new
 shown-more [] old mid new x u e live unnamed n =
     subst (λ t. AreShownInTurn (u ∷ []) t new) e (new, x, live, unnamed, n, refl)
@@ -49,7 +49,7 @@ shown-refused (Err e) us old mid new a (vs, b) = (us ++ vs, shown-then us vs old
 -- The hidden variables below n came back under these names, and no other.
 pub record ShowsBelow (n : ℕ) (us : List ℕ) (old new : Tables) : Type 0 where
   pub in_turn : AreShownInTurn us old new
-  pub rest : (x : ℕ) → x < n → at new.users.backward x ≡ None → (kept_at new.kept x).deleted ≡ true
+  pub rest : (x : ℕ) → x < n → at new.users.backward x ≡ None → (data_at new.kept x).deleted ≡ true
   pub count : length new.kept ≡ length old.kept
   pub near : length new.users.forward ≤ length old.users.forward + n
 
@@ -61,13 +61,13 @@ one-more-below x us vs old mid new s (Passed r same e) =
     let near = s.near in
     subst (λ t. ShowsBelow (x + 1) vs old t) (sym same) (subst (λ ws. ShowsBelow (x + 1) ws old mid) (sym e) (record {
       in_turn = s.in_turn;
-      rest = λ y h. ⊎_elim (λ q. subst (λ z. at mid.users.backward z ≡ None → (kept_at mid.kept z).deleted ≡ true) (sym q) r)
+      rest = λ y h. ⊎_elim (λ q. subst (λ z. at mid.users.backward z ≡ None → (data_at mid.kept z).deleted ≡ true) (sym q) r)
           (λ n. s.rest y (omega (arith, h, n))) (equal_or_not y x);
       count = s.count;
       near = omega (arith, near);
     }))
 one-more-below x us vs old mid new s (Shown u live unnamed n e) =
-    let d : VarData = record (kept_at mid.kept x) { sampling_mode = sampling.Witness } in
+    let d : VarData = record (data_at mid.kept x) { sampling_mode = sampling.Witness } in
     let inside = live-inside mid.kept x live in
     let c = n.kept.count in
     let w = n.users.forward.watermark in
@@ -79,7 +79,7 @@ one-more-below x us vs old mid new s (Shown u live unnamed n e) =
       rest = λ y h f. ⊎_elim
           (λ q. let z : None ≡ Some u = sym f ∙ ap (at new.users.backward) q ∙ n.users.backward.at_each x
           ∙ updated-at (at mid.users.backward) x (Some u) in absurd cc)
-          (λ m. ap (λ d. d.deleted) (n.kept.at_each y ∙ updated-other (kept_at mid.kept) x d y m)
+          (λ m. ap (λ d. d.deleted) (n.kept.at_each y ∙ updated-other (data_at mid.kept) x d y m)
           ∙ s.rest y (omega (arith, h, m)) (sym (n.users.backward.at_each y ∙ updated-other (at mid.users.backward) x (Some u) y m) ∙ f))
           (equal_or_not y x);
       count = omega (arith, c, inside, count);

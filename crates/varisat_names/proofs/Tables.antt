@@ -6,7 +6,7 @@ use Rattle.std.proofs.lemmas.Bool.Decides.{nat_tests}
 use Rattle.std.specs.Ordering.{nat_cmp}
 use Rattle.std.specs.BTreeSet.{BTreeSet, contains}
 use Rattle.varisat_names.specs.VarMap.{at, IsPut, IsFull, IsLeastUnmapped}
-use Rattle.varisat_names.specs.VarData.{fresh, dead, kept_at, IsKeptAs, IsLeastDeleted}
+use Rattle.varisat_names.specs.VarData.{fresh, dead, data_at, IsDataAt, IsLeastDeleted}
 use Rattle.varisat_names.specs.Variables.{Tables, AreLinked, IsGiven, AreNextGiven, IsTaken, IsNothingHidden, AreFree}
 use Rattle.varisat_names.specs.declared.variables.data.VarData.{VarData}
 use Rattle.varisat_names.specs.declared.variables.data.SamplingMode.TheVariants as sampling
@@ -15,23 +15,23 @@ use Rattle.varisat_names.proofs.Maps.{updated-all, updated-at, updated-other}
 use Rattle.varisat_names.specs.Maps.{updated}
 
 -- another entry
-pub set-kept : (xs : List VarData) (x i : ℕ) (d : VarData) → i ≡ x → x < length xs → IsKeptAs xs x d (slice_set xs i d)
+pub set-kept : (xs : List VarData) (x i : ℕ) (d : VarData) → i ≡ x → x < length xs → IsDataAt xs x d (slice_set xs i d)
 set-kept xs x i d e h =
     let c = length-set xs i d in
     record {
       count = omega (arith, c, h);
-      at_each = λ j. ap (λ k. kept_at (slice_set xs k d) j) e ∙ updated-all (λ m o. kept_at (slice_set xs x d) m ≡ o) (kept_at xs) x d
+      at_each = λ j. ap (λ k. data_at (slice_set xs k d) j) e ∙ updated-all (λ m o. data_at (slice_set xs x d) m ≡ o) (data_at xs) x d
           (get_or-set_same xs x d dead h) j (λ n. get_or-set_other xs x j d dead n);
     }
 
 -- no variable past the list is live
-pub kept-past : (xs : List VarData) (i : ℕ) → length xs ≤ i → (kept_at xs i).deleted ≡ true
+pub kept-past : (xs : List VarData) (i : ℕ) → length xs ≤ i → (data_at xs i).deleted ≡ true
 kept-past [] i h = refl
 kept-past (x ∷ xs) zero h = absurd omega (arith, h)
 kept-past (x ∷ xs) (suc i) h = kept-past xs i (omega (arith, h))
 
 -- a live variable is in the list
-pub live-inside : (xs : List VarData) (i : ℕ) → (kept_at xs i).deleted ≡ false → i < length xs
+pub live-inside : (xs : List VarData) (i : ℕ) → (data_at xs i).deleted ≡ false → i < length xs
 live-inside xs i h = ⊎_elim (λ l. l) (λ l. let e = kept-past xs i l in absurd cc) (cases_lt i (length xs))
 
 -- a variable with a name is in the list
@@ -92,15 +92,15 @@ full-put old new v f p u h e =
     (λ n b q. f u (omega (arith, n, b, w)) q) h (sym (p.at_each u) ∙ at_u)
 
 -- what is kept of another variable stays live
-live-put : (old new : List VarData) (x : ℕ) (d : VarData) → d.deleted ≡ false → ((y : ℕ) → y < length old → (kept_at old y).deleted ≡ false) →
-    IsKeptAs old x d new → x ≤ length old → (y : ℕ) → y < length new → (kept_at new y).deleted ≡ false
+live-put : (old new : List VarData) (x : ℕ) (d : VarData) → d.deleted ≡ false → ((y : ℕ) → y < length old → (data_at old y).deleted ≡ false) →
+    IsDataAt old x d new → x ≤ length old → (y : ℕ) → y < length new → (data_at new y).deleted ≡ false
 live-put old new x d h f p n y b =
     let w = p.count in
-    ap (λ k. k.deleted) (p.at_each y) ∙ updated-all (λ i k. i < length new → k.deleted ≡ false) (kept_at old) x d (λ _. h) y
+    ap (λ k. k.deleted) (p.at_each y) ∙ updated-all (λ i k. i < length new → k.deleted ≡ false) (data_at old) x d (λ _. h) y
     (λ e c. f y (omega (arith, e, c, w, n))) b
 
 -- the least variable that is not live where all are
-pub least-live : (xs : List VarData) (x : ℕ) → ((y : ℕ) → y < length xs → (kept_at xs y).deleted ≡ false) → IsLeastDeleted xs x → x ≡ length xs
+pub least-live : (xs : List VarData) (x : ℕ) → ((y : ℕ) → y < length xs → (data_at xs y).deleted ≡ false) → IsLeastDeleted xs x → x ≡ length xs
 least-live xs x f l = ⊎_elim (λ p. let e = f x p in let d = l.0 in absurd cc) (λ p. let n = least-near xs x l in omega (arith, p, n)) (cases_lt x (length xs))
 
 -- Where nothing was hidden yet a name that comes into use is the watermark, and leads to the variable of the same number.
@@ -135,7 +135,7 @@ taken-next old new x v p h t =
       record {
         users = subst (λ m. (u : ℕ) → u < length m.forward → at m.forward u ≡ Some u) (sym t.users) p.users;
         count = ap length t.kept ∙ p.count ∙ ap (λ m. length m.forward) (sym t.users);
-        live = subst (λ xs. (y : ℕ) → y < length xs → (kept_at xs y).deleted ≡ false) (sym t.kept) p.live;
+        live = subst (λ xs. (y : ℕ) → y < length xs → (data_at xs y).deleted ≡ false) (sym t.kept) p.live;
         solvers = full-put old.solvers.backward new.solvers.backward x p.solvers
             (subst (λ i. IsPut old.solvers.backward i (Some x) new.solvers.backward) here t.solvers.backward);
       },

@@ -11,7 +11,7 @@ use Rattle.varisat_names.specs.declared.variables.data.VarData.{VarData}
 use Rattle.varisat_names.specs.declared.variables.var_map.VarBiMapMut.{VarBiMapMut}
 use Rattle.varisat_names.specs.VarMap.{at}
 use Rattle.varisat_names.specs.VarBiMap.{turned}
-use Rattle.varisat_names.specs.VarData.{KeptList}
+use Rattle.varisat_names.specs.VarData.{DataList}
 use Rattle.varisat_names.specs.Variables.{NamePairs, VariableParts}
 
 -- the number, or 0
@@ -25,8 +25,8 @@ module _ (A : RattleType) (alloc : Ghosts A.Denot) where
   lends_pairs s r = follows (names_row A alloc) (map_row A alloc) s.ghost_name r.map.ghost_name (λ w. record s.now { pairs = w })
 
   -- what is kept of the global variable x
-  abbrev pub lends_kept : MutBor KeptList → ℕ → MutBor VarData → Fml
-  lends_kept s x r = Lends (globals_row A alloc) data_row s r (λ w. record s.now { kept = slice_set s.now.kept x w })
+  abbrev pub lends_data_at : MutBor DataList → ℕ → MutBor VarData → Fml
+  lends_data_at s x r = Lends (globals_row A alloc) data_row s r (λ w. record s.now { kept = slice_set s.now.kept x w })
 
   -- the map between names and global variables
   abbrev pub lends_users : MutBor VariableParts → VarBiMapMut A.Denot → Fml

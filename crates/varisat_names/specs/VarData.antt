@@ -15,18 +15,18 @@ abbrev pub dead : VarData
 dead = record { sampling_mode = sampling.Hide; unit = None; isolated = true; assumed = false; deleted = true }
 
 -- what is kept of a global variable, also of one that was never made
-abbrev pub kept_at : List VarData → ℕ → VarData
-kept_at xs x = slice_index_or xs x dead
+abbrev pub data_at : List VarData → ℕ → VarData
+data_at xs x = slice_index_or xs x dead
 
 -- What is kept of the global variables, for how many there is room, and the list of those that may be used again.
-pub record KeptList : Type 0 where
+pub record DataList : Type 0 where
   pub kept : List VarData
   pub capacity : ℕ
   pub free : BTreeSet ℕ
 
 -- the set has exactly the global variables that may be used again
 abbrev pub AreDeleted : List VarData → BTreeSet ℕ → Type 0
-AreDeleted kept free = (x : ℕ) → (contains nat_cmp free x ≡ true) ↔ ((x < length kept) × ((kept_at kept x).deleted ≡ true))
+AreDeleted kept free = (x : ℕ) → (contains nat_cmp free x ≡ true) ↔ ((x < length kept) × ((data_at kept x).deleted ≡ true))
 
 -- the list with x in it, where each variable that was added is not live
 abbrev pub reaching : List VarData → ℕ → List VarData
@@ -43,10 +43,10 @@ live_from i [] = []
 live_from i (d ∷ ds) = put_unless d.deleted i (live_from (suc i) ds)
 
 -- the list with d at x, and so one that is longer than x
-pub record IsKeptAs (old : List VarData) (x : ℕ) (d : VarData) (new : List VarData) : Type 0 where
+pub record IsDataAt (old : List VarData) (x : ℕ) (d : VarData) (new : List VarData) : Type 0 where
   pub count : length new ≡ max (length old) (x + 1)
-  pub at_each : (i : ℕ) → kept_at new i ≡ updated (kept_at old) x d i
+  pub at_each : (i : ℕ) → data_at new i ≡ updated (data_at old) x d i
 
 -- the least variable that is not live
 abbrev pub IsLeastDeleted : List VarData → ℕ → Type 0
-IsLeastDeleted kept x = ((kept_at kept x).deleted ≡ true) × ((y : ℕ) → y < x → (kept_at kept y).deleted ≡ false)
+IsLeastDeleted kept x = ((data_at kept x).deleted ≡ true) × ((y : ℕ) → y < x → (data_at kept y).deleted ≡ false)

@@ -5,7 +5,7 @@ use Rattle.std.specs.BTreeSet.{BTreeSet, contains}
 use Rattle.varisat_names.specs.Maps.{IsInverse}
 use Rattle.varisat_names.specs.VarMap.{at, IsLeastUnmapped, IsFull}
 use Rattle.varisat_names.specs.VarBiMap.{BiMap, no_pairs, IsJoined, IsParted}
-use Rattle.varisat_names.specs.VarData.{fresh, dead, kept_at, IsKeptAs, IsLeastDeleted, AreDeleted}
+use Rattle.varisat_names.specs.VarData.{fresh, dead, data_at, IsDataAt, IsLeastDeleted, AreDeleted}
 use Rattle.varisat_names.specs.declared.variables.data.VarData.{VarData}
 use Rattle.varisat_names.specs.declared.variables.data.SamplingMode.{SamplingMode}
 use Rattle.varisat_names.specs.declared.variables.data.SamplingMode.TheVariants as sampling
@@ -24,15 +24,15 @@ no_variables = record { users = no_pairs; solvers = no_pairs; kept = [] }
 pub record AreLinked (t : Tables) : Type 0 where
   pub users : IsInverse (at t.users.forward) (at t.users.backward)
   pub solvers : IsInverse (at t.solvers.forward) (at t.solvers.backward)
-  pub named : (x u : ℕ) → at t.users.backward x ≡ Some u → (kept_at t.kept x).deleted ≡ false
-  pub taken : (x v : ℕ) → at t.solvers.forward x ≡ Some v → (kept_at t.kept x).deleted ≡ false
+  pub named : (x u : ℕ) → at t.users.backward x ≡ Some u → (data_at t.kept x).deleted ≡ false
+  pub taken : (x v : ℕ) → at t.solvers.forward x ≡ Some v → (data_at t.kept x).deleted ≡ false
 
 -- The free name u leads to the least variable that was not live, which is as one that was just made.
 pub record IsGiven (old new : Tables) (u x : ℕ) : Type 0 where
   pub unused : IsLeastDeleted old.kept x
   pub users : IsJoined old.users new.users u x
   pub solvers : new.solvers ≡ old.solvers
-  pub kept : IsKeptAs old.kept x fresh new.kept
+  pub kept : IsDataAt old.kept x fresh new.kept
 
 -- The next k names from the watermark on came into use, in increasing order.
 abbrev pub AreNextGiven : ℕ → Tables → Tables → Type 0
@@ -54,14 +54,14 @@ pub record IsTaken (old new : Tables) (x v : ℕ) : Type 0 where
 
 -- What is kept of x is now d, and nothing else changed.
 pub record IsChangedTo (old new : Tables) (x : ℕ) (d : VarData) : Type 0 where
-  pub kept : IsKeptAs old.kept x d new.kept
+  pub kept : IsDataAt old.kept x d new.kept
   pub rest : new ≡ record old { kept = new.kept }
 
 -- The name u of x is free, and x is hidden.
 pub record IsHidden (old new : Tables) (u x : ℕ) : Type 0 where
   pub users : IsParted old.users new.users u x
   pub solvers : new.solvers ≡ old.solvers
-  pub kept : IsKeptAs old.kept x (record (kept_at old.kept x) { sampling_mode = sampling.Hide }) new.kept
+  pub kept : IsDataAt old.kept x (record (data_at old.kept x) { sampling_mode = sampling.Hide }) new.kept
 
 -- whether a variable may be used again that lost its name or its solver variable: it has not the other one, and is isolated
 abbrev pub unused : Option ℕ → VarData → Bool
@@ -74,7 +74,7 @@ unless_unused other d = if unused other d then dead else d
 
 -- The variable x, which has no name, may be used again where it is unused. Else nothing changed.
 pub record IsDeletedIfUnused (old new : Tables) (x : ℕ) : Type 0 where
-  pub kept : IsKeptAs old.kept x (unless_unused (at old.solvers.forward x) (kept_at old.kept x)) new.kept
+  pub kept : IsDataAt old.kept x (unless_unused (at old.solvers.forward x) (data_at old.kept x)) new.kept
   pub rest : new ≡ record old { kept = new.kept }
 
 -- Nothing was hidden yet: the names below the watermark are in use, each with the global variable of the same number, all of
@@ -82,7 +82,7 @@ pub record IsDeletedIfUnused (old new : Tables) (x : ℕ) : Type 0 where
 pub record IsNothingHidden (t : Tables) : Type 0 where
   pub users : (u : ℕ) → u < length t.users.forward → at t.users.forward u ≡ Some u
   pub count : length t.kept ≡ length t.users.forward
-  pub live : (x : ℕ) → x < length t.kept → (kept_at t.kept x).deleted ≡ false
+  pub live : (x : ℕ) → x < length t.kept → (data_at t.kept x).deleted ≡ false
   pub solvers : IsFull t.solvers.backward
 
 -- The global variable x has its solver variable v no longer, and may be used again where it is unused.
@@ -90,14 +90,14 @@ pub record IsDropped (old new : Tables) (x v : ℕ) : Type 0 where
   pub taken : at old.solvers.backward v ≡ Some x
   pub users : new.users ≡ old.users
   pub solvers : IsParted old.solvers new.solvers x v
-  pub kept : IsKeptAs old.kept x (unless_unused (at old.users.backward x) (kept_at old.kept x)) new.kept
+  pub kept : IsDataAt old.kept x (unless_unused (at old.users.backward x) (data_at old.kept x)) new.kept
 
 -- The global variable x has the least free name u, and may be used as the mode says.
 pub record IsShown (old new : Tables) (x : ℕ) (mode : SamplingMode) (u : ℕ) : Type 0 where
   pub least : IsLeastUnmapped old.users.forward u
   pub users : IsJoined old.users new.users u x
   pub solvers : new.solvers ≡ old.solvers
-  pub kept : IsKeptAs old.kept x (record (kept_at old.kept x) { sampling_mode = mode }) new.kept
+  pub kept : IsDataAt old.kept x (record (data_at old.kept x) { sampling_mode = mode }) new.kept
 
 -- the set has exactly the numbers below the watermark that the map leads nowhere
 abbrev pub AreFree : List (Option ℕ) → BTreeSet ℕ → Type 0

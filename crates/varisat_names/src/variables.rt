@@ -7,7 +7,7 @@ ghost use Rattle.std.specs.Borrow.{sem};
 ghost use Rattle.varisat_names.specs.Maps.{chain};
 ghost use Rattle.varisat_names.specs.VarMap.{at, mapped_from, IsLeastUnmapped};
 ghost use Rattle.varisat_names.specs.VarBiMap.{turned};
-ghost use Rattle.varisat_names.specs.VarData.{kept_at, reaching, live_from, IsLeastDeleted, AreDeleted};
+ghost use Rattle.varisat_names.specs.VarData.{data_at, reaching, live_from, IsLeastDeleted, AreDeleted};
 ghost use Rattle.varisat_names.specs.Variables.{no_variables, AreFree, AreListed};
 
 pub mod data;
@@ -128,7 +128,7 @@ impl<A: Allocator + Copy> Variables<A> {
     /// What is kept of the global variable.
     pub fn var_data_global(&self, global: Var) -> &VarData
         requires { global < length self.now.tables.kept }
-        ensures { result.now ≡ kept_at self.now.tables.kept global }
+        ensures { result.now ≡ data_at self.now.tables.kept global }
     {
         self.globals.data(global)
     }
@@ -243,7 +243,7 @@ impl<A: Allocator + Copy> Variables<A> {
     pub fn var_data_global_mut(&mut self, global: Var) -> &mut VarData
         requires { global < length self.old.tables.kept }
         ensures* lends { sem 𝓛 (lends_data A.row A.Allocator self.entry global result) }
-        ensures value { result.now ≡ kept_at self.old.tables.kept global }
+        ensures value { result.now ≡ data_at self.old.tables.kept global }
     {
         self.globals.data_mut(global)
     }
@@ -252,7 +252,7 @@ impl<A: Allocator + Copy> Variables<A> {
     pub fn var_data_solver_mut(&mut self, solver: Var) -> &mut VarData
         requires { MatchOption (at self.old.tables.solvers.backward solver) ⊥ (λ global. global < length self.old.tables.kept) }
         ensures* lends { sem 𝓛 (lends_data_of_solver A.row A.Allocator self.entry solver result) }
-        ensures value { result.now ≡ kept_at self.old.tables.kept (number_or_zero (at self.old.tables.solvers.backward solver)) }
+        ensures value { result.now ≡ data_at self.old.tables.kept (number_or_zero (at self.old.tables.solvers.backward solver)) }
     {
         let global = self.global_from_solver().get(solver).unwrap();
         self.globals.data_mut(global)

@@ -1,7 +1,7 @@
 -- Names in use, which stay as others come into use.
 use Rattle.std.proofs.Common.{◌≡◌, ℕ, zero, suc, ◌+◌, ◌-◌, true, false, Some, None, length, sym, ap, ◌∙◌, arith}
 use Rattle.varisat_names.specs.VarMap.{at}
-use Rattle.varisat_names.specs.VarData.{fresh, kept_at}
+use Rattle.varisat_names.specs.VarData.{fresh, data_at}
 use Rattle.varisat_names.specs.Variables.{Tables, IsGiven, AreNextGiven, IsNamed, InUse, Free, Above}
 use Rattle.varisat_names.proofs.Maps.{updated-other}
 use Rattle.varisat_names.proofs.VarMap.{at-past}
@@ -10,15 +10,15 @@ use Rattle.varisat_names.proofs.VarMap.{at-past}
 pub record KeepsNames (old new : Tables) : Type 0 where
   pub solvers : new.solvers ≡ old.solvers
   pub named : (u x : ℕ) → at old.users.forward u ≡ Some x → at new.users.forward u ≡ Some x
-  pub back : (x u : ℕ) → at old.users.backward x ≡ Some u → (kept_at old.kept x).deleted ≡ false → at new.users.backward x ≡ Some u
-  pub live : (x : ℕ) → (kept_at old.kept x).deleted ≡ false → kept_at new.kept x ≡ kept_at old.kept x
+  pub back : (x u : ℕ) → at old.users.backward x ≡ Some u → (data_at old.kept x).deleted ≡ false → at new.users.backward x ≡ Some u
+  pub live : (x : ℕ) → (data_at old.kept x).deleted ≡ false → data_at new.kept x ≡ data_at old.kept x
 
 pub keeps-none : (old new : Tables) → new ≡ old → KeepsNames old new
 keeps-none old new e = record {
   solvers = ap (λ t. t.solvers) e;
   named = λ u x h. ap (λ t. at t.users.forward u) e ∙ h;
   back = λ x u h d. ap (λ t. at t.users.backward x) e ∙ h;
-  live = λ x d. ap (λ t. kept_at t.kept x) e;
+  live = λ x d. ap (λ t. data_at t.kept x) e;
 }
 
 pub keeps-then : (old mid new : Tables) → KeepsNames old mid → KeepsNames mid new → KeepsNames old new
@@ -36,11 +36,11 @@ given-keeps old new u x free g = record {
   named = λ v y h. g.users.forward.at_each v ∙ updated-other (at old.users.forward) u (Some x) v
       (λ q. let z : None ≡ Some y = sym free ∙ ap (at old.users.forward) (sym q) ∙ h in cc) ∙ h;
   back = λ y v h d. g.users.backward.at_each y ∙ updated-other (at old.users.backward) x (Some u) y (apart y d) ∙ h;
-  live = λ y d. g.kept.at_each y ∙ updated-other (kept_at old.kept) x fresh y (apart y d);
+  live = λ y d. g.kept.at_each y ∙ updated-other (data_at old.kept) x fresh y (apart y d);
 }
   where
-    apart : (y : ℕ) → (kept_at old.kept y).deleted ≡ false → y ≡ x → ⊥
-    apart y d q = let z : true ≡ false = sym g.unused.0 ∙ ap (λ v. (kept_at old.kept v).deleted) (sym q) ∙ d in cc
+    apart : (y : ℕ) → (data_at old.kept y).deleted ≡ false → y ≡ x → ⊥
+    apart y d q = let z : true ≡ false = sym g.unused.0 ∙ ap (λ v. (data_at old.kept v).deleted) (sym q) ∙ d in cc
 
 pub next-keeps : (k : ℕ) (old new : Tables) → AreNextGiven k old new → KeepsNames old new
 next-keeps zero old new e = keeps-none old new e

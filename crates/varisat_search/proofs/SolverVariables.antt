@@ -16,7 +16,7 @@ use Rattle.varisat_vsids.specs.Activities.{Activities}
 use Rattle.varisat_names.specs.Maps.{chain}
 use Rattle.varisat_names.specs.VarBiMap.{BiMap}
 use Rattle.varisat_names.specs.VarMap.{at}
-use Rattle.varisat_names.specs.VarData.{kept_at}
+use Rattle.varisat_names.specs.VarData.{data_at}
 use Rattle.varisat_names.specs.Variables.{Tables, AreLinked, IsNamed, IsTaken}
 use Rattle.varisat_names.proofs.Maps.{updated-other, chain-some, chain-through}
 use Rattle.varisat_search.specs.declared.context.Context.{Context}
@@ -122,7 +122,7 @@ unit-over {A} old mid new a l e h = go (subst (λ (x : Context A). HasUnitAgain 
 
 -- A solver variable was taken and initialized.
 pub solver-case : {A : Type 0} (x v : ℕ) (m n : Tables) (c mid d : Context A) (unit : Option Bool) → at m.solvers.forward x ≡ None →
-    IsTaken m n x v → (kept_at m.kept x).unit ≡ unit → KeepsSeen c mid →
+    IsTaken m n x v → (data_at m.kept x).unit ≡ unit → KeepsSeen c mid →
     MatchOption unit (KeepsSeen mid d) (λ b. HasUnitAgain (literal_of v b) mid d) →
     HasSolverVariable {A = A} x (record { tables = m; context = c }) (record { tables = n; context = d }) v
 solver-case x v m n c mid d None left t e k r = TookOne left t e

@@ -2,7 +2,7 @@
 use Rattle.std.specs.Prelude.{◌≡◌, ℕ, Bool, if◌then◌else◌, Option, Some, None, List, length, slice_index_or}
 use Rattle.varisat_prop.specs.Parts.{is_true_value}
 use Rattle.varisat_names.specs.VarMap.{at}
-use Rattle.varisat_names.specs.VarData.{kept_at}
+use Rattle.varisat_names.specs.VarData.{data_at}
 use Rattle.varisat_names.specs.Variables.{Tables}
 
 -- the value of the solver variable; without one the unit that is kept, and else false
@@ -12,7 +12,7 @@ value_or_unit values unit (Some v) = slice_index_or values v None
 
 -- the value of the global variable, where the solver variables have these: none where it is not live
 abbrev pub global_value : Tables → List (Option Bool) → ℕ → Option Bool
-global_value t values x = if (kept_at t.kept x).deleted then None else value_or_unit values (kept_at t.kept x).unit (at t.solvers.forward x)
+global_value t values x = if (data_at t.kept x).deleted then None else value_or_unit values (data_at t.kept x).unit (at t.solvers.forward x)
 
 -- The model has the value of each global variable.
 pub record IsGlobalModel (t : Tables) (values model : List (Option Bool)) : Type 0 where

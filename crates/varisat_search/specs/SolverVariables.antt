@@ -5,7 +5,7 @@ use Rattle.varisat_theory.specs.Outcomes.{Loads}
 use Rattle.varisat_theory.specs.Outcomes as outcome
 use Rattle.varisat_literals.specs.Numbers.{polarity_of, variable_limit}
 use Rattle.varisat_names.specs.VarMap.{at}
-use Rattle.varisat_names.specs.VarData.{kept_at}
+use Rattle.varisat_names.specs.VarData.{data_at}
 use Rattle.varisat_names.specs.Variables.{Tables, AreLinked, IsNamed, IsTaken, IsDropped}
 use Rattle.varisat_vsids.specs.Activities.{with_available}
 use Rattle.varisat_search.specs.declared.context.Context.{Context}
@@ -59,9 +59,9 @@ pub record HasUnitAgain {A : Type 0} (l : Literal) (old new : Context A) : Type 
 -- The global variable x has the solver variable v: it had it, it took it and has no unit, or it came back with its unit.
 pub data HasSolverVariable {A : Type 0} (x : ℕ) (old new : Searched A) (v : ℕ) : Type 0 where
   HadOne : at old.tables.solvers.forward x ≡ Some v → new ≡ old → HasSolverVariable x old new v
-  TookOne : at old.tables.solvers.forward x ≡ None → IsTaken old.tables new.tables x v → (kept_at old.tables.kept x).unit ≡ None →
+  TookOne : at old.tables.solvers.forward x ≡ None → IsTaken old.tables new.tables x v → (data_at old.tables.kept x).unit ≡ None →
       KeepsSeen old.context new.context → HasSolverVariable x old new v
-  CameBack : (b : Bool) → at old.tables.solvers.forward x ≡ None → IsTaken old.tables new.tables x v → (kept_at old.tables.kept x).unit ≡ Some b →
+  CameBack : (b : Bool) → at old.tables.solvers.forward x ≡ None → IsTaken old.tables new.tables x v → (data_at old.tables.kept x).unit ≡ Some b →
       HasUnitAgain (literal_of v b) old.context new.context → HasSolverVariable x old new v
 
 -- The name u was named, and its variable has the solver variable v.
@@ -70,7 +70,7 @@ pub record NameHasSolver {A : Type 0} (u : ℕ) (old new : Searched A) (v : ℕ)
   pub global : ℕ
   pub named : IsNamed u old.tables mid
   pub leads : at mid.users.forward u ≡ Some global
-  pub live : (kept_at mid.kept global).deleted ≡ false
+  pub live : (data_at mid.kept global).deleted ≡ false
   pub solver : HasSolverVariable global (record old { tables = mid }) new v
   pub linked : AreLinked new.tables
   pub variables : HasVariables new

@@ -5,7 +5,7 @@ ghost use Rattle.varisat_theory.specs.Searches.{IsLiteralOf};
 ghost use Rattle.varisat_literals.specs.Numbers.{variable_limit};
 ghost use Rattle.varisat_names.specs.Maps.{chain};
 ghost use Rattle.varisat_names.specs.VarMap.{at};
-ghost use Rattle.varisat_names.specs.VarData.{kept_at};
+ghost use Rattle.varisat_names.specs.VarData.{data_at};
 ghost use Rattle.varisat_names.specs.Variables.{Tables, IsNamed};
 ghost use Rattle.varisat_prop.specs.View.{kept};
 ghost use Rattle.varisat_search.specs.Contexts.{view, IsReady, KeepsSchedule};
@@ -57,7 +57,7 @@ pub fn solver_from_global<A: Allocator + Copy>(
     global: Var,
 ) -> Result<Var, AllocError>
     requires variables { HasVariables (searched_with variables.old ctx.old) }
-    requires live { (kept_at variables.old.kept global).deleted ≡ false }
+    requires live { (data_at variables.old.kept global).deleted ≡ false }
     ensures variables { OnOk result (HasVariables (searched_with variables.new ctx.new)) }
     ensures solver { IfOk result (HasSolverVariable global (searched_with variables.old ctx.old) (searched_with variables.new ctx.new)) }
     ensures schedule { KeepsSchedule ctx.old ctx.new }

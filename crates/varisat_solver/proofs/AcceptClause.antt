@@ -20,7 +20,7 @@ use Rattle.varisat_search.specs.Loading.{loaded_outcome}
 use Rattle.varisat_search.specs.Steps.{assignment_of, reopened_state}
 use Rattle.varisat_names.specs.Maps.{chain, updated}
 use Rattle.varisat_names.specs.VarMap.{at}
-use Rattle.varisat_names.specs.VarData.{fresh, kept_at}
+use Rattle.varisat_names.specs.VarData.{fresh, data_at}
 use Rattle.varisat_names.specs.Variables.{Tables, IsGiven, AreNextGiven, IsNamed, InUse, Free, Above, IsTaken}
 use Rattle.varisat_names.proofs.Maps.{updated-at, updated-other, updated-all, chain-some, chain-none, is-some}
 use Rattle.varisat_names.proofs.VarMap.{at-inside}
@@ -77,12 +77,12 @@ given-spaces g s new u x (w, k) free n =
       solver_from_global = solver;
       global_from_solver = λ v. ap (λ m. at m.backward v) n.solvers;
       kept = n.kept.at_each;
-      model = λ a e y. updated-all (λ y b. value_or (kept_at new.kept y).unit f (at new.solvers.forward y) ≡ b) p.model x false
-          (ap (λ d. value_or d.unit f (at new.solvers.forward x)) (n.kept.at_each x ∙ updated-at (kept_at g.tables.kept) x fresh)
+      model = λ a e y. updated-all (λ y b. value_or (data_at new.kept y).unit f (at new.solvers.forward y) ≡ b) p.model x false
+          (ap (λ d. value_or d.unit f (at new.solvers.forward x)) (n.kept.at_each x ∙ updated-at (data_at g.tables.kept) x fresh)
           ∙ ap (value_or None f) (solver x ∙ unsolved))
           y
-          (λ m. ap (λ d. value_or d.unit f (at new.solvers.forward y)) (n.kept.at_each y ∙ updated-other (kept_at g.tables.kept) x fresh y m)
-          ∙ ap (value_or (kept_at g.tables.kept y).unit f) (solver y));
+          (λ m. ap (λ d. value_or d.unit f (at new.solvers.forward y)) (n.kept.at_each y ∙ updated-other (data_at g.tables.kept) x fresh y m)
+          ∙ ap (value_or (data_at g.tables.kept y).unit f) (solver y));
     }) refl (given w p s u x k free n.unused.0 n.unused.1 (given-near g.tables new u x n)) in
     (variables, λ i b. updated-other s.variables made (Some x) i (λ e. absurd (omega (arith, b, e))), fits)
 
@@ -138,7 +138,7 @@ abbrev pub HasNoModel : Summary → Type 0
 HasNoModel g = (a : Assignment) → (spaces g).outcome ≡ outcome.Sat a → ⊥
 
 pub taken-one : (g : Summary) (s : State) (new : Tables) (x v i : ℕ) → (w : Carrying) → Links w (spaces g) s → HasNoModel g →
-    (kept_at g.tables.kept x).unit ≡ None → w.identity x ≡ Some i → i ∈ s.counted → at g.tables.solvers.forward x ≡ None →
+    (data_at g.tables.kept x).unit ≡ None → w.identity x ≡ Some i → i ∈ s.counted → at g.tables.solvers.forward x ≡ None →
     IsTaken g.tables new x v → SpacesFit (spaces (with_tables new g)) s
 taken-one g s new x v i w k none n is spoken free t =
     maps-same (take_solver x v (spaces g)) (spaces (with_tables new g)) s (record {
@@ -148,7 +148,7 @@ taken-one g s new x v i w k none n is spoken free t =
       globals = let c = ap (λ m. length m) t.kept in omega (arith, c);
       solver_from_global = t.solvers.forward.at_each;
       global_from_solver = t.solvers.backward.at_each;
-      kept = λ y. ap (λ m. kept_at m y) t.kept;
+      kept = λ y. ap (λ m. data_at m y) t.kept;
       model = λ a e y. absurd (none a e);
     }) refl (w, taken w (spaces g) s x i v k is spoken free t.least.0 (inl n))
 
@@ -361,13 +361,13 @@ clause-accepted g n d joined new parts after checker t checks (w1, k1) =
     let same-literals : map (carry (chain (at joined.users.forward) (at joined.solvers.forward))) d ≡ map (solver_literal p) d =
     ap₂ (λ (a b : BiMap). map (carry (chain (at a.forward) (at b.forward))) d) j.users j.solvers in
     let q = spaces_of joined checker new parts after in
-    let (x, logged, v, more, logged-as, k6) = loaded w1 p s3 d k5 t.all (kept_at joined.kept)
+    let (x, logged, v, more, logged-as, k6) = loaded w1 p s3 d k5 t.all (data_at joined.kept)
     (record { rest = j.rest; fallen = j.fallen; wide = λ wide l x h e. j.joined (several d wide) l x h e })
     (search_of new) (loaded_outcome after) q.model checker t.lines
     (subst (λ e. IsCheckedIf g.checker (logged_as (global_literal g.tables) (Accepts e ∷ written t.lines)) checker) same-literals checks) refl
     (view-long g.search t.well_before) (view-long new t.well_new) t.in_use
     (subst (λ e. Loads (search_of g.search) (search_of new) e (loaded_outcome after) t.lines) same-literals t.loads) in
-    let p6 = record p { kept = kept_at joined.kept; search = search_of new; model = q.model; checker = checker } in
+    let p6 = record p { kept = data_at joined.kept; search = search_of new; model = q.model; checker = checker } in
     let (y, u, k7) = settled w1 p6 (with_entries logged s3) c new g.search parts.failed_core g.assumed.failed_core w1.identity p1.model g.sat_state after
     n.verdict x k6 v k1.verdict t.verdict k1.core k1.right in (
       y,

@@ -10,7 +10,7 @@ use Rattle.varisat_search.specs.AssumptionParts.{AssumptionParts, newly_assumed,
 use Rattle.varisat_search.specs.Seen.{search_of, outcome_of}
 use Rattle.varisat_names.specs.Maps.{chain}
 use Rattle.varisat_names.specs.VarMap.{at}
-use Rattle.varisat_names.specs.VarData.{kept_at}
+use Rattle.varisat_names.specs.VarData.{data_at}
 use Rattle.varisat_names.specs.declared.variables.data.VarData.{VarData}
 use Rattle.varisat_names.specs.Variables.{Tables}
 use Rattle.varisat_solver.specs.States.{State, join_counted, Verdict, Unknown, Sat, Unsat, UnsatUnderAssumptions}
@@ -30,8 +30,8 @@ use Rattle.varisat_solver.proofs.SolveVerdict.{forgotten, spaces-same}
 -- 1. Marks.
 
 -- the marks of the list before are gone, and those of the new one are there
-marks-fit : (old mid new : Tables) (before list : List Literal) → MarksFit (at old.users.forward) (kept_at old.kept) before →
-    AreMarked before false old mid → AreMarked list true mid new → MarksFit (at old.users.forward) (kept_at new.kept) list
+marks-fit : (old mid new : Tables) (before list : List Literal) → MarksFit (at old.users.forward) (data_at old.kept) before →
+    AreMarked before false old mid → AreMarked list true mid new → MarksFit (at old.users.forward) (data_at new.kept) list
 marks-fit old mid new before list f a b = record {
   marked = λ l x h e. b.marked l x h (ap (λ m. at m.forward (variable_of l)) a.users ∙ e);
   only = λ x h. ⊎_elim
@@ -40,10 +40,10 @@ marks-fit old mid new before list f a b = record {
       (b.others x);
 }
   where
-    fallen : (l : Literal) (x : ℕ) → l ∈ before → at old.users.forward (variable_of l) ≡ Some x → (kept_at mid.kept x).assumed ≡ true → ⊥
+    fallen : (l : Literal) (x : ℕ) → l ∈ before → at old.users.forward (variable_of l) ≡ Some x → (data_at mid.kept x).assumed ≡ true → ⊥
     fallen l x i e h = let z : false ≡ true = sym (a.marked l x i e) ∙ h in cc
 
-    gone : (x : ℕ) → (kept_at mid.kept x).assumed ≡ true → ⊥
+    gone : (x : ℕ) → (data_at mid.kept x).assumed ≡ true → ⊥
     gone x h = ⊎_elim
         (λ q. let (l, i, e) = f.only x (sym q ∙ h) in fallen l x i e h)
         (λ (l, i, e). fallen l x i e h)
@@ -119,12 +119,12 @@ list-assumed g n list cleared marked new parts after t (w1, k1) =
     let b = t.are_marked in
     let users = b.users ∙ a.users in
     let solvers = b.solvers ∙ a.solvers in
-    let marks : IsMarkedFor p5 list (kept_at marked.kept) = record {
-      rest = λ x. b.rest x ∙ ap (λ (d : VarData). record d { assumed = (kept_at marked.kept x).assumed }) (a.rest x);
+    let marks : IsMarkedFor p5 list (data_at marked.kept) = record {
+      rest = λ x. b.rest x ∙ ap (λ (d : VarData). record d { assumed = (data_at marked.kept x).assumed }) (a.rest x);
       fit = marks-fit g.tables cleared marked g.assumed.user list k5.marks a b;
     } in
-    let k6 = assumed w1 p5 (with_verdict (assumed_verdict n.verdict) n1) list k5 t.all (kept_at marked.kept) marks [] (forgotten-cases n.verdict) in
-    let p6 = record p5 { kept = kept_at marked.kept; assumptions = list; core = []; working = map (solver_literal p5) list } in
+    let k6 = assumed w1 p5 (with_verdict (assumed_verdict n.verdict) n1) list k5 t.all (data_at marked.kept) marks [] (forgotten-cases n.verdict) in
+    let p6 = record p5 { kept = data_at marked.kept; assumptions = list; core = []; working = map (solver_literal p5) list } in
     let g6 : Summary = record g { tables = marked; assumed = parts; sat_state = assumed_state g.sat_state } in
     let s6 = with_entries (n.logged ++ Assumes (map (through_names n.naming) list) ∷ []) (with_assumptions (map (through_names n.naming) list) n) in
     let f6 : SpacesFit (spaces g6) s6 = spaces-same p6 (spaces g6) s6 (record {

@@ -10,7 +10,7 @@ use Rattle.varisat_solver.specs.Accepting.{AreBounded}
 use Rattle.varisat_solver.specs.OpenProofs.{OpenProof, ProofFits, opened_state}
 use Rattle.varisat_solver.specs.Spaces.{SpacesFit}
 use Rattle.varisat_solver.specs.States.{State, Ledger, FlagsFit}
-use Rattle.varisat_solver.specs.Summaries.{Summary, IsKept, IsKeptSince, Represents, RepresentsSome, spaces_with}
+use Rattle.varisat_solver.specs.Summaries.{Summary, IsValidSolver, IsValidSince, Represents, RepresentsSome, spaces_with}
 use Rattle.varisat_solver.specs.declared.solver.SolverError.{SolverError}
 use Rattle.varisat_solver.specs.declared.solver.SolverError.TheVariants.{Invalid}
 use Rattle.varisat_solver.proofs.Additions.{logged-error}
@@ -21,9 +21,9 @@ use Rattle.varisat_solver.proofs.SinceSteps.{since-now}
 -- 1. The change came to a value.
 
 pub kept-changed : {A : Type 0} (tables : Tables) (proof : ProofParts) (x y : Context A) (started : Bool) (changed_at : ℕ) → CountsAnew x y changed_at →
-    IsKept tables x → CanLog proof → RepresentsSome (spaces_with tables proof.checker x) started → IsKeptSince tables proof y started changed_at
+    IsValidSolver tables x → CanLog proof → RepresentsSome (spaces_with tables proof.checker x) started → IsValidSince tables proof y started changed_at
 kept-changed {A} tables proof x y started changed_at c k t s =
-    subst (λ (z : Context A). IsKeptSince tables proof z started changed_at) (sym c.same)
+    subst (λ (z : Context A). IsValidSince tables proof z started changed_at) (sym c.same)
     (record { kept = k; logs = t; counts = since-now changed_at x c.steps k.ready c.plan; stands = s })
 
 -- It stands for the state that the change comes to, where steps are counted anew.

@@ -9,7 +9,7 @@ use Rattle.varisat_literals.specs.Numbers.{polarity_of}
 use Rattle.varisat_names.specs.Maps.{updated}
 use Rattle.varisat_names.specs.VarMap.{at}
 use Rattle.varisat_names.specs.VarBiMap.{BiMap}
-use Rattle.varisat_names.specs.VarData.{kept_at}
+use Rattle.varisat_names.specs.VarData.{data_at}
 use Rattle.varisat_names.specs.Variables.{Tables, AreLinked, IsChangedTo, IsDropped, unless_unused}
 use Rattle.varisat_names.specs.declared.variables.data.VarData.{VarData}
 use Rattle.varisat_names.proofs.Maps.{updated-at, updated-other, updated-all}
@@ -47,7 +47,7 @@ leaves-dropped l old new x live n =
       stays = λ u o. n.solvers.backward.at_each u ∙ updated-other (at old.solvers.backward) v None u (λ q. o l (inl refl) (sym q));
       fewer = λ u y e. updated-all (λ u o. o ≡ Some y → at old.solvers.backward u ≡ Some y) (at old.solvers.backward) v None (λ q. absurd cc) u
           (λ _ q. q) (sym (n.solvers.backward.at_each u) ∙ e);
-      others = λ y o. n.kept.at_each y ∙ updated-other (kept_at old.kept) x (unless_unused (at old.users.backward x) (kept_at old.kept x)) y
+      others = λ y o. n.kept.at_each y ∙ updated-other (data_at old.kept) x (unless_unused (at old.users.backward x) (data_at old.kept x)) y
           (λ q. o l (inl refl) (n.taken ∙ ap Some (sym q)));
     }
 
@@ -76,7 +76,7 @@ leaves-one l p q k (x, mid, c, loses) =
       fewer = λ u y e. ap (λ (m : BiMap). at m.backward u) (sym same) ∙ a.fewer u y e;
       others = λ y o.
           a.others y (λ m h e. o m h (ap (λ (b : BiMap). at b.backward (variable_of m)) (sym same) ∙ e))
-          ∙ c.kept.at_each y ∙ updated-other (kept_at old.kept) x (fixed_to (polarity_of l) (kept_at old.kept x)) y
+          ∙ c.kept.at_each y ∙ updated-other (data_at old.kept) x (fixed_to (polarity_of l) (data_at old.kept x)) y
           (λ q. o l (inl refl) (pair ∙ ap Some (sym q)));
     }
 

@@ -15,11 +15,11 @@ use Rattle.varisat_search.specs.AssumptionParts.{AssumptionParts}
 use Rattle.varisat_search.specs.Contexts.{view, IsReady}
 use Rattle.varisat_names.specs.VarMap.{at}
 use Rattle.varisat_names.specs.VarBiMap.{BiMap}
-use Rattle.varisat_names.specs.VarData.{kept_at}
+use Rattle.varisat_names.specs.VarData.{data_at}
 use Rattle.varisat_names.specs.Variables.{Tables, AreLinked}
 use Rattle.varisat_names.specs.declared.variables.data.VarData.{VarData}
 use Rattle.varisat_solver.specs.Accepting.{DecidesInUse, HasUser, IsAssumedSolver}
-use Rattle.varisat_solver.specs.Summaries.{IsKept, spaces_of}
+use Rattle.varisat_solver.specs.Summaries.{IsValidSolver, spaces_of}
 use Rattle.varisat_solver.specs.Dropping.{leads_to_unassumed, AreOverAssumed, FlagsVariables, LeavesTables, unassumed_among, AreDroppedAlone, leads_to_hidden, ListsUnneeded, LosesSolverVar, AreReleased, LeavesNeeded, LetsLeave}
 use Rattle.varisat_solver.proofs.TableMarks.{there-is}
 use Rattle.varisat_theory.specs.Held.{mentions}
@@ -59,7 +59,7 @@ true-or-not false n = refl
 -- The variables of the literals were flagged, and left the tables and the search. `size` is the number of flags.
 pub record HaveLeft {A : Type 0} (m n : Tables) (x y : Context A) (gone : List Bool) (ls : List Literal) (size : ℕ) : Type 0 where
   pub linked : AreLinked m
-  pub kept : IsKept m x
+  pub kept : IsValidSolver m x
   pub flags : FlagsVariables size ls gone
   pub tables : LeavesTables ls m n
   pub without : IsWithout gone (view x) (view y)
@@ -69,7 +69,7 @@ pub record HaveLeft {A : Type 0} (m n : Tables) (x y : Context A) (gone : List B
 
 -- where the search dropped those that a copy of the flags has
 pub have-left : {A : Type 0} (m n : Tables) (x y : Context A) (copy gone : List Bool) (ls : List Literal) (size : ℕ) → copy ≡ gone → AreLinked m →
-    IsKept m x → FlagsVariables size ls gone → LeavesTables ls m n → IsWithout copy (view x) (view y) → y.assumptions ≡ x.assumptions → IsReady y →
+    IsValidSolver m x → FlagsVariables size ls gone → LeavesTables ls m n → IsWithout copy (view x) (view y) → y.assumptions ≡ x.assumptions → IsReady y →
     ((v : ℕ) → IsDecidable (view y) y.vsids v ↔ (IsDecidable (view x) x.vsids v × (leaves copy v ≡ false))) → HaveLeft m n x y gone ls size
 have-left m n x y copy gone ls size e linked kept flags tables without assumptions ready decidable = record {
   linked = linked;
@@ -108,15 +108,15 @@ module _ {A : Type 0} {m n : Tables} {x y : Context A} {gone : List Bool} {ls : 
 
   -- where none of them is of a global variable that has a name and is assumed, the solver is kept
   module _ (apart : (l : Literal) (z u : ℕ) → l ∈ ls → at m.solvers.backward (variable_of l) ≡ Some z → at m.users.backward z ≡ Some u →
-      (kept_at m.kept z).assumed ≡ true → ⊥) where
-    assumed-kept : (z u : ℕ) → at m.users.backward z ≡ Some u → (kept_at m.kept z).assumed ≡ true → kept_at n.kept z ≡ kept_at m.kept z
+      (data_at m.kept z).assumed ≡ true → ⊥) where
+    assumed-kept : (z u : ℕ) → at m.users.backward z ≡ Some u → (data_at m.kept z).assumed ≡ true → data_at n.kept z ≡ data_at m.kept z
     assumed-kept z u g a = h.tables.others z (λ l i e. apart l z u i e g a)
 
-    assumed-there : (v z u : ℕ) → at m.solvers.backward v ≡ Some z → at m.users.backward z ≡ Some u → (kept_at m.kept z).assumed ≡ true →
+    assumed-there : (v z u : ℕ) → at m.solvers.backward v ≡ Some z → at m.users.backward z ≡ Some u → (data_at m.kept z).assumed ≡ true →
         at n.solvers.backward v ≡ Some z
     assumed-there v z u e g a = h.tables.stays v (λ l i o. apart l z u i (ap (at m.solvers.backward) o ∙ e) g a) ∙ e
 
-    pub kept-left : IsKept n y
+    pub kept-left : IsValidSolver n y
     kept-left = record {
       bounded = (
           let b = ap (λ (b : BiMap). length b.forward) h.tables.users in
@@ -164,9 +164,9 @@ module _ {A : Type 0} {m n : Tables} {x y : Context A} {gone : List Bool} {ls : 
 -- The variables on the trail of a settled search that are not assumed, as they leave it.
 
 -- a variable stands there that is not assumed
-pub unassumed-global : (m : Tables) (o : Option ℕ) → leads_to_unassumed m o ≡ true → (x : ℕ) × (o ≡ Some x) × ((kept_at m.kept x).assumed ≡ false)
+pub unassumed-global : (m : Tables) (o : Option ℕ) → leads_to_unassumed m o ≡ true → (x : ℕ) × (o ≡ Some x) × ((data_at m.kept x).assumed ≡ false)
 unassumed-global m None e = absurd cc
-unassumed-global m (Some x) e = (x, refl, go (kept_at m.kept x).assumed e)
+unassumed-global m (Some x) e = (x, refl, go (data_at m.kept x).assumed e)
   where
     go : (b : Bool) → not b ≡ true → b ≡ false
     go true h = let z : false ≡ true = h in absurd cc
@@ -224,7 +224,7 @@ module _ (s : View) (w : WellFormed s) (d : IsRootSimplified s) where
         cc)
 
     pub assumed-stay : (ls : List Literal) →
-        ((l : Literal) → l ∈ ls → (x : ℕ) × (at m.solvers.backward (variable_of l) ≡ Some x) × ((kept_at m.kept x).assumed ≡ true)) → AreStaying gone ls
+        ((l : Literal) → l ∈ ls → (x : ℕ) × (at m.solvers.backward (variable_of l) ≡ Some x) × ((data_at m.kept x).assumed ≡ true)) → AreStaying gone ls
     assumed-stay ls n l i = true-or-not (leaves gone (variable_of l)) (λ e.
         let (k, on, q, u) = leaving-literal (variable_of l) e in
         let (x, a, b) = n l i in
@@ -281,14 +281,14 @@ unassumed-taken m ls l h =
 module _ {A : Type 0} {m n : Tables} {x y : Context A} {gone : List Bool}
     (h : HaveLeft m n x y gone (unassumed_among m x.trail.literals) (length x.assignment.current)) where
   listed-free : (l : Literal) → l ∈ unassumed_among m x.trail.literals → (z : ℕ) → at m.solvers.backward (variable_of l) ≡ Some z →
-      (kept_at m.kept z).assumed ≡ false
+      (data_at m.kept z).assumed ≡ false
   listed-free l i z e =
       let (on, u) = ∈-filter (λ l. leads_to_unassumed m (at m.solvers.backward (variable_of l))) x.trail.literals l i in
       let (w, q, free) = unassumed-global m (at m.solvers.backward (variable_of l)) u in
       let r : Some w ≡ Some z = sym q ∙ e in
-      subst (λ z. (kept_at m.kept z).assumed ≡ false) (let o : w ≡ z = cc in o) free
+      subst (λ z. (data_at m.kept z).assumed ≡ false) (let o : w ≡ z = cc in o) free
 
-  pub kept-dropped : IsKept n y
+  pub kept-dropped : IsValidSolver n y
   kept-dropped = kept-left h (λ l z u i e g a. let r : true ≡ false = sym a ∙ listed-free l i z e in cc)
 
   -- no variable that is not assumed has a literal on the trail any more
@@ -345,7 +345,7 @@ needed-shown m s over shown = record {
 }
 
 -- and none does.
-pub none-leaves : {A : Type 0} (p : TracerState) (x : Context A) → IsKept p.tables x → LetsLeave p x p x
+pub none-leaves : {A : Type 0} (p : TracerState) (x : Context A) → IsValidSolver p.tables x → LetsLeave p x p x
 none-leaves p x k = record {
   kept = k;
   within = λ c q b. b;
@@ -420,7 +420,7 @@ module _ (m : Tables) (mentioned : List Bool) (ls : List Literal) (u : ListsUnne
 
     -- where those that leave are not assumed, none of them is true at level 0
     without-unneeded : (t : View) → AreOverAssumed m s.trail →
-        ((v z : ℕ) → v ∈ map variable_of ls → at m.solvers.backward v ≡ Some z → (kept_at m.kept z).assumed ≡ false) →
+        ((v z : ℕ) → v ∈ map variable_of ls → at m.solvers.backward v ≡ Some z → (data_at m.kept z).assumed ≡ false) →
         search_of t ≡ search_without gone (search_of s) → AreWithout (λ v. None) (map variable_of ls) (search_of s) (search_of t)
     without-unneeded t over free e = subst (λ (y : Search). AreWithout (λ v. None) (map variable_of ls) (search_of s) y) (sym e) (record {
       kept = refl;
@@ -443,7 +443,7 @@ module _ (m : Tables) (mentioned : List Bool) (ls : List Literal) (u : ListsUnne
 -- What a solver keeps, and stands for, once they left.
 module _ {A : Type 0} {m n : Tables} {x y : Context A} {mentioned gone : List Bool} {ls : List Literal} (over : AreOverAssumed m x.trail.literals)
     (p : FlagsMentioned (view x) mentioned) (u : ListsUnneeded m mentioned ls) (h : HaveLeft m n x y gone ls (length mentioned)) where
-  pub kept-released : IsKept n y
+  pub kept-released : IsValidSolver n y
   kept-released = kept-left h (λ l z v i e g a. not-named m mentioned ls u l z v i e g)
 
   -- a variable in use has a name, or a kept clause names it
@@ -479,7 +479,7 @@ module _ {A : Type 0} {p q : TracerState} {x y : Context A} {mentioned gone : Li
   stands-released a seen s (c, links) =
       let m = p.tables in
       let free : (v z : ℕ) → v ∈ map variable_of ls → at m.solvers.backward v ≡ Some z →
-      (kept_at m.kept z).assumed ≡ false = (λ v z i e. true-or-not (kept_at m.kept z).assumed (λ t.
+      (data_at m.kept z).assumed ≡ false = (λ v z i e. true-or-not (data_at m.kept z).assumed (λ t.
       let (l, g, r) = links.marks.only z t in
       let (j, k, o) = map-∈ variable_of v ls i in
       not-named m mentioned ls u j z (variable_of l) k (ap (at m.solvers.backward) (sym o) ∙ e) (h.linked.users.there (variable_of l) z r))) in

@@ -9,7 +9,7 @@ use Rattle.varisat_theory.proofs.Held.{same_satisfied}
 use Rattle.varisat_literals.specs.Numbers.{polarity_of}
 use Rattle.varisat_search.proofs.StepOutcome.{variable-literal, polarity-literal}
 use Rattle.varisat_names.specs.Maps.{updated, chain}
-use Rattle.varisat_names.specs.VarData.{dead, kept_at, IsKeptAs}
+use Rattle.varisat_names.specs.VarData.{dead, data_at, IsDataAt}
 use Rattle.varisat_names.specs.declared.variables.data.VarData.{VarData}
 use Rattle.varisat_names.proofs.Maps.{updated-at, updated-other, updated-all, chain-some, is-some}
 use Rattle.varisat_solver.specs.States.{State}
@@ -145,7 +145,7 @@ apart-recycled w p s v x t k unknown pair unassumed unnamed alone f checker logg
 
 -- The solver variable was dropped. Before that its global variable was kept with its value and as isolated, where the value is fixed.
 abbrev pub IsLeft : Option Bool → TracerState → TracerState → ℕ → Type 0
-IsLeft (Some b) p q v = (x : ℕ) × (mid : Tables) × IsChangedTo p.tables mid x (fixed_to b (kept_at p.tables.kept x))
+IsLeft (Some b) p q v = (x : ℕ) × (mid : Tables) × IsChangedTo p.tables mid x (fixed_to b (data_at p.tables.kept x))
     × LosesSolverVar x v (record p { tables = mid }) q
 IsLeft None p q v = (x : ℕ) × LosesSolverVar x v p q
 
@@ -174,7 +174,7 @@ record LosesSolver (old new : Tables) (x v : ℕ) (d : VarData) : Type 0 where
   taken : at old.solvers.backward v ≡ Some x
   users : new.users ≡ old.users
   solvers : IsParted old.solvers new.solvers x v
-  kept : IsKeptAs old.kept x d new.kept
+  kept : IsDataAt old.kept x d new.kept
 
 -- what is kept of a variable that leaves, by its value
 abbrev with_known : Option Bool → VarData → VarData
@@ -182,36 +182,36 @@ with_known None d = d
 with_known (Some b) d = fixed_to b d
 
 -- what is kept of a variable is changed twice
-pub kept-twice : (old mid new : List VarData) (x : ℕ) (d e : VarData) → IsKeptAs old x d mid → IsKeptAs mid x e new → IsKeptAs old x e new
+pub kept-twice : (old mid new : List VarData) (x : ℕ) (d e : VarData) → IsDataAt old x d mid → IsDataAt mid x e new → IsDataAt old x e new
 kept-twice old mid new x d e a b =
     let first = a.count in
     let second = b.count in
     record {
       count = omega (arith, first, second);
-      at_each = λ y. b.at_each y ∙ updated-all (λ y o. o ≡ updated (kept_at old) x e y) (kept_at mid) x e (sym (updated-at (kept_at old) x e)) y
-          (λ n. a.at_each y ∙ updated-other (kept_at old) x d y n ∙ sym (updated-other (kept_at old) x e y n));
+      at_each = λ y. b.at_each y ∙ updated-all (λ y o. o ≡ updated (data_at old) x e y) (data_at mid) x e (sym (updated-at (data_at old) x e)) y
+          (λ n. a.at_each y ∙ updated-other (data_at old) x d y n ∙ sym (updated-other (data_at old) x e y n));
     }
 
 -- what dropping a solver variable does to the tables, whether its value is fixed or not
 loses : (known : Option Bool) (p q : TracerState) (v : ℕ) → IsLeft known p q v → (x : ℕ)
-    × LosesSolver p.tables q.tables x v (unless_unused (at p.tables.users.backward x) (with_known known (kept_at p.tables.kept x)))
+    × LosesSolver p.tables q.tables x v (unless_unused (at p.tables.users.backward x) (with_known known (data_at p.tables.kept x)))
     × IsLogged p.proof (leaves_if_deleted q.tables x) q.proof
 loses None p q v (x, l) = let n = l.dropped in (x, record { taken = n.taken; users = n.users; solvers = n.solvers; kept = n.kept }, l.logged)
 loses (Some b) p q v (x, mid, c, l) =
     let old = p.tables in
     let new = q.tables in
     let n = l.dropped in
-    let d = fixed_to b (kept_at old.kept x) in
+    let d = fixed_to b (data_at old.kept x) in
     let users = ap (λ (t : Tables). t.users) c.rest in
     let solvers = ap (λ (t : Tables). t.solvers) c.rest in
-    let after = ap₂ unless_unused (ap (λ (m : BiMap). at m.backward x) users) (c.kept.at_each x ∙ updated-at (kept_at old.kept) x d) in (
+    let after = ap₂ unless_unused (ap (λ (m : BiMap). at m.backward x) users) (c.kept.at_each x ∙ updated-at (data_at old.kept) x d) in (
       x,
       record {
         taken = ap (λ (m : BiMap). at m.backward v) (sym solvers) ∙ n.taken;
         users = n.users ∙ users;
         solvers = subst (λ m. IsParted m new.solvers x v) solvers n.solvers;
         kept = kept-twice old.kept mid.kept new.kept x d (unless_unused (at old.users.backward x) d) c.kept
-            (subst (λ d. IsKeptAs mid.kept x d new.kept) after n.kept);
+            (subst (λ d. IsDataAt mid.kept x d new.kept) after n.kept);
       },
       l.logged,
     )
@@ -223,7 +223,7 @@ module _ (old new : Tables) (p q : ProofParts) (search : View) (assumed : Assump
       SpacesFit (record (leave_search v x t e (between old p.checker search assumed u)) { model = m; checker = checker }) (with_entries logged s) →
       SpacesFit (between new checker search assumed t) (with_entries logged s)
   moved logged e m checker n f =
-      let live : (kept_at old.kept x).deleted ≡ false = (let (i, is, c) = k.solvers.live v x n.taken in k.identities.live x i is) in
+      let live : (data_at old.kept x).deleted ≡ false = (let (i, is, c) = k.solvers.live v x n.taken in k.identities.live x i is) in
       maps-same (record (leave_search v x t e (between old p.checker search assumed u)) { model = m; checker = checker })
       (between new checker search assumed t) (with_entries logged s) (record {
         global_from_user = λ y. ap (λ (b : BiMap). at b.forward y) n.users;
@@ -239,11 +239,11 @@ module _ (old new : Tables) (p q : ProofParts) (search : View) (assumed : Assump
   -- where it is live still, the proof is told nothing
   none-logged : LosesSolver old new x v d → d.deleted ≡ false → leaves_if_deleted new x ≡ []
   none-logged n live = ap (λ (b : Bool). if b then Leaves x ∷ [] else [])
-      (ap (λ (e : VarData). e.deleted) (n.kept.at_each x ∙ updated-at (kept_at old.kept) x d) ∙ live)
+      (ap (λ (e : VarData). e.deleted) (n.kept.at_each x ∙ updated-at (data_at old.kept) x d) ∙ live)
 
   -- where it is not, the proof is told so
   one-logged : LosesSolver old new x v dead → leaves_if_deleted new x ≡ Leaves x ∷ []
-  one-logged n = ap (λ (b : Bool). if b then Leaves x ∷ [] else []) (ap (λ (e : VarData). e.deleted) (n.kept.at_each x ∙ updated-at (kept_at old.kept) x dead))
+  one-logged n = ap (λ (b : Bool). if b then Leaves x ∷ [] else []) (ap (λ (e : VarData). e.deleted) (n.kept.at_each x ∙ updated-at (data_at old.kept) x dead))
 
   -- Where it has no name and is isolated it is gone, and else it stays.
   gone : LosesSolver old new x v (unless_unused (at old.users.backward x) d) → IsLogged p (leaves_if_deleted new x) q → d.deleted ≡ false →
@@ -278,20 +278,20 @@ module _ (old new : Tables) (p q : ProofParts) (search : View) (assumed : Assump
       go None false e i = stay (subst (λ c. LosesSolver old new x v (if c then dead else d)) i (subst (λ o. LosesSolver old new x v (unless_unused o d)) e n))
 
 one-left : (known : Option Bool) (v : ℕ) (a b : TracerState) (search : View) (assumed : AssumptionParts) (s : State) (u t : Search) →
-    IsLeft known a b v → IsWithout v known u t → ((x : ℕ) → at a.tables.solvers.backward v ≡ Some x → (kept_at a.tables.kept x).assumed ≡ false) →
+    IsLeft known a b v → IsWithout v known u t → ((x : ℕ) → at a.tables.solvers.backward v ≡ Some x → (data_at a.tables.kept x).assumed ≡ false) →
     SpacesFit (between a.tables a.proof.checker search assumed u) s →
     (logged : List Entry) × LogsRetired s.variables s.logged logged a.proof b.proof × SpacesFit (between b.tables b.proof.checker search assumed t) (with_entries logged s)
 one-left (Some b) v p q search assumed s u t a f free (w, k) =
     let (x, n, h) = loses (Some b) p q v a in
     let old = between p.tables p.proof.checker search assumed u in
     let (i, is, c) = k.solvers.live v x n.taken in
-    gone p.tables q.tables p.proof q.proof search assumed s u t x v (fixed_to b (kept_at p.tables.kept x)) w k n h (k.identities.live x i is)
+    gone p.tables q.tables p.proof q.proof search assumed s u t x v (fixed_to b (data_at p.tables.kept x)) w k n h (k.identities.live x i is)
     (fixed-stays w old s v x b t k refl n.taken (free x n.taken) f) (λ e i. fixed-left w old s v x b t k refl n.taken (free x n.taken) f e)
 one-left None v p q search assumed s u t a f free (w, k) =
     let (x, n, h) = loses None p q v a in
     let old = between p.tables p.proof.checker search assumed u in
     let (i, is, c) = k.solvers.live v x n.taken in
-    gone p.tables q.tables p.proof q.proof search assumed s u t x v (kept_at p.tables.kept x) w k n h (k.identities.live x i is)
+    gone p.tables q.tables p.proof q.proof search assumed s u t x v (data_at p.tables.kept x) w k n h (k.identities.live x i is)
     (apart-left w old s v x t k refl n.taken (free x n.taken) f) (λ e i. apart-recycled w old s v x t k refl n.taken (free x n.taken) e i f)
 
 -- 2. Several in turn.
@@ -353,22 +353,22 @@ taken-before known (u ∷ vs) p q (mid, a, rest) v (inl e) = let (x, n, logged) 
 taken-before known (u ∷ vs) p q (mid, a, rest) v (inr h) =
     let (y, n, logged) = loses (known u) p mid u a in
     let (x, e) = taken-before known vs mid q rest v h in
-    (x, (pair-before p.tables mid.tables u v x y (unless_unused (at p.tables.users.backward y) (with_known (known u) (kept_at p.tables.kept y))) n e).0)
+    (x, (pair-before p.tables mid.tables u v x y (unless_unused (at p.tables.users.backward y) (with_known (known u) (data_at p.tables.kept y))) n e).0)
 
 -- a variable that is not assumed stays so
 still-free : (known : Option Bool) (old new : Tables) (v x : ℕ) →
-    LosesSolver old new x v (unless_unused (at old.users.backward x) (with_known known (kept_at old.kept x))) → (y : ℕ) →
-    (kept_at old.kept y).assumed ≡ false → (kept_at new.kept y).assumed ≡ false
+    LosesSolver old new x v (unless_unused (at old.users.backward x) (with_known known (data_at old.kept x))) → (y : ℕ) →
+    (data_at old.kept y).assumed ≡ false → (data_at new.kept y).assumed ≡ false
 still-free known old new v x n y e =
-    let d = with_known known (kept_at old.kept x) in
-    ap (λ (a : VarData). a.assumed) (n.kept.at_each y) ∙ updated-all (λ y (a : VarData). (kept_at old.kept y).assumed ≡ false → a.assumed ≡ false)
-    (kept_at old.kept) x (unless_unused (at old.users.backward x) d) (λ q. by-name (unused (at old.users.backward x) d) (by-value known q)) y (λ _ q. q) e
+    let d = with_known known (data_at old.kept x) in
+    ap (λ (a : VarData). a.assumed) (n.kept.at_each y) ∙ updated-all (λ y (a : VarData). (data_at old.kept y).assumed ≡ false → a.assumed ≡ false)
+    (data_at old.kept) x (unless_unused (at old.users.backward x) d) (λ q. by-name (unused (at old.users.backward x) d) (by-value known q)) y (λ _ q. q) e
   where
-    by-value : (o : Option Bool) → (kept_at old.kept x).assumed ≡ false → (with_known o (kept_at old.kept x)).assumed ≡ false
+    by-value : (o : Option Bool) → (data_at old.kept x).assumed ≡ false → (with_known o (data_at old.kept x)).assumed ≡ false
     by-value None q = q
     by-value (Some b) q = q
 
-    by-name : (b : Bool) → (with_known known (kept_at old.kept x)).assumed ≡ false → (if b then dead else with_known known (kept_at old.kept x)).assumed ≡ false
+    by-name : (b : Bool) → (with_known known (data_at old.kept x)).assumed ≡ false → (if b then dead else with_known known (data_at old.kept x)).assumed ≡ false
     by-name true q = refl
     by-name false q = q
 
@@ -400,7 +400,7 @@ same-holds P r s t f h = record {
 
 all-left : (known : ℕ → Option Bool) (vs : List ℕ) (p q : TracerState) (search : View) (assumed : AssumptionParts) (s : State) (u t : Search) →
     AreLeft known vs p q → AreWithout known vs u t →
-    ((v x : ℕ) → v ∈ vs → at p.tables.solvers.backward v ≡ Some x → (kept_at p.tables.kept x).assumed ≡ false) →
+    ((v x : ℕ) → v ∈ vs → at p.tables.solvers.backward v ≡ Some x → (data_at p.tables.kept x).assumed ≡ false) →
     SpacesFit (between p.tables p.proof.checker search assumed u) s →
     (logged : List Entry) × LogsRetired s.variables s.logged logged p.proof q.proof × SpacesFit (between q.tables q.proof.checker search assumed t) (with_entries logged s)
 all-left known [] p q search assumed s u t e f free (w, k) =
@@ -436,7 +436,7 @@ all-left known [] p q search assumed s u t e f free (w, k) =
 all-left known (v ∷ vs) p q search assumed s u t (mid, a, rest) f free fit =
     let old = p.tables in
     let (g, n, h) = loses (known v) p mid v a in
-    let d = unless_unused (at old.users.backward g) (with_known (known v) (kept_at old.kept g)) in
+    let d = unless_unused (at old.users.backward g) (with_known (known v) (data_at old.kept g)) in
     let once = λ (i : v ∈ vs). let (x, e) = taken-before known vs mid q rest v i in (pair-before old mid.tables v v x g d n e).1 refl in
     let (first, more, mid-fits) = one-left (known v) v p mid search assumed s u (forget_variable v u) a (without-first known v vs u t f)
     (λ x e. free v x (inl refl) e) fit in
@@ -448,7 +448,7 @@ all-left known (v ∷ vs) p q search assumed s u t (mid, a, rest) f free fit =
 -- Variables that are not assumed left the search, and their solver variables the tables: what is held stands for the same state as before.
 pub variables-left : (known : ℕ → Option Bool) (vs : List ℕ) (p q : TracerState) (search after : View) (assumed : AssumptionParts) (s : State) →
     AreLeft known vs p q → AreWithout known vs (search_of search) (search_of after) → length after.values ≡ length search.values →
-    ((v x : ℕ) → v ∈ vs → at p.tables.solvers.backward v ≡ Some x → (kept_at p.tables.kept x).assumed ≡ false) →
+    ((v x : ℕ) → v ∈ vs → at p.tables.solvers.backward v ≡ Some x → (data_at p.tables.kept x).assumed ≡ false) →
     SpacesFit (spaces_of p.tables p.proof.checker search assumed verdict.Unknown) s →
     (logged : List Entry) × LogsRetired s.variables s.logged logged p.proof q.proof
     × SpacesFit (spaces_of q.tables q.proof.checker after assumed verdict.Unknown) (with_entries logged s)

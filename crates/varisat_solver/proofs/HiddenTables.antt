@@ -17,7 +17,7 @@ use Rattle.varisat_theory.proofs.Renaming.{∈-map, map-∈}
 use Rattle.varisat_search.specs.Steps.{assignment_of}
 use Rattle.varisat_names.specs.VarMap.{at}
 use Rattle.varisat_names.specs.VarBiMap.{BiMap}
-use Rattle.varisat_names.specs.VarData.{dead, kept_at, IsKeptAs}
+use Rattle.varisat_names.specs.VarData.{dead, data_at, IsDataAt}
 use Rattle.varisat_names.specs.Variables.{Tables, IsChangedTo, unused, IsHidden, IsDeletedIfUnused, IsShown}
 use Rattle.varisat_solver.specs.Calls.{with_naming}
 use Rattle.varisat_tracer.specs.Carried.{carry}
@@ -153,16 +153,16 @@ named-live w p s u x k at = let (i, is) = k.names.live u x at in k.identities.li
 -- 2. The tables.
 
 -- the value of a variable in the model, where what is kept of one changes and its unit stays
-model-kept : (g : Summary) (new : Tables) (x : ℕ) (d : VarData) → IsKeptAs g.tables.kept x d new.kept → d.unit ≡ (kept_at g.tables.kept x).unit →
+model-kept : (g : Summary) (new : Tables) (x : ℕ) (d : VarData) → IsDataAt g.tables.kept x d new.kept → d.unit ≡ (data_at g.tables.kept x).unit →
     new.solvers ≡ g.tables.solvers → (y : ℕ) → (spaces (with_tables new g)).model y ≡ (spaces g).model y
 model-kept g new x d n e q y =
     let f = assignment_of g.search in
     ap (λ (o : Option Bool). value_or o f (at new.solvers.forward y))
-    (ap (λ (a : VarData). a.unit) (n.at_each y) ∙ field-same (λ a. a.unit) (kept_at g.tables.kept) x d e y)
-    ∙ ap (λ (m : BiMap). value_or (kept_at g.tables.kept y).unit f (at m.forward y)) q
+    (ap (λ (a : VarData). a.unit) (n.at_each y) ∙ field-same (λ a. a.unit) (data_at g.tables.kept) x d e y)
+    ∙ ap (λ (m : BiMap). value_or (data_at g.tables.kept y).unit f (at m.forward y)) q
 
 pub mode-spaces : (g : Summary) (s : State) (new : Tables) (u x : ℕ) (m : SamplingMode) (n : Mode) → SpacesFit (spaces g) s →
-    at g.tables.users.forward u ≡ Some x → ModeFits m n → IsChangedTo g.tables new x (in_mode m (kept_at g.tables.kept x)) →
+    at g.tables.users.forward u ≡ Some x → ModeFits m n → IsChangedTo g.tables new x (in_mode m (data_at g.tables.kept x)) →
     SpacesFit (spaces (with_tables new g)) (with_mode u n s)
 mode-spaces g s new u x m n (w, k) at-name fit c =
     let users = ap (λ (t : Tables). t.users) c.rest in
@@ -171,14 +171,14 @@ mode-spaces g s new u x m n (w, k) at-name fit c =
       global_from_user = λ v. ap (λ (b : BiMap). at b.forward v) users;
       user_from_global = λ y. ap (λ (b : BiMap). at b.backward y) users;
       watermark = ap (λ (b : BiMap). length b.forward) users;
-      globals = kept-most g.tables.kept new.kept x (in_mode m (kept_at g.tables.kept x)) (named-live w (spaces g) s u x k at-name) c.kept;
+      globals = kept-most g.tables.kept new.kept x (in_mode m (data_at g.tables.kept x)) (named-live w (spaces g) s u x k at-name) c.kept;
       solver_from_global = λ y. ap (λ (b : BiMap). at b.forward y) solvers;
       global_from_solver = λ v. ap (λ (b : BiMap). at b.backward v) solvers;
       kept = c.kept.at_each;
-      model = λ a e y. model-kept g new x (in_mode m (kept_at g.tables.kept x)) c.kept refl solvers y;
+      model = λ a e y. model-kept g new x (in_mode m (data_at g.tables.kept x)) c.kept refl solvers y;
     }) refl (w, mode-set w (spaces g) s u x k at-name m n fit)
 
-pub shown-spaces : (g : Summary) (s : State) (new : Tables) (x u : ℕ) → SpacesFit (spaces g) s → (kept_at g.tables.kept x).deleted ≡ false →
+pub shown-spaces : (g : Summary) (s : State) (new : Tables) (x u : ℕ) → SpacesFit (spaces g) s → (data_at g.tables.kept x).deleted ≡ false →
     at g.tables.users.backward x ≡ None → IsShown g.tables new x sampling.Witness u →
     IsLeastFree s.naming u × ((i : ℕ) × (i < s.naming.made) × IsUnnamed s.naming i
     × SpacesFit (spaces (with_tables new g)) (with_naming (give_name u i s.naming) s))
@@ -194,20 +194,20 @@ shown-spaces g s new x u (w, k) live unnamed n =
           global_from_user = n.users.forward.at_each;
           user_from_global = n.users.backward.at_each;
           watermark = n.users.forward.watermark;
-          globals = kept-most g.tables.kept new.kept x (in_mode sampling.Witness (kept_at g.tables.kept x)) live n.kept;
+          globals = kept-most g.tables.kept new.kept x (in_mode sampling.Witness (data_at g.tables.kept x)) live n.kept;
           solver_from_global = λ y. ap (λ (b : BiMap). at b.forward y) n.solvers;
           global_from_solver = λ v. ap (λ (b : BiMap). at b.backward v) n.solvers;
           kept = n.kept.at_each;
-          model = λ a e y. model-kept g new x (in_mode sampling.Witness (kept_at g.tables.kept x)) n.kept refl n.solvers y;
+          model = λ a e y. model-kept g new x (in_mode sampling.Witness (data_at g.tables.kept x)) n.kept refl n.solvers y;
         }) refl (w, shown w p s u x i k n.least.0 is unnamed),
       ),
     )
 
 -- 3. A name is freed.
 pub hidden-spaces : (g : Summary) (s : State) (new : Tables) (u x : ℕ) → SpacesFit (spaces g) s → at g.tables.users.forward u ≡ Some x →
-    (kept_at g.tables.kept x).assumed ≡ false → IsHidden g.tables new u x → SpacesFit (spaces (with_tables new g)) (hide_name u s)
+    (data_at g.tables.kept x).assumed ≡ false → IsHidden g.tables new u x → SpacesFit (spaces (with_tables new g)) (hide_name u s)
 hidden-spaces g s new u x (w, k) named unassumed n =
-    let d = in_mode sampling.Hide (kept_at g.tables.kept x) in
+    let d = in_mode sampling.Hide (data_at g.tables.kept x) in
     maps-same (hide u x (spaces g)) (spaces (with_tables new g)) (hide_name u s) (record {
       global_from_user = n.users.forward.at_each;
       user_from_global = n.users.backward.at_each;
@@ -248,7 +248,7 @@ undecided search core verdict.Unsat n e = n refl
 undecided search core verdict.UnsatUnderAssumptions n e = let z : outcome.Unknown ≡ outcome.Unsat = e in cc
 
 module _ (g : Summary) (s : State) (new : Tables) (x : ℕ) (w : Carrying) (k : Links w (spaces g) s)
-    (live : (kept_at g.tables.kept x).deleted ≡ false) (unnamed : at g.tables.users.backward x ≡ None) (undecided_before : g.sat_state ≢ verdict.Unsat)
+    (live : (data_at g.tables.kept x).deleted ≡ false) (unnamed : at g.tables.users.backward x ≡ None) (undecided_before : g.sat_state ≢ verdict.Unsat)
     (n : IsDeletedIfUnused g.tables new x) (p q : ProofParts) (same : p.checker ≡ g.checker) (logged : IsLogged p (leaves_if_deleted new x) q) where
   same-users : new.users ≡ g.tables.users
   same-users = ap (λ (t : Tables). t.users) n.rest
@@ -257,26 +257,26 @@ module _ (g : Summary) (s : State) (new : Tables) (x : ℕ) (w : Carrying) (k : 
   same-solvers = ap (λ (t : Tables). t.solvers) n.rest
 
   -- what is kept, by whether the variable is unused
-  kept-as : (b : Bool) → unused (at g.tables.solvers.forward x) (kept_at g.tables.kept x) ≡ b →
-      IsKeptAs g.tables.kept x (if b then dead else kept_at g.tables.kept x) new.kept
-  kept-as b e = subst (λ c. IsKeptAs g.tables.kept x (if c then dead else kept_at g.tables.kept x) new.kept) e n.kept
+  kept-as : (b : Bool) → unused (at g.tables.solvers.forward x) (data_at g.tables.kept x) ≡ b →
+      IsDataAt g.tables.kept x (if b then dead else data_at g.tables.kept x) new.kept
+  kept-as b e = subst (λ c. IsDataAt g.tables.kept x (if c then dead else data_at g.tables.kept x) new.kept) e n.kept
 
-  stays-live : IsKeptAs g.tables.kept x (kept_at g.tables.kept x) new.kept → leaves_if_deleted new x ≡ [] →
+  stays-live : IsDataAt g.tables.kept x (data_at g.tables.kept x) new.kept → leaves_if_deleted new x ≡ [] →
       SpacesFit (spaces (with_checker q.checker (with_tables new g))) s
   stays-live l none = maps-same (record (spaces g) { checker = q.checker }) (spaces (with_checker q.checker (with_tables new g))) s (record {
     global_from_user = λ v. ap (λ (b : BiMap). at b.forward v) same-users;
     user_from_global = λ y. ap (λ (b : BiMap). at b.backward y) same-users;
     watermark = ap (λ (b : BiMap). length b.forward) same-users;
-    globals = kept-most g.tables.kept new.kept x (kept_at g.tables.kept x) live l;
+    globals = kept-most g.tables.kept new.kept x (data_at g.tables.kept x) live l;
     solver_from_global = λ y. ap (λ (b : BiMap). at b.forward y) same-solvers;
     global_from_solver = λ v. ap (λ (b : BiMap). at b.backward v) same-solvers;
-    kept = λ y. l.at_each y ∙ updated-all (λ y a. a ≡ kept_at g.tables.kept y) (kept_at g.tables.kept) x (kept_at g.tables.kept x) refl y (λ m. refl);
-    model = λ a e y. model-kept g new x (kept_at g.tables.kept x) l refl same-solvers y;
+    kept = λ y. l.at_each y ∙ updated-all (λ y a. a ≡ data_at g.tables.kept y) (data_at g.tables.kept) x (data_at g.tables.kept x) refl y (λ m. refl);
+    model = λ a e y. model-kept g new x (data_at g.tables.kept x) l refl same-solvers y;
   }) refl (subst (λ o. SpacesFit (record (spaces g) { checker = o }) s)
       (sym (checked-nothing p.checker q.checker (subst (λ es. IsCheckedIf p.checker es q.checker) none logged.checked) ∙ same)) (w, k))
 
-  goes : IsKeptAs g.tables.kept x dead new.kept → leaves_if_deleted new x ≡ Leaves x ∷ [] → at g.tables.solvers.forward x ≡ None →
-      (kept_at g.tables.kept x).isolated ≡ true → (i : ℕ) → w.identity x ≡ Some i →
+  goes : IsDataAt g.tables.kept x dead new.kept → leaves_if_deleted new x ≡ Leaves x ∷ [] → at g.tables.solvers.forward x ≡ None →
+      (data_at g.tables.kept x).isolated ≡ true → (i : ℕ) → w.identity x ≡ Some i →
       SpacesFit (spaces (with_checker q.checker (with_tables new g))) (with_entries (s.logged ++ Leaves i ∷ []) s)
   goes l one unsolved alone i is =
       let f = assignment_of g.search in
@@ -289,25 +289,25 @@ module _ (g : Summary) (s : State) (new : Tables) (x : ℕ) (w : Carrying) (k : 
         solver_from_global = λ y. ap (λ (b : BiMap). at b.forward y) same-solvers;
         global_from_solver = λ v. ap (λ (b : BiMap). at b.backward v) same-solvers;
         kept = l.at_each;
-        model = λ a e y. updated-all (λ y b. value_or (kept_at new.kept y).unit f (at new.solvers.forward y) ≡ b) (spaces g).model x false
-            (ap (λ (d : VarData). value_or d.unit f (at new.solvers.forward x)) (l.at_each x ∙ updated-at (kept_at g.tables.kept) x dead)
+        model = λ a e y. updated-all (λ y b. value_or (data_at new.kept y).unit f (at new.solvers.forward y) ≡ b) (spaces g).model x false
+            (ap (λ (d : VarData). value_or d.unit f (at new.solvers.forward x)) (l.at_each x ∙ updated-at (data_at g.tables.kept) x dead)
             ∙ ap (value_or None f) (ap (λ (b : BiMap). at b.forward x) same-solvers ∙ unsolved))
             y
             (λ m. ap (λ (d : VarData). value_or d.unit f (at new.solvers.forward y))
-            (l.at_each y ∙ updated-other (kept_at g.tables.kept) x dead y m)
-            ∙ ap (λ (b : BiMap). value_or (kept_at g.tables.kept y).unit f (at b.forward y)) same-solvers);
+            (l.at_each y ∙ updated-other (data_at g.tables.kept) x dead y m)
+            ∙ ap (λ (b : BiMap). value_or (data_at g.tables.kept y).unit f (at b.forward y)) same-solvers);
       }) refl (recycled w (spaces g) s x i k is unnamed unsolved alone (undecided g.search g.assumed.failed_core g.sat_state undecided_before) q.checker
       (subst (λ o. IsCheckedIf o (Leaves x ∷ []) q.checker) same (subst (λ es. IsCheckedIf p.checker es q.checker) one logged.checked)))
 
   -- the proof is told so
-  gone : unused (at g.tables.solvers.forward x) (kept_at g.tables.kept x) ≡ true → leaves_if_deleted new x ≡ Leaves x ∷ []
+  gone : unused (at g.tables.solvers.forward x) (data_at g.tables.kept x) ≡ true → leaves_if_deleted new x ≡ Leaves x ∷ []
   gone e = ap (λ (b : Bool). if b then Leaves x ∷ [] else [])
-      (ap (λ (d : VarData). d.deleted) ((kept-as true e).at_each x ∙ updated-at (kept_at g.tables.kept) x dead))
+      (ap (λ (d : VarData). d.deleted) ((kept-as true e).at_each x ∙ updated-at (data_at g.tables.kept) x dead))
 
-  by-use : (b : Bool) → unused (at g.tables.solvers.forward x) (kept_at g.tables.kept x) ≡ b → (after : List Entry)
+  by-use : (b : Bool) → unused (at g.tables.solvers.forward x) (data_at g.tables.kept x) ≡ b → (after : List Entry)
       × LogsRetired s.variables s.logged after p q × SpacesFit (spaces (with_checker q.checker (with_tables new g))) (with_entries after s)
   by-use true e =
-      let (unsolved, alone) = is-unused (at g.tables.solvers.forward x) (kept_at g.tables.kept x) e in
+      let (unsolved, alone) = is-unused (at g.tables.solvers.forward x) (data_at g.tables.kept x) e in
       let (i, is) = linked w (spaces g) s x k live in (
         s.logged ++ Leaves i ∷ [],
         leaving-one s.variables s.logged i x p q (leaves_if_deleted new x) (k.variables i x (k.identities.one_to_one.there x i is)) (gone e) logged,
@@ -316,15 +316,15 @@ module _ (g : Summary) (s : State) (new : Tables) (x : ℕ) (w : Carrying) (k : 
   by-use false e =
       let kept = kept-as false e in
       let none = ap (λ (b : Bool). if b then Leaves x ∷ [] else [])
-      (ap (λ (d : VarData). d.deleted) (kept.at_each x ∙ updated-at (kept_at g.tables.kept) x (kept_at g.tables.kept x)) ∙ live) in
+      (ap (λ (d : VarData). d.deleted) (kept.at_each x ∙ updated-at (data_at g.tables.kept) x (data_at g.tables.kept x)) ∙ live) in
       (s.logged, leaving-none s.variables s.logged p q (leaves_if_deleted new x) none logged, stays-live kept none)
 
   links-left : (after : List Entry) × LogsRetired s.variables s.logged after p q
       × SpacesFit (spaces (with_checker q.checker (with_tables new g))) (with_entries after s)
-  links-left = by-use (unused (at g.tables.solvers.forward x) (kept_at g.tables.kept x)) refl
+  links-left = by-use (unused (at g.tables.solvers.forward x) (data_at g.tables.kept x)) refl
 
 pub left-spaces : (g : Summary) (s : State) (new : Tables) (x : ℕ) (p q : ProofParts) → SpacesFit (spaces g) s →
-    (kept_at g.tables.kept x).deleted ≡ false → at g.tables.users.backward x ≡ None → g.sat_state ≢ verdict.Unsat →
+    (data_at g.tables.kept x).deleted ≡ false → at g.tables.users.backward x ≡ None → g.sat_state ≢ verdict.Unsat →
     IsDeletedIfUnused g.tables new x → p.checker ≡ g.checker → IsLogged p (leaves_if_deleted new x) q →
     (after : List Entry) × LogsRetired s.variables s.logged after p q × SpacesFit (spaces (with_checker q.checker (with_tables new g))) (with_entries after s)
 left-spaces g s new x p q (w, k) live unnamed undecided_before n same logged = links-left g s new x w k live unnamed undecided_before n p q same logged

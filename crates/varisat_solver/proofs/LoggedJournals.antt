@@ -21,7 +21,7 @@ use Rattle.varisat_theory.proofs.Renaming.{map-∈}
 use Rattle.varisat_theory.proofs.Lines.{derives_derivation}
 use Rattle.varisat_theory.proofs.Journals.{leads_derives, leads_refutes, leads_unique}
 use Rattle.varisat_literals.specs.Numbers.{variable_limit}
-use Rattle.varisat_names.specs.VarData.{dead, kept_at}
+use Rattle.varisat_names.specs.VarData.{dead, data_at}
 use Rattle.varisat_names.specs.declared.variables.data.VarData.{VarData}
 use Rattle.varisat_proof.specs.declared.proof.format.Encoding.TheVariants.{Text}
 use Rattle.varisat_proof.specs.declared.proof.format.LineKind.{LineKind}
@@ -59,7 +59,7 @@ few-made g s st v h =
     ⊎_elim
     (λ (l : n < s.naming.made).
     let live = k.identities.live n n ((k.plain h).all n l) in
-    let gone : (kept_at g.tables.kept n).deleted ≡ true = ap (λ (d : VarData). d.deleted) (get_or_past g.tables.kept n dead (omega arith)) in
+    let gone : (data_at g.tables.kept n).deleted ≡ true = ap (λ (d : VarData). d.deleted) (get_or_past g.tables.kept n dead (omega arith)) in
     absurd (let z : false ≡ true = sym live ∙ gone in cc))
     (λ (l : s.naming.made ≤ n). omega (arith, l, few))
     (cases_lt n s.naming.made)

@@ -17,7 +17,7 @@ use Rattle.varisat_solver.specs.Spaces.{KeepVariables, ModeFits, SpacesFit}
 use Rattle.varisat_solver.specs.States.{State, with_variables}
 use Rattle.varisat_solver.specs.Summaries.{Summary, spaces}
 use Rattle.varisat_solver.specs.Usage.{name_var, with_mode, hide_name, IsAssumed, ChangesMode}
-use Rattle.varisat_solver.specs.VariableChanges.{ChecksChange, StaysKept, SetsNamedMode, ChangesNamed}
+use Rattle.varisat_solver.specs.VariableChanges.{ChecksChange, StaysValid, SetsNamedMode, ChangesNamed}
 use Rattle.varisat_solver.specs.declared.solver.SolverError.{SolverError}
 use Rattle.varisat_solver.specs.declared.solver.SolverError.TheVariants.{OutOfMemory, Invalid}
 use Rattle.varisat_solver.proofs.StepEntries.{leaving-derived}
@@ -31,7 +31,7 @@ use Rattle.varisat_solver.proofs.VariableStates.{mode-state, hide-state, free-st
 
 -- 1. The tables and the proof.
 
-pub changed-stays : (u : ℕ) (m : SamplingMode) (v : SatState) (p q : TracerState) → ChangesNamed u m v p q → StaysKept p.tables q.tables
+pub changed-stays : (u : ℕ) (m : SamplingMode) (v : SatState) (p q : TracerState) → ChangesNamed u m v p q → StaysValid p.tables q.tables
 changed-stays u sampling.Sample v p q h = let (x, set) = h.sets (λ e. cc) in set.stays
 changed-stays u sampling.Witness v p q h = let (x, set) = h.sets (λ e. cc) in set.stays
 changed-stays u sampling.Hide v p q h = hides-stay u v p q (h.hides refl)

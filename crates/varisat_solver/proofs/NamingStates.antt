@@ -2,7 +2,7 @@
 use Rattle.std.proofs.Common.{◌≡◌, ℕ, Some, None, List, ⊎_elim, sym, ap, ◌∙◌, refl, Err, true, ◌⊎◌, inl, inr}
 use Rattle.varisat_theory.specs.Literals.{Literal, variable_of}
 use Rattle.varisat_names.specs.VarMap.{at}
-use Rattle.varisat_names.specs.VarData.{kept_at}
+use Rattle.varisat_names.specs.VarData.{data_at}
 use Rattle.varisat_names.specs.declared.variables.data.SamplingMode.{SamplingMode}
 use Rattle.varisat_names.proofs.Maps.{chain-none, chain-some, is-some}
 use Rattle.varisat_solver.specs.States.{State}
@@ -31,13 +31,13 @@ fits-mode sampling.Hide Witness f = absurd f
 module _ (w : Carrying) (g : Summary) (s : State) (k : Links w (spaces g) s) where
   -- the name of a variable has its mode
   named-mode : (u x : ℕ) → at g.tables.users.forward u ≡ Some x → (i : ℕ) × (s.naming.names u ≡ Some i)
-      × (mode_of (kept_at g.tables.kept x).sampling_mode ≡ s.naming.modes i)
+      × (mode_of (data_at g.tables.kept x).sampling_mode ≡ s.naming.modes i)
   named-mode u x e =
       let (i, is) = k.names.live u x e in (
         i,
         k.names.agree u ∙ chain-some (at g.tables.users.forward) w.identity u x e
             ∙ is,
-        fits-mode (kept_at g.tables.kept x).sampling_mode (s.naming.modes i) (k.modes.mode u x i e is),
+        fits-mode (data_at g.tables.kept x).sampling_mode (s.naming.modes i) (k.modes.mode u x i e is),
       )
 
   -- where it is free, it is free in the state

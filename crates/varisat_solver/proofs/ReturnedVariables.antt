@@ -36,10 +36,10 @@ use Rattle.varisat_search.specs.AssumptionParts.{AssumptionParts, assumed_state}
 use Rattle.varisat_search.specs.Seen.{search_of, outcome_of}
 use Rattle.varisat_search.specs.Steps.{reopened_state}
 use Rattle.varisat_names.specs.VarMap.{at}
-use Rattle.varisat_names.specs.VarData.{kept_at}
+use Rattle.varisat_names.specs.VarData.{data_at}
 use Rattle.varisat_names.specs.Variables.{Tables, IsTaken}
 use Rattle.varisat_solver.specs.Calls.{VerdictAfter, Refuted, Reopened, reopened_verdict, assumed_verdict, with_verdict}
-use Rattle.varisat_solver.specs.Summaries.{Summary, spaces, spaces_of, IsKept}
+use Rattle.varisat_solver.specs.Summaries.{Summary, spaces, spaces_of, IsValidSolver}
 use Rattle.varisat_solver.proofs.AcceptClause.{outcome-alike}
 use Rattle.varisat_solver.proofs.NewNames.{linked}
 use Rattle.varisat_search.proofs.TakenSolvers.{taken-full}
@@ -193,8 +193,8 @@ module _ (w : Carrying) (p : Spaces) (s : State) (x i v : ℕ) (b : Bool) (t : S
 pub record Returns (g : Summary) (new : Tables) (x v : ℕ) (b : Bool) (t : View) (parts : AssumptionParts) : Type 0 where
   pub no_model : g.sat_state ≢ verdict.Sat
   pub is_taken : IsTaken g.tables new x v
-  pub live : (kept_at g.tables.kept x).deleted ≡ false
-  pub unit : (kept_at g.tables.kept x).unit ≡ Some b
+  pub live : (data_at g.tables.kept x).deleted ≡ false
+  pub unit : (data_at g.tables.kept x).unit ≡ Some b
   pub was_left : at g.tables.solvers.forward x ≡ None
   pub count_before : length g.search.values ≡ length g.tables.solvers.backward
   pub count : length t.values ≡ length new.solvers.backward
@@ -254,7 +254,7 @@ module _ (g : Summary) (s : State) (new : Tables) (x v : ℕ) (b : Bool) (t : Vi
       globals = let c = ap (λ m. length m) r.is_taken.kept in omega (arith, c);
       solver_from_global = r.is_taken.solvers.forward.at_each;
       global_from_solver = r.is_taken.solvers.backward.at_each;
-      kept = λ y. ap (λ m. kept_at m y) r.is_taken.kept;
+      kept = λ y. ap (λ m. data_at m y) r.is_taken.kept;
       model = λ a e y. absurd (no-model g.search g.assumed.failed_core g.sat_state r.no_model a e);
     };
     assumptions = ap (λ (a : AssumptionParts). a.user) r.parts_stay;
@@ -287,8 +287,8 @@ module _ (g : Summary) (s : State) (new : Tables) (x v : ℕ) (b : Bool) (t : Vi
 -- 2. What a valid solver keeps.
 
 -- the verdict makes no difference
-pub kept-verdict : {A : Type 0} (m : Tables) (c d : Context A) → d ≡ record c { solver_state = d.solver_state } → IsKept m c → IsKept m d
-kept-verdict m c d e k = subst (IsKept m) (sym e)
+pub kept-verdict : {A : Type 0} (m : Tables) (c d : Context A) → d ≡ record c { solver_state = d.solver_state } → IsValidSolver m c → IsValidSolver m d
+kept-verdict m c d e k = subst (IsValidSolver m) (sym e)
     (record {
       bounded = k.bounded;
       ready =

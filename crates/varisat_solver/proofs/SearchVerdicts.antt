@@ -27,7 +27,7 @@ use Rattle.varisat_search.specs.RootSimplified.{FixesByLearning, LearnsAlone}
 use Rattle.varisat_search.proofs.ReadyAfter.{ready-with}
 use Rattle.varisat_tracer.specs.Carried.{carry}
 use Rattle.varisat_solver.specs.Searches.{MakesNamedStep}
-use Rattle.varisat_solver.specs.Summaries.{IsKept}
+use Rattle.varisat_solver.specs.Summaries.{IsValidSolver}
 use Rattle.varisat_solver.proofs.VariableMoves.{same-in-use}
 use Rattle.varisat_search.specs.declared.state.SatState.TheVariants as verdict
 
@@ -230,7 +230,7 @@ named-counted p q x y plan f = record {
 }
 
 -- the solver keeps what it did
-kept-still : {A : Type 0} (p q : TracerState) (x y : Context A) → IsKept p.tables x → MakesNamedStep p q x y → IsKept p.tables y
+kept-still : {A : Type 0} (p q : TracerState) (x y : Context A) → IsValidSolver p.tables x → MakesNamedStep p q x y → IsValidSolver p.tables y
 kept-still p q x y k f = record {
   bounded = k.bounded;
   ready = f.ready;
@@ -241,12 +241,12 @@ kept-still p q x y k f = record {
   working = λ l h. k.working l (f.assumes.part l (subst (λ ls. l ∈ ls) (ap (λ (z : AssumptionParts). z.working) f.rest) h));
 }
 
-pub kept-named : {A : Type 0} (p q : TracerState) (x y : Context A) → IsKept p.tables x → MakesNamedStep p q x y → IsKept q.tables y
-kept-named p q x y k f = subst (λ (t : Tables). IsKept t y) (sym f.tables) (kept-still p q x y k f)
+pub kept-named : {A : Type 0} (p q : TracerState) (x y : Context A) → IsValidSolver p.tables x → MakesNamedStep p q x y → IsValidSolver q.tables y
+kept-named p q x y k f = subst (λ (t : Tables). IsValidSolver t y) (sym f.tables) (kept-still p q x y k f)
 
 -- so it does where the search went on with the same assumptions
-pub kept-on : {A : Type 0} (t : Tables) (x y : Context A) → IsKept t x → IsReady y → length y.assignment.current ≡ length x.assignment.current →
-    SameDecidable (view x) x.vsids (view y) y.vsids → y.assumptions ≡ x.assumptions → IsKept t y
+pub kept-on : {A : Type 0} (t : Tables) (x y : Context A) → IsValidSolver t x → IsReady y → length y.assignment.current ≡ length x.assignment.current →
+    SameDecidable (view x) x.vsids (view y) y.vsids → y.assumptions ≡ x.assumptions → IsValidSolver t y
 kept-on t x y k ready count decidable same = record {
   bounded = k.bounded;
   ready = ready;
@@ -258,7 +258,7 @@ kept-on t x y k ready count decidable same = record {
 }
 
 -- and where a step is counted
-pub kept-counted : {A : Type 0} (t : Tables) (x : Context A) (plan : Plan) → IsKept t x → IsKept t (record x { schedule = plan })
+pub kept-counted : {A : Type 0} (t : Tables) (x : Context A) (plan : Plan) → IsValidSolver t x → IsValidSolver t (record x { schedule = plan })
 kept-counted t x plan k = record {
   bounded = k.bounded;
   ready = ready-counted x plan k.ready;

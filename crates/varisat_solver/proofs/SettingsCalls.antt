@@ -17,7 +17,7 @@ use Rattle.varisat_solver.specs.States.{State, Ledger}
 use Rattle.varisat_solver.specs.SinceChange.{CountsSince}
 use Rattle.varisat_solver.specs.Spaces.{SpacesFit, Links}
 use Rattle.varisat_solver.specs.Calls.{with_update, with_max_steps, count_anew}
-use Rattle.varisat_solver.specs.Summaries.{Summary, IsKept, Represents, spaces_of, spaces_with, RepresentsSome}
+use Rattle.varisat_solver.specs.Summaries.{Summary, IsValidSolver, Represents, spaces_of, spaces_with, RepresentsSome}
 use Rattle.varisat_proof.specs.Calls.{CheckerState}
 use Rattle.varisat_proof.specs.Proving.{ProofParts, is_there}
 use Rattle.varisat_solver.specs.OpenProofs.{OpenProof, opened_state, BarsAssumptions, IsWrittenWhereOpen}
@@ -200,7 +200,7 @@ stands-with-proof tables p q started changed_at x s proof checker e f unassumed 
 -- what a solver keeps with other settings
 pub kept-updated : {A : Type 0} (tables : Tables) (x y : Context A) (u : SolverConfigUpdate) (b : ActivityScale) (a : Activities) →
     y ≡ record x { clause_activity = b; solver_config = updated_settings x.solver_config u; vsids = a } → IsReady y →
-    SameDecidable (view x) x.vsids (view y) y.vsids → IsKept tables x → IsKept tables y
+    SameDecidable (view x) x.vsids (view y) y.vsids → IsValidSolver tables x → IsValidSolver tables y
 kept-updated {A} tables x y u b a e r g k =
     let same = ap (λ (z : Context A). z.assumptions) e in
     record {

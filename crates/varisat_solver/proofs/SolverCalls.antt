@@ -22,7 +22,7 @@ use Rattle.varisat_search.specs.Seen.{search_of, outcome_of, first_search}
 use Rattle.varisat_search.specs.Steps.{assignment_of}
 use Rattle.varisat_names.specs.Maps.{chain}
 use Rattle.varisat_names.specs.VarMap.{at, IsLeastUnmapped}
-use Rattle.varisat_names.specs.VarData.{kept_at}
+use Rattle.varisat_names.specs.VarData.{data_at}
 use Rattle.varisat_names.specs.Variables.{Tables, no_variables, IsGiven}
 use Rattle.varisat_names.proofs.Maps.{chain-none, chain-some, chain-through, is-some}
 use Rattle.varisat_solver.specs.Budgets.{CountsSteps}
@@ -51,7 +51,7 @@ use Rattle.varisat_proof.specs.Passing.{LogsConflict}
 use Rattle.varisat_solver.specs.Journals.{with_entries, LogsMore}
 use Rattle.varisat_solver.proofs.LoggedEntries.{logs-nothing}
 use Rattle.varisat_solver.specs.Spaces.{Carrying, Translation, HeldFits, translation, without_core, CoreFits, VerdictFits, Links, SpacesFit, FitWithNew, list_globals}
-use Rattle.varisat_solver.specs.Summaries.{Summary, IsKept, Represents, spaces, spaces_of, list_tables}
+use Rattle.varisat_solver.specs.Summaries.{Summary, IsValidSolver, Represents, spaces, spaces_of, list_tables}
 use Rattle.varisat_solver.proofs.SpacesAgree.{map-map, AreInUse}
 use Rattle.varisat_solver.proofs.CallStates.{like-still}
 use Rattle.varisat_solver.proofs.SearchVerdicts.{right-false, right-core}
@@ -64,7 +64,7 @@ use Rattle.varisat_solver.proofs.SearchLinks.{view-long}
 -- 1. A new solver.
 
 pub first-kept : {A : Type 0} (t : Tables) (c : Context A) → t ≡ no_variables → IsReady c → length c.assignment.current ≡ 0 →
-    c.assumptions ≡ no_assumptions → ((v : ℕ) → IsDecidable (view c) c.vsids v → ⊥) → IsKept t c
+    c.assumptions ≡ no_assumptions → ((v : ℕ) → IsDecidable (view c) c.vsids v → ⊥) → IsValidSolver t c
 first-kept t c e r n s d = record {
   bounded = record {
     users = let z = ap (λ (x : Tables). length x.users.forward) e in
@@ -451,12 +451,12 @@ put-append u None m xs ys = refl
 put-append u (Some x) m xs ys = refl
 
 pub tables-push : (t : Tables) (vs : List (Option Bool)) (m : Assignment) →
-    m ≡ (λ x. value_or (kept_at t.kept x).unit (λ v. is_true_value (get_or vs v None)) (at t.solvers.forward x)) → (k u : ℕ) →
+    m ≡ (λ x. value_or (data_at t.kept x).unit (λ v. is_true_value (get_or vs v None)) (at t.solvers.forward x)) → (k u : ℕ) →
     list_tables t vs u (suc k) ≡ list_tables t vs u k ++ put_name (u + k) (at t.users.forward (u + k)) m []
 tables-push t vs m e zero u = ap (λ f. put_name u (at t.users.forward u) f []) (sym e)
     ∙ ap (λ n. put_name n (at t.users.forward n) m []) (let z : u ≡ u + 0 = omega arith in z)
 tables-push t vs m e (suc k) u =
-    let f : Assignment = λ x. value_or (kept_at t.kept x).unit (λ v. is_true_value (get_or vs v None)) (at t.solvers.forward x) in
+    let f : Assignment = λ x. value_or (data_at t.kept x).unit (λ v. is_true_value (get_or vs v None)) (at t.solvers.forward x) in
     let z : suc u + k ≡ u + suc k = omega arith in
     ap (put_name u (at t.users.forward u) f) (tables-push t vs m e k (suc u))
     ∙ put-append u (at t.users.forward u) f (list_tables t vs (suc u) k) (put_name (suc u + k) (at t.users.forward (suc u + k)) m [])

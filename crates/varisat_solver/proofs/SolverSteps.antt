@@ -45,7 +45,7 @@ use Rattle.varisat_solver.proofs.StepEntries.{keeps-all, keeping-nothing, keepin
 use Rattle.varisat_solver.proofs.SolveVerdict.{LinesInSteps}
 use Rattle.varisat_solver.specs.Spaces.{Spaces, translation, VerdictFits, SpacesFit}
 use Rattle.varisat_solver.specs.States.{State, Verdict, Unknown, Unsat, HasRightVerdict, IsRight, FlagsFit}
-use Rattle.varisat_solver.specs.Summaries.{IsKept, spaces_of, spaces_with, undecided_spaces}
+use Rattle.varisat_solver.specs.Summaries.{IsValidSolver, spaces_of, spaces_with, undecided_spaces}
 use Rattle.varisat_solver.proofs.CallStates.{same-by, like-grown, like-still}
 use Rattle.varisat_solver.proofs.AcceptClause.{ledger-free, proof-free, words-free}
 use Rattle.varisat_solver.proofs.ModelsFit.{is-sat, is-unknown}
@@ -183,7 +183,7 @@ some-through p q r (first, h) (second, k) = (first ++ second, logged-more p q r 
 -- 2. Parts of a step.
 
 -- a part of a step by lines
-pub part-comes : {A : Type 0} (at : Turn) (p q : TracerState) (x y : Context A) (lines : List Line) → IsKept p.tables x →
+pub part-comes : {A : Type 0} (at : Turn) (p q : TracerState) (x y : Context A) (lines : List Line) → IsValidSolver p.tables x →
     LinesInSteps at.interval at.number 0 lines (search_of (view y)) → Proves 0 (search_of (view x)) (search_of (view y)) lines → TakesLines TakesGlobally p lines q → IsReady y →
     length y.assignment.current ≡ length x.assignment.current → SameDecidable (view x) x.vsids (view y) y.vsids →
     y.assumptions ≡ x.assumptions → ComesOn at 0 (undecided_spaces p.tables p.proof.checker x)
@@ -223,7 +223,7 @@ module _ {A : Type 0} {are : List Line → Type 0} (x z : Context A) (b : Begins
     pub begin-count : length z.assignment.current ≡ length x.assignment.current
     begin-count = ap (λ (y : Context A). length y.assignment.current) b.rest ∙ begin-view.count
 
-    pub begin-kept : (t : Tables) → IsKept t x → IsKept t z
+    pub begin-kept : (t : Tables) → IsValidSolver t x → IsValidSolver t z
     begin-kept t k = kept-on t x z k b.reduces.ready begin-count begin-decidable begin-same
 
     -- where no learned clause may be deleted there is no line
@@ -262,7 +262,7 @@ pub begin-logs : {A : Type 0} (p q : TracerState) (x z : Context A) → BeginsSt
     CanLog p.proof → CanLog q.proof
 begin-logs p q x z b t = let (lines, k, (r, takes)) = b.reduces.proves in logs-on p q _ takes t
 
-pub begin-comes : {A : Type 0} (p q : TracerState) (x z : Context A) → IsKept p.tables x → z.schedule.steps ≡ x.schedule.steps →
+pub begin-comes : {A : Type 0} (p q : TracerState) (x z : Context A) → IsValidSolver p.tables x → z.schedule.steps ≡ x.schedule.steps →
     BeginsStep (λ lines. TakesLines TakesGlobally p lines q) x z →
     ComesOn (turn_of x) 0 (undecided_spaces p.tables p.proof.checker x) (undecided_spaces q.tables q.proof.checker z) p.proof q.proof
 begin-comes p q x z kept same b =
@@ -271,7 +271,7 @@ begin-comes p q x z kept same b =
     (λ due held after d f. subst (KeepsParts [] held) (subst (λ ls. IsPresentAfter held ls after) (quiet due) d) (keeps-all held)) proves takes b.reduces.ready (begin-count x z b kept.ready) (begin-decidable x z b) (begin-same x z b)
 
 -- a conflict step, whose core is kept over names
-pub named-comes : {A : Type 0} (p q : TracerState) (x y : Context A) → IsKept p.tables x → MakesNamedStep p q x y →
+pub named-comes : {A : Type 0} (p q : TracerState) (x y : Context A) → IsValidSolver p.tables x → MakesNamedStep p q x y →
     IsCalm (view x) → (at : Turn) →
     ComesOn at 1 (undecided_spaces p.tables p.proof.checker x) (spaces_with q.tables q.proof.checker y) p.proof q.proof
 named-comes p q x y kept f calm at s fit =

@@ -22,7 +22,7 @@ use Rattle.varisat_search.proofs.TakenSolvers.{taken-stays, taken-full}
 use Rattle.varisat_names.specs.Maps.{chain}
 use Rattle.varisat_names.specs.VarBiMap.{BiMap}
 use Rattle.varisat_names.specs.VarMap.{at}
-use Rattle.varisat_names.specs.VarData.{kept_at}
+use Rattle.varisat_names.specs.VarData.{data_at}
 use Rattle.varisat_names.specs.declared.variables.data.VarData.{VarData}
 use Rattle.varisat_names.specs.Variables.{Tables, AreLinked}
 use Rattle.varisat_names.proofs.Maps.{updated-other, chain-some, chain-through}
@@ -33,7 +33,7 @@ use Rattle.varisat_solver.specs.Names.{Naming, name_one, name_all, through_names
 use Rattle.varisat_solver.specs.Calls.{IsPastLimit, with_naming}
 use Rattle.varisat_tracer.specs.Carried.{carry}
 use Rattle.varisat_solver.specs.Spaces.{Spaces, SpacesFit, FitWithNew}
-use Rattle.varisat_solver.specs.Summaries.{Summary, spaces, spaces_of, IsKept}
+use Rattle.varisat_solver.specs.Summaries.{Summary, spaces, spaces_of, IsValidSolver}
 use Rattle.varisat_solver.specs.Accepting.{naming_of, CanBeNamed, HasNames}
 use Rattle.varisat_solver.proofs.SpacesAgree.{count}
 use Rattle.varisat_solver.proofs.Counted.{join-has}
@@ -151,7 +151,7 @@ module _ {A : Type 0} (x : ℕ) (old new : Searched A) (v : ℕ) (none : old.con
 -- the solver stands for the state in which the identity is counted
 module _ {A : Type 0} (checker : Option CheckerState) (l : Literal) (x : ℕ) (old new : Searched A) (v : ℕ) (n : State)
     (none : old.context.solver_state.sat_state ≢ verdict.Sat) (leads : at old.tables.users.forward (variable_of l) ≡ Some x)
-    (live : (kept_at old.tables.kept x).deleted ≡ false) (before : length old.context.assignment.current ≡ length old.tables.solvers.backward)
+    (live : (data_at old.tables.kept x).deleted ≡ false) (before : length old.context.assignment.current ≡ length old.tables.solvers.backward)
     (after : HasVariables new) where
   abbrev summary : Searched A → Summary
   summary y = record {
@@ -246,7 +246,7 @@ module _ {A : Type 0} (l : Literal) (old new : Searched A) (v : ℕ) (none : old
             (sym (ap (λ (x : SolverState). x.sat_state) turn-verdict.state)) fits,
       )
 
-  pub turn-kept : AreLinked old.tables → IsKept old.tables old.context → IsKept new.tables new.context
+  pub turn-kept : AreLinked old.tables → IsValidSolver old.tables old.context → IsValidSolver new.tables new.context
   turn-kept linked k =
       let keeps = one-keeps (variable_of l) old.tables h.mid h.named in
       let (users, kept) = case-same h.global (record old { tables = h.mid }) new v h.solver in
@@ -264,24 +264,24 @@ module _ {A : Type 0} (l : Literal) (old new : Searched A) (v : ℕ) (none : old
         marked = λ m z i f.
             let j = subst (λ ls. m ∈ ls) user i in
             let (y, e) = there-is (at old.tables.users.forward (variable_of m)) (k.assumed m j) in
-            ap (λ (ds : List VarData). (kept_at ds z).assumed) kept ∙ marked-keeps old.tables h.mid (variable_of m) z y linked keeps e
+            ap (λ (ds : List VarData). (data_at ds z).assumed) kept ∙ marked-keeps old.tables h.mid (variable_of m) z y linked keeps e
             (k.marked m y j e) (ap (λ (b : BiMap). at b.forward (variable_of m)) (sym users) ∙ f);
         working = λ m i.
             let (y, u, a, b, e) = assumed-keeps old.tables h.mid (variable_of m) linked keeps (k.working m (subst (λ ls. m ∈ ls) working i)) in
-            (y, u, backward (variable_of m) y a, ap (λ (b : BiMap). at b.backward y) users ∙ b, ap (λ (ds : List VarData). (kept_at ds y).assumed) kept ∙ e);
+            (y, u, backward (variable_of m) y a, ap (λ (b : BiMap). at b.backward y) users ∙ b, ap (λ (ds : List VarData). (data_at ds y).assumed) kept ∙ e);
       }
 
 -- 4. All of them.
 
 -- What is true once the names of the list have solver variables.
 pub record HaveSolvers {A : Type 0} (d : List Literal) (old new : Searched A) : Type 0 where
-  pub kept : IsKept new.tables new.context
+  pub kept : IsValidSolver new.tables new.context
   pub verdict : KeepsVerdict old.context new.context
   pub stands : (checker : Option CheckerState) (s : State) → SpacesFit (spaces_at checker old old.context.solver_state.sat_state) s →
       FitWithNew (spaces_at checker new new.context.solver_state.sat_state) s (with_names d s)
 
 pub have-solvers : {A : Type 0} (d : List Literal) (old new : Searched A) → old.context.solver_state.sat_state ≢ verdict.Sat →
-    AreLinked old.tables → IsKept old.tables old.context → HaveSolversInTurn d old new → HaveSolvers d old new
+    AreLinked old.tables → IsValidSolver old.tables old.context → HaveSolversInTurn d old new → HaveSolvers d old new
 have-solvers {A = A} [] old new none linked k e =
     subst (λ (y : Searched A). HaveSolvers [] old y) (sym e)
     (record { kept = k; verdict = record { state = refl; assumptions = refl }; stands = λ checker s f. (s.variables, λ i b. refl, f) })
@@ -321,7 +321,7 @@ have-solvers (l ∷ d) old new none linked k (mid, v, h, rest) =
 
 -- 5. Before and after.
 
-pub has-variables : {A : Type 0} (t : Tables) (c : Context A) (state : SolverState) → IsKept t c →
+pub has-variables : {A : Type 0} (t : Tables) (c : Context A) (state : SolverState) → IsValidSolver t c →
     HasVariables {A = A} (record { tables = t; context = record c { solver_state = state } })
 has-variables t c state k = record {
   room = (k.bounded.users, k.bounded.globals);
@@ -334,14 +334,14 @@ has-variables t c state k = record {
 
 -- names get solver variables once the verdict changed
 pub have-solvers-then : {A : Type 0} (d : List Literal) (t : Tables) (c : Context A) (state : SolverState) (new : Searched A) →
-    state.sat_state ≢ verdict.Sat → AreLinked t → IsKept t c → HaveSolversInTurn d
+    state.sat_state ≢ verdict.Sat → AreLinked t → IsValidSolver t c → HaveSolversInTurn d
     (record { tables = t; context = record c { solver_state = state } }) new →
     HaveSolvers d (record { tables = t; context = record c { solver_state = state } }) new
 have-solvers-then d t c state new none linked k e = have-solvers d
     (record { tables = t; context = record c { solver_state = state } }) new none linked (kept-verdict t c (record c { solver_state = state }) refl k) e
 
 -- Names that have solver variables, carried to literals over these.
-module _ {A : Type 0} {t : Tables} {c : Context A} (list literals : List Literal) (k : IsKept t c)
+module _ {A : Type 0} {t : Tables} {c : Context A} (list literals : List Literal) (k : IsValidSolver t c)
     (over : AreOver (chain (at t.users.forward) (at t.solvers.forward)) list literals) where
   pub all-named : HasNames list t
   all-named = record {

@@ -3,7 +3,7 @@ use Rattle.std.proofs.Common.{◌≡◌, ℕ, true, false, Option, Some, None, s
 use Rattle.std.specs.Option.{IsSome}
 use Rattle.varisat_names.specs.VarMap.{at}
 use Rattle.varisat_names.specs.VarBiMap.{BiMap}
-use Rattle.varisat_names.specs.VarData.{kept_at}
+use Rattle.varisat_names.specs.VarData.{data_at}
 use Rattle.varisat_names.specs.Variables.{Tables, AreLinked, IsChangedTo}
 use Rattle.varisat_names.proofs.Maps.{chain-some, updated-all, updated-other, chain-through}
 use Rattle.varisat_search.proofs.KeptNames.{KeepsNames}
@@ -36,11 +36,11 @@ assumed-keeps old new v l k (x, u, a, b, e) =
 
 -- the variable of a name in use stays marked as assumed
 pub marked-keeps : (old new : Tables) (u x y : ℕ) → AreLinked old → KeepsNames old new → at old.users.forward u ≡ Some y →
-    (kept_at old.kept y).assumed ≡ true → at new.users.forward u ≡ Some x → (kept_at new.kept x).assumed ≡ true
+    (data_at old.kept y).assumed ≡ true → at new.users.forward u ≡ Some x → (data_at new.kept x).assumed ≡ true
 marked-keeps old new u x y l k e m f =
     let q : Some y ≡ Some x = sym (k.named u y e) ∙ f in
     let same : y ≡ x = cc in
-    subst (λ z. (kept_at new.kept z).assumed ≡ true) same (ap (λ d. d.assumed) (k.live y (l.named y u (l.users.there u y e))) ∙ m)
+    subst (λ z. (data_at new.kept z).assumed ≡ true) same (ap (λ d. d.assumed) (k.live y (l.named y u (l.users.there u y e))) ∙ m)
 
 -- the name of one is told
 pub assumed-named : (t : Tables) (v : ℕ) → IsAssumedSolver t v → HasUser t v
@@ -52,8 +52,8 @@ pub record SameButMarks (old new : Tables) : Type 0 where
   pub users : new.users ≡ old.users
   pub solvers : new.solvers ≡ old.solvers
   pub count : length new.kept ≡ length old.kept
-  pub deleted : (x : ℕ) → (kept_at new.kept x).deleted ≡ (kept_at old.kept x).deleted
-  pub units : (x : ℕ) → (kept_at new.kept x).unit ≡ (kept_at old.kept x).unit
+  pub deleted : (x : ℕ) → (data_at new.kept x).deleted ≡ (data_at old.kept x).deleted
+  pub units : (x : ℕ) → (data_at new.kept x).unit ≡ (data_at old.kept x).unit
 
 pub marks-bounded : (old new : Tables) → AreBounded old → SameButMarks old new → AreBounded new
 marks-bounded old new b j =
@@ -79,30 +79,30 @@ one-named ls t l n h = record {
 -- 2. One more mark: that of variable x, which stands for l.
 module _ (old mid new : Tables) (x : ℕ) (d : VarData) (c : IsChangedTo mid new x d) where
   -- what is so of each variable that was there before
-  rest-more : (P : ℕ → VarData → Type 0) → ((y : ℕ) → P y (kept_at mid.kept y)) → P x d → (y : ℕ) → P y (kept_at new.kept y)
-  rest-more P r own y = subst (P y) (sym (c.kept.at_each y)) (updated-all P (kept_at mid.kept) x d own y (λ _. r y))
+  rest-more : (P : ℕ → VarData → Type 0) → ((y : ℕ) → P y (data_at mid.kept y)) → P x d → (y : ℕ) → P y (data_at new.kept y)
+  rest-more P r own y = subst (P y) (sym (c.kept.at_each y)) (updated-all P (data_at mid.kept) x d own y (λ _. r y))
 
   -- what is so of the variables of the literals
   each-more : (ls : List Literal) (l : Literal) (P : VarData → Type 0) →
-      ((k : Literal) (y : ℕ) → k ∈ ls → at old.users.forward (variable_of k) ≡ Some y → P (kept_at mid.kept y)) →
+      ((k : Literal) (y : ℕ) → k ∈ ls → at old.users.forward (variable_of k) ≡ Some y → P (data_at mid.kept y)) →
       at old.users.forward (variable_of l) ≡ Some x → P d →
-      (k : Literal) (y : ℕ) → k ∈ (ls ++ l ∷ []) → at old.users.forward (variable_of k) ≡ Some y → P (kept_at new.kept y)
+      (k : Literal) (y : ℕ) → k ∈ (ls ++ l ∷ []) → at old.users.forward (variable_of k) ≡ Some y → P (data_at new.kept y)
   each-more ls l P r e own k y h q =
-      subst P (sym (c.kept.at_each y)) (updated-all (λ y k. (y ≡ x → ⊥) ⊎ (y ≡ x) → P k) (kept_at mid.kept) x d (λ _. own) y
+      subst P (sym (c.kept.at_each y)) (updated-all (λ y k. (y ≡ x → ⊥) ⊎ (y ≡ x) → P k) (data_at mid.kept) x d (λ _. own) y
       (λ z _. ⊎_elim
       (λ a. r k y a q)
       (λ a. ⊎_elim (λ s. absurd (z (let f : Some y ≡ Some x = sym q ∙ ap (λ u. at old.users.forward (variable_of u)) s ∙ e in cc))) (λ s. absurd s) a)
       (∈-append_cases k ls (l ∷ []) h))
       (⊎_elim (λ a. inr a) (λ a. inl a) (equal_or_not y x)))
 
-  same-more : SameButMarks old mid → (kept_at mid.kept x).deleted ≡ false → d.deleted ≡ (kept_at mid.kept x).deleted →
-      d.unit ≡ (kept_at mid.kept x).unit → SameButMarks old new
+  same-more : SameButMarks old mid → (data_at mid.kept x).deleted ≡ false → d.deleted ≡ (data_at mid.kept x).deleted →
+      d.unit ≡ (data_at mid.kept x).unit → SameButMarks old new
   same-more s live e f = record {
     users = ap (λ t. t.users) c.rest ∙ s.users;
     solvers = ap (λ t. t.solvers) c.rest ∙ s.solvers;
     count = let inside = live-inside mid.kept x live in let n = c.kept.count in let m = s.count in omega (arith, n, m, inside);
-    deleted = rest-more (λ y k. k.deleted ≡ (kept_at old.kept y).deleted) s.deleted (e ∙ s.deleted x);
-    units = rest-more (λ y k. k.unit ≡ (kept_at old.kept y).unit) s.units (f ∙ s.units x);
+    deleted = rest-more (λ y k. k.deleted ≡ (data_at old.kept y).deleted) s.deleted (e ∙ s.deleted x);
+    units = rest-more (λ y k. k.unit ≡ (data_at old.kept y).unit) s.units (f ∙ s.units x);
   }
 
 -- 3. Isolation.
@@ -120,10 +120,10 @@ joined-same d old new j = record {
 -- what is kept of a variable of a clause, once it is no longer isolated
 pub record AreOpened (ls : List Literal) (old new : Tables) : Type 0 where
   pub same : SameButMarks old new
-  pub rest : (x : ℕ) → kept_at new.kept x ≡ record (kept_at old.kept x) { isolated = (kept_at new.kept x).isolated }
-  pub fallen : (x : ℕ) → (kept_at new.kept x).isolated ≡ true → (kept_at old.kept x).isolated ≡ true
-  pub opened : (l : Literal) (x : ℕ) → l ∈ ls → at old.users.forward (variable_of l) ≡ Some x → (kept_at new.kept x).isolated ≡ false
-  pub others : (x : ℕ) → ((l : Literal) → l ∈ ls → at old.users.forward (variable_of l) ≢ Some x) → kept_at new.kept x ≡ kept_at old.kept x
+  pub rest : (x : ℕ) → data_at new.kept x ≡ record (data_at old.kept x) { isolated = (data_at new.kept x).isolated }
+  pub fallen : (x : ℕ) → (data_at new.kept x).isolated ≡ true → (data_at old.kept x).isolated ≡ true
+  pub opened : (l : Literal) (x : ℕ) → l ∈ ls → at old.users.forward (variable_of l) ≡ Some x → (data_at new.kept x).isolated ≡ false
+  pub others : (x : ℕ) → ((l : Literal) → l ∈ ls → at old.users.forward (variable_of l) ≢ Some x) → data_at new.kept x ≡ data_at old.kept x
 
 pub opened-none : (t : Tables) → AreOpened [] t t
 opened-none t = record {
@@ -136,19 +136,19 @@ opened-none t = record {
 }
 
 pub opened-more : (ls : List Literal) (old mid new : Tables) (l : Literal) (x : ℕ) → AreOpened ls old mid →
-    at mid.users.forward (variable_of l) ≡ Some x → (kept_at mid.kept x).deleted ≡ false →
-    IsChangedTo mid new x (record (kept_at mid.kept x) { isolated = false }) → AreOpened (ls ++ l ∷ []) old new
+    at mid.users.forward (variable_of l) ≡ Some x → (data_at mid.kept x).deleted ≡ false →
+    IsChangedTo mid new x (record (data_at mid.kept x) { isolated = false }) → AreOpened (ls ++ l ∷ []) old new
 opened-more ls old mid new l x o e live c =
-    let d : VarData = record (kept_at mid.kept x) { isolated = false } in
+    let d : VarData = record (data_at mid.kept x) { isolated = false } in
     let own = ap (λ t. at t.forward (variable_of l)) (sym o.same.users) ∙ e in
     record {
       same = same-more old mid new x d c o.same live refl refl;
-      rest = rest-more old mid new x d c (λ y k. k ≡ record (kept_at old.kept y) { isolated = k.isolated }) o.rest
+      rest = rest-more old mid new x d c (λ y k. k ≡ record (data_at old.kept y) { isolated = k.isolated }) o.rest
           (ap (λ (k : VarData). record k { isolated = false }) (o.rest x));
-      fallen = rest-more old mid new x d c (λ y k. k.isolated ≡ true → (kept_at old.kept y).isolated ≡ true) o.fallen
+      fallen = rest-more old mid new x d c (λ y k. k.isolated ≡ true → (data_at old.kept y).isolated ≡ true) o.fallen
           (λ z. absurd (let f : false ≡ true = z in cc));
       opened = each-more old mid new x d c ls l (λ k. k.isolated ≡ false) o.opened own refl;
-      others = λ y n. c.kept.at_each y ∙ updated-other (kept_at mid.kept) x d y
+      others = λ y n. c.kept.at_each y ∙ updated-other (data_at mid.kept) x d y
           (λ q. n l (∈-append_right l ls (l ∷ []) (inl refl)) (own ∙ ap Some (sym q))) ∙ o.others y (λ k h. n k (∈-append_left k ls (l ∷ []) h));
     }
 
@@ -168,21 +168,21 @@ pub marked-none : (t : Tables) (b : Bool) → AreMarked [] b t t
 marked-none t b = record { users = refl; solvers = refl; count = refl; rest = λ x. refl; marked = λ l x h. absurd h; others = λ x. inl refl }
 
 pub marked-more : (ls : List Literal) (b : Bool) (old mid new : Tables) (l : Literal) (x : ℕ) → AreMarked ls b old mid →
-    at mid.users.forward (variable_of l) ≡ Some x → (kept_at mid.kept x).deleted ≡ false →
-    IsChangedTo mid new x (record (kept_at mid.kept x) { assumed = b }) → AreMarked (ls ++ l ∷ []) b old new
+    at mid.users.forward (variable_of l) ≡ Some x → (data_at mid.kept x).deleted ≡ false →
+    IsChangedTo mid new x (record (data_at mid.kept x) { assumed = b }) → AreMarked (ls ++ l ∷ []) b old new
 marked-more ls b old mid new l x o e live c =
-    let d = record (kept_at mid.kept x) { assumed = b } in
+    let d = record (data_at mid.kept x) { assumed = b } in
     let m = same-more old mid new x d c (marked-same ls b old mid o) live refl refl in
     let own = ap (λ t. at t.forward (variable_of l)) (sym o.users) ∙ e in
     record {
       users = m.users;
       solvers = m.solvers;
       count = m.count;
-      rest = rest-more old mid new x d c (λ y k. k ≡ record (kept_at old.kept y) { assumed = k.assumed }) o.rest
+      rest = rest-more old mid new x d c (λ y k. k ≡ record (data_at old.kept y) { assumed = k.assumed }) o.rest
           (ap (λ (k : VarData). record k { assumed = b }) (o.rest x));
       marked = each-more old mid new x d c ls l (λ k. k.assumed ≡ b) o.marked own refl;
       others = rest-more old mid new x d c
-          (λ y k. (k.assumed ≡ (kept_at old.kept y).assumed) ⊎ ((m : Literal) × (m ∈ (ls ++ l ∷ [])) × (at old.users.forward (variable_of m) ≡ Some y)))
+          (λ y k. (k.assumed ≡ (data_at old.kept y).assumed) ⊎ ((m : Literal) × (m ∈ (ls ++ l ∷ [])) × (at old.users.forward (variable_of m) ≡ Some y)))
           (λ y. ⊎_elim (λ q. inl q) (λ (m, h, q). inr (m, ∈-append_left m ls (l ∷ []) h, q)) (o.others y))
           (inr (l, ∈-append_right l ls (l ∷ []) (inl refl), own));
     }

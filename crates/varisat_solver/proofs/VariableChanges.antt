@@ -6,7 +6,7 @@ use Rattle.varisat_theory.proofs.Members.{equal_or_not}
 use Rattle.varisat_literals.specs.Numbers.{variable_limit}
 use Rattle.varisat_names.specs.Maps.{updated}
 use Rattle.varisat_names.specs.VarMap.{at, IsLeastUnmapped}
-use Rattle.varisat_names.specs.VarData.{fresh, kept_at}
+use Rattle.varisat_names.specs.VarData.{fresh, data_at}
 use Rattle.varisat_names.specs.Variables.{Tables, AreLinked, IsGiven, AreNextGiven, IsNamed, InUse, Free, Above, IsChangedTo, IsHidden, unless_unused, IsDeletedIfUnused, IsShown}
 use Rattle.varisat_names.specs.declared.variables.data.VarData.{VarData}
 use Rattle.varisat_names.specs.declared.variables.data.SamplingMode.{SamplingMode}
@@ -24,7 +24,7 @@ use Rattle.varisat_search.specs.declared.state.SatState.TheVariants as verdict
 use Rattle.varisat_solver.specs.Names.{Naming, bring, bring_next, bring_if_free, name_one}
 use Rattle.varisat_solver.specs.Accepting.{AreBounded, naming_of}
 use Rattle.varisat_names.specs.NamesAndModes.{MovesName, SetsModeOf, LosesName, GetsName, OtherwiseSet, AreShownInTurn}
-use Rattle.varisat_solver.specs.VariableChanges.{IsMarkedAssumed, CanBeChanged, StaysKept, IsNamedAs, SetsNamedMode, LeavesIfUnused, HidesNamed}
+use Rattle.varisat_solver.specs.VariableChanges.{IsMarkedAssumed, CanBeChanged, StaysValid, IsNamedAs, SetsNamedMode, LeavesIfUnused, HidesNamed}
 use Rattle.varisat_search.proofs.TakenSolvers.{few, below, below-count, ∈-below}
 use Rattle.varisat_solver.proofs.VariableMoves.{given-most}
 use Rattle.varisat_search.proofs.KeptNames.{KeepsNames, given-keeps, next-keeps}
@@ -51,19 +51,19 @@ next-count (suc k) old new (mid, x, g, rest) =
 
 -- the last of them leads to a new variable
 pub next-last : (k : ℕ) (old new : Tables) → AreNextGiven (suc k) old new → (x : ℕ) × (at new.users.forward (length old.users.forward + k) ≡ Some x)
-    × (kept_at new.kept x ≡ fresh)
+    × (data_at new.kept x ≡ fresh)
 next-last zero old new (mid, x, g, e) =
     let u = length old.users.forward in
-    subst (λ t. (x : ℕ) × (at t.users.forward (u + 0) ≡ Some x) × (kept_at t.kept x ≡ fresh)) (sym e) (
+    subst (λ t. (x : ℕ) × (at t.users.forward (u + 0) ≡ Some x) × (data_at t.kept x ≡ fresh)) (sym e) (
       x,
       ap (at mid.users.forward) (let z : u + 0 ≡ u = omega arith in z) ∙ g.users.forward.at_each u
           ∙ updated-at (at old.users.forward) u (Some x),
-      g.kept.at_each x ∙ updated-at (kept_at old.kept) x fresh,
+      g.kept.at_each x ∙ updated-at (data_at old.kept) x fresh,
     )
 next-last (suc k) old new (mid, x, g, rest) =
     let a = g.users.forward.watermark in
     let z : length mid.users.forward + k ≡ length old.users.forward + suc k = omega (arith, a) in
-    subst (λ n. (x : ℕ) × (at new.users.forward n ≡ Some x) × (kept_at new.kept x ≡ fresh)) z (next-last k mid new rest)
+    subst (λ n. (x : ℕ) × (at new.users.forward n ≡ Some x) × (data_at new.kept x ≡ fresh)) z (next-last k mid new rest)
 
 -- 2. The room for it.
 
@@ -85,7 +85,7 @@ made-free u m h e = ap (λ b. (if b then bring_if_free u (m.names u) m else brin
 
 -- 3. A name was named.
 
-fresh-as : (u x : ℕ) (old new : Tables) → at new.users.forward u ≡ Some x → kept_at new.kept x ≡ fresh → IsNamed u old new → StaysKept old new →
+fresh-as : (u x : ℕ) (old new : Tables) → at new.users.forward u ≡ Some x → data_at new.kept x ≡ fresh → IsNamed u old new → StaysValid old new →
     IsNamedAs u old new x
 fresh-as u x old new e f n s = record { named = n; leads = e; live = ap (λ d. d.deleted) f; unassumed = ap (λ d. d.assumed) f; stays = s }
 
@@ -100,7 +100,7 @@ given-as u x old new l c h free g =
     let room : length old.kept + 1 ≤ variable_limit = ⊎_elim (λ q. absurd (c.room (subst (λ n. variable_limit < n) (sym m) q))) (λ q. q)
     (cases_lt variable_limit (length old.kept + 1)) in
     fresh-as u x old new (g.users.forward.at_each u ∙ updated-at (at old.users.forward) u (Some x))
-    (g.kept.at_each x ∙ updated-at (kept_at old.kept) x fresh) (Free x h free g) (record {
+    (g.kept.at_each x ∙ updated-at (data_at old.kept) x fresh) (Free x h free g) (record {
       bounded = record {
         users = omega (arith, a, h, w);
         globals = omega (arith, b, room);
@@ -140,10 +140,10 @@ above-as u old new l c h n =
       }),
     )
 
-pub stays-same : (t : Tables) → AreBounded t → StaysKept t t
+pub stays-same : (t : Tables) → AreBounded t → StaysValid t t
 stays-same t b = record { bounded = b; solvers = refl; named = λ u x e m. (e, m); names = λ x u e m. (e, m) }
 
-pub stays-on : (old mid new : Tables) → StaysKept old mid → StaysKept mid new → StaysKept old new
+pub stays-on : (old mid new : Tables) → StaysValid old mid → StaysValid mid new → StaysValid old new
 stays-on old mid new a b = record {
   bounded = b.bounded;
   solvers = b.solvers ∙ a.solvers;
@@ -161,7 +161,7 @@ in-use-as u x t l c e = record {
   named = InUse x e refl;
   leads = e;
   live = l.named x u (l.users.there u x e);
-  unassumed = not-marked (kept_at t.kept x).assumed (λ m. c.unassumed (x, e, m));
+  unassumed = not-marked (data_at t.kept x).assumed (λ m. c.unassumed (x, e, m));
   stays = stays-same t c.bounded;
 }
 
@@ -181,10 +181,10 @@ named-to u x old new l c n e =
 -- 4. The variable of a name is changed.
 
 -- what is kept of a live variable has another mode
-pub mode-stays : (mid new : Tables) (x : ℕ) (mode : SamplingMode) → AreBounded mid → (kept_at mid.kept x).deleted ≡ false →
-    IsChangedTo mid new x (record (kept_at mid.kept x) { sampling_mode = mode }) → StaysKept mid new
+pub mode-stays : (mid new : Tables) (x : ℕ) (mode : SamplingMode) → AreBounded mid → (data_at mid.kept x).deleted ≡ false →
+    IsChangedTo mid new x (record (data_at mid.kept x) { sampling_mode = mode }) → StaysValid mid new
 mode-stays mid new x mode b live c =
-    let d : VarData = record (kept_at mid.kept x) { sampling_mode = mode } in
+    let d : VarData = record (data_at mid.kept x) { sampling_mode = mode } in
     let users = ap (λ t. t.users) c.rest in
     let solvers = ap (λ t. t.solvers) c.rest in
     let h = live-inside mid.kept x live in
@@ -193,8 +193,8 @@ mode-stays mid new x mode b live c =
     let v = b.users in
     let g = b.globals in
     let mark : (y : ℕ) → IsMarkedAssumed mid y → IsMarkedAssumed new y =
-    (λ y m. ap (λ d. d.assumed) (c.kept.at_each y) ∙ updated-all (λ y e. (kept_at mid.kept y).assumed ≡ true → e.assumed ≡ true)
-    (kept_at mid.kept) x d (λ m. m) y (λ _ m. m) m) in
+    (λ y m. ap (λ d. d.assumed) (c.kept.at_each y) ∙ updated-all (λ y e. (data_at mid.kept y).assumed ≡ true → e.assumed ≡ true)
+    (data_at mid.kept) x d (λ m. m) y (λ _ m. m) m) in
     record {
       bounded = record {
         users = omega (arith, w, v);
@@ -209,9 +209,9 @@ mode-stays mid new x mode b live c =
 
 -- the name of a variable that is not marked as assumed is free
 pub hidden-stays : (mid new : Tables) (u x : ℕ) → AreLinked mid → AreBounded mid → at mid.users.forward u ≡ Some x →
-    (kept_at mid.kept x).assumed ≡ false → IsHidden mid new u x → StaysKept mid new
+    (data_at mid.kept x).assumed ≡ false → IsHidden mid new u x → StaysValid mid new
 hidden-stays mid new u x l b e unmarked n =
-    let d : VarData = record (kept_at mid.kept x) { sampling_mode = sampling.Hide } in
+    let d : VarData = record (data_at mid.kept x) { sampling_mode = sampling.Hide } in
     let live = l.named x u (l.users.there u x e) in
     let h = live-inside mid.kept x live in
     let i = at-inside mid.users.forward u x e in
@@ -220,9 +220,9 @@ hidden-stays mid new u x l b e unmarked n =
     let v = b.users in
     let g = b.globals in
     let other : (y : ℕ) → IsMarkedAssumed mid y → y ≡ x →
-    ⊥ = (λ y m q. let z : true ≡ false = sym m ∙ ap (λ y. (kept_at mid.kept y).assumed) q ∙ unmarked in cc) in
+    ⊥ = (λ y m q. let z : true ≡ false = sym m ∙ ap (λ y. (data_at mid.kept y).assumed) q ∙ unmarked in cc) in
     let mark : (y : ℕ) → IsMarkedAssumed mid y → IsMarkedAssumed new y =
-    (λ y m. ap (λ d. d.assumed) (n.kept.at_each y ∙ updated-other (kept_at mid.kept) x d y (other y m)) ∙ m) in
+    (λ y m. ap (λ d. d.assumed) (n.kept.at_each y ∙ updated-other (data_at mid.kept) x d y (other y m)) ∙ m) in
     record {
       bounded = record {
         users = omega (arith, w, v, i);
@@ -271,13 +271,13 @@ pub hidden-unnamed : (old new : Tables) (u x : ℕ) → IsHidden old new u x →
 hidden-unnamed old new u x n = n.users.backward.at_each x ∙ updated-at (at old.users.backward) x None
 
 pub hidden-keeps : {X : Type 0} (F : VarData → X) (old new : Tables) (u x : ℕ) →
-    F (record (kept_at old.kept x) { sampling_mode = sampling.Hide }) ≡ F (kept_at old.kept x) → IsHidden old new u x →
-    F (kept_at new.kept x) ≡ F (kept_at old.kept x)
-hidden-keeps F old new u x e n = ap F (n.kept.at_each x ∙ updated-at (kept_at old.kept) x (record (kept_at old.kept x) { sampling_mode = sampling.Hide })) ∙ e
+    F (record (data_at old.kept x) { sampling_mode = sampling.Hide }) ≡ F (data_at old.kept x) → IsHidden old new u x →
+    F (data_at new.kept x) ≡ F (data_at old.kept x)
+hidden-keeps F old new u x e n = ap F (n.kept.at_each x ∙ updated-at (data_at old.kept) x (record (data_at old.kept x) { sampling_mode = sampling.Hide })) ∙ e
 
 -- where it is not assumed, those that are keep their names and marks
-deleted-stays : (old new : Tables) (x : ℕ) → AreBounded old → (kept_at old.kept x).deleted ≡ false → (kept_at old.kept x).assumed ≡ false →
-    IsDeletedIfUnused old new x → StaysKept old new
+deleted-stays : (old new : Tables) (x : ℕ) → AreBounded old → (data_at old.kept x).deleted ≡ false → (data_at old.kept x).assumed ≡ false →
+    IsDeletedIfUnused old new x → StaysValid old new
 deleted-stays old new x b live unmarked n =
     let users = ap (λ t. t.users) n.rest in
     let solvers = ap (λ t. t.solvers) n.rest in
@@ -287,10 +287,10 @@ deleted-stays old new x b live unmarked n =
     let v = b.users in
     let g = b.globals in
     let other : (y : ℕ) → IsMarkedAssumed old y → y ≡ x →
-    ⊥ = (λ y m q. let z : true ≡ false = sym m ∙ ap (λ y. (kept_at old.kept y).assumed) q ∙ unmarked in cc) in
+    ⊥ = (λ y m q. let z : true ≡ false = sym m ∙ ap (λ y. (data_at old.kept y).assumed) q ∙ unmarked in cc) in
     let mark : (y : ℕ) → IsMarkedAssumed old y → IsMarkedAssumed new y =
-    (λ y m. ap (λ d. d.assumed) (n.kept.at_each y ∙ updated-other (kept_at old.kept) x
-    (unless_unused (at old.solvers.forward x) (kept_at old.kept x)) y (other y m)) ∙ m) in
+    (λ y m. ap (λ d. d.assumed) (n.kept.at_each y ∙ updated-other (data_at old.kept) x
+    (unless_unused (at old.solvers.forward x) (data_at old.kept x)) y (other y m)) ∙ m) in
     record {
       bounded = record {
         users = omega (arith, w, v);
@@ -314,15 +314,15 @@ module _ (u : ℕ) (v : SatState) (p q : TracerState) (h : HidesNamed u v p q) w
   hidden-first : IsHidden h.set.mid h.mid u h.global
   hidden-first = h.set.hidden refl
 
-  left-stays : LeavesIfUnused (record p { tables = h.mid }) h.global q → StaysKept p.tables q.tables
+  left-stays : LeavesIfUnused (record p { tables = h.mid }) h.global q → StaysValid p.tables q.tables
   left-stays l =
       let live = hidden-keeps (λ d. d.deleted) h.set.mid h.mid u h.global refl hidden-first ∙ h.set.named.live in
       let free = hidden-keeps (λ d. d.assumed) h.set.mid h.mid u h.global refl hidden-first ∙ h.set.named.unassumed in
       stays-on p.tables h.mid q.tables h.set.stays (deleted-stays h.mid q.tables h.global h.set.stays.bounded live free l.deleted)
 
-  pub hides-stay : StaysKept p.tables q.tables
+  pub hides-stay : StaysValid p.tables q.tables
   hides-stay = ⊎_elim
-      (λ e. subst (λ (t : TracerState). StaysKept p.tables t.tables) (sym (h.stays e)) h.set.stays)
+      (λ e. subst (λ (t : TracerState). StaysValid p.tables t.tables) (sym (h.stays e)) h.set.stays)
       (λ n. left-stays (h.left n))
       (unsat-or-not v)
 
@@ -349,7 +349,7 @@ to-once t u x l free unnamed v y i a b =
     cc
 
 -- The least free name is below the count of global variables where a live one has no name: all lower names lead to others.
-pub shown-near : (t : Tables) (x u : ℕ) → AreLinked t → (kept_at t.kept x).deleted ≡ false → at t.users.backward x ≡ None →
+pub shown-near : (t : Tables) (x u : ℕ) → AreLinked t → (data_at t.kept x).deleted ≡ false → at t.users.backward x ≡ None →
     IsLeastUnmapped t.users.forward u → u < length t.kept
 unfolding to
 shown-near t x u l live unnamed least =
@@ -373,17 +373,17 @@ shown-near t x u l live unnamed least =
         (equal_or_not v u)
 
 -- and the tables stay linked
-pub shown-linked : (old new : Tables) (x u : ℕ) (mode : SamplingMode) → AreLinked old → (kept_at old.kept x).deleted ≡ false →
+pub shown-linked : (old new : Tables) (x u : ℕ) (mode : SamplingMode) → AreLinked old → (data_at old.kept x).deleted ≡ false →
     at old.users.backward x ≡ None → IsShown old new x mode u → AreLinked new
 shown-linked old new x u mode l live unnamed n =
     let given = join-users old new.users u x l live n.least.0 unnamed n.users in
-    let kept = keep-live (record old { users = new.users }) new.kept x (record (kept_at old.kept x) { sampling_mode = mode }) given live n.kept in
+    let kept = keep-live (record old { users = new.users }) new.kept x (record (data_at old.kept x) { sampling_mode = mode }) given live n.kept in
     same-tables (record old { users = new.users; kept = new.kept }) new.users new.solvers new.kept refl n.solvers refl kept
 
-pub shown-stays : (mid new : Tables) (x u : ℕ) → AreLinked mid → AreBounded mid → (kept_at mid.kept x).deleted ≡ false →
-    at mid.users.backward x ≡ None → IsShown mid new x sampling.Witness u → StaysKept mid new
+pub shown-stays : (mid new : Tables) (x u : ℕ) → AreLinked mid → AreBounded mid → (data_at mid.kept x).deleted ≡ false →
+    at mid.users.backward x ≡ None → IsShown mid new x sampling.Witness u → StaysValid mid new
 shown-stays mid new x u l b live unnamed n =
-    let d : VarData = record (kept_at mid.kept x) { sampling_mode = sampling.Witness } in
+    let d : VarData = record (data_at mid.kept x) { sampling_mode = sampling.Witness } in
     let near = shown-near mid x u l live unnamed n.least in
     let h = live-inside mid.kept x live in
     let c = n.kept.count in
@@ -391,8 +391,8 @@ shown-stays mid new x u l b live unnamed n =
     let v = b.users in
     let g = b.globals in
     let mark : (y : ℕ) → IsMarkedAssumed mid y → IsMarkedAssumed new y =
-    (λ y m. ap (λ d. d.assumed) (n.kept.at_each y) ∙ updated-all (λ y e. (kept_at mid.kept y).assumed ≡ true → e.assumed ≡ true)
-    (kept_at mid.kept) x d (λ m. m) y (λ _ m. m) m) in
+    (λ y m. ap (λ d. d.assumed) (n.kept.at_each y) ∙ updated-all (λ y e. (data_at mid.kept y).assumed ≡ true → e.assumed ≡ true)
+    (data_at mid.kept) x d (λ m. m) y (λ _ m. m) m) in
     record {
       bounded = record {
         users = omega (arith, w, v, near, g);
@@ -414,9 +414,9 @@ shown-stays mid new x u l b live unnamed n =
     }
 
 -- hidden variables come back in turn, none under a name past the limit
-pub turns-stay : (us : List ℕ) (old new : Tables) → AreLinked old → AreBounded old → AreShownInTurn us old new → StaysKept old new
+pub turns-stay : (us : List ℕ) (old new : Tables) → AreLinked old → AreBounded old → AreShownInTurn us old new → StaysValid old new
     × ((u : ℕ) → u ∈ us → u < variable_limit)
-turns-stay [] old new l b e = (subst (StaysKept old) (sym e) (stays-same old b), λ u h. absurd h)
+turns-stay [] old new l b e = (subst (StaysValid old) (sym e) (stays-same old b), λ u h. absurd h)
 turns-stay (u ∷ us) old new l b (mid, x, live, unnamed, n, rest) =
     let k = shown-stays old mid x u l b live unnamed n in
     let near = shown-near old x u l live unnamed n.least in

@@ -1,7 +1,7 @@
 -- What the parts of the calls that hide and show variables do to the spaces.
 use Rattle.std.proofs.Common.{◌≡◌, ℕ, ◌+◌, ◌≤◌, false, List, length, arith, ◌↔◌, sym, subst, max, Some, None}
 use Rattle.std.specs.Option.{IsSome}
-use Rattle.varisat_names.specs.VarData.{kept_at, IsKeptAs, dead}
+use Rattle.varisat_names.specs.VarData.{data_at, IsDataAt, dead}
 use Rattle.varisat_names.specs.Variables.{Tables, IsGiven}
 use Rattle.varisat_names.specs.declared.variables.data.VarData.{VarData}
 use Rattle.varisat_names.proofs.Tables.{least-near, live-inside}
@@ -20,7 +20,7 @@ use Rattle.varisat_names.specs.declared.variables.data.SamplingMode.TheVariants 
 -- How many global variables there are after a change.
 
 -- a live variable was made before
-pub kept-most : (old new : List VarData) (x : ℕ) (d : VarData) → (kept_at old x).deleted ≡ false → IsKeptAs old x d new → length new ≡ length old
+pub kept-most : (old new : List VarData) (x : ℕ) (d : VarData) → (data_at old x).deleted ≡ false → IsDataAt old x d new → length new ≡ length old
 kept-most old new x d live k = let b = live-inside old x live in let c = k.count in omega (arith, b, c)
 
 -- a name that comes into use needs one more at most

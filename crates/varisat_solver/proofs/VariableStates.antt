@@ -4,13 +4,13 @@ use Rattle.std.specs.Option.{is_some}
 use Rattle.varisat_theory.specs.Membership.{◌∈◌}
 use Rattle.varisat_literals.specs.Numbers.{variable_limit}
 use Rattle.varisat_names.specs.VarMap.{at}
-use Rattle.varisat_names.specs.VarData.{kept_at}
+use Rattle.varisat_names.specs.VarData.{data_at}
 use Rattle.varisat_solver.specs.States.{State, with_variables}
 use Rattle.varisat_solver.specs.Names.{Naming, AreShown, Mode, name_one, give_name}
 use Rattle.varisat_solver.specs.Calls.{with_naming, IsCrowded}
 use Rattle.varisat_solver.specs.Usage.{AreAllShown, ChangesVar, SetsMode, name_var, IsAssumed, with_mode, hide_name}
 use Rattle.varisat_solver.specs.Spaces.{SpacesFit, Carrying, ModeFits, Links, KeepVariables, FitWithNew}
-use Rattle.varisat_solver.specs.Summaries.{Summary, spaces, IsKept}
+use Rattle.varisat_solver.specs.Summaries.{Summary, spaces, IsValidSolver}
 use Rattle.varisat_solver.proofs.ShownStates.{may-stay}
 use Rattle.varisat_theory.specs.Literals.{variable_of, literal_of}
 use Rattle.varisat_search.proofs.StepOutcome.{variable-literal}
@@ -21,7 +21,7 @@ use Rattle.varisat_names.specs.Variables.{Tables, AreLinked}
 use Rattle.varisat_names.specs.declared.variables.data.SamplingMode.{SamplingMode}
 use Rattle.varisat_names.proofs.Maps.{chain-none, is-some, some-of}
 use Rattle.varisat_names.specs.NamesAndModes.{AreShownInTurn, ShowsAllHidden}
-use Rattle.varisat_solver.specs.VariableChanges.{IsMarkedAssumed, IsMarkedName, ChecksChange, StaysKept, SetsNamedMode, HidesNamed}
+use Rattle.varisat_solver.specs.VariableChanges.{IsMarkedAssumed, IsMarkedName, ChecksChange, StaysValid, SetsNamedMode, HidesNamed}
 use Rattle.varisat_solver.specs.Accepting.{AreBounded, naming_of}
 use Rattle.varisat_theory.specs.Journals.{Entry}
 use Rattle.varisat_names.specs.declared.variables.data.VarData.{VarData}
@@ -48,7 +48,7 @@ HaveShown us g s = (m : Naming) × AreShown us s.naming m × SpacesFit (spaces g
 
 -- Once each live variable has a name, all that must be shown is.
 pub all-shown : (us : List ℕ) (g : Summary) (s : State) → HaveShown us g s → ((u : ℕ) → u ∈ us → u < variable_limit) →
-    ((x : ℕ) → at g.tables.users.backward x ≡ None → (kept_at g.tables.kept x).deleted ≡ true) → (m : Naming) × AreAllShown us s.clauses s.naming m
+    ((x : ℕ) → at g.tables.users.backward x ≡ None → (data_at g.tables.kept x).deleted ≡ true) → (m : Naming) × AreAllShown us s.clauses s.naming m
     × SpacesFit (spaces g) (with_naming m s)
 all-shown us g s (m, turns, f) in-range named =
     let (w, k) = f in
@@ -164,7 +164,7 @@ show-state us g s new b l bounded d =
 
 -- 3. What a valid solver keeps.
 
-pub kept-after : {A : Type 0} (c : Context A) (old new : Tables) → IsKept old c → StaysKept old new → IsKept new c
+pub kept-after : {A : Type 0} (c : Context A) (old new : Tables) → IsValidSolver old c → StaysValid old new → IsValidSolver new c
 kept-after c old new k s = record {
   bounded = s.bounded;
   ready = k.ready;

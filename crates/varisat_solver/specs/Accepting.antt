@@ -5,7 +5,7 @@ use Rattle.varisat_theory.specs.Literals.{Literal, variable_of}
 use Rattle.varisat_literals.specs.Numbers.{variable_limit}
 use Rattle.varisat_names.specs.Maps.{chain}
 use Rattle.varisat_names.specs.VarMap.{at}
-use Rattle.varisat_names.specs.VarData.{kept_at}
+use Rattle.varisat_names.specs.VarData.{data_at}
 use Rattle.varisat_names.specs.Variables.{Tables}
 use Rattle.varisat_names.specs.declared.variables.data.SamplingMode.{SamplingMode}
 use Rattle.varisat_names.specs.declared.variables.data.SamplingMode.TheVariants as sampling
@@ -32,7 +32,7 @@ mode_of sampling.Hide = Sample
 -- The names of the tables, as if global variables were identities, each used once.
 abbrev pub naming_of : Tables → Naming
 naming_of t =
-    record { made = length t.kept; names = at t.users.forward; watermark = length t.users.forward; modes = λ x. mode_of (kept_at t.kept x).sampling_mode }
+    record { made = length t.kept; names = at t.users.forward; watermark = length t.users.forward; modes = λ x. mode_of (data_at t.kept x).sampling_mode }
 
 -- The name is free and below the watermark, and none of the literals has it: once these were named, it comes into use alone.
 abbrev pub ComesAlone : Tables → List Literal → ℕ → Type 0
@@ -71,10 +71,10 @@ pub record AreJoined (clause : List Literal) (old new : Tables) : Type 0 where
   pub users : new.users ≡ old.users
   pub solvers : new.solvers ≡ old.solvers
   pub count : length new.kept ≡ length old.kept
-  pub rest : (x : ℕ) → kept_at new.kept x ≡ record (kept_at old.kept x) { isolated = (kept_at new.kept x).isolated }
-  pub fallen : (x : ℕ) → (kept_at new.kept x).isolated ≡ true → (kept_at old.kept x).isolated ≡ true
-  pub joined : 1 < length clause → (l : Literal) (x : ℕ) → l ∈ clause → at old.users.forward (variable_of l) ≡ Some x → (kept_at new.kept x).isolated ≡ false
-  pub others : (x : ℕ) → ((l : Literal) → l ∈ clause → at old.users.forward (variable_of l) ≢ Some x) → kept_at new.kept x ≡ kept_at old.kept x
+  pub rest : (x : ℕ) → data_at new.kept x ≡ record (data_at old.kept x) { isolated = (data_at new.kept x).isolated }
+  pub fallen : (x : ℕ) → (data_at new.kept x).isolated ≡ true → (data_at old.kept x).isolated ≡ true
+  pub joined : 1 < length clause → (l : Literal) (x : ℕ) → l ∈ clause → at old.users.forward (variable_of l) ≡ Some x → (data_at new.kept x).isolated ≡ false
+  pub others : (x : ℕ) → ((l : Literal) → l ∈ clause → at old.users.forward (variable_of l) ≢ Some x) → data_at new.kept x ≡ data_at old.kept x
   pub alone : length clause ≤ 1 → new ≡ old
 
 -- Exactly the solver variables in use may be decided.
@@ -86,14 +86,14 @@ pub record AreMarked (list : List Literal) (assumed : Bool) (old new : Tables) :
   pub users : new.users ≡ old.users
   pub solvers : new.solvers ≡ old.solvers
   pub count : length new.kept ≡ length old.kept
-  pub rest : (x : ℕ) → kept_at new.kept x ≡ record (kept_at old.kept x) { assumed = (kept_at new.kept x).assumed }
-  pub marked : (l : Literal) (x : ℕ) → l ∈ list → at old.users.forward (variable_of l) ≡ Some x → (kept_at new.kept x).assumed ≡ assumed
-  pub others : (x : ℕ) → ((kept_at new.kept x).assumed ≡ (kept_at old.kept x).assumed)
+  pub rest : (x : ℕ) → data_at new.kept x ≡ record (data_at old.kept x) { assumed = (data_at new.kept x).assumed }
+  pub marked : (l : Literal) (x : ℕ) → l ∈ list → at old.users.forward (variable_of l) ≡ Some x → (data_at new.kept x).assumed ≡ assumed
+  pub others : (x : ℕ) → ((data_at new.kept x).assumed ≡ (data_at old.kept x).assumed)
       ⊎ ((l : Literal) × (l ∈ list) × (at old.users.forward (variable_of l) ≡ Some x))
 
 -- the solver variable is that of a name whose variable is marked as assumed
 abbrev pub IsAssumedSolver : Tables → ℕ → Type 0
-IsAssumedSolver t v = (x u : ℕ) × (at t.solvers.backward v ≡ Some x) × (at t.users.backward x ≡ Some u) × ((kept_at t.kept x).assumed ≡ true)
+IsAssumedSolver t v = (x u : ℕ) × (at t.solvers.backward v ≡ Some x) × (at t.users.backward x ≡ Some u) × ((data_at t.kept x).assumed ≡ true)
 
 -- the name of a solver variable
 abbrev pub HasUser : Tables → ℕ → Type 0

@@ -13,7 +13,7 @@ use Rattle.varisat_prop.specs.View.{View, kept}
 use Rattle.varisat_search.specs.Forgotten.{IsMentioned}
 use Rattle.varisat_search.specs.RootSimplified.{HasRootNews, fixed_literals}
 use Rattle.varisat_names.specs.VarMap.{at}
-use Rattle.varisat_names.specs.VarData.{kept_at}
+use Rattle.varisat_names.specs.VarData.{data_at}
 use Rattle.varisat_names.specs.Variables.{Tables, IsChangedTo, IsDropped}
 use Rattle.varisat_names.specs.declared.variables.data.VarData.{VarData}
 use Rattle.varisat_theory.specs.Journals.{Entry}
@@ -26,12 +26,12 @@ use Rattle.varisat_solver.specs.SinceChange.{GoesOnWithin}
 use Rattle.varisat_solver.specs.Spaces.{SpacesFit}
 use Rattle.varisat_solver.specs.States.{State}
 use Rattle.varisat_search.specs.declared.state.SatState.TheVariants as verdict
-use Rattle.varisat_solver.specs.Summaries.{Summary, undecided_spaces, IsKept}
+use Rattle.varisat_solver.specs.Summaries.{Summary, undecided_spaces, IsValidSolver}
 
 -- whether a global variable stands there that is not assumed
 abbrev pub leads_to_unassumed : Tables → Option ℕ → Bool
 leads_to_unassumed t None = false
-leads_to_unassumed t (Some x) = not (kept_at t.kept x).assumed
+leads_to_unassumed t (Some x) = not (data_at t.kept x).assumed
 
 -- the literals over solver variables of global variables that are not assumed
 abbrev pub unassumed_among : Tables → List Literal → List Literal
@@ -78,7 +78,7 @@ pub record LosesSolverVar (x v : ℕ) (p q : TracerState) : Type 0 where
 -- The solver variable of the literal was dropped, once its global variable was kept as isolated and with the value that makes the literal true.
 abbrev pub IsDroppedAlone : Literal → TracerState → TracerState → Type 0
 IsDroppedAlone l p q =
-    (x : ℕ) × (mid : Tables) × IsChangedTo p.tables mid x (fixed_to (polarity_of l) (kept_at p.tables.kept x))
+    (x : ℕ) × (mid : Tables) × IsChangedTo p.tables mid x (fixed_to (polarity_of l) (data_at p.tables.kept x))
     × LosesSolverVar x (variable_of l) (record p { tables = mid }) q
 
 -- so were those of the literals, in turn
@@ -121,12 +121,12 @@ pub record LeavesTables (ls : List Literal) (old new : Tables) : Type 0 where
   pub gone : (v : ℕ) → (l : Literal) → l ∈ ls → variable_of l ≡ v → at new.solvers.backward v ≡ None
   pub stays : (v : ℕ) → ((l : Literal) → l ∈ ls → variable_of l ≢ v) → at new.solvers.backward v ≡ at old.solvers.backward v
   pub fewer : (v x : ℕ) → at new.solvers.backward v ≡ Some x → at old.solvers.backward v ≡ Some x
-  pub others : (x : ℕ) → ((l : Literal) → l ∈ ls → at old.solvers.backward (variable_of l) ≢ Some x) → kept_at new.kept x ≡ kept_at old.kept x
+  pub others : (x : ℕ) → ((l : Literal) → l ∈ ls → at old.solvers.backward (variable_of l) ≢ Some x) → data_at new.kept x ≡ data_at old.kept x
 
 -- Variables left the search and the tables. What a valid solver keeps stays true, the search goes on with as many variables, and
 -- the solver stands for the same states, to which it was told what left, as it was to the proof.
 pub record LetsLeave {A : Type 0} (p : TracerState) (x : Context A) (q : TracerState) (y : Context A) : Type 0 where
-  pub kept : IsKept q.tables y
+  pub kept : IsValidSolver q.tables y
   pub within : GoesOnWithin x y
   pub count : length y.assignment.current ≡ length x.assignment.current
   pub given : (entries : List Entry) × IsLogged p.proof entries q.proof

@@ -25,7 +25,7 @@ use Rattle.varisat_solver.specs.StepEntries.{LogsInSteps, SpeakOfAdded, HasStaye
 use Rattle.varisat_solver.specs.SinceChange.{GoesOnSince, BeginsWithin}
 use Rattle.varisat_solver.specs.Spaces.{Spaces, SpacesFit}
 use Rattle.varisat_solver.specs.States.{State, Verdict, Unknown}
-use Rattle.varisat_solver.specs.Summaries.{undecided_spaces, spaces_with, IsKept}
+use Rattle.varisat_solver.specs.Summaries.{undecided_spaces, spaces_with, IsValidSolver}
 
 -- what is returned at the verdict, if it is known
 abbrev pub answer_at : SatState → Option Bool
@@ -79,7 +79,7 @@ pub record LeavesIfNews {A : Type 0} (q : TracerState) (x y : Context A) : Type 
 
 -- A step has begun, and variables left. The solver keeps what it did, and stands for the same states, to which more was told.
 pub record BeginsSolverStep {A : Type 0} (p q : TracerState) (x y : Context A) : Type 0 where
-  pub kept : IsKept q.tables y
+  pub kept : IsValidSolver q.tables y
   pub logs : CanLog q.proof
   pub logged : LogsSome p.proof q.proof
   pub within : BeginsWithin x y
@@ -121,7 +121,7 @@ pub record MakesSolverStep {A : Type 0} (p q : TracerState) (x y : Context A) : 
   pub begins : BeginsSolverStep p mid x middle
   pub ends : MakesNamedStep mid q middle (record y { schedule = middle.schedule })
   -- what of this the steps of a call need
-  pub kept : IsKept q.tables y
+  pub kept : IsValidSolver q.tables y
   pub logs : CanLog q.proof
   pub logged : LogsSome p.proof q.proof
   pub since : y.solver_state.sat_state ≡ verdict.Unknown → GoesOnSince x y
@@ -132,7 +132,7 @@ pub record MakesSolverStep {A : Type 0} (p q : TracerState) (x y : Context A) : 
 
 -- Steps were made, from one context to the other, until there was a verdict or they were spent. Where none was made nothing changed.
 pub record FindsVerdict {A : Type 0} (p q : TracerState) (x y : Context A) (found : Option Bool) : Type 0 where
-  pub kept : IsKept q.tables y
+  pub kept : IsValidSolver q.tables y
   pub logs : CanLog q.proof
   pub state : y.solver_state ≡ record x.solver_state { sat_state = y.solver_state.sat_state }
   pub answer : found ≡ answer_at y.solver_state.sat_state

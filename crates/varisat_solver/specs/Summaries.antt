@@ -12,7 +12,7 @@ use Rattle.varisat_search.specs.AssumptionParts.{AssumptionParts}
 use Rattle.varisat_search.specs.Steps.{assignment_of}
 use Rattle.varisat_search.specs.Seen.{search_of, outcome_of}
 use Rattle.varisat_names.specs.VarMap.{at}
-use Rattle.varisat_names.specs.VarData.{kept_at}
+use Rattle.varisat_names.specs.VarData.{data_at}
 use Rattle.varisat_names.specs.Variables.{Tables}
 use Rattle.std.specs.declared.io.Error.{Error}
 use Rattle.varisat_proof.specs.Calls.{CheckerState}
@@ -54,8 +54,8 @@ spaces_of t checker search assumed sat_state = record {
   globals = length t.kept;
   solver_from_global = at t.solvers.forward;
   global_from_solver = at t.solvers.backward;
-  kept = kept_at t.kept;
-  model = λ x. value_or (kept_at t.kept x).unit (assignment_of search) (at t.solvers.forward x);
+  kept = data_at t.kept;
+  model = λ x. value_or (data_at t.kept x).unit (assignment_of search) (at t.solvers.forward x);
   assumptions = assumed.user;
   core = assumed.user_core;
   working = assumed.working;
@@ -80,7 +80,7 @@ spaces g = spaces_of g.tables g.checker g.search g.assumed g.sat_state
 -- the value of a global variable in the model: that of its solver variable, without one that of the unit that is kept, and else
 -- false
 abbrev pub model_value : Tables → List (Option Bool) → ℕ → Bool
-model_value t values x = value_or (kept_at t.kept x).unit (λ v. is_true_value (slice_index_or values v None)) (at t.solvers.forward x)
+model_value t values x = value_or (data_at t.kept x).unit (λ v. is_true_value (slice_index_or values v None)) (at t.solvers.forward x)
 
 -- the model as it is listed: the names in use among the k names from u on
 abbrev pub list_tables : Tables → List (Option Bool) → ℕ → ℕ → List Literal
@@ -88,7 +88,7 @@ list_tables t values u zero = []
 list_tables t values u (suc k) = put_name u (at t.users.forward u) (model_value t values) (list_tables t values (suc u) k)
 
 -- what a valid solver keeps of its names, its variables and its search
-pub record IsKept {A : Type 0} (tables : Tables) (search : Context A) : Type 0 where
+pub record IsValidSolver {A : Type 0} (tables : Tables) (search : Context A) : Type 0 where
   pub bounded : AreBounded tables
   pub ready : IsReady search
   -- the search has the solver variables below the watermark
@@ -97,7 +97,7 @@ pub record IsKept {A : Type 0} (tables : Tables) (search : Context A) : Type 0 w
   pub decidable : DecidesInUse tables (view search) search.vsids
   -- assumptions are over names in use, whose variables are marked as assumed, and those by which the search goes over their solver variables
   pub assumed : (l : Literal) → l ∈ search.assumptions.user → IsSome (at tables.users.forward (variable_of l))
-  pub marked : (l : Literal) (x : ℕ) → l ∈ search.assumptions.user → at tables.users.forward (variable_of l) ≡ Some x → (kept_at tables.kept x).assumed ≡ true
+  pub marked : (l : Literal) (x : ℕ) → l ∈ search.assumptions.user → at tables.users.forward (variable_of l) ≡ Some x → (data_at tables.kept x).assumed ≡ true
   pub working : (l : Literal) → l ∈ search.assumptions.working → IsAssumedSolver tables (variable_of l)
 
 -- Some state stands for what is held. Before a clause, a variable or a list of assumptions was accepted it has no clauses, and
@@ -107,8 +107,8 @@ RepresentsSome p started = (s : State) × SpacesFit p s × (started ≡ false �
 
 -- What it keeps beside that: its proof can be told entries, it counts the steps since its last change, before which `changed_at`
 -- were made, and it stands for some state, so that its checker finds each step right that it is told.
-pub record IsKeptSince {A : Type 0} (tables : Tables) (proof : ProofParts) (search : Context A) (started : Bool) (changed_at : ℕ) : Type 0 where
-  pub kept : IsKept tables search
+pub record IsValidSince {A : Type 0} (tables : Tables) (proof : ProofParts) (search : Context A) (started : Bool) (changed_at : ℕ) : Type 0 where
+  pub kept : IsValidSolver tables search
   pub logs : CanLog proof
   pub counts : CountsSince changed_at search
   pub stands : RepresentsSome (spaces_with tables proof.checker search) started

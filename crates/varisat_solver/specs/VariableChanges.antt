@@ -2,7 +2,7 @@
 use Rattle.std.specs.Prelude.{◌≡◌, ◌≢◌, ◌⊎◌, ℕ, ◌<◌, ◌≤◌, true, false, Some, Result, Ok, Err}
 use Rattle.varisat_literals.specs.Numbers.{variable_limit}
 use Rattle.varisat_names.specs.VarMap.{at}
-use Rattle.varisat_names.specs.VarData.{kept_at}
+use Rattle.varisat_names.specs.VarData.{data_at}
 use Rattle.varisat_names.specs.Variables.{Tables, IsNamed, IsChangedTo, IsHidden, IsDeletedIfUnused}
 use Rattle.varisat_proof.specs.Proving.{IsLogged}
 use Rattle.varisat_search.specs.declared.state.SatState.{SatState}
@@ -18,7 +18,7 @@ use Rattle.varisat_solver.specs.declared.solver.SolverError.TheVariants.{Variabl
 
 -- the variable is marked as assumed
 abbrev pub IsMarkedAssumed : Tables → ℕ → Type 0
-IsMarkedAssumed t x = (kept_at t.kept x).assumed ≡ true
+IsMarkedAssumed t x = (data_at t.kept x).assumed ≡ true
 
 -- the name is in use, and its variable is marked as assumed
 abbrev pub IsMarkedName : Tables → ℕ → Type 0
@@ -39,7 +39,7 @@ ChecksChange t u (Err (AssumedVar v)) = (u < variable_limit) × (v ≡ u) × IsM
 ChecksChange t u (Err _) = ⊥
 
 -- What a valid solver keeps of its tables stays true. Variables that are marked as assumed keep their names and marks.
-pub record StaysKept (old new : Tables) : Type 0 where
+pub record StaysValid (old new : Tables) : Type 0 where
   pub bounded : AreBounded new
   pub solvers : new.solvers ≡ old.solvers
   pub named : (u x : ℕ) → at old.users.forward u ≡ Some x → IsMarkedAssumed old x → (at new.users.forward u ≡ Some x) × IsMarkedAssumed new x
@@ -49,17 +49,17 @@ pub record StaysKept (old new : Tables) : Type 0 where
 pub record IsNamedAs (u : ℕ) (old new : Tables) (x : ℕ) : Type 0 where
   pub named : IsNamed u old new
   pub leads : at new.users.forward u ≡ Some x
-  pub live : (kept_at new.kept x).deleted ≡ false
-  pub unassumed : (kept_at new.kept x).assumed ≡ false
-  pub stays : StaysKept old new
+  pub live : (data_at new.kept x).deleted ≡ false
+  pub unassumed : (data_at new.kept x).assumed ≡ false
+  pub stays : StaysValid old new
 
 -- The name was named, and its variable x has the mode: as `Hide` the name is free.
 pub record SetsNamedMode (u : ℕ) (mode : SamplingMode) (old : Tables) (x : ℕ) (new : Tables) : Type 0 where
   pub mid : Tables
   pub named : IsNamedAs u old mid x
   pub hidden : mode ≡ sampling.Hide → IsHidden mid new u x
-  pub changed : mode ≢ sampling.Hide → IsChangedTo mid new x (record (kept_at mid.kept x) { sampling_mode = mode })
-  pub stays : StaysKept old new
+  pub changed : mode ≢ sampling.Hide → IsChangedTo mid new x (record (data_at mid.kept x) { sampling_mode = mode })
+  pub stays : StaysValid old new
 
 -- The hidden variable x is not live any more where it is unused, and the proof was told so.
 pub record LeavesIfUnused (p : TracerState) (x : ℕ) (q : TracerState) : Type 0 where

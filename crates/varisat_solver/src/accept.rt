@@ -3,7 +3,7 @@
 ghost use Rattle.std.specs.Prelude.{◌≡◌, ◌≢◌, ◌<◌, ◌∷◌, [], Some, false, OnOk, IfErr};
 ghost use Rattle.varisat_theory.specs.Membership.{◌∈◌};
 ghost use Rattle.varisat_theory.specs.Literals.{Literal, variable_of};
-ghost use Rattle.varisat_names.specs.VarData.{kept_at};
+ghost use Rattle.varisat_names.specs.VarData.{data_at};
 ghost use Rattle.varisat_names.specs.VarMap.{at};
 ghost use Rattle.varisat_search.specs.Contexts.{IsNotUnsat, KeepsSchedule};
 ghost use Rattle.varisat_solver.specs.Accepted.{KeepsValidity, IsWithinIdentities, RepresentsOnceAccepted, RepresentsOnceAssumed};
@@ -11,7 +11,7 @@ ghost use Rattle.varisat_theory.specs.Journals.{Accepts, Assumes};
 ghost use Rattle.varisat_tracer.specs.Tracing.{tracer_state, TakesGlobally, BreaksProof, CanLog};
 ghost use Rattle.varisat_search.specs.StepErrors.{step_faults, HasNoRoom};
 ghost use Rattle.varisat_solver.specs.Spaces.{FitSome};
-ghost use Rattle.varisat_solver.specs.Summaries.{spaces_with, IsKept};
+ghost use Rattle.varisat_solver.specs.Summaries.{spaces_with, IsValidSolver};
 ghost use Rattle.varisat_solver.specs.Searches.{LogsSome};
 ghost use Rattle.varisat_solver.specs.Accepting.{CanBeNamed, HasNames, AreJoined, AreMarked};
 
@@ -30,7 +30,7 @@ use varisat_tracer::SolverTracer;
 fn global_of<A: Allocator + Copy>(variables: &LinkedVariables<A>, lit: Lit) -> Var
     requires { HasNames (lit ∷ []) variables.now }
     ensures found { at variables.now.users.forward (variable_of lit) ≡ Some result }
-    ensures live { (kept_at variables.now.kept result).deleted ≡ false }
+    ensures live { (data_at variables.now.kept result).deleted ≡ false }
 {
     variables.prove_linked();
     variables.global_from_user().get(lit.var()).unwrap()
@@ -100,12 +100,12 @@ pub fn accept_user_clause<W: ProofTarget, A: Allocator + Copy>(
     literals: &mut Vec<Lit, A>,
     clause: &[Lit],
 ) -> Result<(), StepError>
-    requires kept { IsKept tracer.old.tables ctx.old }
+    requires kept { IsValidSolver tracer.old.tables ctx.old }
     requires logs { CanLog tracer.old.proof }
     requires stands { FitSome (spaces_with tracer.old.tables tracer.old.proof.checker ctx.old) }
     requires undecided_before { IsNotUnsat ctx.old }
     requires names { CanBeNamed clause.now tracer.old.tables }
-    ensures kept { OnOk result (IsKept tracer.new.tables ctx.new) }
+    ensures kept { OnOk result (IsValidSolver tracer.new.tables ctx.new) }
     ensures logs { OnOk result (CanLog tracer.new.proof) }
     ensures state { OnOk result (ctx.new.solver_state ≡
         record ctx.old.solver_state { sat_state = ctx.new.solver_state.sat_state; formula_is_empty = false }) }
@@ -137,10 +137,10 @@ pub fn assume_list<W: ProofTarget, A: Allocator + Copy>(
     literals: &mut Vec<Lit, A>,
     list: &[Lit],
 ) -> Result<(), StepError>
-    requires kept { IsKept tracer.old.tables ctx.old }
+    requires kept { IsValidSolver tracer.old.tables ctx.old }
     requires logs { CanLog tracer.old.proof }
     requires names { CanBeNamed list.now tracer.old.tables }
-    ensures kept { OnOk result (IsKept tracer.new.tables ctx.new) }
+    ensures kept { OnOk result (IsValidSolver tracer.new.tables ctx.new) }
     ensures logs { OnOk result (CanLog tracer.new.proof) }
     ensures state { OnOk result (KeepsValidity ctx.old.solver_state ctx.new.solver_state) }
     ensures schedule { KeepsSchedule ctx.old ctx.new }

@@ -14,7 +14,7 @@ ghost use Rattle.varisat_solver.specs.Searches.{LogsSome, Turn, ComesOnUndecided
 ghost use Rattle.varisat_tracer.specs.Tracing.{tracer_state, open_parts, BreaksProof, CanLog};
 ghost use Rattle.varisat_search.specs.StepErrors.{step_faults};
 ghost use Rattle.varisat_solver.specs.Spaces.{FitSome};
-ghost use Rattle.varisat_solver.specs.Summaries.{undecided_spaces, IsKept};
+ghost use Rattle.varisat_solver.specs.Summaries.{undecided_spaces, IsValidSolver};
 ghost use Rattle.varisat_solver.specs.Dropping.{leads_to_unassumed, unassumed_among, AreOverAssumed, LeavesInTime, IsCalm, HasLetLeave, FlagsVariables, LosesSolverVar, AreDroppedAlone, leads_to_hidden, ListsUnneeded, AreReleased, LeavesNeeded, LeavesWhereUnsettled, LeavesTables, LetsLeave};
 
 use std::alloc::{AllocError, Allocator};
@@ -184,7 +184,7 @@ fn drop_listed<W: ProofTarget, A: Allocator + Copy>(
     ctx: &mut Context<A>,
     literals: &mut Vec<Lit, A>,
 ) -> Result<(), AllocError>
-    requires kept { IsKept tracer.old.tables ctx.old }
+    requires kept { IsValidSolver tracer.old.tables ctx.old }
     requires settled { IsRootSimplified (view ctx.old) }
     ensures leave { OnOk result (LetsLeave (tracer_state tracer.old) ctx.old (tracer_state tracer.new) ctx.new) }
     ensures schedule { KeepsSchedule ctx.old ctx.new }
@@ -210,7 +210,7 @@ fn drop_unneeded<W: ProofTarget, A: Allocator + Copy>(
     ctx: &mut Context<A>,
     literals: &mut Vec<Lit, A>,
 ) -> Result<(), AllocError>
-    requires kept { IsKept tracer.old.tables ctx.old }
+    requires kept { IsValidSolver tracer.old.tables ctx.old }
     requires settled { IsRootSimplified (view ctx.old) }
     requires left { AreOverAssumed tracer.old.tables ctx.old.trail.literals }
     ensures leave { OnOk result (LetsLeave (tracer_state tracer.old) ctx.old (tracer_state tracer.new) ctx.new) }
@@ -243,11 +243,11 @@ pub fn drop_fixed<W: ProofTarget, A: Allocator + Copy>(
     ctx: &mut Context<A>,
     literals: &mut Vec<Lit, A>,
 ) -> Result<(), StepError>
-    requires kept { IsKept tracer.old.tables ctx.old }
+    requires kept { IsValidSolver tracer.old.tables ctx.old }
     requires logs { CanLog tracer.old.proof }
     requires stands { FitSome (undecided_spaces tracer.old.tables tracer.old.proof.checker ctx.old) }
     requires unknown { ctx.old.solver_state.sat_state ≡ SatState.Unknown }
-    ensures kept { OnOk result (IsKept tracer.new.tables ctx.new) }
+    ensures kept { OnOk result (IsValidSolver tracer.new.tables ctx.new) }
     ensures logs { OnOk result (CanLog tracer.new.proof) }
     ensures schedule { KeepsSchedule ctx.old ctx.new }
     ensures within { OnOk result (GoesOnWithin ctx.old ctx.new) }

@@ -231,7 +231,7 @@ impl<W: ProofTarget, A: Allocator + Copy> Model for Solver<W, A> {
     ghost use Rattle.std.specs.Prelude.{◌≡◌, ◌-◌, not, false, length};
     ghost use Rattle.varisat_search.specs.Contexts as contexts;
     ghost use Rattle.varisat_proof.specs.Proving.{is_there};
-    ghost use Rattle.varisat_solver.specs.Summaries.{Summary, IsKeptSince};
+    ghost use Rattle.varisat_solver.specs.Summaries.{Summary, IsValidSince};
 
     ghost Value = { Summary };
 
@@ -253,7 +253,7 @@ impl<W: ProofTarget, A: Allocator + Copy> Model for Solver<W, A> {
       };
     } };
 
-    ghost invariant = { λ c. c.ctx.solver_state.state_is_invalid ≡ false → IsKeptSince c.tracer.tables c.tracer.proof c.ctx c.started c.changed_at };
+    ghost invariant = { λ c. c.ctx.solver_state.state_is_invalid ≡ false → IsValidSince c.tracer.tables c.tracer.proof c.ctx c.started c.changed_at };
 }
 
 impl<W: ProofTarget, A: Allocator + Copy> Solver<W, A> {

@@ -12,7 +12,7 @@ ghost use Rattle.varisat_solver.specs.Searches.{BeginsSolverStep, MakesNamedStep
 ghost use Rattle.varisat_solver.specs.Accepting.{HasUser};
 ghost use Rattle.varisat_solver.specs.Carried.{named_literals};
 ghost use Rattle.varisat_solver.specs.Spaces.{FitSome};
-ghost use Rattle.varisat_solver.specs.Summaries.{undecided_spaces, IsKept};
+ghost use Rattle.varisat_solver.specs.Summaries.{undecided_spaces, IsValidSolver};
 
 use crate::carrying::carry_literals;
 use crate::dropping::drop_fixed;
@@ -34,7 +34,7 @@ fn begin<W: ProofTarget, A: Allocator + Copy>(
     ctx: &mut Context<A>,
     literals: &mut Vec<Lit, A>,
 ) -> Result<(), StepError>
-    requires kept { IsKept tracer.old.tables ctx.old }
+    requires kept { IsValidSolver tracer.old.tables ctx.old }
     requires logs { CanLog tracer.old.proof }
     requires stands { FitSome (undecided_spaces tracer.old.tables tracer.old.proof.checker ctx.old) }
     requires unknown { ctx.old.solver_state.sat_state ≡ SatState.Unknown }
@@ -79,7 +79,7 @@ fn named_conflict_step<W: ProofTarget, A: Allocator + Copy>(
     ctx: &mut Context<A>,
     literals: &mut Vec<Lit, A>,
 ) -> Result<(), StepError>
-    requires kept { IsKept tracer.old.tables ctx.old }
+    requires kept { IsValidSolver tracer.old.tables ctx.old }
     requires logs { CanLog tracer.old.proof }
     requires stands { FitSome (undecided_spaces tracer.old.tables tracer.old.proof.checker ctx.old) }
     requires unknown { ctx.old.solver_state.sat_state ≡ SatState.Unknown }
@@ -105,7 +105,7 @@ fn make_step<W: ProofTarget, A: Allocator + Copy>(
     ctx: &mut Context<A>,
     literals: &mut Vec<Lit, A>,
 ) -> Result<(), StepError>
-    requires kept { IsKept tracer.old.tables ctx.old }
+    requires kept { IsValidSolver tracer.old.tables ctx.old }
     requires logs { CanLog tracer.old.proof }
     requires stands { FitSome (undecided_spaces tracer.old.tables tracer.old.proof.checker ctx.old) }
     requires unknown { ctx.old.solver_state.sat_state ≡ SatState.Unknown }
@@ -137,7 +137,7 @@ pub fn find_verdict<W: ProofTarget, A: Allocator + Copy>(
     literals: &mut Vec<Lit, A>,
     max_steps: u64,
 ) -> Result<Option<bool>, StepError>
-    requires kept { IsKept tracer.old.tables ctx.old }
+    requires kept { IsValidSolver tracer.old.tables ctx.old }
     requires logs { CanLog tracer.old.proof }
     requires stands { FitSome (undecided_spaces tracer.old.tables tracer.old.proof.checker ctx.old) }
     requires unknown { ctx.old.solver_state.sat_state ≡ SatState.Unknown }

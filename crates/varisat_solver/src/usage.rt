@@ -1,6 +1,6 @@
 //! What the calls that set the mode of a variable and hide it change.
 ghost use Rattle.std.specs.Prelude.{◌≡◌, ◌≢◌, false, None, MatchBool, IfOk, OnOk, OnErr};
-ghost use Rattle.varisat_names.specs.VarData.{kept_at};
+ghost use Rattle.varisat_names.specs.VarData.{data_at};
 ghost use Rattle.varisat_names.specs.VarMap.{at};
 ghost use Rattle.varisat_tracer.specs.Tracing.{tracer_state};
 ghost use Rattle.varisat_solver.specs.Accepting.{AreBounded};
@@ -71,7 +71,7 @@ fn leave_if_unused<W: ProofTarget, A: Allocator + Copy>(
     tracer: &mut SolverTracer<W, A>,
     global: Var,
 ) -> Result<(), AllocError>
-    requires live { (kept_at tracer.old.tables.kept global).deleted ≡ false }
+    requires live { (data_at tracer.old.tables.kept global).deleted ≡ false }
     requires unnamed { at tracer.old.tables.users.backward global ≡ None }
     ensures leaves { OnOk result (LeavesIfUnused (tracer_state tracer.old) global (tracer_state tracer.new)) }
     ensures proof { OnErr result (tracer.new.proof ≡ tracer.old.proof) }

@@ -6,7 +6,7 @@ use Rattle.varisat_theory.specs.Renaming.{rename}
 use Rattle.varisat_theory.specs.Journals.{Entry, Leaves}
 use Rattle.varisat_trace.specs.declared.tracer.TraceError.{TraceError}
 use Rattle.varisat_names.specs.VarMap.{at}
-use Rattle.varisat_names.specs.VarData.{kept_at}
+use Rattle.varisat_names.specs.VarData.{data_at}
 use Rattle.varisat_names.specs.Variables.{Tables}
 use Rattle.varisat_proof.specs.Proving.{OpenState, ProofParts, is_there, IsLogged, IsBegunIf, Logs, logged, CanCountTargetFault, IsUsable, MayBeHeld}
 use Rattle.varisat_tracer.specs.declared.tracer.SolverTracer.{SolverTracer}
@@ -70,7 +70,7 @@ LogsGlobally x entries (Err e) y = (y.tables ≡ x.tables) × Logs x.proof (logg
 
 -- what the proof is told of a global variable that has lost its name or its solver variable: that it is gone, where it is not live any more
 abbrev pub leaves_if_deleted : Tables → ℕ → List Entry
-leaves_if_deleted t x = if (kept_at t.kept x).deleted then Leaves x ∷ [] else []
+leaves_if_deleted t x = if (data_at t.kept x).deleted then Leaves x ∷ [] else []
 
 -- A target that may still count a fault, if a proof is open, and a checker that is not spent, if one runs.
 pub record CanLog (p : ProofParts) : Type 0 where

@@ -1,7 +1,7 @@
 //! What is kept of the global variables, and which may be used again.
 ghost use Rattle.std.specs.Prelude.{◌≡◌, ◌<◌, ◌≤◌, ◌^◌, true, false, [], length, OnOk, OnErr};
 ghost use Rattle.std.specs.Borrow.{sem};
-ghost use Rattle.varisat_names.specs.VarData.{fresh, dead, kept_at, reaching, IsKeptAs, IsLeastDeleted, AreDeleted};
+ghost use Rattle.varisat_names.specs.VarData.{fresh, dead, data_at, reaching, IsDataAt, IsLeastDeleted, AreDeleted};
 
 use super::data::VarData;
 use std::alloc::{AllocError, Allocator};
@@ -19,9 +19,9 @@ pub struct Globals<A: Allocator + Copy> {
 impl<A: Allocator + Copy> Model for Globals<A> {
     ghost use Rattle.std.specs.Prelude.{◌≤◌, ◌^◌, length};
     ghost use Rattle.std.specs.Vec.{vec_capacity};
-    ghost use Rattle.varisat_names.specs.VarData.{KeptList};
+    ghost use Rattle.varisat_names.specs.VarData.{DataList};
 
-    ghost Value = { KeptList };
+    ghost Value = { DataList };
 
     ghost view = { λ g. record { kept = g.data.items; capacity = vec_capacity g.data; free = g.free } };
 
@@ -29,7 +29,7 @@ impl<A: Allocator + Copy> Model for Globals<A> {
 }
 
 impl<A: Allocator + Copy> Globals<A> {
-    ghost use Rattle.varisat_names.specs.Lending.{lends_kept};
+    ghost use Rattle.varisat_names.specs.Lending.{lends_data_at};
 
     /// No variables. It takes no memory.
     pub fn new_in(alloc: A) -> Globals<A>
@@ -81,10 +81,10 @@ impl<A: Allocator + Copy> Globals<A> {
     /// Makes a variable that is not live one that just came into use. There is room.
     pub fn make(&mut self, global: Var)
         requires near { global ≤ length self.old.kept }
-        requires unused { (kept_at self.old.kept global).deleted ≡ true }
+        requires unused { (data_at self.old.kept global).deleted ≡ true }
         requires room { length self.old.kept < self.old.capacity }
         requires listed { AreDeleted self.old.kept self.old.free }
-        ensures kept { IsKeptAs self.old.kept global fresh self.new.kept }
+        ensures kept { IsDataAt self.old.kept global fresh self.new.kept }
         ensures listed { AreDeleted self.new.kept self.new.free }
     {
         if global.index() < self.data.len() {
@@ -99,7 +99,7 @@ impl<A: Allocator + Copy> Globals<A> {
     pub fn delete(&mut self, global: Var) -> Result<(), AllocError>
         requires made { global < length self.old.kept }
         requires listed { AreDeleted self.old.kept self.old.free }
-        ensures deleted { OnOk result (IsKeptAs self.old.kept global dead self.new.kept) }
+        ensures deleted { OnOk result (IsDataAt self.old.kept global dead self.new.kept) }
         ensures refused { OnErr result (self.new.kept ≡ self.old.kept) }
         ensures listed { AreDeleted self.new.kept self.new.free }
     {
@@ -113,7 +113,7 @@ impl<A: Allocator + Copy> Globals<A> {
         requires made { global < length self.old.kept }
         requires live { old_data.deleted ≡ false }
         requires listed { AreDeleted self.old.kept self.old.free }
-        ensures kept { IsKeptAs self.old.kept global old_data self.new.kept }
+        ensures kept { IsDataAt self.old.kept global old_data self.new.kept }
         ensures listed { AreDeleted self.new.kept self.new.free }
     {
         self.free.remove(&global.index());
@@ -123,7 +123,7 @@ impl<A: Allocator + Copy> Globals<A> {
     /// What is kept of the variable.
     pub fn data(&self, global: Var) -> &VarData
         requires { global < length self.now.kept }
-        ensures { result.now ≡ kept_at self.now.kept global }
+        ensures { result.now ≡ data_at self.now.kept global }
     {
         &self.data[global.index()]
     }
@@ -131,8 +131,8 @@ impl<A: Allocator + Copy> Globals<A> {
     /// What is kept of the variable, to be changed. The list of those that may be used again stays.
     pub fn data_mut(&mut self, global: Var) -> &mut VarData
         requires { global < length self.old.kept }
-        ensures* lends { sem 𝓛 (lends_kept A.row A.Allocator self.entry global result) }
-        ensures value { result.now ≡ kept_at self.old.kept global }
+        ensures* lends { sem 𝓛 (lends_data_at A.row A.Allocator self.entry global result) }
+        ensures value { result.now ≡ data_at self.old.kept global }
     {
         &mut self.data[global.index()]
     }
@@ -152,9 +152,9 @@ impl<A: Allocator + Copy> Globals<A> {
     /// Keeps other data of the variable, which is live as it was before.
     pub fn set_data(&mut self, global: Var, new_data: VarData)
         requires made { global < length self.old.kept }
-        requires live { new_data.deleted ≡ (kept_at self.old.kept global).deleted }
+        requires live { new_data.deleted ≡ (data_at self.old.kept global).deleted }
         requires listed { AreDeleted self.old.kept self.old.free }
-        ensures kept { IsKeptAs self.old.kept global new_data self.new.kept }
+        ensures kept { IsDataAt self.old.kept global new_data self.new.kept }
         ensures listed { AreDeleted self.new.kept self.new.free }
     {
         self.data[global.index()] = new_data;

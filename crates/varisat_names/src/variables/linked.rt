@@ -3,7 +3,7 @@ ghost use Rattle.std.specs.Prelude.{◌≡◌, ◌≤◌, ◌<◌, ◌^◌, ◌+
 ghost use Rattle.varisat_names.specs.Maps.{chain};
 ghost use Rattle.varisat_names.specs.VarMap.{at, IsLeastUnmapped, IsFull};
 ghost use Rattle.varisat_names.specs.VarBiMap.{IsParted};
-ghost use Rattle.varisat_names.specs.VarData.{dead, kept_at, IsKeptAs, IsLeastDeleted, AreDeleted};
+ghost use Rattle.varisat_names.specs.VarData.{dead, data_at, IsDataAt, IsLeastDeleted, AreDeleted};
 ghost use Rattle.varisat_names.specs.Variables.{no_variables, unused, AreFree, AreListed, AreLinked, IsGiven, AreNextGiven, IsNamed, IsTaken, IsChangedTo, IsHidden, IsDeletedIfUnused, IsDropped, IsShown};
 
 use super::Variables;
@@ -109,7 +109,7 @@ impl<A: Allocator + Copy> LinkedVariables<A> {
     /// What is kept of the global variable.
     pub fn var_data_global(&self, global: Var) -> &VarData
         requires { global < length self.now.kept }
-        ensures { result.now ≡ kept_at self.now.kept global }
+        ensures { result.now ≡ data_at self.now.kept global }
     {
         self.variables.var_data_global(global)
     }
@@ -190,7 +190,7 @@ impl<A: Allocator + Copy> LinkedVariables<A> {
     #[cold]
     #[inline(never)]
     pub fn take_solver_var(&mut self, global: Var) -> Result<Var, AllocError>
-        requires live { (kept_at self.old.kept global).deleted ≡ false }
+        requires live { (data_at self.old.kept global).deleted ≡ false }
         requires free { at self.old.solvers.forward global ≡ None }
         requires solvers { length self.old.solvers.backward < 2 ^ 31 }
         ensures taken { IfOk result (IsTaken self.old self.new global) }
@@ -227,8 +227,8 @@ impl<A: Allocator + Copy> LinkedVariables<A> {
 
     /// Changes how the live variable may be used.
     pub fn set_sampling_mode(&mut self, global: Var, sampling_mode: SamplingMode)
-        requires { (kept_at self.old.kept global).deleted ≡ false }
-        ensures { IsChangedTo self.old self.new global (record (kept_at self.old.kept global) { sampling_mode = sampling_mode }) }
+        requires { (data_at self.old.kept global).deleted ≡ false }
+        ensures { IsChangedTo self.old self.new global (record (data_at self.old.kept global) { sampling_mode = sampling_mode }) }
     {
         let mut kept = *self.variables.globals.data(global);
         kept.sampling_mode = sampling_mode;
@@ -237,8 +237,8 @@ impl<A: Allocator + Copy> LinkedVariables<A> {
 
     /// Keeps the value that a unit clause forces for the live variable.
     pub fn set_unit(&mut self, global: Var, value: bool)
-        requires { (kept_at self.old.kept global).deleted ≡ false }
-        ensures { IsChangedTo self.old self.new global (record (kept_at self.old.kept global) { unit = Some value }) }
+        requires { (data_at self.old.kept global).deleted ≡ false }
+        ensures { IsChangedTo self.old self.new global (record (data_at self.old.kept global) { unit = Some value }) }
     {
         let mut kept = *self.variables.globals.data(global);
         kept.unit = Some(value);
@@ -247,8 +247,8 @@ impl<A: Allocator + Copy> LinkedVariables<A> {
 
     /// Marks whether the live variable is isolated.
     pub fn set_isolated(&mut self, global: Var, isolated: bool)
-        requires { (kept_at self.old.kept global).deleted ≡ false }
-        ensures { IsChangedTo self.old self.new global (record (kept_at self.old.kept global) { isolated = isolated }) }
+        requires { (data_at self.old.kept global).deleted ≡ false }
+        ensures { IsChangedTo self.old self.new global (record (data_at self.old.kept global) { isolated = isolated }) }
     {
         let mut kept = *self.variables.globals.data(global);
         kept.isolated = isolated;
@@ -257,8 +257,8 @@ impl<A: Allocator + Copy> LinkedVariables<A> {
 
     /// Marks whether the live variable is assumed.
     pub fn set_assumed(&mut self, global: Var, assumed: bool)
-        requires { (kept_at self.old.kept global).deleted ≡ false }
-        ensures { IsChangedTo self.old self.new global (record (kept_at self.old.kept global) { assumed = assumed }) }
+        requires { (data_at self.old.kept global).deleted ≡ false }
+        ensures { IsChangedTo self.old self.new global (record (data_at self.old.kept global) { assumed = assumed }) }
     {
         let mut kept = *self.variables.globals.data(global);
         kept.assumed = assumed;
@@ -281,7 +281,7 @@ impl<A: Allocator + Copy> LinkedVariables<A> {
     /// Lets the live variable, which has no name, be used again where it has no solver variable and is isolated. Where
     /// memory is refused nothing changes.
     pub fn delete_global_if_unused(&mut self, global: Var) -> Result<(), AllocError>
-        requires live { (kept_at self.old.kept global).deleted ≡ false }
+        requires live { (data_at self.old.kept global).deleted ≡ false }
         requires unnamed { at self.old.users.backward global ≡ None }
         ensures deleted { OnOk result (IsDeletedIfUnused self.old self.new global) }
         ensures refused { OnErr result (self.new ≡ self.old) }
@@ -297,7 +297,7 @@ impl<A: Allocator + Copy> LinkedVariables<A> {
     /// Gives the live variable, which has no name, the least free one, and lets it be used by the mode. Where memory
     /// is refused nothing changes.
     pub fn show(&mut self, global: Var, sampling_mode: SamplingMode) -> Result<Var, AllocError>
-        requires live { (kept_at self.old.kept global).deleted ≡ false }
+        requires live { (data_at self.old.kept global).deleted ≡ false }
         requires unnamed { at self.old.users.backward global ≡ None }
         requires names { length self.old.users.forward < 2 ^ 31 }
         ensures shown { IfOk result (IsShown self.old self.new global sampling_mode) }
@@ -328,11 +328,11 @@ fn release_and_delete<A: Allocator + Copy>(
     name: Var,
 ) -> Result<(), AllocError>
     requires named { at names.old.pairs.forward name ≡ Some variable }
-    requires live { (kept_at globals.old.kept variable).deleted ≡ false }
+    requires live { (data_at globals.old.kept variable).deleted ≡ false }
     requires listed { AreFree names.old.pairs.forward names.old.free }
     requires deleted { AreDeleted globals.old.kept globals.old.free }
     ensures parted { OnOk result (IsParted names.old.pairs names.new.pairs name variable) }
-    ensures dead { OnOk result (IsKeptAs globals.old.kept variable dead globals.new.kept) }
+    ensures dead { OnOk result (IsDataAt globals.old.kept variable dead globals.new.kept) }
     ensures listed { AreFree names.new.pairs.forward names.new.free }
     ensures deleted { AreDeleted globals.new.kept globals.new.free }
     ensures names_refused { OnErr result (names.new.pairs ≡ names.old.pairs) }

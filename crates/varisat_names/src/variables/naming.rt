@@ -1,7 +1,7 @@
 //! Names come into use, modes are set, and hidden variables come back.
 ghost use Rattle.std.specs.Prelude.{◌≡◌, ◌≤◌, ◌<◌, ◌^◌, ◌+◌, ◌-◌, ℕ, List, None, false, length, IfOk, OnOk, OnErr};
 ghost use Rattle.varisat_names.specs.VarMap.{at};
-ghost use Rattle.varisat_names.specs.VarData.{kept_at};
+ghost use Rattle.varisat_names.specs.VarData.{data_at};
 ghost use Rattle.varisat_names.specs.Variables.{AreNextGiven, IsNamed};
 ghost use Rattle.varisat_names.specs.NamesAndModes.{IsLeastGiven, MovesName, SetsModeOf, AreShownInTurn, ShowsAllHidden, ShowsOne};
 
@@ -52,7 +52,7 @@ pub fn set_sampling_mode<A: Allocator + Copy>(
     global: Var,
     mode: SamplingMode,
 ) -> Result<Option<Var>, AllocError>
-    requires live { (kept_at variables.old.kept global).deleted ≡ false }
+    requires live { (data_at variables.old.kept global).deleted ≡ false }
     requires names { length variables.old.users.forward < 2 ^ 31 }
     ensures set { IfOk result (SetsModeOf global mode variables.old variables.new) }
     ensures moves { OnErr result (MovesName mode (at variables.old.users.backward global)) }

@@ -1,7 +1,7 @@
 //! Each call, with ample memory and with little.
 ghost use Rattle.std.specs.Prelude.{◌≡◌, false, IsTrue};
 ghost use Rattle.varisat_names.specs.VarBiMap.{no_pairs};
-ghost use Rattle.varisat_names.specs.VarData.{kept_at};
+ghost use Rattle.varisat_names.specs.VarData.{data_at};
 ghost use Rattle.varisat_names.specs.Variables.{no_variables};
 
 use linked_list_allocator::LocalHeap;
@@ -34,7 +34,7 @@ pub fn take<A: Allocator + Copy>(
 
 /// Whether the global variable is live.
 pub fn is_live<A: Allocator + Copy>(variables: &LinkedVariables<A>, global: Var) -> bool
-    ensures { IsTrue result → (kept_at variables.now.kept global).deleted ≡ false }
+    ensures { IsTrue result → (data_at variables.now.kept global).deleted ≡ false }
 {
     global.index() < variables.variables().global_watermark()
         && !variables.var_data_global(global).deleted

@@ -1,7 +1,7 @@
 //! Names that come into use, modes that are set, hidden variables that come back, solver variables that are taken away,
 //! and the model of global variables.
 ghost use Rattle.std.specs.Prelude.{◌≡◌, ◌≤◌, ◌<◌, false, length, IsTrue};
-ghost use Rattle.varisat_names.specs.VarData.{kept_at};
+ghost use Rattle.varisat_names.specs.VarData.{data_at};
 ghost use Rattle.varisat_search.specs.Contexts.{IsReady};
 
 use super::searches::loaded;
@@ -20,7 +20,7 @@ use varisat_search::state::SolverState;
 
 /// Whether the global variable is live.
 fn is_live<A: Allocator + Copy>(variables: &LinkedVariables<A>, global: Var) -> bool
-    ensures { IsTrue result → (kept_at variables.now.kept global).deleted ≡ false }
+    ensures { IsTrue result → (data_at variables.now.kept global).deleted ≡ false }
 {
     global.index() < variables.global_watermark() && !variables.var_data_global(global).deleted
 }

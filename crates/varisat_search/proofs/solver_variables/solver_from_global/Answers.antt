@@ -3,7 +3,7 @@ use Rattle.std.proofs.lemmas.Grind.{common_steps}
 use Rattle.std.proofs.Common.{◌≡◌, Some, None, List, length, sym, ap, ◌∙◌, subst, arith}
 use Rattle.varisat_theory.specs.Searches.{IsLiteralOf}
 use Rattle.varisat_names.specs.VarMap.{at}
-use Rattle.varisat_names.specs.VarData.{kept_at}
+use Rattle.varisat_names.specs.VarData.{data_at}
 use Rattle.varisat_names.specs.declared.variables.data.VarData.{VarData}
 use Rattle.varisat_search.specs.declared.context.Context.{Context}
 use Rattle.varisat_search.specs.Contexts.{view}
@@ -59,7 +59,7 @@ returns-clause-solver g c =
     let t = c.in_ok-solver.ensures.taken in
     let x = c.args.global in
     let left : at m.solvers.forward x ≡ None = ap (λ b. at b x) (sym c.solver_from_global.ensures) ∙ sym c.get.ensures ∙ c.in_default.is in
-    let same = ap (λ (ds : List VarData). kept_at ds x) (sym t.kept) ∙ sym c.var_data_global.ensures in
+    let same = ap (λ (ds : List VarData). data_at ds x) (sym t.kept) ∙ sym c.var_data_global.ensures in
     solver-case x c.in_ok-solver.solver m n c.args.ctx.now c.add_variables.new.ctx c.initialize_solver_var.new.ctx c.var_data_global.result.now.unit left t
     (ap (λ (d : VarData). d.unit) same)
     (record {

@@ -31,7 +31,7 @@ use Rattle.varisat_solver.specs.Journals.{with_entries}
 use Rattle.varisat_proof.specs.Proving.{IsCheckedIf}
 use Rattle.varisat_solver.specs.States.{State, with_variables}
 use Rattle.varisat_solver.specs.Spaces.{SpacesFit, FitWithNew}
-use Rattle.varisat_solver.specs.Summaries.{spaces_of, spaces_with, IsKept}
+use Rattle.varisat_solver.specs.Summaries.{spaces_of, spaces_with, IsValidSolver}
 use Rattle.varisat_solver.proofs.SettingsCalls.{summary_in}
 use Rattle.varisat_solver.proofs.ReturnedVariables.{reopened-not, no-model-reopened, reopened-spaces, verdict-after}
 use Rattle.varisat_solver.proofs.SolversInTurn.{with_names, HaveSolvers, have-solvers-then, has-variables, can-have-room, over-leads, over-carried, all-named, literals-within, literals-decidable}
@@ -151,7 +151,7 @@ returns-clause-kept g c =
     let r = c.in_ok-load_clause.ensures {u = tt} in
     let parts = r.assumptions (opened g here) in
     let user = ap (λ (x : AssumptionParts). x.user) parts in
-    subst (λ (t : Tables). IsKept t new) (sym (same-tables g c)) (record {
+    subst (λ (t : Tables). IsValidSolver t new) (sym (same-tables g c)) (record {
       bounded = marks-bounded taken joined k.bounded marks;
       ready = r.ready;
       count = r.keeps.count ∙ k.count ∙ sym long;

@@ -25,7 +25,7 @@ use Rattle.varisat_theory.specs.Journals.{Assumes}
 use Rattle.varisat_solver.specs.Journals.{with_entries}
 use Rattle.varisat_solver.specs.Spaces.{SpacesFit}
 use Rattle.varisat_solver.specs.States.{with_variables}
-use Rattle.varisat_solver.specs.Summaries.{spaces_of, IsKept}
+use Rattle.varisat_solver.specs.Summaries.{spaces_of, IsValidSolver}
 use Rattle.varisat_solver.proofs.AssumeList.{Assuming, forgets, list-logged, list-assumed}
 use Rattle.varisat_solver.proofs.SettingsCalls.{summary_in}
 use Rattle.varisat_solver.proofs.ReturnedVariables.{no-model-assumed, assumed-again}
@@ -112,7 +112,7 @@ returns-clause-kept g c =
     let literals = c.as_slice-lits.ensures.value ∙ over-carried to list c.solver_from_user_lits.new.solver_lits.items over in
     let mid = c.solver_from_user_lits.new.ctx in
     let new = c.set_assumptions.new.ctx in
-    subst (λ (t : Tables). IsKept t new) (sym (c.in_ok-log_assumptions.ensures {u = tt}).logged.tables) (record {
+    subst (λ (t : Tables). IsValidSolver t new) (sym (c.in_ok-log_assumptions.ensures {u = tt}).logged.tables) (record {
       bounded = y.bounded;
       ready = r.ready;
       count = r.keeps.variables.count ∙ k.count ∙ sym long;

@@ -15,7 +15,7 @@ use Rattle.varisat_proof.specs.Proving.{ProofParts}
 use Rattle.varisat_tracer.proofs.Logging.{logs-logged, breaks-proof, open-unbroken, proof-breaks-on}
 use Rattle.varisat_solver.specs.Searches.{LogsSome, Turn, ComesOn}
 use Rattle.varisat_solver.proofs.RootSimplifiedParts.{settled-parts}
-use Rattle.varisat_solver.specs.Summaries.{undecided_spaces, IsKept}
+use Rattle.varisat_solver.specs.Summaries.{undecided_spaces, IsValidSolver}
 use Rattle.varisat_solver.proofs.SearchVerdicts.{kept-on}
 use Rattle.varisat_solver.proofs.dropping.drop_fixed.Given.{Over}
 use Rattle.varisat_solver.proofs.dropping.drop_fixed.Goals.{In-Ok, In_ok-drop_unneeded, then-current_level-gt0-via-then-current_level-gt0, then-current_level-gt0-via-else-current_level-gt0+then-fully_propagated}
@@ -52,12 +52,12 @@ left-logged g c = some-through c.simplify_root.new.proof.proof c.drop_listed.new
     (c.in_ok-drop_listed.ensures {u = tt}).leave.given (c.in_ok-drop_unneeded.ensures {u = tt}).leave.given
 
 -- the solver keeps what it did
-kept : (g : Over) (c : In-Ok g) → IsKept c.simplify_root.new.proof.tables c.simplify_root.new.ctx
+kept : (g : Over) (c : In-Ok g) → IsValidSolver c.simplify_root.new.proof.tables c.simplify_root.new.ctx
 kept g c =
     let x = c.args.ctx.now in
     let goes = (c.in-Ok.ensures {u = tt}).goes_on in
     let same = ap (λ (z : Context g.row.A.Denot). z.assumptions) c.simplify_root.ensures.kept in
-    subst (λ (t : Tables). IsKept t c.simplify_root.new.ctx) (sym goes.proves.2.1.tables)
+    subst (λ (t : Tables). IsValidSolver t c.simplify_root.new.ctx) (sym goes.proves.2.1.tables)
     (kept-on c.args.tracer.now.tables x c.simplify_root.new.ctx c.requires.kept goes.ready goes.extends.count goes.decidable same)
 
 pub returns-then-is_err-clause-kept : goal.returns-then-is_err-clause-kept

@@ -4,7 +4,7 @@ use Rattle.varisat_theory.specs.Literals.{variable_of}
 use Rattle.varisat_names.specs.VarMap.{at}
 use Rattle.varisat_names.specs.Variables.{Tables, IsChangedTo}
 use Rattle.varisat_names.specs.VarBiMap.{BiMap}
-use Rattle.varisat_names.specs.VarData.{kept_at}
+use Rattle.varisat_names.specs.VarData.{data_at}
 use Rattle.varisat_names.specs.declared.variables.data.VarData.{VarData}
 use Rattle.varisat_names.proofs.Maps.{updated-at}
 use Rattle.varisat_literals.specs.Numbers.{polarity_of}
@@ -47,7 +47,7 @@ set_isolated-requires g c =
     let e : at t.solvers.backward c.var-solver.result ≡ Some x = ap (λ m. at m c.var-solver.result) (sym c.global_from_solver.ensures)
     ∙ sym c.get.ensures ∙ c.unwrap-global.ensures in
     ap (λ (d : VarData). d.deleted)
-    (c.set_unit.ensures.kept.at_each x ∙ updated-at (kept_at t.kept) x (record (kept_at t.kept x) { unit = Some c.is_positive.result }))
+    (c.set_unit.ensures.kept.at_each x ∙ updated-at (data_at t.kept) x (record (data_at t.kept x) { unit = Some c.is_positive.result }))
     ∙ c.prove_linked.ensures.taken x c.var-solver.result (c.prove_linked.ensures.solvers.back x c.var-solver.result e)
 
 pub loop-lit-preserved : goal.loop-lit-preserved
@@ -65,12 +65,12 @@ loop-lit-preserved g c =
     let x = c.unwrap-global.result in
     let set = c.set_unit.new.self in
     let marked = c.set_isolated.new.self in
-    let known = record (kept_at mid.kept x) { unit = Some c.is_positive.result } in
+    let known = record (data_at mid.kept x) { unit = Some c.is_positive.result } in
     let sign : c.is_positive.result ≡ polarity_of l = sign-same l c.is_positive.result c.is_positive.ensures in
-    let logged = ap (λ (d : VarData). record d { isolated = true }) (c.set_unit.ensures.kept.at_each x ∙ updated-at (kept_at mid.kept) x known)
-    ∙ ap (λ b. fixed_to b (kept_at mid.kept x)) sign in
-    let changed : IsChangedTo mid marked x (fixed_to (polarity_of l) (kept_at mid.kept x)) =
-    changed-twice mid set marked x known (fixed_to (polarity_of l) (kept_at mid.kept x)) c.set_unit.ensures
+    let logged = ap (λ (d : VarData). record d { isolated = true }) (c.set_unit.ensures.kept.at_each x ∙ updated-at (data_at mid.kept) x known)
+    ∙ ap (λ b. fixed_to b (data_at mid.kept x)) sign in
+    let changed : IsChangedTo mid marked x (fixed_to (polarity_of l) (data_at mid.kept x)) =
+    changed-twice mid set marked x known (fixed_to (polarity_of l) (data_at mid.kept x)) c.set_unit.ensures
     (subst (IsChangedTo set marked x) logged c.set_isolated.ensures) in
     let (y, loses) = c.in_ok-drop_solver_var.ensures.dropped in
     let q : y ≡ x = (let z : Some y ≡ Some x = sym loses.dropped.taken

@@ -11,7 +11,7 @@ use Rattle.varisat_trace.proofs.Broken.{passed-on}
 use Rattle.varisat_tracer.specs.Tracing.{tracer_state, TakesGlobally, BreaksProof}
 use Rattle.varisat_tracer.proofs.Logging.{breaks-proof, proof-breaks-on}
 use Rattle.varisat_solver.specs.Searches.{turn_of}
-use Rattle.varisat_solver.specs.Summaries.{undecided_spaces, IsKept}
+use Rattle.varisat_solver.specs.Summaries.{undecided_spaces, IsValidSolver}
 use Rattle.varisat_solver.proofs.SinceSteps.{leaves-begun, come-begun, steps-begun}
 use Rattle.varisat_solver.proofs.CheckedHeld.{relied, some-on}
 use Rattle.varisat_solver.proofs.SolverSteps.{comes-through, unknown-undecided, some-through, begins-any, begin-count, begin-kept, begin-logged, begin-tables, begin-logs, begin-comes}
@@ -29,10 +29,10 @@ begun : (g : Over) (c : In_ok-begin_step g) →
     c.begin_step.new.ctx
 begun g c = (c.in_ok-begin_step.ensures {u = tt}).begins
 
-kept : (g : Over) (c : In_ok-begin_step g) → IsKept c.begin_step.new.proof.tables c.begin_step.new.ctx
+kept : (g : Over) (c : In_ok-begin_step g) → IsValidSolver c.begin_step.new.proof.tables c.begin_step.new.ctx
 kept g c =
     let b = begun g c in
-    subst (λ (t : Tables). IsKept t c.begin_step.new.ctx)
+    subst (λ (t : Tables). IsValidSolver t c.begin_step.new.ctx)
     (sym (begin-tables (tracer_state c.args.tracer.now) (tracer_state c.begin_step.new.proof) c.args.ctx.now c.begin_step.new.ctx b))
     (begin-kept c.args.ctx.now c.begin_step.new.ctx b c.requires.kept.ready c.args.tracer.now.tables c.requires.kept)
 

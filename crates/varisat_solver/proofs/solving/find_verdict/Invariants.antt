@@ -4,13 +4,13 @@ use Rattle.varisat_tracer.specs.Tracing.{tracer_state, CanLog}
 use Rattle.varisat_search.specs.Contexts.{view}
 use Rattle.varisat_solver.specs.Dropping.{LeavesInTime}
 use Rattle.varisat_solver.specs.Searches.{LogsSome, turn_of, ComesOn}
-use Rattle.varisat_solver.specs.Summaries.{undecided_spaces, IsKept}
+use Rattle.varisat_solver.specs.Summaries.{undecided_spaces, IsValidSolver}
 use Rattle.varisat_solver.proofs.FindVerdictSteps.{HasMade}
 use Rattle.varisat_solver.proofs.solving.find_verdict.Given as goal
 
 abbrev pub invariant-steps : goal.invariant-steps
 invariant-steps g l = record {
-  kept : IsKept l.tracer.tables l.ctx;
+  kept : IsValidSolver l.tracer.tables l.ctx;
   logs : CanLog l.tracer.proof;
   logged : LogsSome l.fn.tracer.proof l.tracer.proof;
   count : length l.ctx.assignment.current ≡ length l.fn.ctx.assignment.current;

@@ -1,6 +1,6 @@
 use Rattle.std.proofs.Common.{[], ◌∷◌, ◌≡◌, None, false, ◌∙◌, sym, ap, refl}
 use Rattle.varisat_names.specs.VarMap.{at}
-use Rattle.varisat_names.specs.VarData.{kept_at}
+use Rattle.varisat_names.specs.VarData.{data_at}
 use Rattle.varisat_names.proofs.Maps.{is_none-none}
 use Rattle.varisat_names.specs.NamesAndModes.{Shown}
 use Rattle.varisat_names.proofs.NamedVariables.{shown-refused}
@@ -8,7 +8,7 @@ use Rattle.varisat_names.proofs.variables.naming.show_if_hidden.Goals as goal
 
 pub returns-in_err-push-clause-refused : goal.returns-in_err-push-clause-refused
 returns-in_err-push-clause-refused g c =
-    let live : (kept_at c.args.variables.now.kept c.args.global).deleted ≡ false = ap (λ d. d.deleted) (sym c.var_data_global.ensures)
+    let live : (data_at c.args.variables.now.kept c.args.global).deleted ≡ false = ap (λ d. d.deleted) (sym c.var_data_global.ensures)
     ∙ c.if-var_data_global.false in
     let got = c.get.ensures ∙ ap (λ m. at m c.args.global) c.user_from_global.ensures in
     let unnamed : at c.args.variables.now.users.backward c.args.global ≡ None = sym got

@@ -1,7 +1,7 @@
 use Rattle.std.proofs.lemmas.Grind.{common_steps}
 use Rattle.std.proofs.Common.{ap, ◌∙◌, arith}
 use Rattle.varisat_names.specs.VarMap.{at}
-use Rattle.varisat_names.specs.VarData.{kept_at}
+use Rattle.varisat_names.specs.VarData.{data_at}
 use Rattle.varisat_names.proofs.Linked.{keep-live, join-users}
 use Rattle.varisat_names.proofs.LinkedCalls.{begun, names-stay}
 use Rattle.varisat_names.proofs.variables.linked.LinkedVariables.show.Goals as goal
@@ -14,7 +14,7 @@ invariant_of-self-2 g c =
     let w = c.self-inside.view_is in
     let (linked, listed) = begun (ap (λ s. s.variables) w) c.self.invariant in
     let user = c.next_unmapped_user-user.result in
-    let live = ap (λ s. (kept_at s.variables.tables.kept c.args.global).deleted) w ∙ ap (λ t. (kept_at t.kept c.args.global).deleted) c.self.view_is
+    let live = ap (λ s. (data_at s.variables.tables.kept c.args.global).deleted) w ∙ ap (λ t. (data_at t.kept c.args.global).deleted) c.self.view_is
     ∙ c.requires.live in
     let unnamed = ap (λ s. at s.variables.tables.users.backward c.args.global) w ∙ ap (λ t. at t.users.backward c.args.global) c.self.view_is
     ∙ c.requires.unnamed in

@@ -1,6 +1,6 @@
 use Rattle.std.proofs.Common.{sym, ap, ◌∙◌, subst, refl}
 use Rattle.varisat_names.specs.VarMap.{at}
-use Rattle.varisat_names.specs.VarData.{kept_at}
+use Rattle.varisat_names.specs.VarData.{data_at}
 use Rattle.varisat_names.specs.VarBiMap.{turned}
 use Rattle.varisat_names.specs.Variables.{AreLinked, AreListed}
 use Rattle.varisat_names.proofs.Linked.{join-solvers, joined-turned, same-tables, on-either}
@@ -11,7 +11,7 @@ invariant_of-self g c =
     let w = c.self-inside.view_is in
     let (linked, listed) = subst (λ s. AreLinked s.variables.tables × AreListed s.variables) (sym w) c.self.invariant in
     let solver = c.next_unmapped_solver-solver.result in
-    let live = ap (λ s. (kept_at s.variables.tables.kept c.args.global).deleted) w ∙ ap (λ t. (kept_at t.kept c.args.global).deleted) c.self.view_is
+    let live = ap (λ s. (data_at s.variables.tables.kept c.args.global).deleted) w ∙ ap (λ t. (data_at t.kept c.args.global).deleted) c.self.view_is
     ∙ c.requires.live in
     let untaken = ap (λ s. at s.variables.tables.solvers.forward c.args.global) w ∙ ap (λ t. at t.solvers.forward c.args.global) c.self.view_is
     ∙ c.requires.free in

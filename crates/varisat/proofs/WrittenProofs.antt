@@ -3,7 +3,7 @@ use Rattle.std.proofs.Common.{◌≡◌, ◌∙◌, ℕ, Bool, Option, List, [],
 use Rattle.std.proofs.lemmas.List.{append-nil, map-append, append_cancel_left}
 use Rattle.varisat_theory.specs.Literals.{Literal, Clause}
 use Rattle.varisat_theory.specs.Propagation.{Conflicts}
-use Rattle.varisat_theory.specs.Journals.{Fails, Leads, Entry, rename_entry, Accepts, Writes, Assumes, Leaves, lines_of}
+use Rattle.varisat_theory.specs.Journals.{Fails, Leads, Entry, rename_entry, Accepts, Writes, Assumes, Retires, lines_of}
 use Rattle.varisat_theory.proofs.Journals.{leads_cut, by_leads}
 use Rattle.varisat_solver.specs.Calls.{ReturnsVerdict, by_state, IsRefuted}
 use Rattle.varisat_proof.specs.declared.proof.format.ProofFormat.TheVariants.{Marked, Drat, BinaryDrat}
@@ -75,7 +75,7 @@ plain-logged (Writes l ∷ es) line (inl e) = inl e
 plain-logged (Writes l ∷ es) line (inr h) = inr (plain-logged es line h)
 plain-logged (Assumes a ∷ es) line h = inr (plain-logged es line h)
 plain-logged (Fails core ∷ es) line h = inr (plain-logged es line h)
-plain-logged (Leaves v ∷ es) line h = plain-logged es line h
+plain-logged (Retires v ∷ es) line h = plain-logged es line h
 
 accepted-lines : (f : ProofFormat) (P : List Clause) (es : List Entry) (bytes : List ℕ) (r : Result CheckVerdict CheckerError) (Q : List Clause) →
     has_marks f ≡ false → IsDerivation P (lines_of es) → AreInRange (logged_lines (Text true) es) →

@@ -3,7 +3,7 @@ use Rattle.std.specs.Prelude.{◌≡◌, ℕ, ◌+◌, ◌≤◌, Bool, true, fa
 use Rattle.varisat_theory.specs.Membership.{◌⊆◌}
 use Rattle.varisat_theory.specs.Literals.{Literal, IsSatisfiable, IsSatisfiableWith, IsFailedCore}
 use Rattle.varisat_theory.specs.Counted.{added}
-use Rattle.varisat_theory.specs.Journals.{Entry, NoneLeaves, accepted_of, lines_of}
+use Rattle.varisat_theory.specs.Journals.{Entry, NoneRetires, accepted_of, lines_of}
 use Rattle.varisat_proof.specs.declared.proof.format.Encoding.TheVariants.{Text}
 use Rattle.varisat_proof.specs.Assumed.{lists_of, assumed_behind, CoresAreAssumed}
 use Rattle.varisat_proof.specs.Passing.{LogsConflict}
@@ -45,7 +45,7 @@ pub record IsPastJournal (p : Past) : Type 0 where
   pub lists : lists_of p.logged ≡ p.verdict.lists
   pub assumed : assumed_behind [] p.logged ≡ p.assumptions
   pub cores : CoresAreAssumed [] p.logged
-  pub stays : p.ever_hidden ≡ false → NoneLeaves p.logged
+  pub stays : p.ever_hidden ≡ false → NoneRetires p.logged
   pub in_range : p.ever_hidden ≡ false → AreInRange (logged_lines (Text true) p.logged)
   pub readable : AreInRange (logged_lines (Text true) (entries_over p.variables p.logged))
 

@@ -6,7 +6,7 @@ use Rattle.std.proofs.lemmas.Bool.Decides.{nat_tests}
 use Rattle.std.specs.Ordering.{nat_cmp}
 use Rattle.std.specs.BTreeSet.{BTreeSet, contains}
 use Rattle.varisat_names.specs.VarMap.{at, IsPut, IsFull, IsLeastUnmapped}
-use Rattle.varisat_names.specs.VarData.{fresh, dead, data_at, IsDataAt, IsLeastDeleted}
+use Rattle.varisat_names.specs.VarData.{fresh, dead, data_at, IsDataAt, IsLeastRetired}
 use Rattle.varisat_names.specs.Variables.{Tables, AreLinked, IsGiven, AreNextGiven, IsTaken, IsNothingHidden, AreFree}
 use Rattle.varisat_names.specs.declared.variables.data.VarData.{VarData}
 use Rattle.varisat_names.specs.declared.variables.data.SamplingMode.TheVariants as sampling
@@ -39,7 +39,7 @@ pub named-inside : (t : Tables) (u x : ℕ) → AreLinked t → at t.users.forwa
 named-inside t u x l e = live-inside t.kept x (l.named x u (l.users.there u x e))
 
 -- the least variable that is not live is not above the count
-pub least-near : (xs : List VarData) (x : ℕ) → IsLeastDeleted xs x → x ≤ length xs
+pub least-near : (xs : List VarData) (x : ℕ) → IsLeastRetired xs x → x ≤ length xs
 least-near xs x (d, l) = ⊎_elim (λ p. let e = kept-past xs (length xs) (omega arith) in let f = l (length xs) p in absurd cc) (λ p. p) (cases_lt (length xs) x)
 
 -- one more name at the end of those that came into use
@@ -100,7 +100,7 @@ live-put old new x d h f p n y b =
     (λ e c. f y (omega (arith, e, c, w, n))) b
 
 -- the least variable that is not live where all are
-pub least-live : (xs : List VarData) (x : ℕ) → ((y : ℕ) → y < length xs → (data_at xs y).deleted ≡ false) → IsLeastDeleted xs x → x ≡ length xs
+pub least-live : (xs : List VarData) (x : ℕ) → ((y : ℕ) → y < length xs → (data_at xs y).deleted ≡ false) → IsLeastRetired xs x → x ≡ length xs
 least-live xs x f l = ⊎_elim (λ p. let e = f x p in let d = l.0 in absurd cc) (λ p. let n = least-near xs x l in omega (arith, p, n)) (cases_lt x (length xs))
 
 -- Where nothing was hidden yet a name that comes into use is the watermark, and leads to the variable of the same number.

@@ -48,5 +48,5 @@ pub record IsDataAt (old : List VarData) (x : ℕ) (d : VarData) (new : List Var
   pub at_each : (i : ℕ) → data_at new i ≡ updated (data_at old) x d i
 
 -- the least variable that is not live
-abbrev pub IsLeastDeleted : List VarData → ℕ → Type 0
-IsLeastDeleted kept x = ((data_at kept x).deleted ≡ true) × ((y : ℕ) → y < x → (data_at kept y).deleted ≡ false)
+abbrev pub IsLeastRetired : List VarData → ℕ → Type 0
+IsLeastRetired kept x = ((data_at kept x).deleted ≡ true) × ((y : ℕ) → y < x → (data_at kept y).deleted ≡ false)

@@ -5,7 +5,7 @@ use Rattle.std.specs.BTreeSet.{BTreeSet, contains}
 use Rattle.varisat_names.specs.Maps.{IsInverse}
 use Rattle.varisat_names.specs.VarMap.{at, IsLeastUnmapped, IsFull}
 use Rattle.varisat_names.specs.VarBiMap.{BiMap, no_pairs, IsJoined, IsParted}
-use Rattle.varisat_names.specs.VarData.{fresh, dead, data_at, IsDataAt, IsLeastDeleted, AreDeleted}
+use Rattle.varisat_names.specs.VarData.{fresh, dead, data_at, IsDataAt, IsLeastRetired, AreDeleted}
 use Rattle.varisat_names.specs.declared.variables.data.VarData.{VarData}
 use Rattle.varisat_names.specs.declared.variables.data.SamplingMode.{SamplingMode}
 use Rattle.varisat_names.specs.declared.variables.data.SamplingMode.TheVariants as sampling
@@ -29,7 +29,7 @@ pub record AreLinked (t : Tables) : Type 0 where
 
 -- The free name u leads to the least variable that was not live, which is as one that was just made.
 pub record IsGiven (old new : Tables) (u x : ℕ) : Type 0 where
-  pub unused : IsLeastDeleted old.kept x
+  pub unused : IsLeastRetired old.kept x
   pub users : IsJoined old.users new.users u x
   pub solvers : new.solvers ≡ old.solvers
   pub kept : IsDataAt old.kept x fresh new.kept
@@ -73,7 +73,7 @@ abbrev pub unless_unused : Option ℕ → VarData → VarData
 unless_unused other d = if unused other d then dead else d
 
 -- The variable x, which has no name, may be used again where it is unused. Else nothing changed.
-pub record IsDeletedIfUnused (old new : Tables) (x : ℕ) : Type 0 where
+pub record IsRetiredIfUnused (old new : Tables) (x : ℕ) : Type 0 where
   pub kept : IsDataAt old.kept x (unless_unused (at old.solvers.forward x) (data_at old.kept x)) new.kept
   pub rest : new ≡ record old { kept = new.kept }
 
@@ -86,7 +86,7 @@ pub record IsNothingHidden (t : Tables) : Type 0 where
   pub solvers : IsFull t.solvers.backward
 
 -- The global variable x has its solver variable v no longer, and may be used again where it is unused.
-pub record IsDropped (old new : Tables) (x v : ℕ) : Type 0 where
+pub record IsDetached (old new : Tables) (x v : ℕ) : Type 0 where
   pub taken : at old.solvers.backward v ≡ Some x
   pub users : new.users ≡ old.users
   pub solvers : IsParted old.solvers new.solvers x v

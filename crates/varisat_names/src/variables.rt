@@ -7,7 +7,7 @@ ghost use Rattle.std.specs.Borrow.{sem};
 ghost use Rattle.varisat_names.specs.Maps.{chain};
 ghost use Rattle.varisat_names.specs.VarMap.{at, mapped_from, IsLeastUnmapped};
 ghost use Rattle.varisat_names.specs.VarBiMap.{turned};
-ghost use Rattle.varisat_names.specs.VarData.{data_at, reaching, live_from, IsLeastDeleted, AreDeleted};
+ghost use Rattle.varisat_names.specs.VarData.{data_at, reaching, live_from, IsLeastRetired, AreDeleted};
 ghost use Rattle.varisat_names.specs.Variables.{no_variables, AreFree, AreListed};
 
 pub mod data;
@@ -147,7 +147,7 @@ impl<A: Allocator + Copy> Variables<A> {
     pub fn next_unmapped_global(&self) -> Var
         requires listed { AreDeleted self.now.tables.kept self.now.free.globals }
         requires room { length self.now.tables.kept < 2 ^ 31 }
-        ensures least { IsLeastDeleted self.now.tables.kept result }
+        ensures least { IsLeastRetired self.now.tables.kept result }
         ensures near { result ≤ length self.now.tables.kept }
     {
         Var::from_index(self.globals.next_deleted())

@@ -4,7 +4,7 @@ use Rattle.std.proofs.Common.{◌≡◌, suc, true, List, [], ◌∷◌, ◌++�
 use Rattle.std.proofs.lemmas.List.{append-nil}
 use Rattle.varisat_theory.specs.Literals.{Clause}
 use Rattle.varisat_theory.specs.Derivations.{Add, Delete}
-use Rattle.varisat_theory.specs.Journals.{Entry, Accepts, Writes, Assumes, Fails, Leaves, Leads, NoneLeaves, accepted_of}
+use Rattle.varisat_theory.specs.Journals.{Entry, Accepts, Writes, Assumes, Fails, Retires, Leads, NoneRetires, accepted_of}
 use Rattle.varisat_formula.specs.Formulas.{with_one_more}
 use Rattle.varisat_proof.specs.declared.proof.format.Encoding.TheVariants.{Text}
 use Rattle.varisat_proof.specs.Assumed.{assumed_behind, CoresAreAssumed, cores_of}
@@ -25,7 +25,7 @@ pub one_longer : (P : List Clause) (c : Clause) → length (P ++ c ∷ []) ≡ s
 one_longer [] c = refl
 one_longer (d ∷ P) c = ap suc (one_longer P c)
 
-pub journal_taken : (P : List Clause) (m : MarkedLog) (es : List Entry) (Q : List Clause) → Leads P es Q → NoneLeaves es →
+pub journal_taken : (P : List Clause) (m : MarkedLog) (es : List Entry) (Q : List Clause) → Leads P es Q → NoneRetires es →
     CoresAreAssumed m.assumed es → IsTakenAs P m es Q
 journal_taken P m [] Q d n c = record {
   logged = m;
@@ -76,4 +76,4 @@ journal_taken P m (Fails core ∷ es) Q (R, (f, q), d) n (within, a) =
       assumed = t.assumed;
       cores = t.cores ∙ append_assoc m.cores ((length m.inputs.clauses, core) ∷ []) (cores_of (length m.inputs.clauses) es);
     }
-journal_taken P m (Leaves v ∷ es) Q d n a = absurd n
+journal_taken P m (Retires v ∷ es) Q d n a = absurd n

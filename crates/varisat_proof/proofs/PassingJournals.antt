@@ -4,7 +4,7 @@ use Rattle.std.proofs.lemmas.List.{append-nil, map-append}
 use Rattle.varisat_theory.specs.Literals.{Clause}
 use Rattle.varisat_theory.specs.Propagation.{Conflicts}
 use Rattle.varisat_theory.specs.Derivations.{Add, Delete}
-use Rattle.varisat_theory.specs.Journals.{Entry, Accepts, Writes, Assumes, Fails, Leaves, Leads, NoneLeaves, accepted_of}
+use Rattle.varisat_theory.specs.Journals.{Entry, Accepts, Writes, Assumes, Fails, Retires, Leads, NoneRetires, accepted_of}
 use Rattle.varisat_theory.proofs.Held.{conflicts_same}
 use Rattle.varisat_theory.proofs.Journals.{leads_unique}
 use Rattle.varisat_formula.specs.Formulas.{with_one_more}
@@ -45,24 +45,24 @@ line_of (Accepts c) = line_of_kind kind.Accepts c
 line_of (Writes line) = plain_line line
 line_of (Assumes a) = line_of_kind kind.Assumes a
 line_of (Fails core) = line_of_kind kind.Fails core
-line_of (Leaves v) = line_of_kind kind.Adds []
+line_of (Retires v) = line_of_kind kind.Adds []
 
-a_line_each : (es : List Entry) → NoneLeaves es → logged_lines (Text true) es ≡ map line_of es
+a_line_each : (es : List Entry) → NoneRetires es → logged_lines (Text true) es ≡ map line_of es
 unfolding line_of
 a_line_each [] n = refl
 a_line_each (Accepts c ∷ es) n = ap (λ ls. line_of_kind kind.Accepts c ∷ ls) (a_line_each es n)
 a_line_each (Writes line ∷ es) n = ap (λ ls. plain_line line ∷ ls) (a_line_each es n)
 a_line_each (Assumes a ∷ es) n = ap (λ ls. line_of_kind kind.Assumes a ∷ ls) (a_line_each es n)
 a_line_each (Fails core ∷ es) n = ap (λ ls. line_of_kind kind.Fails core ∷ ls) (a_line_each es n)
-a_line_each (Leaves v ∷ es) n = absurd n
+a_line_each (Retires v ∷ es) n = absurd n
 
-stay_first : (es fs : List Entry) → NoneLeaves (es ++ fs) → NoneLeaves es
+stay_first : (es fs : List Entry) → NoneRetires (es ++ fs) → NoneRetires es
 stay_first [] fs n = tt
 stay_first (Accepts c ∷ es) fs n = stay_first es fs n
 stay_first (Writes line ∷ es) fs n = stay_first es fs n
 stay_first (Assumes a ∷ es) fs n = stay_first es fs n
 stay_first (Fails core ∷ es) fs n = stay_first es fs n
-stay_first (Leaves v ∷ es) fs n = absurd n
+stay_first (Retires v ∷ es) fs n = absurd n
 
 -- the first lines are those of the first entries
 first_entries : (es : List Entry) (front back : List ProofLine) → map line_of es ≡ front ++ back → (first : List Entry) × (rest : List Entry)
@@ -82,7 +82,7 @@ record IsWalk (P : List Clause) (m : MarkedLog) (es : List Entry) (t : ProofStat
   pub inputs : t.logged.inputs.clauses ≡ m.inputs.clauses ++ accepted_of es
   pub cores : t.logged.cores ≡ m.cores ++ cores_of (length m.inputs.clauses) es
 
-walk : (P : List Clause) (m : MarkedLog) (es : List Entry) (t : ProofState) → NoneLeaves es → Goes (state_of P m) (map line_of es) t → IsWalk P m es t
+walk : (P : List Clause) (m : MarkedLog) (es : List Entry) (t : ProofState) → NoneRetires es → Goes (state_of P m) (map line_of es) t → IsWalk P m es t
 unfolding line_of
 walk P m [] t n g = record {
   leads = ap (λ (x : ProofState). x.present) g;
@@ -115,7 +115,7 @@ walk P m (Fails core ∷ es) t n (none, r, (within, f, q), g) =
       inputs = w.inputs;
       cores = w.cores ∙ append_assoc m.cores ((length m.inputs.clauses, core) ∷ []) (cores_of (length m.inputs.clauses) es);
     }
-walk P m (Leaves v ∷ es) t n g = absurd n
+walk P m (Retires v ∷ es) t n g = absurd n
 
 -- before each of the lines propagation does not conflict
 goes_before : (s : ProofState) (front : List ProofLine) (line : ProofLine) (back : List ProofLine) (t : ProofState) → Goes s (front ++ line ∷ back) t →
@@ -126,17 +126,17 @@ goes_before s (l ∷ front) line back t (none, r, k, g) =
     (u, (none, r, k, h), c)
 
 -- so no beginning of the entries leads to a conflict
-none_before : (es : List Entry) (t : ProofState) → NoneLeaves es → Goes (state_of [] nothing_logged) (map line_of es) t →
+none_before : (es : List Entry) (t : ProofState) → NoneRetires es → Goes (state_of [] nothing_logged) (map line_of es) t →
     (front : List Entry) (e : Entry) (back : List Entry) → es ≡ front ++ e ∷ back → LogsConflict front → ⊥
 none_before es t n g front e back j (held, d, k) =
     let lines = ap (map line_of) j ∙ map-append line_of front (e ∷ back) in
     let (u, h, none) = goes_before (state_of [] nothing_logged) (map line_of front) (line_of e) (map line_of back) t
     (subst (λ ls. Goes (state_of [] nothing_logged) ls t) lines g) in
-    let w = walk [] nothing_logged front u (stay_first front (e ∷ back) (subst NoneLeaves j n)) h in
+    let w = walk [] nothing_logged front u (stay_first front (e ∷ back) (subst NoneRetires j n)) h in
     none (conflicts_same held u.present [] (leads_unique [] [] front held u.present refl d w.leads) k)
 
 -- nor do all, where it does not conflict at their end
-none_at_all : (es : List Entry) (t : ProofState) → NoneLeaves es → Goes (state_of [] nothing_logged) (map line_of es) t → (Conflicts t.present [] → ⊥) →
+none_at_all : (es : List Entry) (t : ProofState) → NoneRetires es → Goes (state_of [] nothing_logged) (map line_of es) t → (Conflicts t.present [] → ⊥) →
     (front back : List Entry) → es ≡ front ++ back → LogsConflict front → ⊥
 none_at_all es t n g none front [] j (held, d, k) =
     let w = walk [] nothing_logged es t n g in
@@ -147,11 +147,11 @@ none_at_all es t n g none front (e ∷ back) j c = none_before es t n g front e 
 told_all : (es : List Entry) (t : ProofState) → IsWalk [] nothing_logged es t → LogsAllOf es t.logged
 told_all es t w = record { inputs = w.inputs; cores = w.cores }
 
-passes : (logged : List Entry) (result : Result CheckVerdict CheckerError) (t : ProofState) → NoneLeaves logged →
+passes : (logged : List Entry) (result : Result CheckVerdict CheckerError) (t : ProofState) → NoneRetires logged →
     GoesThrough (state_of [] nothing_logged) (map line_of logged) result t → PassesWith logged result t.logged
 passes logged (Ok Refutation) t n (front, back, e, g, k) =
     let (first, rest, joined, lines) = first_entries logged front back e in
-    let stay = stay_first first rest (subst NoneLeaves joined n) in
+    let stay = stay_first first rest (subst NoneRetires joined n) in
     let goes = subst (λ ls. Goes (state_of [] nothing_logged) ls t) (sym lines) g in
     let w = walk [] nothing_logged first t stay goes in
     (first, rest, joined, record { conflicts = (t.present, w.leads, k); first = none_before first t stay goes }, told_all first t w)

@@ -1,6 +1,6 @@
 -- The lines that entries have, by encoding.
 use Rattle.std.specs.Prelude.{ℕ, true, false, List, [], ◌∷◌, flat_map}
-use Rattle.varisat_theory.specs.Journals.{Entry, Accepts, Writes, Assumes, Fails, Leaves}
+use Rattle.varisat_theory.specs.Journals.{Entry, Accepts, Writes, Assumes, Fails, Retires}
 use Rattle.varisat_proof.specs.declared.proof.format.ProofFormat.{ProofFormat}
 use Rattle.varisat_proof.specs.declared.proof.format.Encoding.{Encoding}
 use Rattle.varisat_proof.specs.declared.proof.format.Encoding.TheVariants.{Text, Binary}
@@ -20,7 +20,7 @@ entry_lines e (Writes line) = plain_line line ∷ []
 entry_lines e (Accepts c) = marked_line e (line_of_kind kinds.Accepts c)
 entry_lines e (Assumes a) = marked_line e (line_of_kind kinds.Assumes a)
 entry_lines e (Fails core) = marked_line e (line_of_kind kinds.Fails core)
-entry_lines e (Leaves v) = []
+entry_lines e (Retires v) = []
 
 -- the lines of entries, and their bytes
 abbrev pub logged_lines : Encoding → List Entry → List ProofLine

@@ -2,7 +2,7 @@
 use Rattle.std.specs.Prelude.{◌≡◌, true, List, [], ◌∷◌, ◌++◌, Result, Ok, Err}
 use Rattle.varisat_theory.specs.Literals.{Clause}
 use Rattle.varisat_theory.specs.Propagation.{Conflicts}
-use Rattle.varisat_theory.specs.Journals.{Entry, Leads, NoneLeaves, accepted_of}
+use Rattle.varisat_theory.specs.Journals.{Entry, Leads, NoneRetires, accepted_of}
 use Rattle.varisat_proof.specs.declared.proof.format.Encoding.TheVariants.{Text}
 use Rattle.varisat_proof.specs.declared.proof.format.ProofFormat.TheVariants.{Marked}
 use Rattle.varisat_proof.specs.declared.checker.error.CheckVerdict.{CheckVerdict}
@@ -41,5 +41,5 @@ PassesWith logged (Err error) report = ⊥
 abbrev pub JournalsPass : Type 0
 JournalsPass =
     (logged : List Entry) (held : List Clause) (result : Result CheckVerdict CheckerError) (end : ProofState)
-    → Leads [] logged held → NoneLeaves logged → CoresAreAssumed [] logged → AreInRange (logged_lines (Text true) logged)
+    → Leads [] logged held → NoneRetires logged → CoresAreAssumed [] logged → AreInRange (logged_lines (Text true) logged)
     → IsCheckOf (Text true) (state_of [] nothing_logged) (logged_bytes Marked logged) result end → PassesWith logged result end.logged

@@ -3,7 +3,7 @@ use Rattle.std.specs.Prelude.{◌≡◌, List, [], ◌∷◌, ◌++◌}
 use Rattle.varisat_theory.specs.Literals.{Clause}
 use Rattle.varisat_theory.specs.Held.{without}
 use Rattle.varisat_theory.specs.Derivations.{Add, Delete, TakesOut}
-use Rattle.varisat_theory.specs.Journals.{Entry, Accepts, Writes, Assumes, Fails, Leaves}
+use Rattle.varisat_theory.specs.Journals.{Entry, Accepts, Writes, Assumes, Fails, Retires}
 
 -- Where P is present before the entries, Q is present after them.
 abbrev pub IsLeftAfter : List Clause → List Entry → List Clause → Type 0
@@ -13,4 +13,4 @@ IsLeftAfter P (Writes (Add c) ∷ es) Q = IsLeftAfter (P ++ c ∷ []) es Q
 IsLeftAfter P (Writes (Delete c) ∷ es) Q = (R : List Clause) × TakesOut P c R × IsLeftAfter R es Q
 IsLeftAfter P (Assumes a ∷ es) Q = IsLeftAfter P es Q
 IsLeftAfter P (Fails core ∷ es) Q = IsLeftAfter P es Q
-IsLeftAfter P (Leaves v ∷ es) Q = IsLeftAfter (without v P) es Q
+IsLeftAfter P (Retires v ∷ es) Q = IsLeftAfter (without v P) es Q

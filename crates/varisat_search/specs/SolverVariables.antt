@@ -6,7 +6,7 @@ use Rattle.varisat_theory.specs.Outcomes as outcome
 use Rattle.varisat_literals.specs.Numbers.{polarity_of, variable_limit}
 use Rattle.varisat_names.specs.VarMap.{at}
 use Rattle.varisat_names.specs.VarData.{data_at}
-use Rattle.varisat_names.specs.Variables.{Tables, AreLinked, IsNamed, IsTaken, IsDropped}
+use Rattle.varisat_names.specs.Variables.{Tables, AreLinked, IsNamed, IsTaken, IsDetached}
 use Rattle.varisat_vsids.specs.Activities.{with_available}
 use Rattle.varisat_search.specs.declared.context.Context.{Context}
 use Rattle.varisat_search.specs.declared.state.SatState.TheVariants as verdict
@@ -80,7 +80,7 @@ pub record NameHasSolver {A : Type 0} (u : ℕ) (old new : Searched A) (v : ℕ)
 abbrev pub RemovesSolver : {A E : Type 0} → ℕ → Searched A → Searched A → Result ℕ E → Type 0
 RemovesSolver v old new r =
     MatchResult r
-    (λ global. IsDropped old.tables new.tables global v × (new.context ≡ record old.context { vsids = with_available v false old.context.vsids }))
+    (λ global. IsDetached old.tables new.tables global v × (new.context ≡ record old.context { vsids = with_available v false old.context.vsids }))
     (λ _. new ≡ old)
 
 -- the names of the literals came to have solver variables in turn

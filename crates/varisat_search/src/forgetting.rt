@@ -73,7 +73,7 @@ fn forget_activities<A: Allocator + Copy>(vsids: &mut Vsids<A>, gone: &[bool])
 
 /// Lets the variables leave: the search forgets their values, what it remembered of them and their activities, and no
 /// longer decides them. It goes on without them as long as no clause and no assumption names them. It takes no memory.
-pub fn drop_variables<A: Allocator + Copy>(ctx: &mut Context<A>, gone: &[bool])
+pub fn detach_variables<A: Allocator + Copy>(ctx: &mut Context<A>, gone: &[bool])
     requires ready { IsReady ctx.old }
     requires settled { IsRootSimplified (view ctx.old) }
     requires count { length gone.now ≡ length ctx.old.assignment.current }

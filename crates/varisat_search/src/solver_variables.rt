@@ -130,7 +130,7 @@ pub fn remove_solver_var<A: Allocator + Copy>(
     ensures others { OnOk result (SameDecidableBut solver (view ctx.old) ctx.old.vsids (view ctx.new) ctx.new.vsids) }
     ensures ready { OnOk result (IsUnmentioned (kept (view ctx.old)) solver → AreNotOf ctx.old.assumptions.working solver → IsReady ctx.new) }
 {
-    let global = variables.drop_solver_var(solver)?;
+    let global = variables.detach_solver_var(solver)?;
     remove_var(ctx, solver);
     Ok(global)
 }

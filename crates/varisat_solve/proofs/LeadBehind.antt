@@ -7,7 +7,7 @@ use Rattle.varisat_theory.specs.Literals.{Clause}
 use Rattle.varisat_theory.specs.Propagation.{Conflicts}
 use Rattle.varisat_theory.specs.Derivations.{Line, Add, Delete, Derives, IsDerivation, Refutes, SpeakOf}
 use Rattle.varisat_theory.specs.Held.{SameClauses}
-use Rattle.varisat_theory.specs.Journals.{Entry, Accepts, Writes, Assumes, Fails, Leaves, Leads, lines_of, accepted_of, NoneLeaves, written}
+use Rattle.varisat_theory.specs.Journals.{Entry, Accepts, Writes, Assumes, Fails, Retires, Leads, lines_of, accepted_of, NoneRetires, written}
 use Rattle.varisat_theory.proofs.Members.{∈-append_cases, ∈-append_right}
 use Rattle.varisat_theory.proofs.Growth.{conflicts_more, covered_by_more}
 use Rattle.varisat_theory.proofs.Held.{same_set-self, same_clauses-self, same_clauses-back, same_clauses-through, conflicts_same}
@@ -47,7 +47,7 @@ own-accepted : (P : List Clause) (ls : List Line) → accepted_of (own P ls) ≡
 own-accepted [] ls = written_accepts ls
 own-accepted (c ∷ P) ls = ap (λ Q. c ∷ Q) (own-accepted P ls)
 
-own-stays : (P : List Clause) (ls : List Line) → NoneLeaves (own P ls)
+own-stays : (P : List Clause) (ls : List Line) → NoneRetires (own P ls)
 own-stays [] ls = written_stays ls
 own-stays (c ∷ P) ls = own-stays P ls
 
@@ -102,7 +102,7 @@ logged-plain (Writes l ∷ es) line (inl e) = inl e
 logged-plain (Writes l ∷ es) line (inr h) = inr (logged-plain es line h)
 logged-plain (Assumes a ∷ es) line h = inr (logged-plain es line h)
 logged-plain (Fails core ∷ es) line h = inr (logged-plain es line h)
-logged-plain (Leaves v ∷ es) line h = logged-plain es line h
+logged-plain (Retires v ∷ es) line h = logged-plain es line h
 
 own-range : (P : List Clause) (ls : List Line) → AreLow P → AreInRange (plain_lines ls) → AreInRange (logged_lines (Text true) (own P ls))
 own-range [] ls p r line l h i = r line l (subst (λ xs. line ∈ xs) (lines-bytes (Text true) ls) h) i
@@ -117,15 +117,15 @@ staying (Accepts c ∷ es) = Accepts c ∷ staying es
 staying (Writes l ∷ es) = Writes l ∷ staying es
 staying (Assumes a ∷ es) = Assumes a ∷ staying es
 staying (Fails core ∷ es) = Fails core ∷ staying es
-staying (Leaves v ∷ es) = staying es
+staying (Retires v ∷ es) = staying es
 
-staying-none : (es : List Entry) → NoneLeaves (staying es)
+staying-none : (es : List Entry) → NoneRetires (staying es)
 staying-none [] = tt
 staying-none (Accepts c ∷ es) = staying-none es
 staying-none (Writes l ∷ es) = staying-none es
 staying-none (Assumes a ∷ es) = staying-none es
 staying-none (Fails core ∷ es) = staying-none es
-staying-none (Leaves v ∷ es) = staying-none es
+staying-none (Retires v ∷ es) = staying-none es
 
 staying-lines : (es : List Entry) → lines_of (staying es) ≡ lines_of es
 staying-lines [] = refl
@@ -133,7 +133,7 @@ staying-lines (Accepts c ∷ es) = staying-lines es
 staying-lines (Writes l ∷ es) = ap (λ ls. l ∷ ls) (staying-lines es)
 staying-lines (Assumes a ∷ es) = staying-lines es
 staying-lines (Fails core ∷ es) = staying-lines es
-staying-lines (Leaves v ∷ es) = staying-lines es
+staying-lines (Retires v ∷ es) = staying-lines es
 
 record Walks (P : List Clause) (m : MarkedLog) (es : List Entry) (t : ProofState) : Type 0 where
   leads : Leads P (staying es) t.present
@@ -162,7 +162,7 @@ walks P m (Fails core ∷ es) t (r, (within, f, q), g) =
     let next : MarkedLog = record m { cores = m.cores ++ (length m.inputs.clauses, core) ∷ [] } in
     let w = walks P next es t (subst (λ (x : ProofState). TakesAll x (logged_lines (Text true) es) t) q g) in
     record { leads = (P, (f, refl), w.leads); inputs = w.inputs }
-walks P m (Leaves v ∷ es) t g = let w = walks P m es t g in record { leads = w.leads; inputs = w.inputs }
+walks P m (Retires v ∷ es) t g = let w = walks P m es t g in record { leads = w.leads; inputs = w.inputs }
 
 -- 5. The end of all lines.
 swapped : (P Q : List Clause) → SameClauses (P ++ Q) (Q ++ P)

@@ -25,7 +25,7 @@ use Rattle.varisat_solver.specs.Names.{through_names}
 use Rattle.varisat_solver.specs.Calls.{ContradictsUnit, VerdictAfter, Refuted, Reopened}
 use Rattle.varisat_tracer.specs.Carried.{carry, logged_as}
 use Rattle.varisat_solver.specs.Carried.{is_forced}
-use Rattle.varisat_solver.specs.Spaces.{Spaces, Carrying, IsolationCase, NotIsolated, Apart, Forced, IsolationFits, Translation, translation, CheckerFits, SharesHeld, IsCounted, IsGone, IsWholeLog, SearchHolds, CoreFits, without_core, VerdictFits, Links}
+use Rattle.varisat_solver.specs.Spaces.{Spaces, Carrying, IsolationCase, NotIsolated, Apart, Forced, IsolationFits, Translation, translation, CheckerFits, SharesHeld, IsCounted, IsRetired, IsWholeLog, SearchHolds, CoreFits, without_core, VerdictFits, Links}
 use Rattle.varisat_solver.specs.Usage.{IsWide, IsApart}
 use Rattle.varisat_solver.proofs.SpacesAgree.{AreTaken, solver_literal, IsTouched, IsMarkedFor, accept, AreLong, AreInUse, map-map, holds-same, isolation-same, marks-same}
 use Rattle.varisat_names.proofs.Maps.{chain-some, chain-through}
@@ -257,7 +257,7 @@ module _ (w : Carrying) (p : Spaces) (s : State) (d : Clause) (k : Links w p s) 
             (∈-or_not i (map variable_of (map (through_names s.naming) d)))
         go (Forced b e) = Forced b e
 
-    stands : (logged : List Entry) → IsWholeLog logged (s.clauses ++ c ∷ []) s.assumptions s.counted s.ever_hidden (IsGone w s) →
+    stands : (logged : List Entry) → IsWholeLog logged (s.clauses ++ c ∷ []) s.assumptions s.counted s.ever_hidden (IsRetired w s) →
         (t : Search) (v : Outcome) (m : ℕ → Bool) (checker : Option CheckerState) (x : Verdict) →
         CheckerFits w.global logged checker →
         SearchHolds (s.clauses ++ c ∷ []) (with_told logged r) t (without_core v) → VerdictFits w.identity m v x →

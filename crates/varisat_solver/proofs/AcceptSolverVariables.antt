@@ -8,7 +8,7 @@ use Rattle.varisat_theory.specs.Searches.{Search, Fits, IsLiteralOf, IsCoveredBy
 use Rattle.varisat_theory.specs.Outcomes.{Outcome}
 use Rattle.varisat_theory.specs.Outcomes as outcome
 use Rattle.varisat_theory.proofs.Members.{equal_or_not, ∈-append_left, ∈-append_cases}
-use Rattle.varisat_theory.proofs.HeldDrops.{without_less}
+use Rattle.varisat_theory.proofs.HeldRetirements.{without_less}
 use Rattle.varisat_literals.specs.Numbers.{polarity_of}
 use Rattle.varisat_prop.proofs.LiteralValues.{same-literal}
 use Rattle.varisat_names.specs.Maps.{updated, onward, chain}
@@ -19,7 +19,7 @@ use Rattle.varisat_solver.specs.Spaces.{Spaces, Carrying, Translation, translati
 use Rattle.varisat_solver.proofs.SpacesAgree.{take_solver, carry-same, working-same, settled-through}
 use Rattle.varisat_search.proofs.TakenSolvers.{few, below, below-count, ∈-below}
 use Rattle.varisat_names.proofs.Maps.{updated-at, updated-other, updated-all, joined, chain-some, chain-none, chain-through, is-some}
-use Rattle.varisat_solver.proofs.DroppedSolvers.{settled-with}
+use Rattle.varisat_solver.proofs.DetachedSolvers.{settled-with}
 use Rattle.varisat_solver.proofs.Carried.{carry-at, carry-sign}
 use Rattle.varisat_solver.proofs.ReachedHeld.{IsInUse, only, unmentioned, fits-without, same-apart, inside-apart, live-apart, in-use-lives}
 use Rattle.varisat_solver.proofs.SearchLinks.{with-model, without-model, relinked}

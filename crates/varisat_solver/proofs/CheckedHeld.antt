@@ -6,11 +6,11 @@ use Rattle.varisat_theory.specs.Literals.{Literal, Clause, variable_of}
 use Rattle.varisat_theory.specs.Derivations.{Line, Add, Delete, SpeakOf}
 use Rattle.varisat_theory.specs.Held.{SameClauses, mentions, unless, without}
 use Rattle.varisat_theory.specs.Renaming.{rename, rename_line}
-use Rattle.varisat_theory.specs.Journals.{Entry, Accepts, Writes, Assumes, Fails, Leaves, Leads, NoneLeaves, written}
+use Rattle.varisat_theory.specs.Journals.{Entry, Accepts, Writes, Assumes, Fails, Retires, Leads, NoneRetires, written}
 use Rattle.varisat_theory.specs.Outcomes as outcome
 use Rattle.varisat_theory.specs.Searches.{Fits}
 use Rattle.varisat_theory.proofs.Held.{same_set-self, same_add, same_clauses-back, same_clauses-through, same_clauses_find, takes_out_unique}
-use Rattle.varisat_theory.proofs.HeldDrops.{same_without}
+use Rattle.varisat_theory.proofs.HeldRetirements.{same_without}
 use Rattle.varisat_theory.proofs.Members.{equal_or_not}
 use Rattle.varisat_theory.proofs.Journals.{leads_cut, leads_unique}
 use Rattle.varisat_theory.proofs.Renaming.{takes_out_renamed, same_clauses_renamed}
@@ -46,7 +46,7 @@ one-more f held after P c s e =
     (same_add (rename f held) P (map f c) (map f c) s (same_set-self (map f c)))
 
 -- What is left after entries is what they lead to, as long as no variable leaves.
-pub left-as : (f : Literal → Literal) (es : List Entry) (held after P Q : List Clause) → NoneLeaves es → SameClauses (rename f held) P →
+pub left-as : (f : Literal → Literal) (es : List Entry) (held after P Q : List Clause) → NoneRetires es → SameClauses (rename f held) P →
     Leads held es after → IsLeftAfter P (logged_as f es) Q → SameClauses (rename f after) Q
 left-as f [] held after P Q n s d e = subst (λ (X : List Clause). SameClauses (rename f after) X) e
     (subst (λ (X : List Clause). SameClauses (rename f X) P) d s)
@@ -57,16 +57,16 @@ left-as f (Writes (Delete c) ∷ es) held after P Q n s (R, t, d) (S, u, l) =
 left-as f (Assumes a ∷ es) held after P Q n s (R, e, d) l = left-as f es R after P Q n (subst (λ (X : List Clause). SameClauses (rename f X) P) (sym e) s) d l
 left-as f (Fails core ∷ es) held after P Q n s (R, (g, e), d) l =
     left-as f es R after P Q n (subst (λ (X : List Clause). SameClauses (rename f X) P) (sym e) s) d l
-left-as f (Leaves v ∷ es) held after P Q n s d l = absurd n
+left-as f (Retires v ∷ es) held after P Q n s d l = absurd n
 
-may-hold-on : (f : Literal → Literal) (k k' : Option CheckerState) (es : List Entry) (held after : List Clause) → NoneLeaves es →
+may-hold-on : (f : Literal → Literal) (k k' : Option CheckerState) (es : List Entry) (held after : List Clause) → NoneRetires es →
     IsCheckedIf k (logged_as f es) k' → Leads held es after → MayBeHeld k (rename f held) → MayBeHeld k' (rename f after)
 may-hold-on f None k' es held after n e d h = subst (λ o. MayBeHeld o (rename f after)) (sym e) tt
 may-hold-on f (Some a) None es held after n e d h = absurd e
 may-hold-on f (Some a) (Some b) es held after n (l, e) d (s, u) = (left-as f es held after a.clauses b.clauses n s d l, e ∙ u)
 
 -- The checker goes on with what is told.
-pub checker-on : (global : ℕ → Option ℕ) (logged es : List Entry) (k k' : Option CheckerState) → NoneLeaves es →
+pub checker-on : (global : ℕ → Option ℕ) (logged es : List Entry) (k k' : Option CheckerState) → NoneRetires es →
     IsCheckedIf k (logged_as (carry global) es) k' → CheckerFits global logged k → CheckerFits global (logged ++ es) k'
 checker-on global logged es k k' n c fits after led =
     let (held, first, rest) = leads_cut [] logged es after led in
@@ -126,15 +126,15 @@ without-alike f x i (c ∷ P) same =
 -- The variable of an identity is gone for good, and of what is held other literals are of other variables.
 pub checker-without : (f g : ℕ → Option ℕ) (logged : List Entry) (i x : ℕ) (k k' : Option CheckerState) →
     ((held : List Clause) → Leads [] logged held → (c : Clause) (l : Literal) → c ∈ held → l ∈ c →
-    (variable_of (carry f l) ≡ x) ↔ (variable_of l ≡ i)) → ((j : ℕ) → j ≢ i → f j ≡ g j) → IsCheckedIf k (Leaves x ∷ []) k' →
-    CheckerFits f logged k → CheckerFits g (logged ++ Leaves i ∷ []) k'
+    (variable_of (carry f l) ≡ x) ↔ (variable_of l ≡ i)) → ((j : ℕ) → j ≢ i → f j ≡ g j) → IsCheckedIf k (Retires x ∷ []) k' →
+    CheckerFits f logged k → CheckerFits g (logged ++ Retires i ∷ []) k'
 checker-without f g logged i x k k' same other c fits after led =
-    let (held, first, (R, e, d)) = leads_cut [] logged (Leaves i ∷ []) after led in
+    let (held, first, (R, e, d)) = leads_cut [] logged (Retires i ∷ []) after led in
     subst (λ (X : List Clause). MayBeHeld k' (rename (carry g) X)) (sym e ∙ d)
     (subst (MayBeHeld k') (rename-same (carry f) (carry g) (without i held) (λ d l h j. carry-same f g l (other (variable_of l) (left-apart i held d l h j))))
     (go k k' c held (λ d l h j. same held first d l h j) (fits held first)))
   where
-    go : (k k' : Option CheckerState) → IsCheckedIf k (Leaves x ∷ []) k' → (held : List Clause) →
+    go : (k k' : Option CheckerState) → IsCheckedIf k (Retires x ∷ []) k' → (held : List Clause) →
         ((c : Clause) (l : Literal) → c ∈ held → l ∈ c → (variable_of (carry f l) ≡ x) ↔ (variable_of l ≡ i)) → MayBeHeld k (rename (carry f) held) →
         MayBeHeld k' (rename (carry f) (without i held))
     go None k' e held same h = subst (λ o. MayBeHeld o (rename (carry f) (without i held))) (sym e) tt

@@ -18,14 +18,14 @@ use Rattle.varisat_search.specs.Steps.{assignment_of}
 use Rattle.varisat_names.specs.VarMap.{at}
 use Rattle.varisat_names.specs.VarBiMap.{BiMap}
 use Rattle.varisat_names.specs.VarData.{dead, data_at, IsDataAt}
-use Rattle.varisat_names.specs.Variables.{Tables, IsChangedTo, unused, IsHidden, IsDeletedIfUnused, IsShown}
+use Rattle.varisat_names.specs.Variables.{Tables, IsChangedTo, unused, IsHidden, IsRetiredIfUnused, IsShown}
 use Rattle.varisat_solver.specs.Calls.{with_naming}
 use Rattle.varisat_tracer.specs.Carried.{carry}
 use Rattle.varisat_solver.specs.Carried.{value_or}
-use Rattle.varisat_theory.specs.Journals.{Entry, Leaves}
+use Rattle.varisat_theory.specs.Journals.{Entry, Retires}
 use Rattle.varisat_prop.specs.View.{View}
 use Rattle.varisat_proof.specs.Proving.{ProofParts, IsCheckedIf, IsLogged}
-use Rattle.varisat_tracer.specs.Tracing.{leaves_if_deleted}
+use Rattle.varisat_tracer.specs.Tracing.{retires_if_deleted}
 use Rattle.varisat_search.specs.Seen.{outcome_of}
 use Rattle.varisat_search.specs.declared.state.SatState.{SatState}
 use Rattle.varisat_solver.specs.Journals.{with_entries, LogsRetired}
@@ -249,7 +249,7 @@ undecided search core verdict.UnsatUnderAssumptions n e = let z : outcome.Unknow
 
 module _ (g : Summary) (s : State) (new : Tables) (x : ℕ) (w : Carrying) (k : Links w (spaces g) s)
     (live : (data_at g.tables.kept x).deleted ≡ false) (unnamed : at g.tables.users.backward x ≡ None) (undecided_before : g.sat_state ≢ verdict.Unsat)
-    (n : IsDeletedIfUnused g.tables new x) (p q : ProofParts) (same : p.checker ≡ g.checker) (logged : IsLogged p (leaves_if_deleted new x) q) where
+    (n : IsRetiredIfUnused g.tables new x) (p q : ProofParts) (same : p.checker ≡ g.checker) (logged : IsLogged p (retires_if_deleted new x) q) where
   same-users : new.users ≡ g.tables.users
   same-users = ap (λ (t : Tables). t.users) n.rest
 
@@ -261,7 +261,7 @@ module _ (g : Summary) (s : State) (new : Tables) (x : ℕ) (w : Carrying) (k : 
       IsDataAt g.tables.kept x (if b then dead else data_at g.tables.kept x) new.kept
   kept-as b e = subst (λ c. IsDataAt g.tables.kept x (if c then dead else data_at g.tables.kept x) new.kept) e n.kept
 
-  stays-live : IsDataAt g.tables.kept x (data_at g.tables.kept x) new.kept → leaves_if_deleted new x ≡ [] →
+  stays-live : IsDataAt g.tables.kept x (data_at g.tables.kept x) new.kept → retires_if_deleted new x ≡ [] →
       SpacesFit (spaces (with_checker q.checker (with_tables new g))) s
   stays-live l none = maps-same (record (spaces g) { checker = q.checker }) (spaces (with_checker q.checker (with_tables new g))) s (record {
     global_from_user = λ v. ap (λ (b : BiMap). at b.forward v) same-users;
@@ -275,13 +275,13 @@ module _ (g : Summary) (s : State) (new : Tables) (x : ℕ) (w : Carrying) (k : 
   }) refl (subst (λ o. SpacesFit (record (spaces g) { checker = o }) s)
       (sym (checked-nothing p.checker q.checker (subst (λ es. IsCheckedIf p.checker es q.checker) none logged.checked) ∙ same)) (w, k))
 
-  goes : IsDataAt g.tables.kept x dead new.kept → leaves_if_deleted new x ≡ Leaves x ∷ [] → at g.tables.solvers.forward x ≡ None →
+  goes : IsDataAt g.tables.kept x dead new.kept → retires_if_deleted new x ≡ Retires x ∷ [] → at g.tables.solvers.forward x ≡ None →
       (data_at g.tables.kept x).isolated ≡ true → (i : ℕ) → w.identity x ≡ Some i →
-      SpacesFit (spaces (with_checker q.checker (with_tables new g))) (with_entries (s.logged ++ Leaves i ∷ []) s)
+      SpacesFit (spaces (with_checker q.checker (with_tables new g))) (with_entries (s.logged ++ Retires i ∷ []) s)
   goes l one unsolved alone i is =
       let f = assignment_of g.search in
       maps-same (record (recycle x (spaces g)) { checker = q.checker }) (spaces (with_checker q.checker (with_tables new g)))
-      (with_entries (s.logged ++ Leaves i ∷ []) s) (record {
+      (with_entries (s.logged ++ Retires i ∷ []) s) (record {
         global_from_user = λ v. ap (λ (b : BiMap). at b.forward v) same-users;
         user_from_global = λ y. ap (λ (b : BiMap). at b.backward y) same-users;
         watermark = ap (λ (b : BiMap). length b.forward) same-users;
@@ -297,11 +297,11 @@ module _ (g : Summary) (s : State) (new : Tables) (x : ℕ) (w : Carrying) (k : 
             (l.at_each y ∙ updated-other (data_at g.tables.kept) x dead y m)
             ∙ ap (λ (b : BiMap). value_or (data_at g.tables.kept y).unit f (at b.forward y)) same-solvers);
       }) refl (recycled w (spaces g) s x i k is unnamed unsolved alone (undecided g.search g.assumed.failed_core g.sat_state undecided_before) q.checker
-      (subst (λ o. IsCheckedIf o (Leaves x ∷ []) q.checker) same (subst (λ es. IsCheckedIf p.checker es q.checker) one logged.checked)))
+      (subst (λ o. IsCheckedIf o (Retires x ∷ []) q.checker) same (subst (λ es. IsCheckedIf p.checker es q.checker) one logged.checked)))
 
   -- the proof is told so
-  gone : unused (at g.tables.solvers.forward x) (data_at g.tables.kept x) ≡ true → leaves_if_deleted new x ≡ Leaves x ∷ []
-  gone e = ap (λ (b : Bool). if b then Leaves x ∷ [] else [])
+  gone : unused (at g.tables.solvers.forward x) (data_at g.tables.kept x) ≡ true → retires_if_deleted new x ≡ Retires x ∷ []
+  gone e = ap (λ (b : Bool). if b then Retires x ∷ [] else [])
       (ap (λ (d : VarData). d.deleted) ((kept-as true e).at_each x ∙ updated-at (data_at g.tables.kept) x dead))
 
   by-use : (b : Bool) → unused (at g.tables.solvers.forward x) (data_at g.tables.kept x) ≡ b → (after : List Entry)
@@ -309,15 +309,15 @@ module _ (g : Summary) (s : State) (new : Tables) (x : ℕ) (w : Carrying) (k : 
   by-use true e =
       let (unsolved, alone) = is-unused (at g.tables.solvers.forward x) (data_at g.tables.kept x) e in
       let (i, is) = linked w (spaces g) s x k live in (
-        s.logged ++ Leaves i ∷ [],
-        leaving-one s.variables s.logged i x p q (leaves_if_deleted new x) (k.variables i x (k.identities.one_to_one.there x i is)) (gone e) logged,
+        s.logged ++ Retires i ∷ [],
+        leaving-one s.variables s.logged i x p q (retires_if_deleted new x) (k.variables i x (k.identities.one_to_one.there x i is)) (gone e) logged,
         goes (kept-as true e) (gone e) unsolved alone i is,
       )
   by-use false e =
       let kept = kept-as false e in
-      let none = ap (λ (b : Bool). if b then Leaves x ∷ [] else [])
+      let none = ap (λ (b : Bool). if b then Retires x ∷ [] else [])
       (ap (λ (d : VarData). d.deleted) (kept.at_each x ∙ updated-at (data_at g.tables.kept) x (data_at g.tables.kept x)) ∙ live) in
-      (s.logged, leaving-none s.variables s.logged p q (leaves_if_deleted new x) none logged, stays-live kept none)
+      (s.logged, leaving-none s.variables s.logged p q (retires_if_deleted new x) none logged, stays-live kept none)
 
   links-left : (after : List Entry) × LogsRetired s.variables s.logged after p q
       × SpacesFit (spaces (with_checker q.checker (with_tables new g))) (with_entries after s)
@@ -325,6 +325,6 @@ module _ (g : Summary) (s : State) (new : Tables) (x : ℕ) (w : Carrying) (k : 
 
 pub left-spaces : (g : Summary) (s : State) (new : Tables) (x : ℕ) (p q : ProofParts) → SpacesFit (spaces g) s →
     (data_at g.tables.kept x).deleted ≡ false → at g.tables.users.backward x ≡ None → g.sat_state ≢ verdict.Unsat →
-    IsDeletedIfUnused g.tables new x → p.checker ≡ g.checker → IsLogged p (leaves_if_deleted new x) q →
+    IsRetiredIfUnused g.tables new x → p.checker ≡ g.checker → IsLogged p (retires_if_deleted new x) q →
     (after : List Entry) × LogsRetired s.variables s.logged after p q × SpacesFit (spaces (with_checker q.checker (with_tables new g))) (with_entries after s)
 left-spaces g s new x p q (w, k) live unnamed undecided_before n same logged = links-left g s new x w k live unnamed undecided_before n p q same logged

@@ -9,10 +9,10 @@ pub mod ChangeEnds
 pub mod Carried
 pub mod CheckedHeld
 pub mod Counted
-pub mod DroppedAlone
-pub mod DroppedTables
-pub mod DroppedLists
-pub mod DroppedSolvers
+pub mod DetachedAlone
+pub mod DetachedTables
+pub mod DetachedLists
+pub mod DetachedSolvers
 pub mod FindVerdictSteps
 pub mod ForgottenCopies
 pub mod HiddenTables
@@ -34,7 +34,7 @@ pub mod ReadPlaces
 pub mod RecycledGlobals
 pub mod SearchLinks
 pub mod SearchRounds
-pub mod ReturnedVariables
+pub mod DetachedValues
 pub mod Targets
 pub mod SearchVerdicts
 pub mod SinceSteps

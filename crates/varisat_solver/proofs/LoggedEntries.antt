@@ -4,7 +4,7 @@ use Rattle.std.proofs.lemmas.List.{append-nil}
 use Rattle.varisat_theory.specs.Membership.{◌∈◌, ◌⊆◌}
 use Rattle.varisat_theory.specs.Literals.{Literal, Clause, Assignment, variable_of, SatisfiesAll}
 use Rattle.varisat_theory.specs.Derivations.{Line, Add, Delete, SpeakOf}
-use Rattle.varisat_theory.specs.Journals.{Entry, Accepts, Writes, Assumes, Fails, Leaves, Follow, lines_of, written, NoneLeaves, Leads, accepted_of, GoesOn}
+use Rattle.varisat_theory.specs.Journals.{Entry, Accepts, Writes, Assumes, Fails, Retires, Follow, lines_of, written, NoneRetires, Leads, accepted_of, GoesOn}
 use Rattle.varisat_proof.specs.Assumed.{lists_of, assumed_behind, CoresAreAssumed}
 use Rattle.varisat_solver.specs.Journals.{LogsMore, AreDerived, EndBy, LogsStaying, EndWithCore}
 use Rattle.varisat_solver.specs.States.{Verdict, Unknown, Sat, Unsat, UnsatUnderAssumptions}
@@ -13,7 +13,7 @@ use Rattle.varisat_theory.specs.Renaming.{rename_line}
 use Rattle.varisat_theory.specs.Held.{without}
 use Rattle.varisat_theory.proofs.Journals.{goes_on_further, accepted_append, stays_append, written_accepts, written_stays}
 use Rattle.varisat_theory.proofs.Members.{∈-append_left, ∈-append_right, ∈-append_cases}
-use Rattle.varisat_theory.proofs.HeldDrops.{without_less}
+use Rattle.varisat_theory.proofs.HeldRetirements.{without_less}
 use Rattle.varisat_theory.proofs.Renaming.{map-∈}
 use Rattle.varisat_theory.proofs.Sound.{conflicts_sound}
 
@@ -27,7 +27,7 @@ speaks-wider are may (Writes (Add c)) w s = λ l h. w l (s l h)
 speaks-wider are may (Writes (Delete c)) w s = λ l h. w l (s l h)
 speaks-wider are may (Assumes a) w s = λ l h. w l (s l h)
 speaks-wider are may (Fails core) w s = λ l h. w l (s l h)
-speaks-wider are may (Leaves i) w s = tt
+speaks-wider are may (Retires i) w s = tt
 
 pub all-wider : (are may : Literal → Type 0) (es : List Entry) → ((l : Literal) → are l → may l) → AllSpeakOf are es → AllSpeakOf may es
 all-wider are may [] w s = tt
@@ -63,7 +63,7 @@ held-spoken are P (e ∷ es) Q first (R, f, d) (s, rest) c l h i = held-spoken a
         (∈-append_cases c front back (subst (λ X. c ∈ X) q h))))
     after (Assumes b) q t = less (λ c h. subst (λ X. c ∈ X) q h)
     after (Fails core) (k, q) t = less (λ c h. subst (λ X. c ∈ X) q h)
-    after (Leaves v) q t = less (λ c h. without_less v P c (subst (λ X. c ∈ X) q h))
+    after (Retires v) q t = less (λ c h. without_less v P c (subst (λ X. c ∈ X) q h))
 
 -- so do their lines
 pub lines-speak : (are : Literal → Type 0) (es : List Entry) → AllSpeakOf are es → SpeakOf are (lines_of es)
@@ -73,7 +73,7 @@ lines-speak are (Writes (Add c) ∷ es) (s, rest) = (s, lines-speak are es rest)
 lines-speak are (Writes (Delete c) ∷ es) (s, rest) = (s, lines-speak are es rest)
 lines-speak are (Assumes a ∷ es) (s, rest) = lines-speak are es rest
 lines-speak are (Fails core ∷ es) (s, rest) = lines-speak are es rest
-lines-speak are (Leaves i ∷ es) (s, rest) = lines-speak are es rest
+lines-speak are (Retires i ∷ es) (s, rest) = lines-speak are es rest
 
 -- 2. What they assume.
 
@@ -83,7 +83,7 @@ assumed-append list (Accepts c ∷ es) fs = assumed-append list es fs
 assumed-append list (Writes line ∷ es) fs = assumed-append list es fs
 assumed-append list (Assumes a ∷ es) fs = assumed-append a es fs
 assumed-append list (Fails core ∷ es) fs = assumed-append list es fs
-assumed-append list (Leaves i ∷ es) fs = assumed-append list es fs
+assumed-append list (Retires i ∷ es) fs = assumed-append list es fs
 
 pub cores-append : (list : List Literal) (es fs : List Entry) → CoresAreAssumed list es → CoresAreAssumed (assumed_behind list es) fs →
     CoresAreAssumed list (es ++ fs)
@@ -92,7 +92,7 @@ cores-append list (Accepts c ∷ es) fs h d = cores-append list es fs h d
 cores-append list (Writes line ∷ es) fs h d = cores-append list es fs h d
 cores-append list (Assumes a ∷ es) fs h d = cores-append a es fs h d
 cores-append list (Fails core ∷ es) fs (within, h) d = (within, cores-append list es fs h d)
-cores-append list (Leaves i ∷ es) fs h d = cores-append list es fs h d
+cores-append list (Retires i ∷ es) fs h d = cores-append list es fs h d
 
 -- lines assume nothing
 pub assumed-written : (list : List Literal) (lines : List Line) → assumed_behind list (written lines) ≡ list
@@ -111,7 +111,7 @@ assumed-spoken are list (Accepts c ∷ es) w (s, rest) l h = assumed-spoken are 
 assumed-spoken are list (Writes line ∷ es) w (s, rest) l h = assumed-spoken are list es w rest l h
 assumed-spoken are list (Assumes a ∷ es) w (s, rest) l h = assumed-spoken are a es s rest l h
 assumed-spoken are list (Fails core ∷ es) w (s, rest) l h = assumed-spoken are list es w rest l h
-assumed-spoken are list (Leaves i ∷ es) w (s, rest) l h = assumed-spoken are list es w rest l h
+assumed-spoken are list (Retires i ∷ es) w (s, rest) l h = assumed-spoken are list es w rest l h
 
 -- 3. The lists that they give.
 
@@ -121,7 +121,7 @@ lists-append (Accepts c ∷ es) fs = lists-append es fs
 lists-append (Writes line ∷ es) fs = lists-append es fs
 lists-append (Assumes a ∷ es) fs = ap (λ x. a ∷ x) (lists-append es fs)
 lists-append (Fails core ∷ es) fs = lists-append es fs
-lists-append (Leaves i ∷ es) fs = lists-append es fs
+lists-append (Retires i ∷ es) fs = lists-append es fs
 
 pub lists-derived : (es : List Entry) → AreDerived es → lists_of es ≡ []
 lists-derived [] d = refl
@@ -129,7 +129,7 @@ lists-derived (Accepts c ∷ es) d = absurd d
 lists-derived (Writes line ∷ es) d = lists-derived es d
 lists-derived (Assumes a ∷ es) d = absurd d
 lists-derived (Fails core ∷ es) d = absurd d
-lists-derived (Leaves i ∷ es) d = lists-derived es d
+lists-derived (Retires i ∷ es) d = lists-derived es d
 
 -- nor does a core give one
 pub lists-ended : (v : Verdict) (es : List Entry) → EndBy v es → lists_of es ≡ []
@@ -157,7 +157,7 @@ written-derived (line ∷ lines) = written-derived lines
 pub derived-through : (es fs : List Entry) → AreDerived es → AreDerived fs → AreDerived (es ++ fs)
 derived-through [] fs d e = e
 derived-through (Writes line ∷ es) fs d e = derived-through es fs d e
-derived-through (Leaves v ∷ es) fs d e = derived-through es fs d e
+derived-through (Retires v ∷ es) fs d e = derived-through es fs d e
 derived-through (Accepts c ∷ es) fs d e = absurd d
 derived-through (Assumes a ∷ es) fs d e = absurd d
 derived-through (Fails core ∷ es) fs d e = absurd d
@@ -230,7 +230,7 @@ steps-follow k n a b c s t e = subst (λ m. LogsMore m a c) (let z : 0 + k ≡ n
 pub accepts-goes : (logged : List Entry) (c : Clause) → GoesOn 0 logged (Accepts c ∷ [])
 accepts-goes logged c held d = (held ++ c ∷ [], (held ++ c ∷ [], refl, inl (tt, refl)))
 
-pub leaves-goes : (logged : List Entry) (v : ℕ) → GoesOn 0 logged (Leaves v ∷ [])
+pub leaves-goes : (logged : List Entry) (v : ℕ) → GoesOn 0 logged (Retires v ∷ [])
 leaves-goes logged v held d = (without v held, (without v held, refl, inl (tt, refl)))
 
 pub assumes-goes : (logged : List Entry) (a : List Literal) → GoesOn 0 logged (Assumes a ∷ [])
@@ -247,18 +247,18 @@ cores-on : (logged es : List Entry) (A : List Literal) → assumed_behind [] log
 cores-on logged es A e c d = cores-append [] logged es c (subst (λ x. CoresAreAssumed x es) (sym e) d)
 
 -- where no variable leaves
-pub none-in : (es : List Entry) (i : ℕ) → NoneLeaves es → Leaves i ∈ es → ⊥
+pub none-in : (es : List Entry) (i : ℕ) → NoneRetires es → Retires i ∈ es → ⊥
 none-in [] i n h = h
 none-in (Accepts c ∷ es) i n h = ⊎_elim (λ q. cc) (none-in es i n) h
 none-in (Writes line ∷ es) i n h = ⊎_elim (λ q. cc) (none-in es i n) h
 none-in (Assumes a ∷ es) i n h = ⊎_elim (λ q. cc) (none-in es i n) h
 none-in (Fails core ∷ es) i n h = ⊎_elim (λ q. cc) (none-in es i n) h
-none-in (Leaves v ∷ es) i n h = n
+none-in (Retires v ∷ es) i n h = n
 
-left-on : {gone : ℕ → Type 0} (logged es : List Entry) → NoneLeaves es → ((i : ℕ) → (Leaves i ∈ logged) ↔ gone i) → (i : ℕ) → (Leaves i ∈ (logged ++ es)) ↔ gone i
+left-on : {gone : ℕ → Type 0} (logged es : List Entry) → NoneRetires es → ((i : ℕ) → (Retires i ∈ logged) ↔ gone i) → (i : ℕ) → (Retires i ∈ (logged ++ es)) ↔ gone i
 left-on logged es n k i = (
-  λ h. (k i).0 (⊎_elim (λ a. a) (λ a. absurd (none-in es i n a)) (∈-append_cases (Leaves i) logged es h)),
-  λ g. ∈-append_left (Leaves i) logged es ((k i).1 g),
+  λ h. (k i).0 (⊎_elim (λ a. a) (λ a. absurd (none-in es i n a)) (∈-append_cases (Retires i) logged es h)),
+  λ g. ∈-append_left (Retires i) logged es ((k i).1 g),
 )
 
 pub logged-written : {gone : ℕ → Type 0} (logged : List Entry) (P : List Clause) (A : List Literal) (C : List ℕ) (hidden : Bool) (lines : List Line) →
@@ -312,20 +312,20 @@ logged-failed logged P A C hidden core within t = record {
 -- a variable left
 pub logged-left : {before after : ℕ → Type 0} (logged : List Entry) (P : List Clause) (A : List Literal) (C : List ℕ) (hidden : Bool) (v : ℕ) →
     (hidden ≡ false → ⊥) → ((i : ℕ) → after i ↔ (before i ⊎ (i ≡ v))) → IsWholeLog logged P A C hidden before →
-    IsWholeLog (logged ++ Leaves v ∷ []) P A C hidden after
+    IsWholeLog (logged ++ Retires v ∷ []) P A C hidden after
 logged-left logged P A C hidden v n gone t = record {
-  accepted = accepted_append logged (Leaves v ∷ []) ∙ append-nil (accepted_of logged) ∙ t.accepted;
-  assumed = assumed-on logged (Leaves v ∷ []) A A t.assumed refl;
-  cores = cores-on logged (Leaves v ∷ []) A t.assumed t.cores tt;
-  spoken = all-join (IsCounted C) logged (Leaves v ∷ []) t.spoken (tt, tt);
+  accepted = accepted_append logged (Retires v ∷ []) ∙ append-nil (accepted_of logged) ∙ t.accepted;
+  assumed = assumed-on logged (Retires v ∷ []) A A t.assumed refl;
+  cores = cores-on logged (Retires v ∷ []) A t.assumed t.cores tt;
+  spoken = all-join (IsCounted C) logged (Retires v ∷ []) t.spoken (tt, tt);
   left = λ i. (
     λ h. (gone i).1 (⊎_elim
         (λ a. inl ((t.left i).0 a))
-        (λ a. ⊎_elim (λ q. inr (let z : Leaves i ≡ Leaves v = q in cc)) (λ z. absurd z) a)
-        (∈-append_cases (Leaves i) logged (Leaves v ∷ []) h)),
+        (λ a. ⊎_elim (λ q. inr (let z : Retires i ≡ Retires v = q in cc)) (λ z. absurd z) a)
+        (∈-append_cases (Retires i) logged (Retires v ∷ []) h)),
     λ g. ⊎_elim
-        (λ a. ∈-append_left (Leaves i) logged (Leaves v ∷ []) ((t.left i).1 a))
-        (λ q. ∈-append_right (Leaves i) logged (Leaves v ∷ []) (inl (ap Leaves q)))
+        (λ a. ∈-append_left (Retires i) logged (Retires v ∷ []) ((t.left i).1 a))
+        (λ q. ∈-append_right (Retires i) logged (Retires v ∷ []) (inl (ap Retires q)))
         ((gone i).0 g),
   );
   stays = λ e. absurd (n e);
@@ -366,12 +366,12 @@ unspoken P (Writes (Delete []) ∷ es) Q a m (R, (front, x, back, i, o, f), d) e
 unspoken P (Writes (Delete (l ∷ c)) ∷ es) Q a m d e (s, p) = absurd (s l (inl refl))
 unspoken P (Assumes b ∷ es) Q a m (R, q, d) e s = unspoken R es Q a (subst (SatisfiesAll a) (sym q) m) d e s
 unspoken P (Fails core ∷ es) Q a m (R, (k, q), d) e s = unspoken R es Q a (subst (SatisfiesAll a) (sym q) m) d e s
-unspoken P (Leaves v ∷ es) Q a m (R, q, d) e s = unspoken R es Q a (subst (SatisfiesAll a) (sym q) (λ c h. m c (without_less v P c h))) d e s
+unspoken P (Retires v ∷ es) Q a m (R, q, d) e s = unspoken R es Q a (subst (SatisfiesAll a) (sym q) (λ c h. m c (without_less v P c h))) d e s
 
 -- all that is told is that variables leave
 abbrev pub OnlyLeave : List Entry → Type 0
 OnlyLeave [] = Unit {0}
-OnlyLeave (Leaves v ∷ es) = OnlyLeave es
+OnlyLeave (Retires v ∷ es) = OnlyLeave es
 OnlyLeave (_ ∷ es) = ⊥
 
 -- So it is where nothing was given and entries are over no variable.
@@ -388,5 +388,5 @@ only-leave P (Writes (Delete (l ∷ c)) ∷ es) Q a m d n e (s, rest) = absurd (
 only-leave P (Assumes b ∷ es) Q a m d n e s = absurd cc
 only-leave P (Fails [] ∷ es) Q a m (R, (f, q), d) n e s = absurd (conflicts_sound P [] a m (λ l h. absurd h) f)
 only-leave P (Fails (l ∷ core) ∷ es) Q a m d n e (s, rest) = absurd (s l (inl refl))
-only-leave P (Leaves v ∷ es) Q a m (R, q, d) n e (s, rest) =
+only-leave P (Retires v ∷ es) Q a m (R, q, d) n e (s, rest) =
     only-leave R es Q a (subst (SatisfiesAll a) (sym q) (λ c h. m c (without_less v P c h))) d n e rest

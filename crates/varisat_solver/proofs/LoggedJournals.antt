@@ -7,7 +7,7 @@ use Rattle.varisat_theory.specs.Literals.{Literal, Clause, variable_of}
 use Rattle.varisat_theory.specs.Derivations.{Add, Delete, IsDerivation, Refutes, SpeakOf}
 use Rattle.varisat_theory.specs.Held.{SameClauses}
 use Rattle.varisat_theory.specs.Renaming.{rename}
-use Rattle.varisat_theory.specs.Journals.{Entry, Accepts, Writes, Assumes, Fails, Leaves, Leads, accepted_of, lines_of}
+use Rattle.varisat_theory.specs.Journals.{Entry, Accepts, Writes, Assumes, Fails, Retires, Leads, accepted_of, lines_of}
 use Rattle.varisat_proof.specs.declared.proof.format.ProofFormat.{ProofFormat}
 use Rattle.varisat_proof.specs.declared.proof.format.ProofFormat.TheVariants.{Drat, BinaryDrat, Marked}
 use Rattle.varisat_proof.specs.Lines.{encoding_of, plain_lines, has_marks}
@@ -84,7 +84,7 @@ module _ (made : ℕ) (counted : List ℕ) (few : made ≤ variable_limit) (belo
   logged-in-range (Writes (Delete c) ∷ es) (f, w) line l (inr h) i = logged-in-range es w line l h i
   logged-in-range (Assumes a ∷ es) (f, w) line l (inr h) i = logged-in-range es w line l h i
   logged-in-range (Fails core ∷ es) (f, w) line l (inr h) i = logged-in-range es w line l h i
-  logged-in-range (Leaves v ∷ es) (f, w) line l h i = logged-in-range es w line l h i
+  logged-in-range (Retires v ∷ es) (f, w) line l h i = logged-in-range es w line l h i
 
 -- literals of identities whose variables are below the limit, as a proof writes them
 module _ (variables : ℕ → Option ℕ) (below : (i x : ℕ) → variables i ≡ Some x → x < variable_limit) where
@@ -113,7 +113,7 @@ module _ (variables : ℕ → Option ℕ) (below : (i x : ℕ) → variables i �
   logged-over (Writes (Delete c) ∷ es) line l (inr h) i = logged-over es line l h i
   logged-over (Assumes a ∷ es) line l (inr h) i = logged-over es line l h i
   logged-over (Fails core ∷ es) line l (inr h) i = logged-over es line l h i
-  logged-over (Leaves v ∷ es) line l h i = logged-over es line l h i
+  logged-over (Retires v ∷ es) line l h i = logged-over es line l h i
 
 pub journal-of : (g : Summary) (s : State) → Represents g s → g.ledger.valid ≡ true → IsJournal s
 journal-of g s st v =
@@ -167,7 +167,7 @@ held-none (Accepts c ∷ es) Q d a e = absurd (let z : (c ∷ accepted_of es) �
 held-none (Writes line ∷ es) Q d a e = absurd (let z : (line ∷ lines_of es) ≡ [] = e in cc)
 held-none (Assumes b ∷ es) Q (R, q, d) a e = held-none es Q (subst (λ (X : List Clause). Leads X es Q) q d) a e
 held-none (Fails core ∷ es) Q (R, (f, q), d) a e = held-none es Q (subst (λ (X : List Clause). Leads X es Q) q d) a e
-held-none (Leaves v ∷ es) Q (R, q, d) a e = held-none es Q (subst (λ (X : List Clause). Leads X es Q) q d) a e
+held-none (Retires v ∷ es) Q (R, q, d) a e = held-none es Q (subst (λ (X : List Clause). Leads X es Q) q d) a e
 
 -- So a checker without clauses may begin then.
 pub checking-begins : (w : Carrying) (p : Spaces) (s : State) → Links w p s → s.clauses ≡ [] → s.counted ≡ [] →

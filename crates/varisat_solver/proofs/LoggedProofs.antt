@@ -2,7 +2,7 @@
 use Rattle.std.proofs.Common.{◌≡◌, ℕ, ◌*◌, ◌/◌, Option, Some, List, [], ◌∷◌, ◌++◌, map, refl, sym, ap, ◌∙◌, subst, arith, append_assoc}
 use Rattle.std.proofs.lemmas.List.{append-nil, map-append}
 use Rattle.varisat_theory.specs.Literals.{Literal}
-use Rattle.varisat_theory.specs.Journals.{Entry, Accepts, Writes, Assumes, Fails, Leaves, NoneLeaves, rename_entry, GoesOn}
+use Rattle.varisat_theory.specs.Journals.{Entry, Accepts, Writes, Assumes, Fails, Retires, NoneRetires, rename_entry, GoesOn}
 use Rattle.varisat_proof.specs.Proving.{ProofParts, IsLogged}
 use Rattle.varisat_tracer.specs.Carried.{carry, logged_as}
 use Rattle.varisat_tracer.specs.Logged.{logged-none, logged-more}
@@ -15,13 +15,13 @@ use Rattle.varisat_solver.proofs.LoggedEntries.{logs-nothing, nothing-derived, l
 
 -- 1. Literals and entries.
 -- where none leaves a proof is told each entry
-logged-each : (f : Literal → Literal) (es : List Entry) → NoneLeaves es → map (rename_entry f) es ≡ logged_as f es
+logged-each : (f : Literal → Literal) (es : List Entry) → NoneRetires es → map (rename_entry f) es ≡ logged_as f es
 logged-each f [] n = refl
 logged-each f (Accepts c ∷ es) n = ap (λ xs. Accepts (map f c) ∷ xs) (logged-each f es n)
 logged-each f (Writes line ∷ es) n = ap (λ xs. rename_entry f (Writes line) ∷ xs) (logged-each f es n)
 logged-each f (Assumes a ∷ es) n = ap (λ xs. Assumes (map f a) ∷ xs) (logged-each f es n)
 logged-each f (Fails core ∷ es) n = ap (λ xs. Fails (map f core) ∷ xs) (logged-each f es n)
-logged-each f (Leaves v ∷ es) n = absurd n
+logged-each f (Retires v ∷ es) n = absurd n
 
 -- 2. What a proof was told.
 
@@ -29,7 +29,7 @@ logged-each f (Leaves v ∷ es) n = absurd n
 pub record AreLoggedAs (variables : ℕ → Option ℕ) (before after given : List Entry) : Type 0 where
   pub entries : List Entry
   pub joined : after ≡ before ++ entries
-  pub stays : NoneLeaves entries
+  pub stays : NoneRetires entries
   pub same : logged_as (carry variables) entries ≡ given
 
 pub proof-logged : (x y : TracerState) (entries : List Entry) (variables : ℕ → Option ℕ) (before after : List Entry) → TakesGlobally x entries y →
@@ -73,15 +73,15 @@ leaving-nothing variables logged p = record {
 
 -- one did, and the proof was told of its global variable
 pub leaving-one : (variables : ℕ → Option ℕ) (logged : List Entry) (i x : ℕ) (p q : ProofParts) (given : List Entry) → variables i ≡ Some x →
-    given ≡ Leaves x ∷ [] → IsLogged p given q → LogsRetired variables logged (logged ++ Leaves i ∷ []) p q
+    given ≡ Retires x ∷ [] → IsLogged p given q → LogsRetired variables logged (logged ++ Retires i ∷ []) p q
 leaving-one variables logged i x p q given at e h = record {
-  more = record { entries = Leaves i ∷ []; joined = refl; goes = leaves-goes logged i };
+  more = record { entries = Retires i ∷ []; joined = refl; goes = leaves-goes logged i };
   leaving = tt;
   proof = record {
-    entries = Leaves i ∷ [];
+    entries = Retires i ∷ [];
     joined = refl;
     logged = subst (λ es. IsLogged p es q)
-        (e ∙ ap (λ v. Leaves v ∷ []) (sym (carry-at variables (2 * i) x (ap variables (half i) ∙ at)))) h;
+        (e ∙ ap (λ v. Retires v ∷ []) (sym (carry-at variables (2 * i) x (ap variables (half i) ∙ at)))) h;
   };
 }
   where

@@ -3,7 +3,7 @@ use Rattle.std.proofs.Common.{[], ◌≡◌, ◌↔◌, ℕ, ◌+◌, ◌<◌, �
 use Rattle.std.proofs.lemmas.Bool.{cases_lt}
 use Rattle.varisat_theory.specs.Membership.{◌∈◌}
 use Rattle.varisat_theory.specs.Literals.{Literal, Clause, Assignment, variable_of}
-use Rattle.varisat_theory.specs.Journals.{Leaves}
+use Rattle.varisat_theory.specs.Journals.{Retires}
 use Rattle.varisat_theory.proofs.Members.{equal_or_not}
 use Rattle.varisat_names.specs.Maps.{updated, onward, chain}
 use Rattle.varisat_names.specs.VarData.{fresh}
@@ -243,7 +243,7 @@ module _ (w : Carrying) (p : Spaces) (s : State) (u x : ℕ) (k : Links w p s) (
   identity-same v = chain-same p.global_from_solver id' w.identity v (λ y h. let r = k.solvers.live v y h in stays y r.0 r.1 ∙ sym r.1)
 
   -- no identity is gone that was not before
-  new-gone : (i : ℕ) → (Leaves i ∈ s.logged) ↔ ((i < s.naming.made + 1) × (updated w.global s.naming.made (Some x) i ≡ None))
+  new-gone : (i : ℕ) → (Retires i ∈ s.logged) ↔ ((i < s.naming.made + 1) × (updated w.global s.naming.made (Some x) i ≡ None))
   new-gone i = (
     λ h.
         let (b, e) = (k.logged.left i).0 h in

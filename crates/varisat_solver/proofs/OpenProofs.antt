@@ -6,7 +6,7 @@ use Rattle.std.specs.declared.io.Error.{Error}
 use Rattle.varisat_theory.specs.Membership.{◌∈◌}
 use Rattle.varisat_theory.specs.Literals.{Literal, variable_of, Clause}
 use Rattle.varisat_theory.specs.Derivations.{Add, Delete}
-use Rattle.varisat_theory.specs.Journals.{Entry, Accepts, Writes, Assumes, Fails, Leaves, rename_entry, lines_of}
+use Rattle.varisat_theory.specs.Journals.{Entry, Accepts, Writes, Assumes, Fails, Retires, rename_entry, lines_of}
 use Rattle.varisat_prop.proofs.LiteralValues.{same-literal}
 use Rattle.varisat_names.proofs.Maps.{is-some}
 use Rattle.varisat_solver.specs.States.{State}
@@ -36,7 +36,7 @@ use Rattle.varisat_proof.specs.Proving as proving
 
 -- entries are the same under names that agree where they speak, and on the variables that leave
 entries-alike : (f g : Literal → Literal) (are : Literal → Type 0) (es : List Entry) → ((l : Literal) → are l → f l ≡ g l) →
-    ((i : ℕ) → Leaves i ∈ es → f (2 * i) ≡ g (2 * i)) → AllSpeakOf are es → map (rename_entry f) es ≡ map (rename_entry g) es
+    ((i : ℕ) → Retires i ∈ es → f (2 * i) ≡ g (2 * i)) → AllSpeakOf are es → map (rename_entry f) es ≡ map (rename_entry g) es
 entries-alike f g are [] e v s = refl
 entries-alike f g are (Accepts c ∷ es) e v (s, rest) =
     ap (λ d. Accepts d ∷ map (rename_entry f) es) (map-same f g c (λ l h. e l (s l h)))
@@ -53,9 +53,9 @@ entries-alike f g are (Assumes a ∷ es) e v (s, rest) =
 entries-alike f g are (Fails core ∷ es) e v (s, rest) =
     ap (λ d. Fails d ∷ map (rename_entry f) es) (map-same f g core (λ l h. e l (s l h)))
     ∙ ap (λ xs. Fails (map g core) ∷ xs) (entries-alike f g are es e (λ i h. v i (inr h)) rest)
-entries-alike f g are (Leaves i ∷ es) e v (s, rest) =
-    ap (λ l. Leaves (variable_of l) ∷ map (rename_entry f) es) (v i (inl refl))
-    ∙ ap (λ xs. Leaves (variable_of (g (2 * i))) ∷ xs) (entries-alike f g are es e (λ j h. v j (inr h)) rest)
+entries-alike f g are (Retires i ∷ es) e v (s, rest) =
+    ap (λ l. Retires (variable_of l) ∷ map (rename_entry f) es) (v i (inl refl))
+    ∙ ap (λ xs. Retires (variable_of (g (2 * i))) ∷ xs) (entries-alike f g are es e (λ j h. v j (inr h)) rest)
 
 map-itself : (f : Literal → Literal) (c : List Literal) → ((l : Literal) → f l ≡ l) → map f c ≡ c
 map-itself f [] e = refl
@@ -73,7 +73,7 @@ entries-themselves (Assumes a ∷ es) = ap (λ d. Assumes d ∷ map (rename_entr
     ∙ ap (λ xs. Assumes a ∷ xs) (entries-themselves es)
 entries-themselves (Fails core ∷ es) = ap (λ d. Fails d ∷ map (rename_entry (λ l. l)) es) (map-itself (λ l. l) core (λ l. refl))
     ∙ ap (λ xs. Fails core ∷ xs) (entries-themselves es)
-entries-themselves (Leaves i ∷ es) = ap (λ n. Leaves n ∷ map (rename_entry (λ l. l)) es) (half i) ∙ ap (λ xs. Leaves i ∷ xs) (entries-themselves es)
+entries-themselves (Retires i ∷ es) = ap (λ n. Retires n ∷ map (rename_entry (λ l. l)) es) (half i) ∙ ap (λ xs. Retires i ∷ xs) (entries-themselves es)
   where
     half : (i : ℕ) → (2 * i) / 2 ≡ i
     half i = omega arith
@@ -86,7 +86,7 @@ module _ (w : Carrying) (p : Spaces) (s : State) (k : Links w p s) where
       (λ l h. carry-same variables s.variables l (keep (variable_of l) (k.well_formed.counted (variable_of l) h)))
       (λ i h. carry-same variables s.variables (2 * i) (keep (variable_of (2 * i)) (below i h))) k.logged.spoken
     where
-      below : (i : ℕ) → Leaves i ∈ s.logged → variable_of (2 * i) < s.naming.made
+      below : (i : ℕ) → Retires i ∈ s.logged → variable_of (2 * i) < s.naming.made
       below i h = let m = ((k.logged.left i).0 h).0 in omega (arith, m)
 
   -- an identity that has not left is live
@@ -133,11 +133,11 @@ plainly-logged f d (Writes l ∷ es) = ap (λ ls. plain_line l ∷ ls) (plainly-
 plainly-logged Drat d (Accepts c ∷ es) = plainly-logged Drat d es
 plainly-logged Drat d (Assumes a ∷ es) = plainly-logged Drat d es
 plainly-logged Drat d (Fails core ∷ es) = plainly-logged Drat d es
-plainly-logged Drat d (Leaves v ∷ es) = plainly-logged Drat d es
+plainly-logged Drat d (Retires v ∷ es) = plainly-logged Drat d es
 plainly-logged BinaryDrat d (Accepts c ∷ es) = plainly-logged BinaryDrat d es
 plainly-logged BinaryDrat d (Assumes a ∷ es) = plainly-logged BinaryDrat d es
 plainly-logged BinaryDrat d (Fails core ∷ es) = plainly-logged BinaryDrat d es
-plainly-logged BinaryDrat d (Leaves v ∷ es) = plainly-logged BinaryDrat d es
+plainly-logged BinaryDrat d (Retires v ∷ es) = plainly-logged BinaryDrat d es
 plainly-logged Marked d (e ∷ es) = absurd (let z : true ≡ false = d in cc)
 
 -- so the bytes of a DRAT proof are those of these lines
@@ -180,7 +180,7 @@ lines-renamed f (Accepts c ∷ es) = lines-renamed f es
 lines-renamed f (Writes line ∷ es) = ap (λ ls. rename_line f line ∷ ls) (lines-renamed f es)
 lines-renamed f (Assumes a ∷ es) = lines-renamed f es
 lines-renamed f (Fails core ∷ es) = lines-renamed f es
-lines-renamed f (Leaves v ∷ es) = lines-renamed f es
+lines-renamed f (Retires v ∷ es) = lines-renamed f es
 
 -- lines that are written behind others
 pub lines-behind : (variables : ℕ → Option ℕ) (before entries : List Entry) → lines_over variables (before ++ entries) ≡ lines_over variables before
@@ -297,7 +297,7 @@ leaves-unwritten variables e (Accepts c ∷ es) o = absurd o
 leaves-unwritten variables e (Writes line ∷ es) o = absurd o
 leaves-unwritten variables e (Assumes a ∷ es) o = absurd o
 leaves-unwritten variables e (Fails core ∷ es) o = absurd o
-leaves-unwritten variables e (Leaves v ∷ es) o = leaves-unwritten variables e es o
+leaves-unwritten variables e (Retires v ∷ es) o = leaves-unwritten variables e es o
 
 pub first-written : (variables : ℕ → Option ℕ) (f : ProofFormat) (t : Taken) (logged : List Entry) → OnlyLeave logged →
     IsWrittenWhereOpen variables logged (Some (first_proof f t))

@@ -8,16 +8,16 @@ use Rattle.varisat_theory.specs.Derivations.{Line, TakesOut, SpeakOf}
 use Rattle.varisat_theory.specs.Held.{SameClauses, mentions, unless, without}
 use Rattle.varisat_theory.specs.Renaming.{rename, rename_line}
 use Rattle.varisat_theory.specs.Counted.{DerivesBy}
-use Rattle.varisat_theory.specs.Journals.{Entry, Accepts, Leaves, Follow, Leads, written, GoesOn}
+use Rattle.varisat_theory.specs.Journals.{Entry, Accepts, Retires, Follow, Leads, written, GoesOn}
 use Rattle.varisat_theory.specs.Searches.{Search, Fits, IsLiteralOf}
 use Rattle.varisat_theory.specs.Outcomes.{Outcome, Holds}
 use Rattle.varisat_theory.specs.Outcomes as outcome
 use Rattle.varisat_theory.proofs.Members.{∈-append_left, ∈-append_right, ∈-append_cases}
 use Rattle.varisat_theory.proofs.Growth.{conflicts_more, covered_by_more}
 use Rattle.varisat_theory.proofs.Held.{same_set-self, same_add, same_clauses-self, same_clauses-back, same_clauses-through, same_clauses_find, conflicts_same}
-use Rattle.varisat_theory.proofs.HeldDrops.{without_less, without_append, same_without}
+use Rattle.varisat_theory.proofs.HeldRetirements.{without_less, without_append, same_without}
 use Rattle.varisat_theory.proofs.Renaming.{map-∈, conflicts_renamed, same_clauses_renamed}
-use Rattle.varisat_theory.proofs.StepDrops.{variable_is_dropped}
+use Rattle.varisat_theory.proofs.StepRetirements.{variable_is_retired}
 use Rattle.varisat_theory.proofs.NewClauses.{over_after}
 use Rattle.varisat_theory.proofs.Journals.{leads_append, by_leads, by_leads_same, written_by, goes_on, by_renamed, by_beside}
 use Rattle.varisat_prop.proofs.LiteralValues.{own-opposite}
@@ -123,7 +123,7 @@ proved-fixed held t f l h =
 pub fits-without : (v : ℕ) (share : List Clause) (s : Search) → ((l : Literal) → IsLiteralOf s l → variable_of l ≡ v → ⊥) → Fits share s →
     Fits (without v share) s
 fits-without v share s other f =
-    variable_is_dropped s s v share refl (λ c a. unmentioned v c.clause (λ l b. other l (inr (c, a, b)))) (λ l a n. a)
+    variable_is_retired s s v share refl (λ c a. unmentioned v c.clause (λ l b. other l (inr (c, a, b)))) (λ l a n. a)
     (λ l a. (a, other l (inl (proved-fixed share s f l a)))) f
 
 -- 5. What a search shares of what is held.
@@ -379,7 +379,7 @@ still-there v (d ∷ P) c (inr h) e = go (mentions v d) (still-there v P c h e)
 module _ (r r' : Translation) (i : ℕ) (none : (v : ℕ) → r.identity v ≡ Some i → ⊥) (same : (v : ℕ) → r'.identity v ≡ r.identity v)
     (forced : (j : ℕ) → r'.forced j ≡ r.forced j) (live : (j x : ℕ) → r'.global j ≡ Some x → (j ≡ i → ⊥) × (r.global j ≡ Some x))
     (still : (j x : ℕ) → (j ≡ i → ⊥) → r.global j ≡ Some x → r'.global j ≡ Some x) where
-  shares-gone : {fixed : List Literal} (share : List Clause) → r'.logged ≡ r.logged ++ Leaves i ∷ [] → SharesHeld r fixed share → SharesHeld r' fixed share
+  shares-gone : {fixed : List Literal} (share : List Clause) → r'.logged ≡ r.logged ++ Retires i ∷ [] → SharesHeld r fixed share → SharesHeld r' fixed share
   shares-gone share e q =
       let f = carry r.identity in
       let R = rename f share in
@@ -394,7 +394,7 @@ module _ (r r' : Translation) (i : ℕ) (none : (v : ℕ) → r.identity v ≡ S
       record {
         held = without i q.held;
         led = subst (λ es. Leads [] es (without i q.held)) (sym e)
-            (leads_append [] r.logged q.held (Leaves i ∷ []) (without i q.held) q.led (without i q.held, refl, refl));
+            (leads_append [] r.logged q.held (Retires i ∷ []) (without i q.held) q.led (without i q.held, refl, refl));
         forgotten = without i q.forgotten;
         same = subst (λ x. SameClauses (without i q.held) (without i q.forgotten ++ x))
             (rename-same f (carry r'.identity) share (λ c l h a. sym (carry-same r'.identity r.identity l (same (variable_of l))))) left;
@@ -407,7 +407,7 @@ module _ (r r' : Translation) (i : ℕ) (none : (v : ℕ) → r.identity v ≡ S
         settled = λ c h. settled-alike r r' _ same forced c (q.settled c (without_less i q.forgotten c h));
       }
 
-  pub logged-gone : (fixed : List Literal) (share : List Clause) (v : Outcome) → v ≢ outcome.Unsat → r'.logged ≡ r.logged ++ Leaves i ∷ [] →
+  pub logged-gone : (fixed : List Literal) (share : List Clause) (v : Outcome) → v ≢ outcome.Unsat → r'.logged ≡ r.logged ++ Retires i ∷ [] →
       HeldFits r fixed share v → HeldFits r' fixed share v
   logged-gone fixed share outcome.Unknown n e q = shares-gone share e q
   logged-gone fixed share (outcome.Sat found) n e q = shares-gone share e q

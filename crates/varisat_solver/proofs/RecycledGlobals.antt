@@ -16,7 +16,7 @@ use Rattle.varisat_names.proofs.Maps.{updated-at, updated-other, updated-all, pa
 use Rattle.varisat_solver.specs.States.{State}
 use Rattle.varisat_solver.specs.Spaces.{Spaces, Carrying, ModeFits, IdentitiesFit, NamesFit, ModesFit, UnitsFit, IsolationCase, NotIsolated, Apart, Forced, IsolationFits, MarksFit, without_core, Translation, translation, Links, SpacesFit}
 use Rattle.varisat_solver.proofs.SpacesAgree.{working-same, holds-same, verdict-moved}
-use Rattle.varisat_theory.specs.Journals.{Leaves, Leads}
+use Rattle.varisat_theory.specs.Journals.{Retires, Leads}
 use Rattle.varisat_theory.specs.Outcomes as outcome
 use Rattle.varisat_solver.specs.Journals.{with_entries}
 use Rattle.varisat_solver.proofs.VariableMoves.{recycle}
@@ -135,8 +135,8 @@ module _ (w : Carrying) (p : Spaces) (s : State) (x i : ℕ) (k : Links w p s) (
   )
 
   -- It is gone from each state, under no verdict that lets nothing more be told.
-  pub recycled : without_core p.outcome ≢ outcome.Unsat → (checker : Option CheckerState) → IsCheckedIf p.checker (Leaves x ∷ []) checker →
-      SpacesFit (record (recycle x p) { checker = checker }) (with_entries (s.logged ++ Leaves i ∷ []) s)
+  pub recycled : without_core p.outcome ≢ outcome.Unsat → (checker : Option CheckerState) → IsCheckedIf p.checker (Retires x ∷ []) checker →
+      SpacesFit (record (recycle x p) { checker = checker }) (with_entries (s.logged ++ Retires i ∷ []) s)
   unfolding id' kept'
   recycled undecided checker gone =
       let before = translation w p s.logged in
@@ -145,7 +145,7 @@ module _ (w : Carrying) (p : Spaces) (s : State) (x i : ℕ) (k : Links w p s) (
         global = updated w.global i None;
         forced = w.forced;
         logged =
-            s.logged ++ Leaves i ∷ [];
+            s.logged ++ Retires i ∷ [];
       } in (
         record { identity = id'; global = updated w.global i None; forced = w.forced },
         record {
@@ -176,7 +176,7 @@ module _ (w : Carrying) (p : Spaces) (s : State) (x i : ℕ) (k : Links w p s) (
               k.verdict;
           core = k.core;
           right = k.right;
-          well_formed = logged-well s (with_entries (s.logged ++ Leaves i ∷ []) s) k.well_formed;
+          well_formed = logged-well s (with_entries (s.logged ++ Retires i ∷ []) s) k.well_formed;
           few = k.few;
           shown = λ e y. updated-all (λ y d. p.user_from_global y ≡ None → d.deleted ≡ true) p.kept x dead (λ _. refl) y (λ n h. k.shown e y h);
           plain = λ e. absurd (was-hidden e);

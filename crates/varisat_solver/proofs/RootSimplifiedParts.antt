@@ -75,11 +75,11 @@ no-units-go (l ∷ ls) e (inr h) = no-units-go ls e h
 -- 2. Why a line of a simplification deletes a clause.
 
 -- The clause has a literal with a value. It has one that is true, or a line adds what is left of it.
-record IsGone (values : List (Option Bool)) (lines : List Line) (e : Clause) : Type 0 where
+record IsRetired (values : List (Option Bool)) (lines : List Line) (e : Clause) : Type 0 where
   assigned : are_unassigned values e ≡ false
   why : ((l : Literal) × (l ∈ e) × IsMadeTrue values l) ⊎ ((d : Clause) × (Add d ∈ lines) × (d ⊆ e) × (are_unassigned values d ≡ true))
 
-gone-wider : (values : List (Option Bool)) (lines more : List Line) (e : Clause) → lines ⊆ more → IsGone values lines e → IsGone values more e
+gone-wider : (values : List (Option Bool)) (lines more : List Line) (e : Clause) → lines ⊆ more → IsRetired values lines e → IsRetired values more e
 gone-wider values lines more e w g = record {
   assigned = g.assigned;
   why = ⊎_elim inl (λ (d, i, p, u). inr (d, w (Add d) i, p, u)) g.why;
@@ -92,29 +92,29 @@ true-assigned values c l i t = go (are_unassigned values c) refl
     go false q = q
     go true q = let z : true ≡ false = sym (all-unassigned values c q l i) ∙ ap is_none t in absurd cc
 
-gone-one : (values : List (Option Bool)) (c e : Clause) → Delete e ∈ lines_of_clause values c → IsGone values (lines_of_clause values c) e
+gone-one : (values : List (Option Bool)) (c e : Clause) → Delete e ∈ lines_of_clause values c → IsRetired values (lines_of_clause values c) e
 gone-one values c e h = go (has_true values c) refl (are_unassigned values c) refl h
   where
     go : (b : Bool) → has_true values c ≡ b → (a : Bool) → are_unassigned values c ≡ a →
         Delete e ∈ cond b (Delete c ∷ []) (cond a [] (Add (unassigned values c) ∷ Delete c ∷ [])) →
-        IsGone values (cond b (Delete c ∷ []) (cond a [] (Add (unassigned values c) ∷ Delete c ∷ []))) e
+        IsRetired values (cond b (Delete c ∷ []) (cond a [] (Add (unassigned values c) ∷ Delete c ∷ []))) e
     go true t a q (inl z) =
         let same : e ≡ c = cc in
         let (l, i, m) = some-true values c t in
-        subst (IsGone values (Delete c ∷ [])) (sym same) (record { assigned = true-assigned values c l i m; why = inl (l, i, m) })
+        subst (IsRetired values (Delete c ∷ [])) (sym same) (record { assigned = true-assigned values c l i m; why = inl (l, i, m) })
     go true t a q (inr z) = absurd z
     go false t true q h = absurd h
     go false t false q (inl z) = let y : Delete e ≡ Add (unassigned values c) = z in absurd cc
     go false t false q (inr (inl z)) =
         let same : e ≡ c = cc in
-        subst (IsGone values (Add (unassigned values c) ∷ Delete c ∷ [])) (sym same) (record {
+        subst (IsRetired values (Add (unassigned values c) ∷ Delete c ∷ [])) (sym same) (record {
           assigned = q;
           why = inr (unassigned values c, inl refl, left-part values c, each-unassigned values (unassigned values c) (left-unassigned values c));
         })
     go false t false q (inr (inr z)) = absurd z
 
 gone-clauses : (values : List (Option Bool)) (ks : List StoredClause) (e : Clause) → Delete e ∈ lines_of_clauses values ks →
-    IsGone values (lines_of_clauses values ks) e
+    IsRetired values (lines_of_clauses values ks) e
 gone-clauses values [] e h = absurd h
 gone-clauses values (k ∷ ks) e h =
     let first = lines_of_clause values k.literals in
@@ -124,7 +124,7 @@ gone-clauses values (k ∷ ks) e h =
     (λ i. gone-wider values rest (first ++ rest) e (λ x j. ∈-append_right x first rest j) (gone-clauses values ks e i))
     (∈-append_cases (Delete e) first rest h)
 
-gone-pairs : (s : View) → WellFormed s → IsComplete (kept s) s.trail → (e : Clause) → Delete e ∈ pair_lines s → IsGone s.values (pair_lines s) e
+gone-pairs : (s : View) → WellFormed s → IsComplete (kept s) s.trail → (e : Clause) → Delete e ∈ pair_lines s → IsRetired s.values (pair_lines s) e
 gone-pairs s w done e h =
     let cs = filter (λ c. not (are_unassigned s.values c)) (pairs_from 0 s.binary) in
     let (c, i, z) = map-∈ Delete (Delete e) cs h in
@@ -132,10 +132,10 @@ gone-pairs s w done e h =
     let (j, n) = ∈-filter (λ c. not (are_unassigned s.values c)) (pairs_from 0 s.binary) c i in
     let f = is-false (are_unassigned s.values c) n in
     let (l, o, t) = pair-satisfied s w done c j f in
-    subst (IsGone s.values (pair_lines s)) (sym same) (record { assigned = f; why = inl (l, o, trail-true s w l t) })
+    subst (IsRetired s.values (pair_lines s)) (sym same) (record { assigned = f; why = inl (l, o, trail-true s w l t) })
 
 gone-lines : (s : View) (units : List Literal) → WellFormed s → IsComplete (kept s) s.trail → (e : Clause) →
-    Delete e ∈ (unit_lines units ++ (pair_lines s ++ clause_lines s)) → IsGone s.values (unit_lines units ++ (pair_lines s ++ clause_lines s)) e
+    Delete e ∈ (unit_lines units ++ (pair_lines s ++ clause_lines s)) → IsRetired s.values (unit_lines units ++ (pair_lines s ++ clause_lines s)) e
 gone-lines s units w done e h =
     let first = unit_lines units in
     let pairs = pair_lines s in
@@ -163,7 +163,7 @@ unit-held t after e l w d f h i =
     (x, j, λ m y. subst (λ z. z ∈ e) (sym (is.1 m (same.0 m y))) i)
 
 gone-kept : (s t : View) (lines : List Line) (held after : List Clause) → IsPresentAfter held lines after → t.values ≡ s.values →
-    ((e : Clause) → Delete e ∈ lines → IsGone s.values lines e) → WellFormed t → IsRootSimplified t → Fits after (search_of t) →
+    ((e : Clause) → Delete e ∈ lines → IsRetired s.values lines e) → WellFormed t → IsRootSimplified t → Fits after (search_of t) →
     KeepsParts [] held after
 gone-kept s t lines held after p same gone w d f c h =
     ⊎_elim
@@ -205,6 +205,6 @@ settled-parts lines s t (Ok none) u w d held after p f =
     is ∙ ap (λ (ls : List Line). units ++ (ls ++ clause_lines u.proved)) pairs ∙ ap (λ (ls : List Line). units ++ (pair_lines v ++ ls)) stored in
     let values : t.values ≡ v.values = ap (λ (y : View). y.values) simplified.rest ∙ ap (λ (y : View). y.values) u.units.rest in
     gone-kept v t lines held after p values
-    (λ e i. subst (λ ls. IsGone v.values ls e) (sym all) (gone-lines v (implied_units v) u.propagates.well u.complete e (subst (λ ls. Delete e ∈ ls) all i)))
+    (λ e i. subst (λ ls. IsRetired v.values ls e) (sym all) (gone-lines v (implied_units v) u.propagates.well u.complete e (subst (λ ls. Delete e ∈ ls) all i)))
     w d f
 settled-parts lines s t (Err conflict) u w d held after p f = units-kept (implied_units u.propagated) lines held after u.ends.2 p

@@ -15,7 +15,7 @@ use Rattle.varisat_prop.proofs.LiteralValues.{own-opposite}
 use Rattle.varisat_solver.specs.Names.{identity_of}
 use Rattle.varisat_tracer.specs.Carried.{carry}
 use Rattle.varisat_solver.specs.Carried.{AgreesAlong, is_forced}
-use Rattle.varisat_solver.specs.Spaces.{Translation, SearchHolds, Spaces, Carrying, translation, CheckerFits, SolversFit, IsGone, IsWholeLog, AssumptionsFit, IsolationFits, MarksFit, WorkingFits, CoreFits, VerdictFits, without_core, Links}
+use Rattle.varisat_solver.specs.Spaces.{Translation, SearchHolds, Spaces, Carrying, translation, CheckerFits, SolversFit, IsRetired, IsWholeLog, AssumptionsFit, IsolationFits, MarksFit, WorkingFits, CoreFits, VerdictFits, without_core, Links}
 use Rattle.varisat_solver.proofs.SpacesAgree.{AreLong, identities-same, modes-same, units-same}
 use Rattle.varisat_tracer.specs.RenamedEntries.{carry-opposites}
 use Rattle.varisat_solver.proofs.ReachedHeld.{lines_logged, with_told, IsInUse, lines-lead, shares-after}
@@ -156,7 +156,7 @@ pub record SearchLinks (w : Carrying) (p : Spaces) (s : State) : Type 0 where
   pub core : CoreFits s.naming.names p.core s.verdict
   pub right : HasRightVerdict s
   pub few : p.var_count ≤ length s.counted
-  pub logged : IsWholeLog s.logged s.clauses s.assumptions s.counted s.ever_hidden (IsGone w s)
+  pub logged : IsWholeLog s.logged s.clauses s.assumptions s.counted s.ever_hidden (IsRetired w s)
   pub checked : CheckerFits w.global s.logged p.checker
 
 pub relinked : (w : Carrying) (p q : Spaces) (s t : State) → Links w p s → SearchLinks w (with_search_side q p) (logged_as t s) →

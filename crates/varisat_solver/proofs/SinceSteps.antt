@@ -11,7 +11,7 @@ use Rattle.varisat_search.specs.Contexts.{view, IsNotUnsat, IsReady}
 use Rattle.varisat_search.specs.DueReductions.{BeginsStep}
 use Rattle.varisat_search.specs.RootSimplified.{FixesByLearning, GoesOnByLines, IsRootSimplified}
 use Rattle.varisat_search.proofs.FixedLiterals.{begun-fixed}
-use Rattle.varisat_solver.specs.Dropping.{AreOverAssumed, LeavesInTime, HasLetLeave}
+use Rattle.varisat_solver.specs.Detaching.{AreOverAssumed, DetachesInTime, HasDetached}
 use Rattle.varisat_theory.specs.Membership.{◌∈◌, IsDistinct}
 use Rattle.varisat_theory.specs.Literals.{Literal, variable_of}
 use Rattle.varisat_theory.proofs.Members.{∈-append_cases, distinct_append}
@@ -45,16 +45,16 @@ use Rattle.varisat_solver.specs.SinceChange.{call_from, HasComeSince, HasBegunWi
 
 -- a step begins
 pub leaves-begun : {A : Type 0} {are : List Line → Type 0} (t u : Tables) (x z : Context A) → IsReady x → BeginsStep are x z → u ≡ t →
-    LeavesInTime t (view x) → LeavesInTime u (view z)
+    DetachesInTime t (view x) → DetachesInTime u (view z)
 leaves-begun t u x z r b e h =
     let (same, news) = begun-fixed x z r b in
-    subst (λ (m : Tables). LeavesInTime m (view z)) (sym e) (⊎_elim (λ n. inl (subst (AreOverAssumed t) (sym same) n)) (λ k. inr (news k)) h)
+    subst (λ (m : Tables). DetachesInTime m (view z)) (sym e) (⊎_elim (λ n. inl (subst (AreOverAssumed t) (sym same) n)) (λ k. inr (news k)) h)
 
 -- and makes its conflict step
-pub leaves-stepped : {A : Type 0} (t u : Tables) (x y : Context A) → u ≡ t → FixesByLearning x y → HasLetLeave t (view x) →
-    IsNotUnsat y → LeavesInTime u (view y)
+pub leaves-stepped : {A : Type 0} (t u : Tables) (x y : Context A) → u ≡ t → FixesByLearning x y → HasDetached t (view x) →
+    IsNotUnsat y → DetachesInTime u (view y)
 leaves-stepped t u x y e f (inl (none, calm)) n =
-    subst (λ (m : Tables). LeavesInTime m (view y)) (sym e) (⊎_elim (λ same. inl (subst (AreOverAssumed t) (sym same) none)) inr (f.keeps calm n))
+    subst (λ (m : Tables). DetachesInTime m (view y)) (sym e) (⊎_elim (λ same. inl (subst (AreOverAssumed t) (sym same) none)) inr (f.keeps calm n))
 leaves-stepped t u x y e f (inr (undecided, (conflict, is_false))) n = absurd (n (f.refutes undecided conflict is_false))
 
 -- what an error is of

@@ -5,7 +5,7 @@ use Rattle.varisat_theory.specs.Literals.{Literal, Clause, Assignment, variable_
 use Rattle.varisat_theory.specs.Derivations.{Line, Add, Delete, SpeakOf, IsPresentAfter}
 use Rattle.varisat_theory.specs.Propagation.{Conflicts}
 use Rattle.varisat_theory.specs.Renaming.{rename, rename_line}
-use Rattle.varisat_theory.specs.Journals.{Entry, Writes, Fails, Leaves, Leads, written}
+use Rattle.varisat_theory.specs.Journals.{Entry, Writes, Fails, Retires, Leads, written}
 use Rattle.varisat_theory.specs.NewClauses.{LeadsAdding}
 use Rattle.varisat_theory.proofs.Journals.{leads_append, leads_unique, written_stays, stays_append}
 use Rattle.varisat_theory.proofs.NewClauses.{adding_same, fits_more, lines_add_new}
@@ -35,7 +35,7 @@ use Rattle.varisat_solver.specs.Names.{identity_of}
 use Rattle.varisat_solver.specs.Calls.{with_verdict}
 use Rattle.varisat_tracer.specs.Carried.{carry, logged_as}
 use Rattle.varisat_solver.specs.Carried.{is_forced, value_or}
-use Rattle.varisat_solver.specs.Spaces.{Spaces, Carrying, Translation, translation, CheckerFits, IsCounted, IsWholeLog, SearchHolds, AssumptionsFit, MarksFit, WorkingFits, CoreFits, without_core, VerdictFits, Links, SpacesFit, IsGone}
+use Rattle.varisat_solver.specs.Spaces.{Spaces, Carrying, Translation, translation, CheckerFits, IsCounted, IsWholeLog, SearchHolds, AssumptionsFit, MarksFit, WorkingFits, CoreFits, without_core, VerdictFits, Links, SpacesFit, IsRetired}
 use Rattle.varisat_solver.specs.Journals.{with_entries, LogsMore, AreDerived, EndWithCore}
 use Rattle.varisat_solver.proofs.SpacesAgree.{AreLong, AreInUse, map-map, identities-same, names-same, modes-same, units-same, isolation-same, solvers-same, assumptions-same, marks-same, working-same, holds-same, logged-same, value-same}
 use Rattle.varisat_solver.proofs.CheckedHeld.{checker-on, logged-carried, global-carried}
@@ -62,7 +62,7 @@ abbrev pub with_found : Search → Outcome → (ℕ → Bool) → List Literal �
 with_found t v m working core checker p = record p { search = t; outcome = v; model = m; working = working; core = core; checker = checker }
 
 -- another verdict of the state, which is right
-decided : (w : Carrying) (p : Spaces) (s : State) (logged : List Entry) → IsWholeLog logged s.clauses s.assumptions s.counted s.ever_hidden (IsGone w s) →
+decided : (w : Carrying) (p : Spaces) (s : State) (logged : List Entry) → IsWholeLog logged s.clauses s.assumptions s.counted s.ever_hidden (IsRetired w s) →
     (t : Search) (v : Outcome) (m : ℕ → Bool) (ws core : List Literal) (checker : Option CheckerState) (x : Verdict) → Links w p s →
     CheckerFits w.global logged checker → SearchHolds s.clauses (translation w p logged) t (without_core v) →
     WorkingFits s.clauses (translation w p s.logged).identity s.assumptions ws → VerdictFits w.identity m v x →
@@ -261,11 +261,11 @@ module _ (w : Carrying) (p : Spaces) (s : State) (k : Links w p s) (unknown : p.
       (λ l h left.
       let (i, e) = k.holds.within l h in
       let (x, g) = in-use-lives w p s k (variable_of l) i e in
-      let gone = (k.logged.left i).0 (subst (λ j. Leaves j ∈ s.logged) (carry-at to l i e) left) in
+      let gone = (k.logged.left i).0 (subst (λ j. Retires j ∈ s.logged) (carry-at to l i e) left) in
       let z : Some x ≡ None = sym g ∙ gone.1 in cc)
       made.speaks)
 
-  pub steps-are-logged : IsWholeLog (logged-with w p s lines) s.clauses s.assumptions s.counted s.ever_hidden (IsGone w s)
+  pub steps-are-logged : IsWholeLog (logged-with w p s lines) s.clauses s.assumptions s.counted s.ever_hidden (IsRetired w s)
   steps-are-logged =
       let to = (translation w p s.logged).identity in
       logged-written s.logged s.clauses s.assumptions s.counted s.ever_hidden (map (rename_line (carry to)) lines)

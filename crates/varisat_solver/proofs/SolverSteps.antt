@@ -3,7 +3,7 @@ use Rattle.std.proofs.Common.{◌≡◌, ◌≢◌, ℕ, zero, suc, ◌+◌, ◌
 use Rattle.varisat_theory.specs.Literals.{variable_of, IsSatisfiableWith}
 use Rattle.varisat_theory.specs.Derivations.{Line, IsPresentAfter}
 use Rattle.varisat_theory.specs.Outcomes.{Proves}
-use Rattle.varisat_theory.specs.Journals.{Entry, Leaves, GoesOn}
+use Rattle.varisat_theory.specs.Journals.{Entry, Retires, GoesOn}
 use Rattle.varisat_theory.proofs.Journals.{goes_on_further}
 use Rattle.varisat_theory.proofs.Members.{∈-append_left}
 use Rattle.std.proofs.lemmas.List.{append-nil}
@@ -39,7 +39,7 @@ use Rattle.varisat_proof.specs.Passing.{LogsConflict}
 use Rattle.varisat_solver.specs.Journals.{with_entries, LogsMore, LogsRetired, BeginsInSteps}
 use Rattle.varisat_solver.specs.OpenProofs.{OpenProof, GoesOnWriting}
 use Rattle.varisat_solver.specs.Searches.{answer_at, LogsSome, Turn, turn_of, ComesTo, ComesOn, MakesNamedStep}
-use Rattle.varisat_solver.specs.Dropping.{IsCalm}
+use Rattle.varisat_solver.specs.Detaching.{IsCalm}
 use Rattle.varisat_solver.specs.StepEntries.{GoesOnInSteps, KeepsParts, GoesOnKeeping, LogsInSteps, HasStayed, SpeakOfAdded}
 use Rattle.varisat_solver.proofs.StepEntries.{keeps-all, keeping-nothing, keeping-through, keeping-leaving, no-steps, one-more-step, added-append, added-wider, leaving-added, leaving-derived}
 use Rattle.varisat_solver.proofs.SolveVerdict.{LinesInSteps}
@@ -73,7 +73,7 @@ added-through : (a b es fs : List Entry) → b ≡ a ++ es → SpeakOfAdded (Has
 added-through a b es fs e s t =
     added-append (HasStayed a) es fs s
     (added-wider (HasStayed b) (HasStayed a) fs
-    (λ l f i. f (subst (λ xs. Leaves (variable_of l) ∈ xs) (sym e) (∈-append_left (Leaves (variable_of l)) a es i))) t)
+    (λ l f i. f (subst (λ xs. Retires (variable_of l) ∈ xs) (sym e) (∈-append_left (Retires (variable_of l)) a es i))) t)
 
 -- as long as no verdict is known the state has none
 pub unknown-undecided : {A : Type 0} (m : Tables) (checker : Option CheckerState) (x : Context A) (t : State) →

@@ -43,7 +43,7 @@ use Rattle.varisat_solver.proofs.TableMarks.{is-there, there-is, assumed-keeps, 
 use Rattle.varisat_solver.proofs.AcceptClause.{with_tables, named-one, HasNoModel, taken-one, raised, counted-spaces}
 use Rattle.varisat_solver.proofs.AcceptSolverVariables.{solvers-few}
 use Rattle.varisat_solver.proofs.VariableChanges.{unsat-or-not}
-use Rattle.varisat_solver.proofs.ReturnedVariables.{kept-verdict, no-model, returned, state-back, parts-back}
+use Rattle.varisat_solver.proofs.DetachedValues.{kept-verdict, no-model, returned, state-back, parts-back}
 use Rattle.varisat_solver.proofs.SearchLinks.{view-long}
 
 -- 1. There is room.

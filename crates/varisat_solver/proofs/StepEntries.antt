@@ -7,12 +7,12 @@ use Rattle.varisat_theory.specs.Literals.{Literal, Clause, variable_of}
 use Rattle.varisat_theory.specs.Derivations.{Add, Delete, TakesOut}
 use Rattle.varisat_theory.specs.Held.{SameClauses, mentions, unless, without}
 use Rattle.varisat_theory.specs.Counted.{IsNew}
-use Rattle.varisat_theory.specs.Journals.{Entry, Accepts, Writes, Assumes, Fails, Leaves, Follow, Leads, GoesOn}
+use Rattle.varisat_theory.specs.Journals.{Entry, Accepts, Writes, Assumes, Fails, Retires, Follow, Leads, GoesOn}
 use Rattle.varisat_theory.specs.NewClauses.{LeadsToNew, LeadsAdding, GoesOnAdding}
 use Rattle.varisat_theory.proofs.Members.{∈-append_left, ∈-append_right, ∈-append_cases}
 use Rattle.varisat_theory.proofs.Journals.{leads_append, leads_cut, leads_same, by_leads, leads_unique}
 use Rattle.varisat_theory.proofs.StepCounts.{new_same, among_same}
-use Rattle.varisat_solver.specs.Journals.{AreDerived, AreLeaving}
+use Rattle.varisat_solver.specs.Journals.{AreDerived, AreRetired}
 use Rattle.varisat_solver.specs.StepEntries.{LeadsInStep, LeadsInSteps, GoesOnInSteps, KeepsParts, GoesOnKeeping, LogsInSteps, HasStayed, SpeakOfAdded}
 
 -- 1. Clauses of which a part is kept.
@@ -25,9 +25,9 @@ keeps-through es fs P Q R f g c h =
     ⊎_elim
     (λ (d, i, w). ⊎_elim
     (λ (e, j, x). inl (e, j, λ l o. w l (x l o)))
-    (λ (l, j, x). inr (l, w l j, ∈-append_right (Leaves (variable_of l)) es fs x))
+    (λ (l, j, x). inr (l, w l j, ∈-append_right (Retires (variable_of l)) es fs x))
     (g d i))
-    (λ (l, i, x). inr (l, i, ∈-append_left (Leaves (variable_of l)) es fs x))
+    (λ (l, i, x). inr (l, i, ∈-append_left (Retires (variable_of l)) es fs x))
     (f c h)
 
 pub keeping-through : (logged es fs : List Entry) → GoesOnKeeping logged es → GoesOnKeeping (logged ++ es) fs → GoesOnKeeping logged (es ++ fs)
@@ -62,29 +62,29 @@ mentioned-by v (l ∷ c) e = go (nat_eq (variable_of l) v) refl e (mentioned-by 
     go false q f rest = let (m, i, r) = rest f in (m, inr i, r)
 
 -- variables leave, and nothing else happens
-pub leaving-derived : (es : List Entry) → AreLeaving es → AreDerived es
+pub leaving-derived : (es : List Entry) → AreRetired es → AreDerived es
 leaving-derived [] a = tt
-leaving-derived (Leaves v ∷ es) a = leaving-derived es a
+leaving-derived (Retires v ∷ es) a = leaving-derived es a
 leaving-derived (Accepts c ∷ es) a = absurd a
 leaving-derived (Writes line ∷ es) a = absurd a
 leaving-derived (Assumes list ∷ es) a = absurd a
 leaving-derived (Fails core ∷ es) a = absurd a
 
-pub leaving-append : (es fs : List Entry) → AreLeaving es → AreLeaving fs → AreLeaving (es ++ fs)
+pub leaving-append : (es fs : List Entry) → AreRetired es → AreRetired fs → AreRetired (es ++ fs)
 leaving-append [] fs a b = b
-leaving-append (Leaves v ∷ es) fs a b = leaving-append es fs a b
+leaving-append (Retires v ∷ es) fs a b = leaving-append es fs a b
 leaving-append (Accepts c ∷ es) fs a b = absurd a
 leaving-append (Writes line ∷ es) fs a b = absurd a
 leaving-append (Assumes list ∷ es) fs a b = absurd a
 leaving-append (Fails core ∷ es) fs a b = absurd a
 
-leaving-keeps : (es : List Entry) → AreLeaving es → (P Q : List Clause) → Leads P es Q → KeepsParts es P Q
+leaving-keeps : (es : List Entry) → AreRetired es → (P Q : List Clause) → Leads P es Q → KeepsParts es P Q
 leaving-keeps [] a P Q d = subst (KeepsParts [] P) d (keeps-all P)
-leaving-keeps (Leaves v ∷ es) a P Q (R, e, d) =
-    keeps-through (Leaves v ∷ []) es P R Q
+leaving-keeps (Retires v ∷ es) a P Q (R, e, d) =
+    keeps-through (Retires v ∷ []) es P R Q
     (λ c h. ⊎_elim
     (λ i. inl (c, subst (λ X. c ∈ X) (sym e) i, λ l o. o))
-    (λ m. let (l, i, q) = mentioned-by v c m in inr (l, i, inl (ap Leaves q)))
+    (λ m. let (l, i, q) = mentioned-by v c m in inr (l, i, inl (ap Retires q)))
     (stays-or-mentions v P c h))
     (leaving-keeps es a R Q d)
 leaving-keeps (Accepts c ∷ es) a P Q d = absurd a
@@ -92,7 +92,7 @@ leaving-keeps (Writes line ∷ es) a P Q d = absurd a
 leaving-keeps (Assumes list ∷ es) a P Q d = absurd a
 leaving-keeps (Fails core ∷ es) a P Q d = absurd a
 
-pub keeping-leaving : (logged es : List Entry) → AreLeaving es → GoesOnKeeping logged es
+pub keeping-leaving : (logged es : List Entry) → AreRetired es → GoesOnKeeping logged es
 keeping-leaving logged es a held after d e = leaving-keeps es a held after e
 
 -- 2. Steps in turn.
@@ -187,7 +187,7 @@ added-spoken are (Writes (Add d) ∷ front) c back (f, s) = added-spoken are fro
 added-spoken are (Writes (Delete d) ∷ front) c back s = added-spoken are front c back s
 added-spoken are (Assumes d ∷ front) c back s = added-spoken are front c back s
 added-spoken are (Fails d ∷ front) c back s = added-spoken are front c back s
-added-spoken are (Leaves v ∷ front) c back s = added-spoken are front c back s
+added-spoken are (Retires v ∷ front) c back s = added-spoken are front c back s
 
 pub added-append : (are : Literal → Type 0) (es fs : List Entry) → SpeakOfAdded are es → SpeakOfAdded are fs → SpeakOfAdded are (es ++ fs)
 added-append are [] fs s t = t
@@ -196,7 +196,7 @@ added-append are (Writes (Add d) ∷ es) fs (f, s) t = (f, added-append are es f
 added-append are (Writes (Delete d) ∷ es) fs s t = added-append are es fs s t
 added-append are (Assumes d ∷ es) fs s t = added-append are es fs s t
 added-append are (Fails d ∷ es) fs s t = added-append are es fs s t
-added-append are (Leaves v ∷ es) fs s t = added-append are es fs s t
+added-append are (Retires v ∷ es) fs s t = added-append are es fs s t
 
 pub added-wider : (are may : Literal → Type 0) (es : List Entry) → ((l : Literal) → are l → may l) → SpeakOfAdded are es → SpeakOfAdded may es
 added-wider are may [] w s = tt
@@ -205,11 +205,11 @@ added-wider are may (Writes (Add d) ∷ es) w (f, s) = (λ l h. w l (f l h), add
 added-wider are may (Writes (Delete d) ∷ es) w s = added-wider are may es w s
 added-wider are may (Assumes d ∷ es) w s = added-wider are may es w s
 added-wider are may (Fails d ∷ es) w s = added-wider are may es w s
-added-wider are may (Leaves v ∷ es) w s = added-wider are may es w s
+added-wider are may (Retires v ∷ es) w s = added-wider are may es w s
 
-pub leaving-added : (are : Literal → Type 0) (es : List Entry) → AreLeaving es → SpeakOfAdded are es
+pub leaving-added : (are : Literal → Type 0) (es : List Entry) → AreRetired es → SpeakOfAdded are es
 leaving-added are [] a = tt
-leaving-added are (Leaves v ∷ es) a = leaving-added are es a
+leaving-added are (Retires v ∷ es) a = leaving-added are es a
 leaving-added are (Accepts c ∷ es) a = absurd a
 leaving-added are (Writes line ∷ es) a = absurd a
 leaving-added are (Assumes list ∷ es) a = absurd a
@@ -253,7 +253,7 @@ step-begun interval number logged es fs g keeps spoken h held d =
     subst (λ j. LeadsInStep interval j mid fs last) place
     (subst (λ (X : List Clause). LeadsInStep interval (number + 0) X fs last) (sym q)
     (subst (λ (xs : List Entry). LeadsInStep interval (number + 0) S xs last) (sym same) n)) in
-    let stayed = added-wider (HasStayed (logged ++ es)) (HasStayed es) fs (λ l f i. f (∈-append_right (Leaves (variable_of l)) logged es i)) spoken in
+    let stayed = added-wider (HasStayed (logged ++ es)) (HasStayed es) fs (λ l f i. f (∈-append_right (Retires (variable_of l)) logged es i)) spoken in
     let all = step-after interval number held es mid fs last leads (λ due. keeps due held mid d leads) stayed step in
     (last, ([], es ++ fs, held, refl, (refl, refl), subst (λ j. LeadsInStep interval j held (es ++ fs) last) (sym place) all))
 
@@ -305,7 +305,7 @@ taken-was : (P : List Clause) (c : Clause) (R : List Clause) → TakesOut P c R 
 taken-was P c R (front, d, back, e, s, f) = (d, subst (λ X. d ∈ X) (sym e) (∈-append_right d front (d ∷ back) (inl refl)), s.0)
 
 abbrev first-of : List Entry → Entry
-first-of [] = Leaves 0
+first-of [] = Retires 0
 first-of (e ∷ es) = e
 
 abbrev second-clause : List Entry → Clause

@@ -7,7 +7,7 @@ use Rattle.varisat_literals.specs.Numbers.{variable_limit}
 use Rattle.varisat_names.specs.Maps.{updated}
 use Rattle.varisat_names.specs.VarMap.{at, IsLeastUnmapped}
 use Rattle.varisat_names.specs.VarData.{fresh, data_at}
-use Rattle.varisat_names.specs.Variables.{Tables, AreLinked, IsGiven, AreNextGiven, IsNamed, InUse, Free, Above, IsChangedTo, IsHidden, unless_unused, IsDeletedIfUnused, IsShown}
+use Rattle.varisat_names.specs.Variables.{Tables, AreLinked, IsGiven, AreNextGiven, IsNamed, InUse, Free, Above, IsChangedTo, IsHidden, unless_unused, IsRetiredIfUnused, IsShown}
 use Rattle.varisat_names.specs.declared.variables.data.VarData.{VarData}
 use Rattle.varisat_names.specs.declared.variables.data.SamplingMode.{SamplingMode}
 use Rattle.varisat_names.specs.declared.variables.data.SamplingMode.TheVariants as sampling
@@ -18,13 +18,13 @@ use Rattle.varisat_names.proofs.Linked.{join-users, keep-live, same-tables}
 use Rattle.varisat_theory.specs.Journals.{Entry}
 use Rattle.varisat_proof.specs.Proving.{IsLogged}
 use Rattle.varisat_tracer.specs.Logged.{logged-none}
-use Rattle.varisat_tracer.specs.Tracing.{TracerState, leaves_if_deleted}
+use Rattle.varisat_tracer.specs.Tracing.{TracerState, retires_if_deleted}
 use Rattle.varisat_search.specs.declared.state.SatState.{SatState}
 use Rattle.varisat_search.specs.declared.state.SatState.TheVariants as verdict
 use Rattle.varisat_solver.specs.Names.{Naming, bring, bring_next, bring_if_free, name_one}
 use Rattle.varisat_solver.specs.Accepting.{AreBounded, naming_of}
 use Rattle.varisat_names.specs.NamesAndModes.{MovesName, SetsModeOf, LosesName, GetsName, OtherwiseSet, AreShownInTurn}
-use Rattle.varisat_solver.specs.VariableChanges.{IsMarkedAssumed, CanBeChanged, StaysValid, IsNamedAs, SetsNamedMode, LeavesIfUnused, HidesNamed}
+use Rattle.varisat_solver.specs.VariableChanges.{IsMarkedAssumed, CanBeChanged, StaysValid, IsNamedAs, SetsNamedMode, RetiresIfUnused, HidesNamed}
 use Rattle.varisat_search.proofs.TakenSolvers.{few, below, below-count, ∈-below}
 use Rattle.varisat_solver.proofs.VariableMoves.{given-most}
 use Rattle.varisat_search.proofs.KeptNames.{KeepsNames, given-keeps, next-keeps}
@@ -277,7 +277,7 @@ hidden-keeps F old new u x e n = ap F (n.kept.at_each x ∙ updated-at (data_at 
 
 -- where it is not assumed, those that are keep their names and marks
 deleted-stays : (old new : Tables) (x : ℕ) → AreBounded old → (data_at old.kept x).deleted ≡ false → (data_at old.kept x).assumed ≡ false →
-    IsDeletedIfUnused old new x → StaysValid old new
+    IsRetiredIfUnused old new x → StaysValid old new
 deleted-stays old new x b live unmarked n =
     let users = ap (λ t. t.users) n.rest in
     let solvers = ap (λ t. t.solvers) n.rest in
@@ -314,7 +314,7 @@ module _ (u : ℕ) (v : SatState) (p q : TracerState) (h : HidesNamed u v p q) w
   hidden-first : IsHidden h.set.mid h.mid u h.global
   hidden-first = h.set.hidden refl
 
-  left-stays : LeavesIfUnused (record p { tables = h.mid }) h.global q → StaysValid p.tables q.tables
+  left-stays : RetiresIfUnused (record p { tables = h.mid }) h.global q → StaysValid p.tables q.tables
   left-stays l =
       let live = hidden-keeps (λ d. d.deleted) h.set.mid h.mid u h.global refl hidden-first ∙ h.set.named.live in
       let free = hidden-keeps (λ d. d.assumed) h.set.mid h.mid u h.global refl hidden-first ∙ h.set.named.unassumed in
@@ -331,7 +331,7 @@ module _ (u : ℕ) (v : SatState) (p q : TracerState) (h : HidesNamed u v p q) w
   hides-logged = ⊎_elim
       (λ e. subst (λ (t : TracerState). (given : List Entry) × IsLogged p.proof given t.proof × (t.proof.opened ≡ p.proof.opened)) (sym (h.stays e))
       ([], logged-none p.proof, refl))
-      (λ n. let l = h.left n in (leaves_if_deleted q.tables h.global, l.logged, l.opened))
+      (λ n. let l = h.left n in (retires_if_deleted q.tables h.global, l.logged, l.opened))
       (unsat-or-not v)
 
 -- 6. Hidden variables come back.

@@ -44,7 +44,7 @@ pub record IsLikeButLeft {V : Type 0} (may_leave : Bool) (s t : Known V) : Type 
   pub same : t ≡ record s { logged = t.logged; variables = t.variables; proof = t.proof; words = t.words }
   pub logged : LogsMore 0 s.logged t.logged
   pub derived : AreDerived logged.entries
-  pub stays : may_leave ≡ false → entry.NoneLeaves logged.entries
+  pub stays : may_leave ≡ false → entry.NoneRetires logged.entries
   pub alike : lines_over t.variables s.logged ≡ lines_over s.variables s.logged
   pub proof : GoesOnWriting s.proof t.proof
 

@@ -1,7 +1,7 @@
 -- What a call tells: entries that go on from what was told before.
 use Rattle.std.specs.Prelude.{◌≡◌, ℕ, true, false, Option, List, [], ◌∷◌, ◌++◌, map}
 use Rattle.varisat_theory.specs.Literals.{Literal, Clause}
-use Rattle.varisat_theory.specs.Journals.{Entry, Writes, Fails, Leaves, Leads, LeadsBy, NoneLeaves, accepted_of, lines_of, rename_entry, GoesOn}
+use Rattle.varisat_theory.specs.Journals.{Entry, Writes, Fails, Retires, Leads, LeadsBy, NoneRetires, accepted_of, lines_of, rename_entry, GoesOn}
 use Rattle.varisat_theory.specs.Derivations.{IsDerivation, Refutes}
 use Rattle.varisat_proof.specs.declared.proof.format.Encoding.TheVariants.{Text}
 use Rattle.varisat_proof.specs.Logging.{logged_lines}
@@ -35,14 +35,14 @@ pub record BeginsInSteps (interval number k : ℕ) (logged es : List Entry) : Ty
 abbrev pub AreDerived : List Entry → Type 0
 AreDerived [] = Unit {0}
 AreDerived (Writes line ∷ es) = AreDerived es
-AreDerived (Leaves v ∷ es) = AreDerived es
+AreDerived (Retires v ∷ es) = AreDerived es
 AreDerived (_ ∷ es) = ⊥
 
 -- no line, clause, list or core: the entries are variables that leave
-abbrev pub AreLeaving : List Entry → Type 0
-AreLeaving [] = Unit {0}
-AreLeaving (Leaves v ∷ es) = AreLeaving es
-AreLeaving (_ ∷ es) = ⊥
+abbrev pub AreRetired : List Entry → Type 0
+AreRetired [] = Unit {0}
+AreRetired (Retires v ∷ es) = AreRetired es
+AreRetired (_ ∷ es) = ⊥
 
 -- the entries are derived, and then the core is told, at last
 abbrev pub EndWithCore : List Literal → List Entry → Type 0
@@ -55,7 +55,7 @@ EndBy _ es = AreDerived es
 
 -- Further entries are told, which are lines alone.
 abbrev pub LogsStaying : ℕ → List Entry → List Entry → Type 0
-LogsStaying n before after = (m : LogsMore n before after) × NoneLeaves m.entries × AreDerived m.entries
+LogsStaying n before after = (m : LogsMore n before after) × NoneRetires m.entries × AreDerived m.entries
 
 -- An open proof, and a checker, were told the further entries, each identity as its variable.
 pub record LogsToProof (variables : ℕ → Option ℕ) (before after : List Entry) (old new : ProofParts) : Type 0 where
@@ -66,7 +66,7 @@ pub record LogsToProof (variables : ℕ → Option ℕ) (before after : List Ent
 -- Entries are told as variables leave, and to the proof as well.
 pub record LogsRetired (variables : ℕ → Option ℕ) (before after : List Entry) (old new : ProofParts) : Type 0 where
   pub more : LogsMore 0 before after
-  pub leaving : AreLeaving more.entries
+  pub leaving : AreRetired more.entries
   pub proof : LogsToProof variables before after old new
 
 -- What was told is right, entry by entry, and an open proof has all of it for which its format has lines, each identity as its
@@ -82,7 +82,7 @@ pub record IsJournal (s : State) : Type 0 where
   pub written : IsWrittenWhereOpen s.variables s.logged s.proof
   pub apart : HaveOwnVariables s.variables s.naming.made s.logged
   pub plain : s.ever_hidden ≡ false → entries_over s.variables s.logged ≡ s.logged
-  pub stays : s.ever_hidden ≡ false → NoneLeaves s.logged
+  pub stays : s.ever_hidden ≡ false → NoneRetires s.logged
   pub in_range : s.ever_hidden ≡ false → AreInRange (logged_lines (Text true) s.logged)
   pub readable : AreInRange (logged_lines (Text true) (entries_over s.variables s.logged))
   pub derives : s.ever_hidden ≡ false → IsDerivation s.clauses (lines_of s.logged)

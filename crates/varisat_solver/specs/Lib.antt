@@ -24,4 +24,4 @@ pub mod Usage
 pub mod ClauseCalls
 pub mod TextCalls
 pub mod VariableChanges
-pub mod Dropping
+pub mod Detaching

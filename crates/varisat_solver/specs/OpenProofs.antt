@@ -4,7 +4,7 @@ use Rattle.varisat_theory.specs.Membership.{◌∈◌}
 use Rattle.varisat_theory.specs.Derivations.{Line}
 use Rattle.varisat_theory.specs.Renaming.{rename_line}
 use Rattle.varisat_formula.specs.Streams.{Taken}
-use Rattle.varisat_theory.specs.Journals.{Entry, Leaves, lines_of, rename_entry}
+use Rattle.varisat_theory.specs.Journals.{Entry, Retires, lines_of, rename_entry}
 use Rattle.varisat_proof.specs.declared.proof.format.ProofFormat.{ProofFormat}
 use Rattle.varisat_proof.specs.Lines.{has_marks}
 use Rattle.varisat_proof.specs.Logging.{logged_bytes}
@@ -47,7 +47,7 @@ lines_over variables logged = map (rename_line (carry variables)) (lines_of logg
 
 -- the identity was made, and was not told to have left
 abbrev pub IsThere : ℕ → List Entry → ℕ → Type 0
-IsThere made logged i = (i < made) × (Leaves i ∈ logged → ⊥)
+IsThere made logged i = (i < made) × (Retires i ∈ logged → ⊥)
 
 -- Each identity that was made and has not left has a variable of its own.
 pub record HaveOwnVariables (variables : ℕ → Option ℕ) (made : ℕ) (logged : List Entry) : Type 0 where

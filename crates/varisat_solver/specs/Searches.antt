@@ -19,7 +19,7 @@ use Rattle.varisat_search.specs.Seen.{search_of, outcome_of}
 use Rattle.varisat_search.specs.RootSimplified.{FixesByLearning, LearnsAlone}
 use Rattle.varisat_solver.specs.Calls.{with_verdict}
 use Rattle.varisat_solver.specs.Carried.{named_literals}
-use Rattle.varisat_solver.specs.Dropping.{LeavesWhereUnsettled, LeavesInTime, HasLetLeave, IsCalm}
+use Rattle.varisat_solver.specs.Detaching.{DetachesWhereNews, DetachesInTime, HasDetached, IsCalm}
 use Rattle.varisat_solver.specs.Journals.{with_entries, LogsMore, BeginsInSteps, EndBy, LogsToProof}
 use Rattle.varisat_solver.specs.StepEntries.{LogsInSteps, SpeakOfAdded, HasStayed}
 use Rattle.varisat_solver.specs.SinceChange.{GoesOnSince, BeginsWithin}
@@ -72,10 +72,10 @@ ComesOnUndecided at n p x q y =
 
 -- Where the step begins at level 0 with literals still to be propagated, variables leave that may: those that have a value then
 -- and are not assumed, and hidden ones that no kept clause names; unless a clause is false.
-pub record LeavesIfNews {A : Type 0} (q : TracerState) (x y : Context A) : Type 0 where
+pub record DetachesIfNews {A : Type 0} (q : TracerState) (x y : Context A) : Type 0 where
   pub reduced : Context A
   pub begins : BeginsStep (λ lines. Unit {0}) x reduced
-  pub left : LeavesWhereUnsettled reduced q.tables (view y)
+  pub left : DetachesWhereNews reduced q.tables (view y)
 
 -- A step has begun, and variables left. The solver keeps what it did, and stands for the same states, to which more was told.
 pub record BeginsSolverStep {A : Type 0} (p q : TracerState) (x y : Context A) : Type 0 where
@@ -85,10 +85,10 @@ pub record BeginsSolverStep {A : Type 0} (p q : TracerState) (x y : Context A) :
   pub within : BeginsWithin x y
   pub state : y.solver_state ≡ x.solver_state
   pub count : length y.assignment.current ≡ length x.assignment.current
-  pub left : LeavesIfNews q x y
+  pub left : DetachesIfNews q x y
   -- at level 0 all is propagated, or a clause is false
   pub calm : IsCalm (view y)
-  pub leaves : LeavesInTime p.tables (view x) → HasLetLeave q.tables (view y)
+  pub leaves : DetachesInTime p.tables (view x) → HasDetached q.tables (view y)
   pub stands : ComesOnUndecided (turn_of x) 0 p x q y
 
 -- A step leads from one context to the other, which has a verdict or none, as a tracer that was p takes its lines and the core;
@@ -127,7 +127,7 @@ pub record MakesSolverStep {A : Type 0} (p q : TracerState) (x y : Context A) : 
   pub since : y.solver_state.sat_state ≡ verdict.Unknown → GoesOnSince x y
   pub state : y.solver_state ≡ record x.solver_state { sat_state = y.solver_state.sat_state }
   pub count : length y.assignment.current ≡ length x.assignment.current
-  pub leaves : LeavesInTime p.tables (view x) → IsNotUnsat y → LeavesInTime q.tables (view y)
+  pub leaves : DetachesInTime p.tables (view x) → IsNotUnsat y → DetachesInTime q.tables (view y)
   pub stands : ComesOn (turn_of x) 1 (undecided_spaces p.tables p.proof.checker x) (spaces_with q.tables q.proof.checker y) p.proof q.proof
 
 -- Steps were made, from one context to the other, until there was a verdict or they were spent. Where none was made nothing changed.
@@ -138,7 +138,7 @@ pub record FindsVerdict {A : Type 0} (p q : TracerState) (x y : Context A) (foun
   pub answer : found ≡ answer_at y.solver_state.sat_state
   pub logged : LogsSome p.proof q.proof
   -- where no variable was to leave but with literals that are still to be propagated, so it is, unless under Unsat
-  pub leaves : LeavesInTime p.tables (view x) → IsNotUnsat y → LeavesInTime q.tables (view y)
+  pub leaves : DetachesInTime p.tables (view x) → IsNotUnsat y → DetachesInTime q.tables (view y)
   pub stands : ComesOn (turn_of x) (steps_since x.schedule y.schedule) (undecided_spaces p.tables p.proof.checker x)
       (spaces_with q.tables q.proof.checker y) p.proof q.proof
   pub still : y.schedule.steps ≡ x.schedule.steps → (y ≡ x) × (q ≡ p)

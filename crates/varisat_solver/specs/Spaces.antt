@@ -8,7 +8,7 @@ use Rattle.varisat_theory.specs.Literals.{Literal, Clause, Assignment, variable_
 use Rattle.varisat_theory.specs.Renaming.{rename}
 use Rattle.varisat_theory.specs.Held.{SameClauses}
 use Rattle.varisat_theory.specs.Derivations.{Add, Delete}
-use Rattle.varisat_theory.specs.Journals.{Entry, Accepts, Writes, Assumes, Fails, Leaves, Leads, accepted_of, NoneLeaves}
+use Rattle.varisat_theory.specs.Journals.{Entry, Accepts, Writes, Assumes, Fails, Retires, Leads, accepted_of, NoneRetires}
 use Rattle.varisat_theory.specs.Searches.{Search, IsTautology, CoversBy, IsLiteralOf}
 use Rattle.varisat_theory.specs.Outcomes.{Outcome, Holds}
 use Rattle.varisat_theory.specs.Outcomes as outcome
@@ -204,8 +204,8 @@ abbrev pub IsCounted : List ℕ → Literal → Type 0
 IsCounted counted l = variable_of l ∈ counted
 
 -- the identity was made, and no global variable stands for it any more
-abbrev pub IsGone : Carrying → State → ℕ → Type 0
-IsGone w s i = (i < s.naming.made) × (w.global i ≡ None)
+abbrev pub IsRetired : Carrying → State → ℕ → Type 0
+IsRetired w s i = (i < s.naming.made) × (w.global i ≡ None)
 
 -- each literal of the entry is one of these
 abbrev pub SpeaksOf : (Literal → Type 0) → Entry → Type 0
@@ -214,7 +214,7 @@ SpeaksOf are (Writes (Add c)) = (l : Literal) → l ∈ c → are l
 SpeaksOf are (Writes (Delete c)) = (l : Literal) → l ∈ c → are l
 SpeaksOf are (Assumes a) = (l : Literal) → l ∈ a → are l
 SpeaksOf are (Fails core) = (l : Literal) → l ∈ core → are l
-SpeaksOf are (Leaves i) = Unit {0}
+SpeaksOf are (Retires i) = Unit {0}
 
 -- so it is of each of the entries
 abbrev pub AllSpeakOf : (Literal → Type 0) → List Entry → Type 0
@@ -230,8 +230,8 @@ pub record IsWholeLog (logged : List Entry) (clauses : List Clause) (assumptions
   pub assumed : assumed_behind [] logged ≡ assumptions
   pub cores : CoresAreAssumed [] logged
   pub spoken : AllSpeakOf (IsCounted counted) logged
-  pub left : (i : ℕ) → (Leaves i ∈ logged) ↔ gone i
-  pub stays : ever_hidden ≡ false → NoneLeaves logged
+  pub left : (i : ℕ) → (Retires i ∈ logged) ↔ gone i
+  pub stays : ever_hidden ≡ false → NoneRetires logged
 
 -- Each identity that was made is that of the global variable of its number, as long as none leaves.
 pub record IsPlain (identity : ℕ → Option ℕ) (made : ℕ) : Type 0 where
@@ -271,7 +271,7 @@ pub record Links (w : Carrying) (p : Spaces) (s : State) : Type 0 where
   pub variables : (i x : ℕ) → w.global i ≡ Some x → s.variables i ≡ Some x
   -- and each that was made, also one that has left, as one of the global variables
   pub numbered : (i x : ℕ) → s.variables i ≡ Some x → x < p.globals
-  pub logged : IsWholeLog s.logged s.clauses s.assumptions s.counted s.ever_hidden (IsGone w s)
+  pub logged : IsWholeLog s.logged s.clauses s.assumptions s.counted s.ever_hidden (IsRetired w s)
   pub checked : CheckerFits w.global s.logged p.checker
 
 -- the spaces stand for the state

@@ -4,7 +4,7 @@ use Rattle.varisat_theory.specs.Membership.{◌∈◌, ◌⊆◌}
 use Rattle.varisat_theory.specs.Literals.{Literal, Clause, variable_of}
 use Rattle.varisat_theory.specs.Derivations.{Add}
 use Rattle.varisat_theory.specs.Counted.{IsNew}
-use Rattle.varisat_theory.specs.Journals.{Entry, Writes, Leaves, Leads}
+use Rattle.varisat_theory.specs.Journals.{Entry, Writes, Retires, Leads}
 use Rattle.varisat_theory.specs.NewClauses.{LeadsToNew}
 
 -- The entries of the step with the number lead from P to Q, and a line adds a clause that is new to what is held just before, and is
@@ -27,7 +27,7 @@ GoesOnInSteps interval number k logged es =
 
 -- Of each clause of P a part is among Q, or a literal of it is of a variable that leaves by one of the entries.
 abbrev pub KeepsParts : List Entry → List Clause → List Clause → Type 0
-KeepsParts es P Q = (c : Clause) → c ∈ P → ((d : Clause) × (d ∈ Q) × (d ⊆ c)) ⊎ ((l : Literal) × (l ∈ c) × (Leaves (variable_of l) ∈ es))
+KeepsParts es P Q = (c : Clause) → c ∈ P → ((d : Clause) × (d ∈ Q) × (d ⊆ c)) ⊎ ((l : Literal) × (l ∈ c) × (Retires (variable_of l) ∈ es))
 
 -- so it is where the further entries lead
 abbrev pub GoesOnKeeping : List Entry → List Entry → Type 0
@@ -40,7 +40,7 @@ LogsInSteps interval number (suc k) logged es = GoesOnInSteps interval number (s
 
 -- the variable of the literal has not left by one of the entries
 abbrev pub HasStayed : List Entry → Literal → Type 0
-HasStayed logged l = Leaves (variable_of l) ∈ logged → ⊥
+HasStayed logged l = Retires (variable_of l) ∈ logged → ⊥
 
 -- `are` holds of each literal of the clauses that lines add
 abbrev pub SpeakOfAdded : (Literal → Type 0) → List Entry → Type 0

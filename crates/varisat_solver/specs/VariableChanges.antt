@@ -3,11 +3,11 @@ use Rattle.std.specs.Prelude.{◌≡◌, ◌≢◌, ◌⊎◌, ℕ, ◌<◌, ◌
 use Rattle.varisat_literals.specs.Numbers.{variable_limit}
 use Rattle.varisat_names.specs.VarMap.{at}
 use Rattle.varisat_names.specs.VarData.{data_at}
-use Rattle.varisat_names.specs.Variables.{Tables, IsNamed, IsChangedTo, IsHidden, IsDeletedIfUnused}
+use Rattle.varisat_names.specs.Variables.{Tables, IsNamed, IsChangedTo, IsHidden, IsRetiredIfUnused}
 use Rattle.varisat_proof.specs.Proving.{IsLogged}
 use Rattle.varisat_search.specs.declared.state.SatState.{SatState}
 use Rattle.varisat_search.specs.declared.state.SatState.TheVariants as verdict
-use Rattle.varisat_tracer.specs.Tracing.{TracerState, leaves_if_deleted}
+use Rattle.varisat_tracer.specs.Tracing.{TracerState, retires_if_deleted}
 use Rattle.varisat_names.specs.declared.variables.data.SamplingMode.{SamplingMode}
 use Rattle.varisat_names.specs.declared.variables.data.SamplingMode.TheVariants as sampling
 use Rattle.varisat_solver.specs.Names.{name_one}
@@ -62,9 +62,9 @@ pub record SetsNamedMode (u : ℕ) (mode : SamplingMode) (old : Tables) (x : ℕ
   pub stays : StaysValid old new
 
 -- The hidden variable x is not live any more where it is unused, and the proof was told so.
-pub record LeavesIfUnused (p : TracerState) (x : ℕ) (q : TracerState) : Type 0 where
-  pub deleted : IsDeletedIfUnused p.tables q.tables x
-  pub logged : IsLogged p.proof (leaves_if_deleted q.tables x) q.proof
+pub record RetiresIfUnused (p : TracerState) (x : ℕ) (q : TracerState) : Type 0 where
+  pub deleted : IsRetiredIfUnused p.tables q.tables x
+  pub logged : IsLogged p.proof (retires_if_deleted q.tables x) q.proof
   pub opened : q.proof.opened ≡ p.proof.opened
 
 -- The name was named and is free, and its variable hidden. Unless the verdict is Unsat, it left where it is unused.
@@ -72,7 +72,7 @@ pub record HidesNamed (u : ℕ) (v : SatState) (p q : TracerState) : Type 0 wher
   pub mid : Tables
   pub global : ℕ
   pub set : SetsNamedMode u sampling.Hide p.tables global mid
-  pub left : v ≢ verdict.Unsat → LeavesIfUnused (record p { tables = mid }) global q
+  pub left : v ≢ verdict.Unsat → RetiresIfUnused (record p { tables = mid }) global q
   pub stays : v ≡ verdict.Unsat → q ≡ record p { tables = mid }
 
 -- The name was named, and its variable has the mode. Only as `Hide` it may have left, of which the proof is told.

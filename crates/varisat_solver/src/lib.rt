@@ -3,7 +3,7 @@
 
 mod accept;
 mod carrying;
-mod dropping;
+mod detaching;
 mod name_checks;
 mod progress;
 pub mod rounds;

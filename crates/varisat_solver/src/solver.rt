@@ -273,7 +273,7 @@ impl<W: ProofTarget, A: Allocator + Copy> Solver<W, A> {
     ghost use Rattle.varisat_proof.specs.Proving.{marked_searched};
     ghost use Rattle.varisat_solver.specs.Journals.{IsJournal};
     ghost use Rattle.varisat_solver.specs.Refusals.{returned_faults};
-    ghost use Rattle.varisat_solver.specs.Dropping.{GoesOnLeaving};
+    ghost use Rattle.varisat_solver.specs.Detaching.{GoesOnDetaching};
     ghost use Rattle.varisat_proof.specs.Proving.{IsClosed};
     ghost use Rattle.varisat_solver.specs.ProofCalls.{OpensProof, EnablesChecking, ClosesProof};
 
@@ -622,7 +622,7 @@ impl<W: ProofTarget, A: Allocator + Copy> Solver<W, A> {
         ensures target { WritesOn (marked_searched self.old.opened) result (marked_searched self.new.opened) }
         ensures full { result ≡ Err SolverError.ClauseStoreFull → HasFullStore self.new }
         // Variables go on to leave in time: those whose values are fixed, unless they are assumed.
-        ensures leaves { GoesOnLeaving self.old self.new }
+        ensures leaves { GoesOnDetaching self.old self.new }
     {
         self.begin_search();
         let found = self.seek();
@@ -664,7 +664,7 @@ impl<W: ProofTarget, A: Allocator + Copy> Solver<W, A> {
         // In a valid solver it has all lines.
         ensures whole { self.new.ledger.valid ≡ true → WritesAll self.old.opened self.new.opened }
         ensures full { result ≡ Err SolverError.ClauseStoreFull → HasFullStore self.new }
-        ensures leaves { GoesOnLeaving self.old self.new }
+        ensures leaves { GoesOnDetaching self.old self.new }
     {
         ensure_valid(&self.ctx)?;
         match self.ctx.solver_state.sat_state {

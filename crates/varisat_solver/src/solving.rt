@@ -15,7 +15,7 @@ ghost use Rattle.varisat_solver.specs.Spaces.{FitSome};
 ghost use Rattle.varisat_solver.specs.Summaries.{undecided_spaces, IsValidSolver};
 
 use crate::carrying::carry_literals;
-use crate::dropping::drop_fixed;
+use crate::detaching::detach_fixed;
 use std::alloc::{AllocError, Allocator};
 use varisat_formula::io::ProofTarget;
 use varisat_literals::Lit;
@@ -48,7 +48,7 @@ fn begin<W: ProofTarget, A: Allocator + Copy>(
 {
     ctx.solver_config.prove_in_range();
     begin_step(ctx, tracer)?;
-    drop_fixed(tracer, ctx, literals)?;
+    detach_fixed(tracer, ctx, literals)?;
     Ok(())
 }
 

@@ -5,7 +5,7 @@ ghost use Rattle.varisat_names.specs.VarMap.{at};
 ghost use Rattle.varisat_tracer.specs.Tracing.{tracer_state};
 ghost use Rattle.varisat_solver.specs.Accepting.{AreBounded};
 ghost use Rattle.varisat_names.specs.declared.variables.data.SamplingMode.TheVariants as sampling;
-ghost use Rattle.varisat_solver.specs.VariableChanges.{CanBeChanged, ChecksChange, IsMarkedName, SetsNamedMode, LeavesIfUnused, HidesNamed, ChangesNamed};
+ghost use Rattle.varisat_solver.specs.VariableChanges.{CanBeChanged, ChecksChange, IsMarkedName, SetsNamedMode, RetiresIfUnused, HidesNamed, ChangesNamed};
 
 use crate::name_checks::{is_crowded, is_past_limit};
 use crate::solver::SolverError;
@@ -67,17 +67,17 @@ fn set_named_mode<A: Allocator + Copy>(
 
 /// Lets the hidden variable leave for good where it is unused: it has no solver variable, and clauses do not hold it. The
 /// proof is told so.
-fn leave_if_unused<W: ProofTarget, A: Allocator + Copy>(
+fn retire_if_unused<W: ProofTarget, A: Allocator + Copy>(
     tracer: &mut SolverTracer<W, A>,
     global: Var,
 ) -> Result<(), AllocError>
     requires live { (data_at tracer.old.tables.kept global).deleted ≡ false }
     requires unnamed { at tracer.old.tables.users.backward global ≡ None }
-    ensures leaves { OnOk result (LeavesIfUnused (tracer_state tracer.old) global (tracer_state tracer.new)) }
+    ensures leaves { OnOk result (RetiresIfUnused (tracer_state tracer.old) global (tracer_state tracer.new)) }
     ensures proof { OnErr result (tracer.new.proof ≡ tracer.old.proof) }
 {
     tracer.tables.delete_global_if_unused(global)?;
-    tracer.delete_var_if_gone(global);
+    tracer.retire_var_if_unused(global);
     Ok(())
 }
 
@@ -96,7 +96,7 @@ fn hide_named<W: ProofTarget, A: Allocator + Copy>(
     if let SatState::Unsat = verdict {
         return Ok(());
     }
-    leave_if_unused(tracer, global)?;
+    retire_if_unused(tracer, global)?;
     Ok(())
 }
 

@@ -6,13 +6,13 @@ use Rattle.varisat_theory.specs.Propagation.{Conflicts, Follows}
 use Rattle.varisat_theory.specs.Derivations.{Line, Add, Delete, TakesOut, Refutes, Derives}
 use Rattle.varisat_theory.specs.Held.{SameClauses, without}
 use Rattle.varisat_theory.specs.Counted.{IsMinor, DerivesBy}
-use Rattle.varisat_theory.specs.Journals.{Entry, Accepts, Writes, Assumes, Fails, Leaves, Follow, Leads, IsMinorEntry, LeadsBy, accepted_of, lines_of, NoneLeaves, written, GoesOn}
+use Rattle.varisat_theory.specs.Journals.{Entry, Accepts, Writes, Assumes, Fails, Retires, Follow, Leads, IsMinorEntry, LeadsBy, accepted_of, lines_of, NoneRetires, written, GoesOn}
 use Rattle.varisat_theory.specs.Renaming.{KeepsOpposites, rename, rename_line}
 use Rattle.varisat_theory.proofs.Members.{∈-append_left, ∈-append_right}
 use Rattle.varisat_theory.proofs.Growth.{follows_more, covered_by_more}
 use Rattle.varisat_theory.proofs.Sound.{derives_sound}
 use Rattle.varisat_theory.proofs.Held.{same_set-self, same_clauses-self, same_clauses-back, same_clauses-through, same_add, same_delete, takes_out_unique, follows_same, conflicts_same}
-use Rattle.varisat_theory.proofs.HeldDrops.{same_without, without_less}
+use Rattle.varisat_theory.proofs.HeldRetirements.{same_without, without_less}
 use Rattle.varisat_theory.proofs.Lines.{derives_same, same_lines-self, refutes_from}
 use Rattle.varisat_theory.proofs.StepCounts.{minor_same}
 use Rattle.varisat_theory.proofs.Renaming.{∈-map, map-∈, map-⊆, takes_out_renamed, follows_renamed}
@@ -58,7 +58,7 @@ follow_same P P' (Writes (Add c)) Q s (f, q) = (
 follow_same P P' (Writes (Delete c)) Q s t = same_delete P P' c Q s t
 follow_same P P' (Assumes a) Q s q = (P', refl, subst (λ x. SameClauses x P') (sym q) s)
 follow_same P P' (Fails core) Q s (k, q) = (P', (conflicts_same P P' core s k, refl), subst (λ x. SameClauses x P') (sym q) s)
-follow_same P P' (Leaves v) Q s q = (without v P', refl, subst (λ x. SameClauses x (without v P')) (sym q) (same_without v P P' s))
+follow_same P P' (Retires v) Q s q = (without v P', refl, subst (λ x. SameClauses x (without v P')) (sym q) (same_without v P P' s))
 
 pub leads_same : (P P' : List Clause) (es : List Entry) (Q : List Clause) → SameClauses P P' → Leads P es Q → (Q' : List Clause) × Leads P' es Q'
     × SameClauses Q Q'
@@ -74,7 +74,7 @@ minor_entry_same P P' (Writes (Add c)) s i = minor_same P P' c s i
 minor_entry_same P P' (Writes (Delete c)) s i = tt
 minor_entry_same P P' (Assumes a) s i = tt
 minor_entry_same P P' (Fails core) s i = tt
-minor_entry_same P P' (Leaves v) s i = tt
+minor_entry_same P P' (Retires v) s i = tt
 
 pub by_leads_same : (n : ℕ) (P P' : List Clause) (es : List Entry) (Q : List Clause) → SameClauses P P' → LeadsBy n P es Q → (Q' : List Clause)
     × LeadsBy n P' es Q' × SameClauses Q Q'
@@ -113,7 +113,7 @@ takes_out_before : (P : List Clause) (c : Clause) (R S : List Clause) → TakesO
 takes_out_before P c R S (front, d, back, e, s, f) =
     (front, d, back ++ S, ap (λ l. l ++ S) e ∙ append_assoc front (d ∷ back) S, s, ap (λ l. l ++ S) f ∙ append_assoc front back S)
 
-pub leads_derives : (P : List Clause) (es : List Entry) (Q : List Clause) → NoneLeaves es → Leads P es Q → (Q' : List Clause)
+pub leads_derives : (P : List Clause) (es : List Entry) (Q : List Clause) → NoneRetires es → Leads P es Q → (Q' : List Clause)
     × Derives (P ++ accepted_of es) (lines_of es) Q' × SameClauses Q' Q
 leads_derives P [] Q n d = (P ++ [], refl, subst (λ x. SameClauses x Q) (sym (append-nil P)) (subst (SameClauses P) d (same_clauses-self P)))
 leads_derives P (Accepts c ∷ es) Q n (R, q, d) =
@@ -134,9 +134,9 @@ leads_derives P (Writes (Delete c) ∷ es) Q n (R, t, d) =
     (S, (R ++ accepted_of es, takes_out_before P c R (accepted_of es) t, e), s)
 leads_derives P (Assumes a ∷ es) Q n (R, q, d) = leads_derives P es Q n (subst (λ x. Leads x es Q) q d)
 leads_derives P (Fails core ∷ es) Q n (R, (k, q), d) = leads_derives P es Q n (subst (λ x. Leads x es Q) q d)
-leads_derives P (Leaves v ∷ es) Q n d = absurd n
+leads_derives P (Retires v ∷ es) Q n d = absurd n
 
-pub leads_refutes : (P : List Clause) (es : List Entry) (Q : List Clause) → NoneLeaves es → Leads P es Q → Conflicts Q [] →
+pub leads_refutes : (P : List Clause) (es : List Entry) (Q : List Clause) → NoneRetires es → Leads P es Q → Conflicts Q [] →
     Refutes (P ++ accepted_of es) (lines_of es)
 leads_refutes P es Q n d k =
     let (S, e, s) = leads_derives P es Q n d in
@@ -159,7 +159,7 @@ leads_sound P (Writes (Add c) ∷ es) Q a (R, (f, q), d) m n = leads_sound R es 
 leads_sound P (Writes (Delete c) ∷ es) Q a (R, t, d) m n = leads_sound R es Q a d (derives_sound P (Delete c ∷ []) R a (R, t, refl) m) n
 leads_sound P (Assumes b ∷ es) Q a (R, q, d) m n = leads_sound R es Q a d (subst (SatisfiesAll a) (sym q) m) n
 leads_sound P (Fails core ∷ es) Q a (R, (k, q), d) m n = leads_sound R es Q a d (subst (SatisfiesAll a) (sym q) m) n
-leads_sound P (Leaves v ∷ es) Q a (R, q, d) m n = leads_sound R es Q a d (subst (SatisfiesAll a) (sym q) (λ x i. m x (without_less v P x i))) n
+leads_sound P (Retires v ∷ es) Q a (R, q, d) m n = leads_sound R es Q a d (subst (SatisfiesAll a) (sym q) (λ x i. m x (without_less v P x i))) n
 
 -- 6. What is held is determined, but for order and spelling.
 
@@ -171,7 +171,7 @@ follow_unique P P' (Writes (Add c)) Q Q' s f g = subst (λ x. SameClauses x Q') 
 follow_unique P P' (Writes (Delete c)) Q Q' s f g = takes_out_unique P P' c Q Q' s f g
 follow_unique P P' (Assumes a) Q Q' s f g = subst (λ x. SameClauses x Q') (sym f) (subst (SameClauses P) (sym g) s)
 follow_unique P P' (Fails core) Q Q' s f g = subst (λ x. SameClauses x Q') (sym f.1) (subst (SameClauses P) (sym g.1) s)
-follow_unique P P' (Leaves v) Q Q' s f g = subst (λ x. SameClauses x Q') (sym f) (subst (SameClauses (without v P)) (sym g) (same_without v P P' s))
+follow_unique P P' (Retires v) Q Q' s f g = subst (λ x. SameClauses x Q') (sym f) (subst (SameClauses (without v P)) (sym g) (same_without v P P' s))
 
 pub leads_unique : (P P' : List Clause) (es : List Entry) (Q Q' : List Clause) → SameClauses P P' → Leads P es Q → Leads P' es Q' → SameClauses Q Q'
 leads_unique P P' [] Q Q' s d e = subst (λ x. SameClauses x Q') d (subst (SameClauses P) e s)
@@ -259,7 +259,7 @@ accepted_append (Accepts c ∷ es) fs = ap (λ l. c ∷ l) (accepted_append es f
 accepted_append (Writes l ∷ es) fs = accepted_append es fs
 accepted_append (Assumes a ∷ es) fs = accepted_append es fs
 accepted_append (Fails core ∷ es) fs = accepted_append es fs
-accepted_append (Leaves v ∷ es) fs = accepted_append es fs
+accepted_append (Retires v ∷ es) fs = accepted_append es fs
 
 pub lines_append : (es fs : List Entry) → lines_of (es ++ fs) ≡ lines_of es ++ lines_of fs
 lines_append [] fs = refl
@@ -267,15 +267,15 @@ lines_append (Accepts c ∷ es) fs = lines_append es fs
 lines_append (Writes l ∷ es) fs = ap (λ ls. l ∷ ls) (lines_append es fs)
 lines_append (Assumes a ∷ es) fs = lines_append es fs
 lines_append (Fails core ∷ es) fs = lines_append es fs
-lines_append (Leaves v ∷ es) fs = lines_append es fs
+lines_append (Retires v ∷ es) fs = lines_append es fs
 
-pub stays_append : (es fs : List Entry) → NoneLeaves es → NoneLeaves fs → NoneLeaves (es ++ fs)
+pub stays_append : (es fs : List Entry) → NoneRetires es → NoneRetires fs → NoneRetires (es ++ fs)
 stays_append [] fs a b = b
 stays_append (Accepts c ∷ es) fs a b = stays_append es fs a b
 stays_append (Writes l ∷ es) fs a b = stays_append es fs a b
 stays_append (Assumes c ∷ es) fs a b = stays_append es fs a b
 stays_append (Fails core ∷ es) fs a b = stays_append es fs a b
-stays_append (Leaves v ∷ es) fs a b = absurd a
+stays_append (Retires v ∷ es) fs a b = absurd a
 
 pub written_accepts : (lines : List Line) → accepted_of (written lines) ≡ []
 written_accepts [] = refl
@@ -285,6 +285,6 @@ pub written_lines : (lines : List Line) → lines_of (written lines) ≡ lines
 written_lines [] = refl
 written_lines (l ∷ lines) = ap (λ ls. l ∷ ls) (written_lines lines)
 
-pub written_stays : (lines : List Line) → NoneLeaves (written lines)
+pub written_stays : (lines : List Line) → NoneRetires (written lines)
 written_stays [] = tt
 written_stays (l ∷ lines) = written_stays lines

@@ -12,7 +12,7 @@ pub mod Learning
 pub mod Example
 pub mod Held
 pub mod Lines
-pub mod HeldDrops
+pub mod HeldRetirements
 pub mod Luby
 pub mod LubyWalk
 pub mod IntervalBounds
@@ -29,7 +29,7 @@ pub mod StepChanges
 pub mod StepEnds
 pub mod StepLoads
 pub mod StepAccounts
-pub mod StepDrops
+pub mod StepRetirements
 pub mod StepCovers
 pub mod StepsMade
 pub mod Journals

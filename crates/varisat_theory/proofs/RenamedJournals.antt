@@ -7,11 +7,11 @@ use Rattle.varisat_theory.specs.Propagation.{Conflicts}
 use Rattle.varisat_theory.specs.Derivations.{Add, Delete}
 use Rattle.varisat_theory.specs.Held.{mentions, unless, without}
 use Rattle.varisat_theory.specs.Renaming.{KeepsOpposites, IsOneToOneOn, IsWithin, rename}
-use Rattle.varisat_theory.specs.Journals.{Entry, Accepts, Writes, Assumes, Fails, Leaves, Follow, Leads, rename_entry, IsEntryWithin, AreWithin}
+use Rattle.varisat_theory.specs.Journals.{Entry, Accepts, Writes, Assumes, Fails, Retires, Follow, Leads, rename_entry, IsEntryWithin, AreWithin}
 use Rattle.varisat_theory.proofs.Values.{opposite_twice, parity, opposites-∈}
 use Rattle.varisat_theory.proofs.Members.{∈-append_right, ∈-append_cases}
 use Rattle.varisat_theory.proofs.Sound.{takes_less}
-use Rattle.varisat_theory.proofs.HeldDrops.{mentioned_literal, literal_mentioned, without_less}
+use Rattle.varisat_theory.proofs.HeldRetirements.{mentioned_literal, literal_mentioned, without_less}
 use Rattle.varisat_theory.proofs.Renaming.{∈-map, map-∈, map_opposites, conflicts_renamed, conflicts_unrenamed, follows_renamed, takes_out_renamed}
 
 -- a literal is the variable itself or its opposite
@@ -104,7 +104,7 @@ module _ (f : Literal → Literal) (w : KeepsOpposites f) (ls : List Literal) (o
   follow_renamed P (Writes (Delete c)) Q h k t = takes_out_renamed f P c Q t
   follow_renamed P (Assumes a) Q h k q = ap (rename f) q
   follow_renamed P (Fails core) Q h k (d, q) = (conflicts_renamed f w P core d, ap (rename f) q)
-  follow_renamed P (Leaves v) Q h k q = ap (rename f) q ∙ sym (without_renamed v P k h)
+  follow_renamed P (Retires v) Q h k q = ap (rename f) q ∙ sym (without_renamed v P k h)
 
   -- what is held after it is within the list too
   held_within : (P : List Clause) (e : Entry) (Q : List Clause) → ((c : Clause) → c ∈ P → IsWithin ls c) → IsEntryWithin ls e → Follow P e Q →
@@ -114,7 +114,7 @@ module _ (f : Literal → Literal) (w : KeepsOpposites f) (ls : List Literal) (o
   held_within P (Writes (Delete c)) Q h k t d i = h d (takes_less P c Q t d i)
   held_within P (Assumes a) Q h k q d i = h d (subst (λ x. d ∈ x) q i)
   held_within P (Fails core) Q h k (_, q) d i = h d (subst (λ x. d ∈ x) q i)
-  held_within P (Leaves v) Q h k q d i = h d (without_less v P d (subst (λ x. d ∈ x) q i))
+  held_within P (Retires v) Q h k q d i = h d (without_less v P d (subst (λ x. d ∈ x) q i))
 
   pub leads_renamed : (P : List Clause) (es : List Entry) (Q : List Clause) → ((c : Clause) → c ∈ P → IsWithin ls c) → AreWithin ls es →
       Leads P es Q → Leads (rename f P) (map (rename_entry f) es) (rename f Q)
@@ -150,7 +150,7 @@ module _ (f : Literal → Literal) (w : KeepsOpposites f) (ls : List Literal) (o
       )
   follow_back P (Assumes a) Q h k q = (P, refl, q)
   follow_back P (Fails core) Q h k (d, q) = (P, (conflicts_unrenamed f w ls one P core h k d, refl), q)
-  follow_back P (Leaves v) Q h k q = (without v P, refl, q ∙ without_renamed v P k h)
+  follow_back P (Retires v) Q h k q = (without v P, refl, q ∙ without_renamed v P k h)
 
   pub leads_unrenamed : (P : List Clause) (es : List Entry) (Q : List Clause) → ((c : Clause) → c ∈ P → IsWithin ls c) → AreWithin ls es →
       Leads (rename f P) (map (rename_entry f) es) Q → (R : List Clause) × Leads P es R × (Q ≡ rename f R)

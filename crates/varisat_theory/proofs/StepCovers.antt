@@ -53,10 +53,10 @@ names_are_loaded s t c d lines to known P keeps p w v e h =
     ])
     (∈-append_cases e P (d ∷ []) h)
 
-pub dropped_are_covered : (s t : Search) (to : Literal → Literal) (known more : Literal → Bool) (P : List Clause) → t.kept ≡ s.kept →
+pub detached_are_covered : (s t : Search) (to : Literal → Literal) (known more : Literal → Bool) (P : List Clause) → t.kept ≡ s.kept →
     ((l : Literal) → l ∈ s.fixed → (l ∈ t.fixed) ⊎ (more (to l) ≡ true)) → ((l : Literal) → known l ≡ true → more l ≡ true) →
     CoversBy to known P s → CoversBy to more P t
-dropped_are_covered s t to known more P e x m v c h = go (v c h)
+detached_are_covered s t to known more P e x m v c h = go (v c h)
   where
     go : IsCoveredBySearch to known s c → IsCoveredBySearch to more t c
     go (Tautology a) = Tautology a

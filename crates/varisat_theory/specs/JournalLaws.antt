@@ -9,7 +9,7 @@ use Rattle.varisat_theory.specs.Renaming.{KeepsOpposites, IsOneToOneOn, IsWithin
 use Rattle.varisat_theory.specs.Counted.{added}
 use Rattle.varisat_theory.specs.Searches.{IsTautology}
 use Rattle.varisat_theory.specs.NewClauses.{LeadsAdding}
-use Rattle.varisat_theory.specs.Journals.{Entry, Writes, Leads, LeadsBy, accepted_of, lines_of, NoneLeaves, rename_entry, AreWithin}
+use Rattle.varisat_theory.specs.Journals.{Entry, Writes, Leads, LeadsBy, accepted_of, lines_of, NoneRetires, rename_entry, AreWithin}
 
 -- What entries lead to in turn, the whole leads to, and what counts adds up; a journal may be cut anywhere.
 pub record JournalsJoin : Type 0 where
@@ -59,11 +59,11 @@ pub record JournalAddsNew : Type 0 where
 -- propagation conflicts in the end they refute these. A clause that is accepted later spoils no line before it.
 pub record JournalDerives : Type 0 where
   pub derives : (P : List Clause) (es : List Entry) (Q : List Clause) →
-      NoneLeaves es →
+      NoneRetires es →
       Leads P es Q →
       (Q' : List Clause) × Derives (P ++ accepted_of es) (lines_of es) Q' × SameClauses Q' Q
   pub refutes : (P : List Clause) (es : List Entry) (Q : List Clause) →
-      NoneLeaves es →
+      NoneRetires es →
       Leads P es Q →
       Conflicts Q [] →
       Refutes (P ++ accepted_of es) (lines_of es)

@@ -18,7 +18,7 @@ pub data Entry : Type 0 where
   -- a step ends with this core
   Fails : List Literal → Entry
   -- a variable is gone for good, and the clauses that mention it go with it
-  Leaves : ℕ → Entry
+  Retires : ℕ → Entry
 
 -- Where P is held before the entry, the entry is right and Q is held after it.
 abbrev pub Follow : List Clause → Entry → List Clause → Type 0
@@ -27,7 +27,7 @@ Follow P (Writes (Add c)) Q = Follows P c × (Q ≡ P ++ c ∷ [])
 Follow P (Writes (Delete c)) Q = TakesOut P c Q
 Follow P (Assumes a) Q = Q ≡ P
 Follow P (Fails core) Q = Conflicts P core × (Q ≡ P)
-Follow P (Leaves v) Q = Q ≡ without v P
+Follow P (Retires v) Q = Q ≡ without v P
 
 -- so it is for each of the entries in turn
 abbrev pub Leads : List Clause → List Entry → List Clause → Type 0
@@ -60,10 +60,10 @@ lines_of (Writes l ∷ es) = l ∷ lines_of es
 lines_of (_ ∷ es) = lines_of es
 
 -- no variable leaves
-abbrev pub NoneLeaves : List Entry → Type 0
-NoneLeaves [] = Unit {0}
-NoneLeaves (Leaves v ∷ es) = ⊥
-NoneLeaves (_ ∷ es) = NoneLeaves es
+abbrev pub NoneRetires : List Entry → Type 0
+NoneRetires [] = Unit {0}
+NoneRetires (Retires v ∷ es) = ⊥
+NoneRetires (_ ∷ es) = NoneRetires es
 
 -- the entry under new names
 abbrev pub rename_entry : (Literal → Literal) → Entry → Entry
@@ -71,7 +71,7 @@ rename_entry f (Accepts c) = Accepts (map f c)
 rename_entry f (Writes l) = Writes (rename_line f l)
 rename_entry f (Assumes a) = Assumes (map f a)
 rename_entry f (Fails core) = Fails (map f core)
-rename_entry f (Leaves v) = Leaves (variable_of (f (2 * v)))
+rename_entry f (Retires v) = Retires (variable_of (f (2 * v)))
 
 -- the lines as entries
 abbrev pub written : List Line → List Entry
@@ -88,7 +88,7 @@ IsEntryWithin ls (Writes (Add c)) = IsWithin ls c
 IsEntryWithin ls (Writes (Delete c)) = IsWithin ls c
 IsEntryWithin ls (Assumes a) = Unit {0}
 IsEntryWithin ls (Fails core) = IsWithin ls core
-IsEntryWithin ls (Leaves v) = IsWithin ls (2 * v ∷ [])
+IsEntryWithin ls (Retires v) = IsWithin ls (2 * v ∷ [])
 
 -- so it is for each entry
 abbrev pub AreWithin : List Literal → List Entry → Type 0

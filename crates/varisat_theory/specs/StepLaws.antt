@@ -84,8 +84,8 @@ ClauseIsShortened =
     (j.learned ≡ true → k.learned ≡ true) → Proves 0 s (record s { kept = front ++ (j ∷ back) }) (Add d ∷ Delete c ∷ [])
 
 -- A variable that no kept clause mentions leaves the search; what is held loses the clauses that mention it, which is no line.
-abbrev pub VariableIsDropped : Type 0
-VariableIsDropped =
+abbrev pub VariableIsRetired : Type 0
+VariableIsRetired =
     (s t : Search) (v : ℕ) (held : List Clause) → t.kept ≡ s.kept → ((k : KeptClause) → k ∈ s.kept → mentions v k.clause ≡ false) →
     ((l : Literal) → l ∈ s.fixed → variable_of l ≢ v → l ∈ t.fixed) → ((l : Literal) → l ∈ t.proved → (l ∈ s.proved) × (variable_of l ≢ v)) →
     Fits held s → Fits (without v held) t
@@ -295,8 +295,8 @@ NamesAreLoaded =
     Loads s t c Unknown lines → ((l : Literal) → l ∈ c → to l ∈ d) → CoversBy to known P s → CoversBy to known (P ++ d ∷ []) t
 
 -- A variable's leaving keeps it, where its literal is known to be true for good once it is fixed.
-abbrev pub DroppedAreCovered : Type 0
-DroppedAreCovered =
+abbrev pub DetachedAreCovered : Type 0
+DetachedAreCovered =
     (s t : Search) (to : Literal → Literal) (known more : Literal → Bool) (P : List Clause) → t.kept ≡ s.kept →
     ((l : Literal) → l ∈ s.fixed → (l ∈ t.fixed) ⊎ (more (to l) ≡ true)) → ((l : Literal) → known l ≡ true → more l ≡ true) →
     CoversBy to known P s → CoversBy to more P t

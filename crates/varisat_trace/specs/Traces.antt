@@ -6,7 +6,7 @@ use Rattle.varisat_theory.specs.Derivations.{Line, Add, Delete, Derives}
 use Rattle.varisat_theory.specs.Outcomes.{Outcome, Unknown, Sat, Unsat, UnsatUnder}
 use Rattle.varisat_theory.specs.Searches.{Search, Fits}
 use Rattle.varisat_theory.specs.StepLaws.{unit_lines}
-use Rattle.varisat_theory.specs.Journals.{Entry, Writes, Fails, Leaves, written}
+use Rattle.varisat_theory.specs.Journals.{Entry, Writes, Fails, Retires, written}
 use Rattle.varisat_trace.specs.declared.tracer.TraceError.{TraceError}
 use Rattle.varisat_trace.specs.declared.tracer.TraceError.TheVariants.{Memory, Target}
 use Rattle.varisat_trace.specs.declared.step.ProofStep.{ProofStep}
@@ -17,7 +17,7 @@ abbrev pub entries_of : ProofStep → List Entry
 entries_of (AtClause c) = Writes (Add c.now) ∷ []
 entries_of (UnitClauses units) = written (unit_lines units.now)
 entries_of (DeleteClause c) = Writes (Delete c.now) ∷ []
-entries_of (DeleteVar v) = Leaves v ∷ []
+entries_of (DeleteVar v) = Retires v ∷ []
 entries_of (FailedAssumptions core) = Fails core.now ∷ []
 
 -- the entry of a verdict: a core

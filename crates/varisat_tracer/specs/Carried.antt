@@ -2,7 +2,7 @@
 use Rattle.std.specs.Prelude.{ℕ, ◌+◌, ◌*◌, ◌%◌, List, [], ◌∷◌, map, Option, Some, None}
 use Rattle.varisat_theory.specs.Literals.{Literal, variable_of}
 use Rattle.varisat_theory.specs.Renaming.{rename_line}
-use Rattle.varisat_theory.specs.Journals.{Entry, Accepts, Writes, Assumes, Fails, Leaves}
+use Rattle.varisat_theory.specs.Journals.{Entry, Accepts, Writes, Assumes, Fails, Retires}
 
 -- the variable, or the first where there is none
 abbrev pub variable_or_first : Option ℕ → ℕ
@@ -21,4 +21,4 @@ logged_as f (Accepts c ∷ es) = Accepts (map f c) ∷ logged_as f es
 logged_as f (Writes line ∷ es) = Writes (rename_line f line) ∷ logged_as f es
 logged_as f (Assumes a ∷ es) = Assumes (map f a) ∷ logged_as f es
 logged_as f (Fails core ∷ es) = Fails (map f core) ∷ logged_as f es
-logged_as f (Leaves v ∷ es) = logged_as f es
+logged_as f (Retires v ∷ es) = logged_as f es

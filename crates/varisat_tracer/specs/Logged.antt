@@ -7,7 +7,7 @@ use Rattle.varisat_theory.specs.Literals.{Literal, Clause}
 use Rattle.varisat_theory.specs.Derivations.{Add, Delete}
 use Rattle.varisat_theory.specs.Held.{without}
 use Rattle.varisat_theory.specs.Renaming.{rename_line}
-use Rattle.varisat_theory.specs.Journals.{Entry, Accepts, Writes, Assumes, Fails, Leaves}
+use Rattle.varisat_theory.specs.Journals.{Entry, Accepts, Writes, Assumes, Fails, Retires}
 use Rattle.varisat_proof.specs.declared.proof.format.ProofFormat.{ProofFormat}
 use Rattle.varisat_proof.specs.declared.proof.format.Encoding.{Encoding}
 use Rattle.varisat_proof.specs.Lines.{ProofLine, encoding_of}
@@ -31,7 +31,7 @@ logged_as-append f (Accepts c ∷ es) second = ap (λ xs. Accepts (map f c) ∷ 
 logged_as-append f (Writes line ∷ es) second = ap (λ xs. Writes (rename_line f line) ∷ xs) (logged_as-append f es second)
 logged_as-append f (Assumes a ∷ es) second = ap (λ xs. Assumes (map f a) ∷ xs) (logged_as-append f es second)
 logged_as-append f (Fails core ∷ es) second = ap (λ xs. Fails (map f core) ∷ xs) (logged_as-append f es second)
-logged_as-append f (Leaves v ∷ es) second = logged_as-append f es second
+logged_as-append f (Retires v ∷ es) second = logged_as-append f es second
 
 -- 1. None.
 written-none : (o : Option OpenState) → IsWrittenIf o (logged []) o
@@ -72,7 +72,7 @@ left_more P Q R (Writes (Add c) ∷ first) second e h = left_more (P ++ c ∷ []
 left_more P Q R (Writes (Delete c) ∷ first) second (S, t, e) h = (S, t, left_more S Q R first second e h)
 left_more P Q R (Assumes a ∷ first) second e h = left_more P Q R first second e h
 left_more P Q R (Fails core ∷ first) second e h = left_more P Q R first second e h
-left_more P Q R (Leaves v ∷ first) second e h = left_more (without v P) Q R first second e h
+left_more P Q R (Retires v ∷ first) second e h = left_more (without v P) Q R first second e h
 
 checked-more : (o p q : Option CheckerState) (first second : List Entry) → IsCheckedIf o first p → IsCheckedIf p second q → IsCheckedIf o (first ++ second) q
 checked-more None p q first second h k = subst (λ x. IsCheckedIf x second q) h k

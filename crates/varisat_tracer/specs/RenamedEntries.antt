@@ -11,10 +11,10 @@ use Rattle.varisat_theory.specs.Renaming.{KeepsOpposites, rename, rename_line}
 use Rattle.varisat_theory.proofs.Members.{∈-append_right}
 use Rattle.varisat_theory.proofs.Growth.{conflicts_more, covered_by_more}
 use Rattle.varisat_theory.proofs.Held.{same_set-self, same_add, same_clauses-back, same_clauses-through, conflicts_same}
-use Rattle.varisat_theory.proofs.HeldDrops.{same_without}
+use Rattle.varisat_theory.proofs.HeldRetirements.{same_without}
 use Rattle.varisat_theory.proofs.Lines.{derives_beside, derives_same, same_lines-self, present_unique}
 use Rattle.varisat_theory.proofs.Renaming.{conflicts_renamed, derives_renamed, same_clauses_renamed}
-use Rattle.varisat_theory.specs.Journals.{Entry, Accepts, Writes, Assumes, Fails, Leaves, Follow, Leads}
+use Rattle.varisat_theory.specs.Journals.{Entry, Accepts, Writes, Assumes, Fails, Retires, Follow, Leads}
 use Rattle.varisat_proof.specs.Present.{IsLeftAfter}
 use Rattle.varisat_tracer.specs.Carried.{variable_or_first, carry, logged_as}
 
@@ -42,7 +42,7 @@ left_same P Q (Writes (Delete c) ∷ es) held after e s (R, f, d) =
     left_same e.0 Q es R after e.2 (present_unique held P (Delete c ∷ []) R e.0 s (R, f, refl) (e.0, e.1, refl)) d
 left_same P Q (Assumes a ∷ es) held after e s (R, f, d) = left_same P Q es R after e (subst (λ (X : List Clause). SameClauses X P) (sym f) s) d
 left_same P Q (Fails core ∷ es) held after e s (R, f, d) = left_same P Q es R after e (subst (λ (X : List Clause). SameClauses X P) (sym f.1) s) d
-left_same P Q (Leaves v ∷ es) held after e s (R, f, d) =
+left_same P Q (Retires v ∷ es) held after e s (R, f, d) =
     left_same (without v P) Q es R after e (subst (λ (X : List Clause). SameClauses X (without v P)) (sym f) (same_without v held P s)) d
 
 -- 3. One line as an entry.
@@ -121,6 +121,6 @@ module _ (f : Literal → Literal) (keeps : KeepsOpposites f) where
   leads-renamed (Fails core ∷ es) held after others P s (R, (k, e), d) =
       let (Q, more, l, t) = leads-renamed es R after others P (subst (λ (X : List Clause). SameClauses (others ++ rename f X) P) (sym e) s) d in
       (Q, more, (P, (conflict-renamed P held others core s k, refl), l), t)
-  leads-renamed (Leaves v ∷ es) held after others P s (R, e, d) =
+  leads-renamed (Retires v ∷ es) held after others P s (R, e, d) =
       let (more, u) = left-renamed P held R others v s e in
       leads-renamed es R after more P u d

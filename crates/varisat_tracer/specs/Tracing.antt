@@ -3,7 +3,7 @@ use Rattle.std.specs.Prelude.{◌≡◌, ℕ, Bool, Option, if◌then◌else◌,
 use Rattle.std.specs.List.Sorted.{IsNonDecreasingBy}
 use Rattle.varisat_theory.specs.Literals.{Literal, Clause}
 use Rattle.varisat_theory.specs.Renaming.{rename}
-use Rattle.varisat_theory.specs.Journals.{Entry, Leaves}
+use Rattle.varisat_theory.specs.Journals.{Entry, Retires}
 use Rattle.varisat_trace.specs.declared.tracer.TraceError.{TraceError}
 use Rattle.varisat_names.specs.VarMap.{at}
 use Rattle.varisat_names.specs.VarData.{data_at}
@@ -69,8 +69,8 @@ LogsGlobally x entries (Ok u) y = TakesGlobally x entries y
 LogsGlobally x entries (Err e) y = (y.tables ≡ x.tables) × Logs x.proof (logged_as (global_literal x.tables) entries) (Err e) y.proof
 
 -- what the proof is told of a global variable that has lost its name or its solver variable: that it is gone, where it is not live any more
-abbrev pub leaves_if_deleted : Tables → ℕ → List Entry
-leaves_if_deleted t x = if (data_at t.kept x).deleted then Leaves x ∷ [] else []
+abbrev pub retires_if_deleted : Tables → ℕ → List Entry
+retires_if_deleted t x = if (data_at t.kept x).deleted then Retires x ∷ [] else []
 
 -- A target that may still count a fault, if a proof is open, and a checker that is not spent, if one runs.
 pub record CanLog (p : ProofParts) : Type 0 where

@@ -6,7 +6,7 @@ ghost use Rattle.varisat_names.specs.Variables.{no_variables};
 ghost use Rattle.varisat_tracer.specs.Carried.{carry, variable_or_first};
 ghost use Rattle.varisat_theory.specs.Journals.{Accepts, Assumes};
 ghost use Rattle.varisat_proof.specs.Proving.{CanCountTargetFault, IsUsable, IsLogged};
-ghost use Rattle.varisat_tracer.specs.Tracing.{global_literal, tracer_state, open_parts, LogsGlobally, leaves_if_deleted};
+ghost use Rattle.varisat_tracer.specs.Tracing.{global_literal, tracer_state, open_parts, LogsGlobally, retires_if_deleted};
 
 use std::alloc::{AllocError, Allocator};
 use varisat_formula::io::ProofTarget;
@@ -108,10 +108,10 @@ impl<W: ProofTarget, A: Allocator + Copy> SolverTracer<W, A> {
 
     /// Tells the proof that the global variable is gone for good, where it is not live any more. It takes no memory, and
     /// writes nothing.
-    pub fn delete_var_if_gone(&mut self, global: Var)
+    pub fn retire_var_if_unused(&mut self, global: Var)
         requires { global < length self.old.tables.kept }
         ensures variables { self.new.tables ≡ self.old.tables }
-        ensures logged { IsLogged self.old.proof (leaves_if_deleted self.old.tables global) self.new.proof }
+        ensures logged { IsLogged self.old.proof (retires_if_deleted self.old.tables global) self.new.proof }
         ensures opened { open_parts self.new.proof ≡ open_parts self.old.proof }
     {
         if self.tables.var_data_global(global).deleted {
@@ -145,7 +145,7 @@ impl<W: ProofTarget, A: Allocator + Copy> ProofTracer for SolverTracer<W, A> {
     }
 
     // `DeleteVar` is not handed on: it says that a solver variable leaves the search, and its global variable may live on.
-    // Where that is gone too, `delete_var_if_gone` tells so.
+    // Where that is gone too, `retire_var_if_unused` tells so.
     fn add_step(&mut self, step: &ProofStep<'_>) -> Result<(), TraceError> {
         if !self.proof.is_active() {
             return Ok(());

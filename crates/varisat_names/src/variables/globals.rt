@@ -1,7 +1,7 @@
 //! What is kept of the global variables, and which may be used again.
 ghost use Rattle.std.specs.Prelude.{◌≡◌, ◌<◌, ◌≤◌, ◌^◌, true, false, [], length, OnOk, OnErr};
 ghost use Rattle.std.specs.Borrow.{sem};
-ghost use Rattle.varisat_names.specs.VarData.{fresh, dead, data_at, reaching, IsDataAt, IsLeastDeleted, AreDeleted};
+ghost use Rattle.varisat_names.specs.VarData.{fresh, dead, data_at, reaching, IsDataAt, IsLeastRetired, AreDeleted};
 
 use super::data::VarData;
 use std::alloc::{AllocError, Allocator};
@@ -60,7 +60,7 @@ impl<A: Allocator + Copy> Globals<A> {
     pub fn next_deleted(&self) -> usize
         requires { AreDeleted self.now.kept self.now.free }
         ensures near { result ≤ length self.now.kept }
-        ensures least { IsLeastDeleted self.now.kept result }
+        ensures least { IsLeastRetired self.now.kept result }
     {
         match self.free.first() {
             Some(global) => *global,

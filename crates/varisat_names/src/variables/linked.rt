@@ -3,8 +3,8 @@ ghost use Rattle.std.specs.Prelude.{◌≡◌, ◌≤◌, ◌<◌, ◌^◌, ◌+
 ghost use Rattle.varisat_names.specs.Maps.{chain};
 ghost use Rattle.varisat_names.specs.VarMap.{at, IsLeastUnmapped, IsFull};
 ghost use Rattle.varisat_names.specs.VarBiMap.{IsParted};
-ghost use Rattle.varisat_names.specs.VarData.{dead, data_at, IsDataAt, IsLeastDeleted, AreDeleted};
-ghost use Rattle.varisat_names.specs.Variables.{no_variables, unused, AreFree, AreListed, AreLinked, IsGiven, AreNextGiven, IsNamed, IsTaken, IsChangedTo, IsHidden, IsDeletedIfUnused, IsDropped, IsShown};
+ghost use Rattle.varisat_names.specs.VarData.{dead, data_at, IsDataAt, IsLeastRetired, AreDeleted};
+ghost use Rattle.varisat_names.specs.Variables.{no_variables, unused, AreFree, AreListed, AreLinked, IsGiven, AreNextGiven, IsNamed, IsTaken, IsChangedTo, IsHidden, IsRetiredIfUnused, IsDetached, IsShown};
 
 use super::Variables;
 use super::data::{SamplingMode, VarData};
@@ -204,16 +204,16 @@ impl<A: Allocator + Copy> LinkedVariables<A> {
 
     /// Drops the solver variable and returns the global variable that had it, which may be used again where it has no
     /// name and is isolated. Where memory is refused nothing changes.
-    pub fn drop_solver_var(&mut self, solver: Var) -> Result<Var, AllocError>
+    pub fn detach_solver_var(&mut self, solver: Var) -> Result<Var, AllocError>
         requires { IsSome (at self.old.solvers.backward solver) }
-        ensures dropped { IfOk result (λ global. IsDropped self.old self.new global solver) }
+        ensures dropped { IfOk result (λ global. IsDetached self.old self.new global solver) }
         ensures refused { OnErr result (self.new ≡ self.old) }
     {
         let global = self.variables.global_from_solver().get(solver).unwrap();
         let user = self.variables.user_from_global().get(global);
         let kept = *self.variables.globals.data(global);
         if is_unused(user, kept) {
-            release_and_delete(
+            free_and_retire(
                 &mut self.variables.solvers,
                 &mut self.variables.globals,
                 global,
@@ -283,7 +283,7 @@ impl<A: Allocator + Copy> LinkedVariables<A> {
     pub fn delete_global_if_unused(&mut self, global: Var) -> Result<(), AllocError>
         requires live { (data_at self.old.kept global).deleted ≡ false }
         requires unnamed { at self.old.users.backward global ≡ None }
-        ensures deleted { OnOk result (IsDeletedIfUnused self.old self.new global) }
+        ensures deleted { OnOk result (IsRetiredIfUnused self.old self.new global) }
         ensures refused { OnErr result (self.new ≡ self.old) }
     {
         let solver = self.variables.solver_from_global().get(global);
@@ -321,7 +321,7 @@ fn is_unused(other: Option<Var>, kept: VarData) -> bool
 }
 
 /// Frees the name of a live variable, and deletes the variable. Where memory is refused nothing changes.
-fn release_and_delete<A: Allocator + Copy>(
+fn free_and_retire<A: Allocator + Copy>(
     names: &mut NameSpace<A>,
     globals: &mut Globals<A>,
     variable: Var,

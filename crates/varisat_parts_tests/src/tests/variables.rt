@@ -20,7 +20,7 @@ fn drop_var<A: Allocator + Copy>(
     solver: Var,
 ) -> Result<isize, AllocError> {
     if variables.variables().solver_var_present(solver) {
-        return Ok(variables.drop_solver_var(solver)?.to_dimacs());
+        return Ok(variables.detach_solver_var(solver)?.to_dimacs());
     }
     Ok(0)
 }

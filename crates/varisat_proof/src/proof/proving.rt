@@ -1,7 +1,7 @@
 //! The proof that a solver writes, and the checker that runs inside it. Steps and clauses are over global variables.
 ghost use Rattle.std.specs.Prelude.{◌≡◌, ℕ, List, [], ◌∷◌, ◌-◌, ◌<◌, ◌^◌, Option, None, Some, true, false, IfErr, OnOk, Ok, option_copied, is_some};
 ghost use Rattle.varisat_theory.specs.Held.{SameClauses};
-ghost use Rattle.varisat_theory.specs.Journals.{Accepts, Assumes, Leaves};
+ghost use Rattle.varisat_theory.specs.Journals.{Accepts, Assumes, Retires};
 ghost use Rattle.varisat_trace.specs.Traces.{CanTakeStep, entries_of};
 ghost use Rattle.varisat_proof.specs.declared.checker.error.CheckerError.TheVariants.{OutOfMemory};
 ghost use Rattle.varisat_proof.specs.declared.proof.format.LineKind.TheVariants as kinds;
@@ -301,7 +301,7 @@ pub fn add_step<W: ProofTarget, A: Allocator + Copy>(
 /// Tells that a variable is gone for good: the checker drops the clauses of it. No format has a line for that, so that it
 /// takes no memory and no target can fail.
 pub fn delete_var<W: ProofTarget, A: Allocator + Copy>(proof: &mut Proof<W, A>, var: Var)
-    ensures logged { IsLogged proof.old (Leaves var ∷ []) proof.new }
+    ensures logged { IsLogged proof.old (Retires var ∷ []) proof.new }
     ensures opened { proof.new.opened ≡ proof.old.opened }
 {
     if let Some(checker) = &mut proof.checker {

@@ -10,7 +10,7 @@ use varisat_prop::prop::Assignment;
 use varisat_search::cdcl::simplify_root;
 use varisat_search::context::Context;
 use varisat_search::error::StepError;
-use varisat_search::forgetting::drop_variables;
+use varisat_search::forgetting::detach_variables;
 use varisat_trace::NoTracer;
 
 /// For each variable whether it has a value.
@@ -36,7 +36,7 @@ fn forget<A: Allocator + Copy>(ctx: &mut Context<A>, gone: &[bool])
     ensures { IsReady ctx.new }
 {
     if ctx.assumptions.assumptions().is_empty() {
-        drop_variables(ctx, gone);
+        detach_variables(ctx, gone);
     }
 }
 

@@ -1,7 +1,7 @@
 //! What the lines of a step, of a call and of loading do to the clauses that a proof holds, and what that says of the
 //! accepted ones.
 
-ghost use Rattle.varisat_theory.specs.StepLaws.{PartsJoin, PartsJoinStep, StepIsPart, MovesProve, UnitIsProved, UnitsAreProved, SatisfiedIsDeleted, LearnedIsDeleted, ClauseIsShortened, VariableIsDropped, ClauseIsLearned, FreshIsNew, EmptyIsAdded, ContradictionIsFound, ModelIsFound, CoreIsFound, LoadedIsKept, LoadedIsUnit, LoadedIsDischarged, LoadedIsDeleted, LoadedIsContradicted, PartsJoinLoad, NoStepIsMade, StepIsMade, NewAreAdded, StepsOfCall, PartsJoinSteps, StepsRefute, FirstAccounts, PartAccounts, StepAccounts, StepsAccount, LoadAccounts, VerdictsAreRight, CountedDerives, KeptAreHeld, NamesAreCovered, NamesStayCovered, NamesAreLoaded, DroppedAreCovered, NamesAreSatisfied};
+ghost use Rattle.varisat_theory.specs.StepLaws.{PartsJoin, PartsJoinStep, StepIsPart, MovesProve, UnitIsProved, UnitsAreProved, SatisfiedIsDeleted, LearnedIsDeleted, ClauseIsShortened, VariableIsRetired, ClauseIsLearned, FreshIsNew, EmptyIsAdded, ContradictionIsFound, ModelIsFound, CoreIsFound, LoadedIsKept, LoadedIsUnit, LoadedIsDischarged, LoadedIsDeleted, LoadedIsContradicted, PartsJoinLoad, NoStepIsMade, StepIsMade, NewAreAdded, StepsOfCall, PartsJoinSteps, StepsRefute, FirstAccounts, PartAccounts, StepAccounts, StepsAccount, LoadAccounts, VerdictsAreRight, CountedDerives, KeptAreHeld, NamesAreCovered, NamesStayCovered, NamesAreLoaded, DetachedAreCovered, NamesAreSatisfied};
 
 /// Two parts of a step in turn are one.
 pub fn parts_join()
@@ -49,8 +49,8 @@ pub fn clause_is_shortened()
 {}
 
 /// A variable leaves the search.
-pub fn variable_is_dropped()
-    ensures { VariableIsDropped }
+pub fn variable_is_retired()
+    ensures { VariableIsRetired }
 {}
 
 /// A clause is learned.
@@ -199,8 +199,8 @@ pub fn names_are_loaded()
 {}
 
 /// So does a variable's leaving.
-pub fn dropped_are_covered()
-    ensures { DroppedAreCovered }
+pub fn detached_are_covered()
+    ensures { DetachedAreCovered }
 {}
 
 /// What steps found satisfies the clauses under other names.

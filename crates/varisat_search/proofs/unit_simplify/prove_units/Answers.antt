@@ -23,7 +23,7 @@ use Rattle.varisat_theory.specs.Outcomes.{Proves}
 use Rattle.varisat_theory.proofs.Members.{∈-append_left, ∈-append_right}
 use Rattle.varisat_theory.proofs.SearchFits.{same_equal, clause_from}
 use Rattle.varisat_theory.proofs.StepChanges.{moves_prove}
-use Rattle.varisat_theory.proofs.StepDrops.{units_are_proved}
+use Rattle.varisat_theory.proofs.StepRetirements.{units_are_proved}
 use Rattle.varisat_theory.proofs.StepParts.{parts_join}
 use Rattle.varisat_prop.specs.View.{View, IsTrueIn, literal_at, node_of, node_at, level_of, IsOnTrailBefore, WellFormed, is_clause}
 use Rattle.varisat_prop.proofs.ViewGrowth.{append-nil}

@@ -33,7 +33,7 @@ use Rattle.varisat_solver.specs.States.{State, with_variables}
 use Rattle.varisat_solver.specs.Spaces.{SpacesFit, FitWithNew}
 use Rattle.varisat_solver.specs.Summaries.{spaces_of, spaces_with, IsValidSolver}
 use Rattle.varisat_solver.proofs.SettingsCalls.{summary_in}
-use Rattle.varisat_solver.proofs.ReturnedVariables.{reopened-not, no-model-reopened, reopened-spaces, verdict-after}
+use Rattle.varisat_solver.proofs.DetachedValues.{reopened-not, no-model-reopened, reopened-spaces, verdict-after}
 use Rattle.varisat_solver.proofs.SolversInTurn.{with_names, HaveSolvers, have-solvers-then, has-variables, can-have-room, over-leads, over-carried, all-named, literals-within, literals-decidable}
 use Rattle.varisat_solver.proofs.TableMarks.{marks-bounded, joined-same, assumed-joined}
 use Rattle.varisat_solver.proofs.CheckedHeld.{relied-open}

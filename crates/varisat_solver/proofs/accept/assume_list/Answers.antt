@@ -28,7 +28,7 @@ use Rattle.varisat_solver.specs.States.{with_variables}
 use Rattle.varisat_solver.specs.Summaries.{spaces_of, IsValidSolver}
 use Rattle.varisat_solver.proofs.AssumeList.{Assuming, forgets, list-logged, list-assumed}
 use Rattle.varisat_solver.proofs.SettingsCalls.{summary_in}
-use Rattle.varisat_solver.proofs.ReturnedVariables.{no-model-assumed, assumed-again}
+use Rattle.varisat_solver.proofs.DetachedValues.{no-model-assumed, assumed-again}
 use Rattle.varisat_solver.proofs.SolversInTurn.{HaveSolvers, have-solvers-then, has-variables, can-have-room, over-leads, over-carried, all-named, literals-within, literals-decidable}
 use Rattle.varisat_solver.proofs.VariableMoves.{same-in-use, tables-in-use}
 use Rattle.varisat_solver.proofs.TableMarks.{names-marked, marked-same, assumed-listed}

@@ -40,35 +40,35 @@ kept g c =
 steps-still : (g : Over) (c : In_ok-begin_step g) → c.begin_step.new.ctx.schedule.steps ≡ c.args.ctx.now.schedule.steps
 steps-still g c = ap (λ (x : Context g.row.A.Denot). x.schedule.steps) c.begin_step.ensures.kept ∙ steps-begun _ c.args.ctx.now.schedule
 
-pub drop_fixed-requires-clause-kept : goal.drop_fixed-requires-clause-kept
-drop_fixed-requires-clause-kept g c = kept g (goal.at.drop_fixed-requires-clause-kept g c).In_ok-begin_step
+pub detach_fixed-requires-clause-kept : goal.detach_fixed-requires-clause-kept
+detach_fixed-requires-clause-kept g c = kept g (goal.at.detach_fixed-requires-clause-kept g c).In_ok-begin_step
 
-pub drop_fixed-requires-clause-logs : goal.drop_fixed-requires-clause-logs
-drop_fixed-requires-clause-logs g c = begin-logs (tracer_state c.args.tracer.now)
+pub detach_fixed-requires-clause-logs : goal.detach_fixed-requires-clause-logs
+detach_fixed-requires-clause-logs g c = begin-logs (tracer_state c.args.tracer.now)
     (tracer_state c.begin_step.new.proof) c.args.ctx.now c.begin_step.new.ctx
-    (begun g (goal.at.drop_fixed-requires-clause-logs g c).In_ok-begin_step) c.requires.logs
+    (begun g (goal.at.detach_fixed-requires-clause-logs g c).In_ok-begin_step) c.requires.logs
 
-pub drop_fixed-requires-clause-unknown : goal.drop_fixed-requires-clause-unknown
-drop_fixed-requires-clause-unknown g c = ap (λ (x : Context g.row.A.Denot). x.solver_state.sat_state) c.begin_step.ensures.kept ∙ c.requires.unknown
+pub detach_fixed-requires-clause-unknown : goal.detach_fixed-requires-clause-unknown
+detach_fixed-requires-clause-unknown g c = ap (λ (x : Context g.row.A.Denot). x.solver_state.sat_state) c.begin_step.ensures.kept ∙ c.requires.unknown
 
-pub drop_fixed-requires-clause-stands : goal.drop_fixed-requires-clause-stands
-drop_fixed-requires-clause-stands g c =
+pub detach_fixed-requires-clause-stands : goal.detach_fixed-requires-clause-stands
+detach_fixed-requires-clause-stands g c =
     let p = tracer_state c.args.tracer.now in
     let q = tracer_state c.begin_step.new.proof in
     some-on _ 0 _ _ p.proof q.proof (begin-comes p q c.args.ctx.now c.begin_step.new.ctx c.requires.kept
-    (steps-still g (goal.at.drop_fixed-requires-clause-stands g c).In_ok-begin_step)
-    (begun g (goal.at.drop_fixed-requires-clause-stands g c).In_ok-begin_step)) c.requires.stands
+    (steps-still g (goal.at.detach_fixed-requires-clause-stands g c).In_ok-begin_step)
+    (begun g (goal.at.detach_fixed-requires-clause-stands g c).In_ok-begin_step)) c.requires.stands
 
 pub returns-clause-begins : goal.returns-clause-begins
 returns-clause-begins g c =
     let p = c.args.tracer.now in
     let q = c.begin_step.new.proof in
-    let r = c.drop_fixed.new.tracer in
+    let r = c.detach_fixed.new.tracer in
     let x = c.args.ctx.now in
     let y = c.begin_step.new.ctx in
-    let z = c.drop_fixed.new.ctx in
+    let z = c.detach_fixed.new.ctx in
     let b = begun g (goal.at.returns-clause-begins g c).In_ok-begin_step in
-    let e = c.in_ok-drop_fixed.ensures {u = tt} in
+    let e = c.in_ok-detach_fixed.ensures {u = tt} in
     let count = begin-count x y b c.requires.kept.ready in
     let config = ap (λ (c : Context g.row.A.Denot). c.solver_config) c.begin_step.ensures.kept in
     record {
@@ -77,7 +77,7 @@ returns-clause-begins g c =
       logged = some-through p.proof q.proof r.proof (begin-logged (tracer_state p) (tracer_state q) x y b) e.logged;
       within = λ i k. e.within i x.schedule
           (come-begun _ x y c.requires.kept.ready c.prove_in_range.ensures.luby_restart_interval_scale c.requires.counted b config count i k);
-      state = c.drop_fixed.ensures.state ∙ ap (λ (c : Context g.row.A.Denot). c.solver_state) c.begin_step.ensures.kept;
+      state = c.detach_fixed.ensures.state ∙ ap (λ (c : Context g.row.A.Denot). c.solver_state) c.begin_step.ensures.kept;
       count = e.count ∙ count;
       left = record { reduced = y; begins = begins-any x y b; left = e.left };
       leaves = λ h. e.leaves (leaves-begun p.tables q.tables x y c.requires.kept.ready b (begin-tables (tracer_state p) (tracer_state q) x y b) h);
@@ -90,17 +90,17 @@ returns-clause-begins g c =
     }
 
 pub returns-clause-schedule : goal.returns-clause-schedule
-returns-clause-schedule g c = c.drop_fixed.ensures.schedule.schedule ∙ ap (λ (x : Context g.row.A.Denot). x.schedule) c.begin_step.ensures.kept
+returns-clause-schedule g c = c.detach_fixed.ensures.schedule.schedule ∙ ap (λ (x : Context g.row.A.Denot). x.schedule) c.begin_step.ensures.kept
 
 pub returns-clause-config : goal.returns-clause-config
-returns-clause-config g c = c.drop_fixed.ensures.schedule.solver_config ∙ ap (λ (x : Context g.row.A.Denot). x.solver_config) c.begin_step.ensures.kept
+returns-clause-config g c = c.detach_fixed.ensures.schedule.solver_config ∙ ap (λ (x : Context g.row.A.Denot). x.solver_config) c.begin_step.ensures.kept
 
-pub returns-in_err-drop_fixed-clause-schedule : goal.returns-in_err-drop_fixed-clause-schedule
-returns-in_err-drop_fixed-clause-schedule g c = c.drop_fixed.ensures.schedule.schedule
+pub returns-in_err-detach_fixed-clause-schedule : goal.returns-in_err-detach_fixed-clause-schedule
+returns-in_err-detach_fixed-clause-schedule g c = c.detach_fixed.ensures.schedule.schedule
     ∙ ap (λ (x : Context g.row.A.Denot). x.schedule) c.begin_step.ensures.kept
 
-pub returns-in_err-drop_fixed-clause-config : goal.returns-in_err-drop_fixed-clause-config
-returns-in_err-drop_fixed-clause-config g c = c.drop_fixed.ensures.schedule.solver_config
+pub returns-in_err-detach_fixed-clause-config : goal.returns-in_err-detach_fixed-clause-config
+returns-in_err-detach_fixed-clause-config g c = c.detach_fixed.ensures.schedule.solver_config
     ∙ ap (λ (x : Context g.row.A.Denot). x.solver_config) c.begin_step.ensures.kept
 
 pub returns-in_err-begin_step-clause-broken : goal.returns-in_err-begin_step-clause-broken
@@ -117,19 +117,19 @@ returns-in_err-begin_step-clause-full g c =
     let e = c.in_err-begin_step.field-0.0 in
     passed-on c.from_residual.result (step_error_of_trace e) (λ z. z ≢ step.Full) c.from_residual.ensures (trace-unfilled e)
 
-pub returns-in_err-drop_fixed-clause-broken : goal.returns-in_err-drop_fixed-clause-broken
-returns-in_err-drop_fixed-clause-broken g c =
-    let e = c.in_err-drop_fixed.field-0.0 in
+pub returns-in_err-detach_fixed-clause-broken : goal.returns-in_err-detach_fixed-clause-broken
+returns-in_err-detach_fixed-clause-broken g c =
+    let e = c.in_err-detach_fixed.field-0.0 in
     let p = c.args.tracer.now in
     let q = c.begin_step.new.proof in
-    let r = c.drop_fixed.new.tracer in
+    let r = c.detach_fixed.new.tracer in
     let (given, logged) = begin-logged (tracer_state p) (tracer_state q) c.args.ctx.now c.begin_step.new.ctx
-    (begun g (goal.at.returns-in_err-drop_fixed-clause-broken g c).In_ok-begin_step) in
-    passed-on c.from_residual-in_err-drop_fixed.result e (λ z. BreaksProof p.proof (step_faults z) r.proof) c.from_residual-in_err-drop_fixed.ensures
-    (proof-breaks-on p.proof q.proof r.proof given (step_faults e) logged (c.in_err-drop_fixed.ensures {u = tt}).broken)
+    (begun g (goal.at.returns-in_err-detach_fixed-clause-broken g c).In_ok-begin_step) in
+    passed-on c.from_residual-in_err-detach_fixed.result e (λ z. BreaksProof p.proof (step_faults z) r.proof) c.from_residual-in_err-detach_fixed.ensures
+    (proof-breaks-on p.proof q.proof r.proof given (step_faults e) logged (c.in_err-detach_fixed.ensures {u = tt}).broken)
 
-pub returns-in_err-drop_fixed-clause-full : goal.returns-in_err-drop_fixed-clause-full
-returns-in_err-drop_fixed-clause-full g c =
-    let e = c.in_err-drop_fixed.field-0.0 in
-    passed-on c.from_residual-in_err-drop_fixed.result e (λ z. z ≢ step.Full) c.from_residual-in_err-drop_fixed.ensures
-    (c.in_err-drop_fixed.ensures {u = tt}).full
+pub returns-in_err-detach_fixed-clause-full : goal.returns-in_err-detach_fixed-clause-full
+returns-in_err-detach_fixed-clause-full g c =
+    let e = c.in_err-detach_fixed.field-0.0 in
+    passed-on c.from_residual-in_err-detach_fixed.result e (λ z. z ≢ step.Full) c.from_residual-in_err-detach_fixed.ensures
+    (c.in_err-detach_fixed.ensures {u = tt}).full

@@ -2,7 +2,7 @@ use Rattle.std.proofs.Common.{◌≡◌, ◌+◌, ◌-◌, ◌*◌, ◌^◌, len
 use Rattle.varisat_schedule.specs.CallSteps.{steps_since}
 use Rattle.varisat_tracer.specs.Tracing.{tracer_state, CanLog}
 use Rattle.varisat_search.specs.Contexts.{view}
-use Rattle.varisat_solver.specs.Dropping.{LeavesInTime}
+use Rattle.varisat_solver.specs.Detaching.{DetachesInTime}
 use Rattle.varisat_solver.specs.Searches.{LogsSome, turn_of, ComesOn}
 use Rattle.varisat_solver.specs.Summaries.{undecided_spaces, IsValidSolver}
 use Rattle.varisat_solver.proofs.FindVerdictSteps.{HasMade}
@@ -17,7 +17,7 @@ invariant-steps g l = record {
   state : l.ctx.solver_state ≡ l.fn.ctx.solver_state;
   config : l.ctx.solver_config ≡ l.fn.ctx.solver_config;
   made : HasMade l.fn.ctx l.ctx l.max_steps;
-  leaves : LeavesInTime l.fn.tracer.tables (view l.fn.ctx) → LeavesInTime l.tracer.tables (view l.ctx);
+  leaves : DetachesInTime l.fn.tracer.tables (view l.fn.ctx) → DetachesInTime l.tracer.tables (view l.ctx);
   stands : ComesOn (turn_of l.fn.ctx) (steps_since l.fn.ctx.schedule l.ctx.schedule) (undecided_spaces l.fn.tracer.tables l.fn.tracer.proof.checker l.fn.ctx)
       (undecided_spaces l.tracer.tables l.tracer.proof.checker l.ctx) l.fn.tracer.proof l.tracer.proof;
   still : l.ctx.schedule.steps ≡ l.fn.ctx.schedule.steps → (l.ctx ≡ l.fn.ctx) × (tracer_state l.tracer ≡ tracer_state l.fn.tracer);

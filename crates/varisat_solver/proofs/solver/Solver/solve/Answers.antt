@@ -1,6 +1,6 @@
 -- The proof is marked and flushed behind the steps, or can't be flushed.
 use Rattle.std.proofs.Common.{◌≡◌, ◌∙◌, true, not, sym, ap, subst}
-use Rattle.varisat_solver.specs.Dropping.{LeavesInTime, GoesOnLeaving}
+use Rattle.varisat_solver.specs.Detaching.{DetachesInTime, GoesOnDetaching}
 use Rattle.varisat_solver.specs.declared.solver.SolverError.TheVariants.{ClauseStoreFull}
 use Rattle.varisat_solver.proofs.Targets.{writes-marked, ends-writing, fails-writing, ends-not-full, still-full, same-error, ends-badly-invalid}
 use Rattle.varisat_solver.specs.Calls.{Solves, by_state}
@@ -71,5 +71,5 @@ pub returns-clause-leaves : goal.returns-clause-leaves
 returns-clause-leaves g c h v n =
     let valid = subst (λ (x : Summary). x.ledger.valid ≡ true) c.self.view_is (ap not c.if-self.false) in
     let e = c.in_ok-end_search.ensures in
-    let leaves = subst (λ (x : Summary). GoesOnLeaving x c.seek-found.new.self) c.begin_search.ensures c.seek-found.ensures.leaves in
-    subst (λ (x : Summary). LeavesInTime x.tables x.search) (sym e) (leaves h valid (λ u. n (ap (λ (x : Summary). x.sat_state) e ∙ u)))
+    let leaves = subst (λ (x : Summary). GoesOnDetaching x c.seek-found.new.self) c.begin_search.ensures c.seek-found.ensures.leaves in
+    subst (λ (x : Summary). DetachesInTime x.tables x.search) (sym e) (leaves h valid (λ u. n (ap (λ (x : Summary). x.sat_state) e ∙ u)))

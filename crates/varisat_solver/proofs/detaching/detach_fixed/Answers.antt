@@ -1,0 +1,223 @@
+use Rattle.varisat_search.specs.declared.error.StepError.TheVariants as step
+use Rattle.varisat_search.proofs.StepErrors.{trace-faults, trace-unfilled}
+use Rattle.varisat_search.specs.StepErrors.{step_faults}
+use Rattle.varisat_trace.proofs.Broken.{passed-on}
+use Rattle.varisat_trace.specs.Traces.{faults_of}
+use Rattle.std.proofs.Common.{◌≡◌, ◌≢◌, inl, inr, ⊎_elim, length, ap, ◌∙◌, sym, subst, refl, arith}
+use Rattle.varisat_prop.specs.Changes.{IsConflicting}
+use Rattle.varisat_search.specs.RootSimplified.{HasRootNews}
+use Rattle.varisat_search.proofs.FixedLiterals.{fixed-undecided}
+use Rattle.varisat_solver.specs.Detaching.{AreOverAssumed}
+use Rattle.varisat_solver.proofs.SinceSteps.{failed-there, come-settled}
+use Rattle.varisat_names.specs.Variables.{Tables}
+use Rattle.varisat_tracer.specs.Tracing.{tracer_state, open_parts, BreaksProof}
+use Rattle.varisat_proof.specs.Proving.{ProofParts}
+use Rattle.varisat_tracer.proofs.Logging.{logs-logged, breaks-proof, open-unbroken, proof-breaks-on}
+use Rattle.varisat_solver.specs.Searches.{LogsSome, Turn, ComesOn}
+use Rattle.varisat_solver.proofs.RootSimplifiedParts.{settled-parts}
+use Rattle.varisat_solver.specs.Summaries.{undecided_spaces, IsValidSolver}
+use Rattle.varisat_solver.proofs.SearchVerdicts.{kept-on}
+use Rattle.varisat_solver.proofs.detaching.detach_fixed.Given.{Over}
+use Rattle.varisat_solver.proofs.detaching.detach_fixed.Goals.{In-Ok, In_ok-detach_unneeded, then-current_level-gt0-via-then-current_level-gt0, then-current_level-gt0-via-else-current_level-gt0+then-fully_propagated}
+use Rattle.varisat_search.specs.declared.context.Context.{Context}
+use Rattle.varisat_search.specs.Contexts.{view}
+use Rattle.varisat_solver.proofs.CheckedHeld.{relied}
+use Rattle.varisat_solver.proofs.SolverSteps.{some-through, comes-nowhere, comes-through, leaving-comes, unknown-undecided, part-comes, some-none}
+use Rattle.varisat_solver.proofs.detaching.detach_fixed.Goals as goal
+
+pub simplify_root-requires-clause-holds : goal.simplify_root-requires-clause-holds
+simplify_root-requires-clause-holds g c = relied c.args.tracer.now.tables c.args.tracer.now.proof
+    (view c.args.ctx.now) c.args.ctx.now.assumptions c.requires.logs c.requires.stands
+
+-- what settling comes to
+begun : (g : Over) (c : In-Ok g) (at : Turn) → ComesOn at 0 (undecided_spaces c.args.tracer.now.tables c.args.tracer.now.proof.checker c.args.ctx.now)
+    (undecided_spaces c.simplify_root.new.proof.tables c.simplify_root.new.proof.proof.checker c.simplify_root.new.ctx) c.args.tracer.now.proof c.simplify_root.new.proof.proof
+begun g c at =
+    let e = c.in-Ok.ensures {u = tt} in
+    let goes = e.goes_on in
+    let (lines, proves, (simplifies_root, takes)) = goes.proves in
+    part-comes at (tracer_state c.args.tracer.now) (tracer_state c.simplify_root.new.proof) c.args.ctx.now c.simplify_root.new.ctx lines c.requires.kept
+    (λ due held after d f. settled-parts lines (view c.args.ctx.now) (view c.simplify_root.new.ctx) c.in-Ok.settled simplifies_root goes.ready.well e.settled held after d f)
+    proves takes
+    goes.ready goes.extends.count goes.decidable
+    (ap (λ (z : Context g.row.A.Denot). z.assumptions) c.simplify_root.ensures.kept)
+
+-- and what the proof was told
+settled-logged : (g : Over) (c : In-Ok g) → LogsSome c.args.tracer.now.proof c.simplify_root.new.proof.proof
+settled-logged g c = (_, (c.in-Ok.ensures {u = tt}).goes_on.proves.2.1.logged)
+
+-- and of variables that left
+left-logged : (g : Over) (c : In_ok-detach_unneeded g) → LogsSome c.simplify_root.new.proof.proof c.detach_unneeded.new.tracer.proof
+left-logged g c = some-through c.simplify_root.new.proof.proof c.detach_listed.new.tracer.proof c.detach_unneeded.new.tracer.proof
+    (c.in_ok-detach_listed.ensures {u = tt}).leave.given (c.in_ok-detach_unneeded.ensures {u = tt}).leave.given
+
+-- the solver keeps what it did
+kept : (g : Over) (c : In-Ok g) → IsValidSolver c.simplify_root.new.proof.tables c.simplify_root.new.ctx
+kept g c =
+    let x = c.args.ctx.now in
+    let goes = (c.in-Ok.ensures {u = tt}).goes_on in
+    let same = ap (λ (z : Context g.row.A.Denot). z.assumptions) c.simplify_root.ensures.kept in
+    subst (λ (t : Tables). IsValidSolver t c.simplify_root.new.ctx) (sym goes.proves.2.1.tables)
+    (kept-on c.args.tracer.now.tables x c.simplify_root.new.ctx c.requires.kept goes.ready goes.extends.count goes.decidable same)
+
+pub returns-then-is_err-clause-kept : goal.returns-then-is_err-clause-kept
+returns-then-is_err-clause-kept g c = kept g (goal.at.returns-then-is_err-clause-kept g c).In-Ok
+
+pub detach_listed-requires-clause-kept : goal.detach_listed-requires-clause-kept
+detach_listed-requires-clause-kept g c = kept g (goal.at.detach_listed-requires-clause-kept g c).In-Ok
+
+pub detach_unneeded-requires-clause-kept : goal.detach_unneeded-requires-clause-kept
+detach_unneeded-requires-clause-kept g c = (c.in_ok-detach_listed.ensures {u = tt}).leave.kept
+
+pub returns-clause-kept : goal.returns-clause-kept
+returns-clause-kept g c = (c.in_ok-detach_unneeded.ensures {u = tt}).leave.kept
+
+pub returns-clause-count : goal.returns-clause-count
+returns-clause-count g c =
+    (c.in_ok-detach_unneeded.ensures {u = tt}).leave.count ∙ (c.in_ok-detach_listed.ensures {u = tt}).leave.count ∙ (c.in-Ok.ensures {u = tt}).goes_on.extends.count
+
+pub returns-then-current_level-gt0-clause-leaves : goal.returns-then-current_level-gt0-clause-leaves
+returns-then-current_level-gt0-clause-leaves g c h =
+    let calm : HasRootNews (view c.args.ctx.now) → ⊥ = λ u.
+    elim c.then-current_level-gt0.branch [
+      | then-current_level-gt0-via-then-current_level-gt0 w ↦ (let n = ap length u.0 in omega (arith, n, c.current_level.ensures, w.if-current_level-gt0.true))
+      | then-current_level-gt0-via-else-current_level-gt0+then-fully_propagated w ↦
+          (let n = w.fully_propagated.ensures.0 w.if-fully_propagated.true in omega (arith, n, u.1))
+    ] in
+    ⊎_elim (λ n. inl (n, calm)) (λ u. absurd (calm u)) h
+
+pub returns-then-is_err-clause-leaves : goal.returns-then-is_err-clause-leaves
+returns-then-is_err-clause-leaves g c h =
+    let e = c.in-Ok.ensures {u = tt} in
+    inr (
+      e.at_zero,
+      failed-there c.in-Ok.settled (λ _. Unit {0}) (IsConflicting (view c.simplify_root.new.ctx))
+          (sym c.is_err.ensures.value ∙ c.if-is_err.true) e.conflict,
+    )
+
+pub returns-clause-leaves : goal.returns-clause-leaves
+returns-clause-leaves g c h =
+    let z = c.detach_unneeded.new.ctx in
+    let e = c.in_ok-detach_unneeded.ensures {u = tt} in
+    let d = e.settled in
+    inl (
+      subst (AreOverAssumed c.detach_unneeded.new.tracer.tables) (sym (fixed-undecided (view z) d.undecided)) e.left.assumed,
+      λ u. let head = d.propagated in let low = u.1 in omega (arith, head, low),
+    )
+
+pub returns-then-current_level-gt0-clause-logged : goal.returns-then-current_level-gt0-clause-logged
+returns-then-current_level-gt0-clause-logged g c = some-none c.args.tracer.now.proof
+
+pub returns-then-is_err-clause-logged : goal.returns-then-is_err-clause-logged
+returns-then-is_err-clause-logged g c = settled-logged g (goal.at.returns-then-is_err-clause-logged g c).In-Ok
+
+pub returns-clause-logged : goal.returns-clause-logged
+returns-clause-logged g c =
+    some-through c.args.tracer.now.proof c.simplify_root.new.proof.proof c.detach_unneeded.new.tracer.proof
+    (settled-logged g (goal.at.returns-clause-logged g c).In-Ok) (left-logged g (goal.at.returns-clause-logged g c).In_ok-detach_unneeded)
+
+pub returns-clause-logs : goal.returns-clause-logs
+returns-clause-logs g c =
+    let (given, logged) = returns-clause-logged g c in
+    logs-logged c.args.tracer.now.proof c.detach_unneeded.new.tracer.proof given logged c.requires.logs
+
+pub returns-then-current_level-gt0-clause-stands : goal.returns-then-current_level-gt0-clause-stands
+returns-then-current_level-gt0-clause-stands g c at s fit = comes-nowhere at 0 s c.args.tracer.now.proof _ refl
+    (unknown-undecided c.args.tracer.now.tables c.args.tracer.now.proof.checker c.args.ctx.now s fit) fit
+
+pub returns-then-is_err-clause-stands : goal.returns-then-is_err-clause-stands
+returns-then-is_err-clause-stands g c at = begun g (goal.at.returns-then-is_err-clause-stands g c).In-Ok at
+
+pub returns-clause-stands : goal.returns-clause-stands
+returns-clause-stands g c at =
+    let p = c.args.tracer.now in
+    let q = c.simplify_root.new.proof in
+    let r = c.detach_listed.new.tracer in
+    let last = c.detach_unneeded.new.tracer in
+    let x = c.args.ctx.now in
+    let y = c.simplify_root.new.ctx in
+    let u = c.detach_listed.new.ctx in
+    let z = c.detach_unneeded.new.ctx in
+    comes-through at p.proof q.proof last.proof (undecided_spaces p.tables p.proof.checker x) (undecided_spaces q.tables q.proof.checker y)
+    (undecided_spaces last.tables last.proof.checker z) (unknown-undecided q.tables q.proof.checker y)
+    (begun g (goal.at.returns-clause-stands g c).In-Ok at)
+    (comes-through at q.proof r.proof last.proof (undecided_spaces q.tables q.proof.checker y)
+    (undecided_spaces r.tables r.proof.checker u) (undecided_spaces last.tables last.proof.checker z) (unknown-undecided r.tables r.proof.checker u)
+    (leaving-comes at q.proof r.proof (undecided_spaces q.tables q.proof.checker y) (undecided_spaces r.tables r.proof.checker u)
+    (unknown-undecided q.tables q.proof.checker y) (c.in_ok-detach_listed.ensures {u = tt}).leave.stands)
+    (leaving-comes at r.proof last.proof (undecided_spaces r.tables r.proof.checker u) (undecided_spaces last.tables last.proof.checker z)
+    (unknown-undecided r.tables r.proof.checker u) (c.in_ok-detach_unneeded.ensures {u = tt}).leave.stands))
+
+pub returns-then-current_level-gt0-clause-calm : goal.returns-then-current_level-gt0-clause-calm
+returns-then-current_level-gt0-clause-calm g c = inl (λ u.
+    elim c.then-current_level-gt0.branch [
+      | then-current_level-gt0-via-then-current_level-gt0 w ↦ (let n = ap length u.0 in omega (arith, n, c.current_level.ensures, w.if-current_level-gt0.true))
+      | then-current_level-gt0-via-else-current_level-gt0+then-fully_propagated w ↦
+          (let n = w.fully_propagated.ensures.0 w.if-fully_propagated.true in omega (arith, n, u.1))
+    ])
+
+pub returns-then-is_err-clause-calm : goal.returns-then-is_err-clause-calm
+returns-then-is_err-clause-calm g c =
+    let e = c.in-Ok.ensures {u = tt} in
+    inr (
+      e.at_zero,
+      failed-there c.in-Ok.settled (λ _. Unit {0}) (IsConflicting (view c.simplify_root.new.ctx))
+          (sym c.is_err.ensures.value ∙ c.if-is_err.true) e.conflict,
+    )
+
+pub returns-clause-calm : goal.returns-clause-calm
+returns-clause-calm g c =
+    let d = (c.in_ok-detach_unneeded.ensures {u = tt}).settled in
+    inl (λ u. let head = d.propagated in let low = u.1 in omega (arith, head, low))
+
+pub returns-then-is_err-clause-within : goal.returns-then-is_err-clause-within
+returns-then-is_err-clause-within g c =
+    come-settled _ c.args.ctx.now c.simplify_root.new.ctx (c.in-Ok.ensures {u = tt}).goes_on
+    (ap (λ (z : Context g.row.A.Denot). z.solver_config) c.simplify_root.ensures.kept)
+
+pub returns-clause-within : goal.returns-clause-within
+returns-clause-within g c i q k =
+    (c.in_ok-detach_unneeded.ensures {u = tt}).leave.within i q
+    ((c.in_ok-detach_listed.ensures {u = tt}).leave.within i q
+    (come-settled _ c.args.ctx.now c.simplify_root.new.ctx (c.in-Ok.ensures {u = tt}).goes_on
+    (ap (λ (z : Context g.row.A.Denot). z.solver_config) c.simplify_root.ensures.kept) i q k))
+
+pub returns-in-Err-clause-broken : goal.returns-in-Err-clause-broken
+returns-in-Err-clause-broken g c =
+    let e = c.in-Err.error in
+    let p = c.args.tracer.now in
+    let q = c.simplify_root.new.proof in
+    subst (λ z. BreaksProof p.proof (step_faults z) q.proof) (sym c.from.ensures)
+    (subst (λ n. BreaksProof p.proof n q.proof) (trace-faults e)
+    (breaks-proof (tracer_state p) (tracer_state q) (faults_of e) (c.in-Err.ensures {u = tt}).broken))
+
+pub returns-in-Err-clause-full : goal.returns-in-Err-clause-full
+returns-in-Err-clause-full g c = subst (λ z. z ≢ step.Full) (sym c.from.ensures) (trace-unfilled c.in-Err.error)
+
+-- as variables leave, nothing more is written
+unwritten : (p q r : ProofParts) → LogsSome p q → open_parts r ≡ open_parts q → BreaksProof p 0 r
+unwritten p q r (given, logged) same = proof-breaks-on p q r given 0 logged (open-unbroken q r same)
+
+pub returns-in_err-detach_listed-clause-broken : goal.returns-in_err-detach_listed-clause-broken
+returns-in_err-detach_listed-clause-broken g c =
+    let p = c.args.tracer.now.proof in
+    let q = c.simplify_root.new.proof.proof in
+    let r = c.detach_listed.new.tracer.proof in
+    passed-on c.from_residual.result step.Memory (λ z. BreaksProof p (step_faults z) r) c.from_residual.ensures
+    (unwritten p q r (settled-logged g (goal.at.returns-in_err-detach_listed-clause-broken g c).In-Ok) c.detach_listed.ensures.opened)
+
+pub returns-in_err-detach_unneeded-clause-broken : goal.returns-in_err-detach_unneeded-clause-broken
+returns-in_err-detach_unneeded-clause-broken g c =
+    let p = c.args.tracer.now.proof in
+    let q = c.simplify_root.new.proof.proof in
+    let r = c.detach_unneeded.new.tracer.proof in
+    passed-on c.from_residual-in_err-detach_unneeded.result step.Memory (λ z. BreaksProof p (step_faults z) r) c.from_residual-in_err-detach_unneeded.ensures
+    (unwritten p q r (settled-logged g (goal.at.returns-in_err-detach_unneeded-clause-broken g c).In-Ok)
+    (c.detach_unneeded.ensures.opened ∙ c.detach_listed.ensures.opened))
+
+pub returns-in_err-detach_listed-clause-full : goal.returns-in_err-detach_listed-clause-full
+returns-in_err-detach_listed-clause-full g c = passed-on c.from_residual.result step.Memory (λ z. z ≢ step.Full) c.from_residual.ensures (λ e. cc)
+
+pub returns-in_err-detach_unneeded-clause-full : goal.returns-in_err-detach_unneeded-clause-full
+returns-in_err-detach_unneeded-clause-full g c = passed-on c.from_residual-in_err-detach_unneeded.result step.Memory
+    (λ z. z ≢ step.Full) c.from_residual-in_err-detach_unneeded.ensures (λ e. cc)

@@ -1,0 +1,5 @@
+use Rattle.varisat_solver.proofs.DetachedLists.{ListsBelow}
+use Rattle.varisat_solver.proofs.detaching.list_unneeded.Given as goal
+
+abbrev pub invariant-loop-index : goal.invariant-loop-index
+invariant-loop-index g l = ListsBelow l.index l.variables l.mentioned l.unneeded.items

@@ -1,7 +1,0 @@
-use Rattle.std.proofs.Common.{◌≡◌, ℕ, ◌<◌, false}
-use Rattle.varisat_names.specs.VarMap.{at}
-use Rattle.varisat_solver.specs.Dropping.{leads_to_hidden}
-use Rattle.varisat_solver.proofs.dropping.has_hidden.Given as goal
-
-abbrev pub invariant-loop-index : goal.invariant-loop-index
-invariant-loop-index g l = (v : ℕ) → v < l.index → leads_to_hidden l.variables (at l.variables.solvers.backward v) ≡ false

@@ -1,5 +1,0 @@
-use Rattle.varisat_solver.proofs.DroppedLists.{ListsBelow}
-use Rattle.varisat_solver.proofs.dropping.list_unneeded.Given as goal
-
-abbrev pub invariant-loop-index : goal.invariant-loop-index
-invariant-loop-index g l = ListsBelow l.index l.variables l.mentioned l.unneeded.items

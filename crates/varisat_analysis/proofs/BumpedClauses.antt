@@ -7,7 +7,7 @@ use Rattle.varisat_clause.specs.declared.header.Tier.{Tier}
 use Rattle.varisat_clause.specs.declared.header.Tier.TheVariants.{Irred, Core, Mid, Local}
 use Rattle.varisat_clause.specs.Tiers.{is_tier}
 use Rattle.varisat_clause.specs.Headers.{Header, no_header}
-use Rattle.varisat_clause.specs.Stored.{StoredClause, IsPlace, stored_at, header_at, literals_at, with_stored, with_header}
+use Rattle.varisat_clause.specs.Stored.{StoredClause, IsClauseRef, stored_at, header_at, literals_at, with_stored, with_header}
 use Rattle.varisat_clause.specs.Stores.{Store, stored_clauses, IsSound, HoldsClauses}
 use Rattle.varisat_clause.specs.Databases.{Database, tier_list, is_live, is_live_in, total, size_of, Tracks}
 use Rattle.varisat_clause.specs.ClauseActivities.{ActivityScale, with_activity, activity_shifted, clauses_shifted, clauses_rescaled, reaches_clause_limit, Scored, scored, activity_bumped}
@@ -24,7 +24,7 @@ use Rattle.varisat_analysis.proofs.SameButHeaders.{held_clause, live-headers, ma
 use Rattle.varisat_clause.proofs.DatabaseTracks.{true-or-false}
 
 -- headers at one place of a list
-module _ (ks : List StoredClause) (p : ℕ) (at : IsPlace ks p) where
+module _ (ks : List StoredClause) (p : ℕ) (at : IsClauseRef ks p) where
   stored-set : (h : Header) → stored_at (with_header ks p h) p ≡ record (stored_at ks p) { header = h }
   stored-set h = clause-same ks p (record (stored_at ks p) { header = h }) at (place-is ks p at)
 
@@ -35,13 +35,13 @@ module _ (ks : List StoredClause) (p : ℕ) (at : IsPlace ks p) where
   header-twice h j = ap (λ (k : StoredClause). with_stored (with_header ks p h) p (record k { header = j })) (stored-set h)
       ∙ clause-twice ks p (record (stored_at ks p) { header = h }) (record (stored_at ks p) { header = j }) (place-is ks p at)
 
-  pub header-place : (h : Header) → IsPlace (with_header ks p h) p
+  pub header-place : (h : Header) → IsClauseRef (with_header ks p h) p
   header-place h = clause-place ks p p (record (stored_at ks p) { header = h }) (place-is ks p at) at
 
 -- a store whose clause at the place got a header, and then another
-module _ (s n : Store) (p : ℕ) (h : Header) (at : IsPlace (stored_clauses s) p) (o : HoldsClauses n (length s.words) (with_header (stored_clauses s) p h)) where
-  pub set-place : IsPlace (stored_clauses n) p
-  set-place = subst (λ ks. IsPlace ks p) (sym o.clauses) (header-place (stored_clauses s) p at h)
+module _ (s n : Store) (p : ℕ) (h : Header) (at : IsClauseRef (stored_clauses s) p) (o : HoldsClauses n (length s.words) (with_header (stored_clauses s) p h)) where
+  pub set-place : IsClauseRef (stored_clauses n) p
+  set-place = subst (λ ks. IsClauseRef ks p) (sym o.clauses) (header-place (stored_clauses s) p at h)
 
   pub set-header : header_at (stored_clauses n) p ≡ h
   set-header = ap (λ ks. header_at ks p) o.clauses ∙ header-set (stored_clauses s) p at h
@@ -170,7 +170,7 @@ improved-stays s p glue ok e = record {
 }
 
 -- the clause went to another tier, and then the glue was written
-pub improved-moved : (s n m : Store) (p glue : ℕ) (t : Tier) (j : Header) → IsPlace (stored_clauses s) p →
+pub improved-moved : (s n m : Store) (p glue : ℕ) (t : Tier) (j : Header) → IsClauseRef (stored_clauses s) p →
     not (is_tier (header_at (stored_clauses s) p).tier Irred) ≡ true → glue < (header_at (stored_clauses s) p).glue →
     (header_at (stored_clauses s) p).glue ≤ 63 → t ≡ tier_by_glue glue →
     HoldsClauses n (length s.words) (with_header (stored_clauses s) p (record (header_at (stored_clauses s) p) { tier = t })) →
@@ -189,7 +189,7 @@ improved-moved s n m p glue t j at r l small et o ej q =
     (subst (λ (x : Header). HoldsClauses m (length n.words) (with_header (stored_clauses n) p x)) e q)
 
 -- The clause became active too.
-pub noted-holds : (s n m : Store) (p glue : ℕ) → IsPlace (stored_clauses s) p →
+pub noted-holds : (s n m : Store) (p glue : ℕ) → IsClauseRef (stored_clauses s) p →
     HoldsClauses n (length s.words) (with_header (stored_clauses s) p (improved glue (header_at (stored_clauses s) p))) →
     HoldsClauses m (length n.words) (with_header (stored_clauses n) p (record (header_at (stored_clauses n) p) { active = true })) →
     HoldsClauses m (length s.words) (with_header (stored_clauses s) p (noted glue (header_at (stored_clauses s) p)))
@@ -279,18 +279,18 @@ module _ {nodes : List ImplNode} {names : List Conflict} {s t : Store} {d : Data
   bumped-headers = live-headers (stored_clauses s) (stored_clauses t) k.held
 
   -- a clause that was named is there still
-  pub bumped-live : (p : ℕ) → IsPlace (live_clauses s) p → IsPlace (live_clauses t) p
+  pub bumped-live : (p : ℕ) → IsClauseRef (live_clauses s) p → IsClauseRef (live_clauses t) p
   bumped-live p h = headers-place (live_clauses s) (live_clauses t) p bumped-headers h
 
-  pub bumped-place : (p : ℕ) → IsPlace (live_clauses s) p → IsPlace (stored_clauses t) p
+  pub bumped-place : (p : ℕ) → IsClauseRef (live_clauses s) p → IsClauseRef (stored_clauses t) p
   bumped-place p h = live-place (stored_clauses t) p (bumped-live p h)
 
-  pub bumped-undeleted : (p : ℕ) → IsPlace (live_clauses s) p → (header_at (stored_clauses t) p).deleted ≡ false
+  pub bumped-undeleted : (p : ℕ) → IsClauseRef (live_clauses s) p → (header_at (stored_clauses t) p).deleted ≡ false
   bumped-undeleted p h =
       ap (λ (x : StoredClause). x.header.deleted) (live-stored t p k.store.sound (bumped-live p h))
       ∙ (live-∈ (stored_clauses t) (stored_at (live_clauses t) p) (stored-∈ (live_clauses t) p (bumped-live p h))).1
 
-  pub bumped-literals : (p : ℕ) → IsPlace (live_clauses s) p → literals_at (stored_clauses t) p ≡ literals_at (live_clauses s) p
+  pub bumped-literals : (p : ℕ) → IsClauseRef (live_clauses s) p → literals_at (stored_clauses t) p ≡ literals_at (live_clauses s) p
   bumped-literals p h = live-literals t p k.store.sound (bumped-live p h) ∙ headers-at (live_clauses s) (live_clauses t) bumped-headers p
 
   -- one more clause, which is not one of the store, or is

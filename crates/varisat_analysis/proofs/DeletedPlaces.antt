@@ -3,7 +3,7 @@ use Rattle.std.proofs.Common.{◌≡◌, ℕ, zero, suc, Bool, true, false, not,
 use Rattle.std.specs.List.{filter}
 use Rattle.varisat_theory.specs.Membership.{◌∈◌}
 use Rattle.varisat_theory.proofs.Members.{equal_or_not}
-use Rattle.varisat_clause.specs.Stored.{StoredClause, IsPlace, AreRising, stored_at, header_at}
+use Rattle.varisat_clause.specs.Stored.{StoredClause, IsClauseRef, AreRising, stored_at, header_at}
 use Rattle.varisat_clause.specs.Collected.{live_of}
 use Rattle.varisat_clause.specs.Filters.{deleted_at}
 use Rattle.varisat_clause.specs.Reductions.{unmarked_places, all_deleted}
@@ -31,7 +31,7 @@ all-placed [] ks = refl
 all-placed (p ∷ ps) ks = all-placed ps (deleted_at ks p) ∙ one-placed ks p
 
 -- which clauses are deleted then
-module _ (ks : List StoredClause) (p q : ℕ) (h : IsPlace ks p) where
+module _ (ks : List StoredClause) (p q : ℕ) (h : IsClauseRef ks p) where
   abbrev dead : StoredClause
   dead = record (stored_at ks p) { header = record (header_at ks p) { deleted = true } }
 
@@ -50,16 +50,16 @@ module _ (ks : List StoredClause) (p q : ℕ) (h : IsPlace ks p) where
       (λ n. inl (sym (ap (λ (x : StoredClause). x.header.deleted) (clause-other ks p q dead (place-is ks p h) n)) ∙ e))
       (equal_or_not q p)
 
-pub one-gone : (ks : List StoredClause) (p : ℕ) → IsPlace ks p → (header_at (deleted_at ks p) p).deleted ≡ true
+pub one-gone : (ks : List StoredClause) (p : ℕ) → IsClauseRef ks p → (header_at (deleted_at ks p) p).deleted ≡ true
 one-gone ks p h = ap (λ (x : StoredClause). x.header.deleted) (clause-same ks p (dead ks p p h) h (place-is ks p h))
 
-pub deleted-stays : (ps : List ℕ) (ks : List StoredClause) (q : ℕ) → ((p : ℕ) → p ∈ ps → IsPlace ks p) → (header_at ks q).deleted ≡ true →
+pub deleted-stays : (ps : List ℕ) (ks : List StoredClause) (q : ℕ) → ((p : ℕ) → p ∈ ps → IsClauseRef ks p) → (header_at ks q).deleted ≡ true →
     (header_at (all_deleted ps ks) q).deleted ≡ true
 deleted-stays [] ks q h e = e
 deleted-stays (p ∷ ps) ks q h e =
     deleted-stays ps (deleted_at ks p) q (λ x i. headers-place ks (deleted_at ks p) x (one-placed ks p) (h x (inr i))) (one-stays ks p q (h p (inl refl)) e)
 
-pub deleted-from : (ps : List ℕ) (ks : List StoredClause) (q : ℕ) → ((p : ℕ) → p ∈ ps → IsPlace ks p) →
+pub deleted-from : (ps : List ℕ) (ks : List StoredClause) (q : ℕ) → ((p : ℕ) → p ∈ ps → IsClauseRef ks p) →
     (header_at (all_deleted ps ks) q).deleted ≡ true → ((header_at ks q).deleted ≡ true) ⊎ (q ∈ ps)
 deleted-from [] ks q h e = inl e
 deleted-from (p ∷ ps) ks q h e =

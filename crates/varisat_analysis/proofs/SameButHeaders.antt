@@ -7,7 +7,7 @@ use Rattle.varisat_theory.proofs.Members.{equal_or_not}
 use Rattle.varisat_clause.specs.declared.header.Tier.TheVariants as tier
 use Rattle.varisat_clause.specs.Tiers.{is_tier}
 use Rattle.varisat_clause.specs.Headers.{Header}
-use Rattle.varisat_clause.specs.Stored.{StoredClause, literals_of, literals_at, stored_at, header_at, with_stored, with_header, IsPlace, AreRising}
+use Rattle.varisat_clause.specs.Stored.{StoredClause, literals_of, literals_at, stored_at, header_at, with_stored, with_header, IsClauseRef, AreRising}
 use Rattle.varisat_clause.specs.Collected.{live_of}
 use Rattle.varisat_clause.proofs.StoredClauses.{stored-here, stored-later, clause-here, clause-later}
 use Rattle.varisat_prop.specs.Watches.{Watches, watches_of, literal_in, IsWatchedBy, HasWatch, IsWatching}
@@ -34,7 +34,7 @@ pub headers-found : (ks js : List StoredClause) (j : StoredClause) → SameButHe
     × (placed_clause j ≡ placed_clause k)
 headers-found ks js j d h = ∈-placed ks (placed_clause j) (subst (λ xs. placed_clause j ∈ xs) d (placed-∈ js j h))
 
-pub headers-place : (ks js : List StoredClause) (p : ℕ) → SameButHeaders ks js → IsPlace ks p → IsPlace js p
+pub headers-place : (ks js : List StoredClause) (p : ℕ) → SameButHeaders ks js → IsClauseRef ks p → IsClauseRef js p
 headers-place ks js p d (k, h, q) =
     let (j, i, e) = headers-found js ks k (sym d) h in
     (j, i, sym (ap (λ (x : PlacedClause). x.place) e) ∙ q)

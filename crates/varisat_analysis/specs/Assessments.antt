@@ -7,7 +7,7 @@ use Rattle.varisat_clause.specs.declared.header.Tier.{Tier}
 use Rattle.varisat_clause.specs.declared.header.Tier.TheVariants.{Irred, Core, Mid, Local}
 use Rattle.varisat_clause.specs.Tiers.{is_tier}
 use Rattle.varisat_clause.specs.Headers.{Header, no_header}
-use Rattle.varisat_clause.specs.Stored.{IsPlace, header_at, literals_at, with_header}
+use Rattle.varisat_clause.specs.Stored.{IsClauseRef, header_at, literals_at, with_header}
 use Rattle.varisat_clause.specs.Stores.{Store, stored_clauses, HoldsClauses}
 use Rattle.varisat_clause.specs.Databases.{Database, Tracks}
 use Rattle.varisat_clause.specs.ClauseActivities.{ActivityScale, with_activity, clauses_rescaled, scale_rescaled, reaches_clause_limit, Scored, scored, activity_bumped, reaches_limit_at, increment_decayed, scale_decayed}
@@ -79,7 +79,7 @@ pub record CanCount (nodes : List ImplNode) (lits : List Literal) (flags : List 
 
 -- The place is that of a clause that is not deleted, whose levels can be counted, and the database follows the store.
 pub record CanBump (nodes : List ImplNode) (s : Store) (d : Database) (flags : List Bool) (p : ℕ) : Type 0 where
-  pub place : IsPlace (stored_clauses s) p
+  pub place : IsClauseRef (stored_clauses s) p
   pub live : (header_at (stored_clauses s) p).deleted ≡ false
   pub tracks : Tracks d s
   pub count : CanCount nodes (literals_at (stored_clauses s) p) flags

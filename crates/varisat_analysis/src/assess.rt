@@ -1,7 +1,7 @@
 //! Tiers of learned clauses by their glue, and what a conflict does to the clauses that took part in it.
 ghost use Rattle.std.specs.Prelude.{◌≡◌, true, OnOk, OnErr};
 ghost use Rattle.varisat_theory.specs.Membership.{◌∈◌};
-ghost use Rattle.varisat_clause.specs.Stored.{IsPlace};
+ghost use Rattle.varisat_clause.specs.Stored.{IsClauseRef};
 ghost use Rattle.varisat_clause.specs.Stores.{stored_clauses, IsSound, RewritesHeaderAt};
 ghost use Rattle.varisat_clause.specs.ClauseActivities.{scored, RewritesScored};
 ghost use Rattle.varisat_clause.specs.Databases.{Tracks};
@@ -90,7 +90,7 @@ fn improve_glue<A: Allocator + Copy>(
 /// Says that the clause is active.
 fn set_active<A: Allocator + Copy>(alloc: &mut ClauseAlloc<A>, cref: ClauseRef)
     requires sound { IsSound alloc.old }
-    requires place { IsPlace (stored_clauses alloc.old) cref }
+    requires place { IsClauseRef (stored_clauses alloc.old) cref }
     ensures { RewritesHeaderAt alloc.old alloc.new cref (λ header. record header { active = true }) }
 {
     let mut header = alloc.header(cref);

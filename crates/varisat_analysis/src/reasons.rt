@@ -1,7 +1,7 @@
 //! The clauses that are reasons: their marks, and reasons that follow them to other places.
 ghost use Rattle.std.specs.Prelude.{◌≡◌, ◌<◌, false, length};
 ghost use Rattle.varisat_theory.specs.Membership.{◌∈◌};
-ghost use Rattle.varisat_clause.specs.Stored.{StoredClause, IsPlace};
+ghost use Rattle.varisat_clause.specs.Stored.{StoredClause, IsClauseRef};
 ghost use Rattle.varisat_clause.specs.Stores.{stored_clauses, clause_of, IsSound, RewritesClauses, RewritesClauseAt};
 ghost use Rattle.varisat_clause.specs.Databases.{Database, Tracks};
 ghost use Rattle.varisat_clause.specs.Collected.{live_clauses};
@@ -17,7 +17,7 @@ use varisat_prop::prop::{Assignment, ImplGraph, Reason};
 /// The variable of the clause's first literal.
 pub fn first_var<A: Allocator + Copy>(clause_alloc: &ClauseAlloc<A>, cref: ClauseRef) -> Var
     requires sound { IsSound clause_alloc.now }
-    requires place { IsPlace (stored_clauses clause_alloc.now) cref }
+    requires place { IsClauseRef (stored_clauses clause_alloc.now) cref }
     ensures { result ≡ first_variable (clause_of clause_alloc.now cref) }
 {
     clause_alloc.lits(cref)[0].var()
@@ -31,7 +31,7 @@ pub fn is_reason_clause<A: Allocator + Copy>(
     cref: ClauseRef,
 ) -> bool
     requires sound { IsSound clause_alloc.now }
-    requires place { IsPlace (stored_clauses clause_alloc.now) cref }
+    requires place { IsClauseRef (stored_clauses clause_alloc.now) cref }
     requires value { first_variable (clause_of clause_alloc.now cref) < length assignment.now.current }
     requires node { first_variable (clause_of clause_alloc.now cref) < length impl_graph.now.nodes.items }
     ensures { result ≡ is_reason assignment.now.current impl_graph.now.nodes.items (clause_of clause_alloc.now cref) }
@@ -55,7 +55,7 @@ fn mark_reason<A: Allocator + Copy>(
     cref: ClauseRef,
 )
     requires sound { IsSound clause_alloc.old }
-    requires place { IsPlace (stored_clauses clause_alloc.old) cref }
+    requires place { IsClauseRef (stored_clauses clause_alloc.old) cref }
     requires value { (clause_of clause_alloc.old cref).header.deleted ≡ false →
         first_variable (clause_of clause_alloc.old cref) < length assignment.now.current }
     requires nodes { length impl_graph.now.nodes.items ≡ length assignment.now.current }
@@ -97,7 +97,7 @@ fn repoint_reason<A: Allocator + Copy>(
     new_cref: ClauseRef,
 )
     requires sound { IsSound clause_alloc.now }
-    requires place { IsPlace (stored_clauses clause_alloc.now) cref }
+    requires place { IsClauseRef (stored_clauses clause_alloc.now) cref }
     requires value { first_variable (clause_of clause_alloc.now cref) < length assignment.now.current }
     requires node { first_variable (clause_of clause_alloc.now cref) < length impl_graph.old.nodes.items }
     ensures { impl_graph.new.nodes.items ≡ repointed assignment.now.current impl_graph.old.nodes.items (clause_of clause_alloc.now cref) new_cref }

@@ -2,7 +2,7 @@
 use Rattle.std.proofs.Common.{◌≡◌, ℕ, zero, suc, ◌+◌, ◌<◌, List, [], ◌∷◌, ◌++◌, length, map, take, take_all, get_or, true, false, cond, refl, sym, ap, ◌∙◌, subst, inl, inr, ⊎_elim, arith, add-one}
 use Rattle.varisat_theory.specs.Membership.{◌∈◌}
 use Rattle.varisat_clause.specs.Headers.{Header}
-use Rattle.varisat_clause.specs.Stored.{StoredClause, IsPlace, no_clause, stored_at, header_at, literals_at}
+use Rattle.varisat_clause.specs.Stored.{StoredClause, IsClauseRef, no_clause, stored_at, header_at, literals_at}
 use Rattle.varisat_clause.specs.Stores.{Store, clause_in, stored_clauses, IsSound, AddsStored, no_store}
 use Rattle.varisat_clause.specs.Databases.{Database, total, size_of, Tracks}
 use Rattle.varisat_clause.specs.Collected.{live_of, packed, collected, live_size, IsCollected}
@@ -138,7 +138,7 @@ packed-literals p (k ∷ ks) zero = refl
 packed-literals p (k ∷ ks) (suc i) = packed-literals (p + size_of k) ks i
 
 -- a copy that was added
-pub copied-adds : (s n m : Store) (p q : ℕ) (h : Header) (c : List ℕ) → IsSound s → IsPlace (stored_clauses s) p →
+pub copied-adds : (s n m : Store) (p q : ℕ) (h : Header) (c : List ℕ) → IsSound s → IsClauseRef (stored_clauses s) p →
     h ≡ record (header_at (stored_clauses s) p) { mark = false } → c ≡ literals_at (stored_clauses s) p →
     AddsStored n m (record { place = q; header = record h { len = length c }; literals = c }) →
     AddsStored n m (record {

@@ -7,7 +7,7 @@ use Rattle.varisat_clause.specs.declared.header.Tier.TheVariants.{Irred, Core, M
 use Rattle.varisat_clause.specs.declared.db.TierCounts.{TierCounts}
 use Rattle.varisat_clause.specs.Tiers.{is_tier}
 use Rattle.varisat_clause.specs.Headers.{Header}
-use Rattle.varisat_clause.specs.Stored.{StoredClause, IsPlace, stored_at, header_at, literals_at, with_stored, with_literals, with_header, shortened}
+use Rattle.varisat_clause.specs.Stored.{StoredClause, IsClauseRef, stored_at, header_at, literals_at, with_stored, with_literals, with_header, shortened}
 use Rattle.varisat_clause.specs.Stores.{Store, len_at, clause_in, stored_clauses, FitsWords, IsSound, HoldsClauses, AddsStored, no_store}
 use Rattle.varisat_clause.specs.Databases.{count_of, raised, lowered, ListsByTier, tier_list, with_tier_list, pushed, Database, no_database, with_added, with_moved, with_deleted, is_live, is_live_in, total, size_of, live_count, garbage_of, Tracks}
 use Rattle.varisat_clause.proofs.StoredClauses.{stored-here, stored-later, stored-∈, clause-here, clause-later, clause-cases, clause-place, place-later, place-more, place-last, from-append, literals-clause}
@@ -84,7 +84,7 @@ pub total-append : (w : StoredClause → ℕ) (ks : List StoredClause) (k : Stor
 total-append w [] k = omega arith
 total-append w (j ∷ ks) k = let r = total-append w ks k in omega (arith, r)
 
-pub total-clause : (w : StoredClause → ℕ) (ks : List StoredClause) (p : ℕ) (j : StoredClause) → IsPlace ks p →
+pub total-clause : (w : StoredClause → ℕ) (ks : List StoredClause) (p : ℕ) (j : StoredClause) → IsClauseRef ks p →
     total w (with_stored ks p j) + w (stored_at ks p) ≡ total w ks + w j
 total-clause w [] p j (k, h, e) = absurd h
 total-clause w (k ∷ ks) p j h =
@@ -137,7 +137,7 @@ garbage-small d s k =
     most false n = omega arith
 
 -- a clause that is not deleted is counted
-pub counted : (d : Database) (s : Store) (p : ℕ) → Tracks d s → IsPlace (stored_clauses s) p → (header_at (stored_clauses s) p).deleted ≡ false →
+pub counted : (d : Database) (s : Store) (p : ℕ) → Tracks d s → IsClauseRef (stored_clauses s) p → (header_at (stored_clauses s) p).deleted ≡ false →
     0 < count_of (header_at (stored_clauses s) p).tier d.counts
 counted d s p k h live =
     let j : StoredClause = stored_at (stored_clauses s) p in
@@ -154,7 +154,7 @@ pub record Adjusts (d e : Database) (p : ℕ) (k j : StoredClause) : Type 0 wher
   pub known : (t : Tier) (q : ℕ) → q ∈ tier_list t e.lists → (q ∈ tier_list t d.lists) ⊎ (q ≡ p)
   pub listed : is_live j ≡ true → p ∈ tier_list j.header.tier e.lists
 
-pub tracks-changed : (d e : Database) (s n : Store) (size p : ℕ) (j : StoredClause) → Tracks d s → IsPlace (stored_clauses s) p → j.place ≡ p →
+pub tracks-changed : (d e : Database) (s n : Store) (size p : ℕ) (j : StoredClause) → Tracks d s → IsClauseRef (stored_clauses s) p → j.place ≡ p →
     HoldsClauses n size (with_stored (stored_clauses s) p j) → Adjusts d e p (stored_at (stored_clauses s) p) j → Tracks e n
 tracks-changed d e s n size p j t h q o a = record {
   sound = o.sound;
@@ -174,8 +174,8 @@ tracks-changed d e s n size p j t h q o a = record {
       (λ m. a.keeps k.header.tier k.place (t.listed k m live))
       (clause-cases (stored_clauses s) p j k i2);
   known = λ u x i.
-      let old : IsPlace (stored_clauses s) x = ⊎_elim (λ m. t.known u x m) (λ f. subst (IsPlace (stored_clauses s)) (sym f) h) (a.known u x i) in
-      subst (λ xs. IsPlace xs x) (sym o.clauses) (clause-place (stored_clauses s) p x j q old);
+      let old : IsClauseRef (stored_clauses s) x = ⊎_elim (λ m. t.known u x m) (λ f. subst (IsClauseRef (stored_clauses s)) (sym f) h) (a.known u x i) in
+      subst (λ xs. IsClauseRef xs x) (sym o.clauses) (clause-place (stored_clauses s) p x j q old);
 }
 
 -- an empty store
@@ -227,9 +227,9 @@ tracks-added d s n k t a live = record {
       (pushed-new k.header.tier k.place d.lists))
       (from-append (stored_clauses s) k j (subst (λ xs. j ∈ xs) a.clauses.0 i));
   known = λ u x i.
-      subst (λ xs. IsPlace xs x) (sym a.clauses.0) (⊎_elim
+      subst (λ xs. IsClauseRef xs x) (sym a.clauses.0) (⊎_elim
       (λ m. place-more (stored_clauses s) k x (t.known u x m))
-      (λ e. subst (IsPlace (stored_clauses s ++ k ∷ [])) (sym e) (place-last (stored_clauses s) k))
+      (λ e. subst (IsClauseRef (stored_clauses s ++ k ∷ [])) (sym e) (place-last (stored_clauses s) k))
       (pushed-cases k.header.tier u k.place x d.lists i));
 }
 
@@ -273,7 +273,7 @@ same-garbage false true m n e h = absurd (cc)
 same-garbage false false m n e h = refl
 
 -- a clause changes, but not its tier nor whether it is deleted, and a deleted one not in length
-pub adjusts-kept : (d : Database) (s : Store) (p : ℕ) (j : StoredClause) → Tracks d s → IsPlace (stored_clauses s) p →
+pub adjusts-kept : (d : Database) (s : Store) (p : ℕ) (j : StoredClause) → Tracks d s → IsClauseRef (stored_clauses s) p →
     (stored_at (stored_clauses s) p).place ≡ p → j.header.tier ≡ (header_at (stored_clauses s) p).tier →
     j.header.deleted ≡ (header_at (stored_clauses s) p).deleted →
     (j.header.deleted ≡ true → length j.literals ≡ length (literals_at (stored_clauses s) p)) → Adjusts d d p (stored_at (stored_clauses s) p) j
@@ -289,7 +289,7 @@ adjusts-kept d s p j t h q et ed el =
     }
 
 -- the clause at a place stands there, and is as long as its header says
-pub place-is : (ks : List StoredClause) (p : ℕ) → IsPlace ks p → (stored_at ks p).place ≡ p
+pub place-is : (ks : List StoredClause) (p : ℕ) → IsClauseRef ks p → (stored_at ks p).place ≡ p
 place-is [] p (k, h, e) = absurd h
 place-is (k ∷ ks) p h =
     ⊎_elim
@@ -297,7 +297,7 @@ place-is (k ∷ ks) p h =
     (λ n. ap (λ (x : StoredClause). x.place) (stored-later k ks p n) ∙ place-is ks p (place-later k ks p h n))
     (equal_or_not k.place p)
 
-pub long-at : (s : Store) (p : ℕ) → IsSound s → IsPlace (stored_clauses s) p → (3 ≤ length (literals_at (stored_clauses s) p))
+pub long-at : (s : Store) (p : ℕ) → IsSound s → IsClauseRef (stored_clauses s) p → (3 ≤ length (literals_at (stored_clauses s) p))
     × ((header_at (stored_clauses s) p).len ≡ length (literals_at (stored_clauses s) p))
 long-at s p ok h = are-long s ok (stored_at (stored_clauses s) p) (stored-∈ (stored_clauses s) p h)
 
@@ -314,7 +314,7 @@ pub header-self : (ks : List StoredClause) (p : ℕ) (h : Header) → h ≡ head
 header-self ks p h e = ap (λ (x : Header). with_stored ks p (record (stored_at ks p) { header = x })) e ∙ clause-self ks p
 
 -- what the calls of the database leave
-pub tracks-deleted : (d e : Database) (s n : Store) (p : ℕ) (h : Header) → Tracks d s → IsPlace (stored_clauses s) p →
+pub tracks-deleted : (d e : Database) (s n : Store) (p : ℕ) (h : Header) → Tracks d s → IsClauseRef (stored_clauses s) p →
     (header_at (stored_clauses s) p).deleted ≡ false → h ≡ header_at (stored_clauses s) p → e ≡ with_deleted h.tier h.len d →
     HoldsClauses n (length s.words) (with_header (stored_clauses s) p (record h { deleted = true })) → Tracks e n
 tracks-deleted d e s n p h t at live eh ee o =
@@ -327,7 +327,7 @@ tracks-deleted d e s n p h t at live eh ee o =
     tracks-changed d e s n (length s.words) p j t at (place-is (stored_clauses s) p at) (record { sound = o.sound; words = o.words; clauses = o.clauses ∙ w })
     (subst (λ (x : Database). Adjusts d x p k j) (sym f) (adjusts-deleted d p k live (counted d s p t at live)))
 
-pub tracks-moved : (d e : Database) (s n : Store) (p : ℕ) (h : Header) (to : Tier) → Tracks d s → IsPlace (stored_clauses s) p →
+pub tracks-moved : (d e : Database) (s n : Store) (p : ℕ) (h : Header) (to : Tier) → Tracks d s → IsClauseRef (stored_clauses s) p →
     (header_at (stored_clauses s) p).deleted ≡ false → h ≡ header_at (stored_clauses s) p → e ≡ with_moved p h.tier to d →
     HoldsClauses n (length s.words) (with_header (stored_clauses s) p (record h { tier = to })) → Tracks e n
 tracks-moved d e s n p h to t at live eh ee o =
@@ -340,7 +340,7 @@ tracks-moved d e s n p h to t at live eh ee o =
     (subst (λ (x : Database). Adjusts d x p k j) (sym f) (adjusts-moved d p k to live (counted d s p t at live)))
 
 -- other literals of a clause, a header of the same tier, or fewer literals
-pub tracks-literals : (d : Database) (s n : Store) (p : ℕ) (c : List ℕ) → Tracks d s → IsPlace (stored_clauses s) p →
+pub tracks-literals : (d : Database) (s n : Store) (p : ℕ) (c : List ℕ) → Tracks d s → IsClauseRef (stored_clauses s) p →
     length c ≡ length (literals_at (stored_clauses s) p) → HoldsClauses n (length s.words) (with_literals (stored_clauses s) p c) → Tracks d n
 tracks-literals d s n p c t at el o =
     let k : StoredClause = stored_at (stored_clauses s) p in
@@ -349,7 +349,7 @@ tracks-literals d s n p c t at el o =
     (record { sound = o.sound; words = o.words; clauses = o.clauses ∙ sym (literals-clause (stored_clauses s) p c) })
     (adjusts-kept d s p j t at (place-is (stored_clauses s) p at) refl refl (λ e. el))
 
-pub tracks-header : (d : Database) (s n : Store) (p : ℕ) (h : Header) → Tracks d s → IsPlace (stored_clauses s) p →
+pub tracks-header : (d : Database) (s n : Store) (p : ℕ) (h : Header) → Tracks d s → IsClauseRef (stored_clauses s) p →
     h.tier ≡ (header_at (stored_clauses s) p).tier → h.deleted ≡ (header_at (stored_clauses s) p).deleted →
     HoldsClauses n (length s.words) (with_header (stored_clauses s) p h) → Tracks d n
 tracks-header d s n p h t at et ed o =
@@ -357,7 +357,7 @@ tracks-header d s n p h t at et ed o =
     tracks-changed d d s n (length s.words) p (record k { header = h }) t at (place-is (stored_clauses s) p at) o
     (adjusts-kept d s p (record k { header = h }) t at (place-is (stored_clauses s) p at) et ed (λ e. refl))
 
-pub tracks-shortened : (d : Database) (s n : Store) (p c : ℕ) → Tracks d s → IsPlace (stored_clauses s) p →
+pub tracks-shortened : (d : Database) (s n : Store) (p c : ℕ) → Tracks d s → IsClauseRef (stored_clauses s) p →
     (header_at (stored_clauses s) p).deleted ≡ false → HoldsClauses n (length s.words) (shortened (stored_clauses s) p c) → Tracks d n
 tracks-shortened d s n p c t at live o =
     let k : StoredClause = stored_at (stored_clauses s) p in

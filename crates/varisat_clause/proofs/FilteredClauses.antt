@@ -2,7 +2,7 @@
 use Rattle.std.proofs.Common.{◌≡◌, ℕ, suc, ◌+◌, ◌<◌, ◌≤◌, List, [], ◌∷◌, ◌++◌, length, get_or, Bool, true, false, refl, sym, ap, ◌∙◌, subst, inl, inr, ⊎_elim, arith}
 use Rattle.varisat_theory.specs.Membership.{◌∈◌}
 use Rattle.varisat_theory.proofs.Members.{equal_or_not, ∈-append_right}
-use Rattle.varisat_clause.specs.Stored.{StoredClause, IsPlace, AreRising, no_clause, stored_at, header_at, with_stored, with_header}
+use Rattle.varisat_clause.specs.Stored.{StoredClause, IsClauseRef, AreRising, no_clause, stored_at, header_at, with_stored, with_header}
 use Rattle.varisat_clause.specs.Stores.{Store, stored_clauses, IsSound, HoldsClauses}
 use Rattle.varisat_clause.specs.Databases.{Database, is_live, Tracks}
 use Rattle.varisat_clause.specs.Filters.{Alters, left_if, FiltersAt, FiltersOne, Filters, StopsWithin}
@@ -22,13 +22,13 @@ with-length (k ∷ ks) p j =
     (equal_or_not k.place p)
 
 -- what stands at the place of a clause that was altered
-module _ (d : Database) (s n : Store) (p : ℕ) (t : Tracks d s) (at : IsPlace (stored_clauses s) p)
+module _ (d : Database) (s n : Store) (p : ℕ) (t : Tracks d s) (at : IsClauseRef (stored_clauses s) p)
     (live : (header_at (stored_clauses s) p).deleted ≡ false) (a : Alters s n p) where
   pub altered-stored : stored_at (stored_clauses n) p ≡ a.clause
   altered-stored = ap (λ xs. stored_at xs p) a.is.clauses ∙ clause-same (stored_clauses s) p a.clause at a.place
 
-  pub altered-place : IsPlace (stored_clauses n) p
-  altered-place = subst (λ xs. IsPlace xs p) (sym a.is.clauses) (clause-place (stored_clauses s) p p a.clause a.place at)
+  pub altered-place : IsClauseRef (stored_clauses n) p
+  altered-place = subst (λ xs. IsClauseRef xs p) (sym a.is.clauses) (clause-place (stored_clauses s) p p a.clause a.place at)
 
   pub altered-live : (header_at (stored_clauses n) p).deleted ≡ false
   altered-live = ap (λ (x : StoredClause). x.header.deleted) altered-stored ∙ a.live
@@ -39,7 +39,7 @@ module _ (d : Database) (s n : Store) (p : ℕ) (t : Tracks d s) (at : IsPlace (
       (adjusts-kept d s p a.clause t at (place-is (stored_clauses s) p at) a.tier (a.live ∙ sym live) (λ e. absurd (let f = a.live in cc)))
 
 -- a clause that a filter leaves as it is
-pub alters-same : (s : Store) (p : ℕ) → IsSound s → IsPlace (stored_clauses s) p → (header_at (stored_clauses s) p).deleted ≡ false → Alters s s p
+pub alters-same : (s : Store) (p : ℕ) → IsSound s → IsClauseRef (stored_clauses s) p → (header_at (stored_clauses s) p).deleted ≡ false → Alters s s p
 alters-same s p ok at live = record {
   clause = stored_at (stored_clauses s) p;
   place = place-is (stored_clauses s) p at;
@@ -53,7 +53,7 @@ live-same k e = sym (ap (λ (b : Bool). record k { header = record k.header { de
 
 -- the clause stays, or it is deleted
 module _ {F : Type 0} (Leaves : F → StoredClause → StoredClause → F → Type 0) (f g : F) (d : Database) (s n : Store) (p : ℕ) (t : Tracks d s)
-    (at : IsPlace (stored_clauses s) p) (live : (header_at (stored_clauses s) p).deleted ≡ false) (a : Alters s n p) where
+    (at : IsClauseRef (stored_clauses s) p) (live : (header_at (stored_clauses s) p).deleted ≡ false) (a : Alters s n p) where
   pub changes-kept : Leaves f (stored_at (stored_clauses s) p) (left_if true (stored_at (stored_clauses n) p)) g → FiltersAt Leaves f g s n p
   changes-kept r = record {
     clause = a.clause;
@@ -223,7 +223,7 @@ module _ {F : Type 0} (Leaves : F → StoredClause → StoredClause → F → Ty
         (record { sound = m.tracks.sound; words = refl; clauses = sym (clause-self (stored_clauses t) p) }) (λ k a. a) m.tracks
 
     -- the filter came to it
-    pub filtering-on : (o : F) (u : Store) (b : Database) → IsPlace (stored_clauses t) p → (header_at (stored_clauses t) p).deleted ≡ false →
+    pub filtering-on : (o : F) (u : Store) (b : Database) → IsClauseRef (stored_clauses t) p → (header_at (stored_clauses t) p).deleted ≡ false →
         FiltersAt Leaves g o t u p → ((k : StoredClause) → Accepts g k → Accepts o k) → Tracks b u → IsFiltering Leaves Accepts f o s u b (i + 1)
     filtering-on o u b at live w more t2 =
         filtering-more w.clause o u b (ComesTo live (w.place ∙ sym (place-is (stored_clauses t) p at)) w.tier w.left) w.is more t2

@@ -4,7 +4,7 @@ use Rattle.varisat_theory.specs.Membership.{◌∈◌}
 use Rattle.varisat_theory.specs.Literals.{Clause}
 use Rattle.varisat_theory.proofs.Members.{equal_or_not}
 use Rattle.varisat_clause.specs.Tiers.{is_tier}
-use Rattle.varisat_clause.specs.Stored.{StoredClause, IsPlace, literals_at, with_literals}
+use Rattle.varisat_clause.specs.Stored.{StoredClause, IsClauseRef, literals_at, with_literals}
 use Rattle.varisat_clause.specs.Stores.{Store, stored_clauses, IsSound, HoldsClauses}
 use Rattle.varisat_clause.specs.Databases.{tier_list, Database, is_live, total, Tracks}
 use Rattle.varisat_clause.specs.Shapes.{ClauseShape, shape_of, shapes_of, KeepsShapes}
@@ -47,7 +47,7 @@ pub shape-found : (ks js : List StoredClause) (k : StoredClause) → shapes_of k
     × (shape_of k ≡ shape_of j)
 shape-found ks js k e h = ∈-shapes js (shape_of k) (subst (λ xs. shape_of k ∈ xs) e (shape-∈ ks k h))
 
-pub shape-place : (ks js : List StoredClause) (p : ℕ) → shapes_of ks ≡ shapes_of js → IsPlace ks p → IsPlace js p
+pub shape-place : (ks js : List StoredClause) (p : ℕ) → shapes_of ks ≡ shapes_of js → IsClauseRef ks p → IsClauseRef js p
 shape-place ks js p e (k, h, q) = let (j, i, f) = shape-found ks js k e h in (j, i, sym (ap (λ (x : ClauseShape). x.place) f) ∙ q)
 
 -- a sum over clauses that asks for their shapes alone

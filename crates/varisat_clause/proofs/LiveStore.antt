@@ -3,7 +3,7 @@ use Rattle.std.proofs.Common.{◌≡◌, ◌≢◌, ℕ, ◌≤◌, List, [], �
 use Rattle.varisat_theory.specs.Membership.{◌∈◌}
 use Rattle.varisat_theory.specs.Literals.{Clause}
 use Rattle.varisat_theory.proofs.Members.{equal_or_not}
-use Rattle.varisat_clause.specs.Stored.{StoredClause, IsPlace, stored_at, literals_at, with_literals, AreRising, AppendsClause}
+use Rattle.varisat_clause.specs.Stored.{StoredClause, IsClauseRef, stored_at, literals_at, with_literals, AreRising, AppendsClause}
 use Rattle.varisat_clause.specs.Stores.{Store, stored_clauses, IsSound, HoldsClauses, AddsStored}
 use Rattle.varisat_clause.specs.Collected.{live_of, live_clauses}
 use Rattle.varisat_clause.proofs.StoredClauses.{stored-here, stored-later, stored-∈, with-here, with-later, place-later, place-last}
@@ -37,7 +37,7 @@ pub ∈-live : (ks : List StoredClause) (k : StoredClause) → k ∈ ks → k.he
     (λ d. subst (λ xs. k ∈ xs) (sym (live-here j ks d)) (⊎_elim inl (λ i. inr (∈-live ks k i e)) h))
     (true-or-false j.header.deleted)
 
-pub live-place : (ks : List StoredClause) (p : ℕ) → IsPlace (live_of ks) p → IsPlace ks p
+pub live-place : (ks : List StoredClause) (p : ℕ) → IsClauseRef (live_of ks) p → IsClauseRef ks p
 live-place ks p (k, h, e) = (k, (live-∈ ks k h).0, e)
 
 live-rising : (ks : List StoredClause) → AreRising ks → AreRising (live_of ks)
@@ -49,41 +49,41 @@ live-rising (j ∷ ks) r =
     (true-or-false j.header.deleted)
 
 -- where the places rise, none of the later clauses stands at the first one's
-passed : (j : StoredClause) (ks : List StoredClause) (p : ℕ) → AreRising (j ∷ ks) → IsPlace (live_of ks) p → j.place ≢ p
+passed : (j : StoredClause) (ks : List StoredClause) (p : ℕ) → AreRising (j ∷ ks) → IsClauseRef (live_of ks) p → j.place ≢ p
 passed j ks p r (k, h, e) f = let l = r.0 k (live-∈ ks k h).0 in absurd (omega (arith, l, e, f))
 
-live-at : (ks : List StoredClause) (p : ℕ) → AreRising ks → IsPlace (live_of ks) p → stored_at (live_of ks) p ≡ stored_at ks p
+live-at : (ks : List StoredClause) (p : ℕ) → AreRising ks → IsClauseRef (live_of ks) p → stored_at (live_of ks) p ≡ stored_at ks p
 live-at [] p r (k, h, e) = absurd h
 live-at (j ∷ ks) p r h =
     ⊎_elim
-    (λ d. let i = subst (λ xs. IsPlace xs p) (live-later j ks d) h in
+    (λ d. let i = subst (λ xs. IsClauseRef xs p) (live-later j ks d) h in
     ap (λ xs. stored_at xs p) (live-later j ks d) ∙ live-at ks p r.1 i ∙ sym (stored-later j ks p (passed j ks p r i)))
     (λ d. ap (λ xs. stored_at xs p) (live-here j ks d) ∙ ⊎_elim
     (λ e. stored-here j (live_of ks) p e ∙ sym (stored-here j ks p e))
-    (λ n. stored-later j (live_of ks) p n ∙ live-at ks p r.1 (place-later j (live_of ks) p (subst (λ xs. IsPlace xs p) (live-here j ks d) h) n)
+    (λ n. stored-later j (live_of ks) p n ∙ live-at ks p r.1 (place-later j (live_of ks) p (subst (λ xs. IsClauseRef xs p) (live-here j ks d) h) n)
     ∙ sym (stored-later j ks p n))
     (equal_or_not j.place p))
     (true-or-false j.header.deleted)
 
-live-with : (ks : List StoredClause) (p : ℕ) (c : Clause) → AreRising ks → IsPlace (live_of ks) p →
+live-with : (ks : List StoredClause) (p : ℕ) (c : Clause) → AreRising ks → IsClauseRef (live_of ks) p →
     live_of (with_literals ks p c) ≡ with_literals (live_of ks) p c
 live-with [] p c r (k, h, e) = absurd h
 live-with (j ∷ ks) p c r h =
     ⊎_elim
-    (λ d. let i = subst (λ xs. IsPlace xs p) (live-later j ks d) h in
+    (λ d. let i = subst (λ xs. IsClauseRef xs p) (live-later j ks d) h in
     ap live_of (with-later j ks p c (passed j ks p r i)) ∙ live-later j (with_literals ks p c) d ∙ live-with ks p c r.1 i
     ∙ sym (ap (λ xs. with_literals xs p c) (live-later j ks d)))
     (λ d. ⊎_elim
     (λ e. ap live_of (with-here j ks p c e) ∙ live-here (record j { literals = c }) ks d ∙ sym (with-here j (live_of ks) p c e)
     ∙ sym (ap (λ xs. with_literals xs p c) (live-here j ks d)))
     (λ n. ap live_of (with-later j ks p c n) ∙ live-here j (with_literals ks p c) d
-    ∙ ap (λ xs. j ∷ xs) (live-with ks p c r.1 (place-later j (live_of ks) p (subst (λ xs. IsPlace xs p) (live-here j ks d) h) n))
+    ∙ ap (λ xs. j ∷ xs) (live-with ks p c r.1 (place-later j (live_of ks) p (subst (λ xs. IsClauseRef xs p) (live-here j ks d) h) n))
     ∙ sym (with-later j (live_of ks) p c n) ∙ sym (ap (λ xs. with_literals xs p c) (live-here j ks d)))
     (equal_or_not j.place p))
     (true-or-false j.header.deleted)
 
 -- what is read at the place of a clause that is not deleted
-module _ (s : Store) (p : ℕ) (ok : IsSound s) (h : IsPlace (live_clauses s) p) where
+module _ (s : Store) (p : ℕ) (ok : IsSound s) (h : IsClauseRef (live_clauses s) p) where
   pub live-stored : stored_at (stored_clauses s) p ≡ stored_at (live_clauses s) p
   live-stored = sym (live-at (stored_clauses s) p (are-rising s ok) h)
 
@@ -101,7 +101,7 @@ are-live-rising s ok = live-rising (stored_clauses s) (are-rising s ok)
 pub are-live-long : (s : Store) → IsSound s → (k : StoredClause) → k ∈ live_clauses s → 3 ≤ length k.literals
 are-live-long s ok k h = (are-long s ok k (live-∈ (stored_clauses s) k h).0).0
 
-pub live-long-at : (s : Store) (p : ℕ) → IsSound s → IsPlace (live_clauses s) p → 3 ≤ length (literals_at (live_clauses s) p)
+pub live-long-at : (s : Store) (p : ℕ) → IsSound s → IsClauseRef (live_clauses s) p → 3 ≤ length (literals_at (live_clauses s) p)
 live-long-at s p ok h = are-live-long s ok (stored_at (live_clauses s) p) (stored-∈ (live_clauses s) p h)
 
 -- a clause that is not deleted was added
@@ -109,5 +109,5 @@ pub live-added : (s n : Store) (k : StoredClause) → AddsStored s n k → k.hea
 live-added s n k a d = (ap live_of a.clauses.0 ∙ live-more (stored_clauses s) k d, λ j h. a.clauses.1 j (live-∈ (stored_clauses s) j h).0)
 
 -- it stands at its place
-pub added-place : (s n : Store) (k : StoredClause) → AddsStored s n k → k.header.deleted ≡ false → IsPlace (live_clauses n) k.place
-added-place s n k a d = subst (λ ks. IsPlace ks k.place) (sym (live-added s n k a d).0) (place-last (live_clauses s) k)
+pub added-place : (s n : Store) (k : StoredClause) → AddsStored s n k → k.header.deleted ≡ false → IsClauseRef (live_clauses n) k.place
+added-place s n k a d = subst (λ ks. IsClauseRef ks k.place) (sym (live-added s n k a d).0) (place-last (live_clauses s) k)

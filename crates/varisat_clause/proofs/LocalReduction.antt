@@ -6,7 +6,7 @@ use Rattle.varisat_theory.specs.Membership.{◌∈◌, IsDistinct}
 use Rattle.varisat_theory.proofs.Members.{equal_or_not}
 use Rattle.varisat_clause.specs.declared.header.Tier.{Tier}
 use Rattle.varisat_clause.specs.Tiers.{is_tier}
-use Rattle.varisat_clause.specs.Stored.{StoredClause, IsPlace, stored_at, header_at}
+use Rattle.varisat_clause.specs.Stored.{StoredClause, IsClauseRef, stored_at, header_at}
 use Rattle.varisat_clause.specs.Stores.{Store, stored_clauses, IsSound, HoldsClauses}
 use Rattle.varisat_clause.specs.Databases.{is_live_in}
 use Rattle.varisat_clause.specs.Filters.{deleted_at}
@@ -22,7 +22,7 @@ unmarked-none ks (p ∷ ps) = refl
 pub record IsReducing (goal : List StoredClause) (s t : Store) (left : ℕ) (rest : List ℕ) : Type 0 where
   pub size : length t.words ≡ length s.words
   pub marks : (q : ℕ) → (header_at (stored_clauses t) q).mark ≡ (header_at (stored_clauses s) q).mark
-  pub known : (q : ℕ) → q ∈ rest → IsPlace (stored_clauses t) q
+  pub known : (q : ℕ) → q ∈ rest → IsClauseRef (stored_clauses t) q
   pub live : (q : ℕ) → q ∈ rest → (header_at (stored_clauses t) q).deleted ≡ false
   pub distinct : IsDistinct rest
   pub result : all_deleted (unmarked_places (stored_clauses s) left rest) (stored_clauses t) ≡ goal
@@ -91,7 +91,7 @@ reducing-deleted goal s t u (suc n) p ps r l m o =
           ∙ sym (ap (λ (x : ℕ). (header_at (stored_clauses t) x).mark) e) ∙ r.marks q)
           (λ e. ap (λ (x : StoredClause). x.header.mark) (other q e) ∙ r.marks q)
           (equal_or_not q p);
-      known = λ q i. subst (λ xs. IsPlace xs q) (sym o.clauses) (clause-place (stored_clauses t) p q j here (r.known q (inr i)));
+      known = λ q i. subst (λ xs. IsClauseRef xs q) (sym o.clauses) (clause-place (stored_clauses t) p q j here (r.known q (inr i)));
       live = λ q i. ap (λ (x : StoredClause). x.header.deleted) (other q (not-here q i)) ∙ r.live q (inr i);
       distinct = r.distinct.1;
       result =

@@ -1,7 +1,7 @@
 -- Clauses that are changed one after another, each by its place.
 use Rattle.std.proofs.Common.{◌≡◌, ℕ, zero, suc, ◌+◌, ◌<◌, ◌≤◌, List, [], ◌∷◌, length, map, get_or, refl, sym, ap, ◌∙◌, inl, inr, arith, add-one}
 use Rattle.varisat_theory.specs.Membership.{◌∈◌}
-use Rattle.varisat_clause.specs.Stored.{StoredClause, IsPlace, AreRising, no_clause, stored_at, with_stored}
+use Rattle.varisat_clause.specs.Stored.{StoredClause, IsClauseRef, AreRising, no_clause, stored_at, with_stored}
 use Rattle.varisat_clause.specs.Stores.{Store, stored_clauses, IsSound, HoldsClauses}
 use Rattle.varisat_clause.specs.Reductions.{mapped_up_to}
 use Rattle.varisat_clause.proofs.StoredClauses.{stored-here, stored-later, clause-here, clause-later}
@@ -116,7 +116,7 @@ mapped-done f s t i h m =
 
 -- a place stays one
 pub mapped-known : (f : StoredClause → StoredClause) (ks : List StoredClause) (p : ℕ) → ((k : StoredClause) → (f k).place ≡ k.place) →
-    IsPlace ks p → IsPlace (map f ks) p
+    IsClauseRef ks p → IsClauseRef (map f ks) p
 mapped-known f [] p places h = h
 mapped-known f (k ∷ ks) p places (j, inl e, q) = (f k, inl refl, places k ∙ sym (ap (λ (x : StoredClause). x.place) e) ∙ q)
 mapped-known f (k ∷ ks) p places (j, inr i, q) = let (x, m, r) = mapped-known f ks p places (j, i, q) in (x, inr m, r)

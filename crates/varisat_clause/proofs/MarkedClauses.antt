@@ -7,7 +7,7 @@ use Rattle.varisat_theory.proofs.Members.{equal_or_not, ∈-or_not, ∈-append_l
 use Rattle.varisat_theory.proofs.Places.{∈-get_or, ∈-take_more}
 use Rattle.varisat_clause.specs.declared.header.Tier.{Tier}
 use Rattle.varisat_clause.specs.Tiers.{is_tier}
-use Rattle.varisat_clause.specs.Stored.{StoredClause, IsPlace, AreRising, stored_at, with_stored}
+use Rattle.varisat_clause.specs.Stored.{StoredClause, IsClauseRef, AreRising, stored_at, with_stored}
 use Rattle.varisat_clause.specs.Stores.{Store, stored_clauses, IsSound, HoldsClauses}
 use Rattle.varisat_clause.specs.Databases.{Database, count_of, tier_list, with_tier_list, is_live, is_live_in, total, size_of, live_count, garbage_of, Tracks}
 use Rattle.varisat_clause.specs.Reductions.{is_unmarked_in, AreUnmarkedIn, marked_as, with_mark, CanMarkTier, MarksTier}
@@ -21,7 +21,7 @@ map-same : (f h : StoredClause → StoredClause) (ks : List StoredClause) → ((
 map-same f h [] e = refl
 map-same f h (k ∷ ks) e = ap (λ x. x ∷ map f ks) (e k (inl refl)) ∙ ap (λ xs. h k ∷ xs) (map-same f h ks (λ j i. e j (inr i)))
 
-stored-map : (f : StoredClause → StoredClause) → ((k : StoredClause) → (f k).place ≡ k.place) → (ks : List StoredClause) (p : ℕ) → IsPlace ks p →
+stored-map : (f : StoredClause → StoredClause) → ((k : StoredClause) → (f k).place ≡ k.place) → (ks : List StoredClause) (p : ℕ) → IsClauseRef ks p →
     stored_at (map f ks) p ≡ f (stored_at ks p)
 stored-map f s [] p (k, h, e) = absurd h
 stored-map f s (k ∷ ks) p h =
@@ -31,7 +31,7 @@ stored-map f s (k ∷ ks) p h =
     (equal_or_not k.place p)
 
 map-at : (f h : StoredClause → StoredClause) → ((k : StoredClause) → (f k).place ≡ k.place) → (p : ℕ) →
-    ((k : StoredClause) → k.place ≢ p → f k ≡ h k) → (ks : List StoredClause) → AreRising ks → IsPlace ks p →
+    ((k : StoredClause) → k.place ≢ p → f k ≡ h k) → (ks : List StoredClause) → AreRising ks → IsClauseRef ks p →
     with_stored (map f ks) p (h (stored_at ks p)) ≡ map h ks
 map-at f h s p o [] r (k, i, e) = absurd i
 map-at f h s p o (k ∷ ks) r at =
@@ -50,7 +50,7 @@ pub record IsMarking (t : Tier) (s u : Store) (seen kept : List ℕ) : Type 0 wh
   pub leaves : (k : StoredClause) → (k.place ∈ kept → ⊥) → change k ≡ k
   pub is : HoldsClauses u (length s.words) (map change (stored_clauses s))
   pub live : (p : ℕ) → p ∈ kept → is_live_in t (stored_at (stored_clauses s) p) ≡ true
-  pub known : (p : ℕ) → p ∈ kept → IsPlace (stored_clauses s) p
+  pub known : (p : ℕ) → p ∈ kept → IsClauseRef (stored_clauses s) p
   pub complete : (p : ℕ) → p ∈ seen → is_live_in t (stored_at (stored_clauses s) p) ≡ true → p ∈ kept
   pub distinct : IsDistinct kept
 
@@ -95,7 +95,7 @@ distinct-more (y ∷ xs) x d n = (
 )
 
 module _ (t : Tier) (s u : Store) (seen kept next : List ℕ) (p : ℕ) (m : IsMarking t s u seen kept) (ok : IsSound s)
-    (free : AreUnmarkedIn t (stored_clauses s)) (at : IsPlace (stored_clauses s) p) (more : (q : ℕ) → q ∈ next → (q ∈ seen) ⊎ (q ≡ p)) where
+    (free : AreUnmarkedIn t (stored_clauses s)) (at : IsClauseRef (stored_clauses s) p) (more : (q : ℕ) → q ∈ next → (q ∈ seen) ⊎ (q ≡ p)) where
   -- the clause as it is now
   now-is : stored_at (stored_clauses u) p ≡ m.change (stored_at (stored_clauses s) p)
   now-is = ap (λ xs. stored_at xs p) m.is.clauses ∙ stored-map m.change m.places (stored_clauses s) p at
@@ -166,7 +166,7 @@ module _ (t : Tier) (s u : Store) (seen kept next : List ℕ) (p : ℕ) (m : IsM
         live = λ q h. ⊎_elim (m.live q)
             (λ i. ⊎_elim (λ g. ap (λ (x : ℕ). is_live_in t (stored_at (stored_clauses s) x)) g ∙ sym (ap (is_live_in t) same) ∙ b.0)
             (λ z. absurd z) i) (∈-append_cases q kept (p ∷ []) h);
-        known = λ q h. ⊎_elim (m.known q) (λ i. ⊎_elim (λ g. subst (IsPlace (stored_clauses s)) (sym g) at) (λ z. absurd z) i)
+        known = λ q h. ⊎_elim (m.known q) (λ i. ⊎_elim (λ g. subst (IsClauseRef (stored_clauses s)) (sym g) at) (λ z. absurd z) i)
             (∈-append_cases q kept (p ∷ []) h);
         complete = λ q h l. ⊎_elim (λ i. ∈-append_left q kept (p ∷ []) (m.complete q i l)) (λ g. ∈-append_right q kept (p ∷ []) (inl g)) (more q h);
         distinct = distinct-more kept p m.distinct n;
@@ -207,14 +207,14 @@ module _ (t : Tier) (s u : Store) (old new : List ℕ) (i count p : ℕ) (c : Ca
   next-is : p ≡ get_or old i 0
   next-is = e ∙ m.rest i (omega arith)
 
-  next-place : IsPlace (stored_clauses s) p
+  next-place : IsClauseRef (stored_clauses s) p
   next-place = c.known p (subst (λ (x : ℕ). x ∈ old) (sym next-is) (∈-get_or old i 0 h))
 
   next-seen : (q : ℕ) → q ∈ take (i + 1) old → (q ∈ take i old) ⊎ (q ≡ p)
   next-seen q k = ⊎_elim inl (λ f. inr (f ∙ sym next-is)) (∈-take_more q old i 0 k)
 
-  pub marking-place : IsPlace (stored_clauses u) p
-  marking-place = subst (λ xs. IsPlace xs p) (sym m.state.is.clauses) (mapped-known m.state.change (stored_clauses s) p m.state.places next-place)
+  pub marking-place : IsClauseRef (stored_clauses u) p
+  marking-place = subst (λ xs. IsClauseRef xs p) (sym m.state.is.clauses) (mapped-known m.state.change (stored_clauses s) p m.state.places next-place)
 
   pub marking-list-same : (v : Store) → v ≡ u → is_unmarked_in t (stored_at (stored_clauses u) p) ≡ false → IsMarkingList t s v old new (i + 1) count
   marking-list-same v q f = record {
@@ -309,11 +309,11 @@ tracks-marked t d e s n ps k m ec eg el =
           (subst (λ (y : Tier). j.place ∈ tier_list y d.lists) tier (subst (λ (y : ℕ). y ∈ tier_list x.header.tier d.lists) p (k.listed x i alive))))
           (true-or-false (is_tier j.header.tier t));
       known = λ u p h.
-          let old : IsPlace (stored_clauses s) p = ⊎_elim
+          let old : IsClauseRef (stored_clauses s) p = ⊎_elim
           (λ g. m.listed.known p (subst (λ (xs : List ℕ). p ∈ xs) (el u ∙ ap (λ b. cond b ps (tier_list u d.lists)) g) h))
           (λ g. k.known u p (subst (λ (xs : List ℕ). p ∈ xs) (el u ∙ ap (λ b. cond b ps (tier_list u d.lists)) g) h))
           (true-or-false (is_tier u t)) in
-          subst (λ xs. IsPlace xs p) (sym m.marked.clauses) (mapped-known f (stored_clauses s) p (λ x. (same x).0) old);
+          subst (λ xs. IsClauseRef xs p) (sym m.marked.clauses) (mapped-known f (stored_clauses s) p (λ x. (same x).0) old);
     }
 
 pub tracks-unmarked : (d : Database) (s n : Store) → Tracks d s → HoldsClauses n (length s.words) (map (marked_as false) (stored_clauses s)) → Tracks d n
@@ -326,7 +326,7 @@ tracks-unmarked d s n k o = record {
   listed = λ j h live.
       let (x, i, q) = from-map (marked_as false) (stored_clauses s) j (subst (λ xs. j ∈ xs) o.clauses h) in
       subst (λ (y : StoredClause). y.place ∈ tier_list y.header.tier d.lists) (sym q) (k.listed x i (sym (ap is_live q) ∙ live));
-  known = λ u p h. subst (λ xs. IsPlace xs p) (sym o.clauses) (mapped-known (marked_as false) (stored_clauses s) p (λ x. refl) (k.known u p h));
+  known = λ u p h. subst (λ xs. IsClauseRef xs p) (sym o.clauses) (mapped-known (marked_as false) (stored_clauses s) p (λ x. refl) (k.known u p h));
 }
 
 -- the list that a database has for a tier may be brought up to date

@@ -3,12 +3,12 @@ use Rattle.std.proofs.Common.{◌≡◌, ◌≢◌, ℕ, zero, suc, ◌+◌, ◌
 use Rattle.std.proofs.lemmas.List.{get_or-set_same, get_or-set_other}
 use Rattle.std.proofs.Math.ListN.{length-take}
 use Rattle.varisat_clause.specs.Headers.{Header, header_of_words, flags_of}
-use Rattle.varisat_clause.specs.Stored.{StoredClause, IsPlace, stored_at, header_at, literals_at, with_stored, with_header, shortened}
+use Rattle.varisat_clause.specs.Stored.{StoredClause, IsClauseRef, stored_at, header_at, literals_at, with_stored, with_header, shortened}
 use Rattle.varisat_clause.specs.Stores.{Store, len_at, header_in, clause_in, stored_clauses, IsSound, HoldsClauses, header_written}
 use Rattle.varisat_clause.proofs.StoreWords.{found, Rewrites, rewritten, Same, window-same}
 
 -- the words of a clause are read from a copy of the store's
-module _ (s : Store) (p o : ℕ) (w : List ℕ) (ok : IsSound s) (h : IsPlace (stored_clauses s) p) (ew : w ≡ s.words) (eo : o ≡ p) where
+module _ (s : Store) (p o : ℕ) (w : List ℕ) (ok : IsSound s) (h : IsClauseRef (stored_clauses s) p) (ew : w ≡ s.words) (eo : o ≡ p) where
   pub word-in : o + 2 < length w
   word-in = let f = found s p ok h in let l = ap length ew in omega (arith, f.ends, l, eo)
 
@@ -60,7 +60,7 @@ module _ (ws : List ℕ) (p : ℕ) (h : Header) (room : p + 2 < length ws) where
   written-length = simp length-set
 
 -- a header of the same length is written
-pub header-put : (s n : Store) (p o : ℕ) (w : List ℕ) (h : Header) → IsSound s → IsPlace (stored_clauses s) p → w ≡ s.words → o ≡ p →
+pub header-put : (s n : Store) (p o : ℕ) (w : List ℕ) (h : Header) → IsSound s → IsClauseRef (stored_clauses s) p → w ≡ s.words → o ≡ p →
     h.len ≡ (header_at (stored_clauses s) p).len → flags_of h < 2 ^ 11 → header_of_words h.activity (flags_of h) h.len ≡ h →
     n.words ≡ header_written w o h → n.places ≡ s.places → HoldsClauses n (length s.words) (with_header (stored_clauses s) p h)
 header-put s n p o w h ok at ew eo el small back en ep =
@@ -112,7 +112,7 @@ take-take (x ∷ xs) (suc m) zero h = absurd (omega (arith, h))
 take-take (x ∷ xs) (suc m) (suc n) h = ap (λ ys. x ∷ ys) (take-take xs m n (omega (arith, h)))
 
 -- a length is written
-pub length-put : (s n : Store) (p o c : ℕ) (w : List ℕ) → IsSound s → IsPlace (stored_clauses s) p → w ≡ s.words → o ≡ p → 3 ≤ c →
+pub length-put : (s n : Store) (p o c : ℕ) (w : List ℕ) → IsSound s → IsClauseRef (stored_clauses s) p → w ≡ s.words → o ≡ p → 3 ≤ c →
     c ≤ (header_at (stored_clauses s) p).len → n.words ≡ set w (o + 2) c → n.places ≡ s.places →
     HoldsClauses n (length s.words) (shortened (stored_clauses s) p c)
 length-put s n p o c w ok at ew eo least most en ep =

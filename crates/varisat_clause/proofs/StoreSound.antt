@@ -3,7 +3,7 @@ use Rattle.std.proofs.Common.{◌≡◌, ℕ, zero, suc, ◌+◌, ◌<◌, ◌�
 use Rattle.std.specs.Prelude.{◌&&◌}
 use Rattle.std.proofs.Math.ListN.{length-take}
 use Rattle.varisat_theory.specs.Membership.{◌∈◌}
-use Rattle.varisat_clause.specs.Stored.{StoredClause, IsPlace, AreRising, AreLong, no_clause}
+use Rattle.varisat_clause.specs.Stored.{StoredClause, IsClauseRef, AreRising, AreLong, no_clause}
 use Rattle.varisat_clause.specs.Stores.{Store, len_at, clause_in, stored_clauses, Lies, FitsWords, IsSound, lies, fit, is_sound}
 use Rattle.varisat_clause.proofs.StoreWords.{lies-at, from-place, to-place}
 
@@ -104,10 +104,10 @@ pub are-long : (s : Store) → IsSound s → AreLong (stored_clauses s)
 are-long s ok = long-from s.words 0 (length s.words) s.places (omega arith) ok.fits
 
 -- a place is one of the list
-pub place-listed : (s : Store) (p : ℕ) → IsPlace (stored_clauses s) p → p ∈ s.places
+pub place-listed : (s : Store) (p : ℕ) → IsClauseRef (stored_clauses s) p → p ∈ s.places
 place-listed s p h = from-place s.words s.places p h
 
-pub listed-place : (s : Store) (p : ℕ) → p ∈ s.places → IsPlace (stored_clauses s) p
+pub listed-place : (s : Store) (p : ℕ) → p ∈ s.places → IsClauseRef (stored_clauses s) p
 listed-place s p h = to-place s.words s.places p h
 
 -- the place of a clause by its index

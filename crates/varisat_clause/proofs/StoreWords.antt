@@ -6,7 +6,7 @@ use Rattle.std.proofs.Math.Seq.{take-length, drop-append-add, drop-append_seam, 
 use Rattle.varisat_theory.specs.Membership.{◌∈◌}
 use Rattle.varisat_theory.proofs.Members.{equal_or_not}
 use Rattle.varisat_clause.specs.Headers.{Header, header_of_words, flags_of}
-use Rattle.varisat_clause.specs.Stored.{StoredClause, IsPlace, stored_at, with_stored, with_literals}
+use Rattle.varisat_clause.specs.Stored.{StoredClause, IsClauseRef, stored_at, with_stored, with_literals}
 use Rattle.varisat_clause.specs.Stores.{Store, len_at, clause_in, stored_clauses, Lies, FitsWords, IsSound, HoldsClauses, AddsStored, splice, put_words}
 use Rattle.varisat_clause.proofs.StoredClauses.{stored-here, stored-later, clause-here, clause-later, literals-clause}
 
@@ -82,12 +82,12 @@ lies-at buf low high (q ∷ ps) p f (inr h) =
     record { begins = omega (arith, l.begins, k.begins); long = l.long; ends = l.ends; flags = l.flags }
 
 -- the places that name clauses are those of the list
-pub from-place : (buf : List ℕ) (ps : List ℕ) (p : ℕ) → IsPlace (map (clause_in buf) ps) p → p ∈ ps
+pub from-place : (buf : List ℕ) (ps : List ℕ) (p : ℕ) → IsClauseRef (map (clause_in buf) ps) p → p ∈ ps
 from-place buf [] p (k, h, e) = absurd h
 from-place buf (q ∷ ps) p (k, inl h, e) = inl (sym e ∙ ap (λ (x : StoredClause). x.place) h)
 from-place buf (q ∷ ps) p (k, inr h, e) = inr (from-place buf ps p (k, h, e))
 
-pub to-place : (buf : List ℕ) (ps : List ℕ) (p : ℕ) → p ∈ ps → IsPlace (map (clause_in buf) ps) p
+pub to-place : (buf : List ℕ) (ps : List ℕ) (p : ℕ) → p ∈ ps → IsClauseRef (map (clause_in buf) ps) p
 to-place buf [] p h = absurd h
 to-place buf (q ∷ ps) p (inl e) = (clause_in buf q, inl refl, sym e)
 to-place buf (q ∷ ps) p (inr h) = let (k, i, e) = to-place buf ps p h in (k, inr i, e)
@@ -107,7 +107,7 @@ pub record Found (s : Store) (p : ℕ) : Type 0 where
   pub flags : get_or s.words (p + 1) 0 < 2 ^ 11
   pub is : stored_at (stored_clauses s) p ≡ clause_in s.words p
 
-pub found : (s : Store) (p : ℕ) → IsSound s → IsPlace (stored_clauses s) p → Found s p
+pub found : (s : Store) (p : ℕ) → IsSound s → IsClauseRef (stored_clauses s) p → Found s p
 found s p ok h =
     let i = from-place s.words s.places p h in
     let l = lies-at s.words 0 (length s.words) s.places p ok.fits i in
@@ -229,7 +229,7 @@ put-one buf new low high (q ∷ ps) p f hi h s =
         )
 
 -- the store after such a write
-pub rewritten : (s n : Store) (p : ℕ) → IsSound s → IsPlace (stored_clauses s) p → n.places ≡ s.places → Rewrites s.words n.words p →
+pub rewritten : (s n : Store) (p : ℕ) → IsSound s → IsClauseRef (stored_clauses s) p → n.places ≡ s.places → Rewrites s.words n.words p →
     HoldsClauses n (length s.words) (with_stored (stored_clauses s) p (clause_in n.words p))
 rewritten s n p ok h e r =
     let i = from-place s.words s.places p h in
@@ -241,7 +241,7 @@ rewritten s n p ok h e r =
     }
 
 -- a write to the literals of one clause
-pub literals-put : (s : Store) (p : ℕ) (ws : List ℕ) → IsSound s → IsPlace (stored_clauses s) p → length ws ≡ len_at s.words p →
+pub literals-put : (s : Store) (p : ℕ) (ws : List ℕ) → IsSound s → IsClauseRef (stored_clauses s) p → length ws ≡ len_at s.words p →
     HoldsClauses (put_words s (p + 3) ws) (length s.words) (with_literals (stored_clauses s) p ws)
 literals-put s p ws ok h e =
     let f = found s p ok h in

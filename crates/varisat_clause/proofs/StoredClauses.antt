@@ -4,7 +4,7 @@ use Rattle.std.specs.Prelude.{cond}
 use Rattle.varisat_theory.specs.Membership.{◌∈◌, SameSet}
 use Rattle.varisat_theory.specs.Literals.{Clause}
 use Rattle.varisat_theory.proofs.Members.{equal_or_not}
-use Rattle.varisat_clause.specs.Stored.{StoredClause, literals_of, IsPlace, stored_at, literals_at, with_literals, with_stored, AreRising, AreReordered}
+use Rattle.varisat_clause.specs.Stored.{StoredClause, literals_of, IsClauseRef, stored_at, literals_at, with_literals, with_stored, AreRising, AreReordered}
 
 pub same-self : {X : Type 0} (xs : List X) → SameSet xs xs
 same-self xs = ((λ x i. i), (λ x i. i))
@@ -31,12 +31,12 @@ pub with-later : (k : StoredClause) (ks : List StoredClause) (p : ℕ) (c : Clau
 with-later k ks p c n = ap (λ b. cond b (record k { literals = c } ∷ ks) (k ∷ with_literals ks p c)) (is-other k.place p n)
 
 -- a place of the list that is not the first one's is one of the others
-pub place-later : (k : StoredClause) (ks : List StoredClause) (p : ℕ) → IsPlace (k ∷ ks) p → k.place ≢ p → IsPlace ks p
+pub place-later : (k : StoredClause) (ks : List StoredClause) (p : ℕ) → IsClauseRef (k ∷ ks) p → k.place ≢ p → IsClauseRef ks p
 place-later k ks p (j, inl e, f) n = absurd (n (sym (ap (λ x. x.place) e) ∙ f))
 place-later k ks p (j, inr i, f) n = (j, i, f)
 
 -- a place names a clause of the list
-pub stored-∈ : (ks : List StoredClause) (p : ℕ) → IsPlace ks p → stored_at ks p ∈ ks
+pub stored-∈ : (ks : List StoredClause) (p : ℕ) → IsClauseRef ks p → stored_at ks p ∈ ks
 stored-∈ [] p (k, i, e) = absurd i
 stored-∈ (k ∷ ks) p h =
     ⊎_elim
@@ -55,7 +55,7 @@ from-literals (k ∷ ks) c (inl e) = (k, inl refl, sym e)
 from-literals (k ∷ ks) c (inr h) = let (j, i, e) = from-literals ks c h in (j, inr i, e)
 
 -- the clause at a place is kept
-pub kept-at : (ks : List StoredClause) (p : ℕ) → IsPlace ks p → literals_at ks p ∈ literals_of ks
+pub kept-at : (ks : List StoredClause) (p : ℕ) → IsClauseRef ks p → literals_at ks p ∈ literals_of ks
 kept-at ks p h = literals-∈ ks (stored_at ks p) (stored-∈ ks p h)
 
 -- where the places rise, each tells its clause
@@ -79,14 +79,14 @@ from-append [] j k h = ⊎_elim inr (λ z. absurd z) h
 from-append (x ∷ ks) j k (inl e) = inl (inl e)
 from-append (x ∷ ks) j k (inr h) = ⊎_elim (λ i. inl (inr i)) inr (from-append ks j k h)
 
-pub place-more : (ks : List StoredClause) (j : StoredClause) (p : ℕ) → IsPlace ks p → IsPlace (ks ++ j ∷ []) p
+pub place-more : (ks : List StoredClause) (j : StoredClause) (p : ℕ) → IsClauseRef ks p → IsClauseRef (ks ++ j ∷ []) p
 place-more ks j p (k, h, e) = (k, append-∈ ks j k h, e)
 
 -- a place of more clauses is an old one, or the last
-pub place-cases-more : (ks : List StoredClause) (j : StoredClause) (p : ℕ) → IsPlace (ks ++ j ∷ []) p → IsPlace ks p ⊎ (p ≡ j.place)
+pub place-cases-more : (ks : List StoredClause) (j : StoredClause) (p : ℕ) → IsClauseRef (ks ++ j ∷ []) p → IsClauseRef ks p ⊎ (p ≡ j.place)
 place-cases-more ks j p (k, h, e) = ⊎_elim (λ i. inl (k, i, e)) (λ f. inr (sym e ∙ ap (λ x. x.place) f)) (from-append ks j k h)
 
-pub place-last : (ks : List StoredClause) (j : StoredClause) → IsPlace (ks ++ j ∷ []) j.place
+pub place-last : (ks : List StoredClause) (j : StoredClause) → IsClauseRef (ks ++ j ∷ []) j.place
 place-last ks j = (j, last-∈ ks j, refl)
 
 pub rising-more : (ks : List StoredClause) (j : StoredClause) → AreRising ks → ((k : StoredClause) → k ∈ ks → k.place < j.place) → AreRising (ks ++ j ∷ [])
@@ -94,7 +94,7 @@ rising-more [] j r h = ((λ k z. absurd z), tt)
 rising-more (x ∷ ks) j r h =
     ((λ k i. ⊎_elim (r.0 k) (λ e. subst (λ y. x.place < y.place) (sym e) (h x (inl refl))) (from-append ks j k i)), rising-more ks j r.1 (λ k i. h k (inr i)))
 
-pub stored-more : (ks : List StoredClause) (j : StoredClause) (p : ℕ) → IsPlace ks p → stored_at (ks ++ j ∷ []) p ≡ stored_at ks p
+pub stored-more : (ks : List StoredClause) (j : StoredClause) (p : ℕ) → IsClauseRef ks p → stored_at (ks ++ j ∷ []) p ≡ stored_at ks p
 stored-more [] j p (k, h, e) = absurd h
 stored-more (x ∷ ks) j p h =
     ⊎_elim
@@ -154,14 +154,14 @@ reordered-back (p ∷ P) [] a k h = absurd a
 reordered-back (p ∷ P) (q ∷ Q) a k (inl e) = (p, inl refl, sym a.0 ∙ sym (ap (λ x. x.place) e))
 reordered-back (p ∷ P) (q ∷ Q) a k (inr h) = let (j, i, e) = reordered-back P Q a.3 k h in (j, inr i, e)
 
-pub reordered-place : (P Q : List StoredClause) (p : ℕ) → AreReordered P Q → IsPlace P p → IsPlace Q p
+pub reordered-place : (P Q : List StoredClause) (p : ℕ) → AreReordered P Q → IsClauseRef P p → IsClauseRef Q p
 reordered-place [] [] n a h = h
 reordered-place [] (q ∷ Q) n a h = absurd a
 reordered-place (p ∷ P) [] n a h = absurd a
 reordered-place (p ∷ P) (q ∷ Q) n a (k, inl e, f) = (q, inl refl, a.0 ∙ sym (ap (λ x. x.place) e) ∙ f)
 reordered-place (p ∷ P) (q ∷ Q) n a (k, inr h, f) = let (j, i, e) = reordered-place P Q n a.3 (k, h, f) in (j, inr i, e)
 
-pub reordered-place-back : (P Q : List StoredClause) (p : ℕ) → AreReordered P Q → IsPlace Q p → IsPlace P p
+pub reordered-place-back : (P Q : List StoredClause) (p : ℕ) → AreReordered P Q → IsClauseRef Q p → IsClauseRef P p
 reordered-place-back P Q p a (k, h, e) = let (j, i, f) = reordered-back P Q a k h in (j, i, f ∙ e)
 
 -- the clause at a place is the old one as a set
@@ -195,7 +195,7 @@ with-reordered (k ∷ ks) p c s =
     (refl, refl, same-self k.literals, with-reordered ks p c (subst (λ x. SameSet c x.literals) (stored-later k ks p n) s)))
     (equal_or_not k.place p)
 
-pub with-same : (ks : List StoredClause) (p : ℕ) (c : Clause) → IsPlace ks p → literals_at (with_literals ks p c) p ≡ c
+pub with-same : (ks : List StoredClause) (p : ℕ) (c : Clause) → IsClauseRef ks p → literals_at (with_literals ks p c) p ≡ c
 with-same [] p c (k, h, e) = absurd h
 with-same (k ∷ ks) p c h =
     ⊎_elim
@@ -253,7 +253,7 @@ literals-clause (k ∷ ks) p c =
     (equal_or_not k.place p)
 
 -- the other clause is found at the place, and no clause elsewhere changes
-pub clause-same : (ks : List StoredClause) (p : ℕ) (j : StoredClause) → IsPlace ks p → j.place ≡ p → stored_at (with_stored ks p j) p ≡ j
+pub clause-same : (ks : List StoredClause) (p : ℕ) (j : StoredClause) → IsClauseRef ks p → j.place ≡ p → stored_at (with_stored ks p j) p ≡ j
 clause-same [] p j (k, h, e) f = absurd h
 clause-same (k ∷ ks) p j h f =
     ⊎_elim
@@ -284,15 +284,15 @@ clause-cases (x ∷ ks) p j k h =
     (equal_or_not x.place p)
 
 -- the places stay
-pub clause-place : (ks : List StoredClause) (p q : ℕ) (j : StoredClause) → j.place ≡ p → IsPlace ks q → IsPlace (with_stored ks p j) q
+pub clause-place : (ks : List StoredClause) (p q : ℕ) (j : StoredClause) → j.place ≡ p → IsClauseRef ks q → IsClauseRef (with_stored ks p j) q
 clause-place [] p q j f h = h
 clause-place (k ∷ ks) p q j f h =
     ⊎_elim
-    (λ e. subst (λ xs. IsPlace xs q) (sym (clause-here k ks p j e)) (⊎_elim
+    (λ e. subst (λ xs. IsClauseRef xs q) (sym (clause-here k ks p j e)) (⊎_elim
     (λ g. (j, inl refl, f ∙ sym e ∙ g))
     (λ n. let (x, i, g) = place-later k ks q h n in (x, inr i, g))
     (equal_or_not k.place q)))
-    (λ m. subst (λ xs. IsPlace xs q) (sym (clause-later k ks p j m)) (⊎_elim
+    (λ m. subst (λ xs. IsClauseRef xs q) (sym (clause-later k ks p j m)) (⊎_elim
     (λ g. (k, inl refl, g))
     (λ n. let (x, i, g) = clause-place ks p q j f (place-later k ks q h n) in (x, inr i, g))
     (equal_or_not k.place q)))

@@ -8,7 +8,7 @@ use Rattle.varisat_theory.specs.Membership.{◌∈◌, IsDistinct}
 use Rattle.varisat_theory.proofs.Members.{equal_or_not}
 use Rattle.varisat_theory.proofs.Places.{∈-contains, contains-∈, place_in}
 use Rattle.varisat_clause.specs.declared.header.Tier.{Tier}
-use Rattle.varisat_clause.specs.Stored.{StoredClause, IsPlace, AreRising, no_clause, stored_at}
+use Rattle.varisat_clause.specs.Stored.{StoredClause, IsClauseRef, AreRising, no_clause, stored_at}
 use Rattle.varisat_clause.specs.Stores.{Store, stored_clauses, IsSound}
 use Rattle.varisat_clause.specs.Databases.{is_live_in}
 use Rattle.varisat_clause.specs.Reductions.{rank_in, places_in, ListsTier, AreRanked}
@@ -48,7 +48,7 @@ place-cases t k ks p h =
     (λ d. inr (subst (λ (xs : List ℕ). p ∈ xs) (ap (λ b. cond b (k.place ∷ places_in t ks) (places_in t ks)) d) h))
     (true-or-false (is_live_in t k))
 
-pub tier-known : (t : Tier) (ks : List StoredClause) (p : ℕ) → p ∈ places_in t ks → IsPlace ks p
+pub tier-known : (t : Tier) (ks : List StoredClause) (p : ℕ) → p ∈ places_in t ks → IsClauseRef ks p
 tier-known t [] p h = absurd h
 tier-known t (k ∷ ks) p h =
     ⊎_elim
@@ -56,7 +56,7 @@ tier-known t (k ∷ ks) p h =
     (λ i. let (j, m, e) = tier-known t ks p i in (j, inr m, e))
     (place-cases t k ks p h)
 
-place-after : (k : StoredClause) (ks : List StoredClause) (p : ℕ) → AreRising (k ∷ ks) → IsPlace ks p → k.place < p
+place-after : (k : StoredClause) (ks : List StoredClause) (p : ℕ) → AreRising (k ∷ ks) → IsClauseRef ks p → k.place < p
 place-after k ks p r (j, m, e) = let l = r.0 j m in omega (arith, l, e)
 
 tier-live : (t : Tier) (ks : List StoredClause) (p : ℕ) → AreRising ks → p ∈ places_in t ks → is_live_in t (stored_at ks p) ≡ true
@@ -162,7 +162,7 @@ rank-order a b p q hp hq h n =
     less : (a b p q : ℕ) → p < 2 ^ 32 → q < 2 ^ 32 → a * 2 ^ 32 + p ≤ b * 2 ^ 32 + q → (a ≡ b → ⊥) → a < b
     less a b p q hp hq h n = below a b (omega (arith, h, hp, hq)) n
 
-pub ranked-places : (s : Store) (ps : List ℕ) → IsSound s → ((p : ℕ) → p ∈ ps → IsPlace (stored_clauses s) p) → IsDistinct ps →
+pub ranked-places : (s : Store) (ps : List ℕ) → IsSound s → ((p : ℕ) → p ∈ ps → IsClauseRef (stored_clauses s) p) → IsDistinct ps →
     IsNonDecreasingBy (rank_in s.words) ps → AreRanked (stored_clauses s) ps
 ranked-places s [] ok known d h = tt
 ranked-places s (p ∷ ps) ok known d h = (
@@ -187,7 +187,7 @@ take-place s i p h e =
     let l = length-places s.words s.places in
     take-next (stored_clauses s) i no_clause (omega (arith, h, l)) ∙ ap (λ (x : StoredClause). take i (stored_clauses s) ++ x ∷ []) (clause-of-index s i p h e)
 
-pub tier-more : (t : Tier) (s : Store) (i p : ℕ) (xs ys : List ℕ) → i < length s.places → p ≡ get_or s.places i 0 → IsPlace (stored_clauses s) p →
+pub tier-more : (t : Tier) (s : Store) (i p : ℕ) (xs ys : List ℕ) → i < length s.places → p ≡ get_or s.places i 0 → IsClauseRef (stored_clauses s) p →
     xs ≡ places_in t (take i (stored_clauses s)) → is_live_in t (stored_at (stored_clauses s) p) ≡ true → ys ≡ xs ++ p ∷ [] →
     ys ≡ places_in t (take (i + 1) (stored_clauses s))
 tier-more t s i p xs ys h e at q live r =

@@ -5,7 +5,7 @@ use Rattle.varisat_clause.specs.declared.header.Tier.{Tier}
 use Rattle.varisat_clause.specs.declared.header.Tier.TheVariants.{Irred, Core, Mid, Local}
 use Rattle.varisat_clause.specs.declared.db.TierCounts.{TierCounts}
 use Rattle.varisat_clause.specs.Tiers.{is_tier}
-use Rattle.varisat_clause.specs.Stored.{StoredClause, IsPlace}
+use Rattle.varisat_clause.specs.Stored.{StoredClause, IsClauseRef}
 use Rattle.varisat_clause.specs.Stores.{Store, stored_clauses, IsSound}
 
 -- the count of a tier
@@ -117,4 +117,4 @@ pub record Tracks (d : Database) (s : Store) : Type 0 where
   pub counts : (t : Tier) → count_of t d.counts ≡ live_count t (stored_clauses s)
   pub garbage : d.garbage ≡ garbage_of (stored_clauses s)
   pub listed : (k : StoredClause) → k ∈ stored_clauses s → is_live k ≡ true → k.place ∈ tier_list k.header.tier d.lists
-  pub known : (t : Tier) (p : ℕ) → p ∈ tier_list t d.lists → IsPlace (stored_clauses s) p
+  pub known : (t : Tier) (p : ℕ) → p ∈ tier_list t d.lists → IsClauseRef (stored_clauses s) p

@@ -3,7 +3,7 @@ use Rattle.std.specs.Prelude.{◌≡◌, ℕ, zero, suc, ◌+◌, ◌*◌, ◌/�
 use Rattle.varisat_theory.specs.Membership.{◌∈◌, IsDistinct}
 use Rattle.varisat_clause.specs.declared.header.Tier.{Tier}
 use Rattle.varisat_clause.specs.declared.header.Tier.TheVariants.{Mid, Local}
-use Rattle.varisat_clause.specs.Stored.{StoredClause, IsPlace, stored_at, header_at, with_stored}
+use Rattle.varisat_clause.specs.Stored.{StoredClause, IsClauseRef, stored_at, header_at, with_stored}
 use Rattle.varisat_clause.specs.Stores.{Store, stored_clauses, IsSound, RewritesClauses}
 use Rattle.varisat_clause.specs.Databases.{is_live_in}
 use Rattle.varisat_clause.specs.Filters.{deleted_at}
@@ -19,7 +19,7 @@ places_in t (k ∷ ks) = if is_live_in t k then k.place ∷ places_in t ks else 
 
 -- the places are those of the clauses of the tier that are not deleted, each once
 pub record ListsTier (t : Tier) (ks : List StoredClause) (ps : List ℕ) : Type 0 where
-  pub known : (p : ℕ) → p ∈ ps → IsPlace ks p
+  pub known : (p : ℕ) → p ∈ ps → IsClauseRef ks p
   pub live : (p : ℕ) → p ∈ ps → is_live_in t (stored_at ks p) ≡ true
   pub complete : (k : StoredClause) → k ∈ ks → is_live_in t k ≡ true → k.place ∈ ps
   pub distinct : IsDistinct ps
@@ -48,7 +48,7 @@ tier_marked t ks = map (λ k. if is_live_in t k then marked_as true k else k) ks
 -- that is not deleted is among them, and has no mark.
 pub record CanMarkTier (t : Tier) (s : Store) (ps : List ℕ) : Type 0 where
   pub sound : IsSound s
-  pub known : (p : ℕ) → p ∈ ps → IsPlace (stored_clauses s) p
+  pub known : (p : ℕ) → p ∈ ps → IsClauseRef (stored_clauses s) p
   pub complete : (k : StoredClause) → k ∈ stored_clauses s → is_live_in t k ≡ true → k.place ∈ ps
   pub unmarked : AreUnmarkedIn t (stored_clauses s)
 

@@ -15,8 +15,8 @@ abbrev pub literals_of : List StoredClause → List Clause
 literals_of ks = map (λ k. k.literals) ks
 
 -- a clause stands at the place
-abbrev pub IsPlace : List StoredClause → ℕ → Type 0
-IsPlace ks p = (k : StoredClause) × (k ∈ ks) × (k.place ≡ p)
+abbrev pub IsClauseRef : List StoredClause → ℕ → Type 0
+IsClauseRef ks p = (k : StoredClause) × (k ∈ ks) × (k.place ≡ p)
 
 -- what stands where there is no clause
 abbrev pub no_clause : StoredClause

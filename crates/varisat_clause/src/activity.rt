@@ -3,7 +3,7 @@
 //! A bump raises a clause's activity by the increment, and a decay raises the increment. Before numbers come near to
 //! 2^32 all are shifted, so that their order stays.
 ghost use Rattle.std.specs.Prelude.{◌≡◌, ◌+◌, ◌*◌, ◌/◌, ◌^◌, ◌<◌, ◌≤◌, max, true, false};
-ghost use Rattle.varisat_clause.specs.Stored.{IsPlace};
+ghost use Rattle.varisat_clause.specs.Stored.{IsClauseRef};
 ghost use Rattle.varisat_clause.specs.Stores.{stored_clauses, IsSound, RewritesClauses, RewritesHeaderAt};
 ghost use Rattle.varisat_clause.specs.ClauseActivities.{ActivityScale, least_clause_increment, clause_activity_limit, first_scale, AreWithinClauseLimits, clauses_shifted, clauses_rescaled, scale_rescaled, reaches_clause_limit, scored, reaches_limit_at, RaisesActivity, RaisesAndShifts, increment_decayed, scale_decayed};
 
@@ -119,7 +119,7 @@ fn rescale<A: Allocator + Copy>(alloc: &mut ClauseAlloc<A>)
 /// Sets the activity of the clause.
 fn set_activity<A: Allocator + Copy>(alloc: &mut ClauseAlloc<A>, cref: ClauseRef, activity: u32)
     requires sound { IsSound alloc.old }
-    requires place { IsPlace (stored_clauses alloc.old) cref }
+    requires place { IsClauseRef (stored_clauses alloc.old) cref }
     ensures { RewritesHeaderAt alloc.old alloc.new cref (λ header. record header { activity = activity }) }
 {
     let mut header = alloc.header(cref);
@@ -135,7 +135,7 @@ pub fn bump_clause_activity<A: Allocator + Copy>(
     cref: ClauseRef,
 )
     requires sound { IsSound alloc.old }
-    requires place { IsPlace (stored_clauses alloc.old) cref }
+    requires place { IsClauseRef (stored_clauses alloc.old) cref }
     ensures raised { reaches_limit_at cref (scored alloc.old activity.old) ≡ false → RaisesActivity alloc.old alloc.new activity.old cref }
     ensures shifted { reaches_limit_at cref (scored alloc.old activity.old) ≡ true → RaisesAndShifts alloc.old alloc.new activity.old cref }
     ensures scale { activity.new ≡ scale_rescaled (reaches_limit_at cref (scored alloc.old activity.old)) activity.old }

@@ -3,7 +3,7 @@ ghost use Rattle.std.specs.Prelude.{◌≡◌, ℕ, ◌+◌, ◌<◌, ◌≤◌,
 ghost use Rattle.std.specs.List.{swap};
 ghost use Rattle.varisat_clause.specs.declared.alloc.StoreError.TheVariants.{Memory};
 ghost use Rattle.varisat_clause.specs.Headers.{header_of_words, flags_of};
-ghost use Rattle.varisat_clause.specs.Stored.{IsPlace, header_at, literals_at, new_clause, shortened};
+ghost use Rattle.varisat_clause.specs.Stored.{IsClauseRef, header_at, literals_at, new_clause, shortened};
 ghost use Rattle.varisat_clause.specs.Reductions.{rank_in};
 ghost use Rattle.varisat_clause.specs.Stores.{Store, no_store, header_in, stored_clauses, IsSound, HoldsClauses, RewritesClauses, RewritesHeaderAt, RewritesLiteralsAt, AddsStored, header_written, TakesLiteralsAt};
 
@@ -188,7 +188,7 @@ impl<A: Allocator + Copy> ClauseAlloc<A> {
     pub fn place(&self, index: usize) -> ClauseRef
         requires { index < length self.now.places }
         ensures place { result ≡ slice_index self.now.places index }
-        ensures known { IsPlace (stored_clauses self.now) result }
+        ensures known { IsClauseRef (stored_clauses self.now) result }
     {
         self.places[index]
     }
@@ -237,7 +237,7 @@ impl<A: Allocator + Copy> ClauseAlloc<A> {
     /// The header of the clause.
     pub fn header(&self, cref: ClauseRef) -> ClauseHeader
         requires sound { IsSound self.now }
-        requires place { IsPlace (stored_clauses self.now) cref }
+        requires place { IsClauseRef (stored_clauses self.now) cref }
         ensures { result ≡ header_at (stored_clauses self.now) cref }
     {
         read_header(&self.buffer, cref.offset as usize)
@@ -257,7 +257,7 @@ impl<A: Allocator + Copy> ClauseAlloc<A> {
     /// The literals of the clause.
     pub fn lits(&self, cref: ClauseRef) -> &[Lit]
         requires sound { IsSound self.now }
-        requires place { IsPlace (stored_clauses self.now) cref }
+        requires place { IsClauseRef (stored_clauses self.now) cref }
         ensures { result.now ≡ literals_at (stored_clauses self.now) cref }
     {
         let begin = cref.offset as usize + HEADER_LEN;
@@ -268,7 +268,7 @@ impl<A: Allocator + Copy> ClauseAlloc<A> {
     /// The literals of the clause, to be changed.
     pub fn lits_mut(&mut self, cref: ClauseRef) -> &mut [Lit]
         requires sound { IsSound self.old }
-        requires place { IsPlace (stored_clauses self.old) cref }
+        requires place { IsClauseRef (stored_clauses self.old) cref }
         ensures* lends { sem 𝓛 (lends_literals A.row A.Allocator self.entry cref result) }
         ensures value { result.now ≡ literals_at (stored_clauses self.old) cref }
         ensures alone { TakesLiteralsAt self.old cref (length result.now) }
@@ -281,7 +281,7 @@ impl<A: Allocator + Copy> ClauseAlloc<A> {
     /// Replaces the header of the clause by one of the same length.
     pub fn set_header(&mut self, cref: ClauseRef, header: ClauseHeader)
         requires sound { IsSound self.old }
-        requires place { IsPlace (stored_clauses self.old) cref }
+        requires place { IsClauseRef (stored_clauses self.old) cref }
         requires length { header.len ≡ (header_at (stored_clauses self.old) cref).len }
         ensures { RewritesHeaderAt self.old self.new cref (λ _. header) }
     {
@@ -291,7 +291,7 @@ impl<A: Allocator + Copy> ClauseAlloc<A> {
     /// Drops the last literals of the clause, so that as many are left. It leaves a gap.
     pub fn shorten(&mut self, cref: ClauseRef, count: usize)
         requires sound { IsSound self.old }
-        requires place { IsPlace (stored_clauses self.old) cref }
+        requires place { IsClauseRef (stored_clauses self.old) cref }
         requires least { 3 ≤ count }
         requires most { count ≤ (header_at (stored_clauses self.old) cref).len }
         ensures { RewritesClauses self.old self.new (λ clauses. shortened clauses cref count) }

@@ -1,6 +1,6 @@
 //! A clause of a store, to be read or changed.
 ghost use Rattle.std.specs.Prelude.{◌≡◌, ◌+◌, ◌≤◌, length, min};
-ghost use Rattle.varisat_clause.specs.Stored.{IsPlace, header_at, literals_at, shortened};
+ghost use Rattle.varisat_clause.specs.Stored.{IsClauseRef, header_at, literals_at, shortened};
 ghost use Rattle.varisat_clause.specs.Stores.{stored_clauses, IsSound, RewritesClauses, RewritesHeaderAt, TakesLiteralsAt};
 
 use crate::alloc::{ClauseAlloc, ClauseRef};
@@ -52,7 +52,7 @@ impl<A: Allocator + Copy> ClauseAlloc<A> {
     /// The clause.
     pub fn clause(&self, cref: ClauseRef) -> Clause<'_>
         requires sound { IsSound self.now }
-        requires place { IsPlace (stored_clauses self.now) cref }
+        requires place { IsClauseRef (stored_clauses self.now) cref }
         ensures header { result.header ≡ header_at (stored_clauses self.now) cref }
         ensures literals { result.literals.now ≡ literals_at (stored_clauses self.now) cref }
     {
@@ -88,7 +88,7 @@ impl<'a, A: Allocator + Copy> ClauseMut<'a, A> {
     /// The header.
     pub fn header(&self) -> ClauseHeader
         requires sound { IsSound self.now.alloc.now }
-        requires place { IsPlace (stored_clauses self.now.alloc.now) self.now.cref }
+        requires place { IsClauseRef (stored_clauses self.now.alloc.now) self.now.cref }
         ensures { result ≡ header_at (stored_clauses self.now.alloc.now) self.now.cref }
     {
         self.alloc.header(self.cref)
@@ -107,7 +107,7 @@ impl<'a, A: Allocator + Copy> ClauseMut<'a, A> {
     /// The literals.
     pub fn lits(&self) -> &[Lit]
         requires sound { IsSound self.now.alloc.now }
-        requires place { IsPlace (stored_clauses self.now.alloc.now) self.now.cref }
+        requires place { IsClauseRef (stored_clauses self.now.alloc.now) self.now.cref }
         ensures { result.now ≡ literals_at (stored_clauses self.now.alloc.now) self.now.cref }
     {
         self.alloc.lits(self.cref)
@@ -116,7 +116,7 @@ impl<'a, A: Allocator + Copy> ClauseMut<'a, A> {
     /// The literals, to be changed.
     pub fn lits_mut(&mut self) -> &mut [Lit]
         requires sound { IsSound self.old.alloc.now }
-        requires place { IsPlace (stored_clauses self.old.alloc.now) self.old.cref }
+        requires place { IsClauseRef (stored_clauses self.old.alloc.now) self.old.cref }
         ensures* lends { sem 𝓛 (lends_of_clause A.row A.Allocator self.entry result) }
         ensures value { result.now ≡ literals_at (stored_clauses self.old.alloc.now) self.old.cref }
         ensures alone { TakesLiteralsAt self.old.alloc.now self.old.cref (length result.now) }
@@ -131,7 +131,7 @@ impl<'a, A: Allocator + Copy> ClauseHeaderMut<'a, A> {
     /// The header.
     pub fn header(&self) -> ClauseHeader
         requires sound { IsSound self.now.alloc.now }
-        requires place { IsPlace (stored_clauses self.now.alloc.now) self.now.cref }
+        requires place { IsClauseRef (stored_clauses self.now.alloc.now) self.now.cref }
         ensures { result ≡ header_at (stored_clauses self.now.alloc.now) self.now.cref }
     {
         self.alloc.header(self.cref)
@@ -140,7 +140,7 @@ impl<'a, A: Allocator + Copy> ClauseHeaderMut<'a, A> {
     /// Replaces the header by one of the same length.
     pub fn set_header(&mut self, header: ClauseHeader)
         requires sound { IsSound self.old.alloc.now }
-        requires place { IsPlace (stored_clauses self.old.alloc.now) self.old.cref }
+        requires place { IsClauseRef (stored_clauses self.old.alloc.now) self.old.cref }
         requires length { header.len ≡ (header_at (stored_clauses self.old.alloc.now) self.old.cref).len }
         ensures same_reference { self.new.alloc.ghost_name ≡ self.old.alloc.ghost_name }
         ensures same_place { self.new.cref ≡ self.old.cref }
@@ -154,7 +154,7 @@ impl<'a, A: Allocator + Copy> ClauseHeaderMut<'a, A> {
     /// Drops the last literals of the clause, so that as many are left.
     pub fn set_len(&mut self, count: usize)
         requires sound { IsSound self.old.alloc.now }
-        requires place { IsPlace (stored_clauses self.old.alloc.now) self.old.cref }
+        requires place { IsClauseRef (stored_clauses self.old.alloc.now) self.old.cref }
         requires least { 3 ≤ count }
         requires most { count ≤ (header_at (stored_clauses self.old.alloc.now) self.old.cref).len }
         ensures same_reference { self.new.alloc.ghost_name ≡ self.old.alloc.ghost_name }
@@ -169,7 +169,7 @@ impl<'a, A: Allocator + Copy> ClauseHeaderMut<'a, A> {
     /// Says whether the clause is deleted.
     pub fn set_deleted(&mut self, deleted: bool)
         requires sound { IsSound self.old.alloc.now }
-        requires place { IsPlace (stored_clauses self.old.alloc.now) self.old.cref }
+        requires place { IsClauseRef (stored_clauses self.old.alloc.now) self.old.cref }
         ensures same_reference { self.new.alloc.ghost_name ≡ self.old.alloc.ghost_name }
         ensures same_place { self.new.cref ≡ self.old.cref }
         ensures changed { RewritesHeaderAt self.old.alloc.now self.new.alloc.now self.old.cref (λ header. record header { deleted = deleted }) }
@@ -182,7 +182,7 @@ impl<'a, A: Allocator + Copy> ClauseHeaderMut<'a, A> {
     /// Sets the tier.
     pub fn set_tier(&mut self, tier: Tier)
         requires sound { IsSound self.old.alloc.now }
-        requires place { IsPlace (stored_clauses self.old.alloc.now) self.old.cref }
+        requires place { IsClauseRef (stored_clauses self.old.alloc.now) self.old.cref }
         ensures same_reference { self.new.alloc.ghost_name ≡ self.old.alloc.ghost_name }
         ensures same_place { self.new.cref ≡ self.old.cref }
         ensures changed { RewritesHeaderAt self.old.alloc.now self.new.alloc.now self.old.cref (λ header. record header { tier = tier }) }
@@ -195,7 +195,7 @@ impl<'a, A: Allocator + Copy> ClauseHeaderMut<'a, A> {
     /// Marks or unmarks the clause.
     pub fn set_mark(&mut self, mark: bool)
         requires sound { IsSound self.old.alloc.now }
-        requires place { IsPlace (stored_clauses self.old.alloc.now) self.old.cref }
+        requires place { IsClauseRef (stored_clauses self.old.alloc.now) self.old.cref }
         ensures same_reference { self.new.alloc.ghost_name ≡ self.old.alloc.ghost_name }
         ensures same_place { self.new.cref ≡ self.old.cref }
         ensures changed { RewritesHeaderAt self.old.alloc.now self.new.alloc.now self.old.cref (λ header. record header { mark = mark }) }
@@ -208,7 +208,7 @@ impl<'a, A: Allocator + Copy> ClauseHeaderMut<'a, A> {
     /// Sets or clears the flag active.
     pub fn set_active(&mut self, active: bool)
         requires sound { IsSound self.old.alloc.now }
-        requires place { IsPlace (stored_clauses self.old.alloc.now) self.old.cref }
+        requires place { IsClauseRef (stored_clauses self.old.alloc.now) self.old.cref }
         ensures same_reference { self.new.alloc.ghost_name ≡ self.old.alloc.ghost_name }
         ensures same_place { self.new.cref ≡ self.old.cref }
         ensures changed { RewritesHeaderAt self.old.alloc.now self.new.alloc.now self.old.cref (λ header. record header { active = active }) }
@@ -221,7 +221,7 @@ impl<'a, A: Allocator + Copy> ClauseHeaderMut<'a, A> {
     /// Sets the glue to the number, or to 63 where that is less.
     pub fn set_glue(&mut self, glue: usize)
         requires sound { IsSound self.old.alloc.now }
-        requires place { IsPlace (stored_clauses self.old.alloc.now) self.old.cref }
+        requires place { IsClauseRef (stored_clauses self.old.alloc.now) self.old.cref }
         ensures same_reference { self.new.alloc.ghost_name ≡ self.old.alloc.ghost_name }
         ensures same_place { self.new.cref ≡ self.old.cref }
         ensures changed { RewritesHeaderAt self.old.alloc.now self.new.alloc.now self.old.cref (λ header. record header { glue = min glue 63 }) }
@@ -234,7 +234,7 @@ impl<'a, A: Allocator + Copy> ClauseHeaderMut<'a, A> {
     /// Sets the activity.
     pub fn set_activity(&mut self, activity: u32)
         requires sound { IsSound self.old.alloc.now }
-        requires place { IsPlace (stored_clauses self.old.alloc.now) self.old.cref }
+        requires place { IsClauseRef (stored_clauses self.old.alloc.now) self.old.cref }
         ensures same_reference { self.new.alloc.ghost_name ≡ self.old.alloc.ghost_name }
         ensures same_place { self.new.cref ≡ self.old.cref }
         ensures changed { RewritesHeaderAt self.old.alloc.now self.new.alloc.now self.old.cref (λ header. record header { activity = activity }) }

@@ -1,6 +1,6 @@
 //! The collection of the words of deleted clauses.
 ghost use Rattle.std.specs.Prelude.{◌≡◌, ◌+◌, ◌*◌, ◌<◌, length, ◌↔◌, IsTrue, IfOk, OnOk, OnErr, true, false};
-ghost use Rattle.varisat_clause.specs.Stored.{IsPlace};
+ghost use Rattle.varisat_clause.specs.Stored.{IsClauseRef};
 ghost use Rattle.varisat_clause.specs.Stores.{stored_clauses, clause_of, IsSound};
 ghost use Rattle.varisat_clause.specs.Databases.{Tracks};
 ghost use Rattle.varisat_clause.specs.Collected.{PacksClause, IsCollected};
@@ -24,7 +24,7 @@ fn copy_clause<A: Allocator + Copy>(
     new_db: &mut ClauseDb<A>,
 ) -> Result<(), AllocError>
     requires sound { IsSound alloc.now }
-    requires place { IsPlace (stored_clauses alloc.now) cref }
+    requires place { IsClauseRef (stored_clauses alloc.now) cref }
     requires tracks { Tracks new_db.old new_alloc.old }
     ensures copied { OnOk result ((clause_of alloc.now cref).header.deleted ≡ false →
         PacksClause new_alloc.old new_alloc.new (clause_of alloc.now cref)) }

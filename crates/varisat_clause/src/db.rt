@@ -1,6 +1,6 @@
 //! The database of clauses: what is noted of a store's clauses as a whole.
 ghost use Rattle.std.specs.Prelude.{◌≡◌, ◌+◌, ◌<◌, ◌≤◌, ◌^◌, ◌++◌, ◌∷◌, [], length, ◌↔◌, IfOk, IfErr, OnOk, OnErr, true, false, not};
-ghost use Rattle.varisat_clause.specs.Stored.{IsPlace, header_at, literals_at, new_clause};
+ghost use Rattle.varisat_clause.specs.Stored.{IsClauseRef, header_at, literals_at, new_clause};
 ghost use Rattle.varisat_clause.specs.Stores.{stored_clauses, IsSound, RewritesHeaderAt, AddsStored};
 ghost use Rattle.varisat_clause.specs.Additions.{AddsOrRefuses};
 ghost use Rattle.varisat_clause.specs.Databases.{ListsByTier, Database, count_of, raised, lowered, no_lists, tier_list, with_tier_list, pushed, no_database, with_added, with_moved, with_deleted, Tracks};
@@ -267,7 +267,7 @@ pub fn set_clause_tier<A: Allocator + Copy>(
     cref: ClauseRef,
     tier: Tier,
 ) -> Result<(), AllocError>
-    requires place { IsPlace (stored_clauses alloc.old) cref }
+    requires place { IsClauseRef (stored_clauses alloc.old) cref }
     requires live { (header_at (stored_clauses alloc.old) cref).deleted ≡ false }
     requires tracks { Tracks db.old alloc.old }
     ensures moved { OnOk result (RewritesHeaderAt alloc.old alloc.new cref (λ header. record header { tier = tier })) }
@@ -291,7 +291,7 @@ pub fn delete_clause<A: Allocator + Copy>(
     db: &mut ClauseDb<A>,
     cref: ClauseRef,
 )
-    requires place { IsPlace (stored_clauses alloc.old) cref }
+    requires place { IsClauseRef (stored_clauses alloc.old) cref }
     requires live { (header_at (stored_clauses alloc.old) cref).deleted ≡ false }
     requires tracks { Tracks db.old alloc.old }
     ensures deleted { RewritesHeaderAt alloc.old alloc.new cref (λ header. record header { deleted = true }) }
@@ -312,7 +312,7 @@ pub fn try_delete_clause<A: Allocator + Copy>(
     cref: ClauseRef,
     is_reason: bool,
 ) -> bool
-    requires place { IsPlace (stored_clauses alloc.old) cref }
+    requires place { IsClauseRef (stored_clauses alloc.old) cref }
     requires live { (header_at (stored_clauses alloc.old) cref).deleted ≡ false }
     requires tracks { Tracks db.old alloc.old }
     ensures deletes { result ≡ not is_reason }

@@ -1,7 +1,7 @@
 //! Passes over the clauses that are not deleted, in which a filter changes or deletes them.
 ghost use Rattle.std.specs.Prelude.{◌≡◌, true, false, length, IfOk, OnOk, OnErr};
 ghost use Rattle.varisat_theory.specs.Membership.{◌∈◌};
-ghost use Rattle.varisat_clause.specs.Stored.{StoredClause, IsPlace};
+ghost use Rattle.varisat_clause.specs.Stored.{StoredClause, IsClauseRef};
 ghost use Rattle.varisat_clause.specs.Stores.{stored_clauses, clause_of, IsSound};
 ghost use Rattle.varisat_clause.specs.Databases.{is_live, Tracks};
 ghost use Rattle.varisat_clause.specs.Filters.{Alters, left_if, FiltersAt, Filters, StopsWithin};
@@ -25,7 +25,7 @@ pub trait ClauseFilter<A: Allocator + Copy> {
     /// Whether the clause, which is not deleted, stays. An error changes no clause.
     fn filter(&mut self, alloc: &mut ClauseAlloc<A>, cref: ClauseRef) -> Result<bool, Self::Error>
         requires sound { IsSound alloc.old }
-        requires place { IsPlace (stored_clauses alloc.old) cref }
+        requires place { IsClauseRef (stored_clauses alloc.old) cref }
         requires live { (clause_of alloc.old cref).header.deleted ≡ false }
         requires accepted { accepts self.old (clause_of alloc.old cref) }
         ensures altered { OnOk result (Alters alloc.old alloc.new cref) }
@@ -42,7 +42,7 @@ fn filter_clause<A: Allocator + Copy, F: ClauseFilter<A>>(
     filter: &mut F,
 ) -> Result<(), F::Error>
     requires tracks { Tracks db.old alloc.old }
-    requires place { IsPlace (stored_clauses alloc.old) cref }
+    requires place { IsClauseRef (stored_clauses alloc.old) cref }
     requires live { (clause_of alloc.old cref).header.deleted ≡ false }
     requires accepted { F.accepts filter.old (clause_of alloc.old cref) }
     ensures changed { OnOk result (FiltersAt F.leaves filter.old filter.new alloc.old alloc.new cref) }

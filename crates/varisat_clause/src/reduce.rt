@@ -3,7 +3,7 @@
 ghost use Rattle.std.specs.Prelude.{◌≡◌, ℕ, ◌+◌, ◌/◌, ◌≤◌, length, take, map, true, false, OnOk, OnErr, IfOk, not, ◌&&◌};
 ghost use Rattle.std.specs.List.Sorted.{IsPermutation, IsNonDecreasingBy};
 ghost use Rattle.varisat_clause.specs.Tiers.{is_tier};
-ghost use Rattle.varisat_clause.specs.Stored.{IsPlace};
+ghost use Rattle.varisat_clause.specs.Stored.{IsClauseRef};
 ghost use Rattle.varisat_clause.specs.Stores.{stored_clauses, clause_of, IsSound, RewritesClauses, RewritesClauseAt};
 ghost use Rattle.varisat_clause.specs.Databases.{Database, tier_list, with_tier_list, Tracks};
 ghost use Rattle.varisat_clause.specs.Reductions.{rank_in, places_in, is_unmarked_in, AreUnmarkedIn, marked_as, CanMarkTier, MarksTier, ListsTier, AreRanked, unmarked_places, all_deleted, ReducesLocals, mid_reduced, mids_reduced, mapped_up_to};
@@ -42,7 +42,7 @@ pub fn clauses_of_tier<A: Allocator + Copy>(
 /// Marks or unmarks the clause.
 fn set_mark<A: Allocator + Copy>(alloc: &mut ClauseAlloc<A>, cref: ClauseRef, mark: bool)
     requires sound { IsSound alloc.old }
-    requires place { IsPlace (stored_clauses alloc.old) cref }
+    requires place { IsClauseRef (stored_clauses alloc.old) cref }
     ensures { RewritesClauseAt alloc.old alloc.new cref (marked_as mark) }
 {
     let mut header = alloc.header(cref);
@@ -66,7 +66,7 @@ pub fn clear_marks<A: Allocator + Copy>(alloc: &mut ClauseAlloc<A>)
 /// Marks the clause where it is of the tier, not deleted and not marked, and says whether it was.
 fn mark_new<A: Allocator + Copy>(alloc: &mut ClauseAlloc<A>, cref: ClauseRef, tier: Tier) -> bool
     requires sound { IsSound alloc.old }
-    requires place { IsPlace (stored_clauses alloc.old) cref }
+    requires place { IsClauseRef (stored_clauses alloc.old) cref }
     ensures new { result ≡ is_unmarked_in tier (clause_of alloc.old cref) }
     ensures marked { result ≡ true → RewritesClauseAt alloc.old alloc.new cref (marked_as true) }
     ensures kept { result ≡ false → alloc.new ≡ alloc.old }
@@ -193,7 +193,7 @@ fn reduce_mid<A: Allocator + Copy>(
     cref: ClauseRef,
 ) -> Result<(), AllocError>
     requires tracks { Tracks db.old alloc.old }
-    requires place { IsPlace (stored_clauses alloc.old) cref }
+    requires place { IsClauseRef (stored_clauses alloc.old) cref }
     ensures reduced { OnOk result (RewritesClauseAt alloc.old alloc.new cref mid_reduced) }
     ensures refused { OnErr result (alloc.new ≡ alloc.old) }
     ensures refused_too { OnErr result (db.new ≡ db.old) }

@@ -1,7 +1,7 @@
 -- Tokens that are kept.
 use Rattle.std.proofs.Common.{◌≡◌, ℕ, List, [], ◌∷◌, ◌++◌, true, false, refl, sym, ap, subst, ◌∙◌, length, length-append, append-nil, arith, None, take, get_or, Option, Some}
 use Rattle.varisat_formula.specs.declared.dimacs.token.Word.{Word}
-use Rattle.varisat_formula.specs.declared.dimacs.parser.Place.TheVariants.{Plain}
+use Rattle.varisat_formula.specs.declared.dimacs.parser.ParserState.TheVariants.{Plain}
 use Rattle.varisat_formula.specs.declared.dimacs.error.DimacsError.{DimacsError}
 use Rattle.varisat_formula.specs.declared.dimacs.error.DimacsErrorKind.TheVariants.{OutOfMemory}
 use Rattle.varisat_formula.specs.Dimacs.{Reading, read, failed, is_blank, GoesOn, BreaksOff, close, close_by}

@@ -3,8 +3,8 @@ use Rattle.std.proofs.Common.{◌≡◌, ℕ, suc, ◌<◌, List, [], ◌∷◌,
 use Rattle.varisat_formula.specs.declared.dimacs.token.Word.{Word}
 use Rattle.varisat_formula.specs.declared.dimacs.header.HeaderPart.{HeaderPart}
 use Rattle.varisat_formula.specs.declared.dimacs.header.HeaderPart.TheVariants.{Name}
-use Rattle.varisat_formula.specs.declared.dimacs.parser.Place.{Place}
-use Rattle.varisat_formula.specs.declared.dimacs.parser.Place.TheVariants.{Start, Comment, Header, Plain}
+use Rattle.varisat_formula.specs.declared.dimacs.parser.ParserState.{ParserState}
+use Rattle.varisat_formula.specs.declared.dimacs.parser.ParserState.TheVariants.{Start, Comment, Header, Plain}
 use Rattle.varisat_formula.specs.declared.dimacs.error.DimacsError.{DimacsError}
 use Rattle.varisat_formula.specs.declared.dimacs.error.DimacsErrorKind.{DimacsErrorKind}
 use Rattle.varisat_formula.specs.Dimacs.{Item, Reading, nothing, put, is_blank, is_line_feed, tokens, header_items, line_items, token_items, items, next, lines, last_line, read, step, step_by, Ending, GoesOn, BreaksOff, is_whole, close, close_by, gives, failed, header_of}
@@ -30,11 +30,11 @@ start_items ended n [] = refl
 start_items ended n (l ∷ []) = refl
 start_items ended n (l ∷ m ∷ ls) = refl
 
-feed_pieces : (ended : Bool) (n : ℕ) (place : Place) (l : List ℕ) (ls : List (List ℕ)) →
+feed_pieces : (ended : Bool) (n : ℕ) (place : ParserState) (l : List ℕ) (ls : List (List ℕ)) →
     rest_items ended n place ([] ∷ l ∷ ls) ≡ line_rest true n place [] ++ rest_items ended (next n) Start (l ∷ ls)
 feed_pieces ended n place l ls = ap (λ xs. line_rest true n place [] ++ xs) (sym (start_items ended (next n) (l ∷ ls)))
 
-line_feed_items : (ended : Bool) (n : ℕ) (place : Place) (rest : List ℕ) →
+line_feed_items : (ended : Bool) (n : ℕ) (place : ParserState) (rest : List ℕ) →
     rest_items ended n place (lines (10 ∷ rest)) ≡ line_rest true n place [] ++ rest_items ended (next n) Start (lines rest)
 line_feed_items ended n place rest =
     let p = split_pieces is_line_feed rest in
@@ -48,17 +48,17 @@ line_feed_last n rest =
     ap (λ ls. last_line n ([] ∷ ls)) p.are ∙ sym (ap (λ ls. last_line (next n) ls) p.are)
 
 -- another byte: the front of the line's items comes from it
-abbrev pub LineStep : ℕ → Place → ℕ → List Item → Place → Type 0
+abbrev pub LineStep : ℕ → ParserState → ℕ → List Item → ParserState → Type 0
 LineStep n place b front place' = (ended : Bool) (line : List ℕ) → line_rest ended n place (b ∷ line) ≡ front ++ line_rest ended n place' line
 
-step_pieces : (ended : Bool) (n : ℕ) (place : Place) (b : ℕ) (front : List Item) (place' : Place) →
+step_pieces : (ended : Bool) (n : ℕ) (place : ParserState) (b : ℕ) (front : List Item) (place' : ParserState) →
     LineStep n place b front place' → (l : List ℕ) (ls : List (List ℕ)) →
     rest_items ended n place ((b ∷ l) ∷ ls) ≡ front ++ rest_items ended n place' (l ∷ ls)
 step_pieces ended n place b front place' s l [] = s ended l
 step_pieces ended n place b front place' s l (m ∷ ls) =
     ap (λ xs. xs ++ items ended (next n) (m ∷ ls)) (s true l) ∙ append_assoc front (line_rest true n place' l) (items ended (next n) (m ∷ ls))
 
-step_items : (ended : Bool) (n : ℕ) (place : Place) (b : ℕ) (front : List Item) (place' : Place) →
+step_items : (ended : Bool) (n : ℕ) (place : ParserState) (b : ℕ) (front : List Item) (place' : ParserState) →
     LineStep n place b front place' → is_line_feed b ≡ false → (rest : List ℕ) →
     rest_items ended n place (lines (b ∷ rest)) ≡ front ++ rest_items ended n place' (lines rest)
 step_items ended n place b front place' s h rest =
@@ -113,7 +113,7 @@ start_more n b ended line = by_first (b == 99) refl
     heading : List Item
     heading = header_items ended n (header_of (tokens true (b ∷ line)))
 
-    rest_place : Place
+    rest_place : ParserState
     rest_place = if is_blank b then Plain no_word else Plain (after_byte no_word b)
 
     by_second : (t : Bool) → (b == 112) ≡ t → (if t then heading else plain) ≡ line_rest ended n (if t then Header Name else rest_place) line
@@ -164,10 +164,10 @@ pub advances_failed : (p : Progress) (e : DimacsError) (text : List ℕ) → p.r
 advances_failed p e text h = record { same = λ ending rest. gives_failed ending p e h rest ∙ sym (gives_failed ending p e h (text ++ rest)) }
 
 -- where the reader stands, in parts
-abbrev pub standing : ℕ → Place → Reading → Progress
+abbrev pub standing : ℕ → ParserState → Reading → Progress
 standing n place r = record { line = n; place = place; over = false; reading = r }
 
-pub advances_byte : (n : ℕ) (place : Place) (r : Reading) (b : ℕ) (front : List Item) (place' : Place) →
+pub advances_byte : (n : ℕ) (place : ParserState) (r : Reading) (b : ℕ) (front : List Item) (place' : ParserState) →
     LineStep n place b front place' → is_line_feed b ≡ false → AdvancesBy (standing n place r) (b ∷ []) (standing n place' (read r front))
 advances_byte n place r b front place' s h = record {
   same = λ ending rest.
@@ -177,7 +177,7 @@ advances_byte n place r b front place' s h = record {
       ∙ ap (λ m. close ending (read r (rest_items (is_whole ending) n place (lines (b ∷ rest)))) m) (sym (step_last n b h rest));
 }
 
-pub advances_line_feed : (n : ℕ) (place : Place) (r : Reading) →
+pub advances_line_feed : (n : ℕ) (place : ParserState) (r : Reading) →
     AdvancesBy (standing n place r) (10 ∷ []) (standing (next n) Start (read r (line_rest true n place [])))
 advances_line_feed n place r = record {
   same = λ ending rest.
@@ -191,7 +191,7 @@ pub begin_gives : (ending : Ending) (text : List ℕ) → gives_from ending begi
 begin_gives ending text = ap (λ xs. close ending (read nothing xs) (last_line 1 (lines text))) (start_items (is_whole ending) 1 (lines text))
 
 -- what was read is what was known before the text broke off
-place_now : (n : ℕ) (place : Place) → line_rest false n place [] ≡ []
+place_now : (n : ℕ) (place : ParserState) → line_rest false n place [] ≡ []
 place_now n Start = refl
 place_now n Comment = refl
 place_now n (Header h) = refl
@@ -216,7 +216,7 @@ goes_on p = by_over p.over refl
     by_over false f = open_gives GoesOn p [] f ∙ ap (λ xs. close GoesOn (read p.reading xs) p.line) (place_now p.line p.place) ∙ by_fault p.reading.fault
 
 -- 4. The same, for what the code has.
-pub reads_byte : (s p q : Progress) (b : ℕ) (front : List Item) (place place' : Place) → p ≡ s → s.over ≡ false → p.place ≡ place →
+pub reads_byte : (s p q : Progress) (b : ℕ) (front : List Item) (place place' : ParserState) → p ≡ s → s.over ≡ false → p.place ≡ place →
     q ≡ record p { place = place'; reading = read p.reading front } →
     LineStep p.line place b front place' → is_line_feed b ≡ false → AdvancesBy s (b ∷ []) q
 reads_byte s p q b front place place' v e f k step h =

@@ -7,8 +7,8 @@ use Rattle.std.proofs.lemmas.List.{get_or-drop, length-drop, take_all, take_more
 use Rattle.varisat_formula.specs.declared.dimacs.token.Digits.TheVariants.{Number, NoNumber}
 use Rattle.varisat_formula.specs.declared.dimacs.token.Word.{Word}
 use Rattle.varisat_formula.specs.declared.dimacs.header.HeaderPart.TheVariants.{Name}
-use Rattle.varisat_formula.specs.declared.dimacs.parser.Place.{Place}
-use Rattle.varisat_formula.specs.declared.dimacs.parser.Place.TheVariants.{Start, Comment, Header, Plain}
+use Rattle.varisat_formula.specs.declared.dimacs.parser.ParserState.{ParserState}
+use Rattle.varisat_formula.specs.declared.dimacs.parser.ParserState.TheVariants.{Start, Comment, Header, Plain}
 use Rattle.varisat_formula.specs.declared.dimacs.token.Meaning.TheVariants.{End}
 use Rattle.varisat_formula.specs.Dimacs.{Reading, Token, after_token, step_by, next, is_blank, is_digit, is_line_feed, read}
 use Rattle.varisat_formula.specs.Machine.{after_byte, after_digit, grown, no_word, a_number, GoesOnTo}
@@ -157,7 +157,7 @@ begins_word : (b : ℕ) → b ≤ 57 → is_blank b ≡ false → start_place b 
 begins_word b h k =
     let no_comment : (b == 99) ≡ false = search (rules, h) in
     let no_header : (b == 112) ≡ false = search (rules, h) in
-    let plain : Place = Plain (after_byte no_word b) in
+    let plain : ParserState = Plain (after_byte no_word b) in
     ap (λ t. if t then Comment else (if b == 112 then Header Name else (if is_blank b then Plain no_word else plain))) no_comment
     ∙ ap (λ t. if t then Header Name else (if is_blank b then Plain no_word else plain)) no_header
     ∙ ap (λ t. if t then Plain no_word else plain) k
@@ -173,7 +173,7 @@ from_start s v (b ∷ bs) e l h g =
     (reads_byte starts starts begun b [] Start (Plain (after_byte no_word b)) refl e refl refl step (no_feed b g.0))
     (advances_word begun (in_token v s) (after_byte no_word b) v bs g.1 e refl refl)
 
-from_between : (s : Progress) (place : Place) (v : Word) (bs : List ℕ) → IsBetween place → s.over ≡ false → 0 < length bs → get_or bs 0 0 ≤ 57 →
+from_between : (s : Progress) (place : ParserState) (v : Word) (bs : List ℕ) → IsBetween place → s.over ≡ false → 0 < length bs → get_or bs 0 0 ≤ 57 →
     GoesOnTo no_word bs v → AdvancesBy (record s { place = place }) bs (in_token v s)
 from_between s place v bs b e l h g =
     elim b [
@@ -181,7 +181,7 @@ from_between s place v bs b e l h g =
       | inr k ↦ advances_word (record s { place = place }) (in_token v s) no_word v bs g e k refl
     ]
 
-literal_ends_at : (p s t : Progress) (place : Place) (v : Word) (bytes : List ℕ) (at end : ℕ) → IsBetween place → s.over ≡ false →
+literal_ends_at : (p s t : Progress) (place : ParserState) (v : Word) (bytes : List ℕ) (at end : ℕ) → IsBetween place → s.over ≡ false →
     AdvancesBy p (take at bytes) (record s { place = place }) → at < end → end < length bytes → get_or bytes at 0 ≤ 57 →
     GoesOnTo no_word (take (end - at) (drop at bytes)) v → get_or bytes end 0 ≡ 32 → t ≡ record s { reading = read s.reading (word_items s.line v) } →
     AdvancesBy p (take (end + 1) bytes) (in_token no_word t)

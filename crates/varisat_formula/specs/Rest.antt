@@ -2,8 +2,8 @@
 use Rattle.std.specs.Prelude.{◌≡◌, ℕ, ◌<◌, ◌≤◌, List, [], ◌∷◌, ◌++◌, ◌⊎◌, Bool, true, false, ◌==◌, if◌then◌else◌, length, Option, Some, None, Result, Ok, Err, take, slice_index}
 use Rattle.varisat_formula.specs.declared.dimacs.token.Word.{Word}
 use Rattle.varisat_formula.specs.declared.dimacs.header.HeaderPart.TheVariants.{Name}
-use Rattle.varisat_formula.specs.declared.dimacs.parser.Place.{Place}
-use Rattle.varisat_formula.specs.declared.dimacs.parser.Place.TheVariants.{Start, Comment, Header, Plain}
+use Rattle.varisat_formula.specs.declared.dimacs.parser.ParserState.{ParserState}
+use Rattle.varisat_formula.specs.declared.dimacs.parser.ParserState.TheVariants.{Start, Comment, Header, Plain}
 use Rattle.varisat_literals.specs.Numbers.{variable_limit}
 use Rattle.varisat_formula.specs.declared.dimacs.error.DimacsError.{DimacsError}
 use Rattle.varisat_formula.specs.declared.dimacs.error.DimacsErrorKind.TheVariants.{Io, OutOfMemory}
@@ -14,7 +14,7 @@ use Rattle.varisat_formula.specs.Machine.{no_word, is_none, after_byte, word_say
 -- a part of a token; what was read before that; and whether the text is over
 pub record Progress : Type 0 where
   pub line : ℕ
-  pub place : Place
+  pub place : ParserState
   pub over : Bool
   pub reading : Reading
 
@@ -32,11 +32,11 @@ plain_rest ended n w [] = if ended then word_items n w else []
 plain_rest ended n w (b ∷ bs) = if is_blank b then word_items n w ++ plain_rest ended n no_word bs else plain_rest ended n (after_byte w b) bs
 
 -- behind the first byte of a line
-abbrev pub start_place : ℕ → Place
+abbrev pub start_place : ℕ → ParserState
 start_place b = if b == 99 then Comment else (if b == 112 then Header Name else (if is_blank b then Plain no_word else Plain (after_byte no_word b)))
 
 -- the items of the line that the reader is in, whose rest is given
-abbrev pub line_rest : Bool → ℕ → Place → List ℕ → List Item
+abbrev pub line_rest : Bool → ℕ → ParserState → List ℕ → List Item
 line_rest ended n Start line = line_items ended n line
 line_rest ended n Comment line = []
 line_rest ended n (Header h) line = header_items ended n (header_says (header_from h line))
@@ -47,7 +47,7 @@ abbrev pub line_ended : Progress → Reading
 line_ended p = read p.reading (line_rest true p.line p.place [])
 
 -- the items of the rest of a text, the first line of it from a place on
-abbrev pub rest_items : Bool → ℕ → Place → List (List ℕ) → List Item
+abbrev pub rest_items : Bool → ℕ → ParserState → List (List ℕ) → List Item
 rest_items ended n place [] = []
 rest_items ended n place (line ∷ []) = line_rest ended n place line
 rest_items ended n place (line ∷ more ∷ rest) = line_rest true n place line ++ items ended (next n) (more ∷ rest)
@@ -125,7 +125,7 @@ pub record ReadsOn (p : Progress) (bytes : List ℕ) (n : ℕ) (q : Progress) : 
   pub goes_on : IsReading q
 
 -- at the start of a line, or behind a token and its blank
-abbrev pub IsBetween : Place → Type 0
+abbrev pub IsBetween : ParserState → Type 0
 IsBetween place = (place ≡ Start) ⊎ (place ≡ Plain no_word)
 
 -- a literal with a number up to n is no fault here

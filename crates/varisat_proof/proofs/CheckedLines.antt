@@ -21,7 +21,7 @@ use Rattle.varisat_proof.specs.declared.checker.error.CheckerError.TheVariants.{
 use Rattle.varisat_proof.specs.declared.checker.check.Count.{Count}
 use Rattle.varisat_proof.specs.Lines.{ProofLine, line_of_kind, letter_kind, step_number}
 use Rattle.varisat_proof.specs.Grammar.{Accepted, Faulty, tag_kind}
-use Rattle.varisat_proof.specs.Machine.{Place, Parsed, ReaderState, line_at, number_event, begin_event, event, begin_line, after_number, moved, last_symbol, put, at_end, happens, after, parsed, parsed_from, begin, last_event, last_place, last_offset}
+use Rattle.varisat_proof.specs.Machine.{ParserState, Parsed, ReaderState, line_at, number_event, begin_event, event, begin_line, after_number, moved, last_symbol, put, at_end, happens, after, parsed, parsed_from, begin, last_event, last_place, last_offset}
 use Rattle.varisat_proof.specs.Means.{BytesMean, Means}
 use Rattle.varisat_proof.specs.Marked.{MarkedLog, ProofState, Rules, strict_rules, GoesBy, IsCheckBy, state_of}
 use Rattle.varisat_proof.specs.Checks.{IsLineStatus, StopsBehind, IsAfterLines, LastIsWrong, IsWrongLast, with_lines, HasRead, CheckBreaksOff, EndsWith, result_at_end}
@@ -457,22 +457,22 @@ module _ (R : Rules) where
   no_mark true k e = cc
   no_mark false k e = no_begin k e
 
-  number_outside : (p : Place) (n : ℕ) → number_event n ≡ Ended → (after_number p n).inside ≡ false
+  number_outside : (p : ParserState) (n : ℕ) → number_event n ≡ Ended → (after_number p n).inside ≡ false
   number_outside p n e = by (n == 0) refl e
     where
       by : (t : Bool) → (n == 0) ≡ t → (if t then Ended else (if n == 1 then Fault else More)) ≡ Ended → (after_number p n).inside ≡ false
       by true z e = ap (λ t.
-          (if t then (let q : Place = record { inside = false; kind = p.kind; clause = p.clause } in
-          q) else (if n == 1 then p else (let q : Place = record { inside = true; kind = p.kind; clause = p.clause ++ (n - 2) ∷ [] } in q))).inside) z
+          (if t then (let q : ParserState = record { inside = false; kind = p.kind; clause = p.clause } in
+          q) else (if n == 1 then p else (let q : ParserState = record { inside = true; kind = p.kind; clause = p.clause ++ (n - 2) ∷ [] } in q))).inside) z
       by false z e = absurd (not_ended n e)
 
   symbol_outside : (f : Encoding) (i : Bool) (d : LineKind) (c : Clause) (s : Symbol) → event f i s ≡ Ended →
-      (moved f (let p : Place = record { inside = i; kind = d; clause = c } in p) s).inside ≡ false
+      (moved f (let p : ParserState = record { inside = i; kind = d; clause = c } in p) s).inside ≡ false
   symbol_outside (Text marked) i d c (Mark b) e = absurd (no_mark i (letter_kind marked b) e)
   symbol_outside (Text marked) i d c (Number n) e = number_outside
-      (if i then (let p : Place = record { inside = i; kind = d; clause = c } in p) else begin_line Adds) n e
+      (if i then (let p : ParserState = record { inside = i; kind = d; clause = c } in p) else begin_line Adds) n e
   symbol_outside Binary i d c (Mark b) e = absurd cc
-  symbol_outside Binary true d c (Number n) e = number_outside (let p : Place = record { inside = true; kind = d; clause = c } in p) n e
+  symbol_outside Binary true d c (Number n) e = number_outside (let p : ParserState = record { inside = true; kind = d; clause = c } in p) n e
   symbol_outside Binary false d c (Number n) e = absurd (no_begin (tag_kind n) e)
   symbol_outside f i d c Cut e = absurd cc
   symbol_outside f i d c Bad e = absurd cc

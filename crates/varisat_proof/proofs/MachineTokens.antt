@@ -14,7 +14,7 @@ use Rattle.varisat_proof.specs.declared.checker.token.Event.TheVariants.{More}
 use Rattle.varisat_proof.specs.declared.checker.token.Part.{Part}
 use Rattle.varisat_proof.specs.Lines.{letter_kind}
 use Rattle.varisat_proof.specs.Grammar.{is_kind, meant, text_symbol, value_of, is_none, binary_symbol, text_token, text_tokens, cut_token, ends_number, binary_tokens, tokens, end_of}
-use Rattle.varisat_proof.specs.Machine.{Place, Parsed, line_at, event, moved, put, at_end, fault_offset, read, between, no_part, after_text, part_symbol, scale, grown_value, after_binary, number_symbol, ReaderState, ended_token, parsed_from, parsed}
+use Rattle.varisat_proof.specs.Machine.{ParserState, Parsed, line_at, event, moved, put, at_end, fault_offset, read, between, no_part, after_text, part_symbol, scale, grown_value, after_binary, number_symbol, ReaderState, ended_token, parsed_from, parsed}
 
 -- 1. Tokens.
 pub part_from : Part → List ℕ → Part
@@ -63,16 +63,16 @@ module _ (marked : Bool) where
   text_offset inside b [] at end = mark_offset (is_kind (letter_kind marked b)) inside b (meaning (b ∷ [])) at end
   text_offset inside b (c ∷ bs) at end = meant_offset inside (meaning (b ∷ c ∷ bs)) at end
 
-  abbrev text_at : ℕ → ℕ → Part → Place → ReaderState
+  abbrev text_at : ℕ → ℕ → Part → ParserState → ReaderState
   text_at at start part place = record { encoding = (Text marked); at = at; start = start; part = part; place = place }
 
   -- what is parsed of a token, and then of the rest
-  abbrev token_parsed : ℕ → Place → ℕ → Symbol → (Place → Parsed) → Parsed
+  abbrev token_parsed : ℕ → ParserState → ℕ → Symbol → (ParserState → Parsed) → Parsed
   token_parsed end place start symbol rest = put (event (Text marked) place.inside symbol) (line_at (moved (Text marked) place symbol))
       (fault_offset place.inside symbol start end) (rest (moved (Text marked) place symbol))
 
   -- the machine behind a byte
-  abbrev text_step : Bool → Bool → ℕ → ℕ → Part → Place → ℕ → List ℕ → Parsed
+  abbrev text_step : Bool → Bool → ℕ → ℕ → Part → ParserState → ℕ → List ℕ → Parsed
   text_step blank empty at start part place b bs =
       let here : ReaderState = text_at at start part place in
       let then_ : ReaderState = if blank && not empty then ended_token here
@@ -80,24 +80,24 @@ module _ (marked : Bool) where
       place) in
       put (if blank && not empty then event (Text marked) place.inside (part_symbol marked part) else More) (line_at then_.place) start (parsed_from then_ bs)
 
-  abbrev text_read : Bool → ℕ → ℕ → ℕ → List ℕ → Place → ℕ → List ℕ → Parsed
+  abbrev text_read : Bool → ℕ → ℕ → ℕ → List ℕ → ParserState → ℕ → List ℕ → Parsed
   text_read blank end at start word place b bs =
       read (Text marked) end place (if blank then text_token marked start word ++ text_tokens marked (next at) (next at) [] bs else text_tokens marked
       (next at) start (word ++ b ∷ []) bs)
 
   -- the same for all of a rest
   abbrev TextAgrees : List ℕ → Type 0
-  TextAgrees bs = (at start : ℕ) (word : List ℕ) (place : Place) →
+  TextAgrees bs = (at start : ℕ) (word : List ℕ) (place : ParserState) →
       parsed_from (text_at at start (part_of word) place) bs ≡ read (Text marked) (end_of at bs) place (text_tokens marked at start word bs)
 
-  text_blank : (at start : ℕ) (word : List ℕ) (place : Place) (b : ℕ) (bs : List ℕ) → TextAgrees bs →
+  text_blank : (at start : ℕ) (word : List ℕ) (place : ParserState) (b : ℕ) (bs : List ℕ) → TextAgrees bs →
       text_step true ((part_of word).count == 0) at start (part_of word) place b bs ≡ text_read true (end_of (next at) bs) at start word place b bs
   unfolding part_from
   text_blank at start [] place b bs h = h (next at) (next at) [] place
   text_blank at start (c ∷ cs) place b bs h =
       let end = end_of (next at) bs in
       let word = c ∷ cs in
-      let rest : Place → Parsed = λ q. parsed_from (text_at (next at) (next at) no_part q) bs in
+      let rest : ParserState → Parsed = λ q. parsed_from (text_at (next at) (next at) no_part q) bs in
       let us = text_tokens marked (next at) (next at) [] bs in
       ap (λ t. text_step true t at start (part_of word) place b bs) (some_part c cs)
       ∙ ap (λ s. put (event (Text marked) place.inside s) (line_at (moved (Text marked) place s)) start (rest (moved (Text marked) place s)))
@@ -108,17 +108,17 @@ module _ (marked : Bool) where
       (fault_offset place.inside (text_symbol marked word) start end) t)
       (h (next at) (next at) [] (moved (Text marked) place (text_symbol marked word)))
 
-  text_more : (at start : ℕ) (word : List ℕ) (place : Place) (b : ℕ) (bs : List ℕ) → TextAgrees bs →
+  text_more : (at start : ℕ) (word : List ℕ) (place : ParserState) (b : ℕ) (bs : List ℕ) → TextAgrees bs →
       text_step false ((part_of word).count == 0) at start (part_of word) place b bs ≡ text_read false (end_of (next at) bs) at start word place b bs
   text_more at start word place b bs h =
       ap (λ p. parsed_from (text_at (next at) start p place) bs) (sym (part_more no_part word b)) ∙ h (next at) start (word ++ b ∷ []) place
 
-  text_byte : (t : Bool) (at start : ℕ) (word : List ℕ) (place : Place) (b : ℕ) (bs : List ℕ) → TextAgrees bs →
+  text_byte : (t : Bool) (at start : ℕ) (word : List ℕ) (place : ParserState) (b : ℕ) (bs : List ℕ) → TextAgrees bs →
       text_step t ((part_of word).count == 0) at start (part_of word) place b bs ≡ text_read t (end_of (next at) bs) at start word place b bs
   text_byte true at start word place b bs h = text_blank at start word place b bs h
   text_byte false at start word place b bs h = text_more at start word place b bs h
 
-  text_closing : (at start : ℕ) (word : List ℕ) (place : Place) →
+  text_closing : (at start : ℕ) (word : List ℕ) (place : ParserState) →
       parsed_from (text_at at start (part_of word) place) [] ≡ read (Text marked) at place (text_token marked start word)
   unfolding part_from
   text_closing at start [] place = refl
@@ -170,24 +170,24 @@ number_offset : (t inside : Bool) (v at end : ℕ) → fault_offset inside (if t
 number_offset true inside v at end = refl
 number_offset false inside v at end = refl
 
-abbrev binary_at : ℕ → ℕ → Part → Place → ReaderState
+abbrev binary_at : ℕ → ℕ → Part → ParserState → ReaderState
 binary_at at start part place = record { encoding = Binary; at = at; start = start; part = part; place = place }
 
-abbrev binary_step : Bool → ℕ → ℕ → Part → Place → ℕ → List ℕ → Parsed
+abbrev binary_step : Bool → ℕ → ℕ → Part → ParserState → ℕ → List ℕ → Parsed
 binary_step e at start part place b bs =
     let here : ReaderState = binary_at at start part place in
     let then_ : ReaderState = if e then ended_token here (moved Binary place (number_symbol part b)) else binary_at (next at) start (after_binary part b)
     place in
     put (if e then event Binary place.inside (number_symbol part b) else More) (line_at then_.place) start (parsed_from then_ bs)
 
-abbrev binary_read : Bool → ℕ → ℕ → ℕ → List ℕ → Place → ℕ → List ℕ → Parsed
+abbrev binary_read : Bool → ℕ → ℕ → ℕ → List ℕ → ParserState → ℕ → List ℕ → Parsed
 binary_read e end at start front place b bs =
     read Binary end place (if e then record { at = start; symbol = binary_symbol front b } ∷ binary_tokens (next at) (next at) [] bs else binary_tokens
     (next at) start (front ++ b ∷ []) bs)
 
 abbrev BinaryAgrees : List ℕ → Type 0
 BinaryAgrees bs =
-    (at start : ℕ) (front : List ℕ) (place : Place) → length front ≤ 4 →
+    (at start : ℕ) (front : List ℕ) (place : ParserState) → length front ≤ 4 →
     parsed_from (binary_at at start (number_part front) place) bs ≡ read Binary (end_of at bs) place (binary_tokens at start front bs)
 
 not_four : (c : Bool) (n : ℕ) → (c || n == 4) ≡ false → n ≤ 4 → n < 4
@@ -201,12 +201,12 @@ pub length_more : (front : List ℕ) (b : ℕ) → length (front ++ b ∷ []) �
 length_more [] b = refl
 length_more (x ∷ front) b = let e = length_more front b in omega (arith, e)
 
-binary_byte : (t : Bool) (at start : ℕ) (front : List ℕ) (place : Place) (b : ℕ) (bs : List ℕ) → BinaryAgrees bs → length front ≤ 4 → ends_number front b ≡ t →
+binary_byte : (t : Bool) (at start : ℕ) (front : List ℕ) (place : ParserState) (b : ℕ) (bs : List ℕ) → BinaryAgrees bs → length front ≤ 4 → ends_number front b ≡ t →
     binary_step t at start (number_part front) place b bs ≡ binary_read t (end_of (next at) bs) at start front place b bs
 binary_byte true at start front place b bs h few e =
     let end = end_of (next at) bs in
     let s = binary_symbol front b in
-    let rest : Place → Parsed = λ q. parsed_from (binary_at (next at) (next at) no_part q) bs in
+    let rest : ParserState → Parsed = λ q. parsed_from (binary_at (next at) (next at) no_part q) bs in
     ap (λ s. put (event Binary place.inside s) (line_at (moved Binary place s)) start (rest (moved Binary place s))) (number_agrees front b few)
     ∙ ap (λ o. put (event Binary place.inside s) (line_at (moved Binary place s)) o (rest (moved Binary place s)))
     (sym (number_offset (nat_lt b 128 && (nat_lt 0 b || is_none front) && nat_le (value_of (front ++ b ∷ [])) (2 ^ 29 + 1)) place.inside
@@ -218,7 +218,7 @@ binary_byte false at start front place b bs h few e =
     let g = not_four (nat_lt b 128) (length front) e few in
     ap (λ p. parsed_from (binary_at (next at) start p place) bs) (part_grows front b few) ∙ h (next at) start (front ++ b ∷ []) place (omega (arith, l, g))
 
-binary_closing : (at start : ℕ) (front : List ℕ) (place : Place) →
+binary_closing : (at start : ℕ) (front : List ℕ) (place : ParserState) →
     parsed_from (binary_at at start (number_part front) place) [] ≡ read Binary at place (cut_token start front)
 binary_closing at start [] place = refl
 binary_closing at start (c ∷ cs) place =

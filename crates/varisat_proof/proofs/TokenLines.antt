@@ -10,7 +10,7 @@ use Rattle.varisat_proof.specs.declared.checker.token.Symbol.TheVariants.{Mark, 
 use Rattle.varisat_proof.specs.declared.checker.token.Event.TheVariants.{Fault}
 use Rattle.varisat_proof.specs.Lines.{ProofLine, line_of_kind, has_kind, HasKinds, letter, letter_kind}
 use Rattle.varisat_proof.specs.Grammar.{Token, symbols, literal_symbols, begun_symbols, line_symbols, is_some, is_kind, tag_kind, fits, IsBegunLine, IsCutOff, WrongToken, EndsInside, tokens, end_of}
-use Rattle.varisat_proof.specs.Machine.{Place, Parsed, line_at, number_event, begin_event, begin_place, event, begin_line, after_number, moved, put, fault_offset, read, between, parsed}
+use Rattle.varisat_proof.specs.Machine.{ParserState, Parsed, line_at, number_event, begin_event, begin_place, event, begin_line, after_number, moved, put, fault_offset, read, between, parsed}
 use Rattle.varisat_proof.specs.Means.{Means, BytesMean}
 use Rattle.varisat_proof.proofs.TokenSymbols.{code_event, code_place, at_place, Logs, sound_parsed}
 use Rattle.varisat_proof.proofs.MachineTokens.{parsed_is}
@@ -35,7 +35,7 @@ none_of [] e = refl
 none_of (u ∷ us) e = absurd cc
 
 -- a token by its symbol
-abbrev read_by : Encoding → ℕ → Place → Symbol → ℕ → List Token → Parsed
+abbrev read_by : Encoding → ℕ → ParserState → Symbol → ℕ → List Token → Parsed
 read_by f end p s at us = put (event f p.inside s) (line_at (moved f p s)) (fault_offset p.inside s at end) (read f end (moved f p s) us)
 
 code_read : (f : Encoding) (end : ℕ) (d : LineKind) (c : Clause) (l : ℕ) (u : Token) (us : List Token) → u.symbol ≡ Number (l + 2) →
@@ -79,15 +79,15 @@ tag_read : (end : ℕ) (d kind : LineKind) (c : Clause) (u : Token) (us : List T
 tag_read end d kind c u us h e = begun_read Binary end d kind c (tag_kind (letter kind)) (Number (letter kind)) u us refl refl h e
 
 -- the tokens in front are read from one place to another; behind them the rest says S
-record Consumed (f : Encoding) (end : ℕ) (p : Place) (front : List Token) (S : List Symbol) (lines : List ProofLine) (q : Place) : Type 0 where
+record Consumed (f : Encoding) (end : ℕ) (p : ParserState) (front : List Token) (S : List Symbol) (lines : List ProofLine) (q : ParserState) : Type 0 where
   rest : List Token
   says : symbols rest ≡ S
   reads : (more : List Token) → read f end p (front ++ more) ≡ with_lines lines (read f end q (rest ++ more))
 
-consumed_none : (f : Encoding) (end : ℕ) (p : Place) (front : List Token) (S : List Symbol) → symbols front ≡ S → Consumed f end p front S [] p
+consumed_none : (f : Encoding) (end : ℕ) (p : ParserState) (front : List Token) (S : List Symbol) → symbols front ≡ S → Consumed f end p front S [] p
 consumed_none f end p front S e = record { rest = front; says = e; reads = λ more. refl }
 
-consumed_then : (f : Encoding) (end : ℕ) (p q r : Place) (front : List Token) (S T : List Symbol) (ls ms : List ProofLine) →
+consumed_then : (f : Encoding) (end : ℕ) (p q r : ParserState) (front : List Token) (S T : List Symbol) (ls ms : List ProofLine) →
     (a : Consumed f end p front S ls q) → Consumed f end q a.rest T ms r → Consumed f end p front T (ls ++ ms) r
 consumed_then f end p q r front S T ls ms a b = record {
   rest = b.rest;
@@ -98,7 +98,7 @@ consumed_then f end p q r front S T ls ms a b = record {
 }
 
 -- one token
-consumed_one : (f : Encoding) (end : ℕ) (p q : Place) (front : List Token) (s : Symbol) (S : List Symbol) (ls : List ProofLine) → symbols front ≡ s ∷ S →
+consumed_one : (f : Encoding) (end : ℕ) (p q : ParserState) (front : List Token) (s : Symbol) (S : List Symbol) (ls : List ProofLine) → symbols front ≡ s ∷ S →
     ((u : Token) (us : List Token) → u.symbol ≡ s → read f end p (u ∷ us) ≡ with_lines ls (read f end q us)) → Consumed f end p front S ls q
 consumed_one f end p q front s S ls e h =
     let w = first_of front s S e in
@@ -126,7 +126,7 @@ consume_tail f end d c front S e =
     consumed_then f end (begin_line d) (at_place true d c) (at_place false d c) front (Number 0 ∷ S) S [] (line_at (at_place true d c) ∷ []) one two
 
 -- a number opens a line of text
-opened : (marked : Bool) (end : ℕ) (d : LineKind) (c : Clause) (front : List Token) (n : ℕ) (ss S : List Symbol) (ls : List ProofLine) (q : Place) →
+opened : (marked : Bool) (end : ℕ) (d : LineKind) (c : Clause) (front : List Token) (n : ℕ) (ss S : List Symbol) (ls : List ProofLine) (q : ParserState) →
     symbols front ≡ Number n ∷ ss → Consumed (Text marked) end (begin_line Adds) front S ls q →
     Consumed (Text marked) end (at_place false d c) front S ls q
 opened marked end d c front n ss S ls q e a =
@@ -140,7 +140,7 @@ opened marked end d c front n ss S ls q e a =
     }
 
 opened_tail : (marked : Bool) (end : ℕ) (d : LineKind) (c : Clause) (k : Clause) (front : List Token) (T S : List Symbol) (ls : List ProofLine)
-    (q : Place) → symbols front ≡ (literal_symbols k ++ Number 0 ∷ []) ++ T → Consumed (Text marked) end (begin_line Adds) front S ls q →
+    (q : ParserState) → symbols front ≡ (literal_symbols k ++ Number 0 ∷ []) ++ T → Consumed (Text marked) end (begin_line Adds) front S ls q →
     Consumed (Text marked) end (at_place false d c) front S ls q
 opened_tail marked end d c [] front T S ls q e a = opened marked end d c front 0 T S ls q e a
 opened_tail marked end d c (l ∷ k) front T S ls q e a = opened marked end d c front (l + 2) ((literal_symbols k ++ Number 0 ∷ []) ++ T) S ls q e a
@@ -207,7 +207,7 @@ consume_lines f end (line ∷ lines) d c front S h e =
 
 -- the beginning of a line
 record BegunConsumed (f : Encoding) (end : ℕ) (d : LineKind) (c : Clause) (front : List Token) (begun : List Symbol) : Type 0 where
-  place : Place
+  place : ParserState
   inside_is : place.inside ≡ is_some begun
   consumed : Consumed f end (at_place false d c) front [] [] place
 
@@ -261,7 +261,7 @@ consume_begun f end d c begun front (inr b) e = subst (λ x. BegunConsumed f end
 
 -- lines and the beginning of one
 record AllConsumed (f : Encoding) (end : ℕ) (front : List Token) (lines : List ProofLine) (begun : List Symbol) : Type 0 where
-  place : Place
+  place : ParserState
   inside_is : place.inside ≡ is_some begun
   reads : (more : List Token) → read f end between (front ++ more) ≡ with_lines lines (read f end place more)
 
@@ -338,7 +338,7 @@ parsed_wrong f end us lines o w =
     ∙ ap (λ x. parsing (lines ++ []) (Some x)) (n.offset w.token.at end ∙ sym w.offset_is)
     ∙ ap (λ x. parsing x (Some o)) (append-nil lines)
 
-cut_read : (f : Encoding) (end : ℕ) (p : Place) (back : List Token) → IsCutOff back → p.inside ≡ true → read f end p back ≡ parsing [] (Some end)
+cut_read : (f : Encoding) (end : ℕ) (p : ParserState) (back : List Token) → IsCutOff back → p.inside ≡ true → read f end p back ≡ parsing [] (Some end)
 cut_read f end p [] c e = ap (λ t. parsing [] (if t then Some end else None)) e
 cut_read f end p (u ∷ us) c e = ap (λ s. read_by f end p s u.at us) c ∙ cut f ∙ ap (λ t. parsing [] (Some (if t then end else u.at))) e
   where

@@ -11,14 +11,14 @@ use Rattle.varisat_proof.specs.declared.checker.token.Event.{Event}
 use Rattle.varisat_proof.specs.declared.checker.token.Event.TheVariants.{More, Ended, Fault}
 use Rattle.varisat_proof.specs.Grammar.{Token, symbols, literal_symbols, mark_symbols, begun_symbols, line_symbols, is_some, is_kind, tag_kind, fits, IsBegunLine, IsCutOff, WrongToken, EndsInside}
 use Rattle.varisat_proof.specs.Lines.{ProofLine, line_of_kind, has_kind, HasKinds, letter_kind}
-use Rattle.varisat_proof.specs.Machine.{Place, Parsed, line_at, number_event, begin_event, begin_place, event, begin_line, after_number, moved, put, at_end, fault_offset, read, between}
+use Rattle.varisat_proof.specs.Machine.{ParserState, Parsed, line_at, number_event, begin_event, begin_place, event, begin_line, after_number, moved, put, at_end, fault_offset, read, between}
 
 -- 1. What a place has.
-abbrev pub place_symbols : Encoding → Place → List Symbol
+abbrev pub place_symbols : Encoding → ParserState → List Symbol
 place_symbols f p = if p.inside then begun_symbols f (line_at p) else []
 
 -- inside a line something was read
-pub record IsPlace (f : Encoding) (p : Place) : Type 0 where
+pub record IsClauseRef (f : Encoding) (p : ParserState) : Type 0 where
   pub some : is_some (place_symbols f p) ≡ p.inside
   pub has : has_kind f p.kind ≡ true
 
@@ -43,12 +43,12 @@ kind_of (suc (suc l)) = let e : l + 2 ≡ suc (suc l) = omega arith in subst Kin
 pub code_event : (l : ℕ) → number_event (l + 2) ≡ More
 code_event l = ap (λ t. if t then Ended else (if l + 2 == 1 then Fault else More)) (two_not_zero l) ∙ ap (λ t. if t then Fault else More) (two_not_one l)
 
-pub code_place : (p : Place) (l : ℕ) → after_number p (l + 2) ≡ record { inside = true; kind = p.kind; clause = p.clause ++ l ∷ [] }
+pub code_place : (p : ParserState) (l : ℕ) → after_number p (l + 2) ≡ record { inside = true; kind = p.kind; clause = p.clause ++ l ∷ [] }
 code_place p l =
-    let old : Place = record { inside = false; kind = p.kind; clause = p.clause } in
-    let new : Place = record { inside = true; kind = p.kind; clause = p.clause ++ (l + 2 - 2) ∷ [] } in
+    let old : ParserState = record { inside = false; kind = p.kind; clause = p.clause } in
+    let new : ParserState = record { inside = true; kind = p.kind; clause = p.clause ++ (l + 2 - 2) ∷ [] } in
     let e : l + 2 - 2 ≡ l = omega arith in
-    let made : ℕ → Place = λ x. record { inside = true; kind = p.kind; clause = p.clause ++ x ∷ [] } in
+    let made : ℕ → ParserState = λ x. record { inside = true; kind = p.kind; clause = p.clause ++ x ∷ [] } in
     ap (λ t. if t then old else (if l + 2 == 1 then p else new)) (two_not_zero l) ∙ ap (λ t. if t then p else new) (two_not_one l) ∙ ap made e
 
 literals_more : (c : Clause) (l : ℕ) → literal_symbols (c ++ l ∷ []) ≡ literal_symbols c ++ Number (l + 2) ∷ []
@@ -65,26 +65,26 @@ some_end (x ∷ ss) s = refl
 
 -- 2. What a symbol does.
 -- more of a line was read
-pub record Moves (f : Encoding) (p : Place) (s : Symbol) (q : Place) : Type 0 where
+pub record Moves (f : Encoding) (p : ParserState) (s : Symbol) (q : ParserState) : Type 0 where
   pub symbols_are : place_symbols f q ≡ place_symbols f p ++ s ∷ []
-  pub is_place : IsPlace f q
+  pub is_place : IsClauseRef f q
 
 -- the line ended
-pub record Closes (f : Encoding) (p : Place) (s : Symbol) (q : Place) : Type 0 where
+pub record Closes (f : Encoding) (p : ParserState) (s : Symbol) (q : ParserState) : Type 0 where
   pub line_is : line_symbols f (line_at q) ≡ place_symbols f p ++ s ∷ []
   pub outside : q.inside ≡ false
   pub has : has_kind f q.kind ≡ true
 
 -- the symbol does not fit
-pub record Stops (f : Encoding) (p : Place) (s : Symbol) : Type 0 where
+pub record Stops (f : Encoding) (p : ParserState) (s : Symbol) : Type 0 where
   pub why : ((s ≡ Cut) × (p.inside ≡ true)) ⊎ ((fits f (is_some (place_symbols f p)) s ≡ false) × ((at end : ℕ) → fault_offset p.inside s at end ≡ at))
 
-abbrev Does : Encoding → Place → Symbol → Event → Place → Type 0
+abbrev Does : Encoding → ParserState → Symbol → Event → ParserState → Type 0
 Does f p s More q = Moves f p s q
 Does f p s Ended q = Closes f p s q
 Does f p s Fault q = Stops f p s
 
-abbrev pub at_place : Bool → LineKind → Clause → Place
+abbrev pub at_place : Bool → LineKind → Clause → ParserState
 at_place i d c = record { inside = i; kind = d; clause = c }
 
 -- a number inside a line
@@ -95,11 +95,11 @@ code_moves f d c l k = record {
   is_place = record { some = ap is_some (begun_more f d c l) ∙ some_end (begun_symbols f (line_of_kind d c)) (Number (l + 2)); has = k };
 }
 
-number_does : (f : Encoding) (d : LineKind) (c : Clause) (n : ℕ) → Kind n → IsPlace f (at_place true d c) →
+number_does : (f : Encoding) (d : LineKind) (c : Clause) (n : ℕ) → Kind n → IsClauseRef f (at_place true d c) →
     Does f (at_place true d c) (Number n) (number_event n) (after_number (at_place true d c) n)
 number_does f d c _ Stop h = record { line_is = refl; outside = refl; has = h.has }
 number_does f d c _ One h = record { why = inr (ap (λ t. fits f t (Number 1)) h.some ∙ refl, λ at end. refl) }
-number_does f d c _ (Code l) h = let P : Event → Place → Type 0 = λ e q. Does f (at_place true d c) (Number (l + 2)) e q in
+number_does f d c _ (Code l) h = let P : Event → ParserState → Type 0 = λ e q. Does f (at_place true d c) (Number (l + 2)) e q in
     subst (λ e. P e (after_number (at_place true d c) (l + 2))) (sym (code_event l))
     (subst (λ q. Moves f (at_place true d c) (Number (l + 2)) q) (sym (code_place (at_place true d c) l)) (code_moves f d c l h.has))
 
@@ -108,7 +108,7 @@ first_does : (marked : Bool) (d : LineKind) (c : Clause) (n : ℕ) → Kind n �
     Does (Text marked) (at_place false d c) (Number n) (number_event n) (after_number (begin_line Adds) n)
 first_does marked d c _ Stop = record { line_is = refl; outside = refl; has = refl }
 first_does marked d c _ One = record { why = inr (refl, λ at end. refl) }
-first_does marked d c _ (Code l) = let P : Event → Place → Type 0 = λ e q. Does (Text marked) (at_place false d c) (Number (l + 2)) e q in
+first_does marked d c _ (Code l) = let P : Event → ParserState → Type 0 = λ e q. Does (Text marked) (at_place false d c) (Number (l + 2)) e q in
     subst (λ e. P e (after_number (begin_line Adds) (l + 2))) (sym (code_event l))
     (subst (λ q. Moves (Text marked) (at_place false d c) (Number (l + 2)) q) (sym (code_place (begin_line Adds) l))
     (record { symbols_are = refl; is_place = record { some = refl; has = refl } }))
@@ -156,7 +156,7 @@ begin_does f (Some kind) d c s b e o =
     let h : begun_symbols f (line_of_kind kind []) ≡ s ∷ [] = append-nil (mark_symbols f kind) ∙ w.symbols_are in
     record { symbols_are = h; is_place = record { some = ap is_some h; has = w.has } }
 
-symbol_does : (f : Encoding) (i : Bool) (d : LineKind) (c : Clause) (s : Symbol) → IsPlace f (at_place i d c) →
+symbol_does : (f : Encoding) (i : Bool) (d : LineKind) (c : Clause) (s : Symbol) → IsClauseRef f (at_place i d c) →
     Does f (at_place i d c) s (event f i s) (moved f (at_place i d c) s)
 symbol_does (Text marked) true d c (Mark b) h = record { why = inr (ap (λ t. fits (Text marked) t (Mark b)) h.some ∙ refl, λ at end. refl) }
 symbol_does (Text marked) false d c (Mark b) h = begin_does (Text marked) (letter_kind marked b) d c (Mark b)
@@ -266,15 +266,15 @@ so_line f end pre u us line lines fault e kind h =
     so_front f end pre [] u us lines (line ∷ lines) fault (λ ss begun w. sym (append_assoc pre (u.symbol ∷ []) ss) ∙ ap (λ x. x ++ ss) (sym e) ∙
     ap (λ x. line_symbols f line ++ x) w ∙ sym (append_assoc (line_symbols f line) (flat_map (line_symbols f) lines) begun)) (λ k. (kind, k)) h
 
-outside_signs : (f : Encoding) (p : Place) → p.inside ≡ false → has_kind f p.kind ≡ true → (place_symbols f p ≡ []) × IsPlace f p
+outside_signs : (f : Encoding) (p : ParserState) → p.inside ≡ false → has_kind f p.kind ≡ true → (place_symbols f p ≡ []) × IsClauseRef f p
 outside_signs f p e k = let h : place_symbols f p ≡ [] = ap (λ t. if t then begun_symbols f (line_at p) else []) e in
     (h, record { some = ap is_some h ∙ sym e; has = k })
 
-inside_begun : (f : Encoding) (p : Place) → has_kind f p.kind ≡ true → IsBegunLine f (place_symbols f p)
+inside_begun : (f : Encoding) (p : ParserState) → has_kind f p.kind ≡ true → IsBegunLine f (place_symbols f p)
 inside_begun f p k = place_begun f p.inside p.kind p.clause k
 
-so_step : (f : Encoding) (end : ℕ) (p q : Place) (u : Token) (us : List Token) (e : Event) (t : Parsed) → IsPlace f p → Does f p u.symbol e q →
-    (IsPlace f q → So f end (place_symbols f q) us t) →
+so_step : (f : Encoding) (end : ℕ) (p q : ParserState) (u : Token) (us : List Token) (e : Event) (t : Parsed) → IsClauseRef f p → Does f p u.symbol e q →
+    (IsClauseRef f q → So f end (place_symbols f q) us t) →
     So f end (place_symbols f p) (u ∷ us) (put e (line_at q) (fault_offset p.inside u.symbol u.at end) t)
 so_step f end p q u us More t h d k = so_more f end (place_symbols f p) (place_symbols f q) u us t.lines t.fault d.symbols_are (k d.is_place)
 so_step f end p q u us Ended t h d k = let o = outside_signs f q d.outside d.has in
@@ -312,7 +312,7 @@ so_step f end p q u us Fault t h d k = ⊎_elim cut_off wrong d.why
       offset_is = w.1 u.at end;
     })
 
-so_end : (f : Encoding) (end : ℕ) (i : Bool) (d : LineKind) (c : Clause) → IsPlace f (at_place i d c) →
+so_end : (f : Encoding) (end : ℕ) (i : Bool) (d : LineKind) (c : Clause) → IsClauseRef f (at_place i d c) →
     So f end (place_symbols f (at_place i d c)) [] (at_end end (at_place i d c))
 so_end f end true d c h = inr (
   record {
@@ -330,7 +330,7 @@ so_end f end true d c h = inr (
 )
 so_end f end false d c h = (tt, refl)
 
-sound : (f : Encoding) (end : ℕ) (us : List Token) (p : Place) → IsPlace f p → So f end (place_symbols f p) us (read f end p us)
+sound : (f : Encoding) (end : ℕ) (us : List Token) (p : ParserState) → IsClauseRef f p → So f end (place_symbols f p) us (read f end p us)
 sound f end [] p h = so_end f end p.inside p.kind p.clause h
 sound f end (u ∷ us) p h =
     so_step f end p (moved f p u.symbol) u us (event f p.inside u.symbol) (read f end (moved f p u.symbol) us) h

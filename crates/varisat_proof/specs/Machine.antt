@@ -17,13 +17,13 @@ use Rattle.varisat_proof.specs.Grammar.{Token, is_kind, tag_kind, meant}
 
 -- 1. Symbols.
 -- Where a reader stands: inside a line or between two, what kind of line it is, and its literals so far. Between two lines these are the last line's.
-pub record Place : Type 0 where
+pub record ParserState : Type 0 where
   pub inside : Bool
   pub kind : LineKind
   pub clause : Clause
 
 -- the line that a place has
-abbrev pub line_at : Place → ProofLine
+abbrev pub line_at : ParserState → ProofLine
 line_at p = line_of_kind p.kind p.clause
 
 -- what a number does inside a line: 0 ends it, and 1 is no literal
@@ -52,22 +52,22 @@ IsSmall Cut = Unit {0}
 IsSmall Bad = Unit {0}
 
 -- a line of the kind has begun
-abbrev pub begin_line : LineKind → Place
+abbrev pub begin_line : LineKind → ParserState
 begin_line kind = record { inside = true; kind = kind; clause = [] }
 
 -- the place behind a number
-abbrev pub after_number : Place → ℕ → Place
+abbrev pub after_number : ParserState → ℕ → ParserState
 after_number p n =
     if n == 0 then record { inside = false; kind = p.kind; clause = p.clause } else (
     if n == 1 then p else record { inside = true; kind = p.kind; clause = p.clause ++ (n - 2) ∷ [] })
 
 -- the place behind a mark, if it is one
-abbrev pub begin_place : Option LineKind → Place → Place
+abbrev pub begin_place : Option LineKind → ParserState → ParserState
 begin_place None p = p
 begin_place (Some kind) p = begin_line kind
 
 -- the place behind a symbol that fits
-abbrev pub moved : Encoding → Place → Symbol → Place
+abbrev pub moved : Encoding → ParserState → Symbol → ParserState
 moved encoding p Cut = p
 moved encoding p Bad = p
 moved (Text marked) p (Mark b) = if p.inside then p else begin_place (letter_kind marked b) p
@@ -87,7 +87,7 @@ put Ended line at parsed = record { lines = line ∷ parsed.lines; fault = parse
 put Fault line at parsed = record { lines = []; fault = Some at }
 
 -- the end is a fault inside a line
-abbrev pub at_end : ℕ → Place → Parsed
+abbrev pub at_end : ℕ → ParserState → Parsed
 at_end end p = record { lines = []; fault = if p.inside then Some end else None }
 
 -- the offset of a fault: the end's, where a number is cut off inside a line
@@ -98,14 +98,14 @@ fault_offset inside Cut at end = if inside then end else at
 fault_offset inside Bad at end = at
 
 -- the lines of the tokens from a place on, and the first fault
-abbrev pub read : Encoding → ℕ → Place → List Token → Parsed
+abbrev pub read : Encoding → ℕ → ParserState → List Token → Parsed
 read encoding end p [] = at_end end p
 read encoding end p (u ∷ us) =
     put (event encoding p.inside u.symbol) (line_at (moved encoding p u.symbol)) (fault_offset p.inside u.symbol u.at end)
     (read encoding end (moved encoding p u.symbol) us)
 
 -- between two lines
-abbrev pub between : Place
+abbrev pub between : ParserState
 between = record { inside = false; kind = Adds; clause = [] }
 
 -- 3. Bytes.
@@ -168,7 +168,7 @@ pub record ReaderState : Type 0 where
   pub at : ℕ
   pub start : ℕ
   pub part : Part
-  pub place : Place
+  pub place : ParserState
 
 -- before the first byte
 abbrev pub begin : Encoding → ReaderState
@@ -179,7 +179,7 @@ abbrev pub happens : ReaderState → ℕ → Event
 happens p b = if ends p.encoding p.part b then event p.encoding p.place.inside (symbol_of p.encoding p.part b) else More
 
 -- behind the end of a token
-abbrev pub ended_token : ReaderState → Place → ReaderState
+abbrev pub ended_token : ReaderState → ParserState → ReaderState
 ended_token p place = record { encoding = p.encoding; at = next p.at; start = next p.at; part = no_part; place = place }
 
 -- behind a byte that ends no token
@@ -201,7 +201,7 @@ abbrev pub last_event : ReaderState → Event
 last_event p = if p.part.count == 0 then More else event p.encoding p.place.inside (last_symbol p.encoding p.part)
 
 -- the place behind that token
-abbrev pub last_place : ReaderState → Place
+abbrev pub last_place : ReaderState → ParserState
 last_place p = if p.part.count == 0 then p.place else moved p.encoding p.place (last_symbol p.encoding p.part)
 
 -- where a fault of that token is told

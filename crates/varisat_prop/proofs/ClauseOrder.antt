@@ -3,7 +3,7 @@ use Rattle.std.proofs.Common.{◌≡◌, ℕ, ◌<◌, ◌≤◌, List, [], ◌�
 use Rattle.varisat_theory.specs.Membership.{◌∈◌, IsDistinct}
 use Rattle.varisat_theory.specs.Literals.{Literal, Clause, variable_of}
 use Rattle.varisat_prop.specs.declared.prop.graph.Reason.TheVariants as reason
-use Rattle.varisat_clause.specs.Stored.{StoredClause, literals_of, IsPlace, with_literals, AreReordered}
+use Rattle.varisat_clause.specs.Stored.{StoredClause, literals_of, IsClauseRef, with_literals, AreReordered}
 use Rattle.varisat_theory.proofs.Members.{∈-append_left, ∈-append_right, ∈-append_cases}
 use Rattle.varisat_prop.specs.View.{View, pairs_from, kept, IsTrueIn, clause_at, node_at, Implies, IsReason, WellFormed, ViewFits, GrowsTrail}
 use Rattle.varisat_prop.specs.Looks.{Propagates}
@@ -39,7 +39,7 @@ unused s i w n k h e = let r : IsReason s k (reason.Long i) = subst (IsReason s 
     first-true [] m = absurd m
     first-true (x ∷ d) (e, m) = subst (IsTrueIn s) (sym e) (w.is_true k h)
 
-module _ (s : View) (i : ℕ) (d : Clause) (w : WellFormed s) (a : IsPlace s.clauses i) (r : IsRearranged (clause_at s i) d)
+module _ (s : View) (i : ℕ) (d : Clause) (w : WellFormed s) (a : IsClauseRef s.clauses i) (r : IsRearranged (clause_at s i) d)
     (n : (k : ℕ) → k < length s.trail → (node_at s k).reason ≡ reason.Long i → ⊥) where
   abbrev u : View
   u = reordered s i d
@@ -72,7 +72,7 @@ module _ (s : View) (i : ℕ) (d : Clause) (w : WellFormed s) (a : IsPlace s.cla
   changed-unused = record { well = changed-well; grows = changed-grows; decisions = refl }
 
 -- a clause changes its order only where its first literal isn't true
-pub changed : (s : View) (i : ℕ) (d : Clause) → WellFormed s → IsPlace s.clauses i → IsRearranged (clause_at s i) d → (d ≡ clause_at s i)
+pub changed : (s : View) (i : ℕ) (d : Clause) → WellFormed s → IsClauseRef s.clauses i → IsRearranged (clause_at s i) d → (d ≡ clause_at s i)
     ⊎ (IsTrueIn s (literal_in (clause_at s i) 0) → ⊥) → Propagates s (reordered s i d)
 changed s i d w a r o =
     ⊎_elim

@@ -8,7 +8,7 @@ use Rattle.varisat_theory.proofs.Members.{∈-append_left, ∈-append_right}
 use Rattle.varisat_literals.specs.Numbers.{polarity_of}
 use Rattle.varisat_prop.specs.declared.prop.graph.Reason.{Reason}
 use Rattle.varisat_prop.specs.declared.prop.graph.Reason.TheVariants as reason
-use Rattle.varisat_clause.specs.Stored.{IsPlace}
+use Rattle.varisat_clause.specs.Stored.{IsClauseRef}
 use Rattle.varisat_prop.specs.View.{View, implied_by, IsTrueIn, clause_at, literal_at, decision_at, node_at, Implies, IsReason, WellFormed, IsFixed, ViewFits, GrowsTrail}
 use Rattle.varisat_prop.specs.Changes.{enqueued, decided_on}
 use Rattle.varisat_prop.proofs.TrailExtend.{ext, ext-length, literal-old, literal-new, node-old, node-new, node-other, fresh, true-old, each-place, place-cases, Levels, ext-well, get_or-last}
@@ -18,7 +18,7 @@ use Rattle.varisat_clause.proofs.StoredClauses.{reordered-refl}
 abbrev pub MayImply : View → Literal → Reason → Type 0
 MayImply s l reason.Unit = s.decisions ≡ []
 MayImply s l (reason.Binary ms) = (m : Literal) × (ms ≡ m ∷ []) × (l ∈ implied_by s (opposite m)) × IsTrueIn s (opposite m)
-MayImply s l (reason.Long i) = IsPlace s.clauses i × ((others : Clause) × (clause_at s i ≡ l ∷ others) × ((m : Literal) → m ∈ others → IsTrueIn s (opposite m)))
+MayImply s l (reason.Long i) = IsClauseRef s.clauses i × ((others : Clause) × (clause_at s i ≡ l ∷ others) × ((m : Literal) → m ∈ others → IsTrueIn s (opposite m)))
 
 module _ (s : View) (l : Literal) (r : Reason) (w : WellFormed s) (inside : variable_of l < length s.values)
     (free : get_or s.values (variable_of l) None ≡ None) where

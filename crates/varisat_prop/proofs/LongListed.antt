@@ -13,7 +13,7 @@ use Rattle.varisat_prop.specs.declared.prop.watch_list.Watch.{Watch}
 use Rattle.varisat_prop.specs.declared.prop.long.Visit.{Visit}
 use Rattle.varisat_prop.specs.declared.prop.long.Visit.TheVariants as visit
 use Rattle.varisat_prop.specs.declared.prop.graph.Conflict.TheVariants as conflict
-use Rattle.varisat_clause.specs.Stored.{IsPlace}
+use Rattle.varisat_clause.specs.Stored.{IsClauseRef}
 use Rattle.varisat_clause.proofs.StoredClauses.{reordered-at, reordered-place, reordered-place-back}
 use Rattle.varisat_prop.specs.Watches.{Watches, watches_of, with_watches, literal_in, IsWatchedBy, IsKnownWatch, NameOnce, HasWatch, IsSatisfied, WatchesHoldTo, IsWatched}
 use Rattle.varisat_prop.specs.Visits.{IsVisited, IsVisit}
@@ -78,10 +78,10 @@ module _ (s t : View) (W : Watches) (q : ℕ) (l : Literal) (kept rest : List Wa
     inside' : l < length V.lists
     inside' = let n = v.adds.count in let m = g.inside in omega (arith, n, m)
 
-    place-on : (k : ℕ) → IsPlace t.clauses k → IsPlace u.clauses k
+    place-on : (k : ℕ) → IsClauseRef t.clauses k → IsClauseRef u.clauses k
     place-on k h = reordered-place t.clauses u.clauses k v.propagates.grows.clauses h
 
-    place-back : (k : ℕ) → IsPlace u.clauses k → IsPlace t.clauses k
+    place-back : (k : ℕ) → IsClauseRef u.clauses k → IsClauseRef t.clauses k
     place-back k h = reordered-place-back t.clauses u.clauses k v.propagates.grows.clauses h
 
     own-list : watches_of B l ≡ kept' ++ rest
@@ -148,7 +148,7 @@ module _ (s t : View) (W : Watches) (q : ℕ) (l : Literal) (kept rest : List Wa
     known-new : (x : Literal) (y : Watch) → (y.cref ≡ i) × (y.blocking ∈ clause_at u i) × IsWatchedBy (clause_at u i) (opposite x) →
         IsKnownWatch u.clauses x y
     known-new x y (e, h, o) = (
-      subst (IsPlace u.clauses) (sym e) (place-on i watch-known.0),
+      subst (IsClauseRef u.clauses) (sym e) (place-on i watch-known.0),
       subst (λ k. y.blocking ∈ clause_at u k) (sym e) h,
       subst (λ k. IsWatchedBy (clause_at u k) (opposite x)) (sym e) o,
     )

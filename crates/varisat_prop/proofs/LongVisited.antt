@@ -26,7 +26,7 @@ use Rattle.varisat_prop.specs.declared.prop.long.Visit.TheVariants as visit
 use Rattle.varisat_prop.specs.Watches.{Watches, watches_of, with_watches, literal_in, IsWatchedBy, HasWatch, IsSatisfied, IsRearranged}
 use Rattle.varisat_prop.specs.Visits.{IsPair, IsFound, AddsWatches, IsVisited, IsVisit}
 use Rattle.varisat_prop.specs.QueueSteps.{SearchParts, view_of_parts, KeepsParts, IsWatchOf, IsReorderedAt, IsVisitedAs, with_lists}
-use Rattle.varisat_clause.specs.Stored.{StoredClause, IsPlace, literals_at}
+use Rattle.varisat_clause.specs.Stored.{StoredClause, IsClauseRef, literals_at}
 use Rattle.varisat_clause.specs.Stores.{Store}
 use Rattle.varisat_clause.specs.Collected.{live_clauses}
 use Rattle.varisat_clause.proofs.StoreSound.{sound-is}
@@ -55,7 +55,7 @@ pub kept-by-blocking : (s : View) (l b : Literal) (i : ℕ) → WellFormed s →
     IsVisit s l i (visit.Keep b)
 kept-by-blocking s l b i w h o t = (h, o, satisfied-by s (clause_at s i) b w h t)
 
-module _ (s : View) (W : Watches) (i : ℕ) (d : Clause) (l : Literal) (w : WellFormed s) (a : IsPlace s.clauses i) (tr : IsTrueIn s l) where
+module _ (s : View) (W : Watches) (i : ℕ) (d : Clause) (l : Literal) (w : WellFormed s) (a : IsClauseRef s.clauses i) (tr : IsTrueIn s l) where
   abbrev c : Clause
   c = clause_at s i
 
@@ -77,7 +77,7 @@ module _ (s : View) (W : Watches) (i : ℕ) (d : Clause) (l : Literal) (w : Well
   elsewhere-is : (k : ℕ) → k ≢ i → clause_at u k ≡ clause_at s k
   elsewhere-is k n = with-other s.clauses i k d n
 
-  place-in : IsRearranged c d → IsPlace u.clauses i
+  place-in : IsRearranged c d → IsClauseRef u.clauses i
   place-in r = reordered-place s.clauses u.clauses i (with-reordered s.clauses i d r.same) a
 
   -- the first literal was l or false

@@ -5,7 +5,7 @@ use Rattle.varisat_theory.specs.Literals.{Literal, Clause, opposite, variable_of
 use Rattle.varisat_theory.proofs.Members.{∈-append_cases}
 use Rattle.varisat_theory.proofs.Places.{∈-get_or}
 use Rattle.varisat_theory.proofs.Values.{opposite_twice}
-use Rattle.varisat_clause.specs.Stored.{StoredClause, literals_of, IsPlace, AreRising}
+use Rattle.varisat_clause.specs.Stored.{StoredClause, literals_of, IsClauseRef, AreRising}
 use Rattle.varisat_prop.specs.declared.prop.graph.Reason.TheVariants as reason
 use Rattle.varisat_prop.specs.View.{View, pairs_from, kept, clause_at, literal_at, node_at, IsReason, WellFormed, PropagatedBeforeDecisions}
 use Rattle.varisat_prop.specs.Watches.{Watches, watches_of, literal_in, WatchesHoldTo, IsImpliedTo, IsPropagated}
@@ -84,7 +84,7 @@ module _ (t : View) (w : WellFormed t) (free : (c : Clause) → c ∈ kept t →
   not-false c h k b l i e = none-made t.values l (literal_at t k) (unassigned-none t.values l (free c h l i))
       (ap variable_of e ∙ variable-opposite l) (w.is_true k b)
 
-  watched-in : (i j : ℕ) → IsPlace t.clauses i → j < 2 → literal_in (clause_at t i) j ∈ clause_at t i
+  watched-in : (i j : ℕ) → IsClauseRef t.clauses i → j < 2 → literal_in (clause_at t i) j ∈ clause_at t i
   watched-in i j a l = ∈-get_or (clause_at t i) j 0 (let n = w.several (clause_at t i) (kept-here t i a) in omega (arith, l, n))
 
   -- what stands on the trail is settled

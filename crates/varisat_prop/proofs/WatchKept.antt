@@ -10,7 +10,7 @@ use Rattle.varisat_theory.proofs.Members.{equal_or_not, ∈-append_left, ∈-app
 use Rattle.varisat_literals.specs.Numbers.{polarity_of}
 use Rattle.varisat_prop.specs.declared.prop.graph.Reason.{Reason}
 use Rattle.varisat_prop.specs.declared.prop.graph.Reason.TheVariants as reason
-use Rattle.varisat_clause.specs.Stored.{StoredClause, IsPlace, literals_at}
+use Rattle.varisat_clause.specs.Stored.{StoredClause, IsClauseRef, literals_at}
 use Rattle.varisat_prop.specs.View.{View, clause_at, literal_at, decision_at, WellFormed}
 use Rattle.varisat_prop.specs.Changes.{enqueued, decided_on}
 use Rattle.varisat_prop.specs.declared.prop.watch_list.Watch.{Watch}
@@ -108,7 +108,7 @@ module _ (P : List StoredClause) (c : StoredClause) (last : (k : StoredClause) �
   abbrev more : List StoredClause
   more = P ++ c ∷ []
 
-  old-at : (i : ℕ) → IsPlace P i → literals_at more i ≡ literals_at P i
+  old-at : (i : ℕ) → IsClauseRef P i → literals_at more i ≡ literals_at P i
   old-at i h = ap (λ x. x.literals) (stored-more P c i h)
 
   new-at : literals_at more c.place ≡ c.literals
@@ -129,7 +129,7 @@ module _ (P : List StoredClause) (c : StoredClause) (last : (k : StoredClause) �
           subst (λ d. IsWatchedBy d (opposite x)) (sym (old-at y.cref a)) by,
         ))
         (λ (e, b, by). let at = ap (λ k. literals_at more k) e ∙ new-at in (
-          subst (IsPlace more) (sym e) (place-last P c),
+          subst (IsClauseRef more) (sym e) (place-last P c),
           subst (λ d. y.blocking ∈ d) (sym at) b,
           subst (λ d. IsWatchedBy d (opposite x)) (sym at) by,
         ))
@@ -149,7 +149,7 @@ module _ (P : List StoredClause) (c : StoredClause) (last : (k : StoredClause) �
       WatchesHoldTo (record s { clauses = more }) q
   settled-more s q f n st = λ i j p a b h e. ⊎_elim
       (λ k. let g : literals_at more i ≡ clause_at s i = old-at i k ∙ ap (λ x. literals_at x i) (sym f) in
-      subst (λ d. IsCovered s d p) (sym g) (st i j p (subst (λ x. IsPlace x i) (sym f) k) b h (e ∙ ap (λ d. opposite (literal_in d j)) g)))
+      subst (λ d. IsCovered s d p) (sym g) (st i j p (subst (λ x. IsClauseRef x i) (sym f) k) b h (e ∙ ap (λ d. opposite (literal_in d j)) g)))
       (λ k. let g : literals_at more i ≡ c.literals = ap (λ x. literals_at more x) k ∙ new-at in
       subst (λ d. IsCovered s d p) (sym g) (n j p b h (e ∙ ap (λ d. opposite (literal_in d j)) g)))
       (place-cases-more P c i a)

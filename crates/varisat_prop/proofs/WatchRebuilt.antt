@@ -2,7 +2,7 @@
 use Rattle.std.proofs.Common.{◌≡◌, ◌≢◌, ℕ, zero, suc, true, ◌+◌, ◌<◌, ◌++◌, List, [], ◌∷◌, map, get_or, replicate, ◌⊎◌, inl, inr, ⊎_elim, refl, sym, ap, ◌∙◌, subst, arith, append_assoc}
 use Rattle.varisat_theory.specs.Membership.{◌∈◌, IsDistinct}
 use Rattle.varisat_theory.specs.Literals.{Literal, opposite}
-use Rattle.varisat_clause.specs.Stored.{StoredClause, IsPlace, AreRising, literals_at}
+use Rattle.varisat_clause.specs.Stored.{StoredClause, IsClauseRef, AreRising, literals_at}
 use Rattle.varisat_prop.specs.declared.prop.watch_list.Watch.{Watch}
 use Rattle.varisat_prop.specs.Watches.{Watches, watches_of, literal_in, IsWatchedBy, IsKnownWatch, NameOnce, HasWatch, IsWatching}
 use Rattle.varisat_prop.specs.Visits.{WatchesClause}
@@ -32,8 +32,8 @@ pub record WatchingBut (W : Watches) (P : List StoredClause) (left : List ℕ) :
   pub once : (x : Literal) → NameOnce (watches_of W x)
   pub passed : (x : Literal) (w : Watch) → w ∈ watches_of W x → w.cref ∈ left → ⊥
   pub distinct : IsDistinct left
-  pub watched : (i j : ℕ) → IsPlace P i → j < 2 → (i ∈ left) ⊎ HasWatch (watches_of W (opposite (literal_in (literals_at P i) j))) i
-  pub places : (i : ℕ) → i ∈ left → IsPlace P i
+  pub watched : (i j : ℕ) → IsClauseRef P i → j < 2 → (i ∈ left) ⊎ HasWatch (watches_of W (opposite (literal_in (literals_at P i) j))) i
+  pub places : (i : ℕ) → i ∈ left → IsClauseRef P i
 
 pub but-all : (W : Watches) (P : List StoredClause) → AreRising P → ((x : Literal) → watches_of W x ≡ []) → WatchingBut W P (map (λ k. k.place) P)
 but-all W P r e = record {
@@ -50,7 +50,7 @@ but-all W P r e = record {
     to-places (c ∷ P) k (inl e) = inl (ap (λ (x : StoredClause). x.place) e)
     to-places (c ∷ P) k (inr h) = inr (to-places P k h)
 
-    from-places : (P : List StoredClause) (i : ℕ) → i ∈ map (λ k. k.place) P → IsPlace P i
+    from-places : (P : List StoredClause) (i : ℕ) → i ∈ map (λ k. k.place) P → IsClauseRef P i
     from-places [] i h = absurd h
     from-places (c ∷ P) i (inl e) = (c, inl refl, sym e)
     from-places (c ∷ P) i (inr h) = let (k, a, f) = from-places P i h in (k, inr a, f)
@@ -66,7 +66,7 @@ but-next W V P k left on w apart v = record {
   known = λ x y h. ⊎_elim
       (λ m. w.known x y m)
       (λ (e, b, by). (
-        subst (IsPlace P) (sym e) (w.places k (inl refl)),
+        subst (IsClauseRef P) (sym e) (w.places k (inl refl)),
         subst (λ i. y.blocking ∈ literals_at P i) (sym e) b,
         subst (λ i. IsWatchedBy (literals_at P i) (opposite x)) (sym e) by,
       ))

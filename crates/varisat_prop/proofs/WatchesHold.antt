@@ -12,7 +12,7 @@ use Rattle.varisat_prop.proofs.LiteralValues.{made-clash}
 use Rattle.varisat_prop.proofs.DistinctPlaces.{distinct-places}
 use Rattle.varisat_prop.proofs.TrailValues.{on-trail, trail-true}
 use Rattle.varisat_prop.specs.declared.prop.watch_list.Watch.{Watch}
-use Rattle.varisat_clause.specs.Stored.{literals_of, IsPlace, literals_at, with_literals}
+use Rattle.varisat_clause.specs.Stored.{literals_of, IsClauseRef, literals_at, with_literals}
 use Rattle.varisat_clause.proofs.StoredClauses.{from-literals, stored-found, reordered-place-back, with-reordered, with-same, with-other}
 use Rattle.varisat_theory.proofs.Members.{∈-append_cases}
 use Rattle.varisat_theory.proofs.Values.{opposite_twice}
@@ -59,7 +59,7 @@ settled-longer s t q g n st = λ i j p a b h e.
     let f : clause_at t i ≡ clause_at s i = ap (λ P. literals_at P i) g.clauses in
     subst (λ c. IsCovered t c p) (sym f)
     (covered-longer s t (clause_at s i) p (lengthens-goes-on s t g)
-    (st i j p (subst (λ P. IsPlace P i) g.clauses a) b h (sym (g.keeps p (omega (arith, h, n))) ∙ e ∙ ap (λ c. opposite (literal_in c j)) f)))
+    (st i j p (subst (λ P. IsClauseRef P i) g.clauses a) b h (sym (g.keeps p (omega (arith, h, n))) ∙ e ∙ ap (λ c. opposite (literal_in c j)) f)))
 
 pub implied-longer : (s t : View) (q : ℕ) → GoesOn s t → q ≤ length s.trail → IsImpliedTo s q → IsImpliedTo t q
 implied-longer s t q g n st = λ m p h i.
@@ -78,10 +78,10 @@ pub settled-reordered : (s : View) (i q : ℕ) (d : Clause) → IsRearranged (cl
     → ((j : ℕ) → j < 2 → ((h : ℕ) × (h < 2) × (literal_in d j ≡ literal_in (clause_at s i) h)) ⊎ ((p : ℕ) → p < q → literal_at s p ≢ opposite (literal_in d j)))
     → WatchesHoldTo s q → WatchesHoldTo (reordered s i d) q
 settled-reordered s i q d r w st = λ k j p a b h e.
-    let a' : IsPlace s.clauses k = reordered-place-back s.clauses (with_literals s.clauses i d) k (with-reordered s.clauses i d r.same) a in
+    let a' : IsClauseRef s.clauses k = reordered-place-back s.clauses (with_literals s.clauses i d) k (with-reordered s.clauses i d r.same) a in
     ⊎_elim
     (λ f.
-    let i' : IsPlace s.clauses i = subst (IsPlace s.clauses) f a' in
+    let i' : IsClauseRef s.clauses i = subst (IsClauseRef s.clauses) f a' in
     let g : clause_at (reordered s i d) k ≡ d = ap (λ x. clause_at (reordered s i d) x) f ∙ with-same s.clauses i d i' in
     let e' : literal_at s p ≡ opposite (literal_in d j) = e ∙ ap (λ c. opposite (literal_in c j)) g in
     ⊎_elim
@@ -96,7 +96,7 @@ settled-reordered s i q d r w st = λ k j p a b h e.
 
 -- Of the clauses with a false literal l among the first two, those without a watch left are true.
 abbrev pub WatchesHoldBut : View → Literal → List Watch → Type 0
-WatchesHoldBut s l rest = (i j : ℕ) → IsPlace s.clauses i → j < 2 → l ≡ opposite (literal_in (clause_at s i) j) → HasWatch rest i ⊎ IsSatisfied s (clause_at s i)
+WatchesHoldBut s l rest = (i j : ℕ) → IsClauseRef s.clauses i → j < 2 → l ≡ opposite (literal_in (clause_at s i) j) → HasWatch rest i ⊎ IsSatisfied s (clause_at s i)
 
 -- the next literal is settled too, where no decision stands behind it
 pub settled-next : (s : View) (q : ℕ) (l : Literal) → literal_at s q ≡ l → ((j : ℕ) → j < length s.decisions → decision_at s j ≤ q) →
@@ -119,37 +119,37 @@ settled-complete s w st = record {
 }
   where
     -- each kept clause is that of a place
-    named : (c : Clause) → c ∈ literals_of s.clauses → (i : ℕ) × IsPlace s.clauses i × (clause_at s i ≡ c)
+    named : (c : Clause) → c ∈ literals_of s.clauses → (i : ℕ) × IsClauseRef s.clauses i × (clause_at s i ≡ c)
     named c h = let (k, j, e) = from-literals s.clauses c h in (k.place, (k, j, refl), ap (λ x. x.literals) (stored-found s.clauses w.places k j) ∙ e)
 
-    long : (i : ℕ) → IsPlace s.clauses i → 2 ≤ length (clause_at s i)
+    long : (i : ℕ) → IsClauseRef s.clauses i → 2 ≤ length (clause_at s i)
     long i a = w.several (clause_at s i) (kept-here s i a)
 
     -- a false literal among the first two has a true one beside it
-    beside : (i j : ℕ) → IsPlace s.clauses i → j < 2 → opposite (literal_in (clause_at s i) j) ∈ s.trail → (m : Literal) × (m ∈ clause_at s i) × IsTrueIn s m
+    beside : (i j : ℕ) → IsClauseRef s.clauses i → j < 2 → opposite (literal_in (clause_at s i) j) ∈ s.trail → (m : Literal) × (m ∈ clause_at s i) × IsTrueIn s m
     beside i j a b h =
         let (p, x, e) = place_in (opposite (literal_in (clause_at s i) j)) s.trail 0 h in
         let (k, y, m, o) = st i j p a b x e in
         (literal_at s k, m, w.is_true k y)
 
-    first-in : (i j : ℕ) → IsPlace s.clauses i → j < 2 → literal_in (clause_at s i) j ∈ clause_at s i
+    first-in : (i j : ℕ) → IsClauseRef s.clauses i → j < 2 → literal_in (clause_at s i) j ∈ clause_at s i
     first-in i j a b = ∈-get_or (clause_at s i) j 0 (let n = long i a in omega (arith, b, n))
 
     clash : (m : Literal) → IsTrueIn s m → opposite m ∈ s.trail → ⊥
     clash m t h = made-clash s.values m t (trail-true s w (opposite m) h)
 
-    not-false : (i : ℕ) → IsPlace s.clauses i → IsFalse s.trail (clause_at s i) → ⊥
+    not-false : (i : ℕ) → IsClauseRef s.clauses i → IsFalse s.trail (clause_at s i) → ⊥
     not-false i a f = let (m, h, t) = beside i 0 a (omega arith) (f (literal_in (clause_at s i) 0) (first-in i 0 a (omega arith))) in clash m t (f m h)
 
-    differ : (i : ℕ) → IsPlace s.clauses i → literal_in (clause_at s i) 0 ≢ literal_in (clause_at s i) 1
+    differ : (i : ℕ) → IsClauseRef s.clauses i → literal_in (clause_at s i) 0 ≢ literal_in (clause_at s i) 1
     differ i a = distinct-places (clause_at s i) 0 (w.distinct (clause_at s i) (kept-here s i a)) 0 1 (omega arith) (let n = long i a in omega (arith, n))
 
-    from-false : (i j : ℕ) (l : Literal) → IsPlace s.clauses i → j < 2 → LeavesOnly s.trail (clause_at s i) l →
+    from-false : (i j : ℕ) (l : Literal) → IsClauseRef s.clauses i → j < 2 → LeavesOnly s.trail (clause_at s i) l →
         opposite (literal_in (clause_at s i) j) ∈ s.trail → l ∈ s.trail
     from-false i j l a b u h = let (m, n, t) = beside i j a b h in
         ⊎_elim (λ e. subst (λ x. x ∈ s.trail) e (on-trail s w m t)) (λ z. absurd (clash m t z)) (u m n)
 
-    closes : (i : ℕ) → IsPlace s.clauses i → (l : Literal) → LeavesOnly s.trail (clause_at s i) l → l ∈ s.trail
+    closes : (i : ℕ) → IsClauseRef s.clauses i → (l : Literal) → LeavesOnly s.trail (clause_at s i) l → l ∈ s.trail
     closes i a l u =
         ⊎_elim
         (λ e. ⊎_elim (λ f. absurd (differ i a (e ∙ sym f))) (from-false i 1 l a (omega arith) u)

@@ -6,7 +6,7 @@ use Rattle.varisat_clause.proofs.StoredClauses.{kept-at}
 use Rattle.varisat_theory.specs.Literals.{Literal, Clause, opposite, variable_of}
 use Rattle.varisat_prop.specs.declared.prop.graph.Reason.{Reason}
 use Rattle.varisat_prop.specs.declared.prop.graph.Reason.TheVariants as reason
-use Rattle.varisat_clause.specs.Stored.{StoredClause, literals_of, literals_at, IsPlace, AreRising}
+use Rattle.varisat_clause.specs.Stored.{StoredClause, literals_of, literals_at, IsClauseRef, AreRising}
 use Rattle.varisat_prop.specs.View.{View, pairs_from, kept, implied_by, clause_at, node_at, Implies, IsReason, WellFormed}
 
 -- what a well-formed view asks of each clause that is kept
@@ -22,7 +22,7 @@ kept-may s w c h = record { in_range = w.in_range c h; several = w.several c h; 
 pub stored-kept : (s : View) (c : Clause) → c ∈ literals_of s.clauses → c ∈ kept s
 stored-kept s c h = ∈-append_left c (literals_of s.clauses) (pairs_from 0 s.binary) h
 
-pub kept-here : (s : View) (i : ℕ) → IsPlace s.clauses i → clause_at s i ∈ kept s
+pub kept-here : (s : View) (i : ℕ) → IsClauseRef s.clauses i → clause_at s i ∈ kept s
 kept-here s i a = stored-kept s (clause_at s i) (kept-at s.clauses i a)
 
 -- what may be kept of other clauses and the same pairs
@@ -90,7 +90,7 @@ pub record AreWellKept (s : View) (P : List StoredClause) : Type 0 where
   pub several : (c : Clause) → c ∈ literals_of P → 2 ≤ length c
   pub distinct : (c : Clause) → c ∈ literals_of P → IsDistinct c
   -- a clause that is a reason stays as it is
-  pub reasons : (k p : ℕ) → k < length s.trail → (node_at s k).reason ≡ reason.Long p → IsPlace s.clauses p → IsPlace P p × (literals_at P p ≡ clause_at s p)
+  pub reasons : (k p : ℕ) → k < length s.trail → (node_at s k).reason ≡ reason.Long p → IsClauseRef s.clauses p → IsClauseRef P p × (literals_at P p ≡ clause_at s p)
 
 pub well-with : (s : View) (P : List StoredClause) (head : ℕ) → WellFormed s → AreWellKept s P → head ≤ length s.trail →
     WellFormed (record s { clauses = P; queue_head = head })
@@ -102,7 +102,7 @@ well-with s P head w q h =
     same-implies k [] g = g
     same-implies k (x ∷ c) g = g
 
-    stays : (k : ℕ) (r : Reason) → ((p : ℕ) → r ≡ reason.Long p → IsPlace s.clauses p → IsPlace P p × (literals_at P p ≡ clause_at s p)) →
+    stays : (k : ℕ) (r : Reason) → ((p : ℕ) → r ≡ reason.Long p → IsClauseRef s.clauses p → IsClauseRef P p × (literals_at P p ≡ clause_at s p)) →
         IsReason s k r → IsReason (record s { clauses = P; queue_head = head }) k r
     stays k reason.Unit n g = g
     stays k (reason.Binary ms) n g = g

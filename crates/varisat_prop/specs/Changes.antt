@@ -8,7 +8,7 @@ use Rattle.varisat_prop.specs.declared.prop.graph.ImplNode.{ImplNode}
 use Rattle.varisat_prop.specs.declared.prop.graph.ImplGraph.{ImplGraph}
 use Rattle.varisat_prop.specs.declared.prop.graph.Conflict.{Conflict}
 use Rattle.varisat_prop.specs.declared.prop.graph.Conflict.TheVariants as conflict
-use Rattle.varisat_clause.specs.Stored.{StoredClause, IsPlace, literals_at}
+use Rattle.varisat_clause.specs.Stored.{StoredClause, IsClauseRef, literals_at}
 use Rattle.varisat_clause.specs.Stores.{Store}
 use Rattle.varisat_theory.specs.Membership.{◌∈◌}
 use Rattle.varisat_theory.specs.Propagation.{IsFalse}
@@ -19,7 +19,7 @@ use Rattle.varisat_prop.specs.View.{View, view_of, implied_by}
 abbrev pub NamesClause : List StoredClause → Reason → Type 0
 NamesClause ks reason.Unit = Unit {0}
 NamesClause ks (reason.Binary ms) = Unit {0}
-NamesClause ks (reason.Long p) = IsPlace ks p × (1 ≤ length (literals_at ks p))
+NamesClause ks (reason.Long p) = IsClauseRef ks p × (1 ≤ length (literals_at ks p))
 
 -- the clause without its first literal
 abbrev pub others_of : Clause → Clause
@@ -40,12 +40,12 @@ named_in ks (conflict.Long p) = literals_at ks p
 -- a clause of the store is named by one of its places
 abbrev pub NamesPlace : List StoredClause → Conflict → Type 0
 NamesPlace ks (conflict.Binary ms) = Unit {0}
-NamesPlace ks (conflict.Long p) = IsPlace ks p
+NamesPlace ks (conflict.Long p) = IsClauseRef ks p
 
 -- a kept clause is named
 abbrev pub NamesKeptClause : View → Conflict → Type 0
 NamesKeptClause s (conflict.Binary ms) = (l m : Literal) × (ms ≡ m ∷ opposite l ∷ []) × (m ∈ implied_by s l)
-NamesKeptClause s (conflict.Long p) = IsPlace s.clauses p
+NamesKeptClause s (conflict.Long p) = IsClauseRef s.clauses p
 
 -- a kept clause is named, and all its literals are false
 abbrev pub IsConflicting : View → Conflict → Type 0

@@ -5,7 +5,7 @@ use Rattle.std.specs.declared.alloc.AllocError.{AllocError}
 use Rattle.varisat_theory.specs.Membership.{◌∈◌}
 use Rattle.varisat_theory.specs.Literals.{Literal, opposite}
 use Rattle.varisat_theory.specs.Propagation.{IsComplete}
-use Rattle.varisat_clause.specs.Stored.{IsPlace, literals_at, with_literals}
+use Rattle.varisat_clause.specs.Stored.{IsClauseRef, literals_at, with_literals}
 use Rattle.varisat_clause.specs.Stores.{Store, is_sound, IsSound}
 use Rattle.varisat_clause.specs.Collected.{live_clauses}
 use Rattle.varisat_clause.specs.Shapes.{KeepsShapes}
@@ -91,7 +91,7 @@ IsFullyPropagated s = IsComplete (kept s) s.trail × (s.queue_head ≡ length s.
 -- A true literal has the watch of a kept clause, which can be looked at.
 pub record IsWatchOf (W : Watches) (s : View) (l : Literal) (w : Watch) : Type 0 where
   pub well : WellFormed s
-  pub place : IsPlace s.clauses w.cref
+  pub place : IsClauseRef s.clauses w.cref
   pub blocking : w.blocking ∈ clause_at s w.cref
   pub watched : IsWatchedBy (clause_at s w.cref) (opposite l)
   pub lists : length W.lists ≡ 2 * length s.values

@@ -4,7 +4,7 @@ use Rattle.varisat_theory.specs.Membership.{◌∈◌, ◌⊆◌, SameSet, IsDis
 use Rattle.varisat_theory.specs.Literals.{Literal, Clause, variable_of, opposite, IsUnit}
 use Rattle.varisat_theory.specs.Propagation.{IsComplete}
 use Rattle.varisat_theory.specs.Searches.{IsTautology}
-use Rattle.varisat_clause.specs.Stored.{StoredClause, literals_of, literals_at, IsPlace, AreRising, AreReordered}
+use Rattle.varisat_clause.specs.Stored.{StoredClause, literals_of, literals_at, IsClauseRef, AreRising, AreReordered}
 use Rattle.varisat_clause.specs.Stores.{Store, is_sound}
 use Rattle.varisat_clause.specs.Collected.{live_clauses}
 use Rattle.varisat_prop.specs.Parts.{Values, TrailParts, IsMadeTrue}
@@ -110,7 +110,7 @@ Implies s (l ∷ others) k = (l ≡ literal_at s k) × ((m : Literal) → m ∈ 
 abbrev pub IsReason : View → ℕ → Reason → Type 0
 IsReason s k reason.Unit = (k ∈ s.decisions) ⊎ ((node_at s k).level ≡ 0)
 IsReason s k (reason.Binary ms) = (m : Literal) × (ms ≡ m ∷ []) × (literal_at s k ∈ implied_by s (opposite m)) × IsOnTrailBefore s k (opposite m)
-IsReason s k (reason.Long p) = IsPlace s.clauses p × Implies s (clause_at s p) k
+IsReason s k (reason.Long p) = IsClauseRef s.clauses p × Implies s (clause_at s p) k
 
 -- What keeps the code safe: the lists fit one another.
 pub record WellFormed (s : View) : Type 0 where

@@ -2,7 +2,7 @@
 use Rattle.std.specs.Prelude.{◌≡◌, ℕ, ◌<◌, ◌≤◌, ◌*◌, Bool, true, false, List, [], ◌∷◌, length, map, slice_index_or, slice_set}
 use Rattle.varisat_theory.specs.Membership.{◌∈◌, SameSet, IsDistinct}
 use Rattle.varisat_theory.specs.Literals.{Literal, Clause, opposite}
-use Rattle.varisat_clause.specs.Stored.{StoredClause, IsPlace, literals_at}
+use Rattle.varisat_clause.specs.Stored.{StoredClause, IsClauseRef, literals_at}
 use Rattle.varisat_prop.specs.View.{View, clause_at, implied_by, literal_at, decision_at}
 use Rattle.varisat_prop.specs.declared.prop.watch_list.Watch.{Watch}
 
@@ -37,7 +37,7 @@ IsWatchedBy c l = (j : ℕ) × (j < 2) × (literal_in c j ≡ l)
 
 -- The watch, in the list of x, names a clause and a literal of it, and the clause is watched by the opposite of x.
 abbrev pub IsKnownWatch : List StoredClause → Literal → Watch → Type 0
-IsKnownWatch ks x w = IsPlace ks w.cref × (w.blocking ∈ literals_at ks w.cref) × IsWatchedBy (literals_at ks w.cref) (opposite x)
+IsKnownWatch ks x w = IsClauseRef ks w.cref × (w.blocking ∈ literals_at ks w.cref) × IsWatchedBy (literals_at ks w.cref) (opposite x)
 
 -- the watches name different clauses
 abbrev pub NameOnce : List Watch → Type 0
@@ -48,7 +48,7 @@ NameOnce ws = IsDistinct (map (λ (w : Watch). w.cref) ws)
 pub record IsWatching (W : Watches) (ks : List StoredClause) : Type 0 where
   pub known : (x : Literal) (w : Watch) → w ∈ watches_of W x → IsKnownWatch ks x w
   pub once : (x : Literal) → NameOnce (watches_of W x)
-  pub watched : (i j : ℕ) → IsPlace ks i → j < 2 → HasWatch (watches_of W (opposite (literal_in (literals_at ks i) j))) i
+  pub watched : (i j : ℕ) → IsClauseRef ks i → j < 2 → HasWatch (watches_of W (opposite (literal_in (literals_at ks i) j))) i
 
 -- a literal of the clause is true
 abbrev pub IsSatisfied : View → Clause → Type 0
@@ -60,7 +60,7 @@ IsCovered s c p = (k : ℕ) × (k < length s.trail) × (literal_at s k ∈ c) ×
 
 -- Where one of a clause's first two literals is false by a literal before place q, the clause is true no later than at that literal's level.
 abbrev pub WatchesHoldTo : View → ℕ → Type 0
-WatchesHoldTo s q = (i j p : ℕ) → IsPlace s.clauses i → j < 2 → p < q → literal_at s p ≡ opposite (literal_in (clause_at s i) j) → IsCovered s (clause_at s i) p
+WatchesHoldTo s q = (i j p : ℕ) → IsClauseRef s.clauses i → j < 2 → p < q → literal_at s p ≡ opposite (literal_in (clause_at s i) j) → IsCovered s (clause_at s i) p
 
 -- What a literal before place q implies by a clause of two literals is true no later than at its level.
 abbrev pub IsImpliedTo : View → ℕ → Type 0

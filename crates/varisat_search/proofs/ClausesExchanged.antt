@@ -7,7 +7,7 @@ use Rattle.varisat_theory.specs.Membership.{◌∈◌, ◌⊆◌}
 use Rattle.varisat_theory.specs.Literals.{Literal, Clause, opposite}
 use Rattle.varisat_theory.proofs.Members.{∈-append_left, ∈-append_right, ∈-append_cases}
 use Rattle.varisat_theory.proofs.Saturated.{complete_fewer}
-use Rattle.varisat_clause.specs.Stored.{StoredClause, literals_of, literals_at, IsPlace, AreRising}
+use Rattle.varisat_clause.specs.Stored.{StoredClause, literals_of, literals_at, IsClauseRef, AreRising}
 use Rattle.varisat_clause.proofs.StoredClauses.{kept-at, from-literals, stored-found}
 use Rattle.varisat_prop.specs.declared.prop.graph.Reason.{Reason}
 use Rattle.varisat_prop.specs.declared.prop.graph.Reason.TheVariants as reason
@@ -26,7 +26,7 @@ exchanged s ks ns = record s { clauses = ks; nodes = ns }
 abbrev pub SameReason : View → List StoredClause → Reason → Reason → Type 0
 SameReason s ks reason.Unit r = r ≡ reason.Unit
 SameReason s ks (reason.Binary ms) r = r ≡ reason.Binary ms
-SameReason s ks (reason.Long p) r = (q : ℕ) × (r ≡ reason.Long q) × IsPlace ks q × (literals_at ks q ≡ clause_at s p)
+SameReason s ks (reason.Long p) r = (q : ℕ) × (r ≡ reason.Long q) × IsClauseRef ks q × (literals_at ks q ≡ clause_at s p)
 
 -- The clauses and the nodes may stand in place of those of the view.
 pub record MayExchange (s : View) (ks : List StoredClause) (ns : List ImplNode) : Type 0 where
@@ -49,7 +49,7 @@ filter-by-place p q (x ∷ xs) h = ap₂ (λ (b : Bool) (ys : List ℕ). cond b 
     (filter-by-place p q xs (λ k i. h (suc k) (omega (arith, i))))
 
 -- a clause of the list stands at a place
-pub place-of-literals : (ks : List StoredClause) → AreRising ks → (c : Clause) → c ∈ literals_of ks → (p : ℕ) × IsPlace ks p × (literals_at ks p ≡ c)
+pub place-of-literals : (ks : List StoredClause) → AreRising ks → (c : Clause) → c ∈ literals_of ks → (p : ℕ) × IsClauseRef ks p × (literals_at ks p ≡ c)
 place-of-literals ks r c h =
     let (k, i, e) = from-literals ks c h in
     (k.place, (k, i, refl), ap (λ (x : StoredClause). x.literals) (stored-found ks r k i) ∙ e)

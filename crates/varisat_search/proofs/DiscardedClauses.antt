@@ -6,7 +6,7 @@ use Rattle.varisat_theory.specs.Membership.{◌∈◌}
 use Rattle.varisat_theory.specs.Literals.{Literal, variable_of}
 use Rattle.varisat_clause.specs.declared.header.Tier.TheVariants as tier
 use Rattle.varisat_clause.specs.Tiers.{is_tier}
-use Rattle.varisat_clause.specs.Stored.{StoredClause, literals_of, literals_at, stored_at, header_at, IsPlace, AreRising}
+use Rattle.varisat_clause.specs.Stored.{StoredClause, literals_of, literals_at, stored_at, header_at, IsClauseRef, AreRising}
 use Rattle.varisat_clause.specs.Stores.{Store, stored_clauses, IsSound, HoldsClauses}
 use Rattle.varisat_clause.specs.Databases.{is_live_in}
 use Rattle.varisat_clause.specs.Collected.{live_of, live_clauses}
@@ -36,7 +36,7 @@ module _ (s t : View) (w : WellFormed s) (d : Discards s t) where
   left-rising = filter-rising (λ k. not (d.gone k)) s.clauses w.places
 
   -- a reason is not gone
-  reason-left : (k p : ℕ) → k < length s.trail → (node_at s k).reason ≡ reason.Long p → IsPlace s.clauses p → IsPlace t.clauses p
+  reason-left : (k p : ℕ) → k < length s.trail → (node_at s k).reason ≡ reason.Long p → IsClauseRef s.clauses p → IsClauseRef t.clauses p
       × (literals_at t.clauses p ≡ clause_at s p)
   reason-left k p h e a =
       let x = stored_at s.clauses p in
@@ -81,7 +81,7 @@ module _ (s : View) (old marked new : Store) (w : WellFormed s) (ok : IsSound ol
   abbrev gone : ℕ → Bool
   gone p = (header_at (stored_clauses new) p).deleted
 
-  out-places : (p : ℕ) → p ∈ out → IsPlace (stored_clauses marked) p
+  out-places : (p : ℕ) → p ∈ out → IsClauseRef (stored_clauses marked) p
   out-places p h = r.listed.known p (unmarked-∈ (stored_clauses marked) (length r.order / 2) r.order p h).0
 
   -- a clause as it is marked

@@ -7,7 +7,7 @@ use Rattle.varisat_theory.specs.Membership.{◌∈◌, ◌⊆◌}
 use Rattle.varisat_theory.specs.Literals.{Literal, Clause, opposite}
 use Rattle.varisat_theory.proofs.Places.{∈-get_or}
 use Rattle.varisat_theory.proofs.Members.{∈-append_left, ∈-append_right, ∈-append_cases}
-use Rattle.varisat_clause.specs.Stored.{StoredClause, IsPlace}
+use Rattle.varisat_clause.specs.Stored.{StoredClause, IsClauseRef}
 use Rattle.varisat_clause.specs.Collected.{live_of}
 use Rattle.varisat_clause.specs.Filters.{left_if, FiltersOne, Filters}
 use Rattle.varisat_clause.specs.Filters.FiltersOne.{PassesOver, ComesTo}
@@ -227,7 +227,7 @@ module _ {F : Type 0} (values : F → List (Option Bool)) (watching : F → List
 
 -- each clause keeps its place
 pub filtered-place : {F : Type 0} (Leaves : F → StoredClause → StoredClause → F → Type 0) (f g : F) (ks js : List StoredClause) → Filters Leaves f ks js g →
-    (p : ℕ) → IsPlace ks p → IsPlace js p
+    (p : ℕ) → IsClauseRef ks p → IsClauseRef js p
 filtered-place Leaves f g [] [] e p (k, h, q) = absurd h
 filtered-place Leaves f g [] (j ∷ js) e p (k, h, q) = absurd e
 filtered-place Leaves f g (k ∷ ks) [] e p h = absurd e

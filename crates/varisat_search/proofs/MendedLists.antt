@@ -4,7 +4,7 @@ use Rattle.std.proofs.lemmas.List.{append-nil, take_more_set, drop-set-lt, drop_
 use Rattle.varisat_theory.specs.Membership.{◌∈◌}
 use Rattle.varisat_theory.specs.Literals.{Literal}
 use Rattle.varisat_theory.proofs.Members.{equal_or_not, ∈-append_left, ∈-append_right, ∈-append_cases}
-use Rattle.varisat_clause.specs.Stored.{StoredClause, IsPlace, stored_at, literals_at, header_at}
+use Rattle.varisat_clause.specs.Stored.{StoredClause, IsClauseRef, stored_at, literals_at, header_at}
 use Rattle.varisat_clause.specs.Stores.{Store, stored_clauses, IsSound}
 use Rattle.varisat_clause.specs.Collected.{live_clauses}
 use Rattle.varisat_clause.proofs.StoredClauses.{stored-∈}
@@ -16,7 +16,7 @@ use Rattle.varisat_prop.proofs.WatchesOnce.{once-dropped, once-moved}
 use Rattle.varisat_search.specs.MendedLists.{AreMended, MendsLists}
 
 -- 1. A watch.
-pub still-live : (s : Store) (p : ℕ) → IsPlace (stored_clauses s) p → (header_at (stored_clauses s) p).deleted ≡ false → IsPlace (live_clauses s) p
+pub still-live : (s : Store) (p : ℕ) → IsClauseRef (stored_clauses s) p → (header_at (stored_clauses s) p).deleted ≡ false → IsClauseRef (live_clauses s) p
 still-live s p h e = (
   stored_at (stored_clauses s) p,
   ∈-live (stored_clauses s) (stored_at (stored_clauses s) p)
@@ -24,7 +24,7 @@ still-live s p h e = (
   place-is (stored_clauses s) p h,
 )
 
-pub not-live : (s : Store) (p : ℕ) → IsSound s → (header_at (stored_clauses s) p).deleted ≡ true → IsPlace (live_clauses s) p → ⊥
+pub not-live : (s : Store) (p : ℕ) → IsSound s → (header_at (stored_clauses s) p).deleted ≡ true → IsClauseRef (live_clauses s) p → ⊥
 not-live s p ok e h =
     let f = (live-∈ (stored_clauses s) (stored_at (live_clauses s) p) (stored-∈ (live_clauses s) p h)).1 in
     let g = ap (λ (k : StoredClause). k.header.deleted) (live-stored s p ok h) in
@@ -32,16 +32,16 @@ not-live s p ok e h =
 
 -- 2. A list, of which some watches are mended and the rest is still to be read.
 pub record Mending (ks : List StoredClause) (ws kept rest : List Watch) : Type 0 where
-  pub each : (v : Watch) → v ∈ kept → IsPlace ks v.cref × (v.blocking ∈ literals_at ks v.cref) × HasWatch ws v.cref
+  pub each : (v : Watch) → v ∈ kept → IsClauseRef ks v.cref × (v.blocking ∈ literals_at ks v.cref) × HasWatch ws v.cref
   pub left : (v : Watch) → v ∈ rest → v ∈ ws
-  pub all : (w : Watch) → w ∈ ws → IsPlace ks w.cref → HasWatch (kept ++ rest) w.cref
+  pub all : (w : Watch) → w ∈ ws → IsClauseRef ks w.cref → HasWatch (kept ++ rest) w.cref
   pub once : NameOnce ws → NameOnce (kept ++ rest)
 
 mending-start : (ks : List StoredClause) (ws : List Watch) → Mending ks ws [] ws
 mending-start ks ws = record { each = λ v h. absurd h; left = λ v h. h; all = λ w h p. (w, h, refl); once = λ o. o }
 
 module _ (ks : List StoredClause) (ws kept rest : List Watch) (w : Watch) (m : Mending ks ws kept (w ∷ rest)) where
-  mending-dropped : (IsPlace ks w.cref → ⊥) → Mending ks ws kept rest
+  mending-dropped : (IsClauseRef ks w.cref → ⊥) → Mending ks ws kept rest
   mending-dropped n = record {
     each = m.each;
     left = λ v h. m.left v (inr h);
@@ -49,16 +49,16 @@ module _ (ks : List StoredClause) (ws kept rest : List Watch) (w : Watch) (m : M
         let (z, i, e) = m.all y h p in
         ⊎_elim
         (λ k. (z, ∈-append_left z kept rest k, e))
-        (λ k. ⊎_elim (λ f. absurd (n (subst (IsPlace ks) (sym e ∙ ap (λ (x : Watch). x.cref) f) p))) (λ o. (z, ∈-append_right z kept rest o, e)) k)
+        (λ k. ⊎_elim (λ f. absurd (n (subst (IsClauseRef ks) (sym e ∙ ap (λ (x : Watch). x.cref) f) p))) (λ o. (z, ∈-append_right z kept rest o, e)) k)
         (∈-append_cases z kept (w ∷ rest) i);
     once = λ o. once-dropped kept rest w (m.once o);
   }
 
-  mending-kept : (x : Watch) → x.cref ≡ w.cref → IsPlace ks x.cref → x.blocking ∈ literals_at ks x.cref → Mending ks ws (kept ++ x ∷ []) rest
+  mending-kept : (x : Watch) → x.cref ≡ w.cref → IsClauseRef ks x.cref → x.blocking ∈ literals_at ks x.cref → Mending ks ws (kept ++ x ∷ []) rest
   mending-kept x e p b = record {
     each = λ v h. ⊎_elim
         (λ k. m.each v k)
-        (λ k. ⊎_elim (λ f. subst (λ (y : Watch). IsPlace ks y.cref × (y.blocking ∈ literals_at ks y.cref) × HasWatch ws y.cref) (sym f)
+        (λ k. ⊎_elim (λ f. subst (λ (y : Watch). IsClauseRef ks y.cref × (y.blocking ∈ literals_at ks y.cref) × HasWatch ws y.cref) (sym f)
         (p, b, (w, m.left w (inl refl), sym e))) (λ z. absurd z) k)
         (∈-append_cases v kept (x ∷ []) h);
     left = λ v h. m.left v (inr h);
@@ -90,14 +90,14 @@ module _ {ks : List StoredClause} {ws xs : List Watch} {a r : ℕ} (g : MendingA
     pub mending-read : w ∈ ws
     mending-read = next.left w (inl refl)
 
-    pub mending-at-dropped : (IsPlace ks w.cref → ⊥) → MendingAt ks ws xs a (r + 1)
+    pub mending-at-dropped : (IsClauseRef ks w.cref → ⊥) → MendingAt ks ws xs a (r + 1)
     mending-at-dropped n = record {
       mending = mending-dropped ks ws (take a xs) (drop (r + 1) xs) w next n;
       order = let o = g.order in omega (arith, o);
       within = omega (arith, inside);
     }
 
-    pub mending-at-kept : (x : Watch) → (x.cref ≡ w.cref) × IsPlace ks x.cref × (x.blocking ∈ literals_at ks x.cref) →
+    pub mending-at-kept : (x : Watch) → (x.cref ≡ w.cref) × IsClauseRef ks x.cref × (x.blocking ∈ literals_at ks x.cref) →
         MendingAt ks ws (set xs a x) (a + 1) (r + 1)
     mending-at-kept x (c, p, b) = record {
       mending = subst (λ ys. Mending ks ws ys (drop (r + 1) (set xs a x))) (sym (take_more_set xs a x (let o = g.order in omega (arith, inside, o))))
@@ -125,7 +125,7 @@ mended-trans ks ws vs us m n = record {
       (p, b, (z, j, f ∙ e));
   all = λ w h p.
       let (y, i, e) = m.all w h p in
-      let (z, j, f) = n.all y i (subst (IsPlace ks) (sym e) p) in
+      let (z, j, f) = n.all y i (subst (IsClauseRef ks) (sym e) p) in
       (z, j, f ∙ e);
   once = λ o. n.once (m.once o);
 }

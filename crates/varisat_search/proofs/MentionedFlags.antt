@@ -5,7 +5,7 @@ use Rattle.varisat_theory.specs.Membership.{◌∈◌}
 use Rattle.varisat_theory.specs.Literals.{Literal, Clause, variable_of, opposite}
 use Rattle.varisat_theory.proofs.Members.{equal_or_not, ∈-append_cases, ∈-append_left, ∈-append_right}
 use Rattle.varisat_theory.proofs.Renaming.{∈-map, map-∈}
-use Rattle.varisat_clause.specs.Stored.{StoredClause, IsPlace, AreRising, literals_at, literals_of}
+use Rattle.varisat_clause.specs.Stored.{StoredClause, IsClauseRef, AreRising, literals_at, literals_of}
 use Rattle.varisat_clause.proofs.StoredClauses.{kept-at, from-literals, stored-found}
 use Rattle.varisat_analysis.specs.Flags.{IsFlagged}
 use Rattle.varisat_prop.specs.View.{View, WellFormed, pairs_from}
@@ -60,8 +60,8 @@ pub record FlagsBut (P : List StoredClause) (left : List ℕ) (before new : List
   pub count : length new ≡ length before
   pub only : (v : ℕ) → IsFlagged new v → IsFlagged before v ⊎ IsMentioned (literals_of P) v
   pub old : (v : ℕ) → IsFlagged before v → IsFlagged new v
-  pub done : (p : ℕ) (l : Literal) → IsPlace P p → l ∈ literals_at P p → (p ∈ left) ⊎ IsFlagged new (variable_of l)
-  pub places : (p : ℕ) → p ∈ left → IsPlace P p
+  pub done : (p : ℕ) (l : Literal) → IsClauseRef P p → l ∈ literals_at P p → (p ∈ left) ⊎ IsFlagged new (variable_of l)
+  pub places : (p : ℕ) → p ∈ left → IsClauseRef P p
 
 pub but-all : (P : List StoredClause) (flags : List Bool) → FlagsBut P (map (λ k. k.place) P) flags flags
 but-all P flags = record {

@@ -3,7 +3,7 @@ use Rattle.std.proofs.Common.{◌≡◌, ◌≢◌, ℕ, ◌+◌, ◌≤◌, fal
 use Rattle.std.proofs.lemmas.List.{length-take}
 use Rattle.varisat_theory.specs.Membership.{◌∈◌}
 use Rattle.varisat_theory.proofs.Members.{equal_or_not}
-use Rattle.varisat_clause.specs.Stored.{StoredClause, IsPlace, AreRising, literals_of, literals_at}
+use Rattle.varisat_clause.specs.Stored.{StoredClause, IsClauseRef, AreRising, literals_of, literals_at}
 use Rattle.varisat_clause.specs.Stores.{Store, len_at, clause_in, FitsWords, IsSound}
 use Rattle.varisat_clause.specs.Databases.{size_of}
 use Rattle.varisat_clause.specs.Collected.{live_of, live_clauses, packed_at, packed}
@@ -53,24 +53,24 @@ packed-live q (k ∷ ks) h =
     ∙ ap (λ xs. j ∷ xs) (packed-live (q + size_of k) ks (λ x i. h x (inr i)))
 
 -- a clause by its new place
-pub packed-place : (q : ℕ) (ks : List StoredClause) (p : ℕ) → IsPlace ks p → IsPlace (packed q ks) (new_place ks (packed q ks) p)
+pub packed-place : (q : ℕ) (ks : List StoredClause) (p : ℕ) → IsClauseRef ks p → IsClauseRef (packed q ks) (new_place ks (packed q ks) p)
     × (literals_at (packed q ks) (new_place ks (packed q ks) p) ≡ literals_at ks p)
 packed-place q [] p (x, h, e) = absurd h
 packed-place q (k ∷ ks) p h = ⊎_elim here (later (packed-place (q + size_of k) ks p)) (equal_or_not k.place p)
   where
-    here : k.place ≡ p → IsPlace (packed q (k ∷ ks)) (new_place (k ∷ ks) (packed q (k ∷ ks)) p)
+    here : k.place ≡ p → IsClauseRef (packed q (k ∷ ks)) (new_place (k ∷ ks) (packed q (k ∷ ks)) p)
         × (literals_at (packed q (k ∷ ks)) (new_place (k ∷ ks) (packed q (k ∷ ks)) p) ≡ literals_at (k ∷ ks) p)
     here e =
         let f : new_place (k ∷ ks) (packed q (k ∷ ks)) p ≡ q = ap (λ b. cond b q (new_place ks (packed (q + size_of k) ks) p)) (is-same k.place p e) in
-        subst (λ (x : ℕ). IsPlace (packed q (k ∷ ks)) x × (literals_at (packed q (k ∷ ks)) x ≡ literals_at (k ∷ ks) p)) (sym f) (
+        subst (λ (x : ℕ). IsClauseRef (packed q (k ∷ ks)) x × (literals_at (packed q (k ∷ ks)) x ≡ literals_at (k ∷ ks) p)) (sym f) (
           (packed_at q k, inl refl, refl),
           ap (λ (x : StoredClause). x.literals) (stored-here (packed_at q k) (packed (q + size_of k) ks) q refl)
               ∙ sym (ap (λ (x : StoredClause). x.literals) (stored-here k ks p e)),
         )
 
-    later : (IsPlace ks p → IsPlace (packed (q + size_of k) ks) (new_place ks (packed (q + size_of k) ks) p)
+    later : (IsClauseRef ks p → IsClauseRef (packed (q + size_of k) ks) (new_place ks (packed (q + size_of k) ks) p)
         × (literals_at (packed (q + size_of k) ks) (new_place ks (packed (q + size_of k) ks) p) ≡ literals_at ks p)) → (k.place ≡ p → ⊥) →
-        IsPlace (packed q (k ∷ ks)) (new_place (k ∷ ks) (packed q (k ∷ ks)) p)
+        IsClauseRef (packed q (k ∷ ks)) (new_place (k ∷ ks) (packed q (k ∷ ks)) p)
         × (literals_at (packed q (k ∷ ks)) (new_place (k ∷ ks) (packed q (k ∷ ks)) p) ≡ literals_at (k ∷ ks) p)
     later o n =
         let f : new_place (k ∷ ks) (packed q (k ∷ ks)) p ≡ new_place ks (packed (q + size_of k) ks) p =
@@ -78,7 +78,7 @@ packed-place q (k ∷ ks) p h = ⊎_elim here (later (packed-place (q + size_of 
         let ((x, i, e), r) = o (place-later k ks p h n) in
         let low = packed-low (q + size_of k) ks x i in
         let apart : q ≢ new_place ks (packed (q + size_of k) ks) p = λ z. absurd (omega (arith, low, e, z)) in
-        subst (λ (y : ℕ). IsPlace (packed q (k ∷ ks)) y × (literals_at (packed q (k ∷ ks)) y ≡ literals_at (k ∷ ks) p)) (sym f) (
+        subst (λ (y : ℕ). IsClauseRef (packed q (k ∷ ks)) y × (literals_at (packed q (k ∷ ks)) y ≡ literals_at (k ∷ ks) p)) (sym f) (
           (x, inr i, e),
           ap (λ (y : StoredClause). y.literals)
               (stored-later (packed_at q k) (packed (q + size_of k) ks) (new_place ks (packed (q + size_of k) ks) p) apart) ∙ r
@@ -155,7 +155,7 @@ module _ (s : View) (w : WellFormed s) (js : List StoredClause) where
     node : node_in ns i ≡ node_at s i
     place : ℕ
     reason_is : (node_at s i).reason ≡ reason.Long place
-    left_is : IsPlace left place
+    left_is : IsClauseRef left place
 
   -- the reason was moved, or is no clause of the store
   record IsMoved (ns : List ImplNode) (left : List StoredClause) (i : ℕ) : Type 0 where
@@ -307,9 +307,9 @@ view-repacks s t w b e f rest = record {
 
 -- The packed clauses may stand in place of the others.
 module _ (s t : View) (w : WellFormed s) (d : Repacks s t) where
-  at-packed : (p : ℕ) → IsPlace s.clauses p → IsPlace t.clauses (new_place s.clauses t.clauses p)
+  at-packed : (p : ℕ) → IsClauseRef s.clauses p → IsClauseRef t.clauses (new_place s.clauses t.clauses p)
       × (literals_at t.clauses (new_place s.clauses t.clauses p) ≡ clause_at s p)
-  at-packed p h = subst (λ (ks : List StoredClause). IsPlace ks (new_place s.clauses ks p)
+  at-packed p h = subst (λ (ks : List StoredClause). IsClauseRef ks (new_place s.clauses ks p)
       × (literals_at ks (new_place s.clauses ks p) ≡ clause_at s p)) (sym d.clauses) (packed-place 0 s.clauses p h)
 
   node-is : (k : ℕ) → k < length s.trail → node_at (record s { clauses = t.clauses; nodes = t.nodes }) k ≡ record (node_at s k)

@@ -2,7 +2,7 @@
 use Rattle.std.proofs.Common.{◌≡◌, ℕ, false, List, ◌++◌, length, take, refl, sym, ap, ◌∙◌, subst}
 use Rattle.std.proofs.Math.Seq.{take-append_seam}
 use Rattle.varisat_theory.specs.Literals.{Clause}
-use Rattle.varisat_clause.specs.Stored.{StoredClause, IsPlace, stored_at, header_at, literals_at, with_stored, with_literals, shortened}
+use Rattle.varisat_clause.specs.Stored.{StoredClause, IsClauseRef, stored_at, header_at, literals_at, with_stored, with_literals, shortened}
 use Rattle.varisat_clause.specs.Stores.{Store, stored_clauses, IsSound, HoldsClauses}
 use Rattle.varisat_clause.specs.Filters.{Alters}
 use Rattle.varisat_clause.proofs.StoredClauses.{clause-same, clause-place, clause-twice, literals-clause, stored-∈}
@@ -11,11 +11,11 @@ use Rattle.varisat_clause.proofs.DatabaseTracks.{place-is}
 use Rattle.varisat_search.specs.Simplifications.{shortened_to}
 
 -- the header tells how many literals there are
-pub header-length : (s : Store) (p : ℕ) → IsSound s → IsPlace (stored_clauses s) p →
+pub header-length : (s : Store) (p : ℕ) → IsSound s → IsClauseRef (stored_clauses s) p →
     (header_at (stored_clauses s) p).len ≡ length (literals_at (stored_clauses s) p)
 header-length s p ok at = (are-long s ok (stored_at (stored_clauses s) p) (stored-∈ (stored_clauses s) p at)).1
 
-module _ (s n : Store) (p : ℕ) (ws left rest : Clause) (ok : IsSound s) (at : IsPlace (stored_clauses s) p)
+module _ (s n : Store) (p : ℕ) (ws left rest : Clause) (ok : IsSound s) (at : IsClauseRef (stored_clauses s) p)
     (h : HoldsClauses n (length s.words) (with_literals (stored_clauses s) p ws)) (w : ws ≡ left ++ rest) where
   abbrev ks : List StoredClause
   ks = stored_clauses s
@@ -29,8 +29,8 @@ module _ (s n : Store) (p : ℕ) (ws left rest : Clause) (ok : IsSound s) (at : 
   stored-written : stored_at (stored_clauses n) p ≡ written
   stored-written = ap (λ xs. stored_at xs p) is-written ∙ clause-same ks p written at (place-is ks p at)
 
-  pub written-place : IsPlace (stored_clauses n) p
-  written-place = subst (λ xs. IsPlace xs p) (sym is-written) (clause-place ks p p written (place-is ks p at) at)
+  pub written-place : IsClauseRef (stored_clauses n) p
+  written-place = subst (λ xs. IsClauseRef xs p) (sym is-written) (clause-place ks p p written (place-is ks p at) at)
 
   pub written-length : (header_at (stored_clauses n) p).len ≡ length (literals_at ks p)
   written-length = ap (λ (k : StoredClause). k.header.len) stored-written ∙ header-length s p ok at
@@ -54,7 +54,7 @@ module _ (s n : Store) (p : ℕ) (ws left rest : Clause) (ok : IsSound s) (at : 
       }
 
 -- a clause that was shrunk
-module _ (s n : Store) (p : ℕ) (left : Clause) (at : IsPlace (stored_clauses s) p)
+module _ (s n : Store) (p : ℕ) (left : Clause) (at : IsClauseRef (stored_clauses s) p)
     (h : HoldsClauses n (length s.words) (with_stored (stored_clauses s) p (shortened_to left (stored_at (stored_clauses s) p)))) where
   pub shrunk-alters : (header_at (stored_clauses s) p).deleted ≡ false → Alters s n p
   shrunk-alters live = record {

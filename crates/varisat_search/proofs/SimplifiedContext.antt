@@ -3,7 +3,7 @@ use Rattle.std.proofs.Common.{◌≡◌, ℕ, ◌<◌, Bool, true, false, List, 
 use Rattle.varisat_theory.specs.Membership.{◌∈◌}
 use Rattle.varisat_theory.specs.Literals.{Literal, Clause, opposite}
 use Rattle.varisat_theory.specs.Outcomes.{Proves}
-use Rattle.varisat_clause.specs.Stored.{StoredClause, IsPlace, stored_at, literals_at, AreRising}
+use Rattle.varisat_clause.specs.Stored.{StoredClause, IsClauseRef, stored_at, literals_at, AreRising}
 use Rattle.varisat_clause.specs.Stores.{stored_clauses}
 use Rattle.varisat_clause.specs.Databases.{is_live, Tracks}
 use Rattle.varisat_clause.specs.Collected.{live_clauses}
@@ -49,11 +49,11 @@ module _ (values : List (Option Bool)) (ks : List StoredClause) (rising : AreRis
   literals-found p k h e = subst (λ q. literals_at ks q ≡ k.literals) e (ap (λ (x : StoredClause). x.literals) (stored-found ks rising k h))
 
   pub record WasAt (p : ℕ) : Type 0 where
-    pub place : IsPlace ks p
+    pub place : IsClauseRef ks p
     pub stays : stays_long values (literals_at ks p) ≡ true
     pub left : literals_at js p ≡ unassigned values (literals_at ks p)
 
-  pub was-at : (p : ℕ) → IsPlace js p → WasAt p
+  pub was-at : (p : ℕ) → IsClauseRef js p → WasAt p
   was-at p (j, i, e) =
       let (k, o, q) = from-map f (filter (λ k. stays_long values k.literals) ks) j i in
       let (a, b) = ∈-filter (λ k. stays_long values k.literals) ks k o in
@@ -66,7 +66,7 @@ module _ (values : List (Option Bool)) (ks : List StoredClause) (rising : AreRis
             ∙ ap (λ (x : StoredClause). x.literals) q ∙ ap (unassigned values) (sym same);
       }
 
-  pub stays-at : (p : ℕ) → IsPlace ks p → stays_long values (literals_at ks p) ≡ true → IsPlace js p
+  pub stays-at : (p : ℕ) → IsClauseRef ks p → stays_long values (literals_at ks p) ≡ true → IsClauseRef js p
   stays-at p (k, h, e) t =
       let b : stays_long values k.literals ≡ true = ap (stays_long values) (sym (literals-found p k h e)) ∙ t in
       (f k, to-map (filter (λ k. stays_long values k.literals) ks) k (filter-∈ (λ k. stays_long values k.literals) ks k h b), e)
@@ -102,11 +102,11 @@ module _ (s : View) (w : WellFormed s) (settled : WatchesHoldTo s (length s.trai
   abbrev P : List StoredClause
   P = left_long s.values s.clauses
 
-  long-clause : (i : ℕ) → IsPlace s.clauses i → 3 ≤ length (clause_at s i)
+  long-clause : (i : ℕ) → IsClauseRef s.clauses i → 3 ≤ length (clause_at s i)
   long-clause i h = long (stored_at s.clauses i) (stored-∈ s.clauses i h)
 
   -- neither of the first two literals of a clause that stays has a value
-  first-free : (i j : ℕ) → IsPlace s.clauses i → j < 2 → stays_long s.values (clause_at s i) ≡ true →
+  first-free : (i j : ℕ) → IsClauseRef s.clauses i → j < 2 → stays_long s.values (clause_at s i) ≡ true →
       is_unassigned s.values (literal_in (clause_at s i) j) ≡ true
   first-free i j h b t =
       let l = literal_in (clause_at s i) j in
@@ -120,7 +120,7 @@ module _ (s : View) (w : WellFormed s) (settled : WatchesHoldTo s (length s.trai
       none-true s.values (clause_at s i) free (literal_at s k) y (w.is_true k x)) in
       ap (λ (o : Option Bool). is_none o) none
 
-  same-front : (i j : ℕ) → IsPlace P i → j < 2 → literal_in (literals_at P i) j ≡ literal_in (clause_at s i) j
+  same-front : (i j : ℕ) → IsClauseRef P i → j < 2 → literal_in (literals_at P i) j ≡ literal_in (clause_at s i) j
   same-front i j h b =
       let m = was-at s.values s.clauses w.places after i h in
       let n = long-clause i m.place in
@@ -130,7 +130,7 @@ module _ (s : View) (w : WellFormed s) (settled : WatchesHoldTo s (length s.trai
 
   -- The lists of the literals are mended, by which clauses with an assigned literal are watched.
   module _ (W V : Watches) (lits : List Literal) (g : IsWatching W s.clauses) (m : MendsLists P lits W V)
-      (noted : (i j : ℕ) → IsPlace s.clauses i → are_unassigned s.values (clause_at s i) ≡ false → j < 2 → opposite (literal_in (clause_at s i) j) ∈ lits) where
+      (noted : (i j : ℕ) → IsClauseRef s.clauses i → are_unassigned s.values (clause_at s i) ≡ false → j < 2 → opposite (literal_in (clause_at s i) j) ∈ lits) where
     from-mended : (x : Literal) (v : Watch) → AreMended P (watches_of W x) (watches_of V x) → v ∈ watches_of V x → IsKnownWatch P x v
     from-mended x v a h =
         let (p, b, (y, i, e)) = a.each v h in
@@ -164,7 +164,7 @@ module _ (s : View) (w : WellFormed s) (settled : WatchesHoldTo s (length s.trai
           let (y, k, e) = g.watched i j o.place b in
           let here : HasWatch (watches_of V x) i = ⊎_elim
           (λ q. (y, subst (λ vs. y ∈ vs) (sym q) k, e))
-          (λ a. let (z, l, q) = a.all y k (subst (IsPlace P) (sym e) h) in (z, l, q ∙ e))
+          (λ a. let (z, l, q) = a.all y k (subst (IsClauseRef P) (sym e) h) in (z, l, q ∙ e))
           (m.each x) in
           subst (λ l. HasWatch (watches_of V (opposite l)) i) (sym (same-front i j h b)) here;
     }
@@ -239,7 +239,7 @@ module _ {A : Type 0} {x z : Context A} (d : Simplifies x z) where
 
   -- The lists are mended by which clauses with an assigned literal are watched.
   module _ (lits : List Literal) (m : MendsLists (live_clauses z.clause_alloc) lits x.watchlists z.watchlists)
-      (noted : (i j : ℕ) → IsPlace s.clauses i → are_unassigned s.values (clause_at s i) ≡ false → j < 2 → opposite (literal_in (clause_at s i) j) ∈ lits) where
+      (noted : (i j : ℕ) → IsClauseRef s.clauses i → are_unassigned s.values (clause_at s i) ≡ false → j < 2 → opposite (literal_in (clause_at s i) j) ∈ lits) where
     still-empty : (ws vs : List Watch) → ws ≡ [] → AreMended (live_clauses z.clause_alloc) ws vs → vs ≡ []
     still-empty ws [] e a = refl
     still-empty ws (v ∷ vs) e a = let (y, i, q) = (a.each v (inl refl)).2 in absurd (subst (λ us. y ∈ us) e i)

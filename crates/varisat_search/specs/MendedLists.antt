@@ -2,19 +2,19 @@
 use Rattle.std.specs.Prelude.{◌≡◌, Option, Some, None, List, length, ◌⊎◌}
 use Rattle.varisat_theory.specs.Membership.{◌∈◌}
 use Rattle.varisat_theory.specs.Literals.{Literal}
-use Rattle.varisat_clause.specs.Stored.{StoredClause, IsPlace, literals_at}
+use Rattle.varisat_clause.specs.Stored.{StoredClause, IsClauseRef, literals_at}
 use Rattle.varisat_prop.specs.declared.prop.watch_list.Watch.{Watch}
 use Rattle.varisat_prop.specs.Watches.{Watches, watches_of, HasWatch, NameOnce}
 
 -- what is left of a watch: it names its clause and a literal of it, or the clause is not one of these
 abbrev pub IsMended : List StoredClause → Watch → Option Watch → Type 0
-IsMended ks w None = IsPlace ks w.cref → ⊥
-IsMended ks w (Some v) = (v.cref ≡ w.cref) × IsPlace ks v.cref × (v.blocking ∈ literals_at ks v.cref)
+IsMended ks w None = IsClauseRef ks w.cref → ⊥
+IsMended ks w (Some v) = (v.cref ≡ w.cref) × IsClauseRef ks v.cref × (v.blocking ∈ literals_at ks v.cref)
 
 -- What is left of a list: a watch of each of these clauses that had one, with a literal of it.
 pub record AreMended (ks : List StoredClause) (ws vs : List Watch) : Type 0 where
-  pub each : (v : Watch) → v ∈ vs → IsPlace ks v.cref × (v.blocking ∈ literals_at ks v.cref) × HasWatch ws v.cref
-  pub all : (w : Watch) → w ∈ ws → IsPlace ks w.cref → HasWatch vs w.cref
+  pub each : (v : Watch) → v ∈ vs → IsClauseRef ks v.cref × (v.blocking ∈ literals_at ks v.cref) × HasWatch ws v.cref
+  pub all : (w : Watch) → w ∈ ws → IsClauseRef ks w.cref → HasWatch vs w.cref
   pub once : NameOnce ws → NameOnce vs
 
 -- The lists of the literals are mended, and each other list is mended or stays.

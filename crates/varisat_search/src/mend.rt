@@ -2,7 +2,7 @@
 ghost use Rattle.std.specs.Prelude.{◌<◌, ◌≤◌, length};
 ghost use Rattle.varisat_theory.specs.Membership.{◌∈◌};
 ghost use Rattle.varisat_theory.specs.Literals.{Literal};
-ghost use Rattle.varisat_clause.specs.Stored.{IsPlace};
+ghost use Rattle.varisat_clause.specs.Stored.{IsClauseRef};
 ghost use Rattle.varisat_clause.specs.Stores.{stored_clauses, IsSound};
 ghost use Rattle.varisat_clause.specs.Collected.{live_clauses};
 ghost use Rattle.varisat_prop.specs.declared.prop.watch_list.Watch.{Watch};
@@ -30,7 +30,7 @@ fn mended_watch<A: Allocator + Copy>(
     clause_alloc: &ClauseAlloc<A>,
 ) -> Option<Watch>
     requires sound { IsSound clause_alloc.now }
-    requires place { IsPlace (stored_clauses clause_alloc.now) watch.cref }
+    requires place { IsClauseRef (stored_clauses clause_alloc.now) watch.cref }
     ensures { IsMended (live_clauses clause_alloc.now) watch result }
 {
     let cref = watch.cref;
@@ -44,7 +44,7 @@ fn mended_watch<A: Allocator + Copy>(
 /// Takes the watches of deleted clauses out of the literal's list.
 fn mend_list<A: Allocator + Copy>(list: &mut WatchList<A>, lit: Lit, clause_alloc: &ClauseAlloc<A>)
     requires sound { IsSound clause_alloc.now }
-    requires places { (w : Watch) → w ∈ list.old → IsPlace (stored_clauses clause_alloc.now) w.cref }
+    requires places { (w : Watch) → w ∈ list.old → IsClauseRef (stored_clauses clause_alloc.now) w.cref }
     ensures { AreMended (live_clauses clause_alloc.now) list.old list.new }
 {
     let mut write = 0;
@@ -69,7 +69,7 @@ pub fn mend_lists<A: Allocator + Copy>(
 )
     requires sound { IsSound clause_alloc.now }
     requires listed { (l : Literal) → l ∈ lits.now → l < length watchlists.old.lists }
-    requires places { (x : Literal) (w : Watch) → w ∈ watches_of watchlists.old x → IsPlace (stored_clauses clause_alloc.now) w.cref }
+    requires places { (x : Literal) (w : Watch) → w ∈ watches_of watchlists.old x → IsClauseRef (stored_clauses clause_alloc.now) w.cref }
     ensures { MendsLists (live_clauses clause_alloc.now) lits.now watchlists.old watchlists.new }
 {
     'literals: for place in 0..lits.len() {

@@ -3,7 +3,7 @@ ghost use Rattle.std.specs.Prelude.{◌≡◌, ℕ, ◌<◌, ◌≤◌, List, Op
 ghost use Rattle.varisat_theory.specs.Membership.{◌∈◌};
 ghost use Rattle.varisat_theory.specs.Literals.{Literal, Clause, variable_of, opposite};
 ghost use Rattle.varisat_theory.specs.StepLaws.{unit_lines};
-ghost use Rattle.varisat_clause.specs.Stored.{IsPlace, literals_of};
+ghost use Rattle.varisat_clause.specs.Stored.{IsClauseRef, literals_of};
 ghost use Rattle.varisat_search.specs.Deletions.{unmarked_deletions};
 ghost use Rattle.varisat_clause.specs.Stores.{stored_clauses, IsSound};
 ghost use Rattle.varisat_clause.specs.Collected.{live_clauses};
@@ -210,7 +210,7 @@ pub fn trace_deletions<A: Allocator + Copy, P: ProofTracer>(
     count: usize,
 ) -> Result<(), TraceError>
     requires sound { IsSound clause_alloc.now }
-    requires listed { (p : ℕ) → p ∈ list.now → IsPlace (stored_clauses clause_alloc.now) p }
+    requires listed { (p : ℕ) → p ∈ list.now → IsClauseRef (stored_clauses clause_alloc.now) p }
     requires able { CanTake (P.holds proof.old) (unmarked_deletions (stored_clauses clause_alloc.now) count list.now) }
     ensures { LogsLines P.takes P.breaks_off proof.old (unmarked_deletions (stored_clauses clause_alloc.now) count list.now) result proof.new }
 {

@@ -4,7 +4,7 @@ ghost use Rattle.std.specs.List.Sorted.{IsPermutation};
 ghost use Rattle.varisat_theory.specs.Membership.{◌∈◌};
 ghost use Rattle.varisat_theory.specs.Literals.{Literal, Clause, variable_of};
 ghost use Rattle.varisat_theory.specs.StepLaws.{unit_lines};
-ghost use Rattle.varisat_clause.specs.Stored.{IsPlace, literals_at};
+ghost use Rattle.varisat_clause.specs.Stored.{IsClauseRef, literals_at};
 ghost use Rattle.varisat_clause.specs.Stores.{stored_clauses, IsSound, HoldsClauses};
 ghost use Rattle.varisat_prop.specs.Looks.{IsInRange};
 ghost use Rattle.varisat_prop.specs.Simplified.{without_assigned};
@@ -77,7 +77,7 @@ fn write_front(lits: &mut [Lit], front: &[Lit])
 /// Leaves these literals of the clause, three or more. The words of the others become a gap.
 fn shrink<A: Allocator + Copy>(alloc: &mut ClauseAlloc<A>, cref: ClauseRef, left: &[Lit])
     requires sound { IsSound alloc.old }
-    requires place { IsPlace (stored_clauses alloc.old) cref }
+    requires place { IsClauseRef (stored_clauses alloc.old) cref }
     requires least { 3 ≤ length left.now }
     requires most { length left.now ≤ length (literals_at (stored_clauses alloc.old) cref) }
     ensures { HoldsClauses alloc.new (length alloc.old.words) (with_shortened (stored_clauses alloc.old) cref left.now) }

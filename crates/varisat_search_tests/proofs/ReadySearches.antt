@@ -4,7 +4,7 @@ use Rattle.varisat_theory.specs.Literals.{variable_of}
 use Rattle.varisat_clause.specs.declared.header.Tier.TheVariants as tier
 use Rattle.varisat_clause.specs.Tiers.{is_tier}
 use Rattle.varisat_clause.specs.Headers.{Header}
-use Rattle.varisat_clause.specs.Stored.{IsPlace, header_at, with_header}
+use Rattle.varisat_clause.specs.Stored.{IsClauseRef, header_at, with_header}
 use Rattle.varisat_clause.specs.Stores.{Store, stored_clauses, HoldsClauses}
 use Rattle.varisat_clause.specs.Collected.{live_of, live_clauses}
 use Rattle.varisat_clause.proofs.DatabaseTracks.{tracks-header}
@@ -62,7 +62,7 @@ rebuilt-ready {A} {x} W n on w r =
     r.decidable r.assumed r.assumable
 
 -- the header of a stored clause changes but for its tier and whether it is deleted
-pub header-ready : {A : Type 0} (x : Context A) (n : Store) (p : ℕ) (h : Header) → IsReady x → IsPlace (stored_clauses x.clause_alloc) p →
+pub header-ready : {A : Type 0} (x : Context A) (n : Store) (p : ℕ) (h : Header) → IsReady x → IsClauseRef (stored_clauses x.clause_alloc) p →
     h.tier ≡ (header_at (stored_clauses x.clause_alloc) p).tier → h.deleted ≡ (header_at (stored_clauses x.clause_alloc) p).deleted →
     HoldsClauses n (length x.clause_alloc.words) (with_header (stored_clauses x.clause_alloc) p h) → IsReady (record x { clause_alloc = n })
 header-ready {A} x n p h r known t d o =

@@ -1,6 +1,6 @@
 //! A reader of DIMACS CNF text.
 ghost use Rattle.std.specs.Prelude.{◌≡◌, ℕ, List, [], ◌∷◌, ◌++◌, ◌⊎◌, ◌≢◌, true, false, IsTrue, MatchBool, Option, None, Some, Result, Ok, Err, OnOk, OnErr, IfOk, IfErr};
-ghost use Rattle.varisat_formula.specs.declared.dimacs.parser.Place.TheVariants.{Start};
+ghost use Rattle.varisat_formula.specs.declared.dimacs.parser.ParserState.TheVariants.{Start};
 ghost use Rattle.varisat_formula.specs.declared.dimacs.error.DimacsErrorKind.TheVariants.{Io, OutOfMemory};
 ghost use Rattle.varisat_formula.specs.Dimacs.{Reading, failed, next, read, is_line_feed, is_blank, gives, Ending, BreaksOff};
 ghost use Rattle.varisat_formula.specs.Machine.{no_word};
@@ -16,7 +16,7 @@ use std::marker::Model;
 
 /// Where the reader stands in its line.
 #[derive(Clone, Copy)]
-pub enum Place {
+pub enum ParserState {
     /// Before its first byte.
     Start,
     /// In a comment.
@@ -32,7 +32,7 @@ pub enum Place {
 #[derive(Drop)]
 pub struct DimacsParser<A: Allocator + Copy> {
     line: u64,
-    place: Place,
+    place: ParserState,
     over: bool,
     reader: Reader<A>,
 }
@@ -53,7 +53,7 @@ impl<A: Allocator + Copy> DimacsParser<A> {
     {
         DimacsParser {
             line: 1,
-            place: Place::Start,
+            place: ParserState::Start,
             over: false,
             reader: Reader::new_in(alloc),
         }
@@ -80,9 +80,9 @@ impl<A: Allocator + Copy> DimacsParser<A> {
         ensures wants { OnErr result (WantsRoom self.old) }
     {
         match self.place {
-            Place::Start | Place::Comment => {}
-            Place::Header(part) => self.reader.header(self.line, part.heading()),
-            Place::Plain(word) => self.end_token(word)?,
+            ParserState::Start | ParserState::Comment => {}
+            ParserState::Header(part) => self.reader.header(self.line, part.heading()),
+            ParserState::Plain(word) => self.end_token(word)?,
         }
         Ok(())
     }
@@ -95,7 +95,7 @@ impl<A: Allocator + Copy> DimacsParser<A> {
         ensures wants { OnErr result (WantsRoom self.old) }
     {
         self.end_place()?;
-        self.place = Place::Start;
+        self.place = ParserState::Start;
         self.line = self.line.saturating_add(1);
         Ok(())
     }
@@ -110,15 +110,15 @@ impl<A: Allocator + Copy> DimacsParser<A> {
         ensures wants { OnErr result (WantsRoom self.old × (is_blank b ≡ true)) }
     {
         match self.place {
-            Place::Start => self.place = start_place(b),
-            Place::Comment => {}
-            Place::Header(part) => self.place = Place::Header(part.after(b)),
-            Place::Plain(word) => {
+            ParserState::Start => self.place = start_place(b),
+            ParserState::Comment => {}
+            ParserState::Header(part) => self.place = ParserState::Header(part.after(b)),
+            ParserState::Plain(word) => {
                 if is_blank_byte(b) {
                     self.end_token(word)?;
-                    self.place = Place::Plain(Word::new());
+                    self.place = ParserState::Plain(Word::new());
                 } else {
-                    self.place = Place::Plain(word.after(b));
+                    self.place = ParserState::Plain(word.after(b));
                 }
             }
         }
@@ -165,9 +165,9 @@ impl<A: Allocator + Copy> DimacsParser<A> {
         ensures { IsTrue result → IsBetween self.now.place }
     {
         match self.place {
-            Place::Start => true,
-            Place::Plain(word) => word.is_none(),
-            Place::Comment | Place::Header(_) => false,
+            ParserState::Start => true,
+            ParserState::Plain(word) => word.is_none(),
+            ParserState::Comment | ParserState::Header(_) => false,
         }
     }
 
@@ -191,7 +191,7 @@ impl<A: Allocator + Copy> DimacsParser<A> {
             count = token.end + 1;
         }
         if count > 0 {
-            self.place = Place::Plain(Word::new());
+            self.place = ParserState::Plain(Word::new());
         }
         count
     }
@@ -208,7 +208,7 @@ impl<A: Allocator + Copy> DimacsParser<A> {
         if !self.is_between() || !self.reader.end_with_room() {
             return false;
         }
-        self.place = Place::Start;
+        self.place = ParserState::Start;
         self.line = self.line.saturating_add(1);
         true
     }
@@ -235,11 +235,11 @@ impl<A: Allocator + Copy> DimacsParser<A> {
         requires { IsReading self.old }
         ensures { ReadsOn self.old bytes.now result self.new }
     {
-        let Place::Plain(word) = self.place else {
+        let ParserState::Plain(word) = self.place else {
             return 0;
         };
         let (longer, count) = word.with_bytes(bytes);
-        self.place = Place::Plain(longer);
+        self.place = ParserState::Plain(longer);
         count
     }
 
@@ -372,17 +372,17 @@ impl<A: Allocator + Copy> DimacsParser<A> {
 }
 
 /// Where the first byte of a line leaves the reader.
-fn start_place(b: u8) -> Place
+fn start_place(b: u8) -> ParserState
     ensures { result ≡ start_place b }
 {
     match b {
-        b'c' => Place::Comment,
-        b'p' => Place::Header(HeaderPart::Name),
+        b'c' => ParserState::Comment,
+        b'p' => ParserState::Header(HeaderPart::Name),
         _ => {
             if is_blank_byte(b) {
-                Place::Plain(Word::new())
+                ParserState::Plain(Word::new())
             } else {
-                Place::Plain(Word::new().after(b))
+                ParserState::Plain(Word::new().after(b))
             }
         }
     }

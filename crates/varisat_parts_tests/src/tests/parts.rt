@@ -1,7 +1,7 @@
 //! Each call of the parts, with ample memory and with little.
 ghost use Rattle.std.specs.Prelude.{◌≡◌, ◌<◌, ◌≤◌, ◌∷◌, [], length, OnOk};
 ghost use Rattle.varisat_theory.specs.Literals.{variable_of};
-ghost use Rattle.varisat_clause.specs.Stored.{IsPlace, literals_at};
+ghost use Rattle.varisat_clause.specs.Stored.{IsClauseRef, literals_at};
 ghost use Rattle.varisat_clause.specs.Stores.{IsSound};
 ghost use Rattle.varisat_clause.specs.Collected.{live_clauses};
 ghost use Rattle.varisat_prop.specs.Parts.{no_values, empty_trail};
@@ -172,7 +172,7 @@ fn is_pair_named(clauses: &ClauseAlloc<Global>) -> bool
 /// Whether a clause of the store is named by its place, as a reason and as a conflict.
 fn is_long_named(clauses: &ClauseAlloc<Global>, cref: ClauseRef) -> bool
     requires sound { IsSound clauses.now }
-    requires place { IsPlace (live_clauses clauses.now) cref }
+    requires place { IsClauseRef (live_clauses clauses.now) cref }
     requires long { 3 ≤ length (literals_at (live_clauses clauses.now) cref) }
 {
     (Reason::Long(cref).lits(clauses) == lits![-2, 3].as_slice())

@@ -1,7 +1,7 @@
 //! Propagation of long clauses.
 ghost use Rattle.std.specs.Prelude.{◌≡◌, ◌<◌, ◌≤◌, ◌+◌, ◌-◌, ◌++◌, length, take, drop, OnOk, IfOk, MatchOption};
 ghost use Rattle.varisat_theory.specs.Literals.{opposite};
-ghost use Rattle.varisat_clause.specs.Stored.{IsPlace, literals_at};
+ghost use Rattle.varisat_clause.specs.Stored.{IsClauseRef, literals_at};
 ghost use Rattle.varisat_clause.specs.Stores.{IsSound};
 ghost use Rattle.varisat_clause.specs.Collected.{live_clauses};
 ghost use Rattle.varisat_prop.specs.Parts.{IsMadeTrue};
@@ -118,7 +118,7 @@ fn reorder_clause<A: Allocator + Copy>(
     false_lit: Lit,
 ) -> Found
     requires sound { IsSound alloc.old }
-    requires place { IsPlace (live_clauses alloc.old) cref }
+    requires place { IsClauseRef (live_clauses alloc.old) cref }
     requires long { 2 ≤ length (literals_at (live_clauses alloc.old) cref) }
     requires within { IsInRange assignment.now.current (literals_at (live_clauses alloc.old) cref) }
     requires is_false { IsMadeTrue assignment.now.current (opposite false_lit) }

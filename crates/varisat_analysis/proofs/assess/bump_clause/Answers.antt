@@ -1,6 +1,6 @@
 use Rattle.std.proofs.Common.{ℕ, true, ap, ◌∙◌, refl}
 use Rattle.varisat_clause.specs.Headers.{Header}
-use Rattle.varisat_clause.specs.Stored.{IsPlace, header_at, literals_at}
+use Rattle.varisat_clause.specs.Stored.{IsClauseRef, header_at, literals_at}
 use Rattle.varisat_clause.specs.Stores.{Store, stored_clauses}
 use Rattle.varisat_clause.specs.Databases.{Tracks}
 use Rattle.varisat_clause.proofs.DatabaseTracks.{tracks-header}
@@ -61,7 +61,7 @@ returns-clause-tracks g c =
     let p = c.args.cref in
     let d = c.improve_glue.new.db in
     let h : Header = record (header_at (stored_clauses k) p) { active = true } in
-    let at : IsPlace (stored_clauses k) p =
+    let at : IsClauseRef (stored_clauses k) p =
     set-place s k p (improved (own c.args.impl_graph.now c.args.alloc.now c.args.cref) (header_at (stored_clauses s) p)) c.requires.place
     c.in_ok-improve_glue.ensures.improved in
     let t : Tracks d n = tracks-header d k n p h c.improve_glue.ensures.tracks at refl refl c.set_active.ensures in

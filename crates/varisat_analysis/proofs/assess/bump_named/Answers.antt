@@ -1,7 +1,7 @@
 use Rattle.std.proofs.Common.{◌≡◌, List, take_all, get_or, sym, ◌∙◌, subst, refl}
 use Rattle.varisat_theory.specs.Membership.{◌∈◌}
 use Rattle.varisat_theory.specs.Literals.{Literal}
-use Rattle.varisat_clause.specs.Stored.{IsPlace}
+use Rattle.varisat_clause.specs.Stored.{IsClauseRef}
 use Rattle.varisat_clause.specs.Stores.{Store}
 use Rattle.varisat_clause.specs.Collected.{live_clauses}
 use Rattle.varisat_prop.specs.declared.prop.graph.Conflict.{Conflict}
@@ -29,7 +29,7 @@ bump_clause-requires g c =
     let k = c.loop-name.invariant.bumped in
     let i : conflict.Long p ∈ names = subst (λ (f : Conflict). f ∈ names) c.in-Long.is
     (item-∈ names c.loop-name.name-index c.name-item.result c.loop-name-test.true c.name-item.is) in
-    let h : IsPlace (live_clauses s) p = c.requires.named (conflict.Long p) i in
+    let h : IsClauseRef (live_clauses s) p = c.requires.named (conflict.Long p) i in
     record {
       place = bumped-place k p h;
       live = bumped-undeleted k p h;

@@ -2,7 +2,7 @@ use Rattle.std.proofs.lemmas.Grind.{common_steps}
 use Rattle.std.proofs.Common.{◌≡◌, ◌<◌, ◌+◌, length, drop, get_or, sym, ap, ◌∙◌, subst, arith}
 use Rattle.varisat_theory.specs.Literals.{variable_of}
 use Rattle.varisat_theory.proofs.Places.{∈-get_or}
-use Rattle.varisat_clause.specs.Stored.{StoredClause, IsPlace, no_clause, stored_at}
+use Rattle.varisat_clause.specs.Stored.{StoredClause, IsClauseRef, no_clause, stored_at}
 use Rattle.varisat_clause.specs.Stores.{stored_clauses}
 use Rattle.varisat_clause.specs.Collected.{live_clauses}
 use Rattle.varisat_clause.proofs.StoredClauses.{stored-found}
@@ -24,7 +24,7 @@ next g c =
     (sym c.in-Some.ensures.steps ∙ c.loop-cref.invariant.left)
 
 -- the clause that the iterator gives
-live-here : (g : Over) (c : In-Some g) → IsPlace (live_clauses c.args.clause_alloc.now) c.in-Some.cref
+live-here : (g : Over) (c : In-Some g) → IsClauseRef (live_clauses c.args.clause_alloc.now) c.in-Some.cref
 live-here g c =
     let n = next g c in (
       get_or (live_clauses c.args.clause_alloc.now) c.loop-cref.index no_clause,

@@ -1,6 +1,6 @@
 use Rattle.std.proofs.Common.{ℕ, List, [], ◌∷◌, inl, sym, ◌∙◌, subst, refl, arith}
 use Rattle.varisat_theory.specs.Membership.{◌∈◌}
-use Rattle.varisat_clause.specs.Stored.{IsPlace, literals_at}
+use Rattle.varisat_clause.specs.Stored.{IsClauseRef, literals_at}
 use Rattle.varisat_clause.specs.Stores.{stored_clauses}
 use Rattle.varisat_clause.specs.Collected.{live_clauses}
 use Rattle.varisat_clause.proofs.StoredClauses.{kept-at}
@@ -18,7 +18,7 @@ loop-cref-init g c =
     (sym (c.into_iter-cref-iterator.ensures.into_iter_gives ∙ c.clauses_iter-cref-items.ensures)) (but-all P c.args.flags.now)
 
 -- the next place is one of those that are left
-next-place : (g : Over) (c : In-Some g) → IsPlace (live_clauses c.args.clause_alloc.now) c.in-Some.cref
+next-place : (g : Over) (c : In-Some g) → IsClauseRef (live_clauses c.args.clause_alloc.now) c.in-Some.cref
 next-place g c = c.loop-cref.invariant.places c.in-Some.cref (subst (λ (xs : List ℕ). c.in-Some.cref ∈ xs) (sym c.in-Some.ensures.steps) (inl refl))
 
 pub lits-requires-clause-place : goal.lits-requires-clause-place

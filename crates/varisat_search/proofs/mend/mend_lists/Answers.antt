@@ -4,7 +4,7 @@ use Rattle.std.proofs.lemmas.List.{take_more, get_or-take, length-take}
 use Rattle.varisat_theory.specs.Membership.{◌∈◌}
 use Rattle.varisat_theory.specs.Literals.{Literal}
 use Rattle.varisat_theory.proofs.Places.{∈-get_or, ∈-take_more}
-use Rattle.varisat_clause.specs.Stored.{IsPlace}
+use Rattle.varisat_clause.specs.Stored.{IsClauseRef}
 use Rattle.varisat_clause.specs.Stores.{stored_clauses}
 use Rattle.varisat_clause.specs.Collected.{live_clauses}
 use Rattle.varisat_prop.specs.declared.prop.watch_list.Watch.{Watch}
@@ -42,7 +42,7 @@ mend_list-requires-clause-places g c = λ w h.
     let i = subst (λ (ws : List Watch). w ∈ ws) c.take_list-list.ensures.list h in
     ⊎_elim
     (λ e. c.requires.places l w (subst (λ (ws : List Watch). w ∈ ws) e i))
-    (λ m. let (y, j, f) = (m.each w i).2 in subst (IsPlace (stored_clauses c.args.clause_alloc.now)) f (c.requires.places l y j))
+    (λ m. let (y, j, f) = (m.each w i).2 in subst (IsClauseRef (stored_clauses c.args.clause_alloc.now)) f (c.requires.places l y j))
     (c.literals.invariant.each l)
 
 pub put_list-requires : goal.put_list-requires

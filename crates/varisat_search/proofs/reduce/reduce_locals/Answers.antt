@@ -25,7 +25,7 @@ use Rattle.varisat_theory.specs.Searches.{KeptClause, Search}
 use Rattle.varisat_theory.specs.Outcomes.{Proves}
 use Rattle.varisat_theory.proofs.StepParts.{no_part, parts_join}
 use Rattle.varisat_theory.proofs.StepChanges.{learned_is_deleted}
-use Rattle.varisat_clause.specs.Stored.{StoredClause, literals_at, stored_at, IsPlace, AreRising, header_at}
+use Rattle.varisat_clause.specs.Stored.{StoredClause, literals_at, stored_at, IsClauseRef, AreRising, header_at}
 use Rattle.varisat_clause.proofs.StoredClauses.{same-self, is-same, is-other, stored-∈, stored-found}
 use Rattle.varisat_clause.proofs.DatabaseTracks.{place-is, true-or-false, same-tier}
 use Rattle.varisat_prop.proofs.SimplifiedPairs.{filter-∈, ∈-filter}
@@ -91,7 +91,7 @@ split-place (j ∷ ks) r k (inr m) =
     }
 
 -- what stands at another place stands there still
-still-at : (ks : List StoredClause) (p q : ℕ) → AreRising ks → IsPlace ks q → q ≢ p → IsPlace (filter (other_place p) ks) q
+still-at : (ks : List StoredClause) (p q : ℕ) → AreRising ks → IsClauseRef ks q → q ≢ p → IsClauseRef (filter (other_place p) ks) q
     × (stored_at (filter (other_place p) ks) q ≡ stored_at ks q)
 still-at ks p q r a n =
     let k = stored_at ks q in
@@ -99,7 +99,7 @@ still-at ks p q r a n =
     let i : k ∈ filter (other_place p) ks = filter-∈ (other_place p) ks k (stored-∈ ks q a) (ap not (is-other k.place p (λ g. n (sym e ∙ g)))) in
     ((k, i, e), ap (stored_at (filter (other_place p) ks)) (sym e) ∙ stored-found (filter (other_place p) ks) (filter-rising (other_place p) ks r) k i)
 
-lines-still : (ks : List StoredClause) (p : ℕ) (ps : List ℕ) → AreRising ks → (p ∈ ps → ⊥) → ((q : ℕ) → q ∈ ps → IsPlace ks q) →
+lines-still : (ks : List StoredClause) (p : ℕ) (ps : List ℕ) → AreRising ks → (p ∈ ps → ⊥) → ((q : ℕ) → q ∈ ps → IsClauseRef ks q) →
     deletion_lines (filter (other_place p) ks) ps ≡ deletion_lines ks ps
 lines-still ks p [] r n a = refl
 lines-still ks p (q ∷ ps) r n a =
@@ -107,7 +107,7 @@ lines-still ks p (q ∷ ps) r n a =
     ∙ ap (λ ls. Delete (literals_at ks q) ∷ ls) (lines-still ks p ps r (λ h. n (inr h)) (λ x h. a x (inr h)))
 
 pub places-go : (s : Search) (ks : List StoredClause) (back : List KeptClause) (ps : List ℕ) → AreRising ks → s.kept ≡ map kept_clause ks ++ back →
-    IsDistinct ps → ((p : ℕ) → p ∈ ps → IsPlace ks p) → ((p : ℕ) → p ∈ ps → (kept_clause (stored_at ks p)).learned ≡ true) →
+    IsDistinct ps → ((p : ℕ) → p ∈ ps → IsClauseRef ks p) → ((p : ℕ) → p ∈ ps → (kept_clause (stored_at ks p)).learned ≡ true) →
     Proves 0 s (record s { kept = map kept_clause (without_places ps ks) ++ back }) (deletion_lines ks ps)
 places-go s ks back [] r e d a l = subst (λ (js : List KeptClause). Proves 0 s (record s { kept = js }) []) e (no_part s)
 places-go s ks back (p ∷ ps) r e d a l =
@@ -185,7 +185,7 @@ same-lines ks js (p ∷ ps) h = ap (λ c. Delete c ∷ deletion_lines ks ps) (h 
     ∙ ap (λ ls. Delete (literals_at js p) ∷ ls) (same-lines ks js ps (λ q i. h q (inr i)))
 
 -- the clauses at the places are deleted then
-deleted-there : (ps : List ℕ) (ks : List StoredClause) (q : ℕ) → ((p : ℕ) → p ∈ ps → IsPlace ks p) → q ∈ ps → (header_at (all_deleted ps ks) q).deleted ≡ true
+deleted-there : (ps : List ℕ) (ks : List StoredClause) (q : ℕ) → ((p : ℕ) → p ∈ ps → IsClauseRef ks p) → q ∈ ps → (header_at (all_deleted ps ks) q).deleted ≡ true
 deleted-there [] ks q h i = absurd i
 deleted-there (p ∷ ps) ks q h (inl e) =
     deleted-stays ps (deleted_at ks p) q (λ x i. headers-place ks (deleted_at ks p) x (one-placed ks p) (h x (inr i)))
@@ -198,7 +198,7 @@ second false b e = absurd (let z : false ≡ true = e in cc)
 
 -- A clause that is taken is one of those that are kept, and is learned.
 record IsTaken (s : View) (marked : List StoredClause) (p : ℕ) : Type 0 where
-  place : IsPlace s.clauses p
+  place : IsClauseRef s.clauses p
   text : literals_at s.clauses p ≡ literals_at marked p
   learned : (kept_clause (stored_at s.clauses p)).learned ≡ true
 

@@ -4,7 +4,7 @@ use Rattle.std.proofs.Common.{◌≡◌, ℕ, ◌<◌, ◌++◌, Bool, true, fal
 use Rattle.std.proofs.lemmas.List.Sorted.{IsPermutation-sym}
 use Rattle.varisat_theory.specs.Membership.{◌∈◌}
 use Rattle.varisat_theory.specs.Literals.{Clause, Literal, opposite}
-use Rattle.varisat_clause.specs.Stored.{StoredClause, IsPlace, stored_at, literals_of}
+use Rattle.varisat_clause.specs.Stored.{StoredClause, IsClauseRef, stored_at, literals_of}
 use Rattle.varisat_clause.proofs.StoredClauses.{stored-∈, literals-∈}
 use Rattle.varisat_clause.proofs.LiveStore.{live-place}
 use Rattle.varisat_clause.proofs.TierPlaces.{∈-permutation}
@@ -107,7 +107,7 @@ pub mend_lists-requires-clause-places : goal.mend_lists-requires-clause-places
 mend_lists-requires-clause-places g c = λ y w h.
     let x = c.args.ctx.now in
     let p = c.requires.can.ready.propagated in
-    let place : IsPlace (live_clauses x.clause_alloc) w.cref = ⊎_elim
+    let place : IsClauseRef (live_clauses x.clause_alloc) w.cref = ⊎_elim
     (λ (e : x.watchlists.enabled ≡ true). ((p.watching e).known y w h).0)
     (λ (e : x.watchlists.enabled ≡ false). absurd (subst (λ (ws : List Watch). w ∈ ws) (p.empty e y) h))
     (true-false x.watchlists.enabled) in

@@ -1,5 +1,5 @@
 use Rattle.std.proofs.Common.{refl, ap, ◌∙◌, ℕ}
-use Rattle.varisat_formula.specs.declared.dimacs.parser.Place.TheVariants.{Start}
+use Rattle.varisat_formula.specs.declared.dimacs.parser.ParserState.TheVariants.{Start}
 use Rattle.varisat_formula.specs.declared.dimacs.token.Meaning.TheVariants.{End}
 use Rattle.varisat_formula.specs.Dimacs.{Reading, after_token, next}
 use Rattle.varisat_formula.specs.Rest.{Progress}

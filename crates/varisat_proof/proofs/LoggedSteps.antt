@@ -21,7 +21,7 @@ use Rattle.varisat_proof.specs.Lines.{ProofLine, encoding_of}
 use Rattle.varisat_proof.specs.Steps.{step_lines}
 use Rattle.varisat_proof.specs.Calls.{CheckerState, IsStepTaken, FailsAt, DoesNotFollow, IsStep}
 use Rattle.varisat_proof.specs.Present.{IsLeftAfter}
-use Rattle.varisat_proof.specs.Proving.{OpenState, ProofParts, IsWritten, IsWrittenIf, IsCheckedIf, IsLogged, Logs, logged, MayBeHeld, IsUsable, IsSpent, RunsOutLogging}
+use Rattle.varisat_proof.specs.Proving.{OpenState, ProofParts, IsWritten, IsWrittenIf, IsCheckedIf, IsLogged, Logs, logged, MayBePresent, IsUsable, IsSpent, RunsOutLogging}
 
 -- 1. A step that is taken.
 lines_left : (P : List Clause) (lines : List Line) (Q : List Clause) → IsPresentAfter P lines Q → IsLeftAfter P (written lines) Q
@@ -63,18 +63,18 @@ wrong_line Q R (Delete c) rest S s w d =
 
 -- lines that can be derived from what a checker may hold have no wrong one
 none-fails : (P : List Clause) (lines : List Line) (n : ℕ) (line : Line) (Q : List Clause) →
-    CanTake (MayBeHeld (Some (record { clauses = P; spent = false }))) lines → FailsAt P lines n line Q → ⊥
+    CanTake (MayBePresent (Some (record { clauses = P; spent = false }))) lines → FailsAt P lines n line Q → ⊥
 none-fails P lines n line Q (held, after, h, d) f =
     let (S, e, s) = derives_same held P lines lines after h.0 (same_lines-self lines) d in
     let (R, front, rest) = derives_cut P f.front (line ∷ f.back) S (subst (λ ls. Derives P ls S) f.splits e) in
     wrong_line Q R line f.back S (present_unique P P f.front R Q (same_clauses-self P) (derives_present P f.front R front)
     (derives_present P f.front Q f.derives)) f.wrong rest
 
-can_fail : (P : List Clause) (core : List Literal) → CanFail (MayBeHeld (Some (record { clauses = P; spent = false }))) core → Conflicts P core
+can_fail : (P : List Clause) (core : List Literal) → CanFail (MayBePresent (Some (record { clauses = P; spent = false }))) core → Conflicts P core
 can_fail P core (held, h, k) = conflicts_same held P core h.0 k
 
 right_follows : (P : List Clause) (step : ProofStep) (n : ℕ) (Q : List Clause) →
-    CanTakeStep (MayBeHeld (Some (record { clauses = P; spent = false }))) step → DoesNotFollow P step n Q → ⊥
+    CanTakeStep (MayBePresent (Some (record { clauses = P; spent = false }))) step → DoesNotFollow P step n Q → ⊥
 right_follows P (AtClause c) n Q h (d, f) = none-fails P (step_lines (AtClause c)) n (Add d) Q h f
 right_follows P (UnitClauses units) n Q h (d, f) = none-fails P (step_lines (UnitClauses units)) n (Add d) Q h f
 right_follows P (DeleteClause c) n Q h f = f
@@ -90,7 +90,7 @@ no_line P n line Q f = empty f.front f.splits
     empty (l ∷ front) e = cc
 
 right_deletes : (P : List Clause) (step : ProofStep) (n : ℕ) (d : Clause) (Q : List Clause) →
-    CanTakeStep (MayBeHeld (Some (record { clauses = P; spent = false }))) step → FailsAt P (step_lines step) n (Delete d) Q → ⊥
+    CanTakeStep (MayBePresent (Some (record { clauses = P; spent = false }))) step → FailsAt P (step_lines step) n (Delete d) Q → ⊥
 right_deletes P (AtClause c) n d Q h f = none-fails P (step_lines (AtClause c)) n (Delete d) Q h f
 right_deletes P (UnitClauses units) n d Q h f = none-fails P (step_lines (UnitClauses units)) n (Delete d) Q h f
 right_deletes P (DeleteClause c) n d Q h f = none-fails P (step_lines (DeleteClause c)) n (Delete d) Q h f
@@ -98,7 +98,7 @@ right_deletes P (DeleteVar v) n d Q h f = no_line P n (Delete d) Q f
 right_deletes P (FailedAssumptions core) n d Q h f = no_line P n (Delete d) Q f
 
 right_error : (P : List Clause) (new : CheckerState) (step : ProofStep) (e : CheckerError) →
-    CanTakeStep (MayBeHeld (Some (record { clauses = P; spent = false }))) step → IsStep (record { clauses = P; spent = false }) step (Err e) new →
+    CanTakeStep (MayBePresent (Some (record { clauses = P; spent = false }))) step → IsStep (record { clauses = P; spent = false }) step (Err e) new →
     e ≡ OutOfMemory
 right_error P new step (CheckFailed n) h s = absurd (right_follows P step n new.clauses h s.0)
 right_error P new step (NoSuchClause n) h s = absurd (right_deletes P step n s.0.0 new.clauses h s.0.1)
@@ -110,14 +110,14 @@ right_error P new step (Dimacs cause) h s = absurd s
 right_error P new step Spent h s = absurd cc
 
 pub right-step : (checker : Option CheckerState) (old new : CheckerState) (step : ProofStep) (r : Result (Unit {0}) CheckerError) → checker ≡ Some old →
-    IsUsable checker → CanTakeStep (MayBeHeld checker) step → IsStep old step r new → IfErr r (λ e. e ≡ OutOfMemory)
+    IsUsable checker → CanTakeStep (MayBePresent checker) step → IsStep old step r new → IfErr r (λ e. e ≡ OutOfMemory)
 right-step checker old new step (Ok u) is usable right h = tt
 right-step checker old new step (Err e) is usable right h =
     let unspent : old.spent ≡ false = subst IsUsable is usable in
     let whole : old ≡ record { clauses = old.clauses; spent = false } = ap (λ (b : Bool). let s : CheckerState = record
     { clauses = old.clauses; spent = b } in s) unspent in
-    right_error old.clauses new step e (subst (λ (k : CheckerState). CanTakeStep (MayBeHeld (Some k)) step) whole
-    (subst (λ (k : Option CheckerState). CanTakeStep (MayBeHeld k) step) is right)) (subst (λ (k : CheckerState). IsStep k step (Err e) new) whole h)
+    right_error old.clauses new step e (subst (λ (k : CheckerState). CanTakeStep (MayBePresent (Some k)) step) whole
+    (subst (λ (k : Option CheckerState). CanTakeStep (MayBePresent k) step) is right)) (subst (λ (k : CheckerState). IsStep k step (Err e) new) whole h)
 
 -- 3. The lines and the checker.
 -- other words for the same lines

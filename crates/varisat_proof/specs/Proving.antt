@@ -111,9 +111,9 @@ CanCountTargetFault None = Unit {0}
 CanCountTargetFault (Some p) = p.taken.faults < 2 ^ 64 - 1
 
 -- The clauses that a checker may hold: the same as sets that it has, each as often, in whatever order. Where none runs it may be any.
-abbrev pub MayBeHeld : Option CheckerState → List Clause → Type 0
-MayBeHeld None held = Unit {0}
-MayBeHeld (Some c) held = SameClauses held c.clauses × (c.spent ≡ false)
+abbrev pub MayBePresent : Option CheckerState → List Clause → Type 0
+MayBePresent None held = Unit {0}
+MayBePresent (Some c) held = SameClauses held c.clauses × (c.spent ≡ false)
 
 -- a checker that runs is not spent
 abbrev pub IsUsable : Option CheckerState → Type 0

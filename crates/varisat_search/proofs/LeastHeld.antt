@@ -9,7 +9,7 @@ use Rattle.varisat_prop.specs.View.{View}
 use Rattle.varisat_prop.proofs.SimplifiedPairs.{filter-∈, ∈-filter}
 use Rattle.varisat_search.specs.Seen.{search_of, is_fixed, is_proved}
 use Rattle.varisat_search.proofs.StepWithoutLines.{unit_clauses, in_units, from_units}
-use Rattle.varisat_trace.specs.Traces.{HoldsFor, HoldsWith}
+use Rattle.varisat_trace.specs.Traces.{AdmitsFor, AdmitsWith}
 
 first-true : (a b : Bool) → (a && b) ≡ true → a ≡ true
 first-true true b e = refl
@@ -34,8 +34,8 @@ least-fits s = record {
 }
 
 -- a tracer that may hold anything
-pub anything-for : (H : List Clause → Type 0) → ((held : List Clause) → H held) → (s : View) → HoldsFor H (search_of s)
+pub anything-for : (H : List Clause → Type 0) → ((held : List Clause) → H held) → (s : View) → AdmitsFor H (search_of s)
 anything-for H h s = (least-held s, h (least-held s), least-fits s)
 
-pub anything-with : (H : List Clause → Type 0) → ((held : List Clause) → H held) → (s : View) (c : Clause) → HoldsWith H (search_of s) c
+pub anything-with : (H : List Clause → Type 0) → ((held : List Clause) → H held) → (s : View) (c : Clause) → AdmitsWith H (search_of s) c
 anything-with H h s c = (least-held s, h (least-held s ++ c ∷ []), least-fits s)

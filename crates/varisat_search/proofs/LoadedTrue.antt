@@ -8,7 +8,7 @@ use Rattle.varisat_theory.specs.Literals.{Literal, Clause, opposite, IsUnit}
 use Rattle.varisat_theory.specs.Derivations.{Line, Delete}
 use Rattle.varisat_theory.specs.Searches.{Search, IsTautology}
 use Rattle.varisat_theory.proofs.Held.{same_set-back}
-use Rattle.varisat_trace.specs.Traces.{CanTake, HoldsWith}
+use Rattle.varisat_trace.specs.Traces.{CanTake, AdmitsWith}
 use Rattle.varisat_theory.specs.Outcomes.{Outcome, Loads}
 use Rattle.varisat_clause.proofs.TierPlaces.{distinct-permutation, ∈-permutation}
 use Rattle.varisat_prop.specs.View.{View, IsTrueIn, WellFormed}
@@ -23,7 +23,7 @@ permuted-set lits d c m same =
     ((λ x h. same.0 x (∈-permutation d lits x (IsPermutation-sym lits d m) h)), (λ x h. ∈-permutation lits d x m (same.1 x h)))
 
 -- a clause that was accepted just before can be deleted
-pub can-delete-loaded : (H : List Clause → Type 0) (s : Search) (c lits d : Clause) → d ≡ lits → SameSet lits c → HoldsWith H s c → CanTake H (Delete d ∷ [])
+pub can-delete-loaded : (H : List Clause → Type 0) (s : Search) (c lits d : Clause) → d ≡ lits → SameSet lits c → AdmitsWith H s c → CanTake H (Delete d ∷ [])
 can-delete-loaded H s c lits d e same (held, h, f) =
     (held ++ c ∷ [], held, h, (held, (held, c, [], refl, subst (SameSet c) (sym e) (same_set-back lits c same), sym (append-nil held)), refl))
 

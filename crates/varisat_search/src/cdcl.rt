@@ -15,7 +15,7 @@ ghost use Rattle.varisat_search.specs.Frames.{ChangesAnalysis, ChangesClauses, C
 ghost use Rattle.varisat_search.specs.Steps.{IsPropagatedToEnd, SavesSome};
 ghost use Rattle.varisat_search.specs.Seen.{search_of};
 ghost use Rattle.varisat_theory.specs.Journals.{Fails};
-ghost use Rattle.varisat_trace.specs.Traces.{TakesLines, TakesStep, LogsLines, BreaksOff, faults_of, CanTake, CanFail, HoldsFor};
+ghost use Rattle.varisat_trace.specs.Traces.{TakesLines, TakesStep, LogsLines, BreaksOff, faults_of, CanTake, CanFail, AdmitsFor};
 ghost use Rattle.varisat_search.specs.AssumptionParts.{TakesOutImplied};
 ghost use Rattle.varisat_search.specs.Conflicts.{ComesToDecision, EndsOrStops, keeping_of, IsKeptAsReason, IsStoredAsReason, IsWatchedAsReason};
 ghost use Rattle.varisat_search.specs.Learning.{HasMet, BumpsVariables, BumpsAndStores};
@@ -204,7 +204,7 @@ fn learn_from_conflict<A: Allocator + Copy, P: ProofTracer>(
     requires ready { IsReady ctx.old }
     requires conflict { IsConflicting (view ctx.old) conflict }
     requires unknown { ctx.old.solver_state.sat_state ≡ SatState.Unknown }
-    requires holds { HoldsFor (P.holds proof.old) (search_of (view ctx.old)) }
+    requires holds { AdmitsFor (P.holds proof.old) (search_of (view ctx.old)) }
     ensures further { OnOk result (IsStepFurther (λ lines. AddOne lines × TakesLines P.takes proof.old lines proof.new) ctx.old ctx.new) }
     // Above level 0 the variables of the clauses that the learned one came from are bumped, and activities decay.
     ensures bumps { OnOk result (0 < length ctx.old.trail.decisions → BumpsVariables ctx.old ctx.new) }
@@ -247,7 +247,7 @@ pub fn simplify_root<A: Allocator + Copy, P: ProofTracer>(
 ) -> Result<Result<(), Conflict>, TraceError>
     requires ready { IsReady ctx.old }
     requires undecided { ctx.old.trail.decisions ≡ [] }
-    requires holds { HoldsFor (P.holds proof.old) (search_of (view ctx.old)) }
+    requires holds { AdmitsFor (P.holds proof.old) (search_of (view ctx.old)) }
     // Simplification relies on the unit clauses, so that their lines come first.
     ensures goes_on { IfOk result (λ end. SimplifiesRootByLines (λ lines. TakesLines P.takes proof.old lines proof.new) ctx.old ctx.new end) }
     ensures settled { IfOk result (λ end. MatchResult end (λ _. IsRootSimplified (view ctx.new)) (λ _. Unit {0})) }
@@ -284,7 +284,7 @@ fn simplify_root_if_news<A: Allocator + Copy, P: ProofTracer>(
     proof: &mut P,
 ) -> Result<Result<(), Conflict>, TraceError>
     requires ready { IsReady ctx.old }
-    requires holds { HoldsFor (P.holds proof.old) (search_of (view ctx.old)) }
+    requires holds { AdmitsFor (P.holds proof.old) (search_of (view ctx.old)) }
     ensures goes_on { IfOk result (λ end. SimplifiesRootIfNews (λ lines. TakesLines P.takes proof.old lines proof.new) ctx.old ctx.new end) }
     ensures stays { IfOk result (λ end. (HasRootNews (view ctx.old) → ⊥) → (ctx.new ≡ ctx.old) × (end ≡ Ok tt)) }
     ensures finds { IfOk result (λ end. ctx.old.trail.decisions ≡ [] → (c : Conflict) → IsConflicting (view ctx.old) c → end ≢ Ok tt) }
@@ -321,7 +321,7 @@ fn find_and_learn<A: Allocator + Copy, P: ProofTracer>(
 ) -> Result<(), StepError>
     requires ready { IsReady ctx.old }
     requires unknown { ctx.old.solver_state.sat_state ≡ SatState.Unknown }
-    requires holds { HoldsFor (P.holds proof.old) (search_of (view ctx.old)) }
+    requires holds { AdmitsFor (P.holds proof.old) (search_of (view ctx.old)) }
     ensures made { OnOk result (MakesStep
         (λ lines. AddOneIfUnknown lines ctx.new × TakesStep P.takes proof.old lines (outcome_at ctx.new) proof.new) ctx.old ctx.new) }
     ensures core { OnOk result (HasCoreIfFailed ctx.new) }
@@ -350,7 +350,7 @@ pub fn conflict_step<A: Allocator + Copy, P: ProofTracer>(
     requires ready { IsReady ctx.old }
     requires unknown { ctx.old.solver_state.sat_state ≡ SatState.Unknown }
     // The tracer may hold what fits the search.
-    requires holds { HoldsFor (P.holds proof.old) (search_of (view ctx.old)) }
+    requires holds { AdmitsFor (P.holds proof.old) (search_of (view ctx.old)) }
     // It took the lines of the step, and then the core, where assumptions failed.
     ensures made { OnOk result (SimplifiesAndSteps (λ lines. TakesStep P.takes proof.old lines (outcome_at ctx.new) proof.new) ctx.old ctx.new) }
     ensures core { OnOk result (HasCoreIfFailed ctx.new) }

@@ -17,7 +17,7 @@ ghost use Rattle.varisat_search.specs.Decisions.{AreDecidable};
 ghost use Rattle.varisat_search.specs.Frames.{ChangesLoaded, ClearsFlags, KeepsVariables, KeepsScheduleAndVariables};
 ghost use Rattle.varisat_search.specs.Loading.{HasFalseLiteral, IsHeadAfter, AddsLoaded, LoadsUnit, DeletesInOrder, LoadsTo};
 ghost use Rattle.varisat_search.specs.Forgotten.{IsUnmentioned};
-ghost use Rattle.varisat_trace.specs.Traces.{TakesLines, BreaksOff, faults_of, CanTake, HoldsWith};
+ghost use Rattle.varisat_trace.specs.Traces.{TakesLines, BreaksOff, faults_of, CanTake, AdmitsWith};
 ghost use Rattle.varisat_search.specs.StepErrors.{RefusesStoring, EndsStep, step_faults};
 ghost use Rattle.varisat_search.specs.Seen.{search_of};
 
@@ -155,7 +155,7 @@ pub fn load_clause<A: Allocator + Copy, P: ProofTracer>(
     lits: &[Lit],
 ) -> Result<(), StepError>
     // The tracer may hold what fits the search and the clause itself.
-    requires holds { IsNotUnsat ctx.old → HoldsWith (P.holds proof.old) (search_of (view ctx.old)) lits.now }
+    requires holds { IsNotUnsat ctx.old → AdmitsWith (P.holds proof.old) (search_of (view ctx.old)) lits.now }
     requires ready { IsReady ctx.old }
     requires in_range { IsInRange ctx.old.assignment.current lits.now }
     requires decidable { AreDecidable (view ctx.old) ctx.old.vsids lits.now }

@@ -4,7 +4,7 @@ ghost use Rattle.varisat_search.specs.Contexts.{view, IsReady};
 ghost use Rattle.varisat_search.specs.Frames.{ChangesStore, ChangesTiers};
 ghost use Rattle.varisat_search.specs.DueReductions.{MarksReasons, DropsLocals, ReducesMids, KeepsSearch};
 ghost use Rattle.varisat_search.specs.Seen.{search_of};
-ghost use Rattle.varisat_trace.specs.Traces.{TakesLines, BreaksOff, faults_of, HoldsFor};
+ghost use Rattle.varisat_trace.specs.Traces.{TakesLines, BreaksOff, faults_of, AdmitsFor};
 
 use crate::context::Context;
 use crate::trace::trace_deletions;
@@ -25,7 +25,7 @@ pub fn reduce_locals<A: Allocator + Copy, P: ProofTracer>(
     proof: &mut P,
 ) -> Result<(), TraceError>
     requires ready { IsReady ctx.old }
-    requires holds { HoldsFor (P.holds proof.old) (search_of (view ctx.old)) }
+    requires holds { AdmitsFor (P.holds proof.old) (search_of (view ctx.old)) }
     ensures keeps { OnOk result (KeepsSearch
         (λ lines. DropsLocals lines ctx.old ctx.new × TakesLines P.takes proof.old lines proof.new)
         ctx.old ctx.new) }

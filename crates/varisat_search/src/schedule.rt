@@ -12,7 +12,7 @@ ghost use Rattle.varisat_search.specs.Restarts.{RestartsIfDue, SavesIfDue, Resta
 ghost use Rattle.varisat_search.specs.DueReductions.{ReducesLocalsIfDue, ReducesMidsIfDue, ReducesIfDue, KeepsSearch, BeginsStep, StepsBySchedule};
 ghost use Rattle.varisat_search.specs.StepErrors.{HasNoRoom, step_faults};
 ghost use Rattle.varisat_search.specs.Seen.{search_of};
-ghost use Rattle.varisat_trace.specs.Traces.{TakesLines, TakesStep, BreaksOff, faults_of, HoldsFor};
+ghost use Rattle.varisat_trace.specs.Traces.{TakesLines, TakesStep, BreaksOff, faults_of, AdmitsFor};
 
 use crate::cdcl::conflict_step;
 use crate::collect::collect_garbage;
@@ -52,7 +52,7 @@ fn reduce_locals_if_due<A: Allocator + Copy, P: ProofTracer>(
     proof: &mut P,
 ) -> Result<(), TraceError>
     requires ready { IsReady ctx.old }
-    requires holds { HoldsFor (P.holds proof.old) (search_of (view ctx.old)) }
+    requires holds { AdmitsFor (P.holds proof.old) (search_of (view ctx.old)) }
     ensures keeps { OnOk result (KeepsSearch
         (λ lines. ReducesLocalsIfDue lines ctx.old ctx.new × TakesLines P.takes proof.old lines proof.new)
         ctx.old ctx.new) }
@@ -83,7 +83,7 @@ fn reduce_if_due<A: Allocator + Copy, P: ProofTracer>(
     proof: &mut P,
 ) -> Result<(), TraceError>
     requires ready { IsReady ctx.old }
-    requires holds { HoldsFor (P.holds proof.old) (search_of (view ctx.old)) }
+    requires holds { AdmitsFor (P.holds proof.old) (search_of (view ctx.old)) }
     ensures keeps { OnOk result (KeepsSearch
         (λ lines. ReducesIfDue lines ctx.old ctx.new × TakesLines P.takes proof.old lines proof.new)
         ctx.old ctx.new) }
@@ -103,11 +103,11 @@ pub fn begin_step<A: Allocator + Copy, P: ProofTracer>(
     proof: &mut P,
 ) -> Result<(), TraceError>
     requires ready { IsReady ctx.old }
-    requires holds { HoldsFor (P.holds proof.old) (search_of (view ctx.old)) }
+    requires holds { AdmitsFor (P.holds proof.old) (search_of (view ctx.old)) }
     requires counted { ctx.old.schedule.steps < 2 ^ 64 - 1 }
     // The tracer took the lines of the reductions, and may hold what fits the search then.
     ensures begins { OnOk result (BeginsStep (λ lines. TakesLines P.takes proof.old lines proof.new) ctx.old ctx.new) }
-    ensures holds { OnOk result (HoldsFor (P.holds proof.new) (search_of (view ctx.new))) }
+    ensures holds { OnOk result (AdmitsFor (P.holds proof.new) (search_of (view ctx.new))) }
     ensures later { ctx.new.schedule.steps < ctx.new.schedule.next_restart }
     ensures kept { ChangesReduced ctx.old ctx.new }
     ensures broken { IfErr result (λ error. BreaksOff P.breaks_off proof.old (faults_of error) proof.new) }
@@ -125,7 +125,7 @@ pub fn schedule_step<A: Allocator + Copy, P: ProofTracer>(
     proof: &mut P,
 ) -> Result<(), StepError>
     requires ready { IsReady ctx.old }
-    requires holds { HoldsFor (P.holds proof.old) (search_of (view ctx.old)) }
+    requires holds { AdmitsFor (P.holds proof.old) (search_of (view ctx.old)) }
     requires unknown { ctx.old.solver_state.sat_state ≡ SatState.Unknown }
     requires counted { ctx.old.schedule.steps < 2 ^ 64 - 1 }
     ensures ready { OnOk result (IsReady ctx.new) }

@@ -15,7 +15,7 @@ ghost use Rattle.varisat_search.specs.Progress.{ProvesTo};
 ghost use Rattle.varisat_search.specs.Seen.{search_of};
 ghost use Rattle.varisat_search.specs.RootSimplified.{CanSimplify};
 ghost use Rattle.varisat_search.specs.ProvedUnits.{units_in, implied_units, HaveUnits, ProvesUnits};
-ghost use Rattle.varisat_trace.specs.Traces.{TakesLines, BreaksOff, faults_of, CanTake, HoldsFor};
+ghost use Rattle.varisat_trace.specs.Traces.{TakesLines, BreaksOff, faults_of, CanTake, AdmitsFor};
 ghost use Rattle.varisat_search.specs.Simplifications.{unassigned, with_shortened, with_pairs, IsSimplified, pair_lines, clause_lines, IsPairIn, IsLeftOpen, LeavesOpen, NotesWatches};
 
 use crate::context::Context;
@@ -48,7 +48,7 @@ pub fn prove_units<A: Allocator + Copy, P: ProofTracer>(
     proof: &mut P,
 ) -> Result<bool, TraceError>
     requires ready { IsReady ctx.old }
-    requires holds { HoldsFor (P.holds proof.old) (search_of (view ctx.old)) }
+    requires holds { AdmitsFor (P.holds proof.old) (search_of (view ctx.old)) }
     ensures found { IfOk result (λ found. IsTrue found ↔ ((ctx.old.trail.decisions ≡ []) × (0 < length ctx.old.trail.literals))) }
     ensures proved { HoldsOrUnchanged result (ctx.old.trail.decisions ≡ [] → ProvesUnits (view ctx.old) (view ctx.new)) ctx.old ctx.new }
     ensures proves { OnOk result (ctx.old.trail.decisions ≡ [] → ProvesTo (unit_lines (implied_units (view ctx.old))) ctx.old ctx.new) }
@@ -170,7 +170,7 @@ pub fn simplify_binary<A: Allocator + Copy, P: ProofTracer>(
     proof: &mut P,
 ) -> Result<(), TraceError>
     requires can { CanSimplify ctx.old }
-    requires holds { HoldsFor (P.holds proof.old) (search_of (view ctx.old)) }
+    requires holds { AdmitsFor (P.holds proof.old) (search_of (view ctx.old)) }
     ensures simplified { HoldsOrUnchanged result
         (ctx.new.binary_clauses ≡ without_assigned ctx.old.assignment.current ctx.old.binary_clauses) ctx.old ctx.new }
     ensures proves { OnOk result (ProvesTo (pair_lines (view ctx.old)) ctx.old ctx.new) }
@@ -192,7 +192,7 @@ fn simplify_stored<A: Allocator + Copy, P: ProofTracer>(
     proof: &mut P,
 ) -> Result<(), TraceError>
     requires can { CanSimplify ctx.old }
-    requires holds { HoldsFor (P.holds proof.old) (search_of (view ctx.old)) }
+    requires holds { AdmitsFor (P.holds proof.old) (search_of (view ctx.old)) }
     requires left { without_assigned ctx.old.assignment.current ctx.old.binary_clauses ≡ ctx.old.binary_clauses }
     ensures simplified { OnOk result (IsSimplified (view ctx.old) (view ctx.new)) }
     ensures proves { OnOk result (ProvesTo (clause_lines (view ctx.old)) ctx.old ctx.new) }
@@ -227,7 +227,7 @@ pub fn unit_simplify<A: Allocator + Copy, P: ProofTracer>(
     proof: &mut P,
 ) -> Result<(), TraceError>
     requires can { CanSimplify ctx.old }
-    requires holds { HoldsFor (P.holds proof.old) (search_of (view ctx.old)) }
+    requires holds { AdmitsFor (P.holds proof.old) (search_of (view ctx.old)) }
     ensures simplified { OnOk result (IsSimplified (view ctx.old) (view ctx.new)) }
     ensures proves { OnOk result (ProvesTo (pair_lines (view ctx.old) ++ clause_lines (view ctx.old)) ctx.old ctx.new) }
     ensures takes { OnOk result (TakesLines P.takes proof.old (pair_lines (view ctx.old) ++ clause_lines (view ctx.old)) proof.new) }

@@ -20,12 +20,12 @@ use Rattle.varisat_names.specs.Variables.{Tables}
 use Rattle.varisat_names.proofs.Maps.{chain-through}
 use Rattle.varisat_proof.specs.Calls.{CheckerState}
 use Rattle.varisat_proof.specs.Present.{IsLeftAfter}
-use Rattle.varisat_proof.specs.Proving.{ProofParts, IsCheckedIf, MayBeHeld}
+use Rattle.varisat_proof.specs.Proving.{ProofParts, IsCheckedIf, MayBePresent}
 use Rattle.varisat_search.specs.AssumptionParts.{AssumptionParts}
 use Rattle.varisat_search.specs.Seen.{search_of}
 use Rattle.varisat_search.specs.declared.state.SatState.{SatState}
 use Rattle.varisat_search.specs.declared.state.SatState.TheVariants as verdict
-use Rattle.varisat_trace.specs.Traces.{HoldsFor}
+use Rattle.varisat_trace.specs.Traces.{AdmitsFor}
 use Rattle.varisat_tracer.specs.Carried.{carry, logged_as}
 use Rattle.varisat_tracer.specs.Tracing.{Relies, CanLog}
 use Rattle.varisat_solver.specs.Searches.{ComesOn, Turn}
@@ -60,8 +60,8 @@ left-as f (Fails core ∷ es) held after P Q n s (R, (g, e), d) l =
 left-as f (Retires v ∷ es) held after P Q n s d l = absurd n
 
 may-hold-on : (f : Literal → Literal) (k k' : Option CheckerState) (es : List Entry) (held after : List Clause) → NoneRetires es →
-    IsCheckedIf k (logged_as f es) k' → Leads held es after → MayBeHeld k (rename f held) → MayBeHeld k' (rename f after)
-may-hold-on f None k' es held after n e d h = subst (λ o. MayBeHeld o (rename f after)) (sym e) tt
+    IsCheckedIf k (logged_as f es) k' → Leads held es after → MayBePresent k (rename f held) → MayBePresent k' (rename f after)
+may-hold-on f None k' es held after n e d h = subst (λ o. MayBePresent o (rename f after)) (sym e) tt
 may-hold-on f (Some a) None es held after n e d h = absurd e
 may-hold-on f (Some a) (Some b) es held after n (l, e) d (s, u) = (left-as f es held after a.clauses b.clauses n s d l, e ∙ u)
 
@@ -97,7 +97,7 @@ checked-assumed (Some x) (Some y) a (c, u) = checked-nothing (Some x) (Some y) (
 pub checker-alike : (f g : ℕ → Option ℕ) (logged : List Entry) (k : Option CheckerState) →
     ((held : List Clause) → Leads [] logged held → (c : Clause) (l : Literal) → c ∈ held → l ∈ c → f (variable_of l) ≡ g (variable_of l)) →
     CheckerFits f logged k → CheckerFits g logged k
-checker-alike f g logged k same fits held led = subst (MayBeHeld k)
+checker-alike f g logged k same fits held led = subst (MayBePresent k)
     (rename-same (carry f) (carry g) held (λ c l h i. carry-same f g l (same held led c l h i))) (fits held led)
 
 -- a clause mentions the one variable just where it mentions the other under the other name
@@ -130,14 +130,14 @@ pub checker-without : (f g : ℕ → Option ℕ) (logged : List Entry) (i x : �
     CheckerFits f logged k → CheckerFits g (logged ++ Retires i ∷ []) k'
 checker-without f g logged i x k k' same other c fits after led =
     let (held, first, (R, e, d)) = leads_cut [] logged (Retires i ∷ []) after led in
-    subst (λ (X : List Clause). MayBeHeld k' (rename (carry g) X)) (sym e ∙ d)
-    (subst (MayBeHeld k') (rename-same (carry f) (carry g) (without i held) (λ d l h j. carry-same f g l (other (variable_of l) (left-apart i held d l h j))))
+    subst (λ (X : List Clause). MayBePresent k' (rename (carry g) X)) (sym e ∙ d)
+    (subst (MayBePresent k') (rename-same (carry f) (carry g) (without i held) (λ d l h j. carry-same f g l (other (variable_of l) (left-apart i held d l h j))))
     (go k k' c held (λ d l h j. same held first d l h j) (fits held first)))
   where
     go : (k k' : Option CheckerState) → IsCheckedIf k (Retires x ∷ []) k' → (held : List Clause) →
-        ((c : Clause) (l : Literal) → c ∈ held → l ∈ c → (variable_of (carry f l) ≡ x) ↔ (variable_of l ≡ i)) → MayBeHeld k (rename (carry f) held) →
-        MayBeHeld k' (rename (carry f) (without i held))
-    go None k' e held same h = subst (λ o. MayBeHeld o (rename (carry f) (without i held))) (sym e) tt
+        ((c : Clause) (l : Literal) → c ∈ held → l ∈ c → (variable_of (carry f l) ≡ x) ↔ (variable_of l ≡ i)) → MayBePresent k (rename (carry f) held) →
+        MayBePresent k' (rename (carry f) (without i held))
+    go None k' e held same h = subst (λ o. MayBePresent o (rename (carry f) (without i held))) (sym e) tt
     go (Some a) None e held same h = absurd e
     go (Some a) (Some b) (l, u) held same (s, v) = (
       subst (λ (X : List Clause). SameClauses X b.clauses) (without-alike (carry f) x i held same)
@@ -174,19 +174,19 @@ module _ (w : Carrying) (p : Spaces) (s : State) (k : Links w p s) where
 
   -- Clauses that it shares are, with those that were forgotten, what the checker has.
   pub shared-held : {fixed : List Literal} (share : List Clause) → SharesHeld (translation w p s.logged) fixed share →
-      CheckerFits w.global s.logged p.checker → (others : List Clause) × MayBeHeld p.checker (others ++ rename (carry p.global_from_solver) share)
+      CheckerFits w.global s.logged p.checker → (others : List Clause) × MayBePresent p.checker (others ++ rename (carry p.global_from_solver) share)
   shared-held share q fits =
       let f = carry (translation w p s.logged).identity in
       let g = carry w.global in
       let names : rename g (q.forgotten ++ rename f share) ≡ rename g q.forgotten ++ rename (carry p.global_from_solver) share =
       map-append (map g) q.forgotten (rename f share) ∙ ap (λ xs. rename g q.forgotten ++ xs) (renamed share q.inside) in (
         rename g q.forgotten,
-        subst (MayBeHeld p.checker) names
+        subst (MayBePresent p.checker) names
             (held-as p.checker (rename g q.held) (rename g (q.forgotten ++ rename f share))
             (same_clauses_renamed g q.held (q.forgotten ++ rename f share) q.same) (fits q.held q.led)),
       )
     where
-      held-as : (o : Option CheckerState) (P Q : List Clause) → SameClauses P Q → MayBeHeld o P → MayBeHeld o Q
+      held-as : (o : Option CheckerState) (P Q : List Clause) → SameClauses P Q → MayBePresent o P → MayBePresent o Q
       held-as None P Q same h = tt
       held-as (Some c) P Q same (h, u) = (same_clauses-through Q P c.clauses (same_clauses-back P Q same) h, u)
 
@@ -212,14 +212,14 @@ all-live w p s k n held led c l h i =
 relied-by : {fixed : List Literal} (t : Tables) (p : ProofParts) (seen : View) (assumed : AssumptionParts) (sat : SatState) (w : Carrying)
     (s : State) (k : Links w (spaces_of t p.checker seen assumed sat) s) → CanLog p → Fits k.holds.held (search_of seen) →
     SharesHeld (translation w (spaces_of t p.checker seen assumed sat) s.logged) fixed k.holds.held → CheckerFits w.global s.logged p.checker →
-    HoldsFor (Relies (record { tables = t; proof = p })) (search_of seen)
+    AdmitsFor (Relies (record { tables = t; proof = p })) (search_of seen)
 relied-by t p seen assumed sat w s k can fits shares checked =
     let (others, h) = shared-held w (spaces_of t p.checker seen assumed sat) s k k.holds.held shares checked in
     (k.holds.held, record { room = can.room; usable = can.usable; others = others; holds = h }, fits)
 
 -- Unless the clauses are known to be unsatisfiable there are such.
 pub relied-open : (t : Tables) (p : ProofParts) (seen : View) (assumed : AssumptionParts) (sat : SatState) → sat ≢ verdict.Unsat → CanLog p →
-    FitSome (spaces_of t p.checker seen assumed sat) → HoldsFor (Relies (record { tables = t; proof = p })) (search_of seen)
+    FitSome (spaces_of t p.checker seen assumed sat) → AdmitsFor (Relies (record { tables = t; proof = p })) (search_of seen)
 relied-open t p seen assumed verdict.Unknown n can (s, (w, k)) =
     relied-by t p seen assumed verdict.Unknown w s k can k.holds.holds k.holds.logged k.checked
 relied-open t p seen assumed verdict.Sat n can (s, (w, k)) =
@@ -232,7 +232,7 @@ relied-open t p seen assumed verdict.UnsatUnderAssumptions n can (s, (w, k)) =
 
 -- so it is as long as no verdict is known
 pub relied : (t : Tables) (p : ProofParts) (seen : View) (assumed : AssumptionParts) → CanLog p →
-    FitSome (spaces_of t p.checker seen assumed verdict.Unknown) → HoldsFor (Relies (record { tables = t; proof = p })) (search_of seen)
+    FitSome (spaces_of t p.checker seen assumed verdict.Unknown) → AdmitsFor (Relies (record { tables = t; proof = p })) (search_of seen)
 relied t p seen assumed can f = relied-open t p seen assumed verdict.Unknown (λ e. let z : verdict.Unknown ≡ verdict.Unsat = e in cc) can f
 
 -- What was some state's is some state's after what came of it.

@@ -16,7 +16,7 @@ use Rattle.varisat_literals.specs.Numbers.{polarity_of}
 use Rattle.varisat_names.specs.Maps.{IsInverse, chain}
 use Rattle.varisat_proof.specs.Assumed.{assumed_behind, CoresAreAssumed}
 use Rattle.varisat_proof.specs.Calls.{CheckerState}
-use Rattle.varisat_proof.specs.Proving.{MayBeHeld}
+use Rattle.varisat_proof.specs.Proving.{MayBePresent}
 use Rattle.varisat_names.specs.declared.variables.data.SamplingMode.{SamplingMode}
 use Rattle.varisat_names.specs.declared.variables.data.SamplingMode.TheVariants as sampling
 use Rattle.varisat_names.specs.declared.variables.data.VarData.{VarData}
@@ -240,7 +240,7 @@ pub record IsPlain (identity : ℕ → Option ℕ) (made : ℕ) : Type 0 where
 
 -- The checker that runs inside has what was told so far leads to, over global variables: the same clauses, each as often.
 abbrev pub CheckerFits : (ℕ → Option ℕ) → List Entry → Option CheckerState → Type 0
-CheckerFits global logged checker = (held : List Clause) → Leads [] logged held → MayBeHeld checker (rename (carry global) held)
+CheckerFits global logged checker = (held : List Clause) → Leads [] logged held → MayBePresent checker (rename (carry global) held)
 
 -- What a solver holds stands for the state.
 pub record Links (w : Carrying) (p : Spaces) (s : State) : Type 0 where

@@ -8,7 +8,7 @@ use Rattle.varisat_theory.specs.Outcomes.{Outcome, Proves}
 use Rattle.varisat_theory.proofs.StepCounts.{by_derives}
 use Rattle.varisat_theory.proofs.Lines.{derives_cut}
 use Rattle.varisat_theory.specs.Journals.{Entry, Writes, Leads, written}
-use Rattle.varisat_trace.specs.Traces.{TakesLines, TakesStep, verdict_entries, CanTake, HoldsFor}
+use Rattle.varisat_trace.specs.Traces.{TakesLines, TakesStep, verdict_entries, CanTake, AdmitsFor}
 
 -- 1. Lines as entries.
 
@@ -46,11 +46,11 @@ step-more takes takes_more x y z first second v h k =
 -- 2. What may be held.
 
 -- the lines of a part of a step can be taken
-pub can_take : (H : List Clause → Type 0) (n : ℕ) (s t : Search) (lines : List Line) → HoldsFor H s → Proves n s t lines → CanTake H lines
+pub can_take : (H : List Clause → Type 0) (n : ℕ) (s t : Search) (lines : List Line) → AdmitsFor H s → Proves n s t lines → CanTake H lines
 can_take H n s t lines (held, h, f) p = let (after, d, g) = p.holds held f in (held, after, h, by_derives n held lines after d)
 
 -- what is held fits after a part without lines
-pub holds_still : (H : List Clause → Type 0) (n : ℕ) (s t : Search) → HoldsFor H s → Proves n s t [] → HoldsFor H t
+pub holds_still : (H : List Clause → Type 0) (n : ℕ) (s t : Search) → AdmitsFor H s → Proves n s t [] → AdmitsFor H t
 holds_still H n s t (held, h, f) p = let (after, d, g) = p.holds held f in (held, h, subst (λ P. Fits P t) (sym d) g)
 
 -- Where a tracer has the laws of a trait.
@@ -63,8 +63,8 @@ module _ {Q : Type 0} (holds : Q → List Clause → Type 0) (takes : Q → List
   holds_lines x y lines held after k h d = holds_after x y (written lines) held after k h (lines-lead held lines after d)
 
   -- after a part of a step it may hold what fits the search then
-  pub holds_on : (x y : Q) (n : ℕ) (s t : Search) (lines : List Line) → HoldsFor (holds x) s → Proves n s t lines → TakesLines takes x lines y →
-      HoldsFor (holds y) t
+  pub holds_on : (x y : Q) (n : ℕ) (s t : Search) (lines : List Line) → AdmitsFor (holds x) s → Proves n s t lines → TakesLines takes x lines y →
+      AdmitsFor (holds y) t
   holds_on x y n s t lines (held, h, f) p k =
       let (after, d, g) = p.holds held f in
       (after, holds_lines x y lines held after k h (by_derives n held lines after d), g)

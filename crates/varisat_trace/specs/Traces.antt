@@ -73,9 +73,9 @@ CanTakeStep holds (DeleteVar v) = Unit {0}
 CanTakeStep holds (FailedAssumptions core) = CanFail holds core.now
 
 -- Clauses that fit the search may be held.
-abbrev pub HoldsFor : (List Clause → Type 0) → Search → Type 0
-HoldsFor holds s = (held : List Clause) × holds held × Fits held s
+abbrev pub AdmitsFor : (List Clause → Type 0) → Search → Type 0
+AdmitsFor holds s = (held : List Clause) × holds held × Fits held s
 
 -- Such may be held with one clause more, which was accepted.
-abbrev pub HoldsWith : (List Clause → Type 0) → Search → Clause → Type 0
-HoldsWith holds s c = (held : List Clause) × holds (held ++ c ∷ []) × Fits held s
+abbrev pub AdmitsWith : (List Clause → Type 0) → Search → Clause → Type 0
+AdmitsWith holds s c = (held : List Clause) × holds (held ++ c ∷ []) × Fits held s

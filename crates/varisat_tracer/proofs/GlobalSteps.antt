@@ -15,7 +15,7 @@ use Rattle.varisat_proof.specs.declared.proof.format.Encoding.{Encoding}
 use Rattle.varisat_proof.specs.Calls.{CheckerState}
 use Rattle.varisat_proof.specs.Lines.{ProofLine, encoding_of}
 use Rattle.varisat_proof.specs.Steps.{lines_written}
-use Rattle.varisat_proof.specs.Proving.{OpenState, ProofParts, is_there, IsSpent, IsLogged, IsWrittenIf, IsBegunIf, Logs, MayBeHeld, logged}
+use Rattle.varisat_proof.specs.Proving.{OpenState, ProofParts, is_there, IsSpent, IsLogged, IsWrittenIf, IsBegunIf, Logs, MayBePresent, logged}
 use Rattle.varisat_tracer.specs.Carried.{logged_as}
 use Rattle.varisat_tracer.specs.Tracing.{TracerState, global_literal, Relies, TakesGlobally, BreaksGlobally, LogsGlobally}
 use Rattle.varisat_tracer.specs.TracerLaws.{leads-globally}
@@ -45,26 +45,26 @@ logged-units f ls = logged-lines f (unit_lines ls) ∙ ap written (unit-names f 
 
 -- 2. What is right over solver variables is so over global ones.
 pub lines-globally : (x : TracerState) (lines others : List Line) → map (rename_line (global_literal x.tables)) lines ≡ others → CanTake (Relies x) lines →
-    CanTake (MayBeHeld x.proof.checker) others
+    CanTake (MayBePresent x.proof.checker) others
 lines-globally x lines others e (held, after, r, d) =
     let f = global_literal x.tables in
     let (now, next, h, l) = leads-globally x (written lines) held after r (lines-lead held lines after d) in
     (now, next, h, lead-lines now others next (subst (λ es. Leads now es next) (logged-lines f lines ∙ ap written e) l))
 
 pub units-globally : (x : TracerState) (ls ms : List Literal) → ms ≡ map (global_literal x.tables) ls → CanTake (Relies x) (unit_lines ls) →
-    CanTake (MayBeHeld x.proof.checker) (unit_lines ms)
+    CanTake (MayBePresent x.proof.checker) (unit_lines ms)
 units-globally x ls ms e h = lines-globally x (unit_lines ls) (unit_lines ms) (unit-names (global_literal x.tables) ls ∙ ap unit_lines (sym e)) h
 
 pub added-globally : (x : TracerState) (c d : Clause) → d ≡ map (global_literal x.tables) c → CanTake (Relies x) (Add c ∷ []) →
-    CanTake (MayBeHeld x.proof.checker) (Add d ∷ [])
+    CanTake (MayBePresent x.proof.checker) (Add d ∷ [])
 added-globally x c d e h = lines-globally x (Add c ∷ []) (Add d ∷ []) (ap (λ y. Add y ∷ []) (sym e)) h
 
 pub deleted-globally : (x : TracerState) (c d : Clause) → d ≡ map (global_literal x.tables) c → CanTake (Relies x) (Delete c ∷ []) →
-    CanTake (MayBeHeld x.proof.checker) (Delete d ∷ [])
+    CanTake (MayBePresent x.proof.checker) (Delete d ∷ [])
 deleted-globally x c d e h = lines-globally x (Delete c ∷ []) (Delete d ∷ []) (ap (λ y. Delete y ∷ []) (sym e)) h
 
 pub fails-globally : (x : TracerState) (core others : List Literal) → others ≡ map (global_literal x.tables) core → CanFail (Relies x) core →
-    CanFail (MayBeHeld x.proof.checker) others
+    CanFail (MayBePresent x.proof.checker) others
 fails-globally x core others e (held, r, k) =
     let (now, next, h, l) = leads-globally x (Fails core ∷ []) held held r (held, (k, refl), refl) in
     (now, h, subst (λ y. Conflicts now y) (sym e) l.1.0)
@@ -76,19 +76,19 @@ takes-logged x y entries others e o t = record { tables = e; logged = subst (λ 
 
 -- 4. The same of a tracer's parts.
 pub added-parts : (x y : TracerState) (c d : Clause) → y ≡ x → d ≡ map (global_literal y.tables) c → CanTake (Relies x) (Add c ∷ []) →
-    CanTake (MayBeHeld y.proof.checker) (Add d ∷ [])
+    CanTake (MayBePresent y.proof.checker) (Add d ∷ [])
 added-parts x y c d e f h = added-globally y c d f (subst (λ (z : TracerState). CanTake (Relies z) (Add c ∷ [])) (sym e) h)
 
 pub units-parts : (x y : TracerState) (ls ms : List Literal) → y ≡ x → ms ≡ map (global_literal y.tables) ls → CanTake (Relies x) (unit_lines ls) →
-    CanTake (MayBeHeld y.proof.checker) (unit_lines ms)
+    CanTake (MayBePresent y.proof.checker) (unit_lines ms)
 units-parts x y ls ms e f h = units-globally y ls ms f (subst (λ (z : TracerState). CanTake (Relies z) (unit_lines ls)) (sym e) h)
 
 pub deleted-parts : (x y : TracerState) (c d : Clause) → y ≡ x → d ≡ map (global_literal y.tables) c → CanTake (Relies x) (Delete c ∷ []) →
-    CanTake (MayBeHeld y.proof.checker) (Delete d ∷ [])
+    CanTake (MayBePresent y.proof.checker) (Delete d ∷ [])
 deleted-parts x y c d e f h = deleted-globally y c d f (subst (λ (z : TracerState). CanTake (Relies z) (Delete c ∷ [])) (sym e) h)
 
 pub fails-parts : (x y : TracerState) (core others : List Literal) → y ≡ x → others ≡ map (global_literal y.tables) core → CanFail (Relies x) core →
-    CanFail (MayBeHeld y.proof.checker) others
+    CanFail (MayBePresent y.proof.checker) others
 fails-parts x y core others e f h = fails-globally y core others f (subst (λ (z : TracerState). CanFail (Relies z) core) (sym e) h)
 
 pub takes-parts : (x y z : TracerState) (entries others : List Entry) → y ≡ x → z.tables ≡ y.tables → others ≡ logged_as (global_literal y.tables) entries →

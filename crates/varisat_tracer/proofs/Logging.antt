@@ -6,7 +6,7 @@ use Rattle.varisat_theory.specs.Renaming.{rename}
 use Rattle.varisat_names.specs.VarBiMap.{BiMap}
 use Rattle.varisat_names.specs.VarMap.{at}
 use Rattle.varisat_names.specs.Variables.{Tables}
-use Rattle.varisat_proof.specs.Proving.{OpenState, ProofParts, is_there, IsBegunIf, IsLogged, MayBeHeld, logged}
+use Rattle.varisat_proof.specs.Proving.{OpenState, ProofParts, is_there, IsBegunIf, IsLogged, MayBePresent, logged}
 use Rattle.varisat_trace.specs.Traces.{BreaksOff}
 use Rattle.varisat_tracer.specs.Logged.{begun-none, begun-behind}
 use Rattle.varisat_tracer.specs.Carried.{carry, logged_as}
@@ -60,5 +60,5 @@ relies-alike t u p held e r = record {
   room = r.room;
   usable = r.usable;
   others = r.others;
-  holds = subst (λ (m : BiMap). MayBeHeld p.checker (r.others ++ rename (carry (at m.backward)) held)) (sym e) r.holds;
+  holds = subst (λ (m : BiMap). MayBePresent p.checker (r.others ++ rename (carry (at m.backward)) held)) (sym e) r.holds;
 }

@@ -9,7 +9,7 @@ use Rattle.varisat_theory.specs.Journals.{Entry, Leads}
 use Rattle.varisat_names.specs.VarMap.{at}
 use Rattle.varisat_names.specs.Variables.{Tables}
 use Rattle.varisat_proof.specs.Calls.{CheckerState}
-use Rattle.varisat_proof.specs.Proving.{OpenState, is_there, is_logging, IsWrittenIf, IsCheckedIf, IsLogged, IsBegunIf, CanCountTargetFault, IsUsable, MayBeHeld, logged}
+use Rattle.varisat_proof.specs.Proving.{OpenState, is_there, is_logging, IsWrittenIf, IsCheckedIf, IsLogged, IsBegunIf, CanCountTargetFault, IsUsable, MayBePresent, logged}
 use Rattle.varisat_tracer.specs.Carried.{logged_as}
 use Rattle.varisat_tracer.specs.Tracing.{TracerState, global_literal, Relies, TakesGlobally, BreaksGlobally}
 use Rattle.varisat_tracer.specs.Logged.{logged_as-append, logged-none, logged-more, logged-idle, begun-none, begun-behind, begun-idle}
@@ -67,9 +67,9 @@ usable-stays (Some a) None entries k h = absurd k
 usable-stays (Some a) (Some b) entries k h = k.1 ∙ h
 
 holds-on : (f : Literal → Literal) → KeepsOpposites f → (o p : Option CheckerState) (entries : List Entry) (held after others : List Clause) →
-    IsCheckedIf o (logged_as f entries) p → MayBeHeld o (others ++ rename f held) → Leads held entries after → (more : List Clause)
-    × MayBeHeld p (more ++ rename f after)
-holds-on f keeps None p entries held after others e h d = (others, subst (λ k. MayBeHeld k (others ++ rename f after)) (sym e) tt)
+    IsCheckedIf o (logged_as f entries) p → MayBePresent o (others ++ rename f held) → Leads held entries after → (more : List Clause)
+    × MayBePresent p (more ++ rename f after)
+holds-on f keeps None p entries held after others e h d = (others, subst (λ k. MayBePresent k (others ++ rename f after)) (sym e) tt)
 holds-on f keeps (Some a) None entries held after others k h d = absurd k
 holds-on f keeps (Some a) (Some b) entries held after others k h d =
     let (Q, more, l, t) = leads-renamed f keeps entries held after others (others ++ rename f held) (same_clauses-self (others ++ rename f held)) d in (
@@ -91,12 +91,12 @@ relies-after x y entries held after h r d =
       room = room-stays x.proof.opened y.proof.opened (logged_as f entries) h.logged.written r.room;
       usable = usable-stays x.proof.checker y.proof.checker (logged_as f entries) h.logged.checked r.usable;
       others = more;
-      holds = subst (λ (t : Tables). MayBeHeld y.proof.checker (more ++ rename (global_literal t) after)) (sym h.tables) m;
+      holds = subst (λ (t : Tables). MayBePresent y.proof.checker (more ++ rename (global_literal t) after)) (sym h.tables) m;
     }
 
 -- what a search relies on leads on by entries, and so does what the checker may hold by those that it is told
 pub leads-globally : (x : TracerState) (entries : List Entry) (held after : List Clause) → Relies x held → Leads held entries after →
-    (now next : List Clause) × MayBeHeld x.proof.checker now × Leads now (logged_as (global_literal x.tables) entries) next
+    (now next : List Clause) × MayBePresent x.proof.checker now × Leads now (logged_as (global_literal x.tables) entries) next
 leads-globally x entries held after r d =
     let f = global_literal x.tables in
     let now = r.others ++ rename f held in

@@ -8,7 +8,7 @@ use Rattle.varisat_trace.specs.declared.tracer.TraceError.{TraceError}
 use Rattle.varisat_names.specs.VarMap.{at}
 use Rattle.varisat_names.specs.VarData.{data_at}
 use Rattle.varisat_names.specs.Variables.{Tables}
-use Rattle.varisat_proof.specs.Proving.{OpenState, ProofParts, is_there, IsLogged, IsBegunIf, Logs, logged, CanCountTargetFault, IsUsable, MayBeHeld}
+use Rattle.varisat_proof.specs.Proving.{OpenState, ProofParts, is_there, IsLogged, IsBegunIf, Logs, logged, CanCountTargetFault, IsUsable, MayBePresent}
 use Rattle.varisat_tracer.specs.declared.tracer.SolverTracer.{SolverTracer}
 use Rattle.varisat_tracer.specs.Carried.{carry, logged_as}
 
@@ -35,7 +35,7 @@ pub record Relies (x : TracerState) (held : List Clause) : Type 0 where
   pub room : CanCountTargetFault x.proof.opened
   pub usable : IsUsable x.proof.checker
   pub others : List Clause
-  pub holds : MayBeHeld x.proof.checker (others ++ rename (global_literal x.tables) held)
+  pub holds : MayBePresent x.proof.checker (others ++ rename (global_literal x.tables) held)
 
 -- The entries were told to the proof, over global variables; names and variables stay.
 pub record TakesGlobally (x : TracerState) (entries : List Entry) (y : TracerState) : Type 0 where

@@ -8,7 +8,7 @@ ghost use Rattle.varisat_proof.specs.declared.proof.format.LineKind.TheVariants 
 ghost use Rattle.varisat_proof.specs.Lines.{line_of_kind};
 ghost use Rattle.varisat_proof.specs.Logging.{marked_line};
 ghost use Rattle.varisat_proof.specs.Present.{IsLeftAfter};
-ghost use Rattle.varisat_proof.specs.Proving.{PutsInto, is_logging, bars_clauses, bars_assumptions, marked_searched, WritesLines, logged, Logs, Flushes, CanCountTargetFault, MayBeHeld, IsUsable, IsCheckedIf, IsLogged, IsSpent, IsClosed};
+ghost use Rattle.varisat_proof.specs.Proving.{PutsInto, is_logging, bars_clauses, bars_assumptions, marked_searched, WritesLines, logged, Logs, Flushes, CanCountTargetFault, MayBePresent, IsUsable, IsCheckedIf, IsLogged, IsSpent, IsClosed};
 
 use crate::checker::{Checker, CheckerError};
 use crate::proof::format::{LineKind, ProofFormat};
@@ -118,7 +118,7 @@ fn check_step_if<A: Allocator + Copy>(
     step: &ProofStep<'_>,
 ) -> Result<(), CheckerError>
     requires usable { IsUsable checker.old }
-    requires right { CanTakeStep (MayBeHeld checker.old) step.now }
+    requires right { CanTakeStep (MayBePresent checker.old) step.now }
     ensures taken { OnOk result (IsCheckedIf checker.old (entries_of step.now) checker.new) }
     ensures right { IfErr result (λ e. e ≡ OutOfMemory) }
     ensures spent { IfErr result (λ e. IsSpent checker.old checker.new) }
@@ -288,7 +288,7 @@ pub fn add_step<W: ProofTarget, A: Allocator + Copy>(
 ) -> Result<(), TraceError>
     requires room { CanCountTargetFault proof.old.opened }
     requires usable { IsUsable proof.old.checker }
-    requires right { CanTakeStep (MayBeHeld proof.old.checker) step.now }
+    requires right { CanTakeStep (MayBePresent proof.old.checker) step.now }
     ensures { Logs proof.old (entries_of step.now) result proof.new }
 {
     write_step_if(&mut proof.open, &mut proof.buffer, step)?;

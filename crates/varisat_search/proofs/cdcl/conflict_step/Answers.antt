@@ -13,14 +13,14 @@ use Rattle.varisat_search.specs.RootSimplified.{HasRootNews, KeepsFixed, Simplif
 use Rattle.varisat_search.specs.Contexts.{view, KeepsSchedule}
 use Rattle.varisat_search.specs.Seen.{search_of}
 use Rattle.varisat_search.proofs.MadeSteps.{made-are, made-with, no-core-entry, learned-no-core, made-settled, made-at-once}
-use Rattle.varisat_trace.specs.Traces.{TakesLines, TakesStep, HoldsFor}
+use Rattle.varisat_trace.specs.Traces.{TakesLines, TakesStep, AdmitsFor}
 use Rattle.varisat_trace.proofs.Traced.{step-lines, step-more, holds_on}
 use Rattle.varisat_search.proofs.cdcl.conflict_step.Given.{Over}
 use Rattle.varisat_search.proofs.cdcl.conflict_step.Goals.{In_ok-simplify_root_if_news}
 use Rattle.varisat_search.proofs.cdcl.conflict_step.Goals as goal
 
 -- what the tracer may hold fits the search once the units are settled
-holds : (g : Over) (c : In_ok-simplify_root_if_news g) → HoldsFor (g.P.ProofTracer.holds c.simplify_root_if_news.new.proof) (search_of (view c.simplify_root_if_news.new.ctx))
+holds : (g : Over) (c : In_ok-simplify_root_if_news g) → AdmitsFor (g.P.ProofTracer.holds c.simplify_root_if_news.new.proof) (search_of (view c.simplify_root_if_news.new.ctx))
 holds g c =
     let (lines, p, (s, o, t)) = c.in_ok-simplify_root_if_news.ensures.goes_on.proves in
     holds_on g.P.ProofTracer.holds g.P.ProofTracer.takes g.met.P.ProofTracer.holds_after c.args.proof.now c.simplify_root_if_news.new.proof 0

@@ -20,7 +20,7 @@ use Rattle.varisat_search.proofs.StepWithoutLines.{grows_prove}
 use Rattle.varisat_search.proofs.cdcl.find_and_learn.Given.{Over}
 use Rattle.varisat_search.proofs.cdcl.find_and_learn.Goals.{In_ok-find_conflict}
 use Rattle.varisat_search.proofs.cdcl.find_and_learn.Goals as goal
-use Rattle.varisat_trace.specs.Traces.{TakesLines, TakesStep, HoldsFor}
+use Rattle.varisat_trace.specs.Traces.{TakesLines, TakesStep, AdmitsFor}
 
 finds : (g : Over) (c : In_ok-find_conflict g) → Finds c.args.ctx.now c.find_conflict.new.ctx
 finds g c =
@@ -98,7 +98,7 @@ returns-in_ok-learn_from_conflict-in-Err-Conflict-clause-fixed g c calm n =
     ⊎_elim (λ e. inl (e ∙ (c.in_ok-find_conflict.ensures.fixed calm).0)) inr (c.in_ok-learn_from_conflict-in-Err-Conflict.ensures.fixed n).1
 
 -- what the tracer may hold fits the search after propagation and decisions
-holds : (g : Over) (c : In_ok-find_conflict g) → HoldsFor (g.P.ProofTracer.holds c.args.proof.now) (search_of (view c.find_conflict.new.ctx))
+holds : (g : Over) (c : In_ok-find_conflict g) → AdmitsFor (g.P.ProofTracer.holds c.args.proof.now) (search_of (view c.find_conflict.new.ctx))
 holds g c =
     let x = c.args.ctx.now in
     let y = c.find_conflict.new.ctx in

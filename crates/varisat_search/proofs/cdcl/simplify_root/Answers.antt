@@ -13,7 +13,7 @@ use Rattle.varisat_search.specs.Seen.{search_of}
 use Rattle.varisat_theory.specs.Derivations.{Line}
 use Rattle.varisat_search.specs.RootSimplified.{SimplifiesRoot}
 use Rattle.varisat_search.specs.Simplifications.{pair_lines, clause_lines}
-use Rattle.varisat_trace.specs.Traces.{TakesLines, HoldsFor}
+use Rattle.varisat_trace.specs.Traces.{TakesLines, AdmitsFor}
 use Rattle.varisat_trace.proofs.Traced.{lines-more, holds_on, holds_still}
 use Rattle.varisat_search.proofs.StepWithoutLines.{grows_prove}
 use Rattle.varisat_search.proofs.FixedLiterals.{none-was-conflicting}
@@ -63,7 +63,7 @@ facts g h p r f l k =
     }
 
 -- what the tracer may hold fits the search after propagation
-holds : (g : Over) (c : After-count g) → HoldsFor (g.P.ProofTracer.holds c.args.proof.now) (search_of (view (mid g c)))
+holds : (g : Over) (c : After-count g) → AdmitsFor (g.P.ProofTracer.holds c.args.proof.now) (search_of (view (mid g c)))
 holds g c =
     let x = c.args.ctx.now in
     holds_still (g.P.ProofTracer.holds c.args.proof.now) 0 (search_of (view x)) (search_of (view (mid g c))) c.requires.holds

@@ -5,14 +5,14 @@ use Rattle.varisat_search.specs.Contexts.{view}
 use Rattle.varisat_search.specs.Frames.{ChangesRestarted}
 use Rattle.varisat_search.specs.Seen.{search_of}
 use Rattle.varisat_search.proofs.RestartSteps.{begun-view}
-use Rattle.varisat_trace.specs.Traces.{HoldsFor}
+use Rattle.varisat_trace.specs.Traces.{AdmitsFor}
 use Rattle.varisat_trace.proofs.Traced.{holds_on, holds_still}
 use Rattle.varisat_search.proofs.schedule.begin_step.Given.{Over}
 use Rattle.varisat_search.proofs.schedule.begin_step.Goals.{After-restart_if_due}
 use Rattle.varisat_search.proofs.schedule.begin_step.Goals as goal
 
 -- what the tracer may hold fits the search after the restart
-begun : (g : Over) (c : After-restart_if_due g) → HoldsFor (g.P.ProofTracer.holds c.args.proof.now) (search_of (view c.restart_if_due.new.ctx))
+begun : (g : Over) (c : After-restart_if_due g) → AdmitsFor (g.P.ProofTracer.holds c.args.proof.now) (search_of (view c.restart_if_due.new.ctx))
 begun g c =
     let x = c.args.ctx.now in
     holds_still (g.P.ProofTracer.holds c.args.proof.now) 0 (search_of (view x)) (search_of (view c.restart_if_due.new.ctx)) c.requires.holds

@@ -116,7 +116,7 @@ pub fn run<W: ProofTarget, S: ByteSource, A: Allocator + Copy>(
     ensures answers { IfOk result (λ answers. (s : State) → Represents solver.old s → AreAnswered S.input (story_now s) calls.items answers.items) }
     ensures few { IfOk result (λ answers. (s : State) → Represents solver.old s →
         HasFewStepsAlong by_state S.input W.taken s calls.items answers.items) }
-    ensures err { OnErr result (solver.new ≡ solver.old) }
+    ensures refused { OnErr result (solver.new ≡ solver.old) }
 {
     solver.prove_journal();
     let mut answers = Vec::with_capacity(*calls.allocator(), calls.len())?;

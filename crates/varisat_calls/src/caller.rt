@@ -99,7 +99,7 @@ impl<A: Allocator + Copy> Caller<A> {
     /// The number of a refusal, which is kept.
     fn refuse(&mut self, error: SolverError) -> u8
         ensures number { result ≡ refusal_number error }
-        ensures same { self.new ≡ self.old }
+        ensures frame { self.new ≡ self.old }
     {
         let number = error.number();
         self.refusal = Some(error);
@@ -109,7 +109,7 @@ impl<A: Allocator + Copy> Caller<A> {
     /// The number of an answer.
     fn answer(&mut self, answer: Result<(), SolverError>) -> u8
         ensures number { result ≡ answer_number answer }
-        ensures same { self.new ≡ self.old }
+        ensures frame { self.new ≡ self.old }
     {
         match answer {
             Ok(()) => DONE,

@@ -69,7 +69,7 @@ impl<A: Allocator + Copy> Lookups<A> {
     /// Keeps the literals of the model, if there is one.
     pub fn find_model(&mut self, solver: &Solver<StreamTarget<A>, A>) -> Result<bool, AllocError>
         requires { IsValidSolver self.old solver.now }
-        ensures kept { IsValidSolver self.new solver.now }
+        ensures valid { IsValidSolver self.new solver.now }
         ensures model { result ≡ Ok true → (m : List Literal) × IsModel solver.now m × IsSetOf m self.new.literals }
         ensures none { result ≡ Ok false → HasNoModel solver.now }
     {
@@ -89,7 +89,7 @@ impl<A: Allocator + Copy> Lookups<A> {
     /// Keeps the literals of the core, if there is one.
     pub fn find_core(&mut self, solver: &Solver<StreamTarget<A>, A>) -> Result<bool, AllocError>
         requires { IsValidSolver self.old solver.now }
-        ensures kept { IsValidSolver self.new solver.now }
+        ensures valid { IsValidSolver self.new solver.now }
         ensures core { result ≡ Ok true → (m : List Literal) × IsCore solver.now m × IsSetOf m self.new.literals }
         ensures none { result ≡ Ok false → HasNoCore solver.now }
     {

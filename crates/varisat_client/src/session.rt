@@ -67,7 +67,7 @@ pub fn run<A: Allocator + Copy>(
     calls: Vec<Call, A>,
 ) -> Result<Vec<Answer, A>, AllocError>
     ensures run { IfOk result (λ answers. Moves (λ p q. MakeInTurn p calls.items answers.items q) client.old client.new) }
-    ensures err { OnErr result (client.new ≡ client.old) }
+    ensures refused { OnErr result (client.new ≡ client.old) }
 {
     let mut answers = Vec::with_capacity(*calls.allocator(), calls.len())?;
     for call in calls {

@@ -91,7 +91,7 @@ impl<A: Allocator + Copy> Problem<A> {
     /// Takes a hard clause.
     pub fn add_hard(&mut self, clause: &[Lit]) -> Result<(), FormulaError>
         ensures ok { OnOk result (self.new ≡ record (with_hard clause.now self.old) { variables = max self.old.variables (variables_of clause.now) }) }
-        ensures err { OnErr result (self.new ≡ self.old) }
+        ensures refused { OnErr result (self.new ≡ self.old) }
     {
         self.hard.add_clause(clause)?;
         Ok(())
@@ -100,7 +100,7 @@ impl<A: Allocator + Copy> Problem<A> {
     /// Takes a soft clause with its weight.
     pub fn add_soft(&mut self, weight: u64, clause: &[Lit]) -> Result<(), FormulaError>
         ensures ok { OnOk result (self.new ≡ record (with_soft weight clause.now self.old) { variables = max self.old.variables (variables_of clause.now) }) }
-        ensures err { OnErr result (self.new ≡ self.old) }
+        ensures refused { OnErr result (self.new ≡ self.old) }
     {
         self.weights.reserve(1)?;
         self.soft.add_clause(clause)?;

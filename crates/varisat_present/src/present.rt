@@ -280,7 +280,7 @@ fn resolvents_conflict<A: Allocator + Copy>(
     requires implied { AreImplied (present places.now) [] known.old }
     requires none { AllConflict (present places.now) (present (take first places.now)) base.now literal }
     ensures found { IfOk result (λ found. IsTrue found ↔ AllConflict (present places.now) (present places.now) base.now literal) }
-    ensures stays { OnOk result (known.new ≡ known.old) }
+    ensures frame { OnOk result (known.new ≡ known.old) }
 {
     let count = known.len();
     for place in first..places.len() {
@@ -347,7 +347,7 @@ impl<A: Allocator + Copy> PresentClauses<A> {
     /// Adds a clause at the end. On an error the clauses are as before.
     pub fn push(&mut self, clause: &[Lit]) -> Result<(), AllocError>
         ensures ok { OnOk result (self.new ≡ self.old ++ clause.now ∷ []) }
-        ensures err { OnErr result (self.new ≡ self.old) }
+        ensures refused { OnErr result (self.new ≡ self.old) }
     {
         let copy = Vec::from_slice(self.alloc, clause)?;
         note_all(&mut self.firsts, clause, self.places.len())?;
@@ -401,7 +401,7 @@ impl<A: Allocator + Copy> PresentClauses<A> {
     fn is_forced(&mut self, clause: &[Lit]) -> Result<bool, AllocError>
         ensures yes { IfOk result (λ found. found ≡ true → IsForced self.old clause.now) }
         ensures no { IfOk result (λ found. found ≡ false → (Conflicts self.old [] → ⊥) → IsForced self.old clause.now → IsAbsent self.old clause.now) }
-        ensures stays { self.new ≡ self.old }
+        ensures frame { self.new ≡ self.old }
     {
         match propagate_to_end(
             &self.places,
@@ -425,7 +425,7 @@ impl<A: Allocator + Copy> PresentClauses<A> {
     /// the clauses conflicts any of them may be taken out.
     pub fn take_out_spare(&mut self, clause: &[Lit]) -> Result<Deletion, AllocError>
         ensures told { IfOk result (λ deletion. (Conflicts self.old [] → ⊥) → IsDeletionOf self.old clause.now deletion self.new) }
-        ensures err { OnErr result (self.new ≡ self.old) }
+        ensures refused { OnErr result (self.new ≡ self.old) }
     {
         let is_forced = self.is_forced(clause)?;
         if is_forced {
@@ -453,7 +453,7 @@ impl<A: Allocator + Copy> PresentClauses<A> {
     /// Whether unit propagation over the clauses conflicts.
     fn is_refuted(&mut self) -> Result<bool, AllocError>
         ensures found { IfOk result (λ found. IsTrue found ↔ Conflicts self.old []) }
-        ensures stays { self.new ≡ self.old }
+        ensures frame { self.new ≡ self.old }
     {
         match propagate_to_end(
             &self.places,
@@ -476,7 +476,7 @@ impl<A: Allocator + Copy> PresentClauses<A> {
     /// Whether unit propagation over the clauses from the base conflicts.
     pub fn conflicts(&mut self, base: &[Lit]) -> Result<bool, AllocError>
         ensures found { IfOk result (λ found. IsTrue found ↔ Conflicts self.old base.now) }
-        ensures stays { self.new ≡ self.old }
+        ensures frame { self.new ≡ self.old }
     {
         let is_refuted = self.is_refuted()?;
         if is_refuted {
@@ -502,7 +502,7 @@ impl<A: Allocator + Copy> PresentClauses<A> {
     /// Whether the clause follows: propagation conflicts once its literals are taken as false.
     pub fn follows(&mut self, clause: &[Lit]) -> Result<bool, AllocError>
         ensures found { IfOk result (λ found. IsTrue found ↔ Follows self.old clause.now) }
-        ensures stays { self.new ≡ self.old }
+        ensures frame { self.new ≡ self.old }
     {
         let base = negated(self.alloc, clause)?;
         let found = self.conflicts(&base)?;
@@ -512,7 +512,7 @@ impl<A: Allocator + Copy> PresentClauses<A> {
     /// Whether the clause is seen to follow, as far as the guide leads. It looks at no other clauses.
     pub fn is_seen_to_follow(&mut self, clause: &[Lit]) -> Result<bool, AllocError>
         ensures seen { IfOk result (λ seen. seen ≡ true → Follows self.old clause.now) }
-        ensures stays { self.new ≡ self.old }
+        ensures frame { self.new ≡ self.old }
     {
         let is_refuted = self.is_refuted()?;
         if is_refuted {
@@ -537,7 +537,7 @@ impl<A: Allocator + Copy> PresentClauses<A> {
     /// literals replace that. It looks at every clause from the first one on that may have the opposite.
     fn is_rat_on(&mut self, clause: &[Lit], literal: Lit) -> Result<bool, AllocError>
         ensures found { IfOk result (λ found. IsTrue found ↔ ResolventsFollow self.old clause.now literal) }
-        ensures stays { self.new ≡ self.old }
+        ensures frame { self.new ≡ self.old }
     {
         let is_refuted = self.is_refuted()?;
         if is_refuted {
@@ -567,7 +567,7 @@ impl<A: Allocator + Copy> PresentClauses<A> {
     /// The place of the first literal of the clause on which it is RAT, if there is one.
     pub fn find_pivot(&mut self, clause: &[Lit]) -> Result<Option<usize>, AllocError>
         ensures found { IfOk result (λ found. MatchOption found (IsRatOnSome self.old clause.now → ⊥) (λ i. IsRatOnSome self.old clause.now)) }
-        ensures stays { self.new ≡ self.old }
+        ensures frame { self.new ≡ self.old }
     {
         self.stopper = UNSEEN;
         for i in 0..clause.len() {

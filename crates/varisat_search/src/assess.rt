@@ -34,7 +34,7 @@ pub fn bump_involved_clauses<A: Allocator + Copy>(ctx: &mut Context<A>) -> Resul
         BumpsStored ctx.old.analyze_conflict.involved ctx.old ctx.new) }
     ensures headers { SameButHeaders (live_clauses ctx.old.clause_alloc) (live_clauses ctx.new.clause_alloc) }
     ensures tracks { Tracks ctx.new.clause_db ctx.new.clause_alloc }
-    ensures kept { ChangesBumped ctx.old ctx.new }
+    ensures frame { ChangesBumped ctx.old ctx.new }
 {
     if ctx.trail.current_level() == 0 {
         return Ok(());
@@ -57,7 +57,7 @@ pub fn assess_learned<A: Allocator + Copy>(ctx: &mut Context<A>) -> ClauseHeader
     requires clear { ctx.old.tmp_flags.flags.items ≡ replicate (2 * length ctx.old.assignment.current) false }
     requires assigned { (l : Literal) → l ∈ ctx.old.analyze_conflict.clause → IsAssigned (view ctx.old) l }
     ensures header { result ≡ assessed (glue_of ctx.old.impl_graph.nodes.items ctx.old.analyze_conflict.clause) }
-    ensures kept { (ctx.new ≡ record ctx.old { tmp_flags = ctx.new.tmp_flags }) × ClearsFlags ctx.old ctx.new }
+    ensures frame { (ctx.new ≡ record ctx.old { tmp_flags = ctx.new.tmp_flags }) × ClearsFlags ctx.old ctx.new }
 {
     assess_learned_clause(
         &mut ctx.tmp_flags.flags,

@@ -176,7 +176,7 @@ impl<A: Allocator + Copy> Assumptions<A> {
         requires well { WellFormed s }
         requires false_now { opposite failed ∈ s.trail }
         requires flags { flags.old.flags.items ≡ replicate (2 * length s.values) false }
-        ensures kept { (self.new ≡ record self.old { failed_core = self.new.failed_core }) × (flags.new.flags.items ≡ flags.old.flags.items) }
+        ensures frame { (self.new ≡ record self.old { failed_core = self.new.failed_core }) × (flags.new.flags.items ≡ flags.old.flags.items) }
         ensures core { OnOk result (ListsFailedCore s failed self.new.failed_core) }
     {
         let core = &mut self.failed_core;
@@ -260,7 +260,7 @@ fn find_failed_core<A: Allocator + Copy>(
     requires ready { IsReady ctx.old }
     requires false_now { IsMadeTrue ctx.old.assignment.current (opposite failed) }
     requires seen { s ≡ view ctx.old }
-    ensures kept { ChangesCore ctx.old ctx.new }
+    ensures frame { ChangesCore ctx.old ctx.new }
     ensures core { OnOk result (ListsFailedCore (view ctx.old) failed ctx.new.assumptions.failed_core) }
 {
     ctx.assumptions.find_core(
@@ -287,7 +287,7 @@ pub fn enqueue_assumption<A: Allocator + Copy>(
     ensures before { OnOk result (AreImpliedBefore (view ctx.old) ctx.old.assumptions ctx.new.assumptions) }
     ensures next { IfOk result (λ next. ComesToNext (view ctx.old) (view ctx.new) ctx.new.assumptions next) }
     ensures forward { OnOk result (GoesForward ctx.old ctx.new) }
-    ensures kept { ChangesAssumed ctx.old ctx.new }
+    ensures frame { ChangesAssumed ctx.old ctx.new }
 {
     let level = ctx.trail.current_level();
     let Some(lit) = next_assumption(&mut ctx.assumptions, &ctx.assignment, level) else {

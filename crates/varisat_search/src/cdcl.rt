@@ -129,7 +129,7 @@ fn keep_learned<A: Allocator + Copy>(
     requires paired { (l : Literal) → l ∈ ctx.old.analyze_conflict.clause → opposite l < length ctx.old.binary_clauses }
     requires tracks { Tracks ctx.old.clause_db ctx.old.clause_alloc }
     ensures tracks { OnOk result (Tracks ctx.new.clause_db ctx.new.clause_alloc) }
-    ensures kept { ChangesClauses ctx.old ctx.new }
+    ensures frame { ChangesClauses ctx.old ctx.new }
     ensures reason { IfOk result (λ reason. IsKeptAsReason (keeping_of (view ctx.old)) (keeping_of (view ctx.new)) ctx.old.analyze_conflict.clause reason) }
     ensures stored { IfOk result (λ reason. IsStoredAsReason ctx.old.clause_alloc ctx.new.clause_alloc header ctx.old.analyze_conflict.clause reason) }
     ensures watched { IfOk result (λ reason. IsWatchedAsReason ctx.old.watchlists ctx.new.watchlists ctx.old.analyze_conflict.clause reason) }
@@ -163,7 +163,7 @@ fn analyze<A: Allocator + Copy>(
     requires ready { IsReady ctx.old }
     requires conflict { IsConflicting (view ctx.old) conflict }
     requires seen { s ≡ view ctx.old }
-    ensures kept { ChangesAnalysis ctx.old ctx.new }
+    ensures frame { ChangesAnalysis ctx.old ctx.new }
     ensures learned { IfOk result (λ level. IsLearned (view ctx.old) conflict ctx.new.analyze_conflict.clause level) }
     ensures involved { OnOk result (AreInvolved (view ctx.old) conflict ctx.new.analyze_conflict.involved) }
     ensures met { OnOk result (HasMet (view ctx.old) ctx.new.analyze_conflict) }
@@ -255,7 +255,7 @@ pub fn simplify_root<A: Allocator + Copy, P: ProofTracer>(
     // A clause that is false before is found.
     ensures finds { IfOk result (λ end. (c : Conflict) → IsConflicting (view ctx.old) c → end ≢ Ok tt) }
     ensures at_zero { OnOk result (ctx.new.trail.decisions ≡ []) }
-    ensures kept { ChangesRootSimplified ctx.old ctx.new }
+    ensures frame { ChangesRootSimplified ctx.old ctx.new }
     ensures broken { IfErr result (λ error. BreaksOff P.breaks_off proof.old (faults_of error) proof.new) }
 {
     let before = ctx.trail.propagated_count();
@@ -290,7 +290,7 @@ fn simplify_root_if_news<A: Allocator + Copy, P: ProofTracer>(
     ensures finds { IfOk result (λ end. ctx.old.trail.decisions ≡ [] → (c : Conflict) → IsConflicting (view ctx.old) c → end ≢ Ok tt) }
     ensures at_zero { IfOk result (λ end. end ≢ Ok tt → ctx.new.trail.decisions ≡ []) }
     ensures conflict { IfOk result (λ end. MatchResult end (λ _. Unit {0}) (λ conflict. IsConflicting (view ctx.new) conflict)) }
-    ensures kept { ChangesRootSimplified ctx.old ctx.new }
+    ensures frame { ChangesRootSimplified ctx.old ctx.new }
     ensures broken { IfErr result (λ error. BreaksOff P.breaks_off proof.old (faults_of error) proof.new) }
 {
     if ctx.trail.current_level() > 0 || ctx.trail.fully_propagated() {

@@ -22,7 +22,7 @@ fn collect<A: Allocator + Copy>(ctx: &mut Context<A>) -> Result<(), AllocError>
     ensures repacks { OnOk result (Repacks (view ctx.old) (view ctx.new)) }
     ensures off { OnOk result (ctx.new.watchlists.enabled ≡ false) }
     ensures ready { OnOk result (IsReady ctx.new) }
-    ensures kept { ChangesPlaces ctx.old ctx.new }
+    ensures frame { ChangesPlaces ctx.old ctx.new }
 {
     let (new_alloc, new_db) = collected(&ctx.clause_alloc, &ctx.clause_db)?;
     repoint_reasons(
@@ -45,7 +45,7 @@ pub fn collect_garbage<A: Allocator + Copy>(ctx: &mut Context<A>) -> Result<(), 
     ensures collects { HoldsOrUnchanged result (CollectsIfDue ctx.old ctx.new) ctx.old ctx.new }
     ensures off { OnOk result (IsCollectionDue ctx.old → ctx.new.watchlists.enabled ≡ false) }
     ensures ready { OnOk result (IsReady ctx.new) }
-    ensures kept { ChangesPlaces ctx.old ctx.new }
+    ensures frame { ChangesPlaces ctx.old ctx.new }
 {
     if !is_collection_due(&ctx.clause_alloc, &ctx.clause_db) {
         return Ok(());

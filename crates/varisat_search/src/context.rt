@@ -123,7 +123,7 @@ pub fn set_var_count<A: Allocator + Copy>(
     ensures raised { OnOk result (IsRaisedTo count ctx.old ctx.new) }
     ensures remembered { (v : ℕ) → slice_index_or ctx.new.assignment.last v false ≡ slice_index_or ctx.old.assignment.last v false }
     ensures added { OnOk result (AddsUnavailable count ctx.old ctx.new) }
-    ensures kept { ChangesVariables ctx.old ctx.new }
+    ensures frame { ChangesVariables ctx.old ctx.new }
 {
     ctx.analyze_conflict.set_var_count(count)?;
     ctx.assignment.set_var_count(count)?;

@@ -39,7 +39,7 @@ pub fn decide_lit<A: Allocator + Copy>(ctx: &mut Context<A>, lit: Lit) -> Result
     requires level { length ctx.old.trail.decisions < 2 ^ 32 - 1 }
     requires depth { length ctx.old.trail.literals < 2 ^ 32 - 1 }
     ensures decided { OnOk result (DecidesLit lit ctx.old ctx.new) }
-    ensures kept { ChangesTrail ctx.old ctx.new }
+    ensures frame { ChangesTrail ctx.old ctx.new }
 {
     ctx.trail.new_decision_level()?;
     enqueue_assignment(
@@ -62,7 +62,7 @@ pub fn make_decision<A: Allocator + Copy>(ctx: &mut Context<A>) -> Result<bool, 
     ensures decided { IfOk result (λ made. DecidesIfLeft ctx.old ctx.new made) }
     ensures forward { OnOk result (GoesForward ctx.old ctx.new) }
     ensures decidable { OnOk result (CanDecide (view ctx.new) ctx.new.vsids) }
-    ensures kept { ChangesDecisions ctx.old ctx.new }
+    ensures frame { ChangesDecisions ctx.old ctx.new }
 {
     let Some(var) = take_unassigned(&mut ctx.vsids, &ctx.assignment) else {
         return Ok(false);
@@ -112,7 +112,7 @@ pub fn add_variables<A: Allocator + Copy>(
     ensures raised { OnOk result (IsRaisedTo count ctx.old ctx.new) }
     ensures decidable { OnOk result (AddsDecidable (length ctx.old.assignment.current) count (view ctx.old) ctx.old.vsids (view ctx.new) ctx.new.vsids) }
     ensures remembered { (v : ℕ) → slice_index_or ctx.new.assignment.last v false ≡ slice_index_or ctx.old.assignment.last v false }
-    ensures kept { ChangesVariables ctx.old ctx.new }
+    ensures frame { ChangesVariables ctx.old ctx.new }
 {
     let first = ctx.assignment.assignment().len();
     set_var_count(ctx, count)?;

@@ -86,7 +86,7 @@ pub fn detach_variables<A: Allocator + Copy>(ctx: &mut Context<A>, gone: &[bool]
     // What a proof holds still fits where the clauses that name the variables are left out of it.
     ensures seen { search_of (view ctx.new) ≡ search_without gone.now (search_of (view ctx.old)) }
     ensures fits { (held : List Clause) → Fits held (search_of (view ctx.old)) → Fits (clauses_without gone.now held) (search_of (view ctx.new)) }
-    ensures kept { ChangesForgotten gone.now ctx.old ctx.new }
+    ensures frame { ChangesForgotten gone.now ctx.old ctx.new }
 {
     let before = ctx.trail.trail().len();
     ctx.trail.remove_units(gone);

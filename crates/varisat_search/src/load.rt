@@ -44,7 +44,7 @@ fn collect_distinct<A: Allocator + Copy>(
     ensures distinct { OnOk result (IsDistinct ctx.new.tmp_data.lits.items) }
     ensures same { OnOk result (SameSet ctx.new.tmp_data.lits.items clause.now) }
     ensures tautology { IfOk result (λ found. IsTrue found ↔ IsTautology ctx.new.tmp_data.lits.items) }
-    ensures kept { (ctx.new ≡ record ctx.old { tmp_data = ctx.new.tmp_data; tmp_flags = ctx.new.tmp_flags }) × ClearsFlags ctx.old ctx.new }
+    ensures frame { (ctx.new ≡ record ctx.old { tmp_data = ctx.new.tmp_data; tmp_flags = ctx.new.tmp_flags }) × ClearsFlags ctx.old ctx.new }
 {
     let found = collect_flagged(&mut ctx.tmp_data.lits, &mut ctx.tmp_flags.flags, clause)?;
     Ok(found)
@@ -71,7 +71,7 @@ fn reset_queue_if_false<A: Allocator + Copy>(
 )
     requires { IsInRange assignment.now.current lits.now }
     ensures head { IsHeadAfter assignment.now.current lits.now trail.old.queue_head trail.new.queue_head }
-    ensures kept { trail.new ≡ record trail.old { queue_head = trail.new.queue_head } }
+    ensures frame { trail.new ≡ record trail.old { queue_head = trail.new.queue_head } }
 {
     if has_false(assignment, lits) {
         trail.reset_queue();
@@ -88,7 +88,7 @@ fn add_distinct<A: Allocator + Copy>(ctx: &mut Context<A>) -> Result<(), StoreEr
     requires distinct { IsDistinct ctx.old.tmp_data.lits.items }
     requires in_range { IsInRange ctx.old.assignment.current ctx.old.tmp_data.lits.items }
     requires untrue { (l : Literal) → l ∈ ctx.old.tmp_data.lits.items → IsMadeTrue ctx.old.assignment.current l → ⊥ }
-    ensures kept { ChangesLoaded ctx.old ctx.new }
+    ensures frame { ChangesLoaded ctx.old ctx.new }
     ensures propagated { OnOk result (IsPropagated ctx.new.watchlists (view ctx.new)) }
     ensures tracks { OnOk result (Tracks ctx.new.clause_db ctx.new.clause_alloc) }
     ensures added { OnOk result (AddsLoaded ctx.old ctx.new) }
@@ -197,7 +197,7 @@ fn skip_unmentioned<A: Allocator + Copy>(ctx: &mut Context<A>, lit: Lit)
     requires head { slice_get ctx.old.trail.literals ctx.old.trail.queue_head ≡ Some lit }
     requires unmentioned { IsUnmentioned (kept (view ctx.old)) (variable_of lit) }
     ensures ready { IsReady ctx.new }
-    ensures kept { ctx.new ≡ record ctx.old { trail = record ctx.old.trail { queue_head = ctx.old.trail.queue_head + 1 } } }
+    ensures frame { ctx.new ≡ record ctx.old { trail = record ctx.old.trail { queue_head = ctx.old.trail.queue_head + 1 } } }
 {
     ctx.trail.pop_queue();
 }

@@ -31,7 +31,7 @@ pub fn reduce_locals<A: Allocator + Copy, P: ProofTracer>(
         ctx.old ctx.new) }
     ensures off { OnOk result (ctx.new.watchlists.enabled ≡ false) }
     ensures failed { OnErr result (MarksReasons ctx.old ctx.new.clause_alloc × (ctx.new ≡ record ctx.old { clause_alloc = ctx.new.clause_alloc })) }
-    ensures kept { ChangesStore ctx.old ctx.new }
+    ensures frame { ChangesStore ctx.old ctx.new }
     ensures broken { IfErr result (λ error. BreaksOff P.breaks_off proof.old (faults_of error) proof.new) }
 {
     mark_reasons(&ctx.assignment, &mut ctx.clause_alloc, &ctx.impl_graph);
@@ -56,7 +56,7 @@ pub fn reduce_mids<A: Allocator + Copy>(ctx: &mut Context<A>) -> Result<(), Allo
     requires { IsReady ctx.old }
     ensures reduces { OnOk result (ReducesMids ctx.old ctx.new) }
     ensures ready { OnOk result (IsReady ctx.new) }
-    ensures kept { ChangesTiers ctx.old ctx.new }
+    ensures frame { ChangesTiers ctx.old ctx.new }
 {
     reduce::reduce_mids(&mut ctx.clause_alloc, &mut ctx.clause_db)?;
     Ok(())

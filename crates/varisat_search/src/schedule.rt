@@ -36,7 +36,7 @@ fn restart_if_due<A: Allocator + Copy>(ctx: &mut Context<A>)
     ensures saved { SavesIfDue ctx.old.schedule ctx.old.assumptions.levels (view ctx.old) ctx.old.assignment.last ctx.new.assignment.last }
     ensures decidable { SameDecidable (view ctx.old) ctx.old.vsids (view ctx.new) ctx.new.vsids }
     ensures later { ctx.new.schedule.steps < ctx.new.schedule.next_restart }
-    ensures kept { ChangesBegun ctx.old ctx.new }
+    ensures frame { ChangesBegun ctx.old ctx.new }
 {
     let scale = ctx.solver_config.luby_restart_interval_scale();
     if !ctx.schedule.begin_step(scale) {
@@ -56,7 +56,7 @@ fn reduce_locals_if_due<A: Allocator + Copy, P: ProofTracer>(
     ensures keeps { OnOk result (KeepsSearch
         (λ lines. ReducesLocalsIfDue lines ctx.old ctx.new × TakesLines P.takes proof.old lines proof.new)
         ctx.old ctx.new) }
-    ensures kept { ChangesStore ctx.old ctx.new }
+    ensures frame { ChangesStore ctx.old ctx.new }
     ensures broken { IfErr result (λ error. BreaksOff P.breaks_off proof.old (faults_of error) proof.new) }
 {
     if ctx.schedule.steps() % ctx.solver_config.reduce_locals_interval() == 0 {
@@ -69,7 +69,7 @@ fn reduce_locals_if_due<A: Allocator + Copy, P: ProofTracer>(
 fn reduce_mids_if_due<A: Allocator + Copy>(ctx: &mut Context<A>) -> Result<(), AllocError>
     requires { IsReady ctx.old }
     ensures keeps { OnOk result (KeepsSearch (λ lines. ReducesMidsIfDue ctx.old ctx.new × (lines ≡ [])) ctx.old ctx.new) }
-    ensures kept { ChangesTiers ctx.old ctx.new }
+    ensures frame { ChangesTiers ctx.old ctx.new }
 {
     if ctx.schedule.steps() % ctx.solver_config.reduce_mids_interval() == 0 {
         reduce_mids(ctx)?;
@@ -87,7 +87,7 @@ fn reduce_if_due<A: Allocator + Copy, P: ProofTracer>(
     ensures keeps { OnOk result (KeepsSearch
         (λ lines. ReducesIfDue lines ctx.old ctx.new × TakesLines P.takes proof.old lines proof.new)
         ctx.old ctx.new) }
-    ensures kept { ChangesPlaces ctx.old ctx.new }
+    ensures frame { ChangesPlaces ctx.old ctx.new }
     ensures broken { IfErr result (λ error. BreaksOff P.breaks_off proof.old (faults_of error) proof.new) }
 {
     reduce_locals_if_due(ctx, proof)?;
@@ -109,7 +109,7 @@ pub fn begin_step<A: Allocator + Copy, P: ProofTracer>(
     ensures begins { OnOk result (BeginsStep (λ lines. TakesLines P.takes proof.old lines proof.new) ctx.old ctx.new) }
     ensures holds { OnOk result (AdmitsFor (P.holds proof.new) (search_of (view ctx.new))) }
     ensures later { ctx.new.schedule.steps < ctx.new.schedule.next_restart }
-    ensures kept { ChangesReduced ctx.old ctx.new }
+    ensures frame { ChangesReduced ctx.old ctx.new }
     ensures broken { IfErr result (λ error. BreaksOff P.breaks_off proof.old (faults_of error) proof.new) }
 {
     restart_if_due(ctx);

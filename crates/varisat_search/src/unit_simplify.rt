@@ -55,7 +55,7 @@ pub fn prove_units<A: Allocator + Copy, P: ProofTracer>(
     ensures takes { OnOk result (ctx.old.trail.decisions ≡ [] → TakesLines P.takes proof.old (unit_lines (implied_units (view ctx.old))) proof.new) }
     ensures stays { 0 < length ctx.old.trail.decisions → (ctx.new ≡ ctx.old) × (proof.new ≡ proof.old) }
     ensures ready { OnOk result (IsReady ctx.new) }
-    ensures kept { ctx.new ≡ record ctx.old { impl_graph = ctx.new.impl_graph } }
+    ensures frame { ctx.new ≡ record ctx.old { impl_graph = ctx.new.impl_graph } }
     ensures broken { IfErr result (λ error. BreaksOff P.breaks_off proof.old (faults_of error) proof.new) }
 {
     if ctx.trail.current_level() > 0 {
@@ -176,7 +176,7 @@ pub fn simplify_binary<A: Allocator + Copy, P: ProofTracer>(
     ensures proves { OnOk result (ProvesTo (pair_lines (view ctx.old)) ctx.old ctx.new) }
     ensures takes { OnOk result (TakesLines P.takes proof.old (pair_lines (view ctx.old)) proof.new) }
     ensures ready { OnOk result (IsReady ctx.new) }
-    ensures kept { ctx.new ≡ record ctx.old { binary_clauses = ctx.new.binary_clauses } }
+    ensures frame { ctx.new ≡ record ctx.old { binary_clauses = ctx.new.binary_clauses } }
     ensures broken { IfErr result (λ error. BreaksOff P.breaks_off proof.old (faults_of error) proof.new) }
 {
     // Once the lists are simplified the clauses can't be read any more.
@@ -199,7 +199,7 @@ fn simplify_stored<A: Allocator + Copy, P: ProofTracer>(
     ensures takes { OnOk result (TakesLines P.takes proof.old (clause_lines (view ctx.old)) proof.new) }
     ensures ready { OnOk result (IsReady ctx.new) }
     ensures decidable { OnOk result (SameDecidable (view ctx.old) ctx.old.vsids (view ctx.new) ctx.new.vsids) }
-    ensures kept { ChangesSimplified ctx.old ctx.new }
+    ensures frame { ChangesSimplified ctx.old ctx.new }
     ensures broken { IfErr result (λ error. BreaksOff P.breaks_off proof.old (faults_of error) proof.new) }
 {
     let alloc = *ctx.tmp_data.lits.allocator();
@@ -233,7 +233,7 @@ pub fn unit_simplify<A: Allocator + Copy, P: ProofTracer>(
     ensures takes { OnOk result (TakesLines P.takes proof.old (pair_lines (view ctx.old) ++ clause_lines (view ctx.old)) proof.new) }
     ensures ready { OnOk result (IsReady ctx.new) }
     ensures decidable { OnOk result (SameDecidable (view ctx.old) ctx.old.vsids (view ctx.new) ctx.new.vsids) }
-    ensures kept { ChangesSimplified ctx.old ctx.new }
+    ensures frame { ChangesSimplified ctx.old ctx.new }
     ensures broken { IfErr result (λ error. BreaksOff P.breaks_off proof.old (faults_of error) proof.new) }
 {
     simplify_binary(ctx, proof)?;

@@ -80,7 +80,7 @@ impl<A: Allocator + Copy> ClauseList<A> {
     /// Adds a clause behind the others. A refused growth changes nothing.
     pub fn push(&mut self, clause: &[Lit]) -> Result<(), AllocError>
         ensures ok { OnOk result (self.new ≡ self.old ++ clause.now ∷ []) }
-        ensures err { OnErr result (self.new ≡ self.old) }
+        ensures refused { OnErr result (self.new ≡ self.old) }
     {
         if !has_room(&self.literals, clause.len()) {
             return Err(AllocError);

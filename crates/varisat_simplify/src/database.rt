@@ -404,7 +404,7 @@ impl<A: Allocator + Copy> Database<A> {
     /// Adds a clause, which is live, and a line that adds it. A refused growth changes nothing.
     pub fn push(&mut self, clause: &[Lit]) -> Result<(), AllocError>
         ensures ok { OnOk result (self.new ≡ pushed self.old clause.now) }
-        ensures err { OnErr result (self.new ≡ self.old) }
+        ensures refused { OnErr result (self.new ≡ self.old) }
     {
         self.join(clause, false)?;
         Ok(())
@@ -413,7 +413,7 @@ impl<A: Allocator + Copy> Database<A> {
     /// Adds a clause, which is live.
     fn join(&mut self, clause: &[Lit], is_given: bool) -> Result<(), AllocError>
         ensures ok { OnOk result (self.new ≡ joined is_given self.old clause.now) }
-        ensures err { OnErr result (self.new ≡ self.old) }
+        ensures refused { OnErr result (self.new ≡ self.old) }
     {
         let place = self.history.len();
         list_clause(
@@ -478,7 +478,7 @@ impl<A: Allocator + Copy> Database<A> {
     /// Puts a clause on the stack.
     pub fn save(&mut self, clause: &[Lit]) -> Result<(), AllocError>
         ensures ok { OnOk result (self.new ≡ saved self.old clause.now) }
-        ensures err { OnErr result (self.new ≡ self.old) }
+        ensures refused { OnErr result (self.new ≡ self.old) }
     {
         self.stack.push(clause)?;
         Ok(())

@@ -96,7 +96,7 @@ impl<A: Allocator + Copy> History<A> {
     /// Puts a clause behind the others, which a line adds unless it was given. A refused growth changes nothing.
     pub fn push(&mut self, clause: &[Lit], is_given: bool) -> Result<(), AllocError>
         ensures ok { OnOk result (self.new ≡ with_clause is_given self.old clause.now) }
-        ensures err { OnErr result (self.new ≡ self.old) }
+        ensures refused { OnErr result (self.new ≡ self.old) }
     {
         let place = self.clauses.len();
         if place >= MOST_CLAUSES {
@@ -117,7 +117,7 @@ impl<A: Allocator + Copy> History<A> {
     pub fn delete(&mut self, place: usize) -> Result<(), AllocError>
         requires { place < length self.old.clauses }
         ensures ok { OnOk result (self.new ≡ with_deletion self.old place) }
-        ensures err { OnErr result (self.new ≡ self.old) }
+        ensures refused { OnErr result (self.new ≡ self.old) }
     {
         self.steps.reserve(1)?;
         let step = 2 * place + 1;

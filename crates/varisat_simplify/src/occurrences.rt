@@ -98,7 +98,7 @@ impl<A: Allocator + Copy> Occurrences<A> {
     pub fn add(&mut self, lit: Lit, place: u32) -> Result<(), AllocError>
         requires { lit < length self.old }
         ensures ok { OnOk result (self.new ≡ slice_set self.old lit (slice_index_or self.old lit [] ++ place ∷ [])) }
-        ensures err { OnErr result (self.new ≡ self.old) }
+        ensures refused { OnErr result (self.new ≡ self.old) }
     {
         self.list_mut(lit).push(place)?;
         Ok(())

@@ -102,7 +102,7 @@ pub fn flag<A: Allocator + Copy>(flags: &mut Vec<bool, A>, place: usize) -> Resu
     requires { place < 2 ^ 31 }
     ensures flagged { OnOk result (slice_index_or flags.new.items place false ≡ true) }
     ensures others { OnOk result ((k : ℕ) → k ≢ place → slice_index_or flags.new.items k false ≡ slice_index_or flags.old.items k false) }
-    ensures err { OnErr result (flags.new.items ≡ flags.old.items) }
+    ensures refused { OnErr result (flags.new.items ≡ flags.old.items) }
 {
     if place >= flags.len() {
         flags.resize(place + 1, false)?;

@@ -100,12 +100,12 @@ pub fn accept_user_clause<W: ProofTarget, A: Allocator + Copy>(
     literals: &mut Vec<Lit, A>,
     clause: &[Lit],
 ) -> Result<(), StepError>
-    requires kept { IsValidSolver tracer.old.tables ctx.old }
+    requires valid { IsValidSolver tracer.old.tables ctx.old }
     requires logs { CanLog tracer.old.proof }
     requires stands { FitSome (spaces_with tracer.old.tables tracer.old.proof.checker ctx.old) }
     requires undecided_before { IsNotUnsat ctx.old }
     requires names { CanBeNamed clause.now tracer.old.tables }
-    ensures kept { OnOk result (IsValidSolver tracer.new.tables ctx.new) }
+    ensures valid { OnOk result (IsValidSolver tracer.new.tables ctx.new) }
     ensures logs { OnOk result (CanLog tracer.new.proof) }
     ensures state { OnOk result (ctx.new.solver_state ≡
         record ctx.old.solver_state { sat_state = ctx.new.solver_state.sat_state; formula_is_empty = false }) }
@@ -137,10 +137,10 @@ pub fn assume_list<W: ProofTarget, A: Allocator + Copy>(
     literals: &mut Vec<Lit, A>,
     list: &[Lit],
 ) -> Result<(), StepError>
-    requires kept { IsValidSolver tracer.old.tables ctx.old }
+    requires valid { IsValidSolver tracer.old.tables ctx.old }
     requires logs { CanLog tracer.old.proof }
     requires names { CanBeNamed list.now tracer.old.tables }
-    ensures kept { OnOk result (IsValidSolver tracer.new.tables ctx.new) }
+    ensures valid { OnOk result (IsValidSolver tracer.new.tables ctx.new) }
     ensures logs { OnOk result (CanLog tracer.new.proof) }
     ensures state { OnOk result (KeepsValidity ctx.old.solver_state ctx.new.solver_state) }
     ensures schedule { KeepsSchedule ctx.old ctx.new }

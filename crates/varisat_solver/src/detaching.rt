@@ -184,7 +184,7 @@ fn detach_listed<W: ProofTarget, A: Allocator + Copy>(
     ctx: &mut Context<A>,
     literals: &mut Vec<Lit, A>,
 ) -> Result<(), AllocError>
-    requires kept { IsValidSolver tracer.old.tables ctx.old }
+    requires valid { IsValidSolver tracer.old.tables ctx.old }
     requires settled { IsRootSimplified (view ctx.old) }
     ensures leave { OnOk result (Detaches (tracer_state tracer.old) ctx.old (tracer_state tracer.new) ctx.new) }
     ensures schedule { KeepsSchedule ctx.old ctx.new }
@@ -210,7 +210,7 @@ fn detach_unneeded<W: ProofTarget, A: Allocator + Copy>(
     ctx: &mut Context<A>,
     literals: &mut Vec<Lit, A>,
 ) -> Result<(), AllocError>
-    requires kept { IsValidSolver tracer.old.tables ctx.old }
+    requires valid { IsValidSolver tracer.old.tables ctx.old }
     requires settled { IsRootSimplified (view ctx.old) }
     requires left { AreOverAssumed tracer.old.tables ctx.old.trail.literals }
     ensures leave { OnOk result (Detaches (tracer_state tracer.old) ctx.old (tracer_state tracer.new) ctx.new) }
@@ -243,11 +243,11 @@ pub fn detach_fixed<W: ProofTarget, A: Allocator + Copy>(
     ctx: &mut Context<A>,
     literals: &mut Vec<Lit, A>,
 ) -> Result<(), StepError>
-    requires kept { IsValidSolver tracer.old.tables ctx.old }
+    requires valid { IsValidSolver tracer.old.tables ctx.old }
     requires logs { CanLog tracer.old.proof }
     requires stands { FitSome (undecided_spaces tracer.old.tables tracer.old.proof.checker ctx.old) }
     requires unknown { ctx.old.solver_state.sat_state ≡ SatState.Unknown }
-    ensures kept { OnOk result (IsValidSolver tracer.new.tables ctx.new) }
+    ensures valid { OnOk result (IsValidSolver tracer.new.tables ctx.new) }
     ensures logs { OnOk result (CanLog tracer.new.proof) }
     ensures schedule { KeepsSchedule ctx.old ctx.new }
     ensures within { OnOk result (GoesOnWithin ctx.old ctx.new) }

@@ -361,7 +361,7 @@ impl<W: ProofTarget, A: Allocator + Copy> Solver<W, A> {
 
     /// Counts steps anew from here on.
     fn begin_count(&mut self)
-        ensures rest { self.new ≡ record self.old { ledger = self.new.ledger } }
+        ensures frame { self.new ≡ record self.old { ledger = self.new.ledger } }
         ensures call { (s : State) → Represents self.old s → Represents self.new (count_anew s) }
     {
         self.changed_at = self.ctx.schedule.steps();

@@ -34,7 +34,7 @@ fn begin<W: ProofTarget, A: Allocator + Copy>(
     ctx: &mut Context<A>,
     literals: &mut Vec<Lit, A>,
 ) -> Result<(), StepError>
-    requires kept { IsValidSolver tracer.old.tables ctx.old }
+    requires valid { IsValidSolver tracer.old.tables ctx.old }
     requires logs { CanLog tracer.old.proof }
     requires stands { FitSome (undecided_spaces tracer.old.tables tracer.old.proof.checker ctx.old) }
     requires unknown { ctx.old.solver_state.sat_state ≡ SatState.Unknown }
@@ -59,7 +59,7 @@ fn name_core<A: Allocator + Copy>(
     literals: &mut Vec<Lit, A>,
 ) -> Result<(), AllocError>
     requires { (l : Literal) → l ∈ ctx.old.assumptions.failed_core → HasUser variables.now (variable_of l) }
-    ensures kept { ctx.new ≡ record ctx.old { assumptions = record ctx.old.assumptions { user_core = ctx.new.assumptions.user_core } } }
+    ensures frame { ctx.new ≡ record ctx.old { assumptions = record ctx.old.assumptions { user_core = ctx.new.assumptions.user_core } } }
     ensures named { OnOk result (ctx.new.assumptions.user_core ≡ named_literals variables.now ctx.old.assumptions.failed_core) }
 {
     carry_literals(
@@ -79,7 +79,7 @@ fn named_conflict_step<W: ProofTarget, A: Allocator + Copy>(
     ctx: &mut Context<A>,
     literals: &mut Vec<Lit, A>,
 ) -> Result<(), StepError>
-    requires kept { IsValidSolver tracer.old.tables ctx.old }
+    requires valid { IsValidSolver tracer.old.tables ctx.old }
     requires logs { CanLog tracer.old.proof }
     requires stands { FitSome (undecided_spaces tracer.old.tables tracer.old.proof.checker ctx.old) }
     requires unknown { ctx.old.solver_state.sat_state ≡ SatState.Unknown }
@@ -105,7 +105,7 @@ fn make_step<W: ProofTarget, A: Allocator + Copy>(
     ctx: &mut Context<A>,
     literals: &mut Vec<Lit, A>,
 ) -> Result<(), StepError>
-    requires kept { IsValidSolver tracer.old.tables ctx.old }
+    requires valid { IsValidSolver tracer.old.tables ctx.old }
     requires logs { CanLog tracer.old.proof }
     requires stands { FitSome (undecided_spaces tracer.old.tables tracer.old.proof.checker ctx.old) }
     requires unknown { ctx.old.solver_state.sat_state ≡ SatState.Unknown }
@@ -137,7 +137,7 @@ pub fn find_verdict<W: ProofTarget, A: Allocator + Copy>(
     literals: &mut Vec<Lit, A>,
     max_steps: u64,
 ) -> Result<Option<bool>, StepError>
-    requires kept { IsValidSolver tracer.old.tables ctx.old }
+    requires valid { IsValidSolver tracer.old.tables ctx.old }
     requires logs { CanLog tracer.old.proof }
     requires stands { FitSome (undecided_spaces tracer.old.tables tracer.old.proof.checker ctx.old) }
     requires unknown { ctx.old.solver_state.sat_state ≡ SatState.Unknown }

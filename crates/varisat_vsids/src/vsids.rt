@@ -236,7 +236,7 @@ impl<A: Allocator + Copy> Vsids<A> {
 
     /// An available variable of greatest activity, if one is available.
     fn greatest(&mut self) -> Option<Var>
-        ensures same { self.new ≡ self.old }
+        ensures frame { self.new ≡ self.old }
         ensures none { IfNone result ((v : ℕ) → is_available self.old v ≡ false) }
         ensures greatest { IfSome result (IsGreatest self.old) }
     {

@@ -63,7 +63,7 @@ impl<A: Allocator + Copy> DimacsParser<A> {
     fn end_token(&mut self, word: Word) -> Result<(), AllocError>
         requires { self.old.reading.fault ≡ None }
         ensures ok { OnOk result (self.new ≡ record self.old { reading = read self.old.reading (word_items self.old.line word) }) }
-        ensures err { OnErr result (self.new ≡ self.old) }
+        ensures refused { OnErr result (self.new ≡ self.old) }
         ensures wants { OnErr result (KeepsToken self.old.reading (read self.old.reading (word_items self.old.line word))) }
     {
         if !word.is_none() {
@@ -76,7 +76,7 @@ impl<A: Allocator + Copy> DimacsParser<A> {
     fn end_place(&mut self) -> Result<(), AllocError>
         requires { self.old.reading.fault ≡ None }
         ensures ok { OnOk result (self.new ≡ record self.old { reading = line_ended self.old }) }
-        ensures err { OnErr result (self.new ≡ self.old) }
+        ensures refused { OnErr result (self.new ≡ self.old) }
         ensures wants { OnErr result (WantsRoom self.old) }
     {
         match self.place {
@@ -91,7 +91,7 @@ impl<A: Allocator + Copy> DimacsParser<A> {
     fn end_line(&mut self) -> Result<(), AllocError>
         requires { self.old.reading.fault ≡ None }
         ensures ok { OnOk result (self.new ≡ record self.old { line = next self.old.line; place = Start; reading = line_ended self.old }) }
-        ensures err { OnErr result (self.new ≡ self.old) }
+        ensures refused { OnErr result (self.new ≡ self.old) }
         ensures wants { OnErr result (WantsRoom self.old) }
     {
         self.end_place()?;
@@ -106,7 +106,7 @@ impl<A: Allocator + Copy> DimacsParser<A> {
         requires inside { is_line_feed b ≡ false }
         ensures ok { OnOk result (AdvancesBy self.old (b ∷ []) self.new) }
         ensures open { self.new.over ≡ false }
-        ensures err { OnErr result (self.new ≡ self.old) }
+        ensures refused { OnErr result (self.new ≡ self.old) }
         ensures wants { OnErr result (WantsRoom self.old × (is_blank b ≡ true)) }
     {
         match self.place {
@@ -130,7 +130,7 @@ impl<A: Allocator + Copy> DimacsParser<A> {
         requires reads_on { IsReading self.old }
         ensures ok { OnOk result (AdvancesBy self.old (b ∷ []) self.new) }
         ensures open { self.new.over ≡ false }
-        ensures err { OnErr result (self.new ≡ self.old) }
+        ensures refused { OnErr result (self.new ≡ self.old) }
         ensures wants { OnErr result (WantsRoom self.old × (is_blank b ≡ true)) }
     {
         if b == b'\n' {
@@ -291,7 +291,7 @@ impl<A: Allocator + Copy> DimacsParser<A> {
     pub fn finish(&mut self) -> Result<(), DimacsError>
         ensures reads { IsEnding self.old self.new }
         ensures answer { fault_of result ≡ self.new.reading.fault }
-        ensures stays { self.new ≡ record self.old { over = true; reading = self.new.reading } }
+        ensures frame { self.new ≡ record self.old { over = true; reading = self.new.reading } }
         ensures over { self.new.over ≡ true }
     {
         if self.reported().is_none() && !self.over {
@@ -312,7 +312,7 @@ impl<A: Allocator + Copy> DimacsParser<A> {
         ensures reported { self.old.over ≡ false → self.new.reading.fault ≡ Some result }
         ensures same { (e : DimacsError) → self.old.reading.fault ≡ Some e → self.new ≡ self.old }
         ensures over { self.old.over ≡ true → self.new ≡ self.old }
-        ensures stays { self.new ≡ record self.old { reading = self.new.reading } }
+        ensures frame { self.new ≡ record self.old { reading = self.new.reading } }
         ensures open { self.new.over ≡ self.old.over }
     {
         if let Some(fault) = self.reported() {
@@ -332,7 +332,7 @@ impl<A: Allocator + Copy> DimacsParser<A> {
     fn end_text(&mut self)
         requires reads_on { IsReading self.old }
         ensures reads { IsEnding self.old self.new }
-        ensures stays { self.new ≡ record self.old { reading = self.new.reading } }
+        ensures frame { self.new ≡ record self.old { reading = self.new.reading } }
     {
         match self.end_place() {
             Ok(()) => {
@@ -350,7 +350,7 @@ impl<A: Allocator + Copy> DimacsParser<A> {
     /// `var_count`.
     pub fn take_formula(&mut self) -> CnfFormula<A>
         ensures formula { result ≡ record { var_count = self.old.reading.highest; clauses = self.old.reading.clauses } }
-        ensures rest { self.new ≡ record self.old { reading = record self.old.reading { clauses = [] } } }
+        ensures frame { self.new ≡ record self.old { reading = record self.old.reading { clauses = [] } } }
         ensures later { (ending : Ending) (text : List ℕ) → gives_from ending self.old text ≡ with_front result.clauses (gives_from ending self.new text) }
     {
         self.reader.take()

@@ -113,7 +113,7 @@ impl<A: Allocator + Copy> Reader<A> {
     #[inline(never)]
     fn end_clause(&mut self) -> Result<(), AllocError>
         ensures ok { OnOk result (self.new ≡ record self.old { clauses = self.old.clauses ++ self.old.begun ∷ []; begun = []; count = next self.old.count }) }
-        ensures err { OnErr result (self.new ≡ self.old) }
+        ensures refused { OnErr result (self.new ≡ self.old) }
     {
         self.formula.add_counted_clause(self.begun.as_slice())?;
         self.begun.clear();
@@ -133,7 +133,7 @@ impl<A: Allocator + Copy> Reader<A> {
     /// Takes a literal into the open clause, unless memory runs out: then nothing changes.
     fn literal(&mut self, literal: Lit) -> Result<(), AllocError>
         ensures ok { OnOk result (self.new ≡ record self.old { begun = self.old.begun ++ literal ∷ []; highest = max self.old.highest (literal / 2 + 1) }) }
-        ensures err { OnErr result (self.new ≡ self.old) }
+        ensures refused { OnErr result (self.new ≡ self.old) }
     {
         match self.begun.push(literal) {
             Ok(()) => {
@@ -179,7 +179,7 @@ impl<A: Allocator + Copy> Reader<A> {
     /// Reads a token, unless memory runs out: then nothing changes.
     pub fn token(&mut self, line: u64, meaning: Meaning) -> Result<(), AllocError>
         ensures ok { OnOk result (self.new ≡ after_token self.old line meaning) }
-        ensures err { OnErr result (self.new ≡ self.old) }
+        ensures refused { OnErr result (self.new ≡ self.old) }
         ensures wants { OnErr result (KeepsToken self.old (after_token self.old line meaning)) }
     {
         match meaning {
@@ -266,7 +266,7 @@ impl<A: Allocator + Copy> Reader<A> {
     /// Takes the clauses that ended. The formula has the count of variables so far.
     pub fn take(&mut self) -> CnfFormula<A>
         ensures taken { result ≡ record { var_count = self.old.highest; clauses = self.old.clauses } }
-        ensures rest { self.new ≡ record self.old { clauses = [] } }
+        ensures frame { self.new ≡ record self.old { clauses = [] } }
     {
         let mut formula = CnfFormula::new_in(self.alloc);
         formula.set_var_count(self.formula.var_count());

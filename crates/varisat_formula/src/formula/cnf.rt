@@ -129,7 +129,7 @@ fn append_clause<A: Allocator + Copy>(
 ) -> Result<(), AllocError>
     ensures lengths { OnOk result (lengths.new.items ≡ lengths.old.items ++ length clause.now ∷ []) }
     ensures literals { OnOk result (literals.new.items ≡ literals.old.items ++ clause.now) }
-    ensures err { OnErr result ((lengths.new.items ≡ lengths.old.items) × (literals.new.items ≡ literals.old.items)) }
+    ensures refused { OnErr result ((lengths.new.items ≡ lengths.old.items) × (literals.new.items ≡ literals.old.items)) }
 {
     // The length's room first: once the literals are in, nothing can fail.
     lengths.reserve(1)?;
@@ -209,7 +209,7 @@ impl<A: Allocator + Copy> CnfFormula<A> {
     pub(crate) fn add_counted_clause(&mut self, literals: &[Lit]) -> Result<(), AllocError>
         requires { variables_of literals.now ≤ self.old.var_count }
         ensures ok { OnOk result (self.new ≡ record self.old { clauses = self.old.clauses ++ literals.now ∷ [] }) }
-        ensures err { OnErr result (self.new ≡ self.old) }
+        ensures refused { OnErr result (self.new ≡ self.old) }
     {
         append_clause(&mut self.lengths, &mut self.literals, literals)?;
         Ok(())

@@ -94,7 +94,7 @@ impl<A: Allocator + Copy> CutTarget<A> {
     /// Appends these bytes, or none of them.
     fn append(&mut self, bytes: &[u8]) -> io::Result<()>
         ensures ok { OnOk result (self.new ≡ record self.old { bytes = self.old.bytes ++ bytes.now }) }
-        ensures err { OnErr result (self.new ≡ self.old) }
+        ensures refused { OnErr result (self.new ≡ self.old) }
     {
         match self.bytes.extend_from_slice(bytes) {
             Ok(()) => Ok(()),
@@ -105,7 +105,7 @@ impl<A: Allocator + Copy> CutTarget<A> {
     /// Appends the part that the failing `put` takes, or no byte.
     fn append_part(&mut self, bytes: &[u8])
         ensures bytes { TakesPart self.old bytes.now self.new }
-        ensures stays { self.new ≡ record self.old { bytes = self.new.bytes } }
+        ensures frame { self.new ≡ record self.old { bytes = self.new.bytes } }
     {
         let _ = self.append(&bytes[..self.part.min(bytes.len())]);
     }

@@ -114,7 +114,7 @@ impl<A: Allocator + Copy> Checker<A> {
     /// Adds a clause, without a check.
     fn push_clause(&mut self, clause: &[Lit]) -> Result<(), AllocError>
         ensures ok { OnOk result (self.new ≡ with_clause self.old clause.now) }
-        ensures err { OnErr result (self.new ≡ self.old) }
+        ensures refused { OnErr result (self.new ≡ self.old) }
     {
         self.clauses.push(clause)?;
         Ok(())
@@ -210,7 +210,7 @@ impl<A: Allocator + Copy> Checker<A> {
     /// Whether propagation over the present clauses conflicts.
     fn is_refuted(&mut self) -> Result<bool, AllocError>
         ensures found { IfOk result (λ found. IsTrue found ↔ Conflicts self.old.clauses []) }
-        ensures stays { self.new ≡ self.old }
+        ensures frame { self.new ≡ self.old }
     {
         let found = self.clauses.conflicts(&[])?;
         Ok(found)

@@ -92,7 +92,7 @@ fn redundancy_of<A: Allocator + Copy>(
     clause: &[Lit],
 ) -> Result<Redundancy, AllocError>
     ensures logged { IfOk result (λ why. IsRedundancyOf clauses.old clause.now why) }
-    ensures stays { clauses.new ≡ clauses.old }
+    ensures frame { clauses.new ≡ clauses.old }
 {
     let is_seen = clauses.is_seen_to_follow(clause)?;
     if is_seen {

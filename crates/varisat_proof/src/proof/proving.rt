@@ -46,7 +46,7 @@ impl<W: ProofTarget> OpenProof<W> {
     ) -> Result<(), WriteError>
         requires { self.old.taken.faults < 2 ^ 64 - 1 }
         ensures puts { PutsInto self.old (logged (entries_of step.now)) result self.new.taken }
-        ensures rest { self.new ≡ record self.old { taken = self.new.taken } }
+        ensures frame { self.new ≡ record self.old { taken = self.new.taken } }
     {
         write_entries(&mut self.target, buffer, self.format.encoding(), step)
     }
@@ -60,7 +60,7 @@ impl<W: ProofTarget> OpenProof<W> {
     ) -> Result<(), WriteError>
         requires { self.old.taken.faults < 2 ^ 64 - 1 }
         ensures puts { PutsInto self.old (λ e. marked_line e (line_of_kind kind literals.now)) result self.new.taken }
-        ensures rest { self.new ≡ record self.old { taken = self.new.taken } }
+        ensures frame { self.new ≡ record self.old { taken = self.new.taken } }
     {
         write_marked(
             &mut self.target,
@@ -313,7 +313,7 @@ pub fn delete_var<W: ProofTarget, A: Allocator + Copy>(proof: &mut Proof<W, A>, 
 pub fn flush_proof<W: ProofTarget, A: Allocator + Copy>(proof: &mut Proof<W, A>) -> io::Result<()>
     requires { CanCountTargetFault proof.old.opened }
     ensures flushed { Flushes proof.old.opened result proof.new.opened }
-    ensures rest { proof.new ≡ record proof.old { opened = proof.new.opened } }
+    ensures frame { proof.new ≡ record proof.old { opened = proof.new.opened } }
 {
     let Some(open) = &mut proof.open else {
         return Ok(());
@@ -331,7 +331,7 @@ pub fn solve_finished<W: ProofTarget, A: Allocator + Copy>(
 ) -> io::Result<()>
     requires { CanCountTargetFault proof.old.opened }
     ensures flushed { Flushes (marked_searched proof.old.opened) result proof.new.opened }
-    ensures rest { proof.new ≡ record proof.old { opened = proof.new.opened } }
+    ensures frame { proof.new ≡ record proof.old { opened = proof.new.opened } }
 {
     if let Some(open) = &mut proof.open {
         open.searched = true;

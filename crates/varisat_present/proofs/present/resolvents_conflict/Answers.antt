@@ -20,8 +20,8 @@ returns-then-not-found-clause-found g c =
     one_does_not c.args.places.now c.loop-place.place c.args.base.now c.loop-place.known c.args.literal c.in_ok-found.found
     c.resolvent_conflicts.new.known c.if-not-found.true c.in_ok-found.ensures
 
-pub returns-then-not-found-clause-stays : goal.returns-then-not-found-clause-stays
-returns-then-not-found-clause-stays g c =
+pub returns-then-not-found-clause-frame : goal.returns-then-not-found-clause-frame
+returns-then-not-found-clause-frame g c =
     c.cut.ensures ∙ restored c.args.places.now c.loop-place.place c.args.base.now c.args.known.now c.loop-place.known c.args.literal c.in_ok-found.found
     c.resolvent_conflicts.new.known c.len-count.result c.len-count.ensures c.loop-place.invariant.same c.in_ok-found.ensures
 

@@ -11,5 +11,5 @@ assess_learned_clause-requires g c =
     can-count (view c.args.ctx.now) c.requires.well c.deref_mut.result.now c.clause.result.now (c.deref_mut.ensures.value ∙ c.requires.clear)
     (λ l i. c.requires.assigned l (subst (λ (ls : List Literal). l ∈ ls) c.clause.ensures i))
 
-pub returns-clause-kept : goal.returns-clause-kept
-returns-clause-kept g c = (refl, grind (arith, common_steps))
+pub returns-clause-frame : goal.returns-clause-frame
+returns-clause-frame g c = (refl, grind (arith, common_steps))

@@ -32,8 +32,8 @@ pub returns-clause-tracks : goal.returns-clause-tracks
 returns-clause-tracks g c = decay-tracks c.bump_named.new.db c.bump_named.new.alloc c.decay_clause_activities.new.alloc _
     c.bump_named.ensures.tracks c.decay_clause_activities.ensures.clauses
 
-pub returns-in_err-bump_named-clause-kept : goal.returns-in_err-bump_named-clause-kept
-returns-in_err-bump_named-clause-kept g c = (refl, grind (arith, common_steps))
+pub returns-in_err-bump_named-clause-frame : goal.returns-in_err-bump_named-clause-frame
+returns-in_err-bump_named-clause-frame g c = (refl, grind (arith, common_steps))
 
-pub returns-clause-kept : goal.returns-clause-kept
-returns-clause-kept g c = (refl, grind (arith, common_steps))
+pub returns-clause-frame : goal.returns-clause-frame
+returns-clause-frame g c = (refl, grind (arith, common_steps))

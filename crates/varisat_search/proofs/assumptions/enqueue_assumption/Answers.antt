@@ -91,19 +91,19 @@ returns-then-lit_is_false-clause-ready g c =
     let n = next g here.In-Some in
     let z = c.find_failed_core.new.ctx in
     failed-ready c.args.ctx.now c.next_assumption.new.assumptions c.requires.ready
-    (taken g here.After-next_assumption) c.in-Some.lit n.0 n.1 z z.assumptions.failed_core c.find_failed_core.ensures.kept
+    (taken g here.After-next_assumption) c.in-Some.lit n.0 n.1 z z.assumptions.failed_core c.find_failed_core.ensures.frame
 
 pub returns-then-lit_is_false-clause-taken : goal.returns-then-lit_is_false-clause-taken
 returns-then-lit_is_false-clause-taken g c =
     let here = goal.at.returns-then-lit_is_false-clause-taken g c in
     let z = c.find_failed_core.new.ctx in
-    let e = ap (λ (x : Context g.row.A.Denot). x.assumptions) c.find_failed_core.ensures.kept.0 in
+    let e = ap (λ (x : Context g.row.A.Denot). x.assumptions) c.find_failed_core.ensures.frame.0 in
     left-implied-with c.args.ctx.now c.next_assumption.new.assumptions c.requires.ready (taken g here.After-next_assumption) z.assumptions
     (ap (λ (a : AssumptionParts). a.user) e) (ap (λ (a : AssumptionParts). a.user_core) e) (ap (λ (a : AssumptionParts). a.working) e)
 
 pub returns-then-lit_is_false-clause-before : goal.returns-then-lit_is_false-clause-before
 returns-then-lit_is_false-clause-before g c =
-    let e = ap (λ (x : Context g.row.A.Denot). x.assumptions.working) c.find_failed_core.ensures.kept.0 in
+    let e = ap (λ (x : Context g.row.A.Denot). x.assumptions.working) c.find_failed_core.ensures.frame.0 in
     implied-before-with (view c.args.ctx.now) c.args.ctx.now.assumptions c.next_assumption.new.assumptions c.find_failed_core.new.ctx.assumptions e
     (before g (goal.at.returns-then-lit_is_false-clause-before g c).After-next_assumption)
 
@@ -112,7 +112,7 @@ returns-then-lit_is_false-clause-next g c =
     let here = goal.at.returns-then-lit_is_false-clause-next g c in
     let n = next g here.In-Some in
     let z = c.find_failed_core.new.ctx in
-    let k = c.find_failed_core.ensures.kept.0 in (
+    let k = c.find_failed_core.ensures.frame.0 in (
       ap (λ (x : Context g.row.A.Denot). view x) k,
       subst (λ (x : Context g.row.A.Denot). HasFailed (view x) x.assumptions) (sym k)
           (has-failed c.args.ctx.now c.next_assumption.new.assumptions c.requires.ready
@@ -150,10 +150,10 @@ after g c a = record c.args.ctx.now {
 }
 
 is-after : (g : Over) (c : In_ok-decide_lit g) (a : AssumptionParts) → record c.decide_lit.new.ctx { assumptions = a } ≡ after g c a
-is-after g c a = ap (λ (x : Context g.row.A.Denot). record x { assumptions = a }) c.decide_lit.ensures.kept
+is-after g c a = ap (λ (x : Context g.row.A.Denot). record x { assumptions = a }) c.decide_lit.ensures.frame
 
 decided : (g : Over) (c : In_ok-decide_lit g) (a : AssumptionParts) → view (after g c a) ≡ decided_on (view c.args.ctx.now) c.in-Some.lit
-decided g c a = ap (λ (x : Context g.row.A.Denot). view x) (sym c.decide_lit.ensures.kept) ∙ c.in_ok-decide_lit.ensures.decided.level
+decided g c a = ap (λ (x : Context g.row.A.Denot). view x) (sym c.decide_lit.ensures.frame) ∙ c.in_ok-decide_lit.ensures.decided.level
 
 pub returns-clause-ready : goal.returns-clause-ready
 returns-clause-ready g c =
@@ -161,7 +161,7 @@ returns-clause-ready g c =
     let here = at.In_ok-decide_lit in
     let n = next g at.In-Some in
     let levels = c.set_levels.ensures ∙ ap (λ (x : Context g.row.A.Denot). record x.assumptions { levels = c.current_level.result })
-    c.decide_lit.ensures.kept in
+    c.decide_lit.ensures.frame in
     subst (λ (x : Context g.row.A.Denot). IsReady x) (sym (is-after g here c.set_levels.new.self))
     (next-ready c.args.ctx.now c.next_assumption.new.assumptions c.requires.ready (taken g at.After-next_assumption) c.in-Some.lit n.0 n.1
     (after g here c.set_levels.new.self) c.current_level.result c.requires.complete c.requires.propagated (free g here)
@@ -170,14 +170,14 @@ returns-clause-ready g c =
 
 pub returns-clause-taken : goal.returns-clause-taken
 returns-clause-taken g c =
-    let e = c.set_levels.ensures ∙ ap (λ (x : Context g.row.A.Denot). record x.assumptions { levels = c.current_level.result }) c.decide_lit.ensures.kept in
+    let e = c.set_levels.ensures ∙ ap (λ (x : Context g.row.A.Denot). record x.assumptions { levels = c.current_level.result }) c.decide_lit.ensures.frame in
     left-implied-with c.args.ctx.now c.next_assumption.new.assumptions c.requires.ready
     (taken g (goal.at.returns-clause-taken g c).After-next_assumption) c.set_levels.new.self (ap (λ (a : AssumptionParts). a.user) e)
     (ap (λ (a : AssumptionParts). a.user_core) e) (ap (λ (a : AssumptionParts). a.working) e)
 
 pub returns-clause-before : goal.returns-clause-before
 returns-clause-before g c =
-    let e = c.set_levels.ensures ∙ ap (λ (x : Context g.row.A.Denot). record x.assumptions { levels = c.current_level.result }) c.decide_lit.ensures.kept in
+    let e = c.set_levels.ensures ∙ ap (λ (x : Context g.row.A.Denot). record x.assumptions { levels = c.current_level.result }) c.decide_lit.ensures.frame in
     implied-before-with (view c.args.ctx.now) c.args.ctx.now.assumptions c.next_assumption.new.assumptions c.set_levels.new.self
     (ap (λ (a : AssumptionParts). a.working) e)
     (before g (goal.at.returns-clause-before g c).After-next_assumption)
@@ -193,7 +193,7 @@ returns-in_default-clause-forward g c =
 
 pub returns-then-lit_is_false-clause-forward : goal.returns-then-lit_is_false-clause-forward
 returns-then-lit_is_false-clause-forward g c =
-    let k = c.find_failed_core.ensures.kept.0 in
+    let k = c.find_failed_core.ensures.frame.0 in
     forward-same c.args.ctx.now c.find_failed_core.new.ctx (ap (λ (y : Context g.row.A.Denot). (view y).values) k)
     (ap (λ (y : Context g.row.A.Denot). y.vsids) k) (ap (λ (y : Context g.row.A.Denot). y.assignment.last) k)
     (ap (λ (y : Context g.row.A.Denot). y.solver_state) k)
@@ -204,7 +204,7 @@ returns-clause-forward g c =
     let here = at.In_ok-decide_lit in
     let n = next g at.In-Some in
     let x = c.args.ctx.now in
-    let k = c.decide_lit.ensures.kept in
+    let k = c.decide_lit.ensures.frame in
     record {
       decidable = subst (λ (y : Context g.row.A.Denot). SameDecidable (view x) x.vsids (view y) y.vsids) (sym (is-after g here c.set_levels.new.self))
           (next-same x c.next_assumption.new.assumptions c.requires.ready (taken g at.After-next_assumption) c.in-Some.lit n.0 n.1

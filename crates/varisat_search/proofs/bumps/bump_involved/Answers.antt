@@ -31,11 +31,11 @@ available g c =
     ap (λ (b : Activities). b.available) c.decay.ensures.decayed ∙ ap (λ (b : Activities). b.available) c.bump_each.ensures.bumps
     ∙ each-available c.met.result.now c.args.ctx.now.vsids
 
-pub returns-clause-kept : goal.returns-clause-kept
-returns-clause-kept g c =
+pub returns-clause-frame : goal.returns-clause-frame
+returns-clause-frame g c =
     let v = c.decay.new.self in
     ap₂ (λ (bs : List Bool) (n : ℕ). record c.args.ctx.now { vsids = record v { available = bs; decay = n } })
-    (available g (goal.at.returns-clause-kept g c).After-decay)
+    (available g (goal.at.returns-clause-frame g c).After-decay)
     (ap (λ (b : Activities). b.decay) c.decay.ensures.decayed ∙ ap (λ (b : Activities). b.decay) c.bump_each.ensures.bumps
     ∙ each-decay c.met.result.now c.args.ctx.now.vsids)
 

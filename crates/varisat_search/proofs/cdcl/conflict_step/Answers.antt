@@ -57,7 +57,7 @@ after g c z p2 m =
       step-more takes
           g.met.P.ProofTracer.takes_more p0 p1 p2 first more v i j,
     ))
-    c.requires.ready c.in_ok-simplify_root_if_news.ensures.goes_on c.simplify_root_if_news.ensures.kept
+    c.requires.ready c.in_ok-simplify_root_if_news.ensures.goes_on c.simplify_root_if_news.ensures.frame
     (made-with y z (λ lines. AddOneIfUnknown lines z × TakesStep takes p1 lines v p2) m)
 
 pub returns-in_ok-find_and_learn-in-Ok-clause-made : goal.returns-in_ok-find_and_learn-in-Ok-clause-made
@@ -131,26 +131,26 @@ planned {x = x} k = subst (KeepsSchedule x) (sym k) (record { schedule = refl; s
 pub returns-in_err-simplify_root_if_news-clause-ends : goal.returns-in_err-simplify_root_if_news-clause-ends
 returns-in_err-simplify_root_if_news-clause-ends g c =
     let e = c.in_err-simplify_root_if_news.field-0.0 in
-    ends-unfilled c.from_residual.result (step_error_of_trace e) c.from_residual.ensures (trace-unfilled e) (planned c.simplify_root_if_news.ensures.kept)
+    ends-unfilled c.from_residual.result (step_error_of_trace e) c.from_residual.ensures (trace-unfilled e) (planned c.simplify_root_if_news.ensures.frame)
 
 pub returns-in_ok-find_and_learn-in-Ok-clause-ends : goal.returns-in_ok-find_and_learn-in-Ok-clause-ends
 returns-in_ok-find_and_learn-in-Ok-clause-ends g c =
-    record { schedule = schedule-through (planned c.simplify_root_if_news.ensures.kept) c.find_and_learn.ensures.ends.schedule; full = tt }
+    record { schedule = schedule-through (planned c.simplify_root_if_news.ensures.frame) c.find_and_learn.ensures.ends.schedule; full = tt }
 
 pub returns-in_ok-learn_from_conflict-in-Err-clause-ends : goal.returns-in_ok-learn_from_conflict-in-Err-clause-ends
 returns-in_ok-learn_from_conflict-in-Err-clause-ends g c =
-    record { schedule = schedule-through (planned c.simplify_root_if_news.ensures.kept) c.learn_from_conflict.ensures.ends.schedule; full = tt }
+    record { schedule = schedule-through (planned c.simplify_root_if_news.ensures.frame) c.learn_from_conflict.ensures.ends.schedule; full = tt }
 
 pub returns-in_err-find_and_learn-in-Ok-clause-ends : goal.returns-in_err-find_and_learn-in-Ok-clause-ends
 returns-in_err-find_and_learn-in-Ok-clause-ends g c =
     ends-after c.from_residual-in_err-find_and_learn-in-Ok.result c.in_err-find_and_learn-in-Ok.field-0.0
-    c.from_residual-in_err-find_and_learn-in-Ok.ensures (planned c.simplify_root_if_news.ensures.kept) c.in_ok-simplify_root_if_news.ensures.goes_on.extends.count
+    c.from_residual-in_err-find_and_learn-in-Ok.ensures (planned c.simplify_root_if_news.ensures.frame) c.in_ok-simplify_root_if_news.ensures.goes_on.extends.count
     c.in_err-find_and_learn-in-Ok.ensures.ends
 
 pub returns-in_err-learn_from_conflict-in-Err-clause-ends : goal.returns-in_err-learn_from_conflict-in-Err-clause-ends
 returns-in_err-learn_from_conflict-in-Err-clause-ends g c =
     ends-after c.from_residual-in_err-learn_from_conflict-in-Err.result c.in_err-learn_from_conflict-in-Err.field-0.0
-    c.from_residual-in_err-learn_from_conflict-in-Err.ensures (planned c.simplify_root_if_news.ensures.kept) c.in_ok-simplify_root_if_news.ensures.goes_on.extends.count
+    c.from_residual-in_err-learn_from_conflict-in-Err.ensures (planned c.simplify_root_if_news.ensures.frame) c.in_ok-simplify_root_if_news.ensures.goes_on.extends.count
     c.in_err-learn_from_conflict-in-Err.ensures.ends
 
 pub returns-in_err-find_and_learn-in-Ok-clause-broken : goal.returns-in_err-find_and_learn-in-Ok-clause-broken

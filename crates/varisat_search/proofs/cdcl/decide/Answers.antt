@@ -102,9 +102,9 @@ returns-clause-ready g c =
     let n = subst (ComesToNext s (view x) x.assumptions) c.in-Done.is c.in_ok-enqueue_assumption.ensures.next in
     let m = c.in_ok-made.ensures in
     made-or-not c.in_ok-made.made _ _ _ m.decided
-    (λ p. literal-ready x z r n.1 m.kept m.decidable m.forward.decidable (subst (λ (t : View). IsComplete (kept t) t.trail) (sym n.0) c.requires.complete)
+    (λ p. literal-ready x z r n.1 m.frame m.decidable m.forward.decidable (subst (λ (t : View). IsComplete (kept t) t.trail) (sym n.0) c.requires.complete)
     (subst (λ (t : View). t.queue_head ≡ length t.trail) (sym n.0) c.requires.propagated) p.0 p.1 p.2)
-    (λ p. end-ready x z r n.1 m.kept m.decidable m.forward.decidable p.0)
+    (λ p. end-ready x z r n.1 m.frame m.decidable m.forward.decidable p.0)
 
 pub returns-clause-grows : goal.returns-clause-grows
 returns-clause-grows g c =
@@ -131,7 +131,7 @@ returns-clause-decided g c = grind (arith, common_steps)
 
 -- the schedule stays
 planned : (g : Over) (c : After-enqueue_assumption g) → KeepsSchedule c.args.ctx.now c.enqueue_assumption.new.ctx
-planned g c = subst (KeepsSchedule c.args.ctx.now) (sym c.enqueue_assumption.ensures.kept) (record { schedule = refl; solver_config = refl })
+planned g c = subst (KeepsSchedule c.args.ctx.now) (sym c.enqueue_assumption.ensures.frame) (record { schedule = refl; solver_config = refl })
 
 pub returns-in_err-enqueue_assumption-clause-goes : goal.returns-in_err-enqueue_assumption-clause-goes
 returns-in_err-enqueue_assumption-clause-goes g c =
@@ -154,11 +154,11 @@ pub returns-in_err-made-clause-goes : goal.returns-in_err-made-clause-goes
 returns-in_err-made-clause-goes g c =
     searches-fails c.from_residual-in_err-made.result c.from_residual-in_err-made.ensures.0
     (schedule-through (planned g (goal.at.returns-in_err-made-clause-goes g c).After-enqueue_assumption)
-    (subst (KeepsSchedule c.enqueue_assumption.new.ctx) (sym c.make_decision.ensures.kept) (record { schedule = refl; solver_config = refl })))
+    (subst (KeepsSchedule c.enqueue_assumption.new.ctx) (sym c.make_decision.ensures.frame) (record { schedule = refl; solver_config = refl })))
 
 pub returns-clause-goes : goal.returns-clause-goes
 returns-clause-goes g c = record {
   forward = forward-through c.in_ok-enqueue_assumption.ensures.forward c.in_ok-made.ensures.forward;
   schedule = schedule-through (planned g (goal.at.returns-clause-goes g c).After-enqueue_assumption)
-      (subst (KeepsSchedule c.enqueue_assumption.new.ctx) (sym c.make_decision.ensures.kept) (record { schedule = refl; solver_config = refl }));
+      (subst (KeepsSchedule c.enqueue_assumption.new.ctx) (sym c.make_decision.ensures.frame) (record { schedule = refl; solver_config = refl }));
 }

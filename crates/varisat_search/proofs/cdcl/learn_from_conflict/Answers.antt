@@ -29,10 +29,10 @@ use Rattle.varisat_search.proofs.cdcl.learn_from_conflict.Goals as goal
 use Rattle.varisat_trace.specs.Traces.{TakesLines}
 
 pub bump_involved-requires-clause-ready : goal.bump_involved-requires-clause-ready
-bump_involved-requires-clause-ready g c = analysis-ready c.analyze.ensures.kept c.requires.ready
+bump_involved-requires-clause-ready g c = analysis-ready c.analyze.ensures.frame c.requires.ready
 
 pub bump_involved-requires-clause-met : goal.bump_involved-requires-clause-met
-bump_involved-requires-clause-met g c = analysis-met c.args.ctx.now c.analyze.new.ctx c.analyze.ensures.kept c.in_ok-level.ensures.met
+bump_involved-requires-clause-met g c = analysis-met c.args.ctx.now c.analyze.new.ctx c.analyze.ensures.frame c.in_ok-level.ensures.met
 
 pub bump_involved_clauses-requires : goal.bump_involved_clauses-requires
 bump_involved_clauses-requires g c =
@@ -41,14 +41,14 @@ bump_involved_clauses-requires g c =
     (record {
       ready = c.requires.ready;
       unknown = c.requires.unknown;
-      kept = c.analyze.ensures.kept;
+      kept = c.analyze.ensures.frame;
       learned =
           c.in_ok-level.ensures.learned;
     })
-    c.bump_involved.ensures.kept
+    c.bump_involved.ensures.frame
     c.bump_involved.ensures.entries in
     let a = subst (λ (x : Analysis). AreInvolved (view c.args.ctx.now) c.args.conflict x.involved)
-    (sym (ap analysis c.bump_involved.ensures.kept)) c.in_ok-level.ensures.involved in
+    (sym (ap analysis c.bump_involved.ensures.frame)) c.in_ok-level.ensures.involved in
     record {
       well = analyzed-well d;
       tracks = analyzed-tracks d;
@@ -64,14 +64,14 @@ assess_learned-header-requires g c =
     (record {
       ready = c.requires.ready;
       unknown = c.requires.unknown;
-      kept = c.analyze.ensures.kept;
+      kept = c.analyze.ensures.frame;
       learned =
           c.in_ok-level.ensures.learned;
     })
-    c.bump_involved.ensures.kept
+    c.bump_involved.ensures.frame
     c.bump_involved.ensures.entries in
     let e = analyzed-noted c.bump_involved_clauses.new.ctx d c.bump_involved_clauses.ensures.tracks c.bump_involved_clauses.ensures.headers
-    c.bump_involved_clauses.ensures.kept in
+    c.bump_involved_clauses.ensures.frame in
     record { well = analyzed-well e; clear = analyzed-clear e; assigned = learned-assigned e }
 
 pub backtrack-requires-clause-well : goal.backtrack-requires-clause-well
@@ -80,15 +80,15 @@ backtrack-requires-clause-well g c =
     (record {
       ready = c.requires.ready;
       unknown = c.requires.unknown;
-      kept = c.analyze.ensures.kept;
+      kept = c.analyze.ensures.frame;
       learned =
           c.in_ok-level.ensures.learned;
     })
-    c.bump_involved.ensures.kept
+    c.bump_involved.ensures.frame
     c.bump_involved.ensures.entries in
     let e = analyzed-noted c.bump_involved_clauses.new.ctx d c.bump_involved_clauses.ensures.tracks c.bump_involved_clauses.ensures.headers
-    c.bump_involved_clauses.ensures.kept in
-    analyzed-well (analyzed-flags e c.assess_learned-header.ensures.kept)
+    c.bump_involved_clauses.ensures.frame in
+    analyzed-well (analyzed-flags e c.assess_learned-header.ensures.frame)
 
 -- after analysis and the bumps of variables; as it were with the clauses that were bumped; and after backtracking
 begun : (g : Over) (c : After-backtrack g) → Analyzed c.args.ctx.now c.bump_involved.new.ctx c.args.conflict c.in_ok-level.level
@@ -97,20 +97,20 @@ begun g c =
     (record {
       ready = c.requires.ready;
       unknown = c.requires.unknown;
-      kept = c.analyze.ensures.kept;
+      kept = c.analyze.ensures.frame;
       learned =
           c.in_ok-level.ensures.learned;
     })
-    c.bump_involved.ensures.kept c.bump_involved.ensures.entries
+    c.bump_involved.ensures.frame c.bump_involved.ensures.entries
 
 undone : (g : Over) (c : After-backtrack g) → Backtracked (with_store c.args.ctx.now c.bump_involved_clauses.new.ctx)
     c.assess_learned-header.new.ctx c.backtrack.new.ctx c.args.conflict c.in_ok-level.level
 undone g c =
     let d = begun g c in
     let e = analyzed-noted c.bump_involved_clauses.new.ctx d c.bump_involved_clauses.ensures.tracks c.bump_involved_clauses.ensures.headers
-    c.bump_involved_clauses.ensures.kept in
+    c.bump_involved_clauses.ensures.frame in
     record {
-      begun = analyzed-flags e c.assess_learned-header.ensures.kept;
+      begun = analyzed-flags e c.assess_learned-header.ensures.frame;
       same = c.backtrack.ensures.same;
       cut = c.backtrack.ensures.cut;
       saved = c.backtrack.ensures.saved;
@@ -145,8 +145,8 @@ saves g c =
 analysis-stays : (g : Over) (c : After-backtrack g) → c.backtrack.new.ctx.analyze_conflict ≡ c.analyze.new.ctx.analyze_conflict
 analysis-stays g c =
     let analysis : (x : Context g.row.A.Denot) → Analysis = λ x. x.analyze_conflict in
-    ap analysis c.backtrack.ensures.kept ∙ ap analysis c.assess_learned-header.ensures.kept.0 ∙ ap analysis c.bump_involved_clauses.ensures.kept.0
-    ∙ ap analysis c.bump_involved.ensures.kept
+    ap analysis c.backtrack.ensures.kept ∙ ap analysis c.assess_learned-header.ensures.frame.0 ∙ ap analysis c.bump_involved_clauses.ensures.frame.0
+    ∙ ap analysis c.bump_involved.ensures.frame
 
 -- the line that was taken is that of the clause that is kept
 taken-is : (g : Over) (c : After-backtrack g) (d : Clause) → c.backtrack.new.ctx.analyze_conflict.clause ≡ d → taken g c (Add d ∷ [])
@@ -163,7 +163,7 @@ learning g c b = record {
   split = sym c.clause.ensures
       ∙ c.in-Some.ensures.1;
   tracks = c.in_ok-reason.ensures.tracks;
-  stored = c.keep_learned.ensures.kept;
+  stored = c.keep_learned.ensures.frame;
   kept =
       c.in_ok-reason.ensures.reason;
   watched = c.in_ok-reason.ensures.watched;
@@ -215,10 +215,10 @@ returns-clause-bumps g c h =
     let y = c.assess_learned-header.new.ctx in
     let w = c.backtrack.new.ctx in
     let z = last g here.In_ok-enqueue_assignment in
-    let same : y.vsids ≡ x1.vsids = ap activities c.assess_learned-header.ensures.kept.0 ∙ ap activities c.bump_involved_clauses.ensures.kept.0 in (
+    let same : y.vsids ≡ x1.vsids = ap activities c.assess_learned-header.ensures.frame.0 ∙ ap activities c.bump_involved_clauses.ensures.frame.0 in (
       x1.vsids,
-      bumps-learned c.args.ctx.now c.analyze.new.ctx x1 z c.analyze.ensures.kept c.bump_involved.ensures.bumps
-          (ap analysis c.keep_learned.ensures.kept ∙ analysis-stays g here.After-backtrack) h,
+      bumps-learned c.args.ctx.now c.analyze.new.ctx x1 z c.analyze.ensures.frame c.bump_involved.ensures.bumps
+          (ap analysis c.keep_learned.ensures.frame ∙ analysis-stays g here.After-backtrack) h,
       learning-activities d z refl (c.in_ok-enqueue_assignment.ensures.view c.keep_learned.new.ctx.clause_alloc c.keep_learned.new.ctx.binary_clauses) x1.vsids
           (cut-activities y w c.in_ok-level.level c.backtrack.ensures.same c.backtrack.ensures.available
           ∙ ap (λ (v : Activities). record v { available = w.vsids.available }) same),
@@ -233,18 +233,18 @@ returns-clause-stored g c h =
     let y = c.bump_involved_clauses.new.ctx in
     let w = c.backtrack.new.ctx in
     let z = c.keep_learned.new.ctx in
-    let keeps : z.analyze_conflict ≡ w.analyze_conflict = ap analysis c.keep_learned.ensures.kept in
-    let read : z.analyze_conflict ≡ c.bump_involved.new.ctx.analyze_conflict = keeps ∙ analysis-stays g b ∙ sym (ap analysis c.bump_involved.ensures.kept) in
-    let before : w.analyze_conflict ≡ y.analyze_conflict = ap analysis c.backtrack.ensures.kept ∙ ap analysis c.assess_learned-header.ensures.kept.0 in
+    let keeps : z.analyze_conflict ≡ w.analyze_conflict = ap analysis c.keep_learned.ensures.frame in
+    let read : z.analyze_conflict ≡ c.bump_involved.new.ctx.analyze_conflict = keeps ∙ analysis-stays g b ∙ sym (ap analysis c.bump_involved.ensures.frame) in
+    let before : w.analyze_conflict ≡ y.analyze_conflict = ap analysis c.backtrack.ensures.kept ∙ ap analysis c.assess_learned-header.ensures.frame.0 in
     let store : w.clause_alloc ≡ y.clause_alloc = ap (λ (x : Context g.row.A.Denot). x.clause_alloc) c.backtrack.ensures.kept
-    ∙ ap (λ (x : Context g.row.A.Denot). x.clause_alloc) c.assess_learned-header.ensures.kept.0 in
-    let scale : z.clause_activity ≡ y.clause_activity = ap (λ (x : Context g.row.A.Denot). x.clause_activity) c.keep_learned.ensures.kept
+    ∙ ap (λ (x : Context g.row.A.Denot). x.clause_alloc) c.assess_learned-header.ensures.frame.0 in
+    let scale : z.clause_activity ≡ y.clause_activity = ap (λ (x : Context g.row.A.Denot). x.clause_activity) c.keep_learned.ensures.frame
     ∙ ap (λ (x : Context g.row.A.Denot). x.clause_activity) c.backtrack.ensures.kept
-    ∙ ap (λ (x : Context g.row.A.Denot). x.clause_activity) c.assess_learned-header.ensures.kept.0 in
+    ∙ ap (λ (x : Context g.row.A.Denot). x.clause_activity) c.assess_learned-header.ensures.frame.0 in
     let nodes : y.impl_graph.nodes.items ≡ x0.impl_graph.nodes.items =
-    ap (λ (x : Context g.row.A.Denot). x.impl_graph.nodes.items) c.bump_involved_clauses.ensures.kept.0
-    ∙ ap (λ (x : Context g.row.A.Denot). x.impl_graph.nodes.items) c.bump_involved.ensures.kept
-    ∙ ap (λ (x : Context g.row.A.Denot). x.impl_graph.nodes.items) c.analyze.ensures.kept in
+    ap (λ (x : Context g.row.A.Denot). x.impl_graph.nodes.items) c.bump_involved_clauses.ensures.frame.0
+    ∙ ap (λ (x : Context g.row.A.Denot). x.impl_graph.nodes.items) c.bump_involved.ensures.frame
+    ∙ ap (λ (x : Context g.row.A.Denot). x.impl_graph.nodes.items) c.analyze.ensures.frame in
     let clause : y.analyze_conflict.clause ≡ z.analyze_conflict.clause = sym (ap (λ (a : Analysis). a.clause) (keeps ∙ before)) in
     let header : c.assess_learned-header.result ≡ assessed (glue_of x0.impl_graph.nodes.items z.analyze_conflict.clause) =
     c.assess_learned-header.ensures.header
@@ -267,7 +267,7 @@ pub returns-clause-involved : goal.returns-clause-involved
 returns-clause-involved g c =
     let analysis : (x : Context g.row.A.Denot) → Analysis = λ x. x.analyze_conflict in
     subst (λ (a : Analysis). AreInvolved (view c.args.ctx.now) c.args.conflict a.involved)
-    (sym (ap analysis c.keep_learned.ensures.kept ∙ analysis-stays g (goal.at.returns-clause-involved g c).After-backtrack)) c.in_ok-level.ensures.involved
+    (sym (ap analysis c.keep_learned.ensures.frame ∙ analysis-stays g (goal.at.returns-clause-involved g c).After-backtrack)) c.in_ok-level.ensures.involved
 
 pub returns-clause-fixed : goal.returns-clause-fixed
 returns-clause-fixed g c n =
@@ -281,7 +281,7 @@ returns-in_default-clause-fixed g c n = absurd (n refl)
 pub returns-clause-last : goal.returns-clause-last
 returns-clause-last g c =
     let x0 = c.args.ctx.now in
-    let e = c.in_ok-enqueue_assignment.ensures.last ∙ ap (λ (x : Context g.row.A.Denot). x.assignment.last) c.keep_learned.ensures.kept in
+    let e = c.in_ok-enqueue_assignment.ensures.last ∙ ap (λ (x : Context g.row.A.Denot). x.assignment.last) c.keep_learned.ensures.frame in
     let b = (goal.at.returns-clause-last g c).After-backtrack in
     subst (λ xs. SavesSome (view x0) x0.assignment.last xs) (sym e) (saves g b)
 
@@ -312,11 +312,11 @@ returns-in_default-clause-last g c = saves g (goal.at.returns-in_default-clause-
 -- the schedule stays until levels are undone, and while the clause is kept
 planned : (g : Over) (c : After-backtrack g) → KeepsSchedule c.args.ctx.now c.backtrack.new.ctx
 planned g c =
-    schedule-through (subst (KeepsSchedule c.args.ctx.now) (sym c.analyze.ensures.kept) (record { schedule = refl; solver_config = refl }))
-    (schedule-through (subst (KeepsSchedule c.analyze.new.ctx) (sym c.bump_involved.ensures.kept) (record { schedule = refl; solver_config = refl }))
-    (schedule-through (subst (KeepsSchedule c.bump_involved.new.ctx) (sym c.bump_involved_clauses.ensures.kept.0)
+    schedule-through (subst (KeepsSchedule c.args.ctx.now) (sym c.analyze.ensures.frame) (record { schedule = refl; solver_config = refl }))
+    (schedule-through (subst (KeepsSchedule c.analyze.new.ctx) (sym c.bump_involved.ensures.frame) (record { schedule = refl; solver_config = refl }))
+    (schedule-through (subst (KeepsSchedule c.bump_involved.new.ctx) (sym c.bump_involved_clauses.ensures.frame.0)
     (record { schedule = refl; solver_config = refl }))
-    (schedule-through (subst (KeepsSchedule c.bump_involved_clauses.new.ctx) (sym c.assess_learned-header.ensures.kept.0)
+    (schedule-through (subst (KeepsSchedule c.bump_involved_clauses.new.ctx) (sym c.assess_learned-header.ensures.frame.0)
     (record { schedule = refl; solver_config = refl }))
     (subst (KeepsSchedule c.assess_learned-header.new.ctx) (sym c.backtrack.ensures.kept) (record { schedule = refl; solver_config = refl })))))
 
@@ -326,20 +326,20 @@ keeping {y = y} a k = schedule-through a (subst (KeepsSchedule y) (sym k) (recor
 pub returns-in_err-level-clause-ends : goal.returns-in_err-level-clause-ends
 returns-in_err-level-clause-ends g c =
     ends-unfilled c.from_residual.result step.Memory c.from_residual.ensures memory-unfilled
-    (subst (KeepsSchedule c.args.ctx.now) (sym c.analyze.ensures.kept) (record { schedule = refl; solver_config = refl }))
+    (subst (KeepsSchedule c.args.ctx.now) (sym c.analyze.ensures.frame) (record { schedule = refl; solver_config = refl }))
 
 pub returns-in_err-trace_learned-clause-ends : goal.returns-in_err-trace_learned-clause-ends
 returns-in_err-trace_learned-clause-ends g c =
     let e = c.in_err-trace_learned.field-0.0 in
     ends-unfilled c.from_residual-in_err-trace_learned.result (step_error_of_trace e) c.from_residual-in_err-trace_learned.ensures (trace-unfilled e)
-    (subst (KeepsSchedule c.args.ctx.now) (sym c.analyze.ensures.kept) (record { schedule = refl; solver_config = refl }))
+    (subst (KeepsSchedule c.args.ctx.now) (sym c.analyze.ensures.frame) (record { schedule = refl; solver_config = refl }))
 
 pub returns-in_err-bump_involved_clauses-clause-ends : goal.returns-in_err-bump_involved_clauses-clause-ends
 returns-in_err-bump_involved_clauses-clause-ends g c =
     ends-unfilled c.from_residual-in_err-bump_involved_clauses.result step.Memory c.from_residual-in_err-bump_involved_clauses.ensures memory-unfilled
-    (schedule-through (subst (KeepsSchedule c.args.ctx.now) (sym c.analyze.ensures.kept) (record { schedule = refl; solver_config = refl }))
-    (schedule-through (subst (KeepsSchedule c.analyze.new.ctx) (sym c.bump_involved.ensures.kept) (record { schedule = refl; solver_config = refl }))
-    (subst (KeepsSchedule c.bump_involved.new.ctx) (sym c.bump_involved_clauses.ensures.kept.0) (record { schedule = refl; solver_config = refl }))))
+    (schedule-through (subst (KeepsSchedule c.args.ctx.now) (sym c.analyze.ensures.frame) (record { schedule = refl; solver_config = refl }))
+    (schedule-through (subst (KeepsSchedule c.analyze.new.ctx) (sym c.bump_involved.ensures.frame) (record { schedule = refl; solver_config = refl }))
+    (subst (KeepsSchedule c.bump_involved.new.ctx) (sym c.bump_involved_clauses.ensures.frame.0) (record { schedule = refl; solver_config = refl }))))
 
 pub returns-in_default-clause-ends : goal.returns-in_default-clause-ends
 returns-in_default-clause-ends g c =
@@ -350,9 +350,9 @@ pub returns-in_err-reason-clause-ends : goal.returns-in_err-reason-clause-ends
 returns-in_err-reason-clause-ends g c =
     let here = (goal.at.returns-in_err-reason-clause-ends g c).After-backtrack in
     let split = sym c.clause.ensures ∙ c.in-Some.ensures.1 in
-    let count = ap (λ (x : Context g.row.A.Denot). length x.assignment.current) c.keep_learned.ensures.kept in
+    let count = ap (λ (x : Context g.row.A.Denot). length x.assignment.current) c.keep_learned.ensures.frame in
     record {
-      schedule = keeping (planned g here) c.keep_learned.ensures.kept;
+      schedule = keeping (planned g here) c.keep_learned.ensures.frame;
       full = if-full c.from_residual-in_err-reason.result c.in_err-reason.field-0.0 _ c.from_residual-in_err-reason.ensures (λ h.
           let room = c.in_err-reason.ensures.full h in
           let short = learned-length (undone g here) c.in-Some.first c.in-Some.ensures.0 split in
@@ -361,13 +361,13 @@ returns-in_err-reason-clause-ends g c =
 
 pub returns-in_err-enqueue_assignment-clause-ends : goal.returns-in_err-enqueue_assignment-clause-ends
 returns-in_err-enqueue_assignment-clause-ends g c =
-    let k = keeping (planned g (goal.at.returns-in_err-enqueue_assignment-clause-ends g c).After-backtrack) c.keep_learned.ensures.kept in
+    let k = keeping (planned g (goal.at.returns-in_err-enqueue_assignment-clause-ends g c).After-backtrack) c.keep_learned.ensures.frame in
     ends-unfilled c.from_residual-in_err-enqueue_assignment.result step.Memory c.from_residual-in_err-enqueue_assignment.ensures memory-unfilled
     (record { schedule = k.schedule; solver_config = k.solver_config })
 
 pub returns-clause-ends : goal.returns-clause-ends
 returns-clause-ends g c =
-    let k = keeping (planned g (goal.at.returns-clause-ends g c).After-backtrack) c.keep_learned.ensures.kept in
+    let k = keeping (planned g (goal.at.returns-clause-ends g c).After-backtrack) c.keep_learned.ensures.frame in
     record { schedule = record { schedule = k.schedule; solver_config = k.solver_config }; full = tt }
 
 pub returns-in_err-level-clause-broken : goal.returns-in_err-level-clause-broken

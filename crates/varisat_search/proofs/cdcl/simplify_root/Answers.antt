@@ -90,7 +90,7 @@ unit_simplify-requires-clause-can g c =
     let m = mid g h in
     let y = c.prove_units.new.ctx in
     let p = c.in_ok-prove_units.ensures in
-    let k = c.prove_units.ensures.kept in
+    let k = c.prove_units.ensures.frame in
     let ends = subst (λ r. MatchResult r (λ _. IsComplete (kept (view m)) m.trail.literals × (m.trail.queue_head ≡ length m.trail.literals))
     (λ f. IsConflicting (view m) f)) c.in_default.is c.in_ok-propagated.ensures.ends in
     record {
@@ -107,7 +107,7 @@ returns-in-Err-clause-goes_on g c =
     let m = mid g h in
     let p = c.in_ok-prove_units.ensures in
     let t = view c.prove_units.new.ctx in
-    let d = facts g h c.prove_units.new.ctx p.ready p.proved p.proves c.prove_units.ensures.kept in
+    let d = facts g h c.prove_units.new.ctx p.ready p.proved p.proves c.prove_units.ensures.frame in
     let ends = subst (λ r. MatchResult r (λ _. IsComplete (kept (view m)) m.trail.literals × (m.trail.queue_head ≡ length m.trail.literals))
     (λ f. IsConflicting (view m) f)) c.in-Err.is c.in_ok-propagated.ensures.ends in
     goes-to-units c.args.ctx.now m c.prove_units.new.ctx d
@@ -141,13 +141,13 @@ returns-clause-finds g c f k e =
 pub returns-in-Err-clause-at_zero : goal.returns-in-Err-clause-at_zero
 returns-in-Err-clause-at_zero g c =
     let h = (goal.at.returns-in-Err-clause-at_zero g c).After-count in
-    ap (λ (z : Context g.row.A.Denot). z.trail.decisions) c.prove_units.ensures.kept ∙ none g h
+    ap (λ (z : Context g.row.A.Denot). z.trail.decisions) c.prove_units.ensures.frame ∙ none g h
 
 pub returns-clause-at_zero : goal.returns-clause-at_zero
 returns-clause-at_zero g c =
     let h = (goal.at.returns-clause-at_zero g c).After-count in
-    ap (λ (z : Context g.row.A.Denot). z.trail.decisions) c.unit_simplify.ensures.kept
-    ∙ ap (λ (z : Context g.row.A.Denot). z.trail.decisions) c.prove_units.ensures.kept ∙ none g h
+    ap (λ (z : Context g.row.A.Denot). z.trail.decisions) c.unit_simplify.ensures.frame
+    ∙ ap (λ (z : Context g.row.A.Denot). z.trail.decisions) c.prove_units.ensures.frame ∙ none g h
 
 pub returns-clause-goes_on : goal.returns-clause-goes_on
 returns-clause-goes_on g c =
@@ -162,7 +162,7 @@ returns-clause-goes_on g c =
     let p0 = c.args.proof.now in
     let p1 = c.prove_units.new.proof in
     let p2 = c.unit_simplify.new.proof in
-    let d = facts g h y p.ready p.proved p.proves c.prove_units.ensures.kept in
+    let d = facts g h y p.ready p.proved p.proves c.prove_units.ensures.frame in
     let units = unit_lines (implied_units (view m)) in
     let left = pair_lines (view y) ++ clause_lines (view y) in
     let ends = subst (λ r. MatchResult r (λ _. IsComplete (kept (view m)) m.trail.literals × (m.trail.queue_head ≡ length m.trail.literals))
@@ -175,7 +175,7 @@ returns-clause-goes_on g c =
     ))
     (goes-to-units x m y d (λ lines. (lines ≡ units) × TakesLines takes p0 lines p1) (refl, p.takes (none g h)))
     (goes-simplified y z (λ lines. (lines ≡ left) × TakesLines takes p1 lines p2) q.ready left q.proves
-    (refl, q.takes) q.decidable c.unit_simplify.ensures.kept)
+    (refl, q.takes) q.decidable c.unit_simplify.ensures.frame)
 
 pub returns-clause-settled : goal.returns-clause-settled
 returns-clause-settled g c =
@@ -185,9 +185,9 @@ returns-clause-settled g c =
     let ends = subst (λ r. MatchResult r (λ _. IsComplete (kept (view m)) m.trail.literals × (m.trail.queue_head ≡ length m.trail.literals))
     (λ f. IsConflicting (view m) f)) c.in_default.is c.in_ok-propagated.ensures.ends in
     settled-down (view c.prove_units.new.ctx) (view c.unit_simplify.new.ctx)
-    (ap (λ (y : Context g.row.A.Denot). y.trail.decisions) c.prove_units.ensures.kept ∙ none g h)
-    (ap (λ (y : Context g.row.A.Denot). y.trail.queue_head) c.prove_units.ensures.kept ∙ ends.1
-    ∙ sym (ap (λ (y : Context g.row.A.Denot). length y.trail.literals) c.prove_units.ensures.kept))
+    (ap (λ (y : Context g.row.A.Denot). y.trail.decisions) c.prove_units.ensures.frame ∙ none g h)
+    (ap (λ (y : Context g.row.A.Denot). y.trail.queue_head) c.prove_units.ensures.frame ∙ ends.1
+    ∙ sym (ap (λ (y : Context g.row.A.Denot). length y.trail.literals) c.prove_units.ensures.frame))
     (units-all (view m) (view c.prove_units.new.ctx) (ready g h).well (none g h) (p.proved (none g h)))
     c.in_ok-unit_simplify.ensures.simplified
 

@@ -30,7 +30,7 @@ loop-index-init g c =
       decidable = subst (λ k. AddsDecidable (length old.assignment.current) k (view old) old.vsids (view new) new.vsids) (sym n)
           (none-added (length old.assignment.current) (view old) old.vsids (view new) new.vsids e.added.decidable);
       remembered = c.set_var_count.ensures.remembered;
-      kept = e.kept;
+      kept = e.frame;
     }
 
 pub loop-index-preserved : goal.loop-index-preserved

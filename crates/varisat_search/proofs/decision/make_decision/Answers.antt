@@ -24,7 +24,7 @@ inside : (g : Over) (c : In_ok-decide_lit g) → variable_of c.lit-lit.result < 
 inside g c = let k = (taken g c).found.known in let n = c.requires.decidable.entries.activity in omega (arith, k, n)
 
 stays : (g : Over) (c : In_ok-decide_lit g) → c.decide_lit.new.ctx.vsids ≡ c.take_unassigned.new.vsids
-stays g c = ap (λ (x : Context g.row.A.Denot). x.vsids) c.decide_lit.ensures.kept
+stays g c = ap (λ (x : Context g.row.A.Denot). x.vsids) c.decide_lit.ensures.frame
 
 pub decide_lit-requires-clause-level : goal.decide_lit-requires-clause-level
 decide_lit-requires-clause-level g c = (fits-node (view c.args.ctx.now) c.requires.well).0
@@ -56,7 +56,7 @@ returns-clause-forward g c =
           (decided-same (view x) x.vsids c.take_unassigned.new.vsids c.requires.decidable c.lit-lit.result (inside g here) (taken g here)));
       activities = subst (λ (y : Activities). y ≡ record x.vsids { available = y.available }) (sym (stays g here)) (taken g here).rest;
       last = c.in_ok-decide_lit.ensures.decided.last;
-      state = ap (λ (y : Context g.row.A.Denot). y.solver_state) c.decide_lit.ensures.kept;
+      state = ap (λ (y : Context g.row.A.Denot). y.solver_state) c.decide_lit.ensures.frame;
     }
 
 pub returns-clause-decidable : goal.returns-clause-decidable

@@ -169,9 +169,9 @@ returns-clause-ready g c =
     without-ready c.args.ctx.now (after g here) c.args.gone.now c.requires.ready c.requires.settled
     (dropped g here) c.requires.unmentioned c.requires.unassumed c.forget_activities.ensures refl
 
-pub returns-clause-kept : goal.returns-clause-kept
-returns-clause-kept g c =
-    let z = after g (goal.at.returns-clause-kept g c).After-forget_activities in
+pub returns-clause-frame : goal.returns-clause-frame
+returns-clause-frame g c =
+    let z = after g (goal.at.returns-clause-frame g c).After-forget_activities in
     ap₂ (λ (bs : List Bool) (b : Activities). record z { assignment = record z.assignment { last = bs }; vsids = b })
     (ap (λ (a : Values). a.last) c.forget_values.ensures) c.forget_activities.ensures
 

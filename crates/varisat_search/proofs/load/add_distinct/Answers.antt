@@ -93,7 +93,7 @@ with-two : (g : Over) (c : In_ok-add_binary_clause g) → view_of c.args.ctx.now
     }
 with-two g c =
     let x = c.args.ctx.now in
-    ap (λ (u : TrailParts). view_of x.clause_alloc c.add_binary_clause.new.self x.assignment u x.impl_graph) c.reset_queue_if_false.ensures.kept
+    ap (λ (u : TrailParts). view_of x.clause_alloc c.add_binary_clause.new.self x.assignment u x.impl_graph) c.reset_queue_if_false.ensures.frame
     ∙ ap (λ B. record (view x) { binary = B; queue_head = c.reset_queue_if_false.new.trail.queue_head }) c.in_ok-add_binary_clause.ensures
 
 pub add_binary_clause-requires-clause-first : goal.add_binary_clause-requires-clause-first
@@ -146,7 +146,7 @@ returns-then-len-gt1-clause-added g c =
     let sound = sound-is c.add_clause.new.alloc c.in_ok-cref.ensures.added.sound ∙ sym c.requires.well.sound in
     let z = view_of c.add_clause.new.alloc x.binary_clauses x.assignment c.reset_queue_if_false.new.trail x.impl_graph in
     let whole : z ≡ record (view x) { clauses = live_clauses c.add_clause.new.alloc; queue_head = c.reset_queue_if_false.new.trail.queue_head } =
-    ap (λ (u : TrailParts). view_of c.add_clause.new.alloc x.binary_clauses x.assignment u x.impl_graph) c.reset_queue_if_false.ensures.kept
+    ap (λ (u : TrailParts). view_of c.add_clause.new.alloc x.binary_clauses x.assignment u x.impl_graph) c.reset_queue_if_false.ensures.frame
     ∙ ap (λ (b : Bool). record (view x)
     { sound = b; clauses = live_clauses c.add_clause.new.alloc; queue_head = c.reset_queue_if_false.new.trail.queue_head }) sound in (
       added-long (view x) z x.tmp_data.lits.items x.solver_state.sat_state x.solver_state.sat_state j many c.deref-then-len-gt1-2.ensures.value
@@ -172,7 +172,7 @@ returns-then-len-gt1-clause-propagated g c =
     let watched = subst (WatchesClause x.watchlists V c.in_ok-cref.cref)
     (c.deref-then-len-gt1-3.ensures.value ∙ sym c.deref-then-len-gt1-2.ensures.value) c.in_ok-watch_clause.ensures in
     let whole : z ≡ record (view x) { clauses = live_clauses x.clause_alloc ++ j ∷ []; queue_head = c.reset_queue_if_false.new.trail.queue_head } =
-    ap (λ (t : TrailParts). view_of c.add_clause.new.alloc x.binary_clauses x.assignment t x.impl_graph) c.reset_queue_if_false.ensures.kept
+    ap (λ (t : TrailParts). view_of c.add_clause.new.alloc x.binary_clauses x.assignment t x.impl_graph) c.reset_queue_if_false.ensures.frame
     ∙ ap (λ (b : Bool). record (view x)
     { sound = b; clauses = live_clauses c.add_clause.new.alloc; queue_head = c.reset_queue_if_false.new.trail.queue_head }) sound
     ∙ ap (λ ks. record (view x) { clauses = ks; queue_head = c.reset_queue_if_false.new.trail.queue_head }) k.0 in

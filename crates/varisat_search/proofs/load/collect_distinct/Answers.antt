@@ -17,8 +17,8 @@ collect_flagged-requires-clause-known g c = λ l h.
     let b = listed l n i in
     (omega (arith, a, f, v), omega (arith, b, f, v))
 
-pub returns-clause-kept : goal.returns-clause-kept
-returns-clause-kept g c =
+pub returns-clause-frame : goal.returns-clause-frame
+returns-clause-frame g c =
     let x = c.args.ctx.now in
     let n = length x.assignment.current in
     let news = c.collect_flagged.new.flags in
@@ -31,8 +31,8 @@ returns-clause-kept g c =
           (omega (arith, f, count)) c.collect_flagged.ensures.clear ∙ sym c.requires.flags,
     )
 
-pub returns-in_err-found-clause-kept : goal.returns-in_err-found-clause-kept
-returns-in_err-found-clause-kept g c =
+pub returns-in_err-found-clause-frame : goal.returns-in_err-found-clause-frame
+returns-in_err-found-clause-frame g c =
     let x = c.args.ctx.now in
     let n = length x.assignment.current in
     let news = c.collect_flagged.new.flags in

@@ -85,7 +85,7 @@ undone g c =
 loading : (g : Over) (c : In_ok-collect_distinct g) → Loading c.args.ctx.now (copied g c) c.args.lits.now c.collect_distinct.new.ctx.tmp_data.lits.items
 loading g c =
     subst (λ (x : Context g.row.A.Denot). Loading c.args.ctx.now x c.args.lits.now c.collect_distinct.new.ctx.tmp_data.lits.items)
-    (sym c.collect_distinct.ensures.kept.0) record {
+    (sym c.collect_distinct.ensures.frame.0) record {
       ready = c.requires.ready;
       in_range = c.requires.in_range;
       same = λ e. ap (λ (x : Context g.row.A.Denot). view x) (c.full_restart.ensures.undone.same (let n = ap length e in omega (arith, n)));
@@ -101,7 +101,7 @@ loading g c =
       );
       state = ap (λ (x : Context g.row.A.Denot). x.solver_state) c.full_restart.ensures.undone.kept ∙ c.accept_clause.ensures;
       analysis = ap (λ (x : Context g.row.A.Denot). x.analyze_conflict.var_count) c.full_restart.ensures.undone.kept;
-      flags = c.collect_distinct.ensures.kept.1 ∙ ap (λ (x : Context g.row.A.Denot). x.tmp_flags.flags.items) c.full_restart.ensures.undone.kept;
+      flags = c.collect_distinct.ensures.frame.1 ∙ ap (λ (x : Context g.row.A.Denot). x.tmp_flags.flags.items) c.full_restart.ensures.undone.kept;
       watches = ap (λ (x : Context g.row.A.Denot). x.watchlists) c.full_restart.ensures.undone.kept;
       tracks = subst (λ (x : Context g.row.A.Denot). Tracks x.clause_db x.clause_alloc) (sym c.full_restart.ensures.undone.kept) c.requires.ready.tracks;
       schedule = record {
@@ -223,7 +223,7 @@ add_distinct-requires g c =
 pub returns : goal.returns
 returns g c =
     let e = c.in_ok-add_distinct.ensures in
-    let k = c.add_distinct.ensures.kept in
+    let k = c.add_distinct.ensures.frame in
     let p = c.args.proof.now in
     let o = loaded-added (loading g (goal.at.returns g c).In_ok-collect_distinct) (g.P.ProofTracer.in_order p)
     (λ lines. TakesLines g.P.ProofTracer.takes p lines p) (g.met.P.ProofTracer.takes_none p)
@@ -252,7 +252,7 @@ returns g c =
 planned : (g : Over) (c : After-collect_distinct g) → KeepsSchedule c.args.ctx.now c.collect_distinct.new.ctx
 planned g c =
     let k = c.full_restart.ensures.undone.kept in
-    subst (KeepsSchedule c.args.ctx.now) (sym c.collect_distinct.ensures.kept.0)
+    subst (KeepsSchedule c.args.ctx.now) (sym c.collect_distinct.ensures.frame.0)
     (record { schedule = ap (λ (x : Context g.row.A.Denot). x.schedule) k; solver_config = ap (λ (x : Context g.row.A.Denot). x.solver_config) k })
 
 pub returns-in_err-collect_distinct-clause-ends : goal.returns-in_err-collect_distinct-clause-ends
@@ -274,14 +274,14 @@ returns-in_err-add_distinct-clause-ends g c =
     let x = c.collect_distinct.new.ctx in
     record {
       schedule = schedule-through (planned g here.After-collect_distinct)
-          (subst (KeepsSchedule x) (sym c.add_distinct.ensures.kept) (record { schedule = refl; solver_config = refl }));
+          (subst (KeepsSchedule x) (sym c.add_distinct.ensures.frame) (record { schedule = refl; solver_config = refl }));
       full = if-full c.from_residual-in_err-add_distinct.result c.in_err-add_distinct.field-0.0 _ c.from_residual-in_err-add_distinct.ensures (λ h.
           let (room, same) = c.in_err-add_distinct.ensures.full h in
           let short = clause-short x.tmp_data.lits.items (length x.assignment.current) d.distinct
           (λ t. let b = c.in_ok-collect_distinct.ensures.tautology.1 t in absurd cc) (loading-inside d) in
           let count = ap length same in (
             omega (arith, room, short, count),
-            count ∙ ap (λ (x : Context g.row.A.Denot). length x.assignment.current) c.collect_distinct.ensures.kept.0
+            count ∙ ap (λ (x : Context g.row.A.Denot). length x.assignment.current) c.collect_distinct.ensures.frame.0
                 ∙ (undone g here.After-full_restart).count,
           ));
     }

@@ -124,7 +124,7 @@ pub returns-then-eq : goal.returns-then-eq
 returns-then-eq g c =
     let x = c.args.ctx.now in
     let e = c.in-Ok.ensures in
-    let k = c.skip_unmentioned.ensures.kept in
+    let k = c.skip_unmentioned.ensures.frame in
     let u = e.single c.args.lit refl in
     let b = subst (λ y. HoldsUnitAgain x y c.args.lit) (sym k)
     (skipped-back x c.load_clause.new.ctx c.args.lit (loaded g (goal.at.returns-then-eq g c).After-queue_head)) in

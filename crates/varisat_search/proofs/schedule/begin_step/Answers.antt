@@ -26,7 +26,7 @@ pub returns-clause-begins : goal.returns-clause-begins
 returns-clause-begins g c =
     let x = c.args.ctx.now in
     let t = c.restart_if_due.new.ctx in
-    let e = c.restart_if_due.ensures.kept in
+    let e = c.restart_if_due.ensures.frame in
     record {
       begun = t;
       restarts = c.restart_if_due.ensures.restarted;
@@ -35,7 +35,7 @@ returns-clause-begins g c =
       decidable = c.restart_if_due.ensures.decidable;
       decay = ap (λ (y : Context g.row.A.Denot). y.vsids.decay) e;
       reduces = c.in_ok-reduce_if_due.ensures.keeps;
-      rest = c.reduce_if_due.ensures.kept;
+      rest = c.reduce_if_due.ensures.frame;
     }
 
 pub returns-clause-holds : goal.returns-clause-holds

@@ -44,7 +44,7 @@ returns-clause-keeps g c =
     c.in_ok-reduce_locals_if_due.ensures.keeps
     (keeps-trans l m z none none none (λ first more i j. nothing none first more i j)
     (keeps-are none (λ lines p i. i.1) c.in_ok-reduce_mids_if_due.ensures.keeps) (⊎_elim
-    (λ h. repacks-keep m z e.ready (ap (λ (x : Context g.row.A.Denot). x.vsids) c.collect_garbage.ensures.kept) r (e.collects.repacks h))
+    (λ h. repacks-keep m z e.ready (ap (λ (x : Context g.row.A.Denot). x.vsids) c.collect_garbage.ensures.frame) r (e.collects.repacks h))
     (λ h. keeps-same m z r (e.collects.stays h))
     (cases_lt (length m.clause_alloc.words) (2 * m.clause_db.garbage))))
 

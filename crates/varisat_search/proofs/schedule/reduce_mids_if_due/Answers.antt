@@ -11,7 +11,7 @@ returns-in_ok-reduce_mids-clause-keeps g c =
     let reduces = c.in_ok-reduce_mids.ensures.reduces in
     keeps-are (λ lines. ReducesMidsIfDue x y × (lines ≡ []))
     (λ lines p none. (record { reduces = λ due. reduces; stays = λ other. absurd (other cc) }, none))
-    (headers-keep x y c.in_ok-reduce_mids.ensures.ready (ap (λ (z : Context g.row.A.Denot). z.vsids) c.reduce_mids.ensures.kept) c.requires
+    (headers-keep x y c.in_ok-reduce_mids.ensures.ready (ap (λ (z : Context g.row.A.Denot). z.vsids) c.reduce_mids.ensures.frame) c.requires
     reduces.headers)
 
 pub returns-else-steps-reduce_mids_interval-eq0-clause-keeps : goal.returns-else-steps-reduce_mids_interval-eq0-clause-keeps

@@ -45,9 +45,9 @@ returns-clause-saved g c = record {
   saved = λ d. (λ e. ap (λ (x : Context g.row.A.Denot). x.assignment.last) (c.restart.ensures.same e), c.restart.ensures.saved);
 }
 
-pub returns-clause-kept : goal.returns-clause-kept
-returns-clause-kept g c =
-    let here = (goal.at.returns-clause-kept g c).After-restart in
+pub returns-clause-frame : goal.returns-clause-frame
+returns-clause-frame g c =
+    let here = (goal.at.returns-clause-frame g c).After-restart in
     c.restart.ensures.kept
     ∙ ap (λ a. record c.args.ctx.now {
       assignment = c.restart.new.ctx.assignment;

@@ -122,11 +122,11 @@ returns-clause-counts g c =
     let x = c.args.ctx.now in
     let k = c.conflict_step.ensures.ends.schedule in
     let scale = x.solver_config.luby_restart_interval_scale in
-    let same = k.schedule ∙ ap (λ (y : Context g.row.A.Denot). y.schedule) c.begin_step.ensures.kept in
+    let same = k.schedule ∙ ap (λ (y : Context g.row.A.Denot). y.schedule) c.begin_step.ensures.frame in
     record {
       plan = c.end_step.ensures ∙ ap (λ (p : Plan). record p { steps = suc p.steps }) same
           ∙ ap (λ n. record (step_begun scale x.schedule) { steps = suc n }) (begun-uncounted scale x.schedule);
-      solver_config = k.solver_config ∙ ap (λ (y : Context g.row.A.Denot). y.solver_config) c.begin_step.ensures.kept;
+      solver_config = k.solver_config ∙ ap (λ (y : Context g.row.A.Denot). y.solver_config) c.begin_step.ensures.frame;
     }
 
 pub returns-clause-rises : goal.returns-clause-rises
@@ -163,7 +163,7 @@ returns-clause-assumes g c =
     let b = c.in_ok-begin_step.ensures.begins in
     let z = c.conflict_step.new.ctx in
     scheduled-assumes c.args.ctx.now b.begun c.begin_step.new.ctx c.requires.ready b.restarts b.reduces (outcome_at z) z.assumptions
-    (ap (λ (y : Context g.row.A.Denot). y.assumptions) c.begin_step.ensures.kept) c.in_ok-conflict_step.ensures.made.assumes
+    (ap (λ (y : Context g.row.A.Denot). y.assumptions) c.begin_step.ensures.frame) c.in_ok-conflict_step.ensures.made.assumes
 
 pub returns-in_err-begin_step-clause-broken : goal.returns-in_err-begin_step-clause-broken
 returns-in_err-begin_step-clause-broken g c =

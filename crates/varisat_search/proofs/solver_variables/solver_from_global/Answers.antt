@@ -64,8 +64,8 @@ returns-clause-solver g c =
     (ap (λ (d : VarData). d.unit) same)
     (record {
       seen = (c.in_ok-add_variables.ensures {u = tt}).raised.seen;
-      state = ap (λ (y : Context g.row.A.Denot). y.solver_state) c.add_variables.ensures.kept;
-      assumptions = ap (λ (y : Context g.row.A.Denot). y.assumptions) c.add_variables.ensures.kept;
+      state = ap (λ (y : Context g.row.A.Denot). y.solver_state) c.add_variables.ensures.frame;
+      assumptions = ap (λ (y : Context g.row.A.Denot). y.assumptions) c.add_variables.ensures.frame;
     })
     (c.in_ok-initialize_solver_var.ensures {u = tt}).unit
 

@@ -182,8 +182,8 @@ returns-clause-decidable g c = let here = goal.at.returns-clause-decidable g c i
     simplified-decidable (simplifies g here.After-mend_lists (at g here.In_ok-trace_stored) (left g here.In_ok-filter_clauses))
 
 -- the lists stay on or off
-pub returns-clause-kept : goal.returns-clause-kept
-returns-clause-kept g c = ap (λ (on : Bool). record c.args.ctx.now {
+pub returns-clause-frame : goal.returns-clause-frame
+returns-clause-frame g c = ap (λ (on : Bool). record c.args.ctx.now {
   binary_clauses = c.add_pairs.new.binary_clauses;
   clause_alloc = c.filter_clauses.new.alloc;
   clause_db = c.filter_clauses.new.db;

@@ -17,7 +17,7 @@ use Rattle.varisat_search.proofs.unit_simplify.unit_simplify.Goals as goal
 
 -- the clauses of two literals are simplified first
 first : (g : Over) (c : In_ok-simplify_binary g) → SimplifiesBinary c.args.ctx.now c.simplify_binary.new.ctx
-first g c = record { can = c.requires.can; binary = c.in_ok-simplify_binary.ensures.simplified; rest = c.simplify_binary.ensures.kept }
+first g c = record { can = c.requires.can; binary = c.in_ok-simplify_binary.ensures.simplified; rest = c.simplify_binary.ensures.frame }
 
 pub simplify_stored-requires : goal.simplify_stored-requires
 simplify_stored-requires g c =
@@ -46,13 +46,13 @@ kept {A} x y z a b = b ∙ ap (λ (w : Context A). record w {
   watchlists = record z.watchlists { enabled = w.watchlists.enabled };
 }) a
 
-pub returns-clause-kept : goal.returns-clause-kept
-returns-clause-kept g c =
-    kept c.args.ctx.now c.simplify_binary.new.ctx c.simplify_stored.new.ctx c.simplify_binary.ensures.kept c.simplify_stored.ensures.kept
+pub returns-clause-frame : goal.returns-clause-frame
+returns-clause-frame g c =
+    kept c.args.ctx.now c.simplify_binary.new.ctx c.simplify_stored.new.ctx c.simplify_binary.ensures.frame c.simplify_stored.ensures.frame
 
-pub returns-in_err-simplify_stored-clause-kept : goal.returns-in_err-simplify_stored-clause-kept
-returns-in_err-simplify_stored-clause-kept g c =
-    kept c.args.ctx.now c.simplify_binary.new.ctx c.simplify_stored.new.ctx c.simplify_binary.ensures.kept c.simplify_stored.ensures.kept
+pub returns-in_err-simplify_stored-clause-frame : goal.returns-in_err-simplify_stored-clause-frame
+returns-in_err-simplify_stored-clause-frame g c =
+    kept c.args.ctx.now c.simplify_binary.new.ctx c.simplify_stored.new.ctx c.simplify_binary.ensures.frame c.simplify_stored.ensures.frame
 
 pub returns-clause-proves : goal.returns-clause-proves
 returns-clause-proves g c =

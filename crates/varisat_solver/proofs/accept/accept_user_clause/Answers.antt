@@ -46,7 +46,7 @@ use Rattle.varisat_solver.proofs.accept.accept_user_clause.Goals.{In_ok-solver_f
 use Rattle.varisat_solver.proofs.accept.accept_user_clause.Goals as goal
 
 pub solver_from_user_lits-requires-clause-variables : goal.solver_from_user_lits-requires-clause-variables
-solver_from_user_lits-requires-clause-variables g c = has-variables c.args.tracer.now.tables c.args.ctx.now c.reopen.new.self c.requires.kept
+solver_from_user_lits-requires-clause-variables g c = has-variables c.args.tracer.now.tables c.args.ctx.now c.reopen.new.self c.requires.valid
 
 pub solver_from_user_lits-requires-clause-room : goal.solver_from_user_lits-requires-clause-room
 solver_from_user_lits-requires-clause-room g c = can-have-room c.args.clause.now c.args.tracer.now.tables c.requires.names
@@ -59,7 +59,7 @@ have g c =
     have-solvers-then c.args.clause.now c.args.tracer.now.tables c.args.ctx.now c.reopen.new.self
     (record { tables = c.solver_from_user_lits.new.variables; context = c.solver_from_user_lits.new.ctx })
     (λ e. no-model-reopened c.args.ctx.now.solver_state.sat_state (ap (λ (x : SolverState). x.sat_state) (sym c.reopen.ensures) ∙ e))
-    c.prove_linked.ensures c.requires.kept (c.in_ok-solver_from_user_lits.ensures {u = tt}).in_turn
+    c.prove_linked.ensures c.requires.valid (c.in_ok-solver_from_user_lits.ensures {u = tt}).in_turn
 
 pub mark_joined-requires : goal.mark_joined-requires
 mark_joined-requires g c =
@@ -125,7 +125,7 @@ load_clause-requires-clause-holds g c n =
 -- names and variables stay as the clause is told and loaded
 same-tables : (g : Over) (c : In_ok-load_clause g) → c.load_clause.new.proof.tables ≡ c.mark_joined.new.variables
 same-tables g c =
-    let here = (goal.at.returns-clause-kept g c).In_ok-solver_from_user_lits in
+    let here = (goal.at.returns-clause-valid g c).In_ok-solver_from_user_lits in
     ((c.in_ok-load_clause.ensures {u = tt}).lines (opened g here)).written.tables ∙ (c.in_ok-log_clause.ensures {u = tt}).logged.tables
 
 pub returns-clause-state : goal.returns-clause-state
@@ -137,9 +137,9 @@ returns-clause-state g c =
     ((have g here).verdict.state ∙ ap
     (λ (x : SolverState). record x { formula_is_empty = c.solver_from_user_lits.new.ctx.solver_state.formula_is_empty }) c.reopen.ensures)
 
-pub returns-clause-kept : goal.returns-clause-kept
-returns-clause-kept g c =
-    let here = (goal.at.returns-clause-kept g c).In_ok-solver_from_user_lits in
+pub returns-clause-valid : goal.returns-clause-valid
+returns-clause-valid g c =
+    let here = (goal.at.returns-clause-valid g c).In_ok-solver_from_user_lits in
     let k = (have g here).kept in
     let taken = c.solver_from_user_lits.new.variables in
     let mid = c.solver_from_user_lits.new.ctx in

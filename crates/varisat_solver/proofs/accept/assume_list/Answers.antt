@@ -37,7 +37,7 @@ use Rattle.varisat_solver.proofs.accept.assume_list.Goals.{In_ok-solver_from_use
 use Rattle.varisat_solver.proofs.accept.assume_list.Goals as goal
 
 pub solver_from_user_lits-requires-clause-variables : goal.solver_from_user_lits-requires-clause-variables
-solver_from_user_lits-requires-clause-variables g c = has-variables c.args.tracer.now.tables c.args.ctx.now c.assume.new.self c.requires.kept
+solver_from_user_lits-requires-clause-variables g c = has-variables c.args.tracer.now.tables c.args.ctx.now c.assume.new.self c.requires.valid
 
 pub solver_from_user_lits-requires-clause-room : goal.solver_from_user_lits-requires-clause-room
 solver_from_user_lits-requires-clause-room g c = can-have-room c.args.list.now c.args.tracer.now.tables c.requires.names
@@ -50,7 +50,7 @@ have g c =
     have-solvers-then c.args.list.now c.args.tracer.now.tables c.args.ctx.now c.assume.new.self
     (record { tables = c.solver_from_user_lits.new.variables; context = c.solver_from_user_lits.new.ctx })
     (λ e. no-model-assumed c.args.ctx.now.solver_state.sat_state (ap (λ (x : SolverState). x.sat_state) (sym c.assume.ensures) ∙ e))
-    c.prove_linked.ensures c.requires.kept (c.in_ok-solver_from_user_lits.ensures {u = tt}).in_turn
+    c.prove_linked.ensures c.requires.valid (c.in_ok-solver_from_user_lits.ensures {u = tt}).in_turn
 
 pub mark_assumed-requires : goal.mark_assumed-requires
 mark_assumed-requires g c =
@@ -95,9 +95,9 @@ returns-clause-state g c =
     c.assume.ensures) in sym e ∙ sym (ap (λ (x : SolverState). x.sat_state) (c.in_ok-set_assumptions.ensures {u = tt}).state))
     (sym (ap (λ (x : SolverState). x.formula_is_empty) (c.in_ok-set_assumptions.ensures {u = tt}).state))
 
-pub returns-clause-kept : goal.returns-clause-kept
-returns-clause-kept g c =
-    let here = (goal.at.returns-clause-kept g c).In_ok-solver_from_user_lits in
+pub returns-clause-valid : goal.returns-clause-valid
+returns-clause-valid g c =
+    let here = (goal.at.returns-clause-valid g c).In_ok-solver_from_user_lits in
     let k = (have g here).kept in
     let over = (c.in_ok-solver_from_user_lits.ensures {u = tt}).literals in
     let list = c.args.list.now in

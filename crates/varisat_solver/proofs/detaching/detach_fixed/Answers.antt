@@ -36,11 +36,11 @@ begun g c at =
     let e = c.in-Ok.ensures {u = tt} in
     let goes = e.goes_on in
     let (lines, proves, (simplifies_root, takes)) = goes.proves in
-    part-comes at (tracer_state c.args.tracer.now) (tracer_state c.simplify_root.new.proof) c.args.ctx.now c.simplify_root.new.ctx lines c.requires.kept
+    part-comes at (tracer_state c.args.tracer.now) (tracer_state c.simplify_root.new.proof) c.args.ctx.now c.simplify_root.new.ctx lines c.requires.valid
     (λ due held after d f. settled-parts lines (view c.args.ctx.now) (view c.simplify_root.new.ctx) c.in-Ok.settled simplifies_root goes.ready.well e.settled held after d f)
     proves takes
     goes.ready goes.extends.count goes.decidable
-    (ap (λ (z : Context g.row.A.Denot). z.assumptions) c.simplify_root.ensures.kept)
+    (ap (λ (z : Context g.row.A.Denot). z.assumptions) c.simplify_root.ensures.frame)
 
 -- and what the proof was told
 settled-logged : (g : Over) (c : In-Ok g) → LogsSome c.args.tracer.now.proof c.simplify_root.new.proof.proof
@@ -56,21 +56,21 @@ kept : (g : Over) (c : In-Ok g) → IsValidSolver c.simplify_root.new.proof.tabl
 kept g c =
     let x = c.args.ctx.now in
     let goes = (c.in-Ok.ensures {u = tt}).goes_on in
-    let same = ap (λ (z : Context g.row.A.Denot). z.assumptions) c.simplify_root.ensures.kept in
+    let same = ap (λ (z : Context g.row.A.Denot). z.assumptions) c.simplify_root.ensures.frame in
     subst (λ (t : Tables). IsValidSolver t c.simplify_root.new.ctx) (sym goes.proves.2.1.tables)
-    (kept-on c.args.tracer.now.tables x c.simplify_root.new.ctx c.requires.kept goes.ready goes.extends.count goes.decidable same)
+    (kept-on c.args.tracer.now.tables x c.simplify_root.new.ctx c.requires.valid goes.ready goes.extends.count goes.decidable same)
 
-pub returns-then-is_err-clause-kept : goal.returns-then-is_err-clause-kept
-returns-then-is_err-clause-kept g c = kept g (goal.at.returns-then-is_err-clause-kept g c).In-Ok
+pub returns-then-is_err-clause-valid : goal.returns-then-is_err-clause-valid
+returns-then-is_err-clause-valid g c = kept g (goal.at.returns-then-is_err-clause-valid g c).In-Ok
 
-pub detach_listed-requires-clause-kept : goal.detach_listed-requires-clause-kept
-detach_listed-requires-clause-kept g c = kept g (goal.at.detach_listed-requires-clause-kept g c).In-Ok
+pub detach_listed-requires-clause-valid : goal.detach_listed-requires-clause-valid
+detach_listed-requires-clause-valid g c = kept g (goal.at.detach_listed-requires-clause-valid g c).In-Ok
 
-pub detach_unneeded-requires-clause-kept : goal.detach_unneeded-requires-clause-kept
-detach_unneeded-requires-clause-kept g c = (c.in_ok-detach_listed.ensures {u = tt}).leave.kept
+pub detach_unneeded-requires-clause-valid : goal.detach_unneeded-requires-clause-valid
+detach_unneeded-requires-clause-valid g c = (c.in_ok-detach_listed.ensures {u = tt}).leave.kept
 
-pub returns-clause-kept : goal.returns-clause-kept
-returns-clause-kept g c = (c.in_ok-detach_unneeded.ensures {u = tt}).leave.kept
+pub returns-clause-valid : goal.returns-clause-valid
+returns-clause-valid g c = (c.in_ok-detach_unneeded.ensures {u = tt}).leave.kept
 
 pub returns-clause-count : goal.returns-clause-count
 returns-clause-count g c =
@@ -173,14 +173,14 @@ returns-clause-calm g c =
 pub returns-then-is_err-clause-within : goal.returns-then-is_err-clause-within
 returns-then-is_err-clause-within g c =
     come-settled _ c.args.ctx.now c.simplify_root.new.ctx (c.in-Ok.ensures {u = tt}).goes_on
-    (ap (λ (z : Context g.row.A.Denot). z.solver_config) c.simplify_root.ensures.kept)
+    (ap (λ (z : Context g.row.A.Denot). z.solver_config) c.simplify_root.ensures.frame)
 
 pub returns-clause-within : goal.returns-clause-within
 returns-clause-within g c i q k =
     (c.in_ok-detach_unneeded.ensures {u = tt}).leave.within i q
     ((c.in_ok-detach_listed.ensures {u = tt}).leave.within i q
     (come-settled _ c.args.ctx.now c.simplify_root.new.ctx (c.in-Ok.ensures {u = tt}).goes_on
-    (ap (λ (z : Context g.row.A.Denot). z.solver_config) c.simplify_root.ensures.kept) i q k))
+    (ap (λ (z : Context g.row.A.Denot). z.solver_config) c.simplify_root.ensures.frame) i q k))
 
 pub returns-in-Err-clause-broken : goal.returns-in-Err-clause-broken
 returns-in-Err-clause-broken g c =

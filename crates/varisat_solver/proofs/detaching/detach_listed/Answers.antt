@@ -22,7 +22,7 @@ flag_variables-requires g c l h =
     let x = c.args.ctx.now in
     let m = c.args.tracer.now.tables in
     let listed = subst (λ ls. l ∈ ls) (c.deref.ensures.value ∙ c.in_ok-list_unassumed.ensures {u = tt} ∙ ap (unassumed_among m) c.trail.ensures) h in
-    let inside = on-inside (view x) c.requires.kept.ready.well c.requires.settled l
+    let inside = on-inside (view x) c.requires.valid.ready.well c.requires.settled l
     (∈-filter (λ l. leads_to_unassumed m (at m.solvers.backward (variable_of l))) x.trail.literals l listed).0 in
     subst (λ n. variable_of l < n) (ap (λ (vs : List (Option Bool)). length vs) (sym c.assignment.ensures)) inside
 
@@ -40,16 +40,16 @@ detach_variables-requires-clause-unmentioned g c d h l i =
     let x = c.args.ctx.now in
     let here = (goal.at.detach_variables-requires-clause-unmentioned g c).In_ok-gone in
     subst (λ fs. leaves fs (variable_of l) ≡ false) (sym c.deref-2.ensures.value)
-    (unmentioned (view x) c.requires.kept.ready.well c.requires.settled c.args.tracer.now.tables c.in_ok-gone.gone.items (flags g here) d h l i)
+    (unmentioned (view x) c.requires.valid.ready.well c.requires.settled c.args.tracer.now.tables c.in_ok-gone.gone.items (flags g here) d h l i)
 
 pub detach_variables-requires-clause-unassumed : goal.detach_variables-requires-clause-unassumed
 detach_variables-requires-clause-unassumed g c l h =
     let x = c.args.ctx.now in
     let here = (goal.at.detach_variables-requires-clause-unassumed g c).In_ok-gone in
     subst (λ fs. leaves fs (variable_of l) ≡ false) (sym c.deref-2.ensures.value)
-    (assumed-stay (view x) c.requires.kept.ready.well c.requires.settled c.args.tracer.now.tables c.in_ok-gone.gone.items
+    (assumed-stay (view x) c.requires.valid.ready.well c.requires.settled c.args.tracer.now.tables c.in_ok-gone.gone.items
     (flags g here) x.assumptions.working
-    (λ k i. let (z, u, e, q, r) = c.requires.kept.working k i in (z, e, r)) l h)
+    (λ k i. let (z, u, e, q, r) = c.requires.valid.working k i in (z, e, r)) l h)
 
 pub detach_fixed_vars-requires-clause-taken : goal.detach_fixed_vars-requires-clause-taken
 detach_fixed_vars-requires-clause-taken g c l h =
@@ -62,7 +62,7 @@ detach_fixed_vars-requires-clause-distinct g c =
     let m = c.args.tracer.now.tables in
     subst (λ ls. IsDistinct (map variable_of ls))
     (sym (c.deref-3.ensures.value ∙ c.in_ok-list_unassumed.ensures {u = tt} ∙ ap (unassumed_among m) c.trail.ensures))
-    (unassumed-distinct (view c.args.ctx.now) c.requires.kept.ready.well c.requires.settled m)
+    (unassumed-distinct (view c.args.ctx.now) c.requires.valid.ready.well c.requires.settled m)
 
 -- just these were dropped from the tables
 dropped : (g : Over) (c : In_ok-detach_fixed_vars g) → AreDetachedAlone (unassumed_among c.args.tracer.now.tables c.args.ctx.now.trail.literals)
@@ -83,11 +83,11 @@ left g c f =
     let x = c.args.ctx.now in
     let e = c.detach_variables.ensures in
     have-left m c.detach_fixed_vars.new.tracer.tables x c.detach_variables.new.ctx c.deref-2.result.now c.in_ok-gone.gone.items
-    (unassumed_among m x.trail.literals) (length x.assignment.current) c.deref-2.ensures.value c.prove_linked.ensures c.requires.kept f
+    (unassumed_among m x.trail.literals) (length x.assignment.current) c.deref-2.ensures.value c.prove_linked.ensures c.requires.valid f
     (subst (λ ls. DetachesFromTables ls m c.detach_fixed_vars.new.tracer.tables)
     (c.deref-3.ensures.value ∙ c.in_ok-list_unassumed.ensures {u = tt} ∙ ap (unassumed_among m) c.trail.ensures)
     (c.in_ok-detach_fixed_vars.ensures {u = tt}).rest)
-    e.dropped (ap (λ (z : Context g.row.A.Denot). z.assumptions) e.kept) e.ready e.decidable
+    e.dropped (ap (λ (z : Context g.row.A.Denot). z.assumptions) e.frame) e.ready e.decidable
 
 pub returns-clause-left : goal.returns-clause-left
 returns-clause-left g c =
@@ -103,8 +103,8 @@ returns-clause-leave g c =
     let gone = left g here.In_ok-detach_fixed_vars (flags g here.In_ok-gone) in
     record {
       kept = kept-dropped gone;
-      within = come-dropped c.deref-2.result.now x y c.requires.kept.ready c.requires.settled e.ready e.dropped e.decidable
-          (ap (λ (z : Context g.row.A.Denot). z.solver_config) e.kept);
+      within = come-dropped c.deref-2.result.now x y c.requires.valid.ready c.requires.settled e.ready e.dropped e.decidable
+          (ap (λ (z : Context g.row.A.Denot). z.solver_config) e.frame);
       count = values-left gone;
       given = dropped-logged (unassumed_among c.args.tracer.now.tables x.trail.literals) (tracer_state c.args.tracer.now)
           (tracer_state c.detach_fixed_vars.new.tracer) (dropped g here.In_ok-detach_fixed_vars);

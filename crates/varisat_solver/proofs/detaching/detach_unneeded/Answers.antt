@@ -15,10 +15,10 @@ use Rattle.varisat_solver.proofs.detaching.detach_unneeded.Goals.{In_ok-gone, In
 use Rattle.varisat_solver.proofs.detaching.detach_unneeded.Goals as goal
 
 pub has_hidden-requires : goal.has_hidden-requires
-has_hidden-requires g c = c.requires.kept.bounded
+has_hidden-requires g c = c.requires.valid.bounded
 
 pub returns-then-not-has_hidden-clause-leave : goal.returns-then-not-has_hidden-clause-leave
-returns-then-not-has_hidden-clause-leave g c = none-leaves (tracer_state c.args.tracer.now) c.args.ctx.now c.requires.kept
+returns-then-not-has_hidden-clause-leave g c = none-leaves (tracer_state c.args.tracer.now) c.args.ctx.now c.requires.valid
 
 pub returns-then-not-has_hidden-clause-left : goal.returns-then-not-has_hidden-clause-left
 returns-then-not-has_hidden-clause-left g c =
@@ -57,7 +57,7 @@ detach_variables-requires-clause-unassumed g c l h =
     let before = (goal.at.detach_variables-requires-clause-unassumed g c).In_ok-list_unneeded in
     subst (λ fs. leaves fs (variable_of l) ≡ false) (sym c.deref-3.ensures.value)
     (named-stay c.args.tracer.now.tables c.in_ok-mentioned.mentioned.items c.list_unneeded.new.unneeded.items (listed g before)
-    (view c.args.ctx.now) c.in_ok-gone.gone.items c.in_ok-mentioned.ensures (flags g here) c.args.ctx.now.assumptions.working c.requires.kept.working l h)
+    (view c.args.ctx.now) c.in_ok-gone.gone.items c.in_ok-mentioned.ensures (flags g here) c.args.ctx.now.assumptions.working c.requires.valid.working l h)
 
 pub detach_unfixed_vars-requires-clause-taken : goal.detach_unfixed_vars-requires-clause-taken
 detach_unfixed_vars-requires-clause-taken g c l h =
@@ -80,10 +80,10 @@ left g c f =
     let e = c.detach_variables.ensures in
     have-left c.args.tracer.now.tables c.detach_unfixed_vars.new.tracer.tables x c.detach_variables.new.ctx c.deref-3.result.now
     c.in_ok-gone.gone.items c.list_unneeded.new.unneeded.items (length c.in_ok-mentioned.mentioned.items) c.deref-3.ensures.value
-    c.prove_linked.ensures c.requires.kept f
+    c.prove_linked.ensures c.requires.valid f
     (subst (λ xs. DetachesFromTables xs c.args.tracer.now.tables c.detach_unfixed_vars.new.tracer.tables) c.deref-4.ensures.value
     (c.in_ok-detach_unfixed_vars.ensures {u = tt}).rest)
-    e.dropped (ap (λ (z : Context g.row.A.Denot). z.assumptions) e.kept) e.ready e.decidable
+    e.dropped (ap (λ (z : Context g.row.A.Denot). z.assumptions) e.frame) e.ready e.decidable
 
 pub returns-clause-left : goal.returns-clause-left
 returns-clause-left g c =
@@ -103,8 +103,8 @@ returns-clause-leave g c =
     let released = subst (λ xs. AreDetached xs p q) c.deref-4.ensures.value (c.in_ok-detach_unfixed_vars.ensures {u = tt}).released in
     record {
       kept = kept-released c.requires.left c.in_ok-mentioned.ensures list gone;
-      within = come-dropped c.deref-3.result.now x y c.requires.kept.ready c.requires.settled e.ready e.dropped e.decidable
-          (ap (λ (z : Context g.row.A.Denot). z.solver_config) e.kept);
+      within = come-dropped c.deref-3.result.now x y c.requires.valid.ready c.requires.settled e.ready e.dropped e.decidable
+          (ap (λ (z : Context g.row.A.Denot). z.solver_config) e.frame);
       count = values-left gone;
       given = released-logged c.list_unneeded.new.unneeded.items p q released;
       stands = λ s fit.

@@ -34,14 +34,14 @@ kept g c =
     let b = begun g c in
     subst (λ (t : Tables). IsValidSolver t c.begin_step.new.ctx)
     (sym (begin-tables (tracer_state c.args.tracer.now) (tracer_state c.begin_step.new.proof) c.args.ctx.now c.begin_step.new.ctx b))
-    (begin-kept c.args.ctx.now c.begin_step.new.ctx b c.requires.kept.ready c.args.tracer.now.tables c.requires.kept)
+    (begin-kept c.args.ctx.now c.begin_step.new.ctx b c.requires.valid.ready c.args.tracer.now.tables c.requires.valid)
 
 -- no step is counted yet
 steps-still : (g : Over) (c : In_ok-begin_step g) → c.begin_step.new.ctx.schedule.steps ≡ c.args.ctx.now.schedule.steps
-steps-still g c = ap (λ (x : Context g.row.A.Denot). x.schedule.steps) c.begin_step.ensures.kept ∙ steps-begun _ c.args.ctx.now.schedule
+steps-still g c = ap (λ (x : Context g.row.A.Denot). x.schedule.steps) c.begin_step.ensures.frame ∙ steps-begun _ c.args.ctx.now.schedule
 
-pub detach_fixed-requires-clause-kept : goal.detach_fixed-requires-clause-kept
-detach_fixed-requires-clause-kept g c = kept g (goal.at.detach_fixed-requires-clause-kept g c).In_ok-begin_step
+pub detach_fixed-requires-clause-valid : goal.detach_fixed-requires-clause-valid
+detach_fixed-requires-clause-valid g c = kept g (goal.at.detach_fixed-requires-clause-valid g c).In_ok-begin_step
 
 pub detach_fixed-requires-clause-logs : goal.detach_fixed-requires-clause-logs
 detach_fixed-requires-clause-logs g c = begin-logs (tracer_state c.args.tracer.now)
@@ -49,13 +49,13 @@ detach_fixed-requires-clause-logs g c = begin-logs (tracer_state c.args.tracer.n
     (begun g (goal.at.detach_fixed-requires-clause-logs g c).In_ok-begin_step) c.requires.logs
 
 pub detach_fixed-requires-clause-unknown : goal.detach_fixed-requires-clause-unknown
-detach_fixed-requires-clause-unknown g c = ap (λ (x : Context g.row.A.Denot). x.solver_state.sat_state) c.begin_step.ensures.kept ∙ c.requires.unknown
+detach_fixed-requires-clause-unknown g c = ap (λ (x : Context g.row.A.Denot). x.solver_state.sat_state) c.begin_step.ensures.frame ∙ c.requires.unknown
 
 pub detach_fixed-requires-clause-stands : goal.detach_fixed-requires-clause-stands
 detach_fixed-requires-clause-stands g c =
     let p = tracer_state c.args.tracer.now in
     let q = tracer_state c.begin_step.new.proof in
-    some-on _ 0 _ _ p.proof q.proof (begin-comes p q c.args.ctx.now c.begin_step.new.ctx c.requires.kept
+    some-on _ 0 _ _ p.proof q.proof (begin-comes p q c.args.ctx.now c.begin_step.new.ctx c.requires.valid
     (steps-still g (goal.at.detach_fixed-requires-clause-stands g c).In_ok-begin_step)
     (begun g (goal.at.detach_fixed-requires-clause-stands g c).In_ok-begin_step)) c.requires.stands
 
@@ -69,39 +69,39 @@ returns-clause-begins g c =
     let z = c.detach_fixed.new.ctx in
     let b = begun g (goal.at.returns-clause-begins g c).In_ok-begin_step in
     let e = c.in_ok-detach_fixed.ensures {u = tt} in
-    let count = begin-count x y b c.requires.kept.ready in
-    let config = ap (λ (c : Context g.row.A.Denot). c.solver_config) c.begin_step.ensures.kept in
+    let count = begin-count x y b c.requires.valid.ready in
+    let config = ap (λ (c : Context g.row.A.Denot). c.solver_config) c.begin_step.ensures.frame in
     record {
-      kept = e.kept;
+      kept = e.valid;
       logs = e.logs;
       logged = some-through p.proof q.proof r.proof (begin-logged (tracer_state p) (tracer_state q) x y b) e.logged;
       within = λ i k. e.within i x.schedule
-          (come-begun _ x y c.requires.kept.ready c.prove_in_range.ensures.luby_restart_interval_scale c.requires.counted b config count i k);
-      state = c.detach_fixed.ensures.state ∙ ap (λ (c : Context g.row.A.Denot). c.solver_state) c.begin_step.ensures.kept;
+          (come-begun _ x y c.requires.valid.ready c.prove_in_range.ensures.luby_restart_interval_scale c.requires.counted b config count i k);
+      state = c.detach_fixed.ensures.state ∙ ap (λ (c : Context g.row.A.Denot). c.solver_state) c.begin_step.ensures.frame;
       count = e.count ∙ count;
       left = record { reduced = y; begins = begins-any x y b; left = e.left };
-      leaves = λ h. e.leaves (leaves-begun p.tables q.tables x y c.requires.kept.ready b (begin-tables (tracer_state p) (tracer_state q) x y b) h);
+      leaves = λ h. e.leaves (leaves-begun p.tables q.tables x y c.requires.valid.ready b (begin-tables (tracer_state p) (tracer_state q) x y b) h);
       calm = e.calm;
       stands = comes-through (turn_of x) p.proof q.proof r.proof (undecided_spaces p.tables p.proof.checker x)
           (undecided_spaces q.tables q.proof.checker y) (undecided_spaces r.tables r.proof.checker z)
           (unknown-undecided q.tables q.proof.checker y)
-          (begin-comes (tracer_state p) (tracer_state q) x y c.requires.kept
+          (begin-comes (tracer_state p) (tracer_state q) x y c.requires.valid
           (steps-still g (goal.at.returns-clause-begins g c).In_ok-begin_step) b) (e.stands (turn_of x));
     }
 
 pub returns-clause-schedule : goal.returns-clause-schedule
-returns-clause-schedule g c = c.detach_fixed.ensures.schedule.schedule ∙ ap (λ (x : Context g.row.A.Denot). x.schedule) c.begin_step.ensures.kept
+returns-clause-schedule g c = c.detach_fixed.ensures.schedule.schedule ∙ ap (λ (x : Context g.row.A.Denot). x.schedule) c.begin_step.ensures.frame
 
 pub returns-clause-config : goal.returns-clause-config
-returns-clause-config g c = c.detach_fixed.ensures.schedule.solver_config ∙ ap (λ (x : Context g.row.A.Denot). x.solver_config) c.begin_step.ensures.kept
+returns-clause-config g c = c.detach_fixed.ensures.schedule.solver_config ∙ ap (λ (x : Context g.row.A.Denot). x.solver_config) c.begin_step.ensures.frame
 
 pub returns-in_err-detach_fixed-clause-schedule : goal.returns-in_err-detach_fixed-clause-schedule
 returns-in_err-detach_fixed-clause-schedule g c = c.detach_fixed.ensures.schedule.schedule
-    ∙ ap (λ (x : Context g.row.A.Denot). x.schedule) c.begin_step.ensures.kept
+    ∙ ap (λ (x : Context g.row.A.Denot). x.schedule) c.begin_step.ensures.frame
 
 pub returns-in_err-detach_fixed-clause-config : goal.returns-in_err-detach_fixed-clause-config
 returns-in_err-detach_fixed-clause-config g c = c.detach_fixed.ensures.schedule.solver_config
-    ∙ ap (λ (x : Context g.row.A.Denot). x.solver_config) c.begin_step.ensures.kept
+    ∙ ap (λ (x : Context g.row.A.Denot). x.solver_config) c.begin_step.ensures.frame
 
 pub returns-in_err-begin_step-clause-broken : goal.returns-in_err-begin_step-clause-broken
 returns-in_err-begin_step-clause-broken g c =

@@ -26,7 +26,7 @@ stepping g c =
     let r = c.steps.invariant in
     record {
       searching = searching-at c.args.ctx.now c.steps.ctx c.args.max_steps c.prove_in_range.ensures.luby_restart_interval_scale
-          c.requires.kept.ready c.requires.unknown r.count r.config r.made;
+          c.requires.valid.ready c.requires.unknown r.count r.config r.made;
       left = not-spent c.args.ctx.now.schedule c.steps.ctx.schedule c.args.max_steps c.steps-first.result c.steps-steps.result
           c.steps-first.ensures.steps c.steps-steps.ensures.steps c.if-steps-first.false;
       next = (c.in_ok-make_step.ensures {u = tt}).schedule;
@@ -87,7 +87,7 @@ steps-init g c =
     let x = c.args.ctx.now in
     let p = c.args.tracer.now in
     record {
-      kept = c.requires.kept;
+      kept = c.requires.valid;
       logs = c.requires.logs;
       logged = some-none p.proof;
       count = refl;
@@ -104,7 +104,7 @@ pub overflow_sub-steps : goal.overflow_sub-steps
 overflow_sub-steps g c =
     let r = c.steps.invariant in
     let k = not-less (searching-at c.args.ctx.now c.steps.ctx c.args.max_steps c.prove_in_range.ensures.luby_restart_interval_scale
-    c.requires.kept.ready c.requires.unknown r.count r.config r.made) in
+    c.requires.valid.ready c.requires.unknown r.count r.config r.made) in
     let a = c.steps-first.ensures.steps in
     let b = c.steps-steps.ensures.steps in
     omega (arith, k, a, b)
@@ -155,7 +155,7 @@ returns-then-steps-first-clause-counted g c n changed_at h k =
     let x = c.args.ctx.now in
     let y = c.steps.ctx in
     let r = c.steps.invariant in
-    counts-spent (searching-at x y c.args.max_steps c.prove_in_range.ensures.luby_restart_interval_scale c.requires.kept.ready c.requires.unknown
+    counts-spent (searching-at x y c.args.max_steps c.prove_in_range.ensures.luby_restart_interval_scale c.requires.valid.ready c.requires.unknown
     r.count r.config r.made) changed_at k
     (elim c.then-steps-first.branch [
       | then-steps-first-via-then-steps-first w ↦ inl
@@ -168,7 +168,7 @@ pub returns-then-steps-first-clause-since : goal.returns-then-steps-first-clause
 returns-then-steps-first-clause-since g c changed_at k =
     let r = c.steps.invariant in
     since-stopped (searching-at c.args.ctx.now c.steps.ctx c.args.max_steps c.prove_in_range.ensures.luby_restart_interval_scale
-    c.requires.kept.ready c.requires.unknown r.count r.config r.made) changed_at k
+    c.requires.valid.ready c.requires.unknown r.count r.config r.made) changed_at k
 
 pub returns-in-Sat-clause-found : goal.returns-in-Sat-clause-found
 returns-in-Sat-clause-found g c = found g (goal.at.returns-in-Sat-clause-found g c).In_ok-make_step _ (sym (ap answer_at c.in-Sat.is))
@@ -203,7 +203,7 @@ returns-in_err-make_step-clause-counted g c n changed_at h k =
     let r = c.steps.invariant in
     let (e, logged) = logged-refused c.from_residual.result c.from_residual.ensures.0 in
     subst (λ a. CountsSteps n c.args.max_steps (x.schedule.steps - changed_at) x.schedule.steps c.make_step.new.ctx.schedule.steps a) (sym logged)
-    (counts-refused (searching-at x y c.args.max_steps c.prove_in_range.ensures.luby_restart_interval_scale c.requires.kept.ready c.requires.unknown
+    (counts-refused (searching-at x y c.args.max_steps c.prove_in_range.ensures.luby_restart_interval_scale c.requires.valid.ready c.requires.unknown
     r.count r.config r.made) changed_at k e c.make_step.new.ctx.schedule.steps (c.in_err-make_step.ensures {u = tt}).uncounted n h)
 
 pub returns-in_err-make_step-clause-broken : goal.returns-in_err-make_step-clause-broken

@@ -26,8 +26,8 @@ named : (g : Over) (c : In_ok-named_conflict_step g) → MakesNamedStep (tracer_
     (tracer_state c.named_conflict_step.new.tracer) c.begin.new.ctx c.named_conflict_step.new.ctx
 named g c = (c.in_ok-named_conflict_step.ensures {u = tt}).made
 
-pub named_conflict_step-requires-clause-kept : goal.named_conflict_step-requires-clause-kept
-named_conflict_step-requires-clause-kept g c = (begun g (goal.at.named_conflict_step-requires-clause-kept g c).In_ok-begin).kept
+pub named_conflict_step-requires-clause-valid : goal.named_conflict_step-requires-clause-valid
+named_conflict_step-requires-clause-valid g c = (begun g (goal.at.named_conflict_step-requires-clause-valid g c).In_ok-begin).kept
 
 pub named_conflict_step-requires-clause-logs : goal.named_conflict_step-requires-clause-logs
 named_conflict_step-requires-clause-logs g c = (begun g (goal.at.named_conflict_step-requires-clause-logs g c).In_ok-begin).logs

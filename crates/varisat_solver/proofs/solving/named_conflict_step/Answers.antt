@@ -25,12 +25,12 @@ name_core-requires g c l h =
     let (lines, steps, (simplifies_root, learns, takes)) = m.goes.steps in
     let under = ap (outcome_of (view mid) mid.assumptions.failed_core) c.in-UnsatUnderAssumptions.is in
     subst (λ (t : Tables). HasUser t (variable_of l)) (sym takes.tables)
-    (assumed-named c.args.tracer.now.tables (variable_of l) (c.requires.kept.working l ((m.assumes.core mid.assumptions.failed_core under).0 l h)))
+    (assumed-named c.args.tracer.now.tables (variable_of l) (c.requires.valid.working l ((m.assumes.core mid.assumptions.failed_core under).0 l h)))
 
 pub returns-clause-made : goal.returns-clause-made
 returns-clause-made g c =
     named-also (tracer_state c.args.tracer.now) (tracer_state c.conflict_step.new.proof) c.args.ctx.now c.conflict_step.new.ctx
-    (c.in_ok-conflict_step.ensures {u = tt}).made (c.in_ok-conflict_step.ensures {u = tt}).fixes c.name_core.new.ctx c.name_core.ensures.kept
+    (c.in_ok-conflict_step.ensures {u = tt}).made (c.in_ok-conflict_step.ensures {u = tt}).fixes c.name_core.new.ctx c.name_core.ensures.frame
     (c.in_ok-name_core.ensures {u = tt}).named
 
 pub returns-in_default-clause-made : goal.returns-in_default-clause-made

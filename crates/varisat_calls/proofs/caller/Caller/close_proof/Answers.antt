@@ -9,4 +9,4 @@ returns-in-Ok-Some g c = rw (← c.self.view_is)
 
 pub returns-in-Err : goal.returns-in-Err
 returns-in-Err g c = rw (← c.self.view_is)
-    (Failed c.in-Err.error c.in-Err.target c.refuse.ensures.number (made _ _ _ _ _ c.refuse.ensures.same c.in-Err.ensures.call refl))
+    (Failed c.in-Err.error c.in-Err.target c.refuse.ensures.number (made _ _ _ _ _ c.refuse.ensures.frame c.in-Err.ensures.call refl))

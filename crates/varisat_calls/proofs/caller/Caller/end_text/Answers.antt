@@ -9,7 +9,7 @@ returns-in-Err g c = record {
   read = c.finish-read.new.self;
   ends = subst (λ p. IsEnding p c.finish-read.new.self) c.take_text-parser.ensures.text c.finish-read.ensures.reads;
   adds = Refused c.in-Err.error (ap Err c.refuse.ensures.number)
-      (text-taken _ _ _ _ _ _ c.take_text-parser.ensures.taken c.in-Err.ensures.added c.refuse.ensures.same);
+      (text-taken _ _ _ _ _ _ c.take_text-parser.ensures.taken c.in-Err.ensures.added c.refuse.ensures.frame);
 }
 
 pub returns-in-Ok-read : goal.returns-in-Ok-read
@@ -27,5 +27,5 @@ returns g c = record {
   ends = subst (λ p. IsEnding p c.finish-read.new.self) c.take_text-parser.ensures.text c.finish-read.ensures.reads;
   adds = HasFault c.in-Err-read.cause (sym c.finish-read.ensures.answer ∙ ap fault_of c.in-Err-read.is)
       (ap Err c.refuse-in-Err-read.ensures.number)
-      (text-taken _ _ _ _ _ _ c.take_text-parser.ensures.taken c.in-Ok.ensures.added c.refuse-in-Err-read.ensures.same);
+      (text-taken _ _ _ _ _ _ c.take_text-parser.ensures.taken c.in-Ok.ensures.added c.refuse-in-Err-read.ensures.frame);
 }

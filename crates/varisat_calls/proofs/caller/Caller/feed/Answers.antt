@@ -9,7 +9,7 @@ pub returns-in-Err : goal.returns-in-Err
 returns-in-Err g c = (
   c.feed-read.new.self,
   read-behind c.args.piece.now _ _ _ c.take_text-parser.ensures.text c.feed-read.ensures.reads,
-  Refused c.in-Err.error c.refuse.ensures.number (text-taken _ _ _ _ _ _ c.take_text-parser.ensures.taken c.in-Err.ensures.added c.refuse.ensures.same),
+  Refused c.in-Err.error c.refuse.ensures.number (text-taken _ _ _ _ _ _ c.take_text-parser.ensures.taken c.in-Err.ensures.added c.refuse.ensures.frame),
 )
 
 pub returns-in-Ok-read : goal.returns-in-Ok-read
@@ -26,5 +26,5 @@ returns-in-Err-read g c = (
   c.feed-read.new.self,
   read-behind c.args.piece.now _ _ _ c.take_text-parser.ensures.text c.feed-read.ensures.reads,
   HasFault c.in-Err-read.cause (sym c.feed-read.ensures.answer ∙ ap fault_of c.in-Err-read.is) c.refuse-in-Err-read.ensures.number
-      (text-taken _ _ _ _ _ _ c.take_text-parser.ensures.taken c.in-Ok.ensures.added c.refuse-in-Err-read.ensures.same),
+      (text-taken _ _ _ _ _ _ c.take_text-parser.ensures.taken c.in-Ok.ensures.added c.refuse-in-Err-read.ensures.frame),
 )

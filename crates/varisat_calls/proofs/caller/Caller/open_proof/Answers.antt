@@ -8,5 +8,5 @@ returns-in-Ok-write_proof g c = rw (← c.self.view_is)
 
 pub returns-in-Err : goal.returns-in-Err
 returns-in-Err g c = rw (← c.self.view_is)
-    (proof-refused _ c.in-Some.format _ _ c.in-Err.error _ _ _ _ (sym c.in-Some.ensures) c.refuse-in-Err.ensures.number c.refuse-in-Err.ensures.same
+    (proof-refused _ c.in-Some.format _ _ c.in-Err.error _ _ _ _ (sym c.in-Some.ensures) c.refuse-in-Err.ensures.number c.refuse-in-Err.ensures.frame
     c.in-Err.ensures refl)

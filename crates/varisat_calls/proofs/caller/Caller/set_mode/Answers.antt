@@ -11,4 +11,4 @@ returns g c =
     let same = to_z-of_z c.ranges.variable in
     let positive = subst (λ (z : ℤ). pos 1 ≤ℤ z) same (lt_z_no (T_from_false _ c.if-variable-lt1.false)) in
     mode-set c.args.variable _ c.in-Some.mode _ _ _ _ _ c.change_mode-set.result c.in-Some.ensures positive
-    (c.variable_of.ensures ∙ ap variable_numbered same) c.answer.ensures.number c.answer.ensures.same c.change_mode-set.ensures
+    (c.variable_of.ensures ∙ ap variable_numbered same) c.answer.ensures.number c.answer.ensures.frame c.change_mode-set.ensures

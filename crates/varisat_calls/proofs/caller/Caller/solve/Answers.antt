@@ -18,7 +18,7 @@ returns-in-Ok-false g c = rw (← c.self.view_is) (record {
 
 pub returns-in-Err : goal.returns-in-Err
 returns-in-Err g c = rw (← c.self.view_is) (record {
-  call = (Err c.in-Err.error, c.refuse.ensures.number, made _ _ _ _ _ c.refuse.ensures.same c.in-Err.ensures.call refl);
+  call = (Err c.in-Err.error, c.refuse.ensures.number, made _ _ _ _ _ c.refuse.ensures.frame c.in-Err.ensures.call refl);
   satisfiable = λ e s st. absurd (never-ten _ _ c.in-Err.error (sym c.refuse.ensures.number ∙ e) c.in-Err.ensures.call s st);
   unsatisfiable = λ e s st sat. never-twenty c.in-Err.error (sym c.refuse.ensures.number ∙ e);
 })

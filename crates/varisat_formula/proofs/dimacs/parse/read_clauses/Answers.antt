@@ -19,7 +19,7 @@ pieces-preserved g c = record {
   front = c.pieces.invariant.front ++ c.take_formula.result.clauses;
   read = read_taken _ _ _ _ _ c.take_formula.result
       (read_more _ _ _ _ _ _ c.in-Ok-true.field-0 _ c.pieces.invariant.read c.next_piece.ensures.takes c.in-Ok-true.is)
-      c.take_formula.ensures.rest c.take_formula.ensures.later;
+      c.take_formula.ensures.frame c.take_formula.ensures.later;
   takes = takes_more _ _ _ _ _ _ c.pieces.invariant.takes c.in-Ok.ensures;
 }
 
@@ -29,7 +29,7 @@ returns-in-Err-clause-refused g c =
       clauses = c.pieces.invariant.front ++ c.take_formula.result.clauses;
       given = inr (gives_first _ _ _ _ (read_taken _ _ _ _ _ c.take_formula.result
           (read_more _ _ _ _ _ _ c.in-Ok-true.field-0 _ c.pieces.invariant.read c.next_piece.ensures.takes c.in-Ok-true.is)
-          c.take_formula.ensures.rest c.take_formula.ensures.later));
+          c.take_formula.ensures.frame c.take_formula.ensures.later));
       takes_some = c.pieces.invariant.takes _ _ _ (InOne c.in-Err.ensures);
     }
 

@@ -12,7 +12,7 @@ returns-then-is_refuted-clause-found g c =
 pub returns-in-Ok-clause-found : goal.returns-in-Ok-clause-found
 returns-in-Ok-clause-found g c =
     found_there (present c.deref.result.now) c.args.self.now c.args.base.now c.args.base.now c.in-Ok.found
-    (ap present c.deref.ensures.value ∙ c.self.view_is ∙ c.is_refuted.ensures.stays) refl c.in-Ok.ensures.right
+    (ap present c.deref.ensures.value ∙ c.self.view_is ∙ c.is_refuted.ensures.frame) refl c.in-Ok.ensures.right
 
 pub returns-then-is_empty-clause-found : goal.returns-then-is_empty-clause-found
 returns-then-is_empty-clause-found g c = grind (arith, common_steps)

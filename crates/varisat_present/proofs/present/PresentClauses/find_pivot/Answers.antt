@@ -7,7 +7,7 @@ use Rattle.varisat_present.proofs.present.PresentClauses.find_pivot.Goals as goa
 
 pub loop-i-preserved : goal.loop-i-preserved
 loop-i-preserved g c = record {
-  same = c.is_rat_on.ensures.stays ∙ c.loop-i.invariant.same;
+  same = c.is_rat_on.ensures.frame ∙ c.loop-i.invariant.same;
   none = no_pivot_more c.loop-i.self c.args.self.now c.args.clause.now c.loop-i.i c.index-clause-i.result c.loop-i.invariant.same
       (get_or_read c.args.clause.now c.loop-i.i c.index-clause-i.result c.loop-i-test.true c.index-clause-i.is 0)
       (refused _ c.in_ok-is_rat.is_rat c.if-is_rat.false c.in_ok-is_rat.ensures.found) c.loop-i.invariant.none;

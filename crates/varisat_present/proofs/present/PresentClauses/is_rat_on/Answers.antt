@@ -13,14 +13,14 @@ returns-then-is_refuted-clause-found g c =
 
 pub invariant_of-self : goal.invariant_of-self
 invariant_of-self g c = (
-  subst (λ (x : List Literal). Keeps c.self.inside.is_saturated (present c.self.inside.places.items) x) (sym c.in-Ok.ensures.stays) c.self.invariant.0,
+  subst (λ (x : List Literal). Keeps c.self.inside.is_saturated (present c.self.inside.places.items) x) (sym c.in-Ok.ensures.frame) c.self.invariant.0,
   c.self.invariant.1,
 )
 
 pub returns-in-Ok-clause-found : goal.returns-in-Ok-clause-found
 returns-in-Ok-clause-found g c =
     rat_found (present c.deref.result.now) c.args.self.now c.args.clause.now c.deref-2.result.now c.args.literal c.not-2.result c.in-Ok.found
-    (ap present c.deref.ensures.value ∙ c.self.view_is ∙ c.is_refuted.ensures.stays) (c.deref-2.ensures.value ∙ c.in_ok-base.ensures) c.not-2.ensures
+    (ap present c.deref.ensures.value ∙ c.self.view_is ∙ c.is_refuted.ensures.frame) (c.deref-2.ensures.value ∙ c.in_ok-base.ensures) c.not-2.ensures
     c.in-Ok.ensures.found
 
 pub resolvents_conflict-requires-clause-none : goal.resolvents_conflict-requires-clause-none

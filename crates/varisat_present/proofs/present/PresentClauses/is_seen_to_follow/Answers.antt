@@ -11,5 +11,5 @@ returns-then-is_refuted-clause-seen g c =
 pub returns-in-Ok-clause-seen : goal.returns-in-Ok-clause-seen
 returns-in-Ok-clause-seen g c =
     λ t. seen_there (present c.deref.result.now) c.args.self.now c.args.clause.now c.deref-2.result.now
-    (ap present c.deref.ensures.value ∙ c.self.view_is ∙ c.is_refuted.ensures.stays) (c.deref-2.ensures.value ∙ c.in_ok-base.ensures)
+    (ap present c.deref.ensures.value ∙ c.self.view_is ∙ c.is_refuted.ensures.frame) (c.deref-2.ensures.value ∙ c.in_ok-base.ensures)
     (c.in-Ok.ensures.right t)

@@ -22,7 +22,7 @@ invariant_of-self-in_err-reserve-2 g c =
 pub invariant_of-self-in_err-push : goal.invariant_of-self-in_err-push
 invariant_of-self-in_err-push g c =
     sound_same c.self.inside.var_count c.self.inside.history.clauses c.push.new.self.clauses c.self.inside.live.items c.reserve.new.self.items c.self.inside.is_listed
-    c.self.inside.names c.self.inside.occurrences c.list_clause.new.occurrences (ap (λ (w : Written). w.clauses) (c.in_err-push.ensures {u = tt}).err) c.reserve.ensures.items c.list_clause.ensures.grows c.self.invariant
+    c.self.inside.names c.self.inside.occurrences c.list_clause.new.occurrences (ap (λ (w : Written). w.clauses) (c.in_err-push.ensures {u = tt}).refused) c.reserve.ensures.items c.list_clause.ensures.grows c.self.invariant
 
 pub invariant_of-self-2 : goal.invariant_of-self-2
 invariant_of-self-2 g c =

@@ -33,7 +33,7 @@ accept_user_clause-accepted-requires-clause-stands g c = let (s, fits, fresh) = 
 pub invariant_of-self-2 : goal.invariant_of-self-2
 invariant_of-self-2 g c _ =
     let (is, counted) = c.in_ok-end_change.ensures in
-    let kept = rw is at c.accept_user_clause-accepted.ensures.kept in
+    let kept = rw is at c.accept_user_clause-accepted.ensures.valid in
     let (s, fits, fresh) = (c.self.invariant c.in_ok-ensure_valid.ensures).stands in
     let (x, logged, variables, v, more, keep, proof, now) = (rw is at c.accept_user_clause-accepted.ensures.accepted) s fits in
     kept-changed c.accept_user_clause-accepted.new.tracer.tables c.accept_user_clause-accepted.new.tracer.proof c.accept_user_clause-accepted.new.ctx
@@ -83,7 +83,7 @@ returns-clause-call g c s st =
     } in
     let plan = c.accept_user_clause-accepted.ensures.schedule in
     let state = rw is at c.accept_user_clause-accepted.ensures.state in
-    let kept = rw is at c.accept_user_clause-accepted.ensures.kept in
+    let kept = rw is at c.accept_user_clause-accepted.ensures.valid in
     let logs = rw is at c.accept_user_clause-accepted.ensures.logged in
     let j = joins g (goal.at.returns-clause-call g c).In_ok-end_change s q in (
       j.state,
@@ -154,7 +154,7 @@ returns-then-bars_clauses-clause-call g c s st =
 
 pub returns-in-Unsat-clause-target : goal.returns-in-Unsat-clause-target
 returns-in-Unsat-clause-target g c =
-    subst (WritesAll c.args.self.now.opened) (sym (ap (λ (x : Summary). x.opened) c.begin_count.ensures.rest)) (writes-nothing c.args.self.now.opened)
+    subst (WritesAll c.args.self.now.opened) (sym (ap (λ (x : Summary). x.opened) c.begin_count.ensures.frame)) (writes-nothing c.args.self.now.opened)
 
 pub returns-then-bars_clauses-clause-target : goal.returns-then-bars_clauses-clause-target
 returns-then-bars_clauses-clause-target g c = refused-unwritten c.args.self.now.opened ClauseAfterSolve refl

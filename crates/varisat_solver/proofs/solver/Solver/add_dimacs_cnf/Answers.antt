@@ -23,7 +23,7 @@ returns-in-Ok-None-clause-call g c s st =
 
 pub returns-in-Ok-None-clause-target : goal.returns-in-Ok-None-clause-target
 returns-in-Ok-None-clause-target g c =
-    subst (WritesAll c.args.self.now.opened) (sym (ap (λ (x : Summary). x.opened) c.begin_count.ensures.rest))
+    subst (WritesAll c.args.self.now.opened) (sym (ap (λ (x : Summary). x.opened) c.begin_count.ensures.frame))
     (takes-in-turn _ _ _ _ c.in-Ok-None.ensures.taken.takes_all).target
 
 pub returns-in-Ok-Some-clause-call : goal.returns-in-Ok-Some-clause-call

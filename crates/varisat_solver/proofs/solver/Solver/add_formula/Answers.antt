@@ -37,7 +37,7 @@ returns-in_err-add_clauses-clause-full g c f =
 
 pub returns-clause-target : goal.returns-clause-target
 returns-clause-target g c =
-    subst (WritesAll c.args.self.now.opened) (sym (ap (λ (x : Summary). x.opened) c.begin_count.ensures.rest)) (c.in_ok-add_clauses.ensures {u = tt}).target
+    subst (WritesAll c.args.self.now.opened) (sym (ap (λ (x : Summary). x.opened) c.begin_count.ensures.frame)) (c.in_ok-add_clauses.ensures {u = tt}).target
 
 pub returns-in_err-ensure_valid-clause-call : goal.returns-in_err-ensure_valid-clause-call
 returns-in_err-ensure_valid-clause-call g c s st =

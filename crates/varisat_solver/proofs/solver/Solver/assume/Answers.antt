@@ -33,7 +33,7 @@ invariant_of-self-2 g c _ =
     let (s, fits, fresh) = (c.self.invariant c.in_ok-ensure_valid.ensures).stands in
     let (variables, keep, proof, now) = (rw is at c.assume_list-assumed.ensures.assumed) s fits in
     kept-changed new.tracer.tables new.tracer.proof new.ctx c.end_change.new.ctx true c.end_change.new.changed_at counted
-    (rw is at c.assume_list-assumed.ensures.kept) (rw is at c.assume_list-assumed.ensures.logs) (_, now, λ e. absurd cc)
+    (rw is at c.assume_list-assumed.ensures.valid) (rw is at c.assume_list-assumed.ensures.logs) (_, now, λ e. absurd cc)
 
 pub returns-in_err-check_names-clause-call : goal.returns-in_err-check_names-clause-call
 returns-in_err-check_names-clause-call g c s st =
@@ -74,7 +74,7 @@ returns-clause-call g c s st =
     let free = unbarred-there _ s.variables s.logged s.proof c.bars_assumptions.result (proof-fits q ok) c.bars_assumptions.ensures c.if-bars_assumptions.false in
     let plan = c.assume_list-assumed.ensures.schedule in
     let state = rw is at c.assume_list-assumed.ensures.state in
-    let kept = rw is at c.assume_list-assumed.ensures.kept in
+    let kept = rw is at c.assume_list-assumed.ensures.valid in
     let logs = rw is at c.assume_list-assumed.ensures.logged in
     let j = joins g (goal.at.returns-clause-call g c).In_ok-end_change s q free in (
       j.state,

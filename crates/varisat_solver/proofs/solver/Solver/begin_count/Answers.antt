@@ -19,5 +19,5 @@ pub returns-clause-call : goal.returns-clause-call
 returns-clause-call g c s st = stands-anew (tracer_state c.self.inside.tracer) c.self.inside.started c.self.inside.changed_at c.steps-self-inside.result
     c.self.inside.ctx s c.steps-self-inside.ensures.steps (rw (← c.self.view_is) at st)
 
-pub returns-clause-rest : goal.returns-clause-rest
-returns-clause-rest g c = rw (← c.self.view_is) refl
+pub returns-clause-frame : goal.returns-clause-frame
+returns-clause-frame g c = rw (← c.self.view_is) refl

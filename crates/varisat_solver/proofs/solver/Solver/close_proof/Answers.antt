@@ -49,7 +49,7 @@ returns-in-Ok-clause-call g c s st =
 
 pub returns-in-Ok-clause-closed : goal.returns-in-Ok-clause-closed
 returns-in-Ok-clause-closed g c =
-    ap (λ (x : Summary). x.opened) c.begin_count-in-Ok.ensures.rest ∙ ap (λ (p : ProofParts). p.opened) c.close_proof.ensures.closed
+    ap (λ (x : Summary). x.opened) c.begin_count-in-Ok.ensures.frame ∙ ap (λ (p : ProofParts). p.opened) c.close_proof.ensures.closed
 
 pub returns-in-Ok-clause-handed : goal.returns-in-Ok-clause-handed
 returns-in-Ok-clause-handed g c = rw (← c.self.view_is) (closed-back Error SolverError g.W.ProofTarget.taken _ c.in-Ok.target c.in-Ok.ensures.taken)
@@ -98,4 +98,4 @@ returns-then-self-clause-call g c s st =
 
 pub returns-then-self-clause-closed : goal.returns-then-self-clause-closed
 returns-then-self-clause-closed g c =
-    ap (λ (x : Summary). x.opened) c.begin_count.ensures.rest ∙ ap (λ (p : ProofParts). p.opened) c.take_target-target.ensures.closed
+    ap (λ (x : Summary). x.opened) c.begin_count.ensures.frame ∙ ap (λ (p : ProofParts). p.opened) c.take_target-target.ensures.closed

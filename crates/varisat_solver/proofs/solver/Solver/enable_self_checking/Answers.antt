@@ -38,7 +38,7 @@ returns-clause-call g c s st =
 pub returns-clause-runs : goal.returns-clause-runs
 returns-clause-runs g c h =
     let runs = (begun-or-on c.self.inside.tracer.proof c.begin_checking.new.self c.begin_checking.ensures.begun c.begin_checking.ensures.stays).1 in
-    subst (λ (x : Summary). IsSome x.checker) (sym c.begin_count.ensures.rest) runs
+    subst (λ (x : Summary). IsSome x.checker) (sym c.begin_count.ensures.frame) runs
 
 pub returns-in_err-ensure_valid-clause-call : goal.returns-in_err-ensure_valid-clause-call
 returns-in_err-ensure_valid-clause-call g c s st =

@@ -22,7 +22,7 @@ returns-in-Err-clause-reads g c =
     c.read_word-at.ensures in
     inr (ran_out_in _ c.read_word-at.new.self c.run_out.new.self c.args.piece.now (at + c.read_word-at.result) read.reads read.goes_on.not_over
     read.goes_on.no_fault c.in-Err.ensures.wants.0 c.in-Err.ensures.wants.1
-    (ap (λ p. p.reading) c.run_out.ensures.reading ∙ ap (λ p. failed p.reading p.line OutOfMemory) c.in-Err.ensures.err))
+    (ap (λ p. p.reading) c.run_out.ensures.reading ∙ ap (λ p. failed p.reading p.line OutOfMemory) c.in-Err.ensures.refused))
 
 pub returns-in-Some-clause-reads : goal.returns-in-Some-clause-reads
 returns-in-Some-clause-reads g c =

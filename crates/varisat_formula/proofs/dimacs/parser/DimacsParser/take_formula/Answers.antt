@@ -9,4 +9,4 @@ returns-clause-later g c =
     let i = c.self.inside in
     let with_reading : Reading → Progress = λ r. record { line = i.line; place = i.place; over = i.over; reading = r } in
     rw (← c.self.view_is) (λ ending text. gives_taken ending (with_reading i.reader) _ _ text (ap (λ f. f.clauses) c.take.ensures.taken)
-    (ap with_reading c.take.ensures.rest))
+    (ap with_reading c.take.ensures.frame))

@@ -36,7 +36,7 @@ returns-in-Unassumed-clause-takes g c =
 pub returns-clause-takes : goal.returns-clause-takes
 returns-clause-takes g c =
     λ s lines h. subst (λ (Q : List Clause). StopsBehind (rules_of c.args.rules) c.in-Ok-is_refuted.refuted s (lines ++ line_of_kind c.args.kind c.args.clause.now ∷ [])
-    (state_of Q c.take_line.new.builder) c.saturating_add-step.result) (sym (ap (λ h. h.clauses) c.is_refuted.ensures.stays))
+    (state_of Q c.take_line.new.builder) c.saturating_add-step.result) (sym (ap (λ h. h.clauses) c.is_refuted.ensures.frame))
     (on_taken (rules_of c.args.rules) c.args.count.now.refuted s lines (state_of c.args.self.now.clauses c.args.builder.now)
     (state_of c.take_line.new.self.clauses c.take_line.new.builder) c.args.count.now.steps c.saturating_add-step.result
     (line_of_kind c.args.kind c.args.clause.now) c.if-count.false h c.saturating_add-step.ensures c.in-Ok.status c.in-Ok-is_refuted.refuted

@@ -8,8 +8,8 @@ use Rattle.varisat_proof.specs.DratChecks.{rules_of}
 pub pieces-init : goal.pieces-init
 pieces-init g c = record {
   so = underway_start (rules_of c.args.rules) c.args.encoding (state_of c.args.self.now.clauses c.args.builder.now) _ (g.S.ByteSource.input c.args.source.now) _
-      c.new_in-reader.result (state_is _ _ _ _ (ap (λ h. h.clauses) c.is_refuted.ensures.stays) refl) c.new_in-reader.ensures refl c.in-Ok.ensures.found;
-  spent = ap (λ s. s.spent) c.is_refuted.ensures.stays;
+      c.new_in-reader.result (state_is _ _ _ _ (ap (λ h. h.clauses) c.is_refuted.ensures.frame) refl) c.new_in-reader.ensures refl c.in-Ok.ensures.found;
+  spent = ap (λ s. s.spent) c.is_refuted.ensures.frame;
 }
 
 pub pieces-preserved : goal.pieces-preserved
